@@ -1,0 +1,187 @@
+// The sizes of the drives, and where their blocks lie.
+#![tactic(auto)]
+
+ghost use Rattle.std.specs.Prelude.{◌≡◌, ◌≢◌, ◌<◌, ◌≤◌, ◌-◌, ◌↔◌, ℕ, IfNone, SomeIff};
+ghost use Rattle.pack_geometry.specs.declared.DriveKind.{DriveKind};
+ghost use Rattle.pack_geometry.specs.declared.Place.{Place};
+ghost use Rattle.pack_geometry.specs.Geometry.{cylinders_of, tracks_of, sectors_of, block_count, limit_of, IsInside, block_number, place_at, copy_at, replacement_at, kind_word};
+
+/// The kinds of drive.
+#[derive(Clone, Copy, Debug, PartialEq, Eq)]
+pub enum DriveKind {
+    Rp06,
+    Rm03,
+}
+
+/// How many cylinders a drive has, tracks a cylinder, and sectors of 512 bytes a track.
+#[derive(Clone, Copy, Debug, PartialEq, Eq)]
+pub struct Geometry {
+    pub cylinders: u32,
+    pub tracks: u32,
+    pub sectors: u32,
+}
+
+/// Where a sector lies; each number counts from 0.
+#[derive(Clone, Copy, Debug, Default, PartialEq, Eq)]
+pub struct Place {
+    pub cylinder: u32,
+    pub track: u32,
+    pub sector: u32,
+}
+
+/// The geometry of a kind: the RP06 in its 16-bit format, and the RM03.
+pub fn geometry_of(kind: DriveKind) -> Geometry
+    ensures cylinders { result.cylinders ≡ cylinders_of kind }
+    ensures tracks { result.tracks ≡ tracks_of kind }
+    ensures sectors { result.sectors ≡ sectors_of kind }
+{
+    match kind {
+        DriveKind::Rp06 => Geometry {
+            cylinders: 815,
+            tracks: 19,
+            sectors: 22,
+        },
+        DriveKind::Rm03 => Geometry {
+            cylinders: 823,
+            tracks: 5,
+            sectors: 32,
+        },
+    }
+}
+
+/// How many blocks a pack has.
+pub fn blocks(kind: DriveKind) -> u32
+    ensures { result ≡ block_count kind }
+{
+    match kind {
+        DriveKind::Rp06 => 340670,
+        DriveKind::Rm03 => 131680,
+    }
+}
+
+/// Below this number blocks hold data.
+pub fn data_limit(kind: DriveKind) -> u32
+    ensures { result ≡ limit_of kind }
+{
+    match kind {
+        DriveKind::Rp06 => 340522,
+        DriveKind::Rm03 => 131522,
+    }
+}
+
+/// The kind that a word names, `rp06` or `rm03`; None exactly where it is neither.
+pub fn kind_of(word: &[u8]) -> Option<DriveKind>
+    ensures named { (kind : DriveKind) → (result ≡ Some kind) ↔ (word.now ≡ kind_word kind) }
+    ensures none { IfNone result ((kind : DriveKind) → word.now ≢ kind_word kind) }
+{
+    match word {
+        b"rp06" => Some(DriveKind::Rp06),
+        b"rm03" => Some(DriveKind::Rm03),
+        _ => None,
+    }
+}
+
+/// Where a block lies.
+pub fn place_of(kind: DriveKind, block: u32) -> Place
+    requires { block < block_count kind }
+    ensures place { result ≡ place_at kind block }
+    ensures inside { IsInside kind result }
+{
+    let geometry = geometry_of(kind);
+    Place {
+        cylinder: block / (geometry.tracks * geometry.sectors),
+        track: block % (geometry.tracks * geometry.sectors) / geometry.sectors,
+        sector: block % geometry.sectors,
+    }
+}
+
+/// The block that lies at a place; None exactly where the place is outside the geometry.
+pub fn block_of(kind: DriveKind, place: Place) -> Option<u32>
+    ensures block { SomeIff result (IsInside kind place) (block_number kind place) }
+{
+    let geometry = geometry_of(kind);
+    if place.cylinder < geometry.cylinders
+        && place.track < geometry.tracks
+        && place.sector < geometry.sectors
+    {
+        let track = place.cylinder * geometry.tracks + place.track;
+        Some(track * geometry.sectors + place.sector)
+    } else {
+        None
+    }
+}
+
+/// The block of copy `k` of the bad-sector table: the five copies lie on the even sectors of the last track.
+pub fn copy_block(kind: DriveKind, k: u32) -> u32
+    requires { k < 5 }
+    ensures { result ≡ copy_at kind k }
+{
+    blocks(kind) - geometry_of(kind).sectors + 2 * k
+}
+
+/// The block that replaces entry `i` of the bad-sector table: replacement 0 lies directly below the last track,
+/// and the others below it in turn.
+pub fn replacement(kind: DriveKind, i: u32) -> u32
+    requires { i < 126 }
+    ensures { result ≡ replacement_at kind i }
+{
+    blocks(kind) - geometry_of(kind).sectors - 1 - i
+}
+
+/// The law of places: numbers below the count of blocks and places on the drive are in one-to-one order,
+/// by `place_of` one way and by `block_of` the other.
+pub fn place_law(kind: DriveKind)
+    ensures inside { (block : ℕ) → block < block_count kind → IsInside kind (place_at kind block) }
+    ensures back { (block : ℕ) → block < block_count kind → block_number kind (place_at kind block) ≡ block }
+    ensures below { (place : Place) → IsInside kind place → block_number kind place < block_count kind }
+    ensures forth { (place : Place) → IsInside kind place → place_at kind (block_number kind place) ≡ place }
+{}
+
+/// The law of a pack's parts: data blocks, replacements and table copies lie apart, in this order, all of them
+/// below the count of blocks, and different replacements and copies are different blocks.
+pub fn apart_law(kind: DriveKind)
+    ensures replacements { (i : ℕ) → i < 126 → limit_of kind ≤ replacement_at kind i }
+    ensures below_copies { (i k : ℕ) → i < 126 → replacement_at kind i < copy_at kind k }
+    ensures copies { (k : ℕ) → k < 5 → copy_at kind k < block_count kind }
+    ensures different_replacements { (i j : ℕ) → i < 126 → j < 126 → i ≢ j → replacement_at kind i ≢ replacement_at kind j }
+    ensures different_copies { (k l : ℕ) → k < 5 → l < 5 → k ≢ l → copy_at kind k ≢ copy_at kind l }
+{}
+
+#[cfg(test)]
+mod tests {
+    use super::*;
+
+    // Places worked out by hand from the drives' sizes, and the ends of a pack.
+    #[test]
+    fn places_and_parts(rt: HostRuntime) {
+        use DriveKind::{Rm03, Rp06};
+        for (kind, block, cylinder, track, sector) in [
+            (Rp06, 0, 0, 0, 0),
+            (Rp06, 1000, 2, 7, 10),
+            (Rp06, 340669, 814, 18, 21),
+            (Rm03, 159, 0, 4, 31),
+            (Rm03, 160, 1, 0, 0),
+            (Rm03, 131679, 822, 4, 31),
+        ] {
+            if block >= blocks(kind) {
+                assert!(rt; false, "block {block} is beyond the pack");
+            } else {
+                let place = Place {
+                    cylinder,
+                    track,
+                    sector,
+                };
+                assert!(rt; place_of(kind, block) == place, "block {block}");
+                assert!(rt; block_of(kind, place) == Some(block), "block {block}");
+            }
+        }
+        assert_eq!(rt;
+            (copy_block(Rp06, 0), copy_block(Rp06, 4)),
+            (340648, 340656)
+        );
+        assert_eq!(rt;
+            (replacement(Rm03, 0), replacement(Rm03, 125)),
+            (131647, 131522)
+        );
+    }
+}
