@@ -1,0 +1,8 @@
+-- The register after the bytes so far.
+use Rattle.std.proofs.Common.{◌≡◌, ◌*◌}
+use Rattle.fire_code.specs.Word.{bit_of_word}
+use Rattle.fire_code.proofs.Words.{fed}
+use Rattle.fire_code.proofs.data_remainder.Given as goal
+
+abbrev pub invariant-loop-byte : goal.invariant-loop-byte
+invariant-loop-byte l = l.state ≡ fed (bit_of_word l.bytes 0) (8 * l.byte-index)

@@ -1,0 +1,314 @@
+// The Fire code of a sector: its check, its word's remainder, and the bursts that a remainder tells.
+//
+// A sector's word is 4,128 places: its 512 bytes, each from its least significant bit on, and then the check's 32
+// bits, from the most significant on. Place k is the coefficient of x^(4127-k), and a word is right where its
+// polynomial is a multiple of x^32 + x^23 + x^21 + x^11 + x^2 + 1 = (x^21 + 1)(x^11 + x^2 + 1). That a Fire code
+// corrects one burst of at most 11 bits in a sector is as on the real drives; this generator and this order of the
+// bits are the project's own choice.
+#![tactic(auto)]
+
+ghost use Rattle.std.specs.Prelude.{◌≡◌, ◌≢◌, ◌<◌, ◌^◌, ◌*◌, ◌≤◌, ◌-◌, ◌==◌, ℕ, List, take, cond, ◌↔◌, IsTrue, All, SomeIff, bit_xor, slice_index};
+ghost use Rattle.fire_code.specs.Remainder.{remainder as the_remainder};
+ghost use Rattle.fire_code.specs.Burst.{IsShortBurst, IsBurst, IsUncorrectable, places_of};
+ghost use Rattle.fire_code.specs.Verdict.{Judges, Names};
+ghost use Rattle.fire_code.specs.Word.{bit_of_word, word_remainder};
+ghost use Rattle.fire_code.specs.Repair.{burst_byte};
+ghost use Rattle.fire_code.specs.Noise.{IsNoise, IsAlias, IsFlipped, Classes};
+
+pub mod by_residues;
+pub mod logarithms;
+mod pattern;
+pub mod plain;
+pub mod tables;
+
+use crate::tables::{eight_steps, power};
+use std::marker::Model;
+
+/// A sector's 32 check bits: bit e is the coefficient of x^e.
+#[derive(Clone, Copy, PartialEq, Eq, Debug)]
+pub struct Check(pub u32);
+
+/// What a word's remainder tells.
+#[derive(Clone, Copy, PartialEq, Eq, Debug)]
+pub enum Verdict {
+    /// The word is right.
+    Clean,
+    /// One short burst has the remainder, written as the drives' registers tell it. `at`, from 1 to 4128, is its
+    /// first place, counted from 1; bit j of `pattern`, of 11 bits of which bit 0 is set, stands for place
+    /// `at - 1 + j`, counted from 0.
+    Burst { at: u16, pattern: u16 },
+    /// The word is wrong, and no short burst has the remainder.
+    Uncorrectable,
+}
+
+/// What becomes of noise when it strikes a right word.
+#[derive(Clone, Copy, PartialEq, Eq, Debug)]
+pub enum NoiseClass {
+    /// Its places lie within 11 successive ones: it is told by its remainder, and can be repaired.
+    Short,
+    /// Its remainder is not zero, and no short burst has it: the word is known to be wrong.
+    Shown,
+    /// Neither: it looks like a right word, or like one with another burst.
+    Alias,
+}
+
+// The remainder of the word of these bytes and the check 0: one byte for each step.
+fn data_remainder(bytes: &[u8; 512]) -> u32
+    ensures { result ≡ word_remainder bytes.now 0 }
+{
+    let mut state: u32 = 0;
+    for byte in bytes {
+        let high = (state >> 24) as u8 ^ byte.reverse_bits();
+        state = (state << 8) ^ eight_steps(high);
+    }
+    state
+}
+
+/// The check that makes the word right.
+pub fn encode(bytes: &[u8; 512]) -> Check
+    ensures right { word_remainder bytes.now result.0 ≡ 0 }
+    ensures only { (check : ℕ) → check < 2 ^ 32 → word_remainder bytes.now check ≡ 0 → check ≡ result.0 }
+{
+    Check(data_remainder(bytes))
+}
+
+/// The word's remainder modulo the generator: 0 exactly where the word is right.
+pub fn syndrome(bytes: &[u8; 512], check: Check) -> u32
+    ensures { result ≡ word_remainder bytes.now check.0 }
+{
+    data_remainder(bytes) ^ check.0
+}
+
+/// What the word's remainder tells, exactly, for every word.
+pub fn judge(bytes: &[u8; 512], check: Check) -> Verdict
+    ensures verdict { Judges result (word_remainder bytes.now check.0) }
+
+    // Each verdict is given exactly where it holds.
+    ensures clean { (result ≡ Verdict.Clean) ↔ (word_remainder bytes.now check.0 ≡ 0) }
+    ensures burst { (at pattern : ℕ)
+        → (result ≡ Verdict.Burst at pattern) ↔ IsBurst at pattern (word_remainder bytes.now check.0) }
+    ensures uncorrectable { (result ≡ Verdict.Uncorrectable)
+        ↔ IsUncorrectable (word_remainder bytes.now check.0) }
+
+    // A right word with a short burst applied is judged to be just that burst.
+    ensures named { (places old : List ℕ) (c : ℕ) → word_remainder old c ≡ 0 → IsShortBurst places
+        → IsFlipped places old c bytes.now check.0 → Names result places }
+{
+    by_residues::verdict_of(syndrome(bytes, check))
+}
+
+// The remainder of these places.
+fn remainder_of(places: &[u16]) -> u32
+    requires { All (λ k. k < 4128) places.now }
+    ensures { result ≡ the_remainder places.now }
+{
+    let mut sum: u32 = 0;
+    for place in places {
+        sum ^= power(4127 - *place);
+    }
+    sum
+}
+
+// Whether these are 1 to 64 places of the word in ascending order.
+fn is_noise(places: &[u16]) -> bool
+    ensures { IsTrue result ↔ IsNoise places.now }
+{
+    if places.is_empty() || places.len() > 64 {
+        return false;
+    }
+    let mut next = 0;
+    for place in places {
+        if *place < next || *place > 4127 {
+            return false;
+        }
+        next = *place + 1;
+    }
+    true
+}
+
+/// From 1 to 64 places of a word, each from 0 to 4127 and in ascending order, that are flipped when it is read.
+#[derive(Drop)]
+pub struct Noise {
+    places: [u16; 64],
+    count: u8,
+}
+
+impl Model for Noise {
+    ghost Value = { List ℕ };
+
+    ghost view = { λ n. take n.count n.places };
+
+    ghost invariant = { λ n. (n.count ≤ 64) × IsNoise (take n.count n.places) };
+}
+
+impl Noise {
+    /// The noise of these places. None exactly where the list is empty, longer than 64, not strictly ascending, or
+    /// has a place above 4127.
+    pub fn new(places: &[u16]) -> Option<Noise>
+        ensures { SomeIff result (IsNoise places.now) places.now }
+    {
+        if !is_noise(places) {
+            return None;
+        }
+        let mut kept = [0; 64];
+        let count = places.len();
+        kept[..count].copy_from_slice(places);
+        Some(Noise {
+            places: kept,
+            count: count as u8,
+        })
+    }
+
+    /// The same noise again.
+    pub fn copy(&self) -> Noise
+        ensures { result ≡ self.now }
+    {
+        Noise {
+            places: self.places,
+            count: self.count,
+        }
+    }
+
+    /// Its places, in ascending order.
+    pub fn places(&self) -> &[u16]
+        ensures value { result.now ≡ self.now }
+        ensures noise { IsNoise self.now }
+    {
+        &self.places[..usize::from(self.count)]
+    }
+}
+
+// The class of these places: by their ends, or by what their remainder tells.
+fn class_by(places: &[u16]) -> NoiseClass
+    requires { IsNoise places.now }
+    ensures { Classes result places.now }
+{
+    if places[places.len() - 1] - places[0] <= 10 {
+        return NoiseClass::Short;
+    }
+    match by_residues::verdict_of(remainder_of(places)) {
+        Verdict::Uncorrectable => NoiseClass::Shown,
+        _ => NoiseClass::Alias,
+    }
+}
+
+/// The noise's class.
+pub fn class_of(noise: &Noise) -> NoiseClass
+    ensures class { Classes result noise.now }
+
+    // Each class is given exactly where it holds.
+    ensures short { (result ≡ NoiseClass.Short) ↔ IsShortBurst noise.now }
+    ensures shown { (result ≡ NoiseClass.Shown) ↔ IsUncorrectable (the_remainder noise.now) }
+    ensures alias { (result ≡ NoiseClass.Alias) ↔ IsAlias noise.now }
+{
+    class_by(noise.places())
+}
+
+// One place of the word flipped; the check afterwards.
+fn flip(place: u16, bytes: &mut [u8; 512], check: u32) -> u32
+    requires { place < 4128 }
+    ensures { (k : ℕ) → k < 4128 → bit_of_word bytes.new result k
+        ≡ cond (place == k) (1 - bit_of_word bytes.old check k) (bit_of_word bytes.old check k) }
+{
+    if place < 4096 {
+        bytes[usize::from(place / 8)] ^= 1 << (place % 8);
+        check
+    } else {
+        check ^ (1 << (4127 - place))
+    }
+}
+
+/// Flips the noise's places of the word, and no other: those of the data in `bytes`, and those of the check in the
+/// result.
+pub fn apply(noise: &Noise, bytes: &mut [u8; 512], check: Check) -> Check
+    ensures flips { IsFlipped noise.now bytes.old check.0 bytes.new result.0 }
+    ensures remainder { word_remainder bytes.new result.0
+        ≡ bit_xor (the_remainder noise.now) (word_remainder bytes.old check.0) }
+{
+    let mut value = check.0;
+    for place in noise.places() {
+        value = flip(*place, bytes, value);
+    }
+    Check(value)
+}
+
+/// The verdict of `judge` on any right word with the noise's places flipped, from these places alone.
+pub fn judge_noise(noise: &Noise) -> Verdict
+    ensures remainder { Judges result (the_remainder noise.now) }
+    ensures word { (old new : List ℕ) (c d : ℕ) → word_remainder old c ≡ 0 → IsFlipped noise.now old c new d
+        → Judges result (word_remainder new d) }
+{
+    by_residues::verdict_of(remainder_of(noise.places()))
+}
+
+/// The burst law: no short burst has the remainder zero, and two different ones have different remainders. Hence a
+/// remainder has one verdict and noise one class, and a short burst is named by the verdict on its remainder; an
+/// exclusive or of each byte of the data with that of the burst restores it; and places that are flipped twice are as
+/// they were.
+pub fn burst_law()
+    ensures not_zero { (places : List ℕ) → IsShortBurst places → the_remainder places ≢ 0 }
+    ensures apart { (places others : List ℕ) → IsShortBurst places → IsShortBurst others
+        → the_remainder places ≡ the_remainder others → places ≡ others }
+    ensures verdict { (one other : Verdict) (r : ℕ) → Judges one r → Judges other r → one ≡ other }
+    ensures class { (one other : NoiseClass) (places : List ℕ) → Classes one places → Classes other places
+        → one ≡ other }
+    ensures named { (v : Verdict) (places : List ℕ) → IsShortBurst places → Judges v (the_remainder places)
+        → Names v places }
+    ensures repairs { (at pattern i : ℕ) (old new : List ℕ) (c d : ℕ) → pattern < 2 ^ 11
+        → IsFlipped (places_of 11 (at - 1) pattern) old c new d
+        → i < 512 → slice_index old i < 2 ^ 8 → slice_index new i < 2 ^ 8
+        → bit_xor (slice_index new i) (burst_byte at pattern i) ≡ slice_index old i }
+    ensures back { (places old new : List ℕ) (c d : ℕ) → IsFlipped places old c new d
+        → IsFlipped places new d old c }
+{}
+
+#[cfg(test)]
+mod tests {
+    use super::*;
+    use std::process::Abort;
+    use std::test::Fail;
+
+    // The check of 512 zeros, of a last byte with its highest bit set, and of one with the next bit set.
+    #[test]
+    fn fire_code_values(rt: HostRuntime) -> Result<(), Fail> {
+        for (last, check) in [(0, 0), (0x80, 0x00A0_0805), (0x40, 0x0140_100A)] {
+            let mut bytes = [0; 512];
+            bytes[511] = last;
+            assert_eq!(rt; encode(&bytes), Check(check));
+            assert_eq!(rt; plain::remainder(&bytes, Check(0)), check);
+        }
+        struck_zeros(&rt, &[4090, 4100], NoiseClass::Short, burst(4091, 0o2001))?;
+        struck_zeros(&rt, &[0, 7, 14], NoiseClass::Shown, Verdict::Uncorrectable)?;
+        struck_zeros(
+            &rt,
+            &[0, 9, 11, 21, 30, 32],
+            NoiseClass::Alias,
+            Verdict::Clean,
+        )?;
+        struck_zeros(&rt, &[4127], NoiseClass::Short, burst(4128, 1))?;
+        Ok(())
+    }
+
+    fn burst(at: u16, pattern: u16) -> Verdict {
+        Verdict::Burst { at, pattern }
+    }
+
+    // The class and the verdict of this noise in a sector of zeros, by the tables and by the plain program.
+    fn struck_zeros(
+        rt: &impl Abort,
+        places: &[u16],
+        class: NoiseClass,
+        verdict: Verdict,
+    ) -> Result<(), Fail> {
+        let noise = Noise::new(places).ok_or("no noise")?;
+        let mut bytes = [0; 512];
+        let check = apply(&noise, &mut bytes, Check(0));
+        let remainder = plain::remainder(&bytes, check);
+        assert_eq!(rt; syndrome(&bytes, check), remainder);
+        assert_eq!(rt; judge(&bytes, check), verdict);
+        assert_eq!(rt; plain::verdict_of(remainder), verdict);
+        assert_eq!(rt; judge_noise(&noise.copy()), verdict);
+        assert_eq!(rt; class_of(&noise), class);
+        Ok(())
+    }
+}
