@@ -1,0 +1,53 @@
+-- The text of a block.
+use Rattle.std.proofs.Common.{◌≡◌, ℕ, zero, suc, ◌+◌, ◌*◌, ◌/◌, ◌%◌, ◌<◌, ◌≤◌, ◌==◌, ◌&&◌, inl, inr, Bool, true, false, List, [], ◌∷◌, length, get_or, slice_index, arith, refl}
+use Rattle.std.specs.List.{flat_map, list_all}
+use Rattle.std.proofs.lemmas.Bool.{and_parts, cases_lt, eqb-true}
+use Rattle.hex.specs.Hex.{encode_with, lower_digits}
+use Rattle.mass_text.specs.BlockText.{hex_digit, hex_byte, content_text}
+
+-- each digit below a number stands in the table of digits
+all_same : ℕ → Bool
+all_same zero = true
+all_same (suc n) = (slice_index lower_digits n == hex_digit n) && all_same n
+
+same_at : (n d : ℕ) → all_same n ≡ true → d < n → slice_index lower_digits d ≡ hex_digit d
+unfolding all_same
+same_at zero d h small = absurd (omega arith)
+same_at (suc n) d h small =
+    let parts = and_parts (slice_index lower_digits n == hex_digit n) (all_same n) h in
+    elim (cases_lt d n) [
+      | inl below ↦ same_at n d parts.1 below
+      | inr top ↦
+          let here : d ≡ n = omega arith in
+          rw here (eqb-true (slice_index lower_digits n) (hex_digit n) parts.0)
+    ]
+
+same_digit : (d : ℕ) → d < 16 → slice_index lower_digits d ≡ hex_digit d
+unfolding all_same
+same_digit d small = same_at 16 d refl small
+
+-- the digits that `hex` writes
+pub encode_lower-is : (bytes : List ℕ) → ((i : ℕ) → get_or bytes i 0 < 256) → encode_with lower_digits bytes ≡ flat_map hex_byte bytes
+unfolding encode_with
+encode_lower-is [] h = refl
+encode_lower-is (b ∷ bs) h =
+    let small : b < 256 = h 0 in
+    let rest = encode_lower-is bs (λ i. h (suc i)) in
+    rw (same_digit (b / 16) (omega arith), same_digit (b % 16) (omega arith), rest) refl
+
+-- two digits a byte
+pub length-hex : (bytes : List ℕ) → length (flat_map hex_byte bytes) ≡ 2 * length bytes
+length-hex [] = refl
+length-hex (b ∷ bs) = omega (arith, length-hex bs)
+
+-- the digits of a block whose bytes are not all equal have two places each
+pub length-content_other : (bytes : List ℕ) → list_all (λ b. b == slice_index bytes 0) bytes ≡ false → length (content_text bytes) ≡ 4 + 2 * length bytes
+length-content_other bytes e = rw e (omega (arith, length-hex bytes))
+
+content_by : (bytes : List ℕ) (one : Bool) → list_all (λ b. b == slice_index bytes 0) bytes ≡ one → length bytes ≡ 512 → length (content_text bytes) ≤ 1028
+content_by bytes true e size = rw e (omega arith)
+content_by bytes false e size = omega (arith, length-content_other bytes e)
+
+-- a block's text has at most 1,028 bytes
+pub length-content_text-le : (bytes : List ℕ) → length bytes ≡ 512 → length (content_text bytes) ≤ 1028
+length-content_text-le bytes size = content_by bytes (list_all (λ b. b == slice_index bytes 0) bytes) refl size

@@ -1,0 +1,4 @@
+pub mod BlockLaws
+pub mod DigitLaws
+pub mod NumberLaws
+pub mod PieceLaws

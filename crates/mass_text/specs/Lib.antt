@@ -1,0 +1,3 @@
+pub mod BlockText
+pub mod Numbers
+pub mod Pieces

@@ -1,0 +1,69 @@
+ghost use Rattle.std.specs.Prelude.{◌≡◌, ◌∷◌, [], MatchOption, IfNone, IfSome, position, not};
+ghost use Rattle.mass_text.specs.Pieces.{is_blank, pieces};
+
+use std::marker::Model;
+
+/// The fields of a line, one after another: its pieces between spaces and tabs.
+#[derive(Drop)]
+pub struct Fields<'a> {
+    rest: &'a [u8],
+}
+
+impl<'a> Model for Fields<'a> {
+    ghost use Rattle.std.specs.Prelude.{ℕ, List};
+
+    ghost Value = { List (List ℕ) };
+
+    ghost use Rattle.mass_text.specs.Pieces.{pieces};
+
+    ghost view = { λ fields. pieces fields.rest.now };
+}
+
+fn is_blank(byte: u8) -> bool
+    ensures { result ≡ is_blank byte }
+{
+    byte == b' ' || byte == b'\t'
+}
+
+fn first_blank(text: &[u8]) -> Option<usize>
+    ensures { result ≡ position is_blank text.now }
+{
+    text.iter().position(|byte| is_blank(*byte))
+}
+
+fn first_other(text: &[u8]) -> Option<usize>
+    ensures { result ≡ position (λ b. not (is_blank b)) text.now }
+{
+    text.iter().position(|byte| !is_blank(*byte))
+}
+
+/// The first piece of a text, and what comes behind it.
+fn first_piece(text: &[u8]) -> Option<(&[u8], &[u8])>
+    ensures none { IfNone result (pieces text.now ≡ []) }
+    ensures first { IfSome result (λ parts. pieces text.now ≡ parts.0.now ∷ pieces parts.1.now) }
+{
+    let Some(start) = first_other(text) else {
+        return None;
+    };
+    let text = &text[start..];
+    let len = first_blank(text).unwrap_or(text.len());
+    Some((&text[..len], &text[len..]))
+}
+
+impl<'a> Fields<'a> {
+    /// The fields of a line.
+    pub fn new(line: &'a [u8]) -> Fields<'a>
+        ensures { result ≡ pieces line.now }
+    {
+        Fields { rest: line }
+    }
+
+    /// The next field; None exactly where none is left.
+    pub fn next(&mut self) -> Option<&'a [u8]>
+        ensures { MatchOption result ((self.old ≡ []) × (self.new ≡ [])) (λ field. self.old ≡ field.now ∷ self.new) }
+    {
+        let (field, rest) = first_piece(self.rest)?;
+        self.rest = rest;
+        Some(field)
+    }
+}
