@@ -1,0 +1,2 @@
+pub mod PackLaws
+pub mod TableLaws

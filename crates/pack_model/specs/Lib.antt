@@ -1,0 +1,4 @@
+pub mod Content
+pub mod Pack
+pub mod TableFields
+pub mod TableSpelling
