@@ -1,0 +1,157 @@
+// The partitions of the drives, and the admission of requests to them.
+#![tactic(auto)]
+
+ghost use Rattle.std.specs.Prelude.{◌≡◌, ◌<◌, ◌≤◌, ◌+◌, ◌↔◌, ◌⊎◌, ℕ, IsSome};
+ghost use Rattle.pack_geometry.specs.Geometry.{limit_of};
+ghost use Rattle.partitions.specs.declared.Part.{Part};
+ghost use Rattle.partitions.specs.Partitions.{letter_of, size_of, cylinder_of, first_of, admission};
+
+use pack_geometry::{DriveKind, geometry_of};
+
+/// A drive's partitions.
+#[derive(Clone, Copy, Debug, PartialEq, Eq)]
+pub enum Part {
+    A,
+    B,
+    C,
+    D,
+    E,
+    F,
+    G,
+    H,
+}
+
+/// The blocks of a partition: its first, counted on the pack, and how many it has.
+#[derive(Clone, Copy, Debug, PartialEq, Eq)]
+pub struct PartRange {
+    pub first: u32,
+    pub size: u32,
+}
+
+/// What a request meets: blocks inside its partition, the first of them counted on the pack; the partition's very
+/// end; or blocks outside.
+#[derive(Clone, Copy, Debug, PartialEq, Eq)]
+pub enum Admission {
+    Inside { first: u32 },
+    Eof,
+    Outside,
+}
+
+/// The partition that a letter names; None exactly where it is not `a` to `h`.
+pub fn part_of(letter: u8) -> Option<Part>
+    ensures named { (part : Part) → (result ≡ Some part) ↔ (letter ≡ letter_of part) }
+    ensures found { IsSome result ↔ ((97 ≤ letter) × (letter ≤ 104)) }
+{
+    match letter {
+        b'a' => Some(Part::A),
+        b'b' => Some(Part::B),
+        b'c' => Some(Part::C),
+        b'd' => Some(Part::D),
+        b'e' => Some(Part::E),
+        b'f' => Some(Part::F),
+        b'g' => Some(Part::G),
+        b'h' => Some(Part::H),
+        _ => None,
+    }
+}
+
+/// The blocks of a partition. All of them are data blocks.
+pub fn part_range(kind: DriveKind, part: Part) -> PartRange
+    ensures first { result.first ≡ first_of kind part }
+    ensures size { result.size ≡ size_of kind part }
+    ensures data_blocks { result.first + result.size ≤ limit_of kind }
+{
+    let (cylinder, size) = match kind {
+        DriveKind::Rp06 => rp06_part(part),
+        DriveKind::Rm03 => rm03_part(part),
+    };
+    let geometry = geometry_of(kind);
+    PartRange {
+        first: cylinder * geometry.tracks * geometry.sectors,
+        size,
+    }
+}
+
+/// The first cylinder and the size of an RP06's partition.
+fn rp06_part(part: Part) -> (u32, u32)
+    ensures { result ≡ (cylinder_of DriveKind.Rp06 part, size_of DriveKind.Rp06 part) }
+{
+    match part {
+        Part::A => (0, 15884),
+        Part::B => (38, 33440),
+        Part::C => (0, 340522),
+        Part::D => (118, 15884),
+        Part::E => (156, 55936),
+        Part::F => (290, 219296),
+        Part::G => (118, 291192),
+        Part::H => (0, 0),
+    }
+}
+
+/// The first cylinder and the size of an RM03's partition.
+fn rm03_part(part: Part) -> (u32, u32)
+    ensures { result ≡ (cylinder_of DriveKind.Rm03 part, size_of DriveKind.Rm03 part) }
+{
+    match part {
+        Part::A => (0, 15884),
+        Part::B => (100, 33440),
+        Part::C => (0, 131522),
+        Part::D => (309, 15884),
+        Part::E => (409, 55936),
+        Part::F => (759, 10080),
+        Part::G => (309, 82080),
+        Part::H => (0, 0),
+    }
+}
+
+/// What a request meets for `count` blocks from `block` of a partition, as 4.3BSD's driver judges it: Eof exactly
+/// where it begins at the partition's size, Outside exactly where it begins behind it or reaches past it, and else
+/// Inside with its first block on the pack. A range inside has data blocks only.
+pub fn admit(kind: DriveKind, part: Part, block: u32, count: u32) -> Admission
+    requires some { 1 ≤ count }
+    requires few { count ≤ 127 }
+    ensures value { result ≡ admission kind part block count }
+    ensures eof { (result ≡ Admission.Eof) ↔ (block ≡ size_of kind part) }
+    ensures outside { (result ≡ Admission.Outside)
+        ↔ ((size_of kind part < block) ⊎ ((block < size_of kind part) × (size_of kind part < block + count))) }
+    ensures inside { (first : ℕ) → (result ≡ Admission.Inside first)
+        ↔ ((block + count ≤ size_of kind part) × (first ≡ first_of kind part + block)) }
+    ensures data_blocks { (first : ℕ) → result ≡ Admission.Inside first → first + count ≤ limit_of kind }
+{
+    let range = part_range(kind, part);
+    if block == range.size {
+        Admission::Eof
+    } else if block > range.size || count > range.size - block {
+        Admission::Outside
+    } else {
+        Admission::Inside {
+            first: range.first + block,
+        }
+    }
+}
+
+#[cfg(test)]
+mod tests {
+    use super::*;
+
+    #[test]
+    fn partition_ends(rt: HostRuntime) {
+        use Admission::{Eof, Inside, Outside};
+        use DriveKind::{Rm03, Rp06};
+        for (kind, part, block, count, wanted) in [
+            (Rp06, Part::C, 340522, 1, Eof),
+            (Rp06, Part::C, 340521, 2, Outside),
+            (Rp06, Part::H, 0, 1, Eof),
+            (Rp06, Part::C, 340521, 1, Inside { first: 340521 }),
+            (Rp06, Part::B, 0, 127, Inside { first: 15884 }),
+            (Rp06, Part::C, u32::MAX, 127, Outside),
+            (Rm03, Part::G, 82079, 1, Inside { first: 131519 }),
+        ] {
+            assert_eq!(rt; admit(kind, part, block, count), wanted, "{block} {count}");
+        }
+        assert_eq!(rt; part_of(b'g'), Some(Part::G));
+        assert_eq!(rt; part_of(b'i'), None);
+        let range = part_range(Rm03, Part::F);
+        assert_eq!(rt; (range.first, range.size), (121440, 10080));
+    }
+}
