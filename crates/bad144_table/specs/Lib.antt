@@ -1,0 +1,3 @@
+pub mod Faults
+pub mod Inserts
+pub mod Last
