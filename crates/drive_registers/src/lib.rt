@@ -1,0 +1,113 @@
+//! The words of a drive's registers, after the register lists of the RP06 and RM03 manuals: the codes of
+//! functions and offsets, and the bits of the status, error and offset registers.
+#![tactic(auto)]
+
+ghost use Rattle.std.specs.Prelude.{◌≡◌, ◌≢◌, ◌<◌, ◌↔◌, IfSome, IsNone, Some};
+ghost use Rattle.drive_registers.specs.Codes.{function_code, function_field, offset_code, offset_field};
+
+mod bits;
+
+pub use bits::{Ds, Er1, Er2, Of};
+
+/// What a drive can be told to do.
+#[derive(Clone, Copy, Debug, PartialEq, Eq)]
+pub enum Function {
+    /// Nothing.
+    Nop,
+    /// Move the heads to the desired cylinder.
+    Seek,
+    /// Recalibrate: move the heads to cylinder 0.
+    Recal,
+    /// Drive clear: clear the error registers and the attention.
+    Clear,
+    /// Move the heads off the cylinder's centre by the offset code.
+    Offset,
+    /// Return to centre.
+    Centre,
+    /// Read-in preset: clear the address and offset registers.
+    Preset,
+    /// Pack acknowledge: the volume becomes valid.
+    Pack,
+    /// Move the heads and wait for a sector.
+    Search,
+    /// Write data.
+    Write,
+    /// Write header and data.
+    WriteHeader,
+    /// Read data.
+    Read,
+}
+
+/// How far the heads are moved off the centre of a cylinder, in microinches.
+#[derive(Clone, Copy, Debug, PartialEq, Eq)]
+pub enum OffsetCode {
+    Plus400,
+    Minus400,
+    Plus800,
+    Minus800,
+    Plus1200,
+    Minus1200,
+}
+
+/// The function whose code stands in bits 1 to 5 of a control word. `None` exactly where no function
+/// has that code.
+pub fn function_of(word: u16) -> Option<Function>
+    ensures found { IfSome result (λ f. function_code f ≡ function_field word) }
+    ensures every { (f : Function) → function_code f ≡ function_field word → result ≡ Some f }
+    ensures none { IsNone result ↔ ((f : Function) → function_code f ≢ function_field word) }
+{
+    match word & 0o76 {
+        0o00 => Some(Function::Nop),
+        0o04 => Some(Function::Seek),
+        0o06 => Some(Function::Recal),
+        0o10 => Some(Function::Clear),
+        0o14 => Some(Function::Offset),
+        0o16 => Some(Function::Centre),
+        0o20 => Some(Function::Preset),
+        0o22 => Some(Function::Pack),
+        0o30 => Some(Function::Search),
+        0o60 => Some(Function::Write),
+        0o62 => Some(Function::WriteHeader),
+        0o70 => Some(Function::Read),
+        _ => None,
+    }
+}
+
+/// A function's code, without the bit GO: an even number below 64.
+pub fn code_of(function: Function) -> u16
+    ensures code { result ≡ function_code function }
+    ensures in_field { function_field result ≡ result }
+{
+    match function {
+        Function::Nop => 0o00,
+        Function::Seek => 0o04,
+        Function::Recal => 0o06,
+        Function::Clear => 0o10,
+        Function::Offset => 0o14,
+        Function::Centre => 0o16,
+        Function::Preset => 0o20,
+        Function::Pack => 0o22,
+        Function::Search => 0o30,
+        Function::Write => 0o60,
+        Function::WriteHeader => 0o62,
+        Function::Read => 0o70,
+    }
+}
+
+/// An offset's code, as it stands in the low eight bits of the offset register. No two offsets have the
+/// same code, and none has the code 0, which means no offset.
+pub fn offset_word(code: OffsetCode) -> u16
+    ensures code { result ≡ offset_code code }
+    ensures in_field { offset_field result ≡ result }
+    ensures not_zero { 0 < result }
+    ensures own { (other : OffsetCode) → offset_code other ≡ result → other ≡ code }
+{
+    match code {
+        OffsetCode::Plus400 => 0o020,
+        OffsetCode::Minus400 => 0o220,
+        OffsetCode::Plus800 => 0o040,
+        OffsetCode::Minus800 => 0o240,
+        OffsetCode::Plus1200 => 0o060,
+        OffsetCode::Minus1200 => 0o260,
+    }
+}
