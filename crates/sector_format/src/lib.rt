@@ -1,0 +1,156 @@
+//! A sector as it lies on the pack: its header, its 512 bytes and their check. The header's words are made
+//! after the RP06 and RM03 manuals; the bits of this crate's tables are the project's own choice of them.
+#![tactic(auto)]
+
+ghost use Rattle.std.specs.Prelude.{◌≡◌, ◌<◌};
+ghost use Rattle.pack_geometry.specs.Geometry.{block_count};
+ghost use Rattle.fire_code.specs.Word.{word_remainder};
+ghost use Rattle.sector_format.specs.Headers.{cylinder_bits as the_bits, track_and_sector, shows_bad as is_bad, header_at, fault_of, fault_as_marked};
+
+use fire_code::{Check, encode};
+use pack_geometry::{DriveKind, Place, place_of};
+
+/// A sector's header: the cylinder and the bits above it that say whether the sector is good, and
+/// `track * 256 + sector`.
+#[derive(Clone, Copy, Debug, PartialEq, Eq)]
+pub struct Header {
+    pub cylinder_word: u16,
+    pub sector_word: u16,
+}
+
+/// A sector as it lies on the pack.
+#[derive(Debug, Drop)]
+pub struct RawSector {
+    pub header: Header,
+    pub body: [u8; 512],
+    pub check: Check,
+}
+
+/// What is wrong with a header where a block is wanted.
+#[derive(Clone, Copy, Debug, PartialEq, Eq)]
+pub enum HeaderFault {
+    /// The format bit is off; so a marked sector of an RP06 is shown.
+    Format,
+    /// A bit of a good sector is off; so a marked sector of an RM03 is shown.
+    BadSector,
+    /// The header is another sector's.
+    Compare,
+}
+
+// The bits above the cylinder.
+fn cylinder_bits(kind: DriveKind, marked: bool) -> u16
+    ensures { result ≡ the_bits kind marked }
+{
+    match (kind, marked) {
+        (DriveKind::Rp06, false) => 0o010000,
+        (DriveKind::Rp06, true) => 0,
+        (DriveKind::Rm03, false) => 0o150000,
+        (DriveKind::Rm03, true) => 0o110000,
+    }
+}
+
+// The second word of a header.
+fn sector_word(place: Place) -> u16
+    requires track { place.track < 256 }
+    requires sector { place.sector < 256 }
+    ensures { result ≡ track_and_sector place }
+{
+    (place.track * 256 + place.sector) as u16
+}
+
+/// The header of a block, which shows whether the sector is marked.
+pub fn header_of(kind: DriveKind, block: u32, marked: bool) -> Header
+    requires { block < block_count kind }
+    ensures header { result ≡ header_at kind block marked }
+    ensures shown { fault_of kind result block ≡ fault_as_marked kind marked }
+{
+    let place = place_of(kind, block);
+    Header {
+        cylinder_word: place.cylinder as u16 | cylinder_bits(kind, marked),
+        sector_word: sector_word(place),
+    }
+}
+
+/// What is wrong with a header where a block is wanted: the first of these that applies. `BadSector` where the
+/// kind is RM03 and one of the bits 0o100000 and 0o40000 is off; `Format` where the bit 0o10000 is off;
+/// `Compare` where the header is not of the wanted block's place. `None` where nothing is wrong.
+pub fn header_fault(kind: DriveKind, header: Header, wanted: u32) -> Option<HeaderFault>
+    requires { wanted < block_count kind }
+    ensures { result ≡ fault_of kind header wanted }
+{
+    let word = header.cylinder_word;
+    let place = place_of(kind, wanted);
+    let cylinder = u32::from(word & 0o1777);
+    if shows_bad(kind, word) {
+        Some(HeaderFault::BadSector)
+    } else if word & 0o10000 == 0 {
+        Some(HeaderFault::Format)
+    } else if cylinder != place.cylinder || header.sector_word != sector_word(place) {
+        Some(HeaderFault::Compare)
+    } else {
+        None
+    }
+}
+
+// Whether a bit of a good sector is off.
+fn shows_bad(kind: DriveKind, word: u16) -> bool
+    ensures { result ≡ is_bad kind word }
+{
+    match kind {
+        DriveKind::Rp06 => false,
+        DriveKind::Rm03 => word & 0o100000 == 0 || word & 0o40000 == 0,
+    }
+}
+
+/// A sector as it is written: the block's header, the bytes, and the check that makes their word right.
+pub fn raw_sector(kind: DriveKind, block: u32, marked: bool, body: &[u8; 512]) -> RawSector
+    requires { block < block_count kind }
+    ensures header { result.header ≡ header_at kind block marked }
+    ensures body { result.body ≡ body.now }
+    ensures right { word_remainder result.body result.check.0 ≡ 0 }
+{
+    RawSector {
+        header: header_of(kind, block, marked),
+        body: *body,
+        check: encode(body),
+    }
+}
+
+#[cfg(test)]
+mod tests {
+    use super::*;
+
+    // The words by the drives' tables, worked out by hand.
+    #[test]
+    fn headers(rt: HostRuntime) {
+        use DriveKind::{Rm03, Rp06};
+        for (kind, block, marked, cylinder_word, sector_word, fault) in [
+            (Rp06, 1000, false, 0o010002, 0o003412, None),
+            (
+                Rp06,
+                1000,
+                true,
+                0o000002,
+                0o003412,
+                Some(HeaderFault::Format),
+            ),
+            (Rm03, 160, false, 0o150001, 0, None),
+            (Rm03, 160, true, 0o110001, 0, Some(HeaderFault::BadSector)),
+        ] {
+            if block < 131680 {
+                let header = header_of(kind, block, marked);
+                assert_eq!(rt; header.cylinder_word, cylinder_word);
+                assert_eq!(rt; header.sector_word, sector_word);
+                assert!(rt; header_fault(kind, header, block) == fault);
+            }
+        }
+        let header = header_of(Rp06, 1000, false);
+        assert!(rt; header_fault(Rp06, header, 1001) == Some(HeaderFault::Compare));
+        assert!(rt; header_fault(Rp06, header, 1418) == Some(HeaderFault::Compare));
+        let mut body = [0u8; 512];
+        body[511] = 0x80;
+        let sector = raw_sector(Rm03, 160, false, &body);
+        assert!(rt; sector.body == body);
+        assert_eq!(rt; sector.check.0, 0x00A0_0805);
+    }
+}
