@@ -1,0 +1,4 @@
+pub mod AnswerLaws
+pub mod MachineLaws
+pub mod ServiceOrderLaws
+pub mod ServiceOrderRuns

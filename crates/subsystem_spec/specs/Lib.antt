@@ -1,0 +1,6 @@
+pub mod AnswerText
+pub mod BlockMachine
+pub mod LegalAnswers
+pub mod Plays
+pub mod Request
+pub mod ServiceOrder
