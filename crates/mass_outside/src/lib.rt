@@ -1,0 +1,13 @@
+// The outside of the program: a source of bytes, a sink for bytes and the packs, as traits with their meaning; what
+// implements them in memory; and the adapters over std's reader, writer and files.
+#![tactic(auto)]
+
+pub mod files;
+pub mod mem_packs;
+pub mod mem_streams;
+pub mod slots;
+pub mod streams;
+#[cfg(test)]
+mod tests;
+pub mod traits;
+pub mod whole;

@@ -1,0 +1,260 @@
+ghost use Rattle.std.specs.Prelude.{◌≡◌, ℕ, ◌<◌, ◌==◌, ◌&&◌, ◌||◌, IfOk, OnOk, OnErr, is_err, length, IsTrue};
+ghost use Rattle.mass_outside.specs.Images.{op_number, is_listed, HoldsImages};
+ghost use Rattle.mass_outside.specs.Slots.{AllEmpty};
+ghost use Rattle.mass_outside.specs.Memory.{IsFresh};
+
+use crate::slots::{Image, Slot};
+use crate::traits::{NoMemory, Packs, StoreFailed};
+use std::alloc::{AllocError, Global};
+use std::marker::Model;
+
+/// The operations on packs.
+#[derive(Clone, Copy, Debug, PartialEq, Eq)]
+pub enum PackOp {
+    Length,
+    Read,
+    Write,
+    Marked,
+    SetMark,
+}
+
+/// A call that is to fail.
+#[derive(Clone, Copy, Debug, PartialEq, Eq)]
+pub struct FailCall {
+    pub op: PackOp,
+    /// The number of the call among those of its operation, counted from 1.
+    pub number: u64,
+}
+
+/// An operation's number.
+fn op_number(op: PackOp) -> u8
+    ensures { result ≡ op_number op }
+{
+    match op {
+        PackOp::Length => 0,
+        PackOp::Read => 1,
+        PackOp::Write => 2,
+        PackOp::Marked => 3,
+        PackOp::SetMark => 4,
+    }
+}
+
+/// Whether a call is the one that is to fail.
+fn is_call(call: &FailCall, op: PackOp, number: u64) -> bool
+    ensures { result ≡ ((op_number call.now.op == op_number op) && (call.now.number == number)) }
+{
+    op_number(call.op) == op_number(op) && call.number == number
+}
+
+/// Whether a call is one that is to fail.
+fn is_listed(fail: &[FailCall], op: PackOp, number: u64) -> bool
+    ensures { result ≡ is_listed fail.now op number }
+{
+    fail.iter().any(|call| is_call(call, op, number))
+}
+
+/// Packs in memory, which tell what they hold. The listed calls fail, and those that write or mark where there is no
+/// room: at or above an image's `blocks`, or on a unit without an image. A unit without an image is empty.
+#[derive(Drop)]
+pub struct MemPacks {
+    slots: Vec<Slot>,
+    fail: Vec<FailCall>,
+    lengths: u64,
+    reads: u64,
+    writes: u64,
+    markeds: u64,
+    set_marks: u64,
+    faults: u64,
+}
+
+impl Model for MemPacks {
+    ghost use Rattle.std.specs.Prelude.{◌≡◌, length};
+    ghost use Rattle.mass_outside.specs.Memory.{MemView};
+
+    ghost Value = { MemView };
+
+    ghost view = { λ p. record {
+      slots = p.slots.items;
+      fail = p.fail.items;
+      lengths = p.lengths;
+      reads = p.reads;
+      writes = p.writes;
+      markeds = p.markeds;
+      set_marks = p.set_marks;
+      faults = p.faults;
+    } };
+
+    ghost invariant = { λ p. length p.slots.items ≡ 32 };
+}
+
+/// Slots that hold nothing, for the 32 units.
+fn empty_slots(alloc: Global) -> Result<Vec<Slot>, AllocError>
+    ensures len { IfOk result (λ slots. length slots.items ≡ 32) }
+    ensures empty { IfOk result (λ slots. AllEmpty slots.items) }
+{
+    let mut slots = Vec::new(alloc);
+    for _ in 0..32u8 {
+        slots.push(Slot::empty(alloc))?;
+    }
+    Ok(slots)
+}
+
+/// Slots with the content of images.
+fn slots_of(alloc: Global, mut images: Vec<Image>) -> Result<Vec<Slot>, AllocError>
+    ensures len { IfOk result (λ slots. length slots.items ≡ 32) }
+    ensures held { IfOk result (λ slots. HoldsImages slots.items images.items) }
+{
+    let mut slots = empty_slots(alloc)?;
+    while let Some(image) = images.pop() {
+        let unit = image.unit as usize;
+        let slot = Slot::of(image)?;
+        if unit < 32 {
+            slots[unit] = slot;
+        }
+    }
+    Ok(slots)
+}
+
+impl MemPacks {
+    ghost use Rattle.mass_outside.specs.Causes.{next};
+
+    /// Packs with these images, and calls that are to fail. The first image of a unit counts. It reserves the room
+    /// for their blocks and marks, so that no later call takes memory.
+    pub fn new(alloc: Global, images: Vec<Image>, fail: Vec<FailCall>) -> Result<MemPacks, NoMemory>
+        ensures images { IfOk result (λ packs. HoldsImages packs.slots images.items) }
+        ensures fail { IfOk result (λ packs. packs.fail ≡ fail.items) }
+        ensures counts { IfOk result IsFresh }
+    {
+        let slots = slots_of(alloc, images)?;
+        Ok(MemPacks {
+            slots,
+            fail,
+            lengths: 0,
+            reads: 0,
+            writes: 0,
+            markeds: 0,
+            set_marks: 0,
+            faults: 0,
+        })
+    }
+
+    /// Counts a failure.
+    fn failed(&mut self) -> StoreFailed
+        ensures { self.new ≡ record self.old { faults = next self.old.faults } }
+    {
+        self.faults = self.faults.saturating_add(1);
+        StoreFailed
+    }
+}
+
+impl Packs for MemPacks {
+    ghost use Rattle.std.specs.Prelude.{ℕ, Bool, true, false, slice_get};
+    ghost use Rattle.pack_model.specs.Pack.{block_at, is_marked, with_written, with_mark};
+    ghost use Rattle.mass_outside.specs.Causes.{HasCause, next};
+    ghost use Rattle.mass_outside.specs.Memory.{held_by, has_no_room, AfterWrite, AfterMark};
+
+    ghost tells = { λ _. true };
+
+    ghost held = { held_by };
+
+    ghost faults = { λ p. p.faults };
+
+    fn length(&mut self, unit: u8) -> Result<u64, StoreFailed>
+        requires { unit < 32 }
+        ensures never_again { IsTrue true → IsTrue true }
+        ensures length { IfOk result (λ n. n ≡ length (held_by self.old unit).image) }
+        ensures same { held_by self.new ≡ held_by self.old }
+        ensures cause { HasCause self.old.faults self.new.faults result }
+        // It fails exactly at the listed calls, and then counts the failure.
+        ensures exact { is_err result ≡ is_listed self.old.fail PackOp.Length (next self.old.lengths) }
+        ensures ok { OnOk result (self.new ≡ record self.old { lengths = next self.old.lengths }) }
+        ensures err { OnErr result (self.new ≡ record self.old { lengths = next self.old.lengths; faults = next self.old.faults }) }
+    {
+        self.lengths = self.lengths.saturating_add(1);
+        if is_listed(self.fail.as_slice(), PackOp::Length, self.lengths) {
+            return Err(self.failed());
+        }
+        Ok(self.slots[unit as usize].length())
+    }
+
+    fn read(&mut self, unit: u8, block: u32, into: &mut [u8; 512]) -> Result<(), StoreFailed>
+        requires { unit < 32 }
+        ensures never_again { IsTrue true → IsTrue true }
+        ensures block { OnOk result (into.new ≡ block_at (held_by self.old unit).image block) }
+        ensures same { held_by self.new ≡ held_by self.old }
+        ensures cause { HasCause self.old.faults self.new.faults result }
+        // It fails exactly at the listed calls, and then counts the failure.
+        ensures exact { is_err result ≡ is_listed self.old.fail PackOp.Read (next self.old.reads) }
+        ensures ok { OnOk result (self.new ≡ record self.old { reads = next self.old.reads }) }
+        ensures err { OnErr result (self.new ≡ record self.old { reads = next self.old.reads; faults = next self.old.faults }) }
+    {
+        self.reads = self.reads.saturating_add(1);
+        if is_listed(self.fail.as_slice(), PackOp::Read, self.reads) {
+            return Err(self.failed());
+        }
+        self.slots[unit as usize].read(block, into);
+        Ok(())
+    }
+
+    fn write(&mut self, unit: u8, block: u32, from: &[u8; 512]) -> Result<(), StoreFailed>
+        requires { unit < 32 }
+        ensures never_again { IsTrue true → IsTrue true }
+        ensures ok { OnOk result (held_by self.new ≡ with_written (held_by self.old) unit block from.now) }
+        ensures err { OnErr result (held_by self.new ≡ held_by self.old) }
+        ensures cause { HasCause self.old.faults self.new.faults result }
+        // It fails exactly at the listed calls and where there is no room, and then counts the failure.
+        ensures exact { is_err result ≡ (is_listed self.old.fail PackOp.Write (next self.old.writes) || has_no_room self.old unit block) }
+        ensures done { OnOk result (AfterWrite self.old unit block from.now self.new) }
+        ensures failed { OnErr result (self.new ≡ record self.old { writes = next self.old.writes; faults = next self.old.faults }) }
+    {
+        self.writes = self.writes.saturating_add(1);
+        if is_listed(self.fail.as_slice(), PackOp::Write, self.writes) {
+            return Err(self.failed());
+        }
+        if !self.slots[unit as usize].has(block) {
+            return Err(self.failed());
+        }
+        self.slots[unit as usize].write(block, from);
+        Ok(())
+    }
+
+    fn marked(&mut self, unit: u8, block: u32) -> Result<bool, StoreFailed>
+        requires { unit < 32 }
+        ensures never_again { IsTrue true → IsTrue true }
+        ensures mark { IfOk result (λ on. on ≡ is_marked (held_by self.old unit) block) }
+        ensures same { held_by self.new ≡ held_by self.old }
+        ensures cause { HasCause self.old.faults self.new.faults result }
+        // It fails exactly at the listed calls, and then counts the failure.
+        ensures exact { is_err result ≡ is_listed self.old.fail PackOp.Marked (next self.old.markeds) }
+        ensures ok { OnOk result (self.new ≡ record self.old { markeds = next self.old.markeds }) }
+        ensures err { OnErr result (self.new ≡ record self.old { markeds = next self.old.markeds; faults = next self.old.faults }) }
+    {
+        self.markeds = self.markeds.saturating_add(1);
+        if is_listed(self.fail.as_slice(), PackOp::Marked, self.markeds) {
+            return Err(self.failed());
+        }
+        Ok(self.slots[unit as usize].marked(block))
+    }
+
+    fn set_mark(&mut self, unit: u8, block: u32, on: bool) -> Result<(), StoreFailed>
+        requires { unit < 32 }
+        ensures never_again { IsTrue true → IsTrue true }
+        ensures ok { OnOk result (held_by self.new ≡ with_mark (held_by self.old) unit block on) }
+        ensures err { OnErr result (held_by self.new ≡ held_by self.old) }
+        ensures cause { HasCause self.old.faults self.new.faults result }
+        // It fails exactly at the listed calls and where there is no room, and then counts the failure.
+        ensures exact { is_err result ≡ (is_listed self.old.fail PackOp.SetMark (next self.old.set_marks) || has_no_room self.old unit block) }
+        ensures done { OnOk result (AfterMark self.old unit block on self.new) }
+        ensures failed { OnErr result (self.new ≡ record self.old { set_marks = next self.old.set_marks; faults = next self.old.faults }) }
+    {
+        self.set_marks = self.set_marks.saturating_add(1);
+        if is_listed(self.fail.as_slice(), PackOp::SetMark, self.set_marks) {
+            return Err(self.failed());
+        }
+        if !self.slots[unit as usize].has(block) {
+            return Err(self.failed());
+        }
+        self.slots[unit as usize].set_mark(block, u8::from(on));
+        Ok(())
+    }
+}
