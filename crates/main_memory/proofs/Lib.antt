@@ -1,0 +1,5 @@
+pub mod BitLaws
+pub mod BlockLaws
+pub mod ByteLaws
+pub mod FrameLaws
+pub mod LendLaws

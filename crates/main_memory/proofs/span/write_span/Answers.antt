@@ -1,0 +1,7 @@
+use Rattle.std.proofs.Common.{refl}
+use Rattle.main_memory.specs.Blocks.{with_bytes_in}
+use Rattle.main_memory.proofs.span.write_span.Goals as goal
+
+pub returns : goal.returns
+unfolding with_bytes_in
+returns c = rw (c.put-2.ensures, c.put.ensures, c.split_at.ensures.back, c.split_at.ensures.front) refl

@@ -1,0 +1,5 @@
+pub mod Blocks
+pub mod Bytes
+pub mod Frames
+pub mod Memory
+pub mod Windows

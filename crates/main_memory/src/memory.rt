@@ -1,0 +1,178 @@
+// The memory itself: frames lent and given back, and blocks stored and fetched.
+ghost use Rattle.std.specs.Prelude.{◌≡◌, ◌≤◌, ◌<◌, ◌+◌, ◌↔◌, IfOk, OnOk, IfErr, OnErr, IsErr, Some, slice_get, slice_index, length, take, drop, slice_set, List, ℕ};
+ghost use Rattle.main_memory.specs.Frames.{all_frames, frames_needed, with_frames};
+ghost use Rattle.main_memory.specs.Blocks.{Loan, IsLoan, IsSpan, span_of, bytes_in};
+ghost use Rattle.main_memory.specs.Memory.{IsMemory, IsLent, AreApart, with_block, with_span, blocks_of};
+
+use crate::bits::{all_free, give_frames, take_frames};
+use crate::buffer::{Buffer, Cpu, frames_of};
+use crate::span::{Span, read_span, write_span};
+use mass_outside::traits::NoMemory;
+use std::alloc::{AllocError, Global};
+use std::marker::Model;
+use thiserror::Error;
+
+// How many frames there are, and how many bytes in all.
+const FRAMES: u32 = 16384;
+
+const SIZE: usize = 16384 * 512;
+
+/// Fewer frames are free than a buffer needs.
+#[derive(Debug, Drop, Error)]
+#[error("no frames: {free} are free")]
+pub struct NoFrames {
+    /// How many frames are free.
+    pub free: u32,
+}
+
+/// 16,384 frames of 512 bytes, each of them free or lent.
+#[derive(Drop)]
+pub struct MainMemory {
+    bytes: Vec<u8>,
+    free_words: [u64; 256],
+    free: u32,
+}
+
+impl Model for MainMemory {
+    ghost use Rattle.std.specs.Prelude.{◌≡◌, length};
+    ghost use Rattle.main_memory.specs.Frames.{free_frames};
+    ghost use Rattle.main_memory.specs.Memory.{Memory, Keeps};
+
+    ghost Value = { Memory };
+
+    ghost view = { λ m. record { bytes = m.bytes.items; free = free_frames m.free_words } };
+
+    ghost invariant = { λ m. Keeps m.bytes.items m.free_words m.free };
+}
+
+// So many bytes.
+fn zeros(alloc: Global, size: usize) -> Result<Vec<u8>, AllocError>
+    ensures { IfOk result (λ bytes. length bytes.items ≡ size) }
+{
+    vec![in alloc; 0u8; size]
+}
+
+impl MainMemory {
+    /// Takes the memory; all frames are free. `NoMemory` where it is not to be had.
+    pub fn new(alloc: Global) -> Result<MainMemory, NoMemory>
+        ensures free { IfOk result (λ memory. memory.free ≡ all_frames) }
+        ensures every { IfOk result (λ memory. length memory.free ≡ 16384) }
+        ensures sound { IfOk result IsMemory }
+    {
+        let bytes = match zeros(alloc, SIZE) {
+            Ok(bytes) => bytes,
+            Err(_) => return Err(NoMemory),
+        };
+        Ok(MainMemory {
+            bytes,
+            free_words: all_free(),
+            free: FRAMES,
+        })
+    }
+
+    /// Lends the frames that `count` blocks need, from place `offset` of the first frame on: one frame for
+    /// each block, and one more where `offset` is not 0. They are the lowest free frames, in ascending order.
+    /// `NoFrames` exactly where fewer frames are free; then nothing changes.
+    pub fn lend(&mut self, count: u32, offset: u32) -> Result<Buffer<Cpu>, NoFrames>
+        requires some { 1 ≤ count }
+        requires few { count ≤ 127 }
+        requires inside { offset < 512 }
+
+        // Refused exactly where too few frames are free.
+        ensures refused { IsErr result ↔ (length self.old.free < frames_needed count offset) }
+        ensures free { IfErr result (λ e. e.free ≡ length self.old.free) }
+        ensures unchanged { OnErr result (self.new ≡ self.old) }
+
+        // Lent: the lowest free frames, which are then not free.
+        ensures buffer { IfOk result (λ b. b ≡ record { frames = take (frames_needed count offset) self.old.free; offset = offset; count = count }) }
+        ensures memory { OnOk result (self.new ≡ record self.old { free = drop (frames_needed count offset) self.old.free }) }
+
+        // No frame is lent twice.
+        ensures lent { IfOk result (λ b. IsLoan b × IsLent self.new b) }
+        ensures apart { IfOk result (λ b. (other : Loan) → IsLent self.old other → AreApart b other) }
+        ensures others { (other : Loan) → IsLent self.old other → IsLent self.new other }
+        ensures sound { IsMemory self.new }
+    {
+        let needed = if offset == 0 { count } else { count + 1 };
+        if self.free < needed {
+            return Err(NoFrames { free: self.free });
+        }
+        let frames = take_frames(&mut self.free_words, needed);
+        self.free -= needed;
+        Ok(Buffer::of(frames, offset, count))
+    }
+
+    /// Takes a buffer's frames back: they are free again.
+    pub fn give_back(&mut self, buffer: Buffer<Cpu>)
+        requires { IsLent self.old buffer }
+        ensures memory { self.new ≡ record self.old { free = with_frames buffer.frames self.old.free } }
+        ensures count { length self.new.free ≡ length self.old.free + length buffer.frames }
+        ensures others { (other : Loan) → IsLent self.old other → AreApart buffer other → IsLent self.new other }
+        ensures sound { IsMemory self.new }
+    {
+        let frames = frames_of(&buffer);
+        give_frames(&mut self.free_words, frames);
+        self.free += frames.len() as u32;
+    }
+
+    /// Writes block `k` of a buffer, counted from 0.
+    pub fn store(&mut self, buffer: &Buffer<Cpu>, k: u32, from: &[u8; 512])
+        requires lent { IsLent self.old buffer.now }
+        requires inside { k < buffer.now.count }
+        ensures memory { self.new ≡ with_block buffer.now k from.now self.old }
+        ensures held { blocks_of buffer.now self.new ≡ slice_set (blocks_of buffer.now self.old) k from.now }
+        ensures others { (other : Loan) → IsLoan other → IsLent self.old other → AreApart buffer.now other
+            → blocks_of other self.new ≡ blocks_of other self.old }
+        ensures lent { (other : Loan) → IsLent self.old other → IsLent self.new other }
+        ensures sound { IsMemory self.new }
+    {
+        self.write(buffer.span_at(k), from);
+    }
+
+    /// Reads block `k` of a buffer, counted from 0.
+    pub fn fetch(&self, buffer: &Buffer<Cpu>, k: u32, into: &mut [u8; 512])
+        requires lent { IsLent self.now buffer.now }
+        requires inside { k < buffer.now.count }
+        ensures block { into.new ≡ bytes_in (span_of buffer.now k) self.now.bytes }
+        ensures held { slice_get (blocks_of buffer.now self.now) k ≡ Some into.new }
+    {
+        self.read(buffer.span_at(k), into);
+    }
+
+    // Writes the 512 bytes of a span.
+    pub(crate) fn write(&mut self, span: Span, from: &[u8; 512])
+        requires { IsSpan span }
+        ensures memory { self.new ≡ with_span span from.now self.old }
+        ensures size { length self.old.bytes ≡ 8388608 }
+        ensures sound { IsMemory self.new }
+    {
+        write_span(self.bytes.as_mut_slice(), span, from);
+    }
+
+    // Reads the 512 bytes of a span.
+    pub(crate) fn read(&self, span: Span, into: &mut [u8; 512])
+        requires { IsSpan span }
+        ensures block { into.new ≡ bytes_in span self.now.bytes }
+        ensures size { length self.now.bytes ≡ 8388608 }
+    {
+        read_span(self.bytes.as_slice(), span, into);
+    }
+
+    // The byte at a place.
+    pub(crate) fn byte_at(&self, place: usize) -> u8
+        requires { place < 8388608 }
+        ensures byte { result ≡ slice_index self.now.bytes place }
+        ensures size { length self.now.bytes ≡ 8388608 }
+    {
+        self.bytes[place]
+    }
+
+    // Writes the byte at a place.
+    pub(crate) fn set_byte(&mut self, place: usize, byte: u8)
+        requires { place < 8388608 }
+        ensures memory { self.new ≡ record self.old { bytes = slice_set self.old.bytes place byte } }
+        ensures size { length self.old.bytes ≡ 8388608 }
+    {
+        self.bytes[place] = byte;
+    }
+}

@@ -1,0 +1,75 @@
+// Windows on blocks of a buffer.
+ghost use Rattle.std.specs.Prelude.{◌≡◌, ◌<◌, length, slice_index, slice_set};
+ghost use Rattle.main_memory.specs.Blocks.{IsSpan};
+ghost use Rattle.main_memory.specs.Memory.{IsLent};
+
+use crate::buffer::{Buffer, Bus};
+use crate::memory::MainMemory;
+use crate::span::{Span, place};
+
+/// Block `k` of a buffer as 512 bytes of main memory, in one frame or two. What is written through it is that
+/// block, and no other byte of the memory changes. While it is open it borrows the memory.
+#[derive(Drop)]
+pub struct Window<'a> {
+    memory: &'a mut MainMemory,
+    span: Span,
+    ghost inside: { IsSpan span },
+}
+
+impl MainMemory {
+    ghost use Rattle.main_memory.specs.Windows.{IsOn, memory_name, memory_of};
+
+    /// Opens a window on block `k` of a buffer, counted from 0.
+    pub fn window(&mut self, buffer: &Buffer<Bus>, k: u32) -> Window<'_>
+        requires lent { IsLent self.old buffer.now }
+        requires inside { k < buffer.now.count }
+        ensures same_memory { memory_name result ≡ self.entry.ghost_name }
+        ensures unchanged { memory_of result ≡ self.old }
+        ensures block { IsOn buffer.now k result }
+    {
+        Window {
+            memory: self,
+            span: buffer.span_at(k),
+        }
+    }
+}
+
+impl<'a> Window<'a> {
+    ghost use Rattle.main_memory.specs.Windows.{memory_name, memory_of, window_bytes, Writes};
+
+    /// Writes the block.
+    pub fn copy_in(&mut self, from: &[u8; 512])
+        ensures same_memory { memory_name self.new ≡ memory_name self.old }
+        ensures writes { Writes self.old self.new from.now }
+        ensures bytes { window_bytes self.new ≡ from.now }
+    {
+        self.memory.write(self.span, from);
+    }
+
+    /// Reads the block.
+    pub fn copy_out(&self, into: &mut [u8; 512])
+        ensures bytes { into.new ≡ window_bytes self.now }
+        ensures whole { length (memory_of self.now).bytes ≡ 8388608 }
+    {
+        self.memory.read(self.span, into);
+    }
+
+    /// Byte `at` of the block.
+    pub fn get(&self, at: u32) -> u8
+        requires { at < 512 }
+        ensures byte { result ≡ slice_index (window_bytes self.now) at }
+        ensures whole { length (memory_of self.now).bytes ≡ 8388608 }
+    {
+        self.memory.byte_at(place(self.span, at as usize))
+    }
+
+    /// Sets byte `at` of the block.
+    pub fn set(&mut self, at: u32, byte: u8)
+        requires { at < 512 }
+        ensures same_memory { memory_name self.new ≡ memory_name self.old }
+        ensures writes { Writes self.old self.new (slice_set (window_bytes self.old) at byte) }
+        ensures bytes { window_bytes self.new ≡ slice_set (window_bytes self.old) at byte }
+    {
+        self.memory.set_byte(place(self.span, at as usize), byte);
+    }
+}
