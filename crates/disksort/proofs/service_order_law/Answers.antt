@@ -1,0 +1,20 @@
+use Rattle.disksort.specs.SortQueue.{cylinder_of}
+use Rattle.subsystem_spec.specs.ServiceOrder.{empty_service}
+use Rattle.subsystem_spec.proofs.ServiceOrderRuns.{service_law, empty-is}
+use Rattle.subsystem_spec.proofs.ServiceOrderLaws.{service_order-permutation, service_order-sorted, two_runs, queue_with-runs}
+use Rattle.disksort.proofs.service_order_law.Goals as goal
+
+pub returns-clause-history : goal.returns-clause-history
+returns-clause-history c = λ changes. service_law cylinder_of changes empty_service (empty-is cylinder_of)
+
+pub returns-clause-same : goal.returns-clause-same
+returns-clause-same c = service_order-permutation
+
+pub returns-clause-sorted : goal.returns-clause-sorted
+returns-clause-sorted c = service_order-sorted
+
+pub returns-clause-two_runs : goal.returns-clause-two_runs
+returns-clause-two_runs c = λ head behind order. two_runs cylinder_of head behind order
+
+pub returns-clause-in_its_run : goal.returns-clause-in_its_run
+returns-clause-in_its_run c = λ queue joining order. queue_with-runs cylinder_of joining queue order
