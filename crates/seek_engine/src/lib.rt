@@ -1,0 +1,165 @@
+// Positioning: whether a unit seeks or searches before a transfer, and the states on the way.
+#![tactic(auto)]
+
+ghost use Rattle.std.specs.Prelude.{◌≡◌, ◌≢◌, ◌<◌, ◌↔◌, IfOk, IsErr};
+ghost use Rattle.pack_geometry.specs.Geometry.{cylinders_of, sectors_of, IsInside};
+ghost use Rattle.seek_engine.specs.declared.Position.TheVariants.{Ready};
+ghost use Rattle.seek_engine.specs.Seek.{position_for};
+
+use pack_geometry::{DriveKind, Place, geometry_of};
+use std::marker::Model;
+
+// How many sectors ahead of its target a search ends.
+const SEARCH_AHEAD: u32 = 3;
+
+/// What a unit does before its transfer: nothing, a SEARCH for a sector of a cylinder, or a SEEK to a cylinder.
+#[derive(Clone, Copy, Debug, PartialEq, Eq)]
+pub enum Position {
+    Ready,
+    Search { cylinder: u32, sector: u32 },
+    Seek { cylinder: u32 },
+}
+
+/// The positioning of a try at `target`, from the cylinder `here` and the look-ahead sector `look`.
+///
+/// A first try is ready where the unit is on the target's cylinder and the target comes by 1 to 5 sectors later; else
+/// it searches for the sector 3 ahead of the target. A later try is ready on the target's cylinder; else it seeks.
+pub fn decide(kind: DriveKind, here: u32, look: u32, target: Place, first: bool) -> Position
+    requires here { here < cylinders_of kind }
+    requires look { look < sectors_of kind }
+    requires target { IsInside kind target }
+    ensures { result ≡ position_for kind here look target first }
+{
+    let on_cylinder = here == target.cylinder;
+    if !first {
+        return if on_cylinder {
+            Position::Ready
+        } else {
+            Position::Seek {
+                cylinder: target.cylinder,
+            }
+        };
+    }
+    let sectors = geometry_of(kind).sectors;
+    let distance = (target.sector + sectors - look) % sectors;
+    if on_cylinder && (1..=5).contains(&distance) {
+        Position::Ready
+    } else {
+        Position::Search {
+            cylinder: target.cylinder,
+            sector: (target.sector + sectors - SEARCH_AHEAD) % sectors,
+        }
+    }
+}
+
+/// A unit that does nothing for its request.
+#[derive(Debug, Drop)]
+#[non_exhaustive]
+pub struct Waiting;
+
+/// A unit whose positioning has begun and has not ended. It is seen as its goal.
+#[derive(Debug, Drop)]
+pub struct Positioning {
+    goal: Position,
+}
+
+/// A unit that waits for its adapter.
+#[derive(Debug, Drop)]
+#[non_exhaustive]
+pub struct Queued;
+
+impl Model for Positioning {
+    ghost use Rattle.std.specs.Prelude.{◌≢◌};
+    ghost use Rattle.seek_engine.specs.declared.Position.{Position};
+    ghost use Rattle.seek_engine.specs.declared.Position.TheVariants.{Ready};
+
+    ghost Value = { Position };
+
+    ghost view = { λ p. p.goal };
+
+    ghost invariant = { λ p. p.goal ≢ Ready };
+}
+
+impl Waiting {
+    /// Every request and every step of a retry begins here.
+    pub fn new() -> Waiting
+        ensures { result ≡ record {} }
+    {
+        Waiting
+    }
+
+    /// Queued exactly for `Ready`; else a positioning that keeps the goal.
+    pub fn position(self, goal: Position) -> Result<Positioning, Queued>
+        ensures ready { IsErr result ↔ (goal ≡ Ready) }
+        ensures goal { IfOk result (λ positioning. positioning ≡ goal) }
+    {
+        match goal {
+            Position::Ready => Err(Queued),
+            Position::Search { .. } | Position::Seek { .. } => Ok(Positioning { goal }),
+        }
+    }
+}
+
+impl Positioning {
+    /// What it positions for, which is never `Ready`.
+    pub fn goal(&self) -> Position
+        ensures goal { result ≡ self.now }
+        ensures moving { result ≢ Ready }
+    {
+        self.goal
+    }
+
+    /// The positioning has ended.
+    pub fn arrived(self) -> Queued
+        ensures { result ≡ record {} }
+    {
+        Queued
+    }
+}
+
+#[cfg(test)]
+mod tests {
+    use super::*;
+
+    // A target at sector 2 of cylinder 7, from each distance, on the cylinder and beside it; the search is for the
+    // sector 3 ahead, across the start of the track.
+    #[test]
+    fn distances(rt: HostRuntime) {
+        for (kind, sectors, ahead) in [(DriveKind::Rp06, 22, 21), (DriveKind::Rm03, 32, 31)] {
+            let target = Place {
+                cylinder: 7,
+                track: 0,
+                sector: 2,
+            };
+            let search = Position::Search {
+                cylinder: 7,
+                sector: ahead,
+            };
+            for (look, near) in [
+                (2, false),
+                (1, true),
+                (0, true),
+                (sectors - 1, true),
+                (sectors - 2, true),
+                (sectors - 3, true),
+                (sectors - 4, false),
+            ] {
+                let on_cylinder = if near { Position::Ready } else { search };
+                assert_eq!(rt; decide(kind, 7, look, target, true), on_cylinder);
+                assert_eq!(rt; decide(kind, 8, look, target, true), search);
+                assert_eq!(rt; decide(kind, 7, look, target, false), Position::Ready);
+                assert_eq!(rt;
+                    decide(kind, 8, look, target, false),
+                    Position::Seek { cylinder: 7 }
+                );
+            }
+            assert!(rt; Waiting::new().position(Position::Ready).is_err());
+            if let Ok(positioning) = Waiting::new().position(search) {
+                assert_eq!(rt; positioning.goal(), search);
+                let Queued = positioning.arrived();
+            } else {
+                assert!(rt; false, "a search is no state of its own");
+            }
+        }
+    }
+}
