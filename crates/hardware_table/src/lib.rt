@@ -1,0 +1,154 @@
+//! What the drives and adapters are, as the contracts of all crates see them: their states as records, and each
+//! row of the hardware table as a function on a state.
+#![tactic(auto)]
+
+ghost use Rattle.std.specs.Prelude.{◌≡◌, ◌≢◌, ◌≤◌, ◌<◌, ◌+◌, ◌==◌, ◌++◌, ℕ, Bool, true, false, List, [], ◌∷◌, bit_and, if◌then◌else◌};
+ghost use Rattle.drive_registers.specs.Bits as bits;
+ghost use Rattle.hardware_table.specs.Drive.{DriveState, status, has_error, is_positioning, is_ready, on};
+ghost use Rattle.hardware_table.specs.Noise.{LiveNoise, noise_at, is_at, first_of, oldest, with_noise, after_strike, first_struck, is_spent};
+ghost use Rattle.hardware_table.specs.Adapter.{AdapterState, IsAdapter, IsLoaded, new_adapter, loaded, started, stepped, completed};
+
+use drive_registers::OffsetCode;
+
+/// The registers of a drive.
+#[derive(Clone, Copy, Debug, PartialEq, Eq)]
+pub enum Register {
+    /// Control: the code of the last function, without GO.
+    Cs1,
+    /// Drive status.
+    Ds,
+    /// First error register.
+    Er1,
+    /// Second error register.
+    Er2,
+    /// Offset: the format bit, and the offset code in the low eight bits.
+    Of,
+    /// Desired address: the track times 256, and the sector.
+    Da,
+    /// Desired cylinder.
+    Dc,
+    /// Current cylinder.
+    Cc,
+    /// Look-ahead: the sector times 64.
+    La,
+    /// Drive type.
+    Dt,
+    /// Serial number.
+    Sn,
+    /// The place of the last burst that was shown, counted from 1.
+    Ec1,
+    /// Its pattern.
+    Ec2,
+}
+
+/// The faults that can be armed on a drive.
+#[derive(Clone, Copy, Debug, PartialEq, Eq)]
+pub enum FaultKind {
+    /// Seek incomplete.
+    Seek,
+    /// Operation incomplete.
+    Opi,
+    /// Drive timing error.
+    Dte,
+    /// Header check error.
+    Hcrc,
+    /// Data late, which the adapter shows.
+    Late,
+}
+
+/// The verdict of one sector's move.
+#[derive(Clone, Copy, Debug, PartialEq, Eq)]
+pub enum Moved {
+    /// The sector was written, or was read and found right.
+    Clean,
+    /// The sector was read with one burst of at most 11 places: `at` is its first place, from 1 to 4128, and bit
+    /// j of `pattern` stands for place `at - 1 + j`, counted from 0.
+    Burst { at: u16, pattern: u16 },
+    /// The sector was read and can't be corrected.
+    Hard,
+    /// The sector is marked bad.
+    Marked,
+    /// A fault struck.
+    Faulted(FaultKind),
+    /// The drive is offline.
+    Offline,
+}
+
+/// What a drive is doing.
+#[derive(Clone, Copy, Debug, PartialEq, Eq)]
+pub enum Work {
+    /// Nothing: the drive is ready.
+    Ready,
+    /// It positions to a cylinder and, in a search, to a sector.
+    Positioning { cylinder: u16, sector: Option<u8> },
+    /// A transfer is under way: of a write, or of a read.
+    Transfer { write: bool },
+}
+
+/// How often each fault is still to strike.
+#[derive(Clone, Copy, Debug, PartialEq, Eq)]
+pub struct Armed {
+    pub seek: u64,
+    pub opi: u64,
+    pub dte: u64,
+    pub hcrc: u64,
+    pub late: u64,
+}
+
+/// How long noise lives.
+#[derive(Clone, Copy, Debug, PartialEq, Eq)]
+pub enum NoiseSpan {
+    /// For so many strikes.
+    Times(u32),
+    /// Until the sector is read with this offset.
+    Until(OffsetCode),
+}
+
+/// The law of the drive status: each bit is on exactly where its condition holds.
+pub fn status_law()
+    ensures attention { (d : DriveState) → bit_and (status d) bits.attention ≡ on d.attention bits.attention }
+    ensures error { (d : DriveState) → bit_and (status d) bits.error ≡ on (has_error d) bits.error }
+    ensures positioning { (d : DriveState) → bit_and (status d) bits.positioning ≡ on (is_positioning d.work) bits.positioning }
+    ensures online { (d : DriveState) → bit_and (status d) bits.medium_on_line ≡ on d.online bits.medium_on_line }
+    ensures locked { (d : DriveState) → bit_and (status d) bits.write_locked ≡ on d.locked bits.write_locked }
+    ensures present { (d : DriveState) → bit_and (status d) bits.drive_present ≡ bits.drive_present }
+    ensures ready { (d : DriveState) → bit_and (status d) bits.drive_ready ≡ on (is_ready d.work) bits.drive_ready }
+    ensures valid { (d : DriveState) → bit_and (status d) bits.volume_valid ≡ on d.valid bits.volume_valid }
+{}
+
+/// The law of noise. At each sector noise stands in the order of its arming: new noise that is to live comes behind
+/// what is live there, and changes nothing at another sector. The oldest noise of a sector decides; a strike uses
+/// it up or ends it, and changes nothing else.
+pub fn noise_law()
+    ensures armed { (live : List LiveNoise) → (noise : LiveNoise) → (unit block : ℕ)
+        → noise_at unit block (with_noise noise live)
+        ≡ (if is_at unit block noise then noise_at unit block live ++ (if is_spent noise.span then [] else noise ∷ [])
+        else noise_at unit block live) }
+    ensures oldest { (live : List LiveNoise) → (unit block : ℕ)
+        → oldest unit block live ≡ first_of (noise_at unit block live) }
+    ensures struck { (live : List LiveNoise) → (unit block word : ℕ)
+        → noise_at unit block (after_strike unit block word live) ≡ first_struck word (noise_at unit block live) }
+    ensures other_unit { (live : List LiveNoise) → (unit block word other_unit other : ℕ) → other_unit ≢ unit
+        → noise_at other_unit other (after_strike unit block word live) ≡ noise_at other_unit other live }
+    ensures other_block { (live : List LiveNoise) → (unit block word other_unit other : ℕ) → other ≢ block
+        → noise_at other_unit other (after_strike unit block word live) ≡ noise_at other_unit other live }
+{}
+
+/// The law of adapters. A new adapter is sound, and each act keeps it so, where it may be done. What was just loaded
+/// can be started. While a transfer is under way a sector of it is left, and a clean step puts the completion up
+/// exactly at the last one.
+pub fn adapter_law()
+    ensures new { IsAdapter new_adapter }
+    ensures loaded { (a : AdapterState) → (frames : List ℕ) → (offset blocks skip count : ℕ) → a.busy ≡ false
+        → offset < 512 → blocks ≤ 127 → skip + count ≤ blocks → IsAdapter (loaded frames offset blocks skip count a) }
+    ensures ready { (a : AdapterState) → (frames : List ℕ) → (offset blocks skip count : ℕ) → 1 ≤ count
+        → IsLoaded (loaded frames offset blocks skip count a) count }
+    ensures started { (a : AdapterState) → (drive block count : ℕ) → (write : Bool) → IsAdapter a → IsLoaded a count
+        → IsAdapter (started drive block write a) }
+    ensures stepped { (a : AdapterState) → (verdict : Moved) → IsAdapter a → a.busy ≡ true → a.completion ≡ false
+        → IsAdapter (stepped verdict a) }
+    ensures completed { (a : AdapterState) → IsAdapter a → IsAdapter (completed a) }
+    ensures left { (a : AdapterState) → IsAdapter a → a.busy ≡ true → a.completion ≡ false → a.moved < a.count }
+    ensures last { (a : AdapterState) → IsAdapter a → a.busy ≡ true → a.completion ≡ false
+        → (stepped Moved.Clean a).completion ≡ (a.moved + 1 == a.count) }
+{}
