@@ -1,0 +1,11 @@
+use Rattle.std.proofs.Common.{not, rules}
+use Rattle.std.proofs.lemmas.List.Sorted.{IsPartitionPoint-from_clause}
+use Rattle.drive_model.specs.declared.entries.Entry.{Entry}
+use Rattle.drive_model.specs.Book.{is_entry_behind}
+use Rattle.drive_model.proofs.EntryLaws.{parted_behind}
+use Rattle.drive_model.proofs.entries.count_not_behind.Goals as goal
+
+pub returns-clause-point : goal.returns-clause-point
+returns-clause-point c =
+    IsPartitionPoint-from_clause (λ (e : Entry). not (is_entry_behind c.args.number e)) _ _ c.partition_point.ensures.partitioned
+    (parted_behind _ c.args.number c.requires) (λ a r q k. search rules)

@@ -1,0 +1,338 @@
+// A drive: its registers, the functions that it does, and the events that change it.
+ghost use Rattle.std.specs.Prelude.{◌≡◌, ◌≤◌, ◌<◌, ◌+◌, ◌^◌, true, false, IsTrue, bit_or, bit_and};
+ghost use Rattle.pack_geometry.specs.Geometry.{sectors_of};
+ghost use Rattle.hardware_table.specs.Drive.{new_drive, register_of, is_writable, with_register, is_ready, is_positioning, is_transferring, status, on, type_word};
+ghost use Rattle.hardware_table.specs.Functions.{is_addressed, refusals, effect, performed, needs_online};
+ghost use Rattle.drive_registers.specs.declared.Function.TheVariants.{Clear, Preset};
+ghost use Rattle.hardware_table.specs.declared.Work.TheVariants.{Positioning};
+ghost use Rattle.hardware_table.specs.Events.{arrived, attention_cleared, transfer_ended, turned, online_set, locked_set, times_armed, fault_armed, look_ahead};
+
+mod moves;
+
+use bitflags::Flags;
+use drive_registers::{Ds, Er1, Er2, Function, Of, code_of};
+use hardware_table::{Armed, FaultKind, Register, Work};
+use pack_geometry::{DriveKind, geometry_of};
+use std::marker::Model;
+
+/// A drive, of which each call does what the hardware table says. The drive status is computed from the state.
+#[derive(Drop)]
+pub struct Drive {
+    kind: DriveKind,
+    serial: u16,
+    cs1: u16,
+    er1: Er1,
+    er2: Er2,
+    offset: Of,
+    da: u16,
+    dc: u16,
+    cc: u16,
+    la: u16,
+    ec1: u16,
+    ec2: u16,
+    work: Work,
+    online: bool,
+    locked: bool,
+    valid: bool,
+    attention: bool,
+    armed: Armed,
+}
+
+impl Model for Drive {
+    ghost use Rattle.hardware_table.specs.Drive.{DriveState};
+
+    ghost Value = { DriveState };
+
+    ghost view = { λ d. record {
+      kind = d.kind;
+      serial = d.serial;
+      cs1 = d.cs1;
+      er1 = d.er1.0;
+      er2 = d.er2.0;
+      offset = d.offset.0;
+      da = d.da;
+      dc = d.dc;
+      cc = d.cc;
+      la = d.la;
+      ec1 = d.ec1;
+      ec2 = d.ec2;
+      work = d.work;
+      online = d.online;
+      locked = d.locked;
+      valid = d.valid;
+      attention = d.attention;
+      armed = d.armed;
+    } };
+}
+
+impl Drive {
+    /// A new drive: online, unlocked, its volume not valid, with nothing under way and nothing armed.
+    pub fn new(kind: DriveKind, serial: u16) -> Drive
+        ensures { result ≡ new_drive kind serial }
+    {
+        Drive {
+            kind,
+            serial,
+            cs1: 0,
+            er1: Er1::from_bits_retain(0),
+            er2: Er2::from_bits_retain(0),
+            offset: Of::from_bits_retain(0),
+            da: 0,
+            dc: 0,
+            cc: 0,
+            la: 0,
+            ec1: 0,
+            ec2: 0,
+            work: Work::Ready,
+            online: true,
+            locked: false,
+            valid: false,
+            attention: false,
+            armed: Armed {
+                seek: 0,
+                opi: 0,
+                dte: 0,
+                hcrc: 0,
+                late: 0,
+            },
+        }
+    }
+
+    /// Does a function. An address outside the drive, a write to a locked drive and a write of headers are refused:
+    /// an error bit and the attention go up, and nothing is under way.
+    pub fn go(&mut self, function: Function)
+        requires ready { is_ready self.old.work ≡ true }
+        requires online { IsTrue (needs_online function) → self.old.online ≡ true }
+        ensures { self.new ≡ performed function self.old }
+    {
+        self.cs1 = code_of(function);
+        let refusals = self.refusals(function);
+        if refusals == 0 {
+            self.perform(function);
+        } else {
+            self.refuse(refusals);
+        }
+    }
+
+    // Does a function that is not refused.
+    fn perform(&mut self, function: Function)
+        ensures { self.new ≡ effect function self.old }
+    {
+        match function {
+            Function::Nop | Function::WriteHeader => {}
+            Function::Seek => self.position(self.dc, None),
+            Function::Search => self.position(self.dc, Some((self.da % 256) as u8)),
+            Function::Recal => self.position(0, None),
+            Function::Offset => self.position(self.cc, None),
+            Function::Centre => self.offset = Of::from_bits_retain(self.offset.bits() & 0o177400),
+            Function::Clear => self.clear(),
+            Function::Preset => self.preset(),
+            Function::Pack => self.valid = true,
+            Function::Read => self.work = Work::Transfer { write: false },
+            Function::Write => self.work = Work::Transfer { write: true },
+        }
+    }
+
+    // Begins a positioning.
+    fn position(&mut self, cylinder: u16, sector: Option<u8>)
+        ensures { self.new ≡ record self.old { work = Positioning cylinder sector } }
+    {
+        self.work = Work::Positioning { cylinder, sector };
+    }
+
+    // Clears the errors and the attention.
+    fn clear(&mut self)
+        ensures { self.new ≡ effect Clear self.old }
+    {
+        self.er1 = Er1::from_bits_retain(0);
+        self.er2 = Er2::from_bits_retain(0);
+        self.ec1 = 0;
+        self.ec2 = 0;
+        self.attention = false;
+    }
+
+    // Clears the address and the offset.
+    fn preset(&mut self)
+        ensures { self.new ≡ effect Preset self.old }
+    {
+        self.dc = 0;
+        self.da = 0;
+        self.offset = Of::from_bits_retain(0);
+    }
+
+    /// A positioning that is under way ends and raises the attention, online or not. True exactly where one was;
+    /// where none was, nothing changes.
+    pub fn arrive(&mut self) -> bool
+        ensures drive { self.new ≡ arrived self.old }
+        ensures ended { result ≡ is_positioning self.old.work }
+    {
+        let Work::Positioning { cylinder, sector } = self.work else {
+            return false;
+        };
+        self.cc = cylinder;
+        if let Some(sector) = sector {
+            self.la = u16::from(sector) * 64;
+        }
+        self.work = Work::Ready;
+        self.attention = true;
+        true
+    }
+
+    /// The attention goes down.
+    pub fn clear_attention(&mut self)
+        ensures { self.new ≡ attention_cleared self.old }
+    {
+        self.attention = false;
+    }
+
+    /// The transfer is no longer under way.
+    pub fn end_transfer(&mut self)
+        requires { is_transferring self.old.work ≡ true }
+        ensures { self.new ≡ transfer_ended self.old }
+    {
+        self.work = Work::Ready;
+    }
+
+    /// The pack turns until a sector comes under the heads.
+    pub fn turn(&mut self, sector: u32)
+        requires { sector < sectors_of self.old.kind }
+        ensures { self.new ≡ turned sector self.old }
+    {
+        self.la = sector as u16 * 64;
+    }
+
+    /// The drive goes online, or offline. Offline its volume is no longer valid; a positioning or a transfer stays
+    /// under way.
+    pub fn set_online(&mut self, on: bool)
+        ensures { self.new ≡ online_set on self.old }
+    {
+        self.online = on;
+        if !on {
+            self.valid = false;
+        }
+    }
+
+    /// The drive is write locked, or unlocked.
+    pub fn set_locked(&mut self, on: bool)
+        ensures { self.new ≡ locked_set on self.old }
+    {
+        self.locked = on;
+    }
+
+    /// Arms a fault for so many more times.
+    pub fn arm_fault(&mut self, kind: FaultKind, times: u32)
+        requires some { 1 ≤ times }
+        requires few { times ≤ 1000 }
+        requires room { times_armed kind self.old.armed + times < 2 ^ 63 }
+        ensures { self.new ≡ fault_armed kind times self.old }
+    {
+        let times = u64::from(times);
+        match kind {
+            FaultKind::Seek => self.armed.seek += times,
+            FaultKind::Opi => self.armed.opi += times,
+            FaultKind::Dte => self.armed.dte += times,
+            FaultKind::Hcrc => self.armed.hcrc += times,
+            FaultKind::Late => self.armed.late += times,
+        }
+    }
+
+    /// What a register holds.
+    pub fn read_register(&self, register: Register) -> u16
+        ensures { result ≡ register_of register self.now }
+    {
+        match register {
+            Register::Cs1 => self.cs1,
+            Register::Ds => self.status(),
+            Register::Er1 => self.er1.bits(),
+            Register::Er2 => self.er2.bits(),
+            Register::Of => self.offset.bits(),
+            Register::Da => self.da,
+            Register::Dc => self.dc,
+            Register::Cc => self.cc,
+            Register::La => self.la,
+            Register::Dt => type_word(self.kind),
+            Register::Sn => self.serial,
+            Register::Ec1 => self.ec1,
+            Register::Ec2 => self.ec2,
+        }
+    }
+
+    /// Writes the offset register, the desired address or the desired cylinder.
+    pub fn write_register(&mut self, register: Register, word: u16)
+        requires { is_writable register ≡ true }
+        ensures { self.new ≡ with_register register word self.old }
+    {
+        match register {
+            Register::Of => self.offset = Of::from_bits_retain(word),
+            Register::Da => self.da = word,
+            Register::Dc => self.dc = word,
+            _ => {}
+        }
+    }
+
+    // The drive status.
+    fn status(&self) -> u16
+        ensures { result ≡ status self.now }
+    {
+        let has_error = self.er1.bits() != 0 || self.er2.bits() != 0;
+        let is_positioning = matches!(self.work, Work::Positioning { .. });
+        let is_ready = matches!(self.work, Work::Ready);
+        bit(self.attention, Ds::ATA)
+            | (bit(has_error, Ds::ERR)
+                | (bit(is_positioning, Ds::PIP)
+                    | (bit(self.online, Ds::MOL)
+                        | (bit(self.locked, Ds::WRL)
+                            | (Ds::DPR.bits()
+                                | (bit(is_ready, Ds::DRY) | bit(self.valid, Ds::VV)))))))
+    }
+
+    // Whether Dc and Da name a sector of the drive.
+    fn is_addressed(&self) -> bool
+        ensures { result ≡ is_addressed self.now }
+    {
+        let geometry = geometry_of(self.kind);
+        u32::from(self.dc) < geometry.cylinders
+            && u32::from(self.da / 256) < geometry.tracks
+            && u32::from(self.da % 256) < geometry.sectors
+    }
+
+    // What the function is refused for, as bits of Er1.
+    fn refusals(&self, function: Function) -> u16
+        ensures { result ≡ refusals function self.now }
+    {
+        match function {
+            Function::Seek | Function::Search | Function::Read => {
+                error(!self.is_addressed(), Er1::IAE)
+            }
+            Function::Write => {
+                error(!self.is_addressed(), Er1::IAE) | error(self.locked, Er1::WLE)
+            }
+            Function::WriteHeader => Er1::ILF.bits(),
+            _ => 0,
+        }
+    }
+}
+
+// A bit of the drive status where a condition holds, and 0 where it does not.
+fn bit(condition: bool, bit: Ds) -> u16
+    ensures { result ≡ on condition bit.0 }
+{
+    if condition { bit.bits() } else { 0 }
+}
+
+// A bit of the first error register where a condition holds, and 0 where it does not.
+fn error(condition: bool, bit: Er1) -> u16
+    ensures { result ≡ on condition bit.0 }
+{
+    if condition { bit.bits() } else { 0 }
+}
+
+// The word in the drive type register.
+fn type_word(kind: DriveKind) -> u16
+    ensures { result ≡ type_word kind }
+{
+    match kind {
+        DriveKind::Rp06 => 0o020022,
+        DriveKind::Rm03 => 0o020024,
+    }
+}

@@ -1,0 +1,266 @@
+// The move of one sector between the pack and the memory.
+ghost use Rattle.std.specs.Prelude.{◌≡◌, ◌<◌, ℕ, List, Bool, true, IsTrue, MatchBool, IfOk, IsOk, OnErr, Some, IsSome, ◌⊎◌, if◌then◌else◌, bit_or};
+ghost use Rattle.pack_geometry.specs.Geometry.{block_count};
+ghost use Rattle.hardware_table.specs.Drive.{is_transferring, is_writing};
+ghost use Rattle.pack_model.specs.Pack.{block_at, is_marked, with_written};
+ghost use Rattle.mass_outside.specs.Causes.{HasCause};
+ghost use Rattle.main_memory.specs.Windows.{memory_name, window_bytes, Writes};
+ghost use Rattle.hardware_table.specs.Functions.{refused};
+ghost use Rattle.hardware_table.specs.Noise.{strikes, book_struck};
+ghost use Rattle.hardware_table.specs.Moves.{stop_of, first_armed, IsReadVerdict, IsVerdict, was_read, was_written, IsReadAs, passed, fault_used, with_fault_bits, with_mark_bits, after_move};
+ghost use Rattle.fire_code.specs.Remainder.{remainder};
+ghost use Rattle.fire_code.specs.Verdict.{Judges};
+
+use crate::book::NoiseBook;
+use crate::drive::Drive;
+use bitflags::Flags;
+use drive_registers::{Er1, Er2};
+use fire_code::{Check, Verdict, apply, judge_noise};
+use hardware_table::{Armed, FaultKind, Moved, Work};
+use main_memory::Window;
+use mass_outside::traits::{Packs, StoreFailed};
+use pack_geometry::{blocks, geometry_of, place_of};
+use sector_format::{HeaderFault, header_fault, header_of};
+
+// The first armed fault, in the order in which faults strike.
+fn first_armed(armed: Armed) -> Option<FaultKind>
+    ensures { result ≡ first_armed armed }
+{
+    if armed.seek > 0 {
+        Some(FaultKind::Seek)
+    } else if armed.opi > 0 {
+        Some(FaultKind::Opi)
+    } else if armed.dte > 0 {
+        Some(FaultKind::Dte)
+    } else if armed.hcrc > 0 {
+        Some(FaultKind::Hcrc)
+    } else if armed.late > 0 {
+        Some(FaultKind::Late)
+    } else {
+        None
+    }
+}
+
+// The verdict on a read that noise has struck.
+fn moved_by(verdict: Verdict) -> Moved
+    ensures { (places : List ℕ) → Judges verdict (remainder places) → IsReadVerdict (Some places) result }
+{
+    match verdict {
+        Verdict::Clean => Moved::Clean,
+        Verdict::Burst { at, pattern } => Moved::Burst { at, pattern },
+        Verdict::Uncorrectable => Moved::Hard,
+    }
+}
+
+// Reads a sector's bytes through the noise that strikes it, and judges them by its places.
+fn read_through(book: &mut NoiseBook, unit: u8, block: u32, of: u16, bytes: &mut [u8; 512]) -> Moved
+    ensures verdict { IsReadVerdict (strikes unit block of book.old.live) result }
+    ensures bytes { IsReadAs (strikes unit block of book.old.live) bytes.old bytes.new }
+    ensures book { book.new ≡ book_struck unit block of book.old }
+{
+    match book.strike(unit, block, of) {
+        None => Moved::Clean,
+        Some(noise) => {
+            let _check = apply(&noise, bytes, Check(0));
+            moved_by(judge_noise(&noise))
+        }
+    }
+}
+
+impl Drive {
+    // The verdict of a drive that is offline, or on which a fault is armed.
+    fn stop(&self) -> Option<Moved>
+        ensures { result ≡ stop_of self.now }
+    {
+        if !self.online {
+            return Some(Moved::Offline);
+        }
+        match first_armed(self.armed) {
+            Some(kind) => Some(Moved::Faulted(kind)),
+            None => None,
+        }
+    }
+
+    // The heads have passed a block.
+    fn pass(&mut self, block: u32)
+        requires { block < block_count self.old.kind }
+        ensures { self.new ≡ passed block self.old }
+    {
+        let place = place_of(self.kind, block);
+        let sectors = geometry_of(self.kind).sectors;
+        self.cc = place.cylinder as u16;
+        self.la = ((place.sector + 1) % sectors * 64) as u16;
+        if block + 1 < blocks(self.kind) {
+            let next = place_of(self.kind, block + 1);
+            self.dc = next.cylinder as u16;
+            self.da = (next.track * 256 + next.sector) as u16;
+        }
+    }
+
+    // A fault strikes: it is used once, and its error bit goes on, but for data late.
+    fn take_fault(&mut self, kind: FaultKind)
+        ensures { self.new ≡ with_fault_bits kind (fault_used kind self.old) }
+    {
+        match kind {
+            FaultKind::Seek => {
+                self.armed.seek = self.armed.seek.saturating_sub(1);
+                self.raise_second(Er2::SKI);
+            }
+            FaultKind::Opi => {
+                self.armed.opi = self.armed.opi.saturating_sub(1);
+                self.raise(Er1::OPI.bits());
+            }
+            FaultKind::Dte => {
+                self.armed.dte = self.armed.dte.saturating_sub(1);
+                self.raise(Er1::DTE.bits());
+            }
+            FaultKind::Hcrc => {
+                self.armed.hcrc = self.armed.hcrc.saturating_sub(1);
+                self.raise(Er1::HCRC.bits());
+            }
+            FaultKind::Late => self.armed.late = self.armed.late.saturating_sub(1),
+        }
+    }
+
+    // A sector is marked: its error bit is that of the fault which its header shows, format error on an RP06 and bad
+    // sector error on an RM03.
+    fn take_mark(&mut self, block: u32)
+        requires { block < block_count self.old.kind }
+        ensures { self.new ≡ with_mark_bits self.old.kind self.old }
+    {
+        let header = header_of(self.kind, block, true);
+        match header_fault(self.kind, header, block) {
+            Some(HeaderFault::Format) => self.raise(Er1::FER.bits()),
+            Some(HeaderFault::BadSector) => self.raise_second(Er2::BSE),
+            Some(HeaderFault::Compare) | None => {}
+        }
+    }
+
+    // What the verdict on a block does to the drive.
+    fn take(&mut self, verdict: Moved, block: u32)
+        requires { block < block_count self.old.kind }
+        ensures { self.new ≡ after_move verdict block self.old }
+    {
+        match verdict {
+            Moved::Clean => self.pass(block),
+            Moved::Burst { at, pattern } => {
+                self.pass(block);
+                self.raise(Er1::DCK.bits());
+                self.ec1 = at;
+                self.ec2 = pattern;
+            }
+            Moved::Hard => {
+                self.pass(block);
+                self.raise(Er1::DCK.bits() | Er1::ECH.bits());
+            }
+            Moved::Marked => self.take_mark(block),
+            Moved::Faulted(kind) => self.take_fault(kind),
+            Moved::Offline => self.raise(Er1::UNS.bits()),
+        }
+    }
+
+    // Bits of the first error register go on.
+    fn raise(&mut self, errors: u16)
+        ensures { self.new ≡ record self.old { er1 = bit_or self.old.er1 errors } }
+    {
+        self.er1 = Er1::from_bits_retain(self.er1.bits() | errors);
+    }
+
+    // A function is refused: its errors and the attention go up.
+    pub(super) fn refuse(&mut self, errors: u16)
+        ensures { self.new ≡ refused errors self.old }
+    {
+        self.raise(errors);
+        self.attention = true;
+    }
+
+    // A bit of the second error register goes on.
+    fn raise_second(&mut self, error: Er2)
+        ensures { self.new ≡ record self.old { er2 = bit_or self.old.er2 error.0 } }
+    {
+        self.er2 = Er2::from_bits_retain(self.er2.bits() | error.bits());
+    }
+
+    /// Moves one sector of the transfer that is under way between block `block` of a unit's pack and the window.
+    /// The first of these rules decides, and the registers change by its verdict; the transfer stays under way:
+    ///
+    /// 1. The drive is offline: `Offline`.
+    /// 2. A fault is armed: the first armed kind, in the order seek, opi, dte, hcrc, late, is used once: `Faulted`.
+    /// 3. The sector is marked, by the pack's mark byte: `Marked`.
+    /// 4. A write: the window's bytes go to the pack: `Clean`.
+    /// 5. A read: the sector's bytes, with the noise that strikes, go to the window. The verdict, `Clean`, `Burst`
+    ///    or `Hard`, is that of the sector's word with the noise's places flipped.
+    ///
+    /// `StoreFailed` comes only where the packs' count of failures rose; then the drive, the book and the window are
+    /// as before, and a block that was to be written is old or new.
+    pub fn move_sector<P: Packs>(
+        &mut self,
+        packs: &mut P,
+        unit: u8,
+        block: u32,
+        book: &mut NoiseBook,
+        window: &mut Window<'_>,
+    ) -> Result<Moved, StoreFailed>
+        requires unit { unit < 32 }
+        requires transfer { is_transferring self.old.work ≡ true }
+        requires block { block < block_count self.old.kind }
+
+        // The verdict, by the rules in their order; where told, the mark is the pack's.
+        ensures verdict { IfOk result (λ v. (marked : Bool)
+            × IsVerdict self.old marked (strikes unit block self.old.offset book.old.live) v
+            × (IsTrue (P.tells packs.new) → marked ≡ is_marked (P.held packs.old unit) block)) }
+        ensures drive { IfOk result (λ v. self.new ≡ after_move v block self.old) }
+        ensures book { IfOk result (λ v. book.new
+            ≡ (if was_read self.old v then book_struck unit block self.old.offset book.old else book.old)) }
+
+        // The bytes: those that are read, where told, and those that are written.
+        ensures read { IfOk result (λ v. IsTrue (was_read self.old v) → IsTrue (P.tells packs.new)
+            → IsReadAs (strikes unit block self.old.offset book.old.live)
+            (block_at (P.held packs.old unit).image block) (window_bytes window.new)) }
+        ensures window { IfOk result (λ v. MatchBool (was_read self.old v)
+            (Writes window.old window.new (window_bytes window.new)) (window.new ≡ window.old)) }
+        ensures written { IfOk result (λ v. IsTrue (P.tells packs.new) → P.held packs.new
+            ≡ (if was_written self.old v then with_written (P.held packs.old) unit block (window_bytes window.old)
+            else P.held packs.old)) }
+        ensures same_memory { memory_name window.new ≡ memory_name window.old }
+
+        // A drive that is stopped asks nothing of the packs.
+        ensures stopped { IsSome (stop_of self.old) → IsOk result × (packs.new ≡ packs.old) }
+
+        // A failure.
+        ensures unchanged { OnErr result ((self.new ≡ self.old) × (book.new ≡ book.old) × (window.new ≡ window.old)) }
+        ensures old_or_new { OnErr result (IsTrue (P.tells packs.new) → (P.held packs.new ≡ P.held packs.old)
+            ⊎ ((is_writing self.old.work ≡ true)
+            × (P.held packs.new ≡ with_written (P.held packs.old) unit block (window_bytes window.old)))) }
+        ensures never_again { IsTrue (P.tells packs.new) → IsTrue (P.tells packs.old) }
+        ensures cause { HasCause (P.faults packs.old) (P.faults packs.new) result }
+    {
+        if let Some(verdict) = self.stop() {
+            self.take(verdict, block);
+            return Ok(verdict);
+        }
+        if packs.marked(unit, block)? {
+            self.take(Moved::Marked, block);
+            return Ok(Moved::Marked);
+        }
+        let mut bytes = [0; 512];
+        if self.is_writing() {
+            window.copy_out(&mut bytes);
+            packs.write(unit, block, &bytes)?;
+            self.take(Moved::Clean, block);
+            return Ok(Moved::Clean);
+        }
+        packs.read(unit, block, &mut bytes)?;
+        let moved = read_through(book, unit, block, self.offset.bits(), &mut bytes);
+        window.copy_in(&bytes);
+        self.take(moved, block);
+        Ok(moved)
+    }
+
+    // Whether a write is under way.
+    fn is_writing(&self) -> bool
+        ensures { result ≡ is_writing self.now.work }
+    {
+        matches!(self.work, Work::Transfer { write: true })
+    }
+}

@@ -1,0 +1,14 @@
+//! One drive of a MASSBUS, by the hardware table: its functions, the events that change it, and the move of one
+//! sector; and the book of the noise that strikes sectors when they are read.
+#![tactic(auto)]
+
+mod book;
+mod drive;
+mod entries;
+
+pub use book::NoiseBook;
+pub use drive::Drive;
+pub use hardware_table::{FaultKind, Moved, NoiseSpan, Register};
+
+#[cfg(test)]
+mod tests;

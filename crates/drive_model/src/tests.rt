@@ -1,0 +1,175 @@
+ghost use Rattle.std.specs.Prelude.{◌≡◌, true};
+ghost use Rattle.hardware_table.specs.Drive.{is_transferring};
+
+use crate::{Drive, FaultKind, Moved, NoiseBook, NoiseSpan, Register};
+use drive_registers::Function;
+use fire_code::Noise;
+use main_memory::{MainMemory, Window, to_bus};
+use mass_outside::mem_packs::{FailCall, MemPacks, PackOp};
+use mass_outside::slots::Image;
+use pack_geometry::DriveKind;
+use std::alloc::Global;
+use std::process::Abort;
+use std::test::Fail;
+
+// What a sector meets that is tried.
+#[derive(Clone, Copy)]
+enum Trial {
+    Offline,
+    Fault(FaultKind),
+    Mark,
+    Noise(&'static [u16]),
+    Write,
+}
+
+// A drive with a transfer under way.
+fn transferring(kind: DriveKind, trial: Trial) -> Drive
+    ensures kind { result.kind ≡ kind }
+    ensures work { is_transferring result.work ≡ true }
+{
+    let mut drive = Drive::new(kind, 3);
+    match trial {
+        Trial::Fault(fault) => drive.arm_fault(fault, 1),
+        _ => {}
+    }
+    match trial {
+        Trial::Write => drive.go(Function::Write),
+        _ => drive.go(Function::Read),
+    }
+    match trial {
+        Trial::Offline => drive.set_online(false),
+        _ => {}
+    }
+    drive
+}
+
+// The verdict of a trial, the error registers that it leaves, and the calls on the packs that it makes.
+#[derive(Clone, Copy)]
+struct Row {
+    trial: Trial,
+    verdict: Moved,
+    er1: u16,
+    er2: u16,
+    calls: &'static [PackOp],
+}
+
+fn made(trial: Trial, verdict: Moved, er1: u16, er2: u16, calls: &'static [PackOp]) -> Row {
+    Row {
+        trial,
+        verdict,
+        er1,
+        er2,
+        calls,
+    }
+}
+
+fn fault(kind: FaultKind, er1: u16, er2: u16) -> Row {
+    made(Trial::Fault(kind), Moved::Faulted(kind), er1, er2, &[])
+}
+
+// A read that noise strikes.
+fn noise(places: &'static [u16], verdict: Moved, er1: u16) -> Row {
+    made(
+        Trial::Noise(places),
+        verdict,
+        er1,
+        0,
+        &[PackOp::Marked, PackOp::Read],
+    )
+}
+
+fn rows(kind: DriveKind) -> [Row; 11] {
+    let short = Moved::Burst {
+        at: 4091,
+        pattern: 0o2001,
+    };
+    let (first, second) = match kind {
+        DriveKind::Rp06 => (0o20, 0),
+        DriveKind::Rm03 => (0, 0o100000),
+    };
+    [
+        made(Trial::Offline, Moved::Offline, 0o40000, 0, &[]),
+        fault(FaultKind::Seek, 0, 0o40000),
+        fault(FaultKind::Opi, 0o20000, 0),
+        fault(FaultKind::Dte, 0o10000, 0),
+        fault(FaultKind::Hcrc, 0o400, 0),
+        fault(FaultKind::Late, 0, 0),
+        made(Trial::Mark, Moved::Marked, first, second, &[PackOp::Marked]),
+        made(
+            Trial::Write,
+            Moved::Clean,
+            0,
+            0,
+            &[PackOp::Marked, PackOp::Write],
+        ),
+        noise(&[0, 9, 11, 21, 30, 32], Moved::Clean, 0),
+        noise(&[4090, 4100], short, 0o100000),
+        noise(&[0, 7, 14], Moved::Hard, 0o100100),
+    ]
+}
+
+// Packs of unit 4 with two blocks, of which the first is marked or not.
+fn packs_with(alloc: Global, trial: Trial, fail: Option<PackOp>) -> Result<MemPacks, Fail> {
+    let mark = match trial {
+        Trial::Mark => 1,
+        _ => 0,
+    };
+    let mut images = Vec::new(alloc);
+    images.push(Image {
+        unit: 4,
+        bytes: vec![in alloc; 0x5a; 1024]?,
+        marks: vec![in alloc; mark]?,
+        blocks: 2,
+    })?;
+    let mut calls = Vec::new(alloc);
+    if let Some(op) = fail {
+        calls.push(FailCall { op, number: 1 })?;
+    }
+    Ok(MemPacks::new(alloc, images, calls)?)
+}
+
+// Tries block 0. Where a call on the packs fails, nothing has changed, and the next try gives the verdict.
+fn try_row(
+    rt: &impl Abort,
+    alloc: Global,
+    kind: DriveKind,
+    row: Row,
+    fail: Option<PackOp>,
+    window: &mut Window<'_>,
+) -> Result<(), Fail> {
+    let mut packs = packs_with(alloc, row.trial, fail)?;
+    let mut book = NoiseBook::new(alloc, 1)?;
+    if let Trial::Noise(places) = row.trial {
+        let noise = Noise::new(places).ok_or("no noise")?;
+        book.arm(4, 0, noise, NoiseSpan::Times(1));
+    }
+    window.copy_in(&[0x77; 512]);
+    let mut drive = transferring(kind, row.trial);
+    let mut verdict = drive.move_sector(&mut packs, 4, 0, &mut book, window);
+    if fail.is_some() {
+        assert!(rt; verdict.is_err());
+        assert_eq!(rt; drive.read_register(Register::Er1), 0);
+        assert_eq!(rt; window.get(511), 0x77);
+        verdict = drive.move_sector(&mut packs, 4, 0, &mut book, window);
+    }
+    assert!(rt; verdict == Ok(row.verdict));
+    assert_eq!(rt; drive.read_register(Register::Er1), row.er1);
+    assert_eq!(rt; drive.read_register(Register::Er2), row.er2);
+    Ok(())
+}
+
+#[test]
+fn verdicts(rt: HostRuntime) -> Result<(), Fail> {
+    let mut memory = MainMemory::new(rt.alloc())?;
+    let buffer = to_bus(memory.lend(1, 0)?);
+    let mut window = memory.window(&buffer, 0);
+    for kind in [DriveKind::Rp06, DriveKind::Rm03] {
+        for row in rows(kind) {
+            try_row(&rt, rt.alloc(), kind, row, None, &mut window)?;
+            for call in row.calls {
+                try_row(&rt, rt.alloc(), kind, row, Some(*call), &mut window)?;
+            }
+        }
+    }
+    Ok(())
+}
