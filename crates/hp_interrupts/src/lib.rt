@@ -1,0 +1,133 @@
+//! What the driver reads from the registers at an interrupt and before a command, after the registers of the RP06
+//! and RM03 drives.
+#![tactic(auto)]
+
+ghost use Rattle.std.specs.Prelude.{◌≡◌, ◌<◌, ◌↔◌, ℕ, false, IsTrue, IsNone, IfSome, Some};
+ghost use Rattle.std.specs.Int.{bit_at};
+ghost use Rattle.drive_registers.specs.Bits as bits;
+ghost use Rattle.hardware_table.specs.declared.Moved.{Moved};
+ghost use Rattle.hardware_table.specs.Drive.{DriveState, status};
+ghost use Rattle.hp_interrupts.specs.Sense.{IsOn, IsOff, sensed_of};
+ghost use Rattle.hp_interrupts.specs.Verdicts.{IsLeftBy, AreLeft, cause_of};
+
+use bitflags::Flags;
+use drive_registers::{Ds, Er1, Er2};
+use hardware_table::FaultKind;
+
+/// The registers that are read at a data interrupt: the drive's error registers and its two ECC registers, and
+/// whether the adapter shows data late.
+#[derive(Clone, Copy, Debug, PartialEq, Eq)]
+pub struct TransferRegs {
+    pub er1: u16,
+    pub er2: u16,
+    pub ec1: u16,
+    pub ec2: u16,
+    pub late: bool,
+}
+
+/// Why a transfer ended.
+#[derive(Clone, Copy, Debug, PartialEq, Eq)]
+pub enum DataCause {
+    /// Every sector moved clean.
+    Complete,
+    /// The last sector was read with a burst that the driver repairs: `at` is its first place, counted from 1, and
+    /// bit j of `pattern` stands for place `at - 1 + j`.
+    Corrected { at: u16, pattern: u16 },
+    /// The last sector is marked bad.
+    BadSector,
+    /// The drive is offline.
+    Offline,
+    /// A fault struck the drive or the transfer.
+    Drive(FaultKind),
+    /// The last sector was read and can't be corrected.
+    Hard,
+}
+
+/// What the drive status says before a command.
+#[derive(Clone, Copy, Debug, PartialEq, Eq)]
+pub enum Sensed {
+    /// The command can be issued.
+    Go,
+    /// The drive is offline.
+    Offline,
+    /// A write would be refused: the drive is write locked.
+    Locked,
+}
+
+/// The cause that the registers show: that of the verdict on the last sector that was tried. On an RP06 a marked
+/// sector shows as a format error, and on an RM03 as a bad sector. A data check can be corrected unless the hard
+/// error is on with it.
+pub fn data_interrupt(regs: TransferRegs) -> DataCause
+    requires left { AreLeft regs }
+    ensures cause { (verdict : Moved) → (drive : DriveState) → (block : ℕ) → IsLeftBy verdict drive block regs
+        → result ≡ cause_of verdict }
+{
+    let first = Er1::from_bits_retain(regs.er1);
+    let second = Er2::from_bits_retain(regs.er2);
+    if first.contains(Er1::UNS) {
+        DataCause::Offline
+    } else if first.contains(Er1::FER) || second.contains(Er2::BSE) {
+        DataCause::BadSector
+    } else if second.contains(Er2::SKI) {
+        DataCause::Drive(FaultKind::Seek)
+    } else if first.contains(Er1::OPI) {
+        DataCause::Drive(FaultKind::Opi)
+    } else if first.contains(Er1::DTE) {
+        DataCause::Drive(FaultKind::Dte)
+    } else if first.contains(Er1::HCRC) {
+        DataCause::Drive(FaultKind::Hcrc)
+    } else if regs.late {
+        DataCause::Drive(FaultKind::Late)
+    } else if first.contains(Er1::ECH) {
+        DataCause::Hard
+    } else if first.contains(Er1::DCK) {
+        DataCause::Corrected {
+            at: regs.ec1,
+            pattern: regs.ec2,
+        }
+    } else {
+        DataCause::Complete
+    }
+}
+
+/// What the drive status says before a command: `Offline` exactly where the medium is not on line; else `Locked`
+/// exactly where the drive is write locked and the command is a write's transfer; else `Go`.
+pub fn sense(ds: u16, write_transfer: bool) -> Sensed
+    ensures offline { (result ≡ Sensed.Offline) ↔ IsOff ds bits.medium_on_line }
+    ensures locked { (result ≡ Sensed.Locked)
+        ↔ (IsOn ds bits.medium_on_line × IsOn ds bits.write_locked × IsTrue write_transfer) }
+    ensures drive { (drive : DriveState) → ds ≡ status drive → result ≡ sensed_of drive write_transfer }
+{
+    let status = Ds::from_bits_retain(ds);
+    if !status.contains(Ds::MOL) {
+        Sensed::Offline
+    } else if status.contains(Ds::WRL) && write_transfer {
+        Sensed::Locked
+    } else {
+        Sensed::Go
+    }
+}
+
+/// Whether the pack has to be acknowledged before the next command: exactly where volume valid is off.
+pub fn needs_pack(ds: u16) -> bool
+    ensures bit { IsTrue result ↔ IsOff ds bits.volume_valid }
+    ensures drive { (drive : DriveState) → ds ≡ status drive → IsTrue result ↔ (drive.valid ≡ false) }
+{
+    !Ds::from_bits_retain(ds).contains(Ds::VV)
+}
+
+/// The lowest drive whose attention is up, by the bits of an adapter's attention summary. None exactly for 0.
+pub fn lowest_attention(summary: u8) -> Option<u8>
+    ensures none { IsNone result ↔ (summary ≡ 0) }
+    ensures lowest { IfSome result (λ drive. (drive < 8) × (bit_at summary drive ≡ 1)
+        × ((other : ℕ) → other < drive → bit_at summary other ≡ 0)) }
+{
+    if summary == 0 {
+        None
+    } else {
+        Some(summary.trailing_zeros() as u8)
+    }
+}
+
+#[cfg(test)]
+mod tests;
