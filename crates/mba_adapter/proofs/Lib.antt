@@ -1,0 +1,2 @@
+pub mod AttentionLaws
+pub mod MapLaws

@@ -1,0 +1,199 @@
+// An adapter: what it holds, and its acts.
+ghost use Rattle.std.specs.Prelude.{◌≡◌, ◌≤◌, ◌<◌, ◌+◌, ◌==◌, ℕ, true, false, if◌then◌else◌, slice_index};
+ghost use Rattle.std.specs.Int.{bit_at};
+ghost use Rattle.hardware_table.specs.Adapter.{new_adapter, registers_used, loaded, IsLoaded, IsAdapter, started, stepped, completed, attention_raised, attention_lowered};
+ghost use Rattle.mba_adapter.specs.Loaded.{loaded_buffer};
+
+mod steps;
+
+use crate::map::{copy_of, map_of, registers_used};
+use arrayvec::ArrayVec;
+use drive_model::Moved;
+use main_memory::{Buffer, Bus, Cpu, frames_of, to_bus, to_cpu};
+use std::marker::Model;
+
+/// How a transfer ended.
+#[derive(Clone, Copy, Debug, PartialEq, Eq)]
+pub struct Ended {
+    /// How many sectors moved clean.
+    pub moved: u32,
+    /// The last verdict.
+    pub last: Moved,
+}
+
+/// An adapter, of which each call does what the hardware table says. It has at most one transfer at a time.
+#[derive(Drop)]
+pub struct Adapter {
+    map_registers: [u16; 256],
+    address: u32,
+    byte_count: u32,
+    busy: bool,
+    completion: bool,
+    data_late: bool,
+    attentions: u8,
+    skip: u32,
+    count: u32,
+    frames: ArrayVec<u16, 128>,
+    offset: u32,
+    blocks: u32,
+    drive: u8,
+    block: u32,
+    write: bool,
+    moved: u32,
+    last: Moved,
+}
+
+impl Model for Adapter {
+    ghost use Rattle.hardware_table.specs.Adapter.{AdapterState, IsAdapter};
+
+    ghost Value = { AdapterState };
+
+    ghost use Rattle.mba_adapter.specs.State.{state_of};
+
+    ghost view = { state_of };
+
+    ghost invariant = { λ a. IsAdapter (state_of a) };
+}
+
+impl Adapter {
+    /// A new adapter: it is free, its flags and attention bits are off, and its registers are 0.
+    pub fn new() -> Adapter
+        ensures { result ≡ new_adapter }
+    {
+        Adapter {
+            map_registers: map_of(&[]),
+            address: 0,
+            byte_count: 0,
+            busy: false,
+            completion: false,
+            data_late: false,
+            attentions: 0,
+            skip: 0,
+            count: 0,
+            frames: ArrayVec::new(),
+            offset: 0,
+            blocks: 0,
+            drive: 0,
+            block: 0,
+            write: false,
+            moved: 0,
+            last: Moved::Clean,
+        }
+    }
+
+    /// Whether no transfer is started that was not completed.
+    pub fn is_free(&self) -> bool
+        ensures { result ≡ (if self.now.busy then false else true) }
+    {
+        !self.busy
+    }
+
+    /// Whether the completion is up: the transfer has ended, and its data interrupt is to be taken.
+    pub fn completion(&self) -> bool
+        ensures { result ≡ self.now.completion }
+    {
+        self.completion
+    }
+
+    /// Whether data came late in the transfer that is started.
+    pub fn data_late(&self) -> bool
+        ensures { result ≡ self.now.data_late }
+    {
+        self.data_late
+    }
+
+    /// The drives whose attention was raised and not cleared: bit k is drive k.
+    pub fn attentions(&self) -> u8
+        ensures { result ≡ self.now.attentions }
+    {
+        self.attentions
+    }
+
+    /// What a map register holds: the number of a frame of main memory, or 0.
+    pub fn map_register(&self, j: u8) -> u32
+        ensures { result ≡ slice_index self.now.map_registers j }
+    {
+        u32::from(self.map_registers[usize::from(j)])
+    }
+
+    /// Takes a buffer for a transfer of `count` of its blocks, from block `skip` on. Map register j gets frame
+    /// `skip + j` of the buffer for each j below `count`, and for j = `count` too where the buffer's offset is not 0;
+    /// the other map registers become 0. The virtual address becomes the offset, and the byte count 512 times `count`.
+    pub fn load(&mut self, buffer: Buffer<Cpu>, skip: u32, count: u32) -> Buffer<Bus>
+        requires free { self.old.busy ≡ false }
+        requires some { 1 ≤ count }
+        requires inside { skip + count ≤ buffer.count }
+        ensures adapter { self.new ≡ loaded buffer.frames buffer.offset buffer.count skip count self.old }
+        ensures same_buffer { result ≡ buffer }
+        ensures mapped { (j : ℕ) → j < registers_used count buffer.offset
+            → slice_index self.new.map_registers j ≡ slice_index buffer.frames (skip + j) }
+        ensures cleared { (j : ℕ) → registers_used count buffer.offset ≤ j → slice_index self.new.map_registers j ≡ 0 }
+    {
+        let frames = frames_of(&buffer);
+        let first = skip as usize;
+        let used = registers_used(count, buffer.offset()) as usize;
+        self.map_registers = map_of(&frames[first..first + used]);
+        self.address = buffer.offset();
+        self.byte_count = 512 * count;
+        self.skip = skip;
+        self.count = count;
+        self.frames = copy_of(frames);
+        self.offset = buffer.offset();
+        self.blocks = buffer.count();
+        to_bus(buffer)
+    }
+
+    /// Starts the transfer that was loaded, between drive `drive`, from block `block` of its pack on, and the buffer.
+    pub fn start(&mut self, drive: u8, block: u32, count: u32, write: bool)
+        requires free { self.old.busy ≡ false }
+        requires loaded { IsLoaded self.old count }
+        requires drive { drive < 8 }
+        ensures { self.new ≡ started drive block write self.old }
+    {
+        prove_eq!(self.count, count);
+        self.drive = drive;
+        self.block = block;
+        self.write = write;
+        self.busy = true;
+        self.completion = false;
+        self.data_late = false;
+        self.moved = 0;
+    }
+
+    /// Takes the data interrupt: gives the buffer back, with the number of sectors that moved clean and the last
+    /// verdict. The adapter is free afterwards.
+    pub fn complete(&mut self, buffer: Buffer<Bus>) -> (Buffer<Cpu>, Ended)
+        requires completion { self.old.completion ≡ true }
+        requires loaded { buffer ≡ loaded_buffer self.old }
+        ensures adapter { self.new ≡ completed self.old }
+        ensures same_buffer { result.0 ≡ buffer }
+        ensures ended { result.1 ≡ record { moved = self.old.moved; last = self.old.last } }
+    {
+        self.busy = false;
+        self.completion = false;
+        self.data_late = false;
+        let ended = Ended {
+            moved: self.moved,
+            last: self.last,
+        };
+        (to_cpu(buffer), ended)
+    }
+
+    /// The attention of a drive goes up.
+    pub fn raise_attention(&mut self, drive: u8)
+        requires { drive < 8 }
+        ensures adapter { self.new ≡ attention_raised drive self.old }
+        ensures bits { (k : ℕ) → k < 8 → bit_at self.new.attentions k ≡ (if k == drive then 1 else bit_at self.old.attentions k) }
+    {
+        self.attentions |= 1 << drive;
+    }
+
+    /// The attention of a drive goes down.
+    pub fn clear_attention(&mut self, drive: u8)
+        requires { drive < 8 }
+        ensures adapter { self.new ≡ attention_lowered drive self.old }
+        ensures bits { (k : ℕ) → k < 8 → bit_at self.new.attentions k ≡ (if k == drive then 0 else bit_at self.old.attentions k) }
+    {
+        self.attentions &= !(1 << drive);
+    }
+}
