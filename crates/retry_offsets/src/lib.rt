@@ -1,0 +1,118 @@
+// What a driver does after the failures at one physical sector: try again, off the centre of the track, after a
+// recalibration, or give up.
+#![tactic(auto)]
+
+ghost use Rattle.std.specs.Prelude.{◌≡◌, ◌≤◌, ◌↔◌};
+ghost use Rattle.retry_offsets.specs.declared.Step.TheVariants.{GiveUp};
+ghost use Rattle.retry_offsets.specs.Schedule.{offset_after, step_after};
+
+use drive_registers::OffsetCode;
+
+/// What follows a failure.
+#[derive(Clone, Copy, Debug, PartialEq, Eq)]
+pub enum Step {
+    /// The transfer at once.
+    Again,
+    /// The transfer with the heads off the centre.
+    Offset(OffsetCode),
+    /// The heads go to cylinder 0 and back, and then off the centre where an offset is given.
+    Recalibrate(Option<OffsetCode>),
+    /// No further try.
+    GiveUp,
+}
+
+/// What follows the failure of this number at one physical sector, counted from 1.
+///
+/// A recalibration comes after failures 4, 12 and 20; a read has an offset from failure 16 on, in the order of
+/// growing distance; failure 28 is the last.
+pub fn next_step(failures: u32, reads: bool) -> Step
+    requires first { 1 ≤ failures }
+    requires last { failures ≤ 28 }
+    ensures step { result ≡ step_after failures reads }
+    ensures give_up { (result ≡ GiveUp) ↔ (failures ≡ 28) }
+{
+    let offset = offset_for(failures, reads);
+    match failures {
+        28 => Step::GiveUp,
+        4 | 12 | 20 => Step::Recalibrate(offset),
+        _ => match offset {
+            Some(code) => Step::Offset(code),
+            None => Step::Again,
+        },
+    }
+}
+
+// The offset that a try has after this failure.
+fn offset_for(failures: u32, reads: bool) -> Option<OffsetCode>
+    requires { failures ≤ 28 }
+    ensures { result ≡ offset_after failures reads }
+{
+    if !reads {
+        return None;
+    }
+    match failures {
+        16 | 18 => Some(OffsetCode::Plus400),
+        17 | 19 => Some(OffsetCode::Minus400),
+        20 | 22 => Some(OffsetCode::Plus800),
+        21 | 23 => Some(OffsetCode::Minus800),
+        24 | 26 => Some(OffsetCode::Plus1200),
+        25 | 27 => Some(OffsetCode::Minus1200),
+        _ => None,
+    }
+}
+
+#[cfg(test)]
+mod tests {
+    use super::*;
+    use OffsetCode::{Minus400, Minus800, Minus1200, Plus400, Plus800, Plus1200};
+    use Step::{Again, GiveUp, Offset, Recalibrate};
+
+    // What follows each failure of a read and of a write, from failure 1 on.
+    static SCHEDULE: [(Step, Step); 28] = [
+        (Again, Again),
+        (Again, Again),
+        (Again, Again),
+        (Recalibrate(None), Recalibrate(None)),
+        (Again, Again),
+        (Again, Again),
+        (Again, Again),
+        (Again, Again),
+        (Again, Again),
+        (Again, Again),
+        (Again, Again),
+        (Recalibrate(None), Recalibrate(None)),
+        (Again, Again),
+        (Again, Again),
+        (Again, Again),
+        (Offset(Plus400), Again),
+        (Offset(Minus400), Again),
+        (Offset(Plus400), Again),
+        (Offset(Minus400), Again),
+        (Recalibrate(Some(Plus800)), Recalibrate(None)),
+        (Offset(Minus800), Again),
+        (Offset(Plus800), Again),
+        (Offset(Minus800), Again),
+        (Offset(Plus1200), Again),
+        (Offset(Minus1200), Again),
+        (Offset(Plus1200), Again),
+        (Offset(Minus1200), Again),
+        (GiveUp, GiveUp),
+    ];
+
+    #[test]
+    fn schedule(rt: HostRuntime) {
+        for failures in 1..=28 {
+            let (read, write) = SCHEDULE[failures as usize - 1];
+            assert_eq!(rt;
+                next_step(failures, true),
+                read,
+                "a read, failure {failures}"
+            );
+            assert_eq!(rt;
+                next_step(failures, false),
+                write,
+                "a write, failure {failures}"
+            );
+        }
+    }
+}
