@@ -1,0 +1,5 @@
+pub mod FormLaws
+pub mod LineLaws
+pub mod PlayLaws
+pub mod ReadingLaws
+pub mod TextLaws

@@ -1,0 +1,14 @@
+use Rattle.event_player.proofs.ReadingLaws.{one_script, no_fault, one_number, one_kind}
+use Rattle.event_player.proofs.script.grammar_law.Goals as goal
+
+pub returns-clause-one_script : goal.returns-clause-one_script
+returns-clause-one_script c = one_script
+
+pub returns-clause-no_fault : goal.returns-clause-no_fault
+returns-clause-no_fault c = no_fault
+
+pub returns-clause-one_number : goal.returns-clause-one_number
+returns-clause-one_number c = one_number
+
+pub returns-clause-one_kind : goal.returns-clause-one_kind
+returns-clause-one_kind c = one_kind
