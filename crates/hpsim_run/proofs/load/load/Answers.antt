@@ -1,0 +1,6 @@
+use Rattle.hpsim_run.proofs.LoadLaws.{refused_all}
+use Rattle.hpsim_run.proofs.load.load.Goals as goal
+
+pub returns-in-Err-clause-refused : goal.returns-in-Err-clause-refused
+returns-in-Err-clause-refused g c = λ t.
+    refused_all _ c.in_ok-bytes.bytes.items _ c.in-Err.fault _ (c.in_ok-bytes.ensures.bytes t) (c.in_ok-bytes.ensures.end t) c.in-Err.ensures.err c.from.ensures

@@ -1,0 +1,35 @@
+-- The words of the command line, and the texts of refusals.
+use Rattle.std.specs.Prelude.{◌≡◌, ◌⊎◌, ℕ, Bool, true, false, List, [], ◌∷◌, ◌++◌, codes, decimal, String}
+use Rattle.std.specs.declared.alloc.Global.{Global}
+use Rattle.std.specs.Str.{bytes_eq}
+use Rattle.std.specs.String.{string_bytes}
+use Rattle.mass_outside.specs.Causes.{Rose}
+use Rattle.mass_outside.specs.Puts.{TakesFront}
+use Rattle.event_player.specs.declared.script.ScriptKind.{ScriptKind}
+use Rattle.event_player.specs.declared.script.ScriptKind.TheVariants.{Word, TooMany, IdTwice, ScriptLong}
+
+-- the words are `play`
+abbrev pub is_play : List (String Global) → Bool
+is_play (word ∷ []) = bytes_eq (string_bytes word) (codes "play")
+is_play words = false
+
+unfoldable pub usage_text : List ℕ
+usage_text = codes "usage: hpsim play or bad144 list/add/fresh or exercise N" ++ 10 ∷ []
+
+unfoldable pub kind_word : ScriptKind → List ℕ
+kind_word Word = codes "word"
+kind_word TooMany = codes "toomany"
+kind_word IdTwice = codes "idtwice"
+kind_word ScriptLong = codes "scriptlong"
+
+unfoldable pub refused_line : List ℕ
+refused_line = codes "refused line "
+
+-- `refused line L KIND`
+abbrev pub refusal_text : ℕ → ScriptKind → List ℕ
+refusal_text line kind = refused_line ++ decimal line ++ codes " " ++ kind_word kind ++ 10 ∷ []
+
+-- A text was taken whole; or the sink failed, and took a front of it.
+abbrev pub Told : List ℕ → List ℕ → List ℕ → ℕ → ℕ → Type 0
+Told taken taken_after text faults faults_after =
+    (taken_after ≡ taken ++ text) ⊎ (Rose faults faults_after × TakesFront taken taken_after text)

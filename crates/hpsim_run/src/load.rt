@@ -1,0 +1,72 @@
+ghost use Rattle.std.specs.Prelude.{◌≡◌, ◌≤◌, IsTrue, [], IfOk, IfErr, IsErrOf};
+ghost use Rattle.mass_outside.specs.Causes.{Rose};
+ghost use Rattle.event_player.specs.Grammar.{Spells};
+ghost use Rattle.hpsim_run.specs.Loading.{RefusesAll};
+
+use event_player::script::{ReadFault, Script, ScriptKind, read_script};
+use mass_outside::traits::Source;
+use mass_outside::whole::{ReadAllFault, read_all};
+use std::alloc::Global;
+use thiserror::Error;
+
+/// The longest script, in bytes: 16 MiB.
+const LONGEST: usize = 16_777_216;
+
+/// Why a script was not loaded.
+#[derive(Clone, Copy, Debug, PartialEq, Eq, Error)]
+pub enum LoadFault {
+    /// There was no memory.
+    #[error("there is no memory")]
+    Memory,
+    /// A call of the source failed.
+    #[error("the source failed")]
+    Failed,
+    /// The first faulty line, and its fault.
+    #[error("line {line} is refused")]
+    Refused { line: u64, kind: ScriptKind },
+}
+
+impl From<ReadAllFault> for LoadFault {
+    ghost use Rattle.hpsim_run.specs.Loading.{from_read_all};
+    ghost use Rattle.std.specs.Prelude.{◌≡◌};
+
+    ghost from_gives = { λ f e. e ≡ from_read_all f };
+
+    fn from(fault: ReadAllFault) -> LoadFault {
+        match fault {
+            ReadAllFault::Memory => LoadFault::Memory,
+            ReadAllFault::Failed => LoadFault::Failed,
+        }
+    }
+}
+
+impl From<ReadFault> for LoadFault {
+    ghost use Rattle.hpsim_run.specs.Loading.{from_read};
+    ghost use Rattle.std.specs.Prelude.{◌≡◌};
+
+    ghost from_gives = { λ f e. e ≡ from_read f };
+
+    fn from(fault: ReadFault) -> LoadFault {
+        match fault {
+            ReadFault::Memory => LoadFault::Memory,
+            ReadFault::Refused { line, kind } => LoadFault::Refused { line, kind },
+        }
+    }
+}
+
+/// Reads the script that a source gives, to its end or to 16 MiB and one piece more. Refused comes exactly where the
+/// bytes spell no script, with the first fault; Failed only where the source's count of faults rose in this call.
+pub fn load<S: Source>(alloc: Global, source: &mut S) -> Result<Script, LoadFault>
+    ensures never_again { IsTrue (S.tells source.new) → IsTrue (S.tells source.old) }
+    ensures ok { IfOk result (λ script. IsTrue (S.tells source.new) → Spells (S.left source.old) script) }
+    ensures end { IfOk result (λ script. IsTrue (S.tells source.new) → S.left source.new ≡ []) }
+    ensures refused { IfErr result (λ fault. IsTrue (S.tells source.new) → RefusesAll fault (S.left source.old)) }
+    ensures later { S.faults source.old ≤ S.faults source.new }
+    ensures failed { IsErrOf result LoadFault.Failed → Rose (S.faults source.old) (S.faults source.new) }
+{
+    let bytes = read_all(alloc, source, LONGEST)?;
+    match read_script(alloc, bytes) {
+        Ok(script) => Ok(script),
+        Err(fault) => Err(LoadFault::from(fault)),
+    }
+}

@@ -1,0 +1,227 @@
+use crate::run;
+use mass_outside::mem_packs::{FailCall, MemPacks, PackOp};
+use mass_outside::mem_streams::{MemSink, MemSource};
+use mass_outside::slots::Image;
+use std::alloc::Global;
+use std::test::Fail;
+
+/// A script, the status of a run over an empty image, and what is printed.
+struct Row {
+    name: &'static str,
+    script: &'static [u8],
+    status: u8,
+    text: &'static [u8],
+}
+
+const ROWS: [Row; 9] = [
+    Row {
+        name: "first_read",
+        script: b"unit 0 rp06\nread 1 0 c 0 1",
+        status: 0,
+        text: b"ans 1 at 3 ok\nblk 0 fill 00\n",
+    },
+    Row {
+        name: "last_data_block",
+        script: b"unit 0 rp06\nwrite 1 0 c 340521 1 fill A5\nread 2 0 c 340521 1\n",
+        status: 0,
+        text: b"ans 1 at 4 ok\nans 2 at 4 ok\nblk 0 fill a5\n",
+    },
+    Row {
+        name: "no line",
+        script: b"",
+        status: 3,
+        text: b"refused line 1 word\n",
+    },
+    Row {
+        name: "a missing field",
+        script: b"unit 0 rp06\nread 1 0 c 0\n",
+        status: 3,
+        text: b"refused line 2 word\n",
+    },
+    Row {
+        name: "an id twice",
+        script: b"unit 0 rp06\nread 1 0 c 0 1\nwrite 01 0 c 0 1 fill 00\n",
+        status: 3,
+        text: b"refused line 3 idtwice\n",
+    },
+    Row {
+        name: "a block beyond the data",
+        script: b"unit 0 rp06\nread 1 0 c 340522 1\n",
+        status: 3,
+        text: b"refused line 2 word\n",
+    },
+    Row {
+        name: "an id too large",
+        script: b"unit 0 rp06\nread 4294967296 0 c 0 1\n",
+        status: 3,
+        text: b"refused line 2 word\n",
+    },
+    Row {
+        name: "three digits",
+        script: b"unit 0 rp06\nwrite 1 0 c 0 1 fill 0a5\n",
+        status: 3,
+        text: b"refused line 2 word\n",
+    },
+    Row {
+        name: "another drive",
+        script: b"unit 0 rm03\n",
+        status: 3,
+        text: b"refused line 1 word\n",
+    },
+];
+
+/// Which calls fail in a run: of the source, of the sink, and of the packs.
+#[derive(Clone, Copy)]
+struct Faults {
+    source: u64,
+    sink: u64,
+    packs: FailCall,
+}
+
+/// No call that is made has the number 0.
+const NONE: Faults = Faults {
+    source: 0,
+    sink: 0,
+    packs: FailCall {
+        op: PackOp::Read,
+        number: 0,
+    },
+};
+
+/// Unit 0 with an image.
+fn packs_of(alloc: Global, image: &[u8], fail: FailCall) -> Result<MemPacks, Fail> {
+    let mut images = Vec::new(alloc);
+    images.push(Image {
+        unit: 0,
+        bytes: Vec::from_slice(alloc, image)?,
+        marks: Vec::new(alloc),
+        blocks: 340670,
+    })?;
+    Ok(MemPacks::new(alloc, images, Vec::from_slice(alloc, &[fail])?)?)
+}
+
+/// Runs a command over unit 0 with an image, and answers its status and what was printed.
+fn run_over(
+    alloc: Global,
+    word: &str,
+    script: &[u8],
+    image: &[u8],
+    faults: Faults,
+) -> Result<(u8, MemSink), Fail> {
+    let mut words = Vec::new(alloc);
+    words.push(String::from_str(alloc, word)?)?;
+    let mut source = MemSource::new(
+        Vec::from_slice(alloc, script)?,
+        Vec::from_slice(alloc, &[faults.source])?,
+    );
+    let mut packs = packs_of(alloc, image, faults.packs)?;
+    let mut out = MemSink::new(alloc, 9000, Vec::from_slice(alloc, &[faults.sink])?)?;
+    let mut trace = MemSink::new(alloc, 0, Vec::new(alloc))?;
+    let status = run(
+        alloc,
+        words.as_slice(),
+        &mut source,
+        &mut packs,
+        &mut out,
+        &mut trace,
+    );
+    Ok((status, out))
+}
+
+#[test]
+fn answers_and_refusals(rt: HostRuntime) -> Result<(), Fail> {
+    for row in &ROWS {
+        let (status, out) = run_over(rt.alloc(), "play", row.script, b"", NONE)?;
+        assert_eq!(rt; status, row.status, "{}", row.name);
+        assert_eq!(rt; out.taken(), row.text, "{}", row.name);
+    }
+    Ok(())
+}
+
+/// `unit 0 rp06` and so many reads of block 0.
+fn reads(alloc: Global, count: u32) -> Result<String, Fail> {
+    let mut script = String::from_str(alloc, "unit 0 rp06\n")?;
+    for id in 0..count {
+        script.push_str(format!(in alloc; "read {id} 0 c 0 1\n")?.as_str())?;
+    }
+    Ok(script)
+}
+
+#[test]
+fn limits(rt: HostRuntime) -> Result<(), Fail> {
+    let script = reads(rt.alloc(), 129)?;
+    let (status, _) = run_over(rt.alloc(), "play", script.as_bytes(), b"", NONE)?;
+    assert_eq!(rt; status, 0);
+    let script = reads(rt.alloc(), 130)?;
+    let (_, out) = run_over(rt.alloc(), "play", script.as_bytes(), b"", NONE)?;
+    assert_eq!(rt; out.taken(), b"refused line 131 toomany\n".as_slice());
+    let mut long = Vec::new(rt.alloc());
+    long.resize(16_777_217, b'\n')?;
+    let (_, out) = run_over(rt.alloc(), "play", long.as_slice(), b"", NONE)?;
+    assert_eq!(rt; out.taken(), b"refused line 0 scriptlong\n".as_slice());
+    Ok(())
+}
+
+/// An image of 700 bytes FF: block 1 has 188 of them, and reads as zeros behind them.
+#[test]
+fn short_image(rt: HostRuntime) -> Result<(), Fail> {
+    let mut text = String::from_str(rt.alloc(), "ans 1 at 3 ok\nblk 0 hex ")?;
+    for digit in 0..1024 {
+        text.push(if digit < 376 { 'f' } else { '0' })?;
+    }
+    text.push('\n')?;
+    let script = b"unit 0 rp06\nread 1 0 c 1 1\n";
+    let (_, out) = run_over(rt.alloc(), "play", script, &[0xFF; 700], NONE)?;
+    assert_eq!(rt; out.taken(), text.as_bytes());
+    Ok(())
+}
+
+const SCRIPT: &[u8] = b"unit 0 rp06\nwrite 1 0 c 5 1 fill 77\nread 2 0 c 5 1\n";
+
+const TEXT: &[u8] = b"ans 1 at 4 ok\nans 2 at 4 ok\nblk 0 fill 77\n";
+
+/// The numbers of the source's, the sink's and the packs' call that fail (0 for none), the packs' operation, the status,
+/// and how much of the text was taken. Each call fails in turn, until the run ends with 0.
+const FAILING: [(u64, u64, u64, PackOp, u8, usize); 11] = [
+    (1, 0, 0, PackOp::Read, 4, 0),
+    (2, 0, 0, PackOp::Read, 4, 0),
+    (3, 0, 0, PackOp::Read, 0, 42),
+    (0, 1, 0, PackOp::Read, 5, 0),
+    (0, 2, 0, PackOp::Read, 5, 14),
+    (0, 3, 0, PackOp::Read, 0, 42),
+    (0, 0, 1, PackOp::Write, 6, 0),
+    (0, 0, 2, PackOp::Write, 0, 42),
+    (0, 0, 1, PackOp::Read, 6, 14),
+    (0, 0, 2, PackOp::Read, 0, 42),
+    (0, 0, 1, PackOp::SetMark, 0, 42),
+];
+
+#[test]
+fn failing_calls(rt: HostRuntime) -> Result<(), Fail> {
+    for (source, sink, number, op, wanted, taken) in FAILING {
+        let faults = Faults {
+            source,
+            sink,
+            packs: FailCall { op, number },
+        };
+        let (status, out) = run_over(rt.alloc(), "play", SCRIPT, b"", faults)?;
+        assert_eq!(rt; status, wanted, "{source} {sink} {number} {op:?}");
+        assert_eq!(rt;
+            out.taken(),
+            TEXT.get(..taken).unwrap_or(b""),
+            "{source} {sink} {number} {op:?}"
+        );
+    }
+    Ok(())
+}
+
+#[test]
+fn usage(rt: HostRuntime) -> Result<(), Fail> {
+    let usage = b"usage: hpsim play or bad144 list/add/fresh or exercise N\n".as_slice();
+    for word in ["list", "--help", "", "Play"] {
+        let (status, out) = run_over(rt.alloc(), word, SCRIPT, b"", NONE)?;
+        assert_eq!(rt; status, 2, "{word}");
+        assert_eq!(rt; out.taken(), usage, "{word}");
+    }
+    Ok(())
+}
