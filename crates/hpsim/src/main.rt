@@ -1,0 +1,53 @@
+// The program: it makes the real source, sinks and packs, and ends with the status of the command.
+#![tactic(auto)]
+
+use hpsim_run::run;
+use mass_outside::files::{FilePacks, FileSink};
+use mass_outside::streams::{StdSink, StdSource};
+use std::alloc::Global;
+use std::io::ErrorKind;
+use std::process::ExitCode;
+use std::{env, io};
+
+/// The status where there is no memory for the words.
+const NO_MEMORY: u8 = 9;
+
+/// The words after the program's name; there are none where one of them is not text, which is no command. None where
+/// there is no memory for them.
+fn words(rt: &HostRuntime) -> Option<Vec<String>> {
+    let mut words = Vec::new(rt.alloc());
+    let args = match env::args(rt) {
+        Ok(args) => args,
+        Err(error) => {
+            return match error.kind() {
+                ErrorKind::OutOfMemory => None,
+                _ => Some(words),
+            };
+        }
+    };
+    for word in args.skip(1) {
+        if words.push(word).is_err() {
+            return None;
+        }
+    }
+    Some(words)
+}
+
+fn main(rt: HostRuntime) -> ExitCode {
+    let Some(words) = words(&rt) else {
+        return ExitCode::from(NO_MEMORY);
+    };
+    let mut script = StdSource::new(rt.reader());
+    let mut packs = FilePacks::new(&rt);
+    let mut out = StdSink::new(io::writer(&rt));
+    let mut trace = FileSink::new(&rt, "hp.trace");
+    let status = run(
+        rt.alloc(),
+        words.as_slice(),
+        &mut script,
+        &mut packs,
+        &mut out,
+        &mut trace,
+    );
+    ExitCode::from(status)
+}
