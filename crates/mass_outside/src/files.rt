@@ -50,9 +50,31 @@ struct OpenPart<F> {
     file: F,
 }
 
+/// Opens a file for reading and writing, or for reading alone where it may not be written and is not to be made.
+fn open_part<R: Files>(rt: &R, name: &str, create: bool) -> io::Result<R::File> {
+    let mut how = OpenOptions::new();
+    how.read(true).write(true).create(create);
+    match how.open(rt, name) {
+        Ok(file) => Ok(file),
+        Err(error) => {
+            let forbidden = matches!(
+                error.kind(),
+                ErrorKind::PermissionDenied | ErrorKind::ReadOnlyFilesystem
+            );
+            if create || !forbidden {
+                return Err(error);
+            }
+            let mut how = OpenOptions::new();
+            how.read(true);
+            how.open(rt, name)
+        }
+    }
+}
+
 /// The packs in the files `hpU.dsk` (image) and `hpU.bad` (marks) of the working folder, for unit U in decimal: block b
 /// is bytes 512*b to 512*b+511 of the image, and byte b of the marks belongs to block b. A missing file is empty, and is
-/// made at its first write. What the files hold is not told; each error counts as a fault.
+/// made at its first write. A file that may only be read is read; a write to it fails. What the files hold is not told;
+/// each error counts as a fault.
 #[derive(Drop)]
 pub struct FilePacks<R: Files + AllocGlobal> {
     rt: R,
@@ -89,9 +111,7 @@ impl<R: Files + AllocGlobal> FilePacks<R> {
             Part::Image => format!(in self.rt.alloc(); "hp{unit}.dsk")?,
             Part::Marks => format!(in self.rt.alloc(); "hp{unit}.bad")?,
         };
-        let mut how = OpenOptions::new();
-        how.read(true).write(true).create(create);
-        match how.open(&self.rt, name.as_str()) {
+        match open_part(&self.rt, name.as_str(), create) {
             Ok(file) => {
                 self.files.push(OpenPart { unit, part, file })?;
                 Ok(Some(self.files.len() - 1))
