@@ -222,7 +222,8 @@ pub struct FileSink<'a, R: Files> {
 impl<'a, R: Files> FileSink<'a, R> {
     /// The sink that writes to the file of this name. It opens nothing, and its count of faults begins at 0.
     pub fn new(rt: R, name: &'a str) -> FileSink<'a, R>
-        ensures { result.faults ≡ 0 }
+        ensures file { result.name.now ≡ name.now }
+        ensures faults { result.faults ≡ 0 }
     {
         FileSink {
             rt,
