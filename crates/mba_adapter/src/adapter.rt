@@ -102,6 +102,13 @@ impl Adapter {
         self.data_late
     }
 
+    /// The drive of the transfer that was started last, from 0 to 7; 0 before the first.
+    pub fn drive(&self) -> u8
+        ensures { result ≡ self.now.drive }
+    {
+        self.drive
+    }
+
     /// The drives whose attention was raised and not cleared: bit k is drive k.
     pub fn attentions(&self) -> u8
         ensures { result ≡ self.now.attentions }

@@ -89,6 +89,9 @@ impl Adapter {
             (bytes_in (span_of buffer.now (next_window self.old)) memory.old.bytes)
             else P.held packs.old)) }
 
+        // The block is one of the buffer's.
+        ensures inside { next_window self.old < self.old.blocks }
+
         // What is lent stays lent.
         ensures free { memory.new.free ≡ memory.old.free }
         ensures lent { (other : Loan) → IsLent memory.old other → IsLent memory.new other }
