@@ -1,10 +1,10 @@
 -- Laws of legal answers.
-use Rattle.std.proofs.Common.{◌≡◌, ℕ, ◌+◌, ◌≤◌, subst, Bool, true, false, List, [], ◌∷◌, ◌++◌, refl, sym, ap, ◌∙◌, arith, Some, None, Option}
+use Rattle.std.proofs.Common.{◌≡◌, ℕ, ◌+◌, ◌≤◌, Bool, true, false, List, [], ◌∷◌, ◌++◌, refl, ap, ◌∙◌, arith, Some, None, Option}
 use Rattle.std.specs.Prelude.{if◌then◌else◌, ◌==◌}
 use Rattle.std.proofs.lemmas.Bool.Decides.{nat_tests}
-use Rattle.subsystem_spec.specs.Request.{Request, Answer, Kind, Line}
+use Rattle.subsystem_spec.specs.Request.{Request, Answer, Line}
 use Rattle.subsystem_spec.specs.Request.Line.{Silent, Submits}
-use Rattle.subsystem_spec.specs.BlockMachine.{Machine, Blocks, Step, Steps, submission, idle, with_id, none_outstanding}
+use Rattle.subsystem_spec.specs.BlockMachine.{Machine, Blocks, Step, Steps, submission, idle}
 use Rattle.subsystem_spec.specs.LegalAnswers.{LineStep, Played, Legal, asked_by, times_asked, times_answered, times_in_groups}
 
 pub fun_ext : {A B : Type 0} (f g : A → B) → ((x : A) → f x ≡ g x) → f ≡ g

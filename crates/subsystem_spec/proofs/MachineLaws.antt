@@ -1,55 +1,15 @@
--- Laws of the block machine over packs on which no block is marked.
-use Rattle.std.proofs.Common.{◌≡◌, ◌≢◌, ℕ, ◌+◌, ◌-◌, ◌*◌, ◌<◌, ◌≤◌, subst, Bool, true, false, List, [], ◌∷◌, ◌++◌, length, get_or, refl, sym, ap, ◌∙◌, arith, Some, None, Option}
-use Rattle.std.specs.Prelude.{if◌then◌else◌, ◌==◌, ◌&&◌, nat_le, nat_lt}
-use Rattle.std.proofs.lemmas.Grind.{common_steps, same_number_lists}
+-- Laws of the block machine.
+use Rattle.std.proofs.Common.{◌≡◌, ℕ, ◌+◌, subst, Bool, true, false, List, [], ◌∷◌, ◌++◌, refl, ap, ◌∙◌, arith, Some, None, Option}
+use Rattle.std.specs.Prelude.{if◌then◌else◌, ◌==◌}
 use Rattle.std.proofs.lemmas.Bool.Decides.{nat_tests}
-use Rattle.pack_model.specs.Pack.{Pack, block_at, window, with_block, with_written, is_marked}
-use Rattle.pack_model.specs.Content.{home, content, bytes_at, IsUnmarked}
-use Rattle.pack_model.proofs.PackLaws.{length-window, get_or-window, block_at-with_block_same, block_at-with_block_other}
 use Rattle.subsystem_spec.specs.Request.{Request, Answer}
-use Rattle.subsystem_spec.specs.BlockMachine.{Machine, Blocks, Step, Steps, contents, after_write, with_id, none_outstanding, frames_needed}
+use Rattle.subsystem_spec.specs.BlockMachine.{Machine, Blocks, Step, Steps, with_id, none_outstanding, frames_needed}
 use Rattle.subsystem_spec.proofs.AnswerLaws.{fun_ext}
-
--- every block has its own sector's bytes
-abbrev pub plain : (ℕ → Pack) → Blocks
-plain packs unit block = Some (block_at (packs unit).image block)
-
-pub contents-plain : (packs : ℕ → Pack) → IsUnmarked packs → contents packs ≡ plain packs
-contents-plain packs none = fun_ext (contents packs) (plain packs) (λ unit. fun_ext _ _ (λ block. ap (λ (m : Bool). bytes_at (packs unit) (if m then None else Some block)) (none unit block)))
 
 -- one more answer
 pub steps_more : (answers : List Answer) (answer : Answer) (m m' m'' : Machine) → Steps m answers m' → Step m' answer m'' → Steps m (answers ++ answer ∷ []) m''
 steps_more [] answer m m' m'' s step = (m'', subst (λ (x : Machine). Step x answer m'') s step, refl)
 steps_more (a ∷ more) answer m m' m'' s step = (s.0, s.1, steps_more more answer s.0 m' m'' s.2 step)
-
--- a window of all bytes
-pub window_whole : (size : ℕ) (bytes : List ℕ) → length bytes ≡ size → window size 0 bytes ≡ bytes
-window_whole size bytes l =
-    let len : length (window size 0 bytes) ≡ size = length-window size 0 bytes in
-    same_number_lists _ _ (len ∙ sym l) (λ k h. let small : k < size = omega arith in get_or-window size 0 bytes k small ∙ ap (λ (n : ℕ). get_or bytes n 0) (omega arith))
-
--- a block of the packs that are left by a write of one block
-at_unit : (image : List ℕ) (r : Request) (bytes : List ℕ) → length bytes ≡ 512 → (block : ℕ) (b : Bool) → (nat_le r.first block && nat_lt block (r.first + 1)) ≡ b →
-    Some (block_at (with_block image r.first bytes) block) ≡ (if b then Some (window 512 (512 * (block - r.first)) bytes) else Some (block_at image block))
-at_unit image r bytes l block true e =
-    let same : block ≡ r.first = grind (arith, nat_tests) in
-    let here : block_at (with_block image r.first bytes) r.first ≡ bytes = block_at-with_block_same image bytes r.first l in
-    let zero_at : 512 * (block - r.first) ≡ 0 = omega arith in
-    let whole : window 512 0 bytes ≡ bytes = window_whole 512 bytes l in
-    ap (λ (xs : List ℕ). Some xs) (ap (block_at (with_block image r.first bytes)) same ∙ here ∙ sym whole ∙ ap (λ (n : ℕ). window 512 n bytes) (sym zero_at))
-at_unit image r bytes l block false e =
-    let other : block ≢ r.first = grind (arith, nat_tests) in
-    ap (λ (xs : List ℕ). Some xs) (block_at-with_block_other image bytes r.first block l other)
-
-one_block : (packs : ℕ → Pack) (r : Request) (bytes : List ℕ) → length bytes ≡ 512 → (unit block : ℕ) (b : Bool) → (unit == r.unit) ≡ b → plain (with_written packs r.unit r.first bytes) unit block ≡ after_write (plain packs) r 1 bytes unit block
-one_block packs r bytes l unit block true e =
-    let same : unit ≡ r.unit = grind (arith, nat_tests) in
-    rw e (at_unit (packs r.unit).image r bytes l block (nat_le r.first block && nat_lt block (r.first + 1)) refl
-    ∙ ap (λ (u : ℕ). if (nat_le r.first block && nat_lt block (r.first + 1)) then Some (window 512 (512 * (block - r.first)) bytes) else plain packs u block) (sym same))
-one_block packs r bytes l unit block false e = rw e refl
-
-pub plain-with_written : (packs : ℕ → Pack) (r : Request) (bytes : List ℕ) → length bytes ≡ 512 → plain (with_written packs r.unit r.first bytes) ≡ after_write (plain packs) r 1 bytes
-plain-with_written packs r bytes l = fun_ext _ _ (λ unit. fun_ext _ _ (λ block. one_block packs r bytes l unit block (unit == r.unit) refl))
 
 -- OUTSTANDING REQUESTS AS A LIST. The requests of a list, over others: an id finds the first that has it.
 abbrev pub over : (ℕ → Option Request) → List Request → ℕ → Option Request

@@ -1,10 +1,11 @@
 -- The block machine: what requests may be answered, and what an answer leaves. No cylinder, register, queue, code
 -- or replacement occurs here, and a request changes whole at its answer.
-use Rattle.std.specs.Prelude.{◌≡◌, ℕ, ◌+◌, ◌*◌, ◌-◌, ◌<◌, ◌==◌, ◌&&◌, nat_le, nat_lt, Bool, if◌then◌else◌, List, [], ◌∷◌, length, Option, None, Some, IsSome}
-use Rattle.pack_model.specs.Pack.{Pack, window}
+use Rattle.std.specs.Prelude.{◌≡◌, ℕ, ◌+◌, ◌-◌, ◌<◌, ◌==◌, ◌&&◌, nat_le, nat_lt, if◌then◌else◌, List, [], ◌∷◌, length, slice_get, Option, None, Some, IsSome}
+use Rattle.pack_model.specs.Pack.{Pack}
 use Rattle.pack_model.specs.Content.{content}
-use Rattle.subsystem_spec.specs.Request.{Request, Answer, Kind, Line}
-use Rattle.subsystem_spec.specs.Request.Kind.{ReadOk, WriteOk}
+use Rattle.subsystem_spec.specs.Request.{Request, Answer, Cause, Kind, Line}
+use Rattle.subsystem_spec.specs.Request.Cause.{Unforwarded}
+use Rattle.subsystem_spec.specs.Request.Kind.{ReadOk, WriteOk, Failed}
 use Rattle.subsystem_spec.specs.Request.Line.{Silent, Submits}
 
 -- the content of each block of each unit, or none where it is unusable
@@ -62,18 +63,29 @@ abbrev pub AreBlocks : Blocks → Request → ℕ → List (List ℕ) → Type 0
 AreBlocks blocks r k [] = Unit {0}
 AreBlocks blocks r k (b ∷ bs) = (blocks r.unit (r.first + k) ≡ Some b) × AreBlocks blocks r (k + 1) bs
 
--- the map with the first n blocks of a write replaced by its bytes
-abbrev pub after_write : Blocks → Request → ℕ → List ℕ → Blocks
-after_write blocks r n bytes unit block =
+-- the map with the first n blocks of a write replaced by its blocks
+abbrev pub after_write : Blocks → Request → ℕ → List (List ℕ) → Blocks
+after_write blocks r n written unit block =
     if (unit == r.unit) && (nat_le r.first block && nat_lt block (r.first + n))
-    then Some (window 512 (512 * (block - r.first)) bytes) else blocks unit block
+    then slice_get written (block - r.first) else blocks unit block
+
+-- the map after the first n blocks of a request were done: a read changes nothing
+abbrev pub after_done : Blocks → Request → ℕ → Option (List (List ℕ)) → Blocks
+after_done blocks r n None = blocks
+after_done blocks r n (Some written) = after_write blocks r n written
+
+-- what a cause says of the first block that was not done
+abbrev pub IsCause : Cause → Option (List ℕ) → Type 0
+IsCause Unforwarded block = block ≡ None
 
 -- an outstanding request may be answered so, and leaves this map
 abbrev pub MayAnswer : Blocks → Request → Kind → Blocks → Type 0
 MayAnswer old r (ReadOk blocks) new =
     (r.written ≡ None) × (length blocks ≡ r.count) × AreBlocks old r 0 blocks × (new ≡ old)
 MayAnswer old r WriteOk new =
-    (bytes : List ℕ) × (r.written ≡ Some bytes) × AreUsable old r r.count × (new ≡ after_write old r r.count bytes)
+    (written : List (List ℕ)) × (r.written ≡ Some written) × (length written ≡ r.count) × AreUsable old r r.count × (new ≡ after_write old r r.count written)
+MayAnswer old r (Failed cause k) new =
+    (k < r.count) × AreUsable old r k × IsCause cause (old r.unit (r.first + k)) × (new ≡ after_done old r k r.written)
 
 -- one answer is a step of the outstanding request that has its id, which is then no longer outstanding
 pub record Step (old : Machine) (answer : Answer) (new : Machine) : Type 0 where

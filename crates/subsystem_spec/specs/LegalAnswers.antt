@@ -1,6 +1,6 @@
 -- Which answers to a script are legal.
 use Rattle.std.specs.Prelude.{◌≡◌, ℕ, ◌+◌, ◌==◌, if◌then◌else◌, List, [], ◌∷◌, ◌++◌}
-use Rattle.subsystem_spec.specs.Request.{Answer, Line, Request}
+use Rattle.subsystem_spec.specs.Request.{Answer, Line}
 use Rattle.subsystem_spec.specs.Request.Line.{Silent, Submits}
 use Rattle.subsystem_spec.specs.BlockMachine.{Machine, Blocks, Steps, submission, idle}
 
