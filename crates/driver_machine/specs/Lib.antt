@@ -1,0 +1,11 @@
+pub mod Places
+pub mod World
+pub mod Acts
+pub mod Does
+pub mod Events
+pub mod Sound
+pub mod Stands
+pub mod Measure
+pub mod Lines
+pub mod Due
+pub mod Waiting
