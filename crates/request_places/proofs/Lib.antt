@@ -1,0 +1,4 @@
+pub mod FillLaws
+pub mod SlotLaws
+pub mod StepLaws
+pub mod WholeLaws
