@@ -1,304 +1,321 @@
--- Laws of playing: what the drain does for each line adds up to legal answers.
-use Rattle.std.proofs.Common.{◌≡◌, ◌≢◌, ◌⊎◌, inl, inr, ℕ, ◌+◌, ◌≤◌, ◌<◌, zero, suc, Bool, true, false, List, [], ◌∷◌, ◌++◌, length, map, refl, sym, ap, subst, ◌∙◌, arith, append-nil, All, drop, get_or, add-one, drop-cons, Option, Some, None}
+-- Laws of playing a script: from what was done at each line to legal answers, and to what the packs hold at the end.
+use Rattle.std.proofs.Common.{◌≡◌, inl, inr, ℕ, ◌+◌, ◌<◌, ◌≤◌, Bool, true, false, IsTrue, List, [], ◌∷◌, ◌++◌, length, map, take, get_or, Option, Some, None, All, refl, sym, ap, subst, ◌∙◌, arith, append-nil, append_assoc, length-append, add-one, drop, drop-cons}
 use Rattle.std.specs.Prelude.{if◌then◌else◌, ◌==◌, ◌||◌}
-use Rattle.std.specs.List.{flat_map, list_any}
-use Rattle.std.proofs.lemmas.Grind.{common_steps}
-use Rattle.std.proofs.lemmas.List.{length-replicate, length-map}
+use Rattle.std.specs.List.{flat_map, list_any, cons_option}
+use Rattle.std.proofs.lemmas.List.{map-append, length-map, length-replicate, length-take-le, take_more, take_all, take-append-drop}
+use Rattle.std.proofs.lemmas.List.Elements.{filter_map-append}
 use Rattle.std.proofs.lemmas.Option.{same_Some, none-some}
 use Rattle.std.proofs.lemmas.Bool.Decides.{nat_tests}
 use Rattle.pack_geometry.specs.declared.DriveKind.{DriveKind}
 use Rattle.pack_geometry.specs.declared.DriveKind.TheVariants.{Rp06}
-use Rattle.pack_model.specs.Pack.{Pack, block_at, with_block, with_written, is_marked}
-use Rattle.pack_model.specs.Content.{IsUnmarked}
-use Rattle.pack_model.proofs.PackLaws.{block_at-with_block_other}
-use Rattle.subsystem_spec.specs.Request.{Request, Answer, Line as SeenLine}
-use Rattle.subsystem_spec.specs.Request.Kind.{ReadOk, WriteOk}
-use Rattle.subsystem_spec.specs.BlockMachine.{Machine, Blocks, Step, Steps, idle, joined, with_id, none_outstanding, frames_needed}
-use Rattle.subsystem_spec.specs.LegalAnswers.{LineStep, Played}
-use Rattle.subsystem_spec.specs.AnswerText.{answer_text, lines_text}
-use Rattle.subsystem_spec.specs.Plays.{Plays, HoldsMap, IsNoHome}
-use Rattle.subsystem_spec.proofs.MachineLaws.{plain, contents-plain, steps_more, plain-with_written, over, frames_of, Differ, waiting, joins-over, first_found, first_removed}
+use Rattle.pack_model.specs.Pack.{Pack}
+use Rattle.subsystem_spec.specs.Request.{Answer, Line as SeenLine}
+use Rattle.subsystem_spec.specs.Request.Line.{Silent}
+use Rattle.subsystem_spec.specs.BlockMachine.{Blocks, contents}
+use Rattle.subsystem_spec.specs.LegalAnswers.{Legal}
+use Rattle.subsystem_spec.specs.AnswerText.{answer_text, line_text, lines_text, script_text}
+use Rattle.subsystem_spec.specs.Plays.{Plays, HoldsMap}
+use Rattle.driver_machine.specs.declared.UnitSetup.{UnitSetup}
+use Rattle.driver_machine.specs.Places.{Held, slot_at}
+use Rattle.driver_machine.specs.World.{World, unit_at, new_world}
+use Rattle.driver_machine.specs.Acts.{Act}
+use Rattle.driver_machine.specs.Does.{Does, after_all, packs_after_all}
+use Rattle.driver_machine.specs.Sound.{Among, Sound}
+use Rattle.driver_machine.specs.Stands.{calls_of_all, calls_at}
+use Rattle.driver_machine.specs.Stands.Call.{Answers}
+use Rattle.driver_laws.proofs.Asked.{ids_in, lines_requests, requests_of_lines, IsAsked, asked_run}
+use Rattle.driver_laws.proofs.Asked as asking
+use Rattle.driver_laws.proofs.Does.{does_nothing, does_then, does_as}
+use Rattle.driver_laws.proofs.Drives as machine
+use Rattle.driver_laws.proofs.Each.{places_after_all}
+use Rattle.driver_laws.proofs.Script.{AreLines, acts_of, legal_script}
+use Rattle.driver_laws.proofs.Sound.{sound_after, sound_does}
+use Rattle.driver_laws.proofs.SoundNew.{sound_new}
+use Rattle.driver_machine.specs.Events.{NoneOutstanding}
 use Rattle.event_player.specs.declared.script.Line.{Line}
-use Rattle.event_player.specs.declared.script.Line.TheVariants.{Unit as UnitLine, Read, Write}
-use Rattle.event_player.specs.Grammar.{AreGood, AreApart, AreRequests, has_id}
-use Rattle.event_player.specs.Playing.{IsInside, seen, drives_of, filled, read_request, write_request, Serves}
+use Rattle.event_player.specs.declared.script.Line.TheVariants.{Unit as UnitLine, Read, Write, Arrive, Move, Attend, Drain}
+use Rattle.event_player.specs.Grammar.{AreGood, AreApart, AreLater, IsRequest, id_of, ids_of, is_used}
+use Rattle.event_player.specs.Playing.{IsInside, seen, drives_of}
+use Rattle.event_player.specs.Steps.{MayPlay, PlaysLine}
+use Rattle.event_player.proofs.ReadingLaws.{used, used_is, unused_at}
 
--- the requests of lines
-abbrev pub requests : List Line → List Request
-requests [] = []
-requests (UnitLine ∷ lines) = requests lines
-requests (Read id block ∷ lines) = read_request id block ∷ requests lines
-requests (Write id block fill ∷ lines) = write_request id block fill ∷ requests lines
+-- AT THE START unit 0 is set up as an RP06, and there are places for 129 requests.
+abbrev pub setups : List UnitSetup
+setups = record { unit = 0; kind = Rp06 } ∷ []
 
--- ids that differ
-neither : (a b : Bool) → (a || b) ≡ false → (a ≡ false) × (b ≡ false)
-neither true b e = absurd (cc)
-neither false b e = (refl, e)
+abbrev pub start : World
+start = new_world setups 129 0
 
-unused : (lines : List Line) (id : ℕ) → list_any (has_id id) lines ≡ false → over none_outstanding (requests lines) id ≡ None
-unused [] id u = refl
-unused (UnitLine ∷ lines) id u = unused lines id u
-unused (Read other block ∷ lines) id u =
-    let both = neither (id == other) (list_any (has_id id) lines) u in
-    ap (λ (b : Bool). if b then Some (read_request other block) else over none_outstanding (requests lines) id) both.0 ∙ unused lines id both.1
-unused (Write other block fill ∷ lines) id u =
-    let both = neither (id == other) (list_any (has_id id) lines) u in
-    ap (λ (b : Bool). if b then Some (write_request other block fill) else over none_outstanding (requests lines) id) both.0 ∙ unused lines id both.1
+start_places : length start.places ≡ 129
+unfolding new_world
+start_places = length-replicate {A = Option Held} 129 None
 
-differ : (lines : List Line) → AreApart lines → Differ (requests lines)
-differ [] a = tt
-differ (UnitLine ∷ lines) a = differ lines a.1
-differ (Read id block ∷ lines) a = (unused lines id a.0, differ lines a.1)
-differ (Write id block fill ∷ lines) a = (unused lines id a.0, differ lines a.1)
+start_answers : start.answers ≡ []
+unfolding new_world
+start_answers = refl
 
--- BEFORE THE DRAIN all requests join, and none is answered.
-abbrev pub none_before : List Line → List (List Answer)
-none_before [] = []
-none_before (line ∷ lines) = [] ∷ none_before lines
+pub start_sound : Sound start
+start_sound = sound_new setups 129 0 (omega arith, tt)
 
-none_before_text : (lines : List Line) (n : ℕ) → lines_text n (map seen lines) (none_before lines) ≡ []
-none_before_text [] n = refl
-none_before_text (line ∷ lines) n = none_before_text lines (n + 1)
+start_drives : (u : ℕ) → machine.drives_in start u ≡ (if u == 0 then Some Rp06 else None)
+start_drives u = machine.drives_new setups 129 0 u (omega arith, tt)
 
-abbrev all_in : Blocks → (ℕ → Option Request) → ℕ → List Request → Machine
-all_in blocks out frames rs = record { blocks = blocks; outstanding = over out rs; frames = frames + frames_of rs }
+-- WHAT WAS DONE at these lines.
+pub record SoFar (lines : List Line) (w : World) (tells : Bool) (held held_after : ℕ → Pack) (out_tells : Bool) (before after : List ℕ) : Type 0 where
+  pub segments : List (List Act)
+  pub groups : List (List Answer)
+  pub are : AreLines (map seen lines) groups segments
+  pub does : Does (acts_of segments) start w tells held held_after
+  pub text : IsTrue out_tells → after ≡ before ++ lines_text 1 (map seen lines) groups
+  pub none_waits : w.answers ≡ []
 
-join_more : (lines : List Line) (blocks : Blocks) (out : ℕ → Option Request) (frames : ℕ) (r : Request) → over none_outstanding (requests lines) r.id ≡ None →
-    all_in blocks (with_id out r.id (Some r)) (frames + frames_needed r) (requests lines) ≡ all_in blocks out frames (r ∷ requests lines)
-join_more lines blocks out frames r none =
-    ap (λ (o : ℕ → Option Request). record { blocks = blocks; outstanding = o; frames = (frames + frames_needed r) + frames_of (requests lines) }) (joins-over out r (requests lines) none)
-    ∙ ap (λ (n : ℕ). record { blocks = blocks; outstanding = over out (r ∷ requests lines); frames = n }) (omega arith)
+pub so_far_none : (w : World) (tells out_tells : Bool) (held : ℕ → Pack) (text : List ℕ) → w ≡ start → SoFar [] w tells held held out_tells text text
+so_far_none w tells out_tells held text is = record {
+  segments = [];
+  groups = [];
+  are = tt;
+  does = subst (λ (x : World). Does [] start x tells held held) (sym is) (does_nothing start tells held);
+  text = λ t. sym (append-nil text);
+  none_waits = ap (λ (x : World). x.answers) is ∙ start_answers;
+}
 
-line_in : (m : Machine) (line : SeenLine) (mid : Machine) → LineStep m line [] mid → LineStep m line [] mid
-line_in m line mid s = s
+are_more : (lines : List SeenLine) (groups : List (List Answer)) (segments : List (List Act)) (line : SeenLine) (group : List Answer) (done : List Act)
+    → AreLines lines groups segments → calls_of_all done ≡ calls_at line group → AreLines (lines ++ line ∷ []) (groups ++ group ∷ []) (segments ++ done ∷ [])
+are_more [] [] [] line group done are calls = (calls, tt)
+are_more (l ∷ lines) (g ∷ groups) (s ∷ segments) line group done are calls = (are.0, are_more lines groups segments line group done are.1 calls)
+are_more [] [] (s ∷ segments) line group done are calls = absurd are
+are_more [] (g ∷ groups) segments line group done are calls = absurd are
+are_more (l ∷ lines) [] segments line group done are calls = absurd are
+are_more (l ∷ lines) (g ∷ groups) [] line group done are calls = absurd are
 
-all_join : (lines : List Line) (blocks : Blocks) (out : ℕ → Option Request) (frames : ℕ) → Differ (requests lines) →
-    Played (record { blocks = blocks; outstanding = out; frames = frames }) (map seen lines) (none_before lines) (all_in blocks out frames (requests lines))
-all_join [] blocks out frames d = ap (λ (n : ℕ). record { blocks = blocks; outstanding = out; frames = n }) (omega arith)
-all_join (UnitLine ∷ lines) blocks out frames d =
-    (record { blocks = blocks; outstanding = out; frames = frames }, record { later = []; order = refl; steps = refl }, all_join lines blocks out frames d)
-all_join (Read id block ∷ lines) blocks out frames d =
-    let r : Request = read_request id block in
-    let mid : Machine = joined (record { blocks = blocks; outstanding = out; frames = frames }) r in (
-      mid,
-      record { later = []; order = refl; steps = refl },
-      subst (λ (end : Machine). Played mid (map seen lines) (none_before lines) end) (join_more lines blocks out frames r d.0) (all_join lines blocks mid.outstanding mid.frames d.1),
-    )
-all_join (Write id block fill ∷ lines) blocks out frames d =
-    let r : Request = write_request id block fill in
-    let mid : Machine = joined (record { blocks = blocks; outstanding = out; frames = frames }) r in (
-      mid,
-      record { later = []; order = refl; steps = refl },
-      subst (λ (end : Machine). Played mid (map seen lines) (none_before lines) end) (join_more lines blocks out frames r d.0) (all_join lines blocks mid.outstanding mid.frames d.1),
-    )
+acts_more : (segments : List (List Act)) (done : List Act) → acts_of (segments ++ done ∷ []) ≡ acts_of segments ++ done
+acts_more [] done = append-nil done
+acts_more (s ∷ segments) done = ap (λ (xs : List Act). s ++ xs) (acts_more segments done) ∙ sym (append_assoc s (acts_of segments) done)
 
--- THE DRAIN has come to these lines: some answers were given, and the requests of these lines are left.
-pub record Sofar (lines rest : List Line) (number : ℕ) (old now : ℕ → Pack) (before after : List ℕ) : Type 0 where
+text_more : (n : ℕ) (lines : List SeenLine) (groups : List (List Answer)) (segments : List (List Act)) (line : SeenLine) (group : List Answer)
+    → AreLines lines groups segments → lines_text n (lines ++ line ∷ []) (groups ++ group ∷ []) ≡ lines_text n lines groups ++ line_text (n + length lines) line group
+text_more n [] [] [] line group are =
+    let here : n ≡ n + 0 = omega arith in
+    append-nil (line_text n line group) ∙ ap (λ (k : ℕ). line_text k line group) here
+text_more n (l ∷ lines) (g ∷ groups) (s ∷ segments) line group are =
+    let here : (n + 1) + length lines ≡ n + length (l ∷ lines) = omega arith in
+    ap (λ (text : List ℕ). line_text n l g ++ text) (text_more (n + 1) lines groups segments line group are.1 ∙ ap (λ (k : ℕ). lines_text (n + 1) lines groups ++ line_text k line group) here)
+    ∙ sym (append_assoc (line_text n l g) (lines_text (n + 1) lines groups) (line_text (n + length (l ∷ lines)) line group))
+text_more n [] [] (s ∷ segments) line group are = absurd are
+text_more n [] (g ∷ groups) segments line group are = absurd are
+text_more n (l ∷ lines) [] segments line group are = absurd are
+text_more n (l ∷ lines) (g ∷ groups) [] line group are = absurd are
+
+pub so_far_more : (line : Line) {lines : List Line} {number : ℕ} {w new : World} {told tells out_told out_tells : Bool} {held mid held_after : ℕ → Pack} {before between after : List ℕ}
+    → (IsTrue tells → IsTrue told) → (IsTrue out_tells → IsTrue out_told) → number ≡ length lines + 1
+    → SoFar lines w told held mid out_told before between → PlaysLine number (seen line) w new tells mid held_after out_tells between after
+    → SoFar (lines ++ line ∷ []) new tells held held_after out_tells before after
+so_far_more line {lines} {number} {w} {new} {told} {tells} {out_told} {out_tells} {held} {mid} {held_after} {before} {between} {after} still still_out is so one =
+    let more : map seen (lines ++ line ∷ []) ≡ map seen lines ++ seen line ∷ [] = map-append seen lines (line ∷ []) in
+    let here : number ≡ 1 + length (map seen lines) = omega (arith, is, length-map lines seen) in record {
+      segments = so.segments ++ one.acts ∷ [];
+      groups = so.groups ++ one.group ∷ [];
+      are = subst (λ (ls : List SeenLine). AreLines ls (so.groups ++ one.group ∷ []) (so.segments ++ one.acts ∷ [])) (sym more)
+          (are_more (map seen lines) so.groups so.segments (seen line) one.group one.acts so.are one.calls);
+      does = does_as (sym (acts_more so.segments one.acts)) (does_then still so.does one.does);
+      text = λ t.
+          one.text t
+          ∙ ap (λ (xs : List ℕ). xs ++ line_text number (seen line) one.group) (so.text (still_out t))
+          ∙ append_assoc before (lines_text 1 (map seen lines) so.groups) (line_text number (seen line) one.group)
+          ∙ ap (λ (n : ℕ). before ++ (lines_text 1 (map seen lines) so.groups ++ line_text n (seen line) one.group)) here
+          ∙ ap (λ (xs : List ℕ). before ++ xs) (sym (text_more 1 (map seen lines) so.groups so.segments (seen line) one.group so.are))
+          ∙ ap (λ (ls : List SeenLine). before ++ lines_text 1 ls (so.groups ++ one.group ∷ [])) (sym more);
+      none_waits = one.none_waits;
+    }
+
+-- EACH LINE OF A GOOD SCRIPT may be played where it comes. The requests so far are those of the lines so far.
+seen_ids : (lines : List Line) → ids_in (lines_requests (map seen lines)) ≡ ids_of lines
+seen_ids [] = refl
+seen_ids (UnitLine ∷ lines) = seen_ids lines
+seen_ids (Read id block count ∷ lines) = ap (λ (ids : List ℕ). id ∷ ids) (seen_ids lines)
+seen_ids (Write id block count fill ∷ lines) = ap (λ (ids : List ℕ). id ∷ ids) (seen_ids lines)
+seen_ids (Arrive ∷ lines) = seen_ids lines
+seen_ids (Move ∷ lines) = seen_ids lines
+seen_ids (Attend ∷ lines) = seen_ids lines
+seen_ids (Drain ∷ lines) = seen_ids lines
+
+asked_so_far : {lines : List Line} {w : World} {tells out_tells : Bool} {held held_after : ℕ → Pack} {before after : List ℕ} → SoFar lines w tells held held_after out_tells before after → IsAsked w.places (ids_of lines)
+asked_so_far {lines} {w} so =
+    let ids : ids_in (asking.requests_of (acts_of so.segments)) ≡ ids_of lines = ap ids_in (requests_of_lines (map seen lines) so.groups so.segments so.are) ∙ seen_ids lines in
+    subst (λ (x : World). IsAsked x.places (ids_of lines)) (sym so.does.world)
+    (subst (λ (xs : List ℕ). IsAsked (after_all start (acts_of so.segments)).places xs) ids (asked_run setups 129 0 (acts_of so.segments) so.does.run))
+
+not_among : (id : ℕ) (ids : List ℕ) → list_any (λ other. other == id) ids ≡ false → Among id ids → ⊥
+not_among id [] none among = among
+not_among id (x ∷ ids) none (inl same) = there (list_any (λ other. other == id) ids) (is_same x (sym same)) none
+  where
+    is_same : (k : ℕ) → k ≡ id → (k == id) ≡ true
+    is_same k e = grind (arith, nat_tests)
+
+    there : (rest : Bool) → (x == id) ≡ true → ((x == id) || rest) ≡ false → ⊥
+    there rest e f = cc (ap (λ (b : Bool). b || rest) e, f)
+not_among id (x ∷ ids) none (inr among) = not_among id ids (behind (x == id) (list_any (λ other. other == id) ids) none) among
+  where
+    behind : (first rest : Bool) → (first || rest) ≡ false → rest ≡ false
+    behind true rest e = absurd (cc (e))
+    behind false rest e = e
+
+-- lines around one of them
+around : (lines : List Line) (i : ℕ) (d : Line) → i < length lines → lines ≡ take i lines ++ get_or lines i d ∷ drop (i + 1) lines
+around lines i d lt =
+    let cut : drop i lines ≡ get_or lines i d ∷ drop (i + 1) lines = rw (add-one, drop-cons lines i d) refl in
+    sym (take-append-drop i lines) ∙ ap (λ (xs : List Line). take i lines ++ xs) cut
+
+ids_around : (before : List Line) (line : Line) (behind : List Line) (id : ℕ) → id_of line ≡ Some id → length (ids_of before) + 1 ≤ length (ids_of (before ++ line ∷ behind))
+ids_around before line behind id is =
+    let whole : ids_of (before ++ line ∷ behind) ≡ ids_of before ++ ids_of (line ∷ behind) = filter_map-append id_of before (line ∷ behind) in
+    let first : ids_of (line ∷ behind) ≡ id ∷ ids_of behind = ap (λ (o : Option ℕ). cons_option o (ids_of behind)) is in
+    let size : length (ids_of (before ++ line ∷ behind)) ≡ length (ids_of before ++ id ∷ ids_of behind) = ap (λ (xs : List ℕ). length xs) (whole ∙ ap (λ (xs : List ℕ). ids_of before ++ xs) first) in
+    omega (arith, size, length-append (ids_of before) (id ∷ ids_of behind))
+
+has_id_of : (line : Line) → IsRequest line → (id : ℕ) × (id_of line ≡ Some id)
+has_id_of UnitLine request = absurd request
+has_id_of (Read id block count) request = (id, refl)
+has_id_of (Write id block count fill) request = (id, refl)
+has_id_of Arrive request = absurd request
+has_id_of Move request = absurd request
+has_id_of Attend request = absurd request
+has_id_of Drain request = absurd request
+
+kind_by : (b : Bool) (k : DriveKind) → (if b then Some k else None) ≡ Some Rp06 → (b ≡ true) × (k ≡ Rp06)
+kind_by true k e = (refl, same_Some k Rp06 e)
+kind_by false k e = absurd (none-some Rp06 e)
+
+unit_zero : {w : World} {acts : List Act} {tells : Bool} {held held_after : ℕ → Pack} → Does acts start w tells held held_after → ((unit_at w 0).declared ≡ true) × ((unit_at w 0).drive.kind ≡ Rp06)
+unit_zero {w} {acts} does =
+    kind_by (unit_at w 0).declared (unit_at w 0).drive.kind
+    (ap (λ (x : World). machine.drives_in x 0) does.world ∙ machine.same_drives start acts 0 ∙ start_drives 0)
+
+all_places : {w : World} {acts : List Act} {tells : Bool} {held held_after : ℕ → Pack} → Does acts start w tells held held_after → length w.places ≡ 129
+all_places {w} {acts} does = ap (λ (x : World). length x.places) does.world ∙ places_after_all start acts ∙ start_places
+
+pub may_play : {lines script : List Line} {i : ℕ} {w : World} {tells out_tells : Bool} {held held_after : ℕ → Pack} {before after : List ℕ} (d : Line)
+    → lines ≡ script → All IsInside script → AreGood script → i < length lines
+    → SoFar (take i lines) w tells held held_after out_tells before after → MayPlay w (get_or lines i d)
+may_play {lines} {script} {i} {w} d is inside good lt so =
+    let line : Line = get_or lines i d in
+    let front : List Line = take i lines in
+    let behind : List Line = drop (i + 1) lines in
+    let cut : lines ≡ front ++ line ∷ behind = around lines i d lt in
+    let asked : IsAsked w.places (ids_of front) = asked_so_far so in
+    let places : length w.places ≡ 129 = all_places so.does in
+    let size : length lines ≡ length script = ap (λ (ls : List Line). length ls) is in
+    let few : length (ids_of lines) ≤ 129 = subst (λ (ls : List Line). length (ids_of ls) ≤ 129) (sym is) good.few in
+    let unused : is_used front line ≡ false = unused_at front line behind (subst AreApart (sym is ∙ cut) good.apart) in record {
+      sound = sound_does start_sound so.does;
+      none_waits = so.none_waits;
+      declared = (unit_zero so.does).0;
+      kind = (unit_zero so.does).1;
+      inside = subst (λ (ls : List Line). IsInside (get_or ls i d)) (sym is) (inside i d (omega (arith, lt, size)));
+      room = λ request.
+          let id = has_id_of line request in
+          let more = ids_around front line behind id.0 id.1 in
+          let whole : length (ids_of (front ++ line ∷ behind)) ≡ length (ids_of lines) = ap (λ (ls : List Line). length (ids_of ls)) (sym cut) in
+          omega (arith, asked.few, more, whole, few, places);
+      fresh = λ id of_line p h slot same.
+          not_among id (ids_of front) (sym (used_is front line ∙ ap (λ (o : Option ℕ). used (ids_of front) o) of_line) ∙ unused)
+          (subst (λ (k : ℕ). Among k (ids_of front)) same (asked.each p h slot));
+    }
+
+-- THE DRIVES that good lines declare.
+no_drive : (lines : List Line) (unit : ℕ) → AreLater lines → drives_of lines unit ≡ None
+no_drive [] unit later = refl
+no_drive (UnitLine ∷ lines) unit later = absurd later.0
+no_drive (Read id block count ∷ lines) unit later = no_drive lines unit later.1
+no_drive (Write id block count fill ∷ lines) unit later = no_drive lines unit later.1
+no_drive (Arrive ∷ lines) unit later = no_drive lines unit later.1
+no_drive (Move ∷ lines) unit later = no_drive lines unit later.1
+no_drive (Attend ∷ lines) unit later = no_drive lines unit later.1
+no_drive (Drain ∷ lines) unit later = no_drive lines unit later.1
+
+first_drive : (line : Line) (lines : List Line) (unit : ℕ) → line ≡ UnitLine → AreLater lines → drives_of (line ∷ lines) unit ≡ (if unit == 0 then Some Rp06 else None)
+first_drive line lines unit first later =
+    ap (λ (l : Line). drives_of (l ∷ lines) unit) first ∙ ap (λ (o : Option DriveKind). if unit == 0 then Some Rp06 else o) (no_drive lines unit later)
+
+pub good_drives : (lines : List Line) (unit : ℕ) → 0 < length lines → AreGood lines → drives_of lines unit ≡ (if unit == 0 then Some Rp06 else None)
+good_drives [] unit some good = absurd (omega (arith, some))
+good_drives (line ∷ lines) unit some good = first_drive line lines unit good.order.0 good.order.1
+
+-- AT THE END the lines and the drain behind them were played.
+pub record Ended (lines : List Line) (w : World) (tells : Bool) (held held_after : ℕ → Pack) (out_tells : Bool) (before after : List ℕ) : Type 0 where
+  pub segments : List (List Act)
+  pub drain : List Act
+  pub groups : List (List Answer)
   pub answers : List Answer
-  pub steps : Steps (waiting (plain old) (requests lines)) answers (waiting (plain now) (requests rest))
-  pub text : after ≡ before ++ flat_map (answer_text number) answers
-  pub units : (unit : ℕ) → unit ≢ 0 → now unit ≡ old unit
-  pub spare : (block : ℕ) → 340522 ≤ block → block_at (now 0).image block ≡ block_at (old 0).image block
-  pub marks : (unit : ℕ) → (now unit).marks ≡ (old unit).marks
+  pub are : AreLines (map seen lines) groups segments
+  pub drained : calls_of_all drain ≡ map Answers answers
+  pub does : Does (acts_of segments ++ drain) start w tells held held_after
+  pub text : IsTrue out_tells → after ≡ before ++ script_text (map seen lines) groups answers
+  pub none_left : NoneOutstanding w
 
-pub sofar_none : (lines : List Line) (number : ℕ) (old : ℕ → Pack) (before : List ℕ) → Sofar lines lines number old old before before
-sofar_none lines number old before = record {
-  answers = [];
-  steps = refl;
-  text = sym (append-nil before);
-  units = λ unit ne. refl;
-  spare = λ block h. refl;
-  marks = λ unit. refl;
-}
-
-length-filled : (fill : ℕ) → length (filled fill) ≡ 512
-unfolding filled
-length-filled fill = length-replicate 512 fill
-
-other_unit : (packs : ℕ → Pack) (block : ℕ) (bytes : List ℕ) (unit : ℕ) → unit ≢ 0 → with_written packs 0 block bytes unit ≡ packs unit
-other_unit packs block bytes unit ne = grind (arith, nat_tests)
-
-same_marks : (packs : ℕ → Pack) (block : ℕ) (bytes : List ℕ) (unit : ℕ) → (with_written packs 0 block bytes unit).marks ≡ (packs unit).marks
-same_marks packs block bytes unit = by_test (unit == 0) refl
-  where
-    by_test : (b : Bool) → (unit == 0) ≡ b → (if b then record { image = with_block (packs 0).image block bytes; marks = (packs 0).marks } else packs unit).marks ≡ (packs unit).marks
-    by_test true e = let same : 0 ≡ unit = grind (arith, nat_tests) in ap (λ (u : ℕ). (packs u).marks) same
-    by_test false e = refl
-
-more_pieces : {X : Type 0} (f : X → List ℕ) (before middle after : List ℕ) (xs : List X) (x : X) →
-    middle ≡ before ++ flat_map f xs → after ≡ middle ++ f x → after ≡ before ++ flat_map f (xs ++ x ∷ [])
-more_pieces f before middle after xs x m a = grind (arith, common_steps)
-
-more_text : (number : ℕ) (before middle after : List ℕ) (answers : List Answer) (answer : Answer) →
-    middle ≡ before ++ flat_map (answer_text number) answers → after ≡ middle ++ answer_text number answer → after ≡ before ++ flat_map (answer_text number) (answers ++ answer ∷ [])
-more_text number before middle after answers answer m a = more_pieces (answer_text number) before middle after answers answer m a
-
--- what serving one line adds
-sofar_more : (lines : List Line) (line : Line) (rest : List Line) (number : ℕ) (old now new : ℕ → Pack) (before middle after : List ℕ) →
-    IsInside line → Differ (requests (line ∷ rest)) → Sofar lines (line ∷ rest) number old now before middle → Serves line number now new middle after → Sofar lines rest number old new before after
-sofar_more lines UnitLine rest number old now new before middle after inside d s served = record {
-  answers = s.answers;
-  steps = subst (λ (p : ℕ → Pack). Steps (waiting (plain old) (requests lines)) s.answers (waiting (plain p) (requests rest))) (sym served.0) s.steps;
-  text = served.1 ∙ s.text;
-  units = λ unit ne. ap (λ (p : ℕ → Pack). p unit) served.0 ∙ s.units unit ne;
-  spare = λ block h. ap (λ (p : ℕ → Pack). block_at (p 0).image block) served.0 ∙ s.spare block h;
-  marks = λ unit. ap (λ (p : ℕ → Pack). (p unit).marks) served.0 ∙ s.marks unit;
-}
-sofar_more lines (Read id block) rest number old now new before middle after inside d s served =
-    let answer : Answer = record { id = id; kind = ReadOk (block_at (now 0).image block ∷ []) } in
-    let r : Request = read_request id block in
-    let from : Machine = waiting (plain now) (r ∷ requests rest) in
-    let to : Machine = waiting (plain new) (requests rest) in
-    let step : Step from answer to = record {
-      request = r;
-      found = first_found r (requests rest);
-      may = (refl, refl, (ap (λ (n : ℕ). plain now 0 n) (omega arith), tt), ap plain served.0);
-      removed = first_removed r (requests rest) d.0;
-      frames = refl;
-    } in record {
-      answers = s.answers ++ answer ∷ [];
-      steps = steps_more s.answers answer _ from to s.steps step;
-      text = more_text number before middle after s.answers answer s.text served.1;
-      units = λ unit ne. ap (λ (p : ℕ → Pack). p unit) served.0 ∙ s.units unit ne;
-      spare = λ b h. ap (λ (p : ℕ → Pack). block_at (p 0).image b) served.0 ∙ s.spare b h;
-      marks = λ unit. ap (λ (p : ℕ → Pack). (p unit).marks) served.0 ∙ s.marks unit;
-    }
-sofar_more lines (Write id block fill) rest number old now new before middle after inside d s served =
-    let answer : Answer = record { id = id; kind = WriteOk } in
-    let r : Request = write_request id block fill in
-    let from : Machine = waiting (plain now) (r ∷ requests rest) in
-    let to : Machine = waiting (plain new) (requests rest) in
-    let step : Step from answer to = record {
-      request = r;
-      found = first_found r (requests rest);
-      may = (filled fill, refl, (λ k h. refl), ap plain served.0 ∙ plain-with_written now r (filled fill) (length-filled fill));
-      removed = first_removed r (requests rest) d.0;
-      frames = refl;
-    } in record {
-      answers = s.answers ++ answer ∷ [];
-      steps = steps_more s.answers answer _ from to s.steps step;
-      text = more_text number before middle after s.answers answer s.text served.1;
-      units = λ unit ne. ap (λ (p : ℕ → Pack). p unit) served.0 ∙ other_unit now block (filled fill) unit ne ∙ s.units unit ne;
-      spare = λ b h. ap (λ (p : ℕ → Pack). block_at (p 0).image b) served.0 ∙ block_at-with_block_other (now 0).image (filled fill) block b (length-filled fill) (omega arith) ∙ s.spare b h;
-      marks = λ unit. ap (λ (p : ℕ → Pack). (p unit).marks) served.0 ∙ same_marks now block (filled fill) unit ∙ s.marks unit;
+pub ended : {lines : List Line} {number : ℕ} {w new : World} {told tells out_told out_tells : Bool} {held mid held_after : ℕ → Pack} {before between after : List ℕ}
+    → (IsTrue tells → IsTrue told) → (IsTrue out_tells → IsTrue out_told) → number ≡ length lines + 1
+    → SoFar lines w told held mid out_told before between → PlaysLine number Silent w new tells mid held_after out_tells between after → NoneOutstanding new
+    → Ended lines new tells held held_after out_tells before after
+ended {lines} {number} {w} {new} {told} {tells} {out_told} {out_tells} {held} {mid} {held_after} {before} {between} {after} still still_out is so last none =
+    let here : number ≡ length (map seen lines) + 1 = omega (arith, is, length-map lines seen) in record {
+      segments = so.segments;
+      drain = last.acts;
+      groups = so.groups;
+      answers = last.group;
+      are = so.are;
+      drained = last.calls;
+      does = does_then still so.does last.does;
+      text = λ t.
+          last.text t
+          ∙ ap (λ (xs : List ℕ). xs ++ flat_map (answer_text number) last.group) (so.text (still_out t))
+          ∙ append_assoc before (lines_text 1 (map seen lines) so.groups) (flat_map (answer_text number) last.group)
+          ∙ ap (λ (n : ℕ). before ++ (lines_text 1 (map seen lines) so.groups ++ flat_map (answer_text n) last.group)) here;
+      none_left = none;
     }
 
-drop_first : {X : Type 0} (xs : List X) (i : ℕ) (d : X) → i < length xs → drop i xs ≡ get_or xs i d ∷ drop (i + 1) xs
-drop_first xs i d h = rw (add-one, drop-cons xs i d) refl
+module _ {lines : List Line} {w : World} {tells out_tells : Bool} {held held_after : ℕ → Pack} {before after : List ℕ} (some : 0 < length lines) (good : AreGood lines)
+    (end : Ended lines w tells held held_after out_tells before after) where
+  abbrev pub all : List Act
+  all = acts_of end.segments ++ end.drain
 
-apart_drop : (lines : List Line) (i : ℕ) → AreApart lines → AreApart (drop i lines)
-apart_drop lines zero a = a
-apart_drop [] (suc i) a = tt
-apart_drop (line ∷ lines) (suc i) a = apart_drop lines i a.1
+  none_goes_on : (p : ℕ) (h : Held) → slot_at (after_all start all).places p ≡ Some h → h.ended ≡ true
+  none_goes_on = subst NoneOutstanding end.does.world end.none_left
 
--- one turn of the drain
-pub sofar_turn : {lines script : List Line} {i number : ℕ} {old now new : ℕ → Pack} {before middle after : List ℕ} →
-    lines ≡ script → All IsInside script → AreGood script → i < length lines →
-    Sofar lines (drop i lines) number old now before middle → Serves (get_or lines i UnitLine) number now new middle after → Sofar lines (drop (i + 1) lines) number old new before after
-sofar_turn {lines} {script} {i} {number} {old} {now} {new} {before} {middle} {after} e inside good there sofar served =
-    let line : Line = get_or lines i UnitLine in
-    let same : length lines ≡ length script = ap (λ (ls : List Line). length ls) e in
-    let small : i < length script = omega arith in
-    let here : IsInside line = subst (λ (ls : List Line). IsInside (get_or ls i UnitLine)) (sym e) (inside i UnitLine small) in
-    let apart : AreApart (drop i lines) = apart_drop lines i (subst AreApart (sym e) good.apart) in
-    let first : drop i lines ≡ line ∷ drop (i + 1) lines = drop_first lines i UnitLine there in
-    sofar_more lines line (drop (i + 1) lines) number old now new before middle after here
-    (differ (line ∷ drop (i + 1) lines) (subst AreApart first apart))
-    (subst (λ (rest : List Line). Sofar lines rest number old now before middle) first sofar) served
+  pub same_drives : machine.drives_in start ≡ drives_of lines
+  same_drives = λ i. λ u. (start_drives u ∙ sym (good_drives lines u some good)) i
 
--- AFTER THE DRAIN. The drives that good lines declare.
-no_drive : (lines : List Line) (unit : ℕ) → AreRequests lines → drives_of lines unit ≡ None
-no_drive [] unit r = refl
-no_drive (UnitLine ∷ lines) unit r = absurd r.0
-no_drive (Read id block ∷ lines) unit r = no_drive lines unit r.1
-no_drive (Write id block fill ∷ lines) unit r = no_drive lines unit r.1
+  pub told_legal : IsTrue tells → (final : Blocks) × Legal (contents held) (map seen lines) end.groups end.answers final × HoldsMap (machine.drives_in start) final held (packs_after_all start held all)
+  told_legal t =
+      legal_script sound_after setups 129 0 held end.segments end.drain (map seen lines) end.groups end.answers end.are end.drained start_sound end.does.run (end.does.reads t) none_goes_on
 
-pub record IsDrive (unit : ℕ) (kind : DriveKind) : Type 0 where
-  pub zero_is : unit ≡ 0
-  pub rp06 : kind ≡ Rp06
+  unfoldable pub plays_all : IsTrue tells → IsTrue out_tells → Plays (map seen lines) (drives_of lines) held held_after before after
+  plays_all t o =
+      let legal = told_legal t in record {
+        groups = end.groups;
+        drain = end.answers;
+        final = legal.0;
+        legal = legal.1;
+        text = end.text o;
+        packs = subst (λ (drives : ℕ → Option DriveKind). HoldsMap drives legal.0 held held_after) same_drives
+            (subst (λ (packs : ℕ → Pack). HoldsMap (machine.drives_in start) legal.0 held packs) (sym (end.does.packs t)) legal.2);
+      }
 
-one_drive : (lines : List Line) (unit : ℕ) (kind : DriveKind) → AreGood lines → drives_of lines unit ≡ Some kind → IsDrive unit kind
-one_drive [] unit kind good e = absurd (none-some kind e)
-one_drive (UnitLine ∷ lines) unit kind good e = by_test (unit == 0) refl e
-  where
-    by_test : (b : Bool) → (unit == 0) ≡ b → (if b then Some Rp06 else drives_of lines unit) ≡ Some kind → IsDrive unit kind
-    by_test true t e = record { zero_is = grind (arith, nat_tests); rp06 = sym (same_Some Rp06 kind e) }
-    by_test false t e = absurd (none-some kind (sym (no_drive lines unit good.order.1) ∙ e))
-one_drive (Read id block ∷ lines) unit kind good e = absurd (read_unit id block good.order.0)
-  where
-    read_unit : (id block : ℕ) → Read id block ≡ UnitLine → ⊥
-    read_unit id block e = cc
-one_drive (Write id block fill ∷ lines) unit kind good e = absurd (write_unit id block fill good.order.0)
-  where
-    write_unit : (id block fill : ℕ) → Write id block fill ≡ UnitLine → ⊥
-    write_unit id block fill e = cc
+-- THE LOOP over the lines of a script, and the drain behind it.
+pub so_far_turn : (lines : List Line) {i number : ℕ} {w new : World} {told tells out_told out_tells : Bool} {held mid held_after : ℕ → Pack} {before between after : List ℕ} (d : Line)
+    → i < length lines → number ≡ i + 1 → (IsTrue tells → IsTrue told) → (IsTrue out_tells → IsTrue out_told)
+    → SoFar (take i lines) w told held mid out_told before between → PlaysLine number (seen (get_or lines i d)) w new tells mid held_after out_tells between after
+    → SoFar (take (i + 1) lines) new tells held held_after out_tells before after
+so_far_turn lines {i} {number} {w} {new} {told} {tells} {out_told} {out_tells} {held} {mid} {held_after} {before} {between} {after} d lt is still still_out so one =
+    let here : number ≡ length (take i lines) + 1 = omega (arith, is, length-take-le i lines (omega arith)) in
+    subst (λ (ls : List Line). SoFar ls new tells held held_after out_tells before after) (sym (take_more lines i d lt))
+    (so_far_more (get_or lines i d) still still_out here so one)
 
-undeclared : (lines : List Line) (unit : ℕ) → 0 < length lines → AreGood lines → drives_of lines unit ≡ None → unit ≢ 0
-undeclared [] unit some good e = absurd (omega (arith, some))
-undeclared (UnitLine ∷ lines) unit some good e = λ zero_is. none-some Rp06 (sym e ∙ ap (λ (b : Bool). if b then Some Rp06 else drives_of lines unit) (is_zero zero_is))
-  where
-    is_zero : unit ≡ 0 → (unit == 0) ≡ true
-    is_zero e = grind (arith, nat_tests)
-undeclared (Read id block ∷ lines) unit some good e = absurd (read_unit id block good.order.0)
-  where
-    read_unit : (id block : ℕ) → Read id block ≡ UnitLine → ⊥
-    read_unit id block e = cc
-undeclared (Write id block fill ∷ lines) unit some good e = absurd (write_unit id block fill good.order.0)
-  where
-    write_unit : (id block fill : ℕ) → Write id block fill ≡ UnitLine → ⊥
-    write_unit id block fill e = cc
-
--- the packs hold the map
-still_unmarked : (old now : ℕ → Pack) → ((unit : ℕ) → (now unit).marks ≡ (old unit).marks) → IsUnmarked old → IsUnmarked now
-still_unmarked old now same none unit block = ap (λ (marks : List ℕ). is_marked (record { image = []; marks = marks }) block) (same unit) ∙ none unit block
-
-no_home_above : (old : ℕ → Pack) (unit sector : ℕ) → IsUnmarked old → IsNoHome (old unit) Rp06 sector → 340522 ≤ sector
-no_home_above old unit sector none spare = by_order (order sector)
-  where
-    order : (n : ℕ) → (n < 340522) ⊎ (340522 ≤ n)
-    order n = grind arith
-
-    by_order : (sector < 340522) ⊎ (340522 ≤ sector) → 340522 ≤ sector
-    by_order (inl low) = absurd (spare sector low (ap (λ (m : Bool). if m then None else Some sector) (none unit sector)))
-    by_order (inr high) = high
-
-holds : (script lines : List Line) (old now : ℕ → Pack) (number : ℕ) (before after : List ℕ) → 0 < length script → AreGood script → IsUnmarked old → Sofar lines [] number old now before after →
-    HoldsMap (drives_of script) (plain now) old now
-holds script lines old now number before after some good none s = record {
-  data_blocks = λ unit block kind drive low. ap (λ (c : Blocks). c unit block) (contents-plain now (still_unmarked old now s.marks none));
-  spare = λ unit sector kind drive no_home.
-      let it : IsDrive unit kind = one_drive script unit kind good drive in
-      let above : 340522 ≤ sector = no_home_above old unit sector none (subst (λ (k : DriveKind). IsNoHome (old unit) k sector) it.rp06 no_home) in
-      subst (λ (u : ℕ). block_at (now u).image sector ≡ block_at (old u).image sector) (sym it.zero_is) (s.spare sector above);
-  marks = s.marks;
-  units = λ unit undrive. s.units unit (undeclared script unit some good undrive);
-}
-
-nothing_left : {X : Type 0} (xs : List X) (i : ℕ) → length xs ≤ i → drop i xs ≡ []
-nothing_left xs i h = grind (arith, common_steps)
-
-sofar_all : (lines : List Line) (old now : ℕ → Pack) (before after : List ℕ) → 0 < length lines → AreGood lines → IsUnmarked old → Sofar lines [] (length lines + 1) old now before after →
-    Plays (map seen lines) (drives_of lines) old now before after
-sofar_all lines old now before after some good none s = record {
-  groups = none_before lines;
-  drain = s.answers;
-  final = plain now;
-  legal = record {
-    mid = waiting (plain old) (requests lines);
-    played = subst (λ (start : Blocks). Played (idle start) (map seen lines) (none_before lines) (waiting (plain old) (requests lines))) (sym (contents-plain old none))
-        (subst (λ (n : ℕ). Played (idle (plain old)) (map seen lines) (none_before lines) (record { blocks = plain old; outstanding = over none_outstanding (requests lines); frames = n })) (omega arith)
-        (all_join lines (plain old) none_outstanding 0 (differ lines good.apart)));
-    drained = s.steps;
-  };
-  text = s.text
-      ∙ ap (λ (n : ℕ). before ++ flat_map (answer_text (n + 1)) s.answers) (sym (length-map lines seen))
-      ∙ ap (λ (xs : List ℕ). before ++ (xs ++ flat_map (answer_text (length (map seen lines) + 1)) s.answers)) (sym (none_before_text lines 1));
-  packs = holds lines lines old now (length lines + 1) before after some good none s;
-}
-
--- the end of the drain
-pub sofar_end : {lines script : List Line} {i : ℕ} {old now : ℕ → Pack} {before after : List ℕ} →
-    lines ≡ script → 0 < length script → AreGood script → length lines ≤ i → IsUnmarked old → Sofar lines (drop i lines) (length lines + 1) old now before after → Plays (map seen script) (drives_of script) old now before after
-sofar_end {lines} {script} {i} {old} {now} {before} {after} e some good past none sofar =
-    let here : Sofar lines [] (length lines + 1) old now before after = subst (λ (rest : List Line). Sofar lines rest (length lines + 1) old now before after) (nothing_left lines i past) sofar in
-    sofar_all script old now before after some good none (subst (λ (ls : List Line). Sofar ls [] (length ls + 1) old now before after) e here)
+pub so_far_end : {lines script : List Line} {i number : ℕ} {w new : World} {told tells out_told out_tells : Bool} {held mid held_after : ℕ → Pack} {before between after : List ℕ}
+    → lines ≡ script → length lines ≤ i → number ≡ length lines + 1 → (IsTrue tells → IsTrue told) → (IsTrue out_tells → IsTrue out_told)
+    → SoFar (take i lines) w told held mid out_told before between → PlaysLine number Silent w new tells mid held_after out_tells between after → NoneOutstanding new
+    → Ended script new tells held held_after out_tells before after
+so_far_end {lines} {script} {i} {number} {w} {new} {told} {tells} {out_told} {out_tells} {held} {mid} {held_after} {before} {between} {after} same past is still still_out so last none =
+    let whole : take i lines ≡ script = take_all i lines past ∙ same in
+    let here : number ≡ length script + 1 = is ∙ ap (λ (ls : List Line). length ls + 1) same in
+    ended still still_out here (subst (λ (ls : List Line). SoFar ls w told held mid out_told before between) whole so) last none

@@ -1,23 +1,27 @@
 -- The reader gives what the grammar says, and nothing else does.
-use Rattle.std.proofs.Common.{◌≡◌, ◌⊎◌, inl, inr, ℕ, ◌+◌, ◌<◌, ◌≤◌, Bool, true, false, List, [], ◌∷◌, ◌++◌, length, refl, sym, ap, subst, ◌∙◌, arith, Option, None, Some, Result, Ok, Err, append_assoc, append-nil}
-use Rattle.std.specs.Prelude.{if◌then◌else◌, ◌||◌, nat_le, codes}
+use Rattle.std.proofs.Common.{◌≡◌, ◌⊎◌, inl, inr, ℕ, ◌+◌, ◌<◌, ◌≤◌, Bool, true, false, List, [], ◌∷◌, ◌++◌, length, refl, sym, ap, subst, ◌∙◌, arith, Option, None, Some, Result, Ok, Err, append_assoc, append-nil, All}
+use Rattle.std.specs.Prelude.{if◌then◌else◌, ◌||◌, ◌==◌, nat_le, codes, IsSome}
 use Rattle.std.specs.Str.{bytes_eq}
+use Rattle.std.specs.List.{list_any, cons_option}
+use Rattle.std.specs.Option.{option_to_list}
 use Rattle.std.proofs.lemmas.Slice.Eq.{bytes_eq-Decides}
 use Rattle.std.proofs.lemmas.Grind.{common_steps}
-use Rattle.std.proofs.lemmas.Option.{none-some}
+use Rattle.std.proofs.lemmas.Option.{none-some, same_Some}
 use Rattle.std.proofs.lemmas.Bool.Decides.{nat_tests}
 use Rattle.std.proofs.lemmas.List.Folds.{list_any-append}
-use Rattle.event_player.specs.Lines.{lines_of, fields_of}
-use Rattle.event_player.specs.Grammar.{HasForm, HaveForms, IsRequest, AreRequests, MayFollow, AreInOrder, AreApart, AreGood, same_id, is_used, IsFaulty, FirstFault, Spells, IsRefused}
-use Rattle.event_player.specs.Reading.{request_of, fresh, judged, on, reading, script_of, Refusal, Finds}
+use Rattle.std.proofs.lemmas.List.Elements.{filter_map-append, All-nil, All-cons}
+use Rattle.event_player.specs.Lines.{lines_of}
+use Rattle.event_player.specs.Grammar.{HasForm, HaveForms, IsLater, AreLater, MayFollow, AreInOrder, IsRequest, AreApart, AreGood, id_of, ids_of, has_id, same_id, is_used, IsFaulty, FirstFault, Spells, IsRefused}
+use Rattle.event_player.specs.Playing.{IsInside}
+use Rattle.event_player.specs.Reading.{later_of, id_fault, unless, fresh, judged, on, reading, script_of, Refusal, Finds}
 use Rattle.event_player.specs.Refusals.{Refuses}
 use Rattle.event_player.specs.declared.script.ReadFault.{ReadFault}
 use Rattle.event_player.specs.declared.script.ReadFault.TheVariants.{Memory, Refused}
 use Rattle.event_player.specs.declared.script.ScriptKind.{ScriptKind}
 use Rattle.event_player.specs.declared.script.ScriptKind.TheVariants.{Word, TooMany, IdTwice, ScriptLong}
 use Rattle.event_player.specs.declared.script.Line.{Line}
-use Rattle.event_player.specs.declared.script.Line.TheVariants.{Unit as UnitLine, Read, Write}
-use Rattle.event_player.proofs.FormLaws.{form_in, form_out, request_form, form_request}
+use Rattle.event_player.specs.declared.script.Line.TheVariants.{Unit as UnitLine, Read, Write, Arrive, Move, Attend, Drain}
+use Rattle.event_player.proofs.FormLaws.{later_form, form_later, form_inside}
 
 -- results
 same_Ok : {A E : Type 0} (x y : A) → ◌≡◌ {A = Result A E} (Ok x) (Ok y) → x ≡ y
@@ -29,119 +33,232 @@ same_Err x y e = cc
 ok-err : {A E : Type 0} (x : A) (y : E) → ◌≡◌ {A = Result A E} (Ok x) (Err y) → ⊥
 ok-err x y e = cc
 
+false_true : false ≡ true → ⊥
+false_true e = cc
+
+-- IDS. The ids of lines, and whether one of them stands among others.
+pub ids_more : (before : List Line) (line : Line) → ids_of (before ++ line ∷ []) ≡ ids_of before ++ option_to_list (id_of line)
+ids_more before line = filter_map-append id_of before (line ∷ []) ∙ ap (λ (ids : List ℕ). ids_of before ++ ids) (alone (id_of line))
+  where
+    alone : (o : Option ℕ) → cons_option o [] ≡ option_to_list o
+    alone None = refl
+    alone (Some id) = refl
+
+abbrev pub used : List ℕ → Option ℕ → Bool
+used ids None = false
+used ids (Some id) = list_any (λ other. other == id) ids
+
+eq-comm : (a b : ℕ) → (a == b) ≡ (b == a)
+eq-comm a b = grind (arith, nat_tests)
+
+among : (lines : List Line) (id : ℕ) → list_any (has_id id) lines ≡ list_any (λ other. other == id) (ids_of lines)
+among [] id = refl
+among (Read other block count ∷ lines) id = ap (λ (b : Bool). b || list_any (has_id id) lines) (eq-comm id other) ∙ ap (λ (b : Bool). (other == id) || b) (among lines id)
+among (Write other block count fill ∷ lines) id = ap (λ (b : Bool). b || list_any (has_id id) lines) (eq-comm id other) ∙ ap (λ (b : Bool). (other == id) || b) (among lines id)
+among (UnitLine ∷ lines) id = among lines id
+among (Arrive ∷ lines) id = among lines id
+among (Move ∷ lines) id = among lines id
+among (Attend ∷ lines) id = among lines id
+among (Drain ∷ lines) id = among lines id
+
+never : (lines : List Line) → list_any (λ other. false) lines ≡ false
+never [] = refl
+never (line ∷ lines) = never lines
+
+pub used_is : (lines : List Line) (line : Line) → is_used lines line ≡ used (ids_of lines) (id_of line)
+used_is lines (Read id block count) = among lines id
+used_is lines (Write id block count fill) = among lines id
+used_is lines UnitLine = never lines
+used_is lines Arrive = never lines
+used_is lines Move = never lines
+used_is lines Attend = never lines
+used_is lines Drain = never lines
+
+request_id : (line : Line) → IsRequest line → IsSome (id_of line)
+request_id (Read id block count) r = refl
+request_id (Write id block count fill) r = refl
+request_id UnitLine r = absurd r
+request_id Arrive r = absurd r
+request_id Move r = absurd r
+request_id Attend r = absurd r
+request_id Drain r = absurd r
+
+id_request : (line : Line) → IsSome (id_of line) → IsRequest line
+id_request (Read id block count) r = tt
+id_request (Write id block count fill) r = tt
+id_request UnitLine r = absurd (cc)
+id_request Arrive r = absurd (cc)
+id_request Move r = absurd (cc)
+id_request Attend r = absurd (cc)
+id_request Drain r = absurd (cc)
+
+-- there is room for an id
+abbrev pub HasRoom : List ℕ → Option ℕ → Type 0
+HasRoom ids None = Unit {0}
+HasRoom ids (Some id) = length ids < 129
+
+abbrev IsIdFault : List ℕ → Option ℕ → ScriptKind → Type 0
+IsIdFault ids o TooMany = IsSome o × (129 ≤ length ids)
+IsIdFault ids o IdTwice = (length ids < 129) × (used ids o ≡ true)
+IsIdFault ids o Word = ⊥
+IsIdFault ids o ScriptLong = ⊥
+
+-- what is said of an id, by the two tests
+abbrev tested : Bool → Bool → Option ScriptKind
+tested full twice = if full then Some TooMany else (if twice then Some IdTwice else None)
+
+id_ok : (ids : List ℕ) (o : Option ℕ) → id_fault ids o ≡ None → HasRoom ids o × (used ids o ≡ false)
+id_ok ids None e = (tt, refl)
+id_ok ids (Some id) e = at (nat_le 129 (length ids)) (list_any (λ other. other == id) ids) refl refl e
+  where
+    at : (full twice : Bool) → nat_le 129 (length ids) ≡ full → list_any (λ other. other == id) ids ≡ twice → tested full twice ≡ None → (length ids < 129) × (list_any (λ other. other == id) ids ≡ false)
+    at true twice f t e = absurd (cc)
+    at false true f t e = absurd (cc)
+    at false false f t e = (grind (arith, nat_tests), t)
+
+id_err : (ids : List ℕ) (o : Option ℕ) (kind : ScriptKind) → id_fault ids o ≡ Some kind → IsIdFault ids o kind
+id_err ids None kind e = absurd (cc)
+id_err ids (Some id) kind e = at (nat_le 129 (length ids)) (list_any (λ other. other == id) ids) refl refl e
+  where
+    at : (full twice : Bool) → nat_le 129 (length ids) ≡ full → list_any (λ other. other == id) ids ≡ twice → tested full twice ≡ Some kind → IsIdFault ids (Some id) kind
+    at true twice f t e = subst (λ (k : ScriptKind). IsIdFault ids (Some id) k) (same_Some TooMany kind e) (refl, grind (arith, nat_tests))
+    at false true f t e = subst (λ (k : ScriptKind). IsIdFault ids (Some id) k) (same_Some IdTwice kind e) (grind (arith, nat_tests), t)
+    at false false f t e = absurd (cc)
+
+with_room : (ids : List ℕ) (id : ℕ) → length ids < 129 → id_fault ids (Some id) ≡ tested false (list_any (λ other. other == id) ids)
+with_room ids id room = let t : nat_le 129 (length ids) ≡ false = grind (arith, nat_tests) in ap (λ (b : Bool). tested b (list_any (λ other. other == id) ids)) t
+
+ok_id : (ids : List ℕ) (o : Option ℕ) → HasRoom ids o → used ids o ≡ false → id_fault ids o ≡ None
+ok_id ids None room new = refl
+ok_id ids (Some id) room new = with_room ids id room ∙ ap (tested false) new
+
+err_id : (ids : List ℕ) (o : Option ℕ) (kind : ScriptKind) → IsIdFault ids o kind → id_fault ids o ≡ Some kind
+err_id ids None TooMany f = absurd (let e : false ≡ true = f.0 in cc)
+err_id ids (Some id) TooMany f =
+    let much : 129 ≤ length ids = f.1 in let t : nat_le 129 (length ids) ≡ true = grind (arith, nat_tests) in ap (λ (b : Bool). tested b (list_any (λ other. other == id) ids)) t
+err_id ids None IdTwice f = absurd (let e : false ≡ true = f.1 in cc)
+err_id ids (Some id) IdTwice f = with_room ids id f.0 ∙ ap (tested false) f.1
+err_id ids o Word f = absurd f
+err_id ids o ScriptLong f = absurd f
+
 -- ONE LINE. What a line that is judged good says.
 pub record IsNext (before : List Line) (text : List ℕ) (line : Line) : Type 0 where
   pub follows : MayFollow before line
   pub form : HasForm text line
-  pub room : length before < 130
+  pub room : HasRoom (ids_of before) (id_of line)
   pub unused : is_used before line ≡ false
 
-fresh_ok : (first : Line) (before : List Line) (text : List ℕ) (o : Option Line) (line : Line) → request_of (fields_of text) ≡ o → fresh (first ∷ before) o ≡ Ok line → IsNext (first ∷ before) text line
+fresh_ok : (first : Line) (before : List Line) (text : List ℕ) (o : Option Line) (line : Line) → later_of text ≡ o → fresh (ids_of (first ∷ before)) o ≡ Ok line → IsNext (first ∷ before) text line
 fresh_ok first before text None line o e = absurd (ok-err _ _ (sym e))
-fresh_ok first before text (Some l) line o e = by_room (nat_le 130 (length (first ∷ before))) refl e
+fresh_ok first before text (Some l) line o e = at (id_fault (ids_of (first ∷ before)) (id_of l)) refl e
   where
-    by_use : (b : Bool) → is_used (first ∷ before) l ≡ b → length (first ∷ before) < 130 → (if b then Err IdTwice else Ok l) ≡ Ok line → IsNext (first ∷ before) text line
-    by_use true u room e = absurd (ok-err _ _ (sym e))
-    by_use false u room e =
-        let form = form_in text l (request_form (fields_of text) l o) in
-        subst (λ (x : Line). IsNext (first ∷ before) text x) (same_Ok l line e) (record { follows = form.0; form = form.1; room = room; unused = u })
-
-    by_room : (b : Bool) → nat_le 130 (length (first ∷ before)) ≡ b → (if b then Err TooMany else (if is_used (first ∷ before) l then Err IdTwice else Ok l)) ≡ Ok line → IsNext (first ∷ before) text line
-    by_room true r e = absurd (ok-err _ _ (sym e))
-    by_room false r e = by_use (is_used (first ∷ before) l) refl (grind (arith, nat_tests)) e
+    at : (fault : Option ScriptKind) → id_fault (ids_of (first ∷ before)) (id_of l) ≡ fault → unless fault l ≡ Ok line → IsNext (first ∷ before) text line
+    at None f e =
+        let form = later_form text l o in
+        let good = id_ok (ids_of (first ∷ before)) (id_of l) f in
+        subst (λ (x : Line). IsNext (first ∷ before) text x) (same_Ok l line e) (record { follows = form.0; form = form.1; room = good.0; unused = used_is (first ∷ before) l ∙ good.1 })
+    at (Some kind) f e = absurd (ok-err _ _ (sym e))
 
 first_ok : (text : List ℕ) (line : Line) (b : Bool) → bytes_eq text (codes "unit 0 rp06") ≡ b → (if b then Ok UnitLine else Err Word) ≡ Ok line → IsNext [] text line
 first_ok text line true t e =
-    subst (λ (x : Line). IsNext [] text x) (same_Ok UnitLine line e) (record { follows = refl; form = (bytes_eq-Decides text (codes "unit 0 rp06")).0 t; room = omega arith; unused = refl })
+    subst (λ (x : Line). IsNext [] text x) (same_Ok UnitLine line e) (record { follows = refl; form = (bytes_eq-Decides text (codes "unit 0 rp06")).0 t; room = tt; unused = refl })
 first_ok text line false t e = absurd (ok-err _ _ (sym e))
 
 judged_ok : (before : List Line) (text : List ℕ) (line : Line) → judged before text ≡ Ok line → IsNext before text line
 judged_ok [] text line e = first_ok text line (bytes_eq text (codes "unit 0 rp06")) refl e
-judged_ok (first ∷ before) text line e = fresh_ok first before text (request_of (fields_of text)) line refl e
+judged_ok (first ∷ before) text line e = fresh_ok first before text (later_of text) line refl e
 
 -- a line that may stand there is judged good
-fresh_room : (before : List Line) (line : Line) → length before < 130 → fresh before (Some line) ≡ (if is_used before line then Err IdTwice else Ok line)
-fresh_room before line room = grind (arith, nat_tests)
-
 next_judged : (before : List Line) (text : List ℕ) (line : Line) → IsNext before text line → judged before text ≡ Ok line
 next_judged [] text line n =
     let form : HasForm text UnitLine = subst (λ (x : Line). HasForm text x) n.follows n.form in
     ap (λ (b : Bool). if b then Ok UnitLine else Err Word) ((bytes_eq-Decides text (codes "unit 0 rp06")).1 form) ∙ ap (λ (x : Line). Ok x) (sym n.follows)
 next_judged (first ∷ before) text line n =
-    ap (fresh (first ∷ before)) (form_request (fields_of text) line (form_out text line n.follows n.form))
-    ∙ fresh_room (first ∷ before) line n.room ∙ ap (λ (b : Bool). if b then Err IdTwice else Ok line) n.unused
+    ap (fresh (ids_of (first ∷ before))) (form_later text line n.follows n.form)
+    ∙ ap (λ (fault : Option ScriptKind). unless fault line) (ok_id (ids_of (first ∷ before)) (id_of line) n.room (sym (used_is (first ∷ before) line) ∙ n.unused))
 
 -- the fault of a line that is judged faulty
-fresh_err : (first : Line) (before : List Line) (text : List ℕ) (o : Option Line) (kind : ScriptKind) → request_of (fields_of text) ≡ o → fresh (first ∷ before) o ≡ Err kind → IsFaulty (first ∷ before) text kind
-fresh_err first before text None kind o e =
-    subst (λ (k : ScriptKind). IsFaulty (first ∷ before) text k) (same_Err Word kind e)
-    (λ line follows form. none-some line (sym o ∙ form_request (fields_of text) line (form_out text line follows form)))
-fresh_err first before text (Some l) kind o e = by_room (nat_le 130 (length (first ∷ before))) refl e
-  where
-    by_use : (b : Bool) → is_used (first ∷ before) l ≡ b → length (first ∷ before) < 130 → (if b then Err IdTwice else Ok l) ≡ Err kind → IsFaulty (first ∷ before) text kind
-    by_use true u room e =
-        let form = form_in text l (request_form (fields_of text) l o) in
-        subst (λ (k : ScriptKind). IsFaulty (first ∷ before) text k) (same_Err IdTwice kind e) (l, form.0, form.1, room, u)
-    by_use false u room e = absurd (ok-err _ _ e)
+fault_is : (first : Line) (before : List Line) (text : List ℕ) (line : Line) (kind : ScriptKind) → IsLater line → HasForm text line → IsIdFault (ids_of (first ∷ before)) (id_of line) kind → IsFaulty (first ∷ before) text kind
+fault_is first before text line TooMany later form f = (line, later, form, id_request line f.0, f.1)
+fault_is first before text line IdTwice later form f = (line, later, form, f.0, used_is (first ∷ before) line ∙ f.1)
+fault_is first before text line Word later form f = absurd f
+fault_is first before text line ScriptLong later form f = absurd f
 
-    by_room : (b : Bool) → nat_le 130 (length (first ∷ before)) ≡ b → (if b then Err TooMany else (if is_used (first ∷ before) l then Err IdTwice else Ok l)) ≡ Err kind → IsFaulty (first ∷ before) text kind
-    by_room true r e =
-        let form = form_in text l (request_form (fields_of text) l o) in
-        let much : 130 ≤ length (first ∷ before) = grind (arith, nat_tests) in
-        subst (λ (k : ScriptKind). IsFaulty (first ∷ before) text k) (same_Err TooMany kind e) (l, form.0, form.1, much)
-    by_room false r e = by_use (is_used (first ∷ before) l) refl (grind (arith, nat_tests)) e
+fresh_err : (first : Line) (before : List Line) (text : List ℕ) (o : Option Line) (kind : ScriptKind) → later_of text ≡ o → fresh (ids_of (first ∷ before)) o ≡ Err kind → IsFaulty (first ∷ before) text kind
+fresh_err first before text None kind o e =
+    subst (λ (k : ScriptKind). IsFaulty (first ∷ before) text k) (same_Err Word kind e) (λ line follows form. none-some line (sym o ∙ form_later text line follows form))
+fresh_err first before text (Some l) kind o e = at (id_fault (ids_of (first ∷ before)) (id_of l)) refl e
+  where
+    at : (fault : Option ScriptKind) → id_fault (ids_of (first ∷ before)) (id_of l) ≡ fault → unless fault l ≡ Err kind → IsFaulty (first ∷ before) text kind
+    at None f e = absurd (ok-err _ _ e)
+    at (Some k) f e =
+        let form = later_form text l o in
+        subst (λ (k : ScriptKind). IsFaulty (first ∷ before) text k) (same_Err k kind e) (fault_is first before text l k form.0 form.1 (id_err (ids_of (first ∷ before)) (id_of l) k f))
 
 first_err : (text : List ℕ) (kind : ScriptKind) (b : Bool) → bytes_eq text (codes "unit 0 rp06") ≡ b → (if b then Ok UnitLine else Err Word) ≡ Err kind → IsFaulty [] text kind
 first_err text kind true t e = absurd (ok-err _ _ e)
 first_err text kind false t e =
     subst (λ (k : ScriptKind). IsFaulty [] text k) (same_Err Word kind e)
     (λ line follows form. false_true (sym t ∙ (bytes_eq-Decides text (codes "unit 0 rp06")).1 (subst (λ (x : Line). HasForm text x) follows form)))
-  where
-    false_true : false ≡ true → ⊥
-    false_true e = cc
 
 judged_err : (before : List Line) (text : List ℕ) (kind : ScriptKind) → judged before text ≡ Err kind → IsFaulty before text kind
 judged_err [] text kind e = first_err text kind (bytes_eq text (codes "unit 0 rp06")) refl e
-judged_err (first ∷ before) text kind e = fresh_err first before text (request_of (fields_of text)) kind refl e
+judged_err (first ∷ before) text kind e = fresh_err first before text (later_of text) kind refl e
 
 -- a faulty line is judged so
 no_first : (text : List ℕ) (b : Bool) → bytes_eq text (codes "unit 0 rp06") ≡ b → ¬ (b ≡ true) → (if b then Ok UnitLine else Err Word) ≡ Err Word
 no_first text true t no_one = absurd (no_one refl)
 no_first text false t no_one = refl
 
-no_request : (before : List Line) (text : List ℕ) (o : Option Line) → request_of (fields_of text) ≡ o → ((line : Line) → IsRequest line → ¬ HasForm text line) → fresh before o ≡ Err Word
-no_request before text None o none = refl
-no_request before text (Some line) o none = let form = form_in text line (request_form (fields_of text) line o) in absurd (none line form.0 form.1)
+no_later : (ids : List ℕ) (text : List ℕ) (o : Option Line) → later_of text ≡ o → ((line : Line) → IsLater line → ¬ HasForm text line) → fresh ids o ≡ Err Word
+no_later ids text None o none = refl
+no_later ids text (Some line) o none = let form = later_form text line o in absurd (none line form.0 form.1)
 
-fresh_full : (before : List Line) (line : Line) → 130 ≤ length before → fresh before (Some line) ≡ Err TooMany
-fresh_full before line full = grind (arith, nat_tests)
+id_judged : (first : Line) (before : List Line) (text : List ℕ) (line : Line) (kind : ScriptKind) → IsLater line → HasForm text line → IsIdFault (ids_of (first ∷ before)) (id_of line) kind → judged (first ∷ before) text ≡ Err kind
+id_judged first before text line kind later form f =
+    ap (fresh (ids_of (first ∷ before))) (form_later text line later form)
+    ∙ ap (λ (fault : Option ScriptKind). unless fault line) (err_id (ids_of (first ∷ before)) (id_of line) kind f)
 
 faulty_judged : (before : List Line) (text : List ℕ) (kind : ScriptKind) → IsFaulty before text kind → judged before text ≡ Err kind
 faulty_judged [] text Word f = no_first text (bytes_eq text (codes "unit 0 rp06")) refl (λ t. f UnitLine refl ((bytes_eq-Decides text (codes "unit 0 rp06")).0 t))
-faulty_judged (first ∷ before) text Word f = no_request (first ∷ before) text (request_of (fields_of text)) refl f
-faulty_judged [] text TooMany f = absurd (omega (arith, f.3))
-faulty_judged (first ∷ before) text TooMany f =
-    ap (fresh (first ∷ before)) (form_request (fields_of text) f.0 (form_out text f.0 f.1 f.2)) ∙ fresh_full (first ∷ before) f.0 f.3
+faulty_judged (first ∷ before) text Word f = no_later (ids_of (first ∷ before)) text (later_of text) refl f
+faulty_judged [] text TooMany f = absurd (omega (arith, f.4))
+faulty_judged (first ∷ before) text TooMany f = id_judged first before text f.0 TooMany f.1 f.2 (request_id f.0 f.3, f.4)
 faulty_judged [] text IdTwice f = absurd (false_true f.4)
-  where
-    false_true : false ≡ true → ⊥
-    false_true e = cc
-faulty_judged (first ∷ before) text IdTwice f =
-    ap (fresh (first ∷ before)) (form_request (fields_of text) f.0 (form_out text f.0 f.1 f.2))
-    ∙ fresh_room (first ∷ before) f.0 f.3 ∙ ap (λ (b : Bool). if b then Err IdTwice else Ok f.0) f.4
+faulty_judged (first ∷ before) text IdTwice f = id_judged first before text f.0 IdTwice f.1 f.2 (f.3, sym (used_is (first ∷ before) f.0) ∙ f.4)
 faulty_judged before text ScriptLong f = absurd f
 
 -- GOOD LINES. One more behind them, and one among them.
+abbrev same : Option ℕ → Option ℕ → Bool
+same (Some id) (Some other) = id == other
+same a b = false
+
+has_id_is : (id : ℕ) (line : Line) → has_id id line ≡ same (Some id) (id_of line)
+has_id_is id (Read other block count) = refl
+has_id_is id (Write other block count fill) = refl
+has_id_is id UnitLine = refl
+has_id_is id Arrive = refl
+has_id_is id Move = refl
+has_id_is id Attend = refl
+has_id_is id Drain = refl
+
+same_id_is : (a b : Line) → same_id a b ≡ same (id_of a) (id_of b)
+same_id_is (Read id block count) b = has_id_is id b
+same_id_is (Write id block count fill) b = has_id_is id b
+same_id_is UnitLine b = refl
+same_id_is Arrive b = refl
+same_id_is Move b = refl
+same_id_is Attend b = refl
+same_id_is Drain b = refl
+
+same-comm : (a b : Option ℕ) → same a b ≡ same b a
+same-comm (Some id) (Some other) = eq-comm id other
+same-comm (Some id) None = refl
+same-comm None (Some other) = refl
+same-comm None None = refl
+
 same_id-comm : (a b : Line) → same_id a b ≡ same_id b a
-same_id-comm UnitLine UnitLine = refl
-same_id-comm UnitLine (Read i k) = refl
-same_id-comm UnitLine (Write i k f) = refl
-same_id-comm (Read i k) UnitLine = refl
-same_id-comm (Read i k) (Read j m) = grind (arith, nat_tests)
-same_id-comm (Read i k) (Write j m g) = grind (arith, nat_tests)
-same_id-comm (Write i k f) UnitLine = refl
-same_id-comm (Write i k f) (Read j m) = grind (arith, nat_tests)
-same_id-comm (Write i k f) (Write j m g) = grind (arith, nat_tests)
+same_id-comm a b = same_id_is a b ∙ same-comm (id_of a) (id_of b) ∙ sym (same_id_is b a)
 
 neither : (a b : Bool) → (a || b) ≡ false → (a ≡ false) × (b ≡ false)
 neither true b e = absurd (cc)
@@ -150,13 +267,13 @@ neither false b e = (refl, e)
 neither_of : (a b : Bool) → a ≡ false → b ≡ false → (a || b) ≡ false
 neither_of a b e f = ap (λ (x : Bool). x || b) e ∙ f
 
-requests_more : (before : List Line) (line : Line) → AreRequests before → IsRequest line → AreRequests (before ++ line ∷ [])
-requests_more [] line r n = (n, tt)
-requests_more (b ∷ before) line r n = (r.0, requests_more before line r.1 n)
+later_more : (before : List Line) (line : Line) → AreLater before → IsLater line → AreLater (before ++ line ∷ [])
+later_more [] line l n = (n, tt)
+later_more (b ∷ before) line l n = (l.0, later_more before line l.1 n)
 
 order_more : (before : List Line) (line : Line) → AreInOrder before → MayFollow before line → AreInOrder (before ++ line ∷ [])
 order_more [] line o f = (f, tt)
-order_more (first ∷ before) line o f = (o.0, requests_more before line o.1 f)
+order_more (first ∷ before) line o f = (o.0, later_more before line o.1 f)
 
 apart_more : (before : List Line) (line : Line) → AreApart before → is_used before line ≡ false → AreApart (before ++ line ∷ [])
 apart_more [] line a u = (refl, tt)
@@ -169,36 +286,47 @@ apart_more (b ∷ before) line a u =
 length_more : {A : Type 0} (xs : List A) (x : A) → length (xs ++ x ∷ []) ≡ length xs + 1
 length_more xs x = grind (arith, common_steps)
 
+room_more : (ids : List ℕ) (o : Option ℕ) → length ids ≤ 129 → HasRoom ids o → length (ids ++ option_to_list o) ≤ 129
+room_more ids None few room = grind (arith, common_steps)
+room_more ids (Some id) few room = grind (arith, common_steps)
+
+few_more : (before : List Line) (line : Line) → length (ids_of before) ≤ 129 → HasRoom (ids_of before) (id_of line) → length (ids_of (before ++ line ∷ [])) ≤ 129
+few_more before line few room = subst (λ (ids : List ℕ). length ids ≤ 129) (sym (ids_more before line)) (room_more (ids_of before) (id_of line) few room)
+
 pub good_more : (before : List Line) (text : List ℕ) (line : Line) → AreGood before → IsNext before text line → AreGood (before ++ line ∷ [])
 good_more before text line g n = record {
   order = order_more before line g.order n.follows;
-  few = let l : length (before ++ line ∷ []) ≡ length before + 1 = length_more before line in omega (arith, l, n.room);
+  few = few_more before line g.few n.room;
   apart = apart_more before line g.apart n.unused;
 }
 
-requests_at : (before : List Line) (line : Line) (behind : List Line) → AreRequests (before ++ line ∷ behind) → IsRequest line
-requests_at [] line behind r = r.0
-requests_at (b ∷ before) line behind r = requests_at before line behind r.1
+later_at : (before : List Line) (line : Line) (behind : List Line) → AreLater (before ++ line ∷ behind) → IsLater line
+later_at [] line behind l = l.0
+later_at (b ∷ before) line behind l = later_at before line behind l.1
 
 follows_at : (before : List Line) (line : Line) (behind : List Line) → AreInOrder (before ++ line ∷ behind) → MayFollow before line
 follows_at [] line behind o = o.0
-follows_at (first ∷ before) line behind o = requests_at before line behind o.1
+follows_at (first ∷ before) line behind o = later_at before line behind o.1
 
-unused_at : (before : List Line) (line : Line) (behind : List Line) → AreApart (before ++ line ∷ behind) → is_used before line ≡ false
+pub unused_at : (before : List Line) (line : Line) (behind : List Line) → AreApart (before ++ line ∷ behind) → is_used before line ≡ false
 unused_at [] line behind a = refl
 unused_at (b ∷ before) line behind a =
     let none = neither (is_used before b) (same_id b line || is_used behind b) (sym (list_any-append (same_id b) before (line ∷ behind)) ∙ a.0) in
     let here = neither (same_id b line) (is_used behind b) none.1 in
     neither_of (same_id line b) (is_used before line) (same_id-comm line b ∙ here.0) (unused_at before line behind a.1)
 
-length_at : {A : Type 0} (xs ys : List A) (x : A) (n : ℕ) → length (xs ++ x ∷ ys) ≤ n → length xs < n
-length_at xs ys x n h = grind (arith, common_steps)
+length_at : (xs ys : List ℕ) (o : Option ℕ) → length (xs ++ cons_option o ys) ≤ 129 → HasRoom xs o
+length_at xs ys None h = tt
+length_at xs ys (Some id) h = grind (arith, common_steps)
+
+room_at : (before : List Line) (line : Line) (behind : List Line) → length (ids_of (before ++ line ∷ behind)) ≤ 129 → HasRoom (ids_of before) (id_of line)
+room_at before line behind few = length_at (ids_of before) (ids_of behind) (id_of line) (subst (λ (ids : List ℕ). length ids ≤ 129) (filter_map-append id_of before (line ∷ behind)) few)
 
 next_at : (before : List Line) (text : List ℕ) (line : Line) (behind : List Line) → AreGood (before ++ line ∷ behind) → HasForm text line → IsNext before text line
 next_at before text line behind g form = record {
   follows = follows_at before line behind g.order;
   form = form;
-  room = length_at before behind line 130 g.few;
+  room = room_at before line behind g.few;
   unused = unused_at before line behind g.apart;
 }
 
@@ -400,6 +528,15 @@ read_refused bytes r e = at (cases (length bytes))
     at (inr long) =
         let same : ◌≡◌ {A = Refusal} (record { line = 0; kind = ScriptLong }) r = same_Err _ _ (sym (long_script bytes long) ∙ e) in
         inl (long, ap (λ (x : Refusal). x.line) (sym same), ap (λ (x : Refusal). x.kind) (sym same))
+
+forms_inside : (texts : List (List ℕ)) (lines : List Line) → HaveForms texts lines → All IsInside lines
+forms_inside [] [] forms = All-nil IsInside
+forms_inside [] (line ∷ lines) forms = absurd forms
+forms_inside (text ∷ texts) [] forms = absurd forms
+forms_inside (text ∷ texts) (line ∷ lines) forms = All-cons IsInside line lines (form_inside text line forms.0) (forms_inside texts lines forms.1)
+
+pub spelled_inside : (bytes : List ℕ) (lines : List Line) → Spells bytes lines → All IsInside lines
+spelled_inside bytes lines s = forms_inside (lines_of bytes) lines s.forms
 
 -- The law of the grammar.
 pub one_script : (bytes : List ℕ) (lines others : List Line) → Spells bytes lines → Spells bytes others → lines ≡ others

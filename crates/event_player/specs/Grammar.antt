@@ -1,13 +1,13 @@
 -- The grammar of a script: which lines its bytes spell, or which line is the first faulty one.
-use Rattle.std.specs.Prelude.{◌≡◌, ◌⊎◌, ℕ, ◌+◌, ◌<◌, ◌≤◌, ◌==◌, Bool, true, false, List, [], ◌∷◌, ◌++◌, length, codes, Ok}
-use Rattle.std.specs.List.{list_any}
+use Rattle.std.specs.Prelude.{◌≡◌, ◌⊎◌, ℕ, ◌+◌, ◌<◌, ◌≤◌, ◌==◌, Bool, true, false, List, [], ◌∷◌, ◌++◌, length, codes, Option, None, Some, Ok}
+use Rattle.std.specs.List.{list_any, filter_map}
 use Rattle.mass_text.specs.Numbers.{number_of}
 use Rattle.mass_text.specs.declared.numbers.Radix.TheVariants.{Decimal, Hex}
 use Rattle.event_player.specs.Lines.{lines_of, fields_of}
 use Rattle.event_player.specs.declared.script.ScriptKind.{ScriptKind}
 use Rattle.event_player.specs.declared.script.ScriptKind.TheVariants.{Word, TooMany, IdTwice, ScriptLong}
 use Rattle.event_player.specs.declared.script.Line.{Line}
-use Rattle.event_player.specs.declared.script.Line.TheVariants.{Unit as UnitLine, Read, Write}
+use Rattle.event_player.specs.declared.script.Line.TheVariants.{Unit as UnitLine, Read, Write, Arrive, Move, Attend, Drain}
 
 -- FORMS. A field is a decimal number up to a bound; a field is two hexadecimal digits.
 abbrev pub IsNumber : ℕ → List ℕ → ℕ → Type 0
@@ -17,29 +17,45 @@ pub record IsByte (field : List ℕ) (byte : ℕ) : Type 0 where
   pub two : length field ≡ 2
   pub value : number_of Hex 255 field ≡ Ok byte
 
--- `read ID 0 c BLOCK 1`
-pub record IsRead (fields : List (List ℕ)) (id block : ℕ) : Type 0 where
-  pub id_field : List ℕ
-  pub block_field : List ℕ
-  pub form : fields ≡ codes "read" ∷ id_field ∷ codes "0" ∷ codes "c" ∷ block_field ∷ codes "1" ∷ []
-  pub id_is : IsNumber 4294967295 id_field id
-  pub block_is : IsNumber 340521 block_field block
+-- the blocks of a request: 1 to 127, and all of them data blocks
+pub record IsRange (block count : ℕ) : Type 0 where
+  pub some : 1 ≤ count
+  pub most : count ≤ 127
+  pub inside : block + count ≤ 340522
 
--- `write ID 0 c BLOCK 1 fill HH`
-pub record IsWrite (fields : List (List ℕ)) (id block fill : ℕ) : Type 0 where
+-- `read ID 0 c BLOCK COUNT`
+pub record IsRead (fields : List (List ℕ)) (id block count : ℕ) : Type 0 where
   pub id_field : List ℕ
   pub block_field : List ℕ
-  pub fill_field : List ℕ
-  pub form : fields ≡ codes "write" ∷ id_field ∷ codes "0" ∷ codes "c" ∷ block_field ∷ codes "1" ∷ codes "fill" ∷ fill_field ∷ []
+  pub count_field : List ℕ
+  pub form : fields ≡ codes "read" ∷ id_field ∷ codes "0" ∷ codes "c" ∷ block_field ∷ count_field ∷ []
   pub id_is : IsNumber 4294967295 id_field id
   pub block_is : IsNumber 340521 block_field block
+  pub count_is : IsNumber 127 count_field count
+  pub range : IsRange block count
+
+-- `write ID 0 c BLOCK COUNT fill HH`
+pub record IsWrite (fields : List (List ℕ)) (id block count fill : ℕ) : Type 0 where
+  pub id_field : List ℕ
+  pub block_field : List ℕ
+  pub count_field : List ℕ
+  pub fill_field : List ℕ
+  pub form : fields ≡ codes "write" ∷ id_field ∷ codes "0" ∷ codes "c" ∷ block_field ∷ count_field ∷ codes "fill" ∷ fill_field ∷ []
+  pub id_is : IsNumber 4294967295 id_field id
+  pub block_is : IsNumber 340521 block_field block
+  pub count_is : IsNumber 127 count_field count
+  pub range : IsRange block count
   pub fill_is : IsByte fill_field fill
 
 -- a text has the form of a line
 abbrev pub HasForm : List ℕ → Line → Type 0
 HasForm text UnitLine = text ≡ codes "unit 0 rp06"
-HasForm text (Read id block) = IsRead (fields_of text) id block
-HasForm text (Write id block fill) = IsWrite (fields_of text) id block fill
+HasForm text (Read id block count) = IsRead (fields_of text) id block count
+HasForm text (Write id block count fill) = IsWrite (fields_of text) id block count fill
+HasForm text Arrive = text ≡ codes "arrive 0"
+HasForm text Move = text ≡ codes "move 0"
+HasForm text Attend = text ≡ codes "attend 0"
+HasForm text Drain = text ≡ codes "drain"
 
 -- texts have the forms of lines, one by one
 abbrev pub HaveForms : List (List ℕ) → List Line → Type 0
@@ -48,34 +64,49 @@ HaveForms (text ∷ texts) (line ∷ lines) = HasForm text line × HaveForms tex
 HaveForms [] (line ∷ lines) = ⊥
 HaveForms (text ∷ texts) [] = ⊥
 
--- ORDER. The first line declares the unit, and each other one is a request.
-abbrev pub IsRequest : Line → Type 0
-IsRequest UnitLine = ⊥
-IsRequest (Read id block) = Unit {0}
-IsRequest (Write id block fill) = Unit {0}
+-- ORDER. The first line declares the unit, and no other one does.
+abbrev pub IsLater : Line → Type 0
+IsLater UnitLine = ⊥
+IsLater line = Unit {0}
 
 abbrev pub MayFollow : List Line → Line → Type 0
 MayFollow [] line = line ≡ UnitLine
-MayFollow (first ∷ before) line = IsRequest line
+MayFollow (first ∷ before) line = IsLater line
 
-abbrev pub AreRequests : List Line → Type 0
-AreRequests [] = Unit {0}
-AreRequests (line ∷ lines) = IsRequest line × AreRequests lines
+abbrev pub AreLater : List Line → Type 0
+AreLater [] = Unit {0}
+AreLater (line ∷ lines) = IsLater line × AreLater lines
 
 abbrev pub AreInOrder : List Line → Type 0
 AreInOrder [] = Unit {0}
-AreInOrder (first ∷ lines) = (first ≡ UnitLine) × AreRequests lines
+AreInOrder (first ∷ lines) = (first ≡ UnitLine) × AreLater lines
+
+-- REQUESTS. A line is a read or a write.
+abbrev pub IsRequest : Line → Type 0
+IsRequest (Read id block count) = Unit {0}
+IsRequest (Write id block count fill) = Unit {0}
+IsRequest line = ⊥
+
+-- the id of a line that is a request
+abbrev pub id_of : Line → Option ℕ
+id_of (Read id block count) = Some id
+id_of (Write id block count fill) = Some id
+id_of line = None
+
+-- the ids of the requests among lines, in their order
+abbrev pub ids_of : List Line → List ℕ
+ids_of lines = filter_map id_of lines
 
 -- whether a line is a request with an id, and whether two lines are requests with the same id
 abbrev pub has_id : ℕ → Line → Bool
-has_id id UnitLine = false
-has_id id (Read other block) = id == other
-has_id id (Write other block fill) = id == other
+has_id id (Read other block count) = id == other
+has_id id (Write other block count fill) = id == other
+has_id id line = false
 
 abbrev pub same_id : Line → Line → Bool
-same_id UnitLine other = false
-same_id (Read id block) other = has_id id other
-same_id (Write id block fill) other = has_id id other
+same_id (Read id block count) other = has_id id other
+same_id (Write id block count fill) other = has_id id other
+same_id line other = false
 
 -- a line's id stands among these lines
 abbrev pub is_used : List Line → Line → Bool
@@ -88,7 +119,7 @@ AreApart (line ∷ lines) = (is_used lines line ≡ false) × AreApart lines
 -- lines in order, with at most 129 requests, whose ids differ
 pub record AreGood (lines : List Line) : Type 0 where
   pub order : AreInOrder lines
-  pub few : length lines ≤ 130
+  pub few : length (ids_of lines) ≤ 129
   pub apart : AreApart lines
 
 -- SCRIPTS. Bytes spell these lines.
@@ -102,8 +133,8 @@ pub record Spells (bytes : List ℕ) (lines : List Line) : Type 0 where
 -- stood before.
 abbrev pub IsFaulty : List Line → List ℕ → ScriptKind → Type 0
 IsFaulty before text Word = (line : Line) → MayFollow before line → ¬ HasForm text line
-IsFaulty before text TooMany = (line : Line) × MayFollow before line × HasForm text line × (130 ≤ length before)
-IsFaulty before text IdTwice = (line : Line) × MayFollow before line × HasForm text line × (length before < 130) × (is_used before line ≡ true)
+IsFaulty before text TooMany = (line : Line) × MayFollow before line × HasForm text line × IsRequest line × (129 ≤ length (ids_of before))
+IsFaulty before text IdTwice = (line : Line) × MayFollow before line × HasForm text line × (length (ids_of before) < 129) × (is_used before line ≡ true)
 IsFaulty before text ScriptLong = ⊥
 
 -- the first faulty line, by its number from 1: all before it are good

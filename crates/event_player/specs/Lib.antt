@@ -1,6 +1,10 @@
+pub mod Answering
+pub mod Faults
 pub mod Fields
 pub mod Grammar
 pub mod Lines
 pub mod Playing
 pub mod Reading
 pub mod Refusals
+pub mod Rules
+pub mod Steps

@@ -1,49 +1,38 @@
--- Playing a script: the lines as the subsystem sees them, and what serving one of them does.
-use Rattle.std.specs.Prelude.{◌≡◌, ℕ, ◌<◌, ◌==◌, if◌then◌else◌, List, [], ◌∷◌, ◌++◌, replicate, Option, None, Some}
+-- The lines of a script as the subsystem sees them.
+use Rattle.std.specs.Prelude.{ℕ, ◌==◌, if◌then◌else◌, List, [], ◌∷◌, replicate, Option, None, Some}
 use Rattle.pack_geometry.specs.declared.DriveKind.{DriveKind}
 use Rattle.pack_geometry.specs.declared.DriveKind.TheVariants.{Rp06}
-use Rattle.pack_model.specs.Pack.{Pack, block_at, with_written}
 use Rattle.subsystem_spec.specs.Request.{Request, Line as SeenLine}
-use Rattle.subsystem_spec.specs.Request.Kind.{ReadOk, WriteOk}
 use Rattle.subsystem_spec.specs.Request.Line.{Silent, Submits}
-use Rattle.subsystem_spec.specs.AnswerText.{answer_text}
+use Rattle.event_player.specs.Grammar.{IsRange}
 use Rattle.event_player.specs.declared.script.Line.{Line}
 use Rattle.event_player.specs.declared.script.Line.TheVariants.{Unit as UnitLine, Read, Write}
 
--- a block of one byte repeated
-unfoldable pub filled : ℕ → List ℕ
-filled fill = replicate 512 fill
+-- a byte repeated, by the byte and the size
+unfoldable pub filled : ℕ → ℕ → List ℕ
+filled fill size = replicate size fill
 
--- the requests of lines
-abbrev pub read_request : ℕ → ℕ → Request
-read_request id block = record { id = id; unit = 0; first = block; count = 1; offset = 0; written = None }
+-- the requests of lines: a write gives each of its blocks one byte repeated
+abbrev pub read_request : ℕ → ℕ → ℕ → Request
+read_request id block count = record { id = id; unit = 0; first = block; count = count; offset = 0; written = None }
 
-abbrev pub write_request : ℕ → ℕ → ℕ → Request
-write_request id block fill = record { id = id; unit = 0; first = block; count = 1; offset = 0; written = Some (filled fill) }
+abbrev pub write_request : ℕ → ℕ → ℕ → ℕ → Request
+write_request id block count fill = record { id = id; unit = 0; first = block; count = count; offset = 0; written = Some (replicate count (filled fill 512)) }
 
--- a line as the subsystem sees it
+-- a line as the subsystem sees it: only a request asks for something
 abbrev pub seen : Line → SeenLine
-seen UnitLine = Silent
-seen (Read id block) = Submits (read_request id block)
-seen (Write id block fill) = Submits (write_request id block fill)
+seen (Read id block count) = Submits (read_request id block count)
+seen (Write id block count fill) = Submits (write_request id block count fill)
+seen line = Silent
 
 -- the drives that lines declare
 abbrev pub drives_of : List Line → ℕ → Option DriveKind
 drives_of [] number = None
 drives_of (UnitLine ∷ lines) number = if number == 0 then Some Rp06 else drives_of lines number
-drives_of (Read id block ∷ lines) number = drives_of lines number
-drives_of (Write id block fill ∷ lines) number = drives_of lines number
+drives_of (line ∷ lines) number = drives_of lines number
 
--- a request's block is a data block
+-- a request's blocks are 1 to 127 data blocks
 abbrev pub IsInside : Line → Type 0
-IsInside UnitLine = Unit {0}
-IsInside (Read id block) = block < 340522
-IsInside (Write id block fill) = block < 340522
-
--- what serving a line at a number does: the packs before and after it, and the text that was taken before and after
-abbrev pub Serves : Line → ℕ → (ℕ → Pack) → (ℕ → Pack) → List ℕ → List ℕ → Type 0
-Serves UnitLine number old new before after = (new ≡ old) × (after ≡ before)
-Serves (Read id block) number old new before after =
-    (new ≡ old) × (after ≡ before ++ answer_text number (record { id = id; kind = ReadOk (block_at (old 0).image block ∷ []) }))
-Serves (Write id block fill) number old new before after =
-    (new ≡ with_written old 0 block (filled fill)) × (after ≡ before ++ answer_text number (record { id = id; kind = WriteOk }))
+IsInside (Read id block count) = IsRange block count
+IsInside (Write id block count fill) = IsRange block count
+IsInside line = Unit {0}

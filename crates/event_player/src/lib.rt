@@ -1,8 +1,10 @@
-// Scripts: reading one from its bytes, and playing it over packs.
+// Scripts: reading one from its bytes, playing it, and the text of answers.
 #![tactic(auto)]
 
+mod answers;
 mod fields;
 mod lines;
 pub mod play;
+mod player;
 pub mod script;
 mod text;

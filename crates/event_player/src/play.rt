@@ -1,15 +1,28 @@
-ghost use Rattle.std.specs.Prelude.{◌≡◌, ◌+◌, ◌<◌, ◌≤◌, IsTrue, map, OnOk, IsErrOf};
-ghost use Rattle.pack_model.specs.Content.{IsUnmarked};
-ghost use Rattle.subsystem_spec.specs.Plays.{Plays};
-ghost use Rattle.event_player.specs.Playing.{filled, seen, drives_of, Serves};
+ghost use Rattle.std.specs.Prelude.{◌≡◌, ◌≤◌, IsTrue, map, OnOk, IfOk, IsErrOf, vec_len};
 ghost use Rattle.mass_outside.specs.Causes.{Rose};
+ghost use Rattle.subsystem_spec.specs.Plays.{Plays};
+ghost use Rattle.event_player.specs.Playing.{seen, drives_of};
+ghost use Rattle.event_player.specs.Rules.{PlaysByRules};
 
-use crate::script::{Line, Script};
-use crate::text::{read_text, write_text};
-use mass_outside::traits::{Packs, Sink, SinkFailed, StoreFailed};
-use mass_outside::whole::write_all;
-use std::alloc::Global;
+use crate::player::{drain, play_line};
+use crate::script::Script;
+use hp_driver::{Stop, Subsystem, UnitSetup};
+use mass_outside::traits::{NoMemory, Packs, Sink, SinkFailed};
+use pack_geometry::DriveKind;
+use std::alloc::{AllocError, Global};
 use thiserror::Error;
+
+/// The unit that the first line of every script declares.
+const UNITS: [UnitSetup; 1] = [UnitSetup {
+    unit: 0,
+    kind: DriveKind::Rp06,
+}];
+
+/// The largest number of requests in a script.
+const MOST_REQUESTS: u32 = 129;
+
+/// How many bytes the longest write brings: 127 blocks.
+const MOST_BYTES: usize = 65_024;
 
 /// Why a script was not played to its end.
 #[derive(Clone, Copy, Debug, PartialEq, Eq, Error)]
@@ -20,9 +33,31 @@ pub enum PlayFault {
     /// A call on the packs failed.
     #[error("the packs failed")]
     Store,
-    /// A call of the sink for the answers failed.
+    /// A call of a sink failed.
     #[error("the sink failed")]
     Sink,
+}
+
+impl From<NoMemory> for PlayFault {
+    ghost use Rattle.std.specs.Prelude.{◌≡◌};
+    ghost use Rattle.event_player.specs.declared.play.PlayFault.TheVariants.{Memory};
+
+    ghost from_gives = { λ _ e. e ≡ Memory };
+
+    fn from(_: NoMemory) -> PlayFault {
+        PlayFault::Memory
+    }
+}
+
+impl From<AllocError> for PlayFault {
+    ghost use Rattle.std.specs.Prelude.{◌≡◌};
+    ghost use Rattle.event_player.specs.declared.play.PlayFault.TheVariants.{Memory};
+
+    ghost from_gives = { λ _ e. e ≡ Memory };
+
+    fn from(_: AllocError) -> PlayFault {
+        PlayFault::Memory
+    }
 }
 
 impl From<SinkFailed> for PlayFault {
@@ -36,76 +71,47 @@ impl From<SinkFailed> for PlayFault {
     }
 }
 
-impl From<StoreFailed> for PlayFault {
+impl From<Stop> for PlayFault {
     ghost use Rattle.std.specs.Prelude.{◌≡◌};
-    ghost use Rattle.event_player.specs.declared.play.PlayFault.TheVariants.{Store};
+    ghost use Rattle.event_player.specs.Faults.{from_stop};
 
-    ghost from_gives = { λ _ e. e ≡ Store };
+    ghost from_gives = { λ stop e. e ≡ from_stop stop };
 
-    fn from(_: StoreFailed) -> PlayFault {
-        PlayFault::Store
+    fn from(stop: Stop) -> PlayFault {
+        match stop {
+            Stop::Store => PlayFault::Store,
+            Stop::Sink => PlayFault::Sink,
+        }
     }
 }
 
-/// A block of one byte repeated.
-#[tactic(auto, unfolding(crate::specs::Playing::filled))]
-fn filled(fill: u8) -> [u8; 512]
-    ensures { result ≡ filled fill }
+/// So many bytes.
+fn bytes(alloc: Global, size: usize) -> Result<Vec<u8>, AllocError>
+    ensures { IfOk result (λ bytes. vec_len bytes ≡ size) }
 {
-    [fill; 512]
-}
-
-/// Serves the request of a line: its block is read or written, and its answer goes out whole.
-fn serve<P: Packs, O: Sink>(
-    line: &Line,
-    number: u64,
-    packs: &mut P,
-    out: &mut O,
-) -> Result<(), PlayFault>
-    requires { number < 10000000000 }
-    ensures never_again { IsTrue (P.tells packs.new) → IsTrue (P.tells packs.old) }
-    ensures never_again_out { IsTrue (O.tells out.new) → IsTrue (O.tells out.old) }
-    ensures served { OnOk result (IsTrue (P.tells packs.new) → IsTrue (O.tells out.new) →
-        Serves line.now number (P.held packs.old) (P.held packs.new) (O.taken out.old) (O.taken out.new)) }
-    ensures later { P.faults packs.old ≤ P.faults packs.new }
-    ensures later_out { O.faults out.old ≤ O.faults out.new }
-    ensures store { IsErrOf result PlayFault.Store → Rose (P.faults packs.old) (P.faults packs.new) }
-    ensures sink { IsErrOf result PlayFault.Sink → Rose (O.faults out.old) (O.faults out.new) }
-    ensures memory { IsErrOf result PlayFault.Memory → ⊥ }
-{
-    match line {
-        Line::Unit => Ok(()),
-        Line::Read { id, block } => {
-            let mut bytes = [0u8; 512];
-            packs.read(0, *block, &mut bytes)?;
-            write_all(out, read_text(number, *id, &bytes).as_bytes())?;
-            Ok(())
-        }
-        Line::Write { id, block, fill } => {
-            packs.write(0, *block, &filled(*fill))?;
-            write_all(out, write_text(number, *id).as_bytes())?;
-            Ok(())
-        }
-    }
+    vec![in alloc; 0; size]
 }
 
 /// The counts of a run. It has none yet.
 #[derive(Clone, Copy, Debug, PartialEq, Eq)]
 pub struct Tally;
 
-/// Plays a script: all its requests join, and the drain after the last line serves them in the order of their lines.
+/// Plays a script line by line, and behind its last line a drain, whose number is the number of lines plus one. The
+/// answers of each submission and event go out after it.
 ///
 /// Store and Sink come only where the count of faults of the packs, or of `out`, rose in this call; Memory only
 /// before the first line is played, with packs and `out` as they were. `trace` is not written yet.
 pub fn play<P: Packs, O: Sink, T: Sink>(
-    _alloc: Global,
+    alloc: Global,
     script: &Script,
     packs: &mut P,
     out: &mut O,
-    _trace: &mut T,
+    trace: &mut T,
 ) -> Result<Tally, PlayFault>
-    ensures played { OnOk result (IsTrue (P.tells packs.new) → IsTrue (O.tells out.new) → IsUnmarked (P.held packs.old) →
+    ensures played { OnOk result (IsTrue (P.tells packs.new) → IsTrue (O.tells out.new) →
         Plays (map seen script.now) (drives_of script.now) (P.held packs.old) (P.held packs.new) (O.taken out.old) (O.taken out.new)) }
+    ensures obeys { OnOk result (IsTrue (P.tells packs.new) → IsTrue (O.tells out.new) →
+        PlaysByRules (map seen script.now) (drives_of script.now) (P.held packs.old) (P.held packs.new) (O.taken out.old) (O.taken out.new)) }
     ensures never_again { IsTrue (P.tells packs.new) → IsTrue (P.tells packs.old) }
     ensures never_again_out { IsTrue (O.tells out.new) → IsTrue (O.tells out.old) }
     ensures later { P.faults packs.old ≤ P.faults packs.new }
@@ -114,12 +120,16 @@ pub fn play<P: Packs, O: Sink, T: Sink>(
     ensures sink { IsErrOf result PlayFault.Sink → Rose (O.faults out.old) (O.faults out.new) }
     ensures memory { IsErrOf result PlayFault.Memory → packs.new ≡ packs.old }
     ensures memory_out { IsErrOf result PlayFault.Memory → out.new ≡ out.old }
-    ensures trace { _trace.new ≡ _trace.old }
+    ensures trace { trace.new ≡ trace.old }
 {
+    let mut subsystem = Subsystem::new(alloc, &UNITS, MOST_REQUESTS, 0)?;
+    let mut room = bytes(alloc, MOST_BYTES)?;
+    let room = room.as_mut_slice();
     let lines = script.lines();
-    let number = lines.len() as u64 + 1;
-    for line in lines {
-        serve(line, number, packs, out)?;
+    for (i, line) in lines.iter().enumerate() {
+        play_line(&mut subsystem, i as u64 + 1, line, room, packs, out, trace)?;
     }
+    let number = lines.len() as u64 + 1;
+    drain(&mut subsystem, number, packs, out, trace)?;
     Ok(Tally)
 }

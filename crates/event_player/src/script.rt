@@ -1,10 +1,11 @@
-ghost use Rattle.std.specs.Prelude.{◌≡◌, ◌<◌, ℕ, List, length, Some, Ok, IfSome, IfOk, IfErr, All};
+ghost use Rattle.std.specs.Prelude.{◌≡◌, ◌<◌, ◌++◌, ℕ, List, length, Ok, IfOk, IfErr, OnOk, All};
+ghost use Rattle.std.specs.Option.{option_to_list};
 ghost use Rattle.event_player.specs.declared.script.Line.{Line};
 ghost use Rattle.event_player.specs.declared.script.ScriptKind.{ScriptKind};
 ghost use Rattle.event_player.specs.Lines.{fields_of};
-ghost use Rattle.event_player.specs.Grammar.{has_id, same_id, is_used, AreGood, Spells, IsRefused};
+ghost use Rattle.event_player.specs.Grammar.{id_of, ids_of, AreGood, Spells, IsRefused};
 ghost use Rattle.event_player.specs.Playing.{IsInside};
-ghost use Rattle.event_player.specs.Reading.{request_of, request_with, fresh, judged, script_of, Finds};
+ghost use Rattle.event_player.specs.Reading.{by_word, event_of, request_of, later_of, id_fault, fresh, judged, script_of, Finds};
 ghost use Rattle.event_player.specs.Refusals.{Refuses};
 
 use crate::fields::SpacedFields;
@@ -16,15 +17,41 @@ use thiserror::Error;
 /// The longest script, in bytes: 16 MiB.
 const LONGEST: usize = 16_777_216;
 
+/// The largest number of requests in a script.
+const MOST_REQUESTS: usize = 129;
+
+/// The largest number of blocks in a request.
+const MOST_BLOCKS: u64 = 127;
+
+/// The number of data blocks.
+const DATA_BLOCKS: u64 = 340_522;
+
 /// A line of a script.
 #[derive(Clone, Copy, Debug, PartialEq, Eq)]
 pub enum Line {
     /// `unit 0 rp06`: unit 0 is an RP06.
     Unit,
-    /// `read ID 0 c BLOCK 1`: a block is read.
-    Read { id: u32, block: u32 },
-    /// `write ID 0 c BLOCK 1 fill HH`: each byte of a block is replaced by one.
-    Write { id: u32, block: u32, fill: u8 },
+    /// `read ID 0 c BLOCK COUNT`: COUNT blocks are read, from BLOCK on.
+    Read {
+        id: u32,
+        block: u32,
+        count: u32,
+    },
+    /// `write ID 0 c BLOCK COUNT fill HH`: each byte of COUNT blocks is replaced by one, from BLOCK on.
+    Write {
+        id: u32,
+        block: u32,
+        count: u32,
+        fill: u8,
+    },
+    /// `arrive 0`: the positioning of unit 0 ends.
+    Arrive,
+    /// `move 0`: adapter 0 moves a sector.
+    Move,
+    /// `attend 0`: the interrupt of adapter 0 is delivered.
+    Attend,
+    /// `drain`: events come until no request is outstanding.
+    Drain,
 }
 
 /// What is wrong with a script.
@@ -62,15 +89,19 @@ impl<T: Drop> From<AllocFailed<T>> for ReadFault {
     }
 }
 
-/// What a request's word says with its id, its block and the fields that are left.
-fn request_by_word(word: &[u8], id: u32, block: u32, mut fields: SpacedFields) -> Option<Line>
-    requires { block < 340522 }
-    ensures value { result ≡ request_with word.now (Some id) (Some block) fields.entry }
-    ensures inside { IfSome result IsInside }
+/// What a request's word says with its id, its blocks and the fields that are left.
+fn request_by_word(
+    word: &[u8],
+    id: u32,
+    block: u32,
+    count: u32,
+    mut fields: SpacedFields,
+) -> Option<Line>
+    ensures { result ≡ by_word word.now id block count fields.entry }
 {
     let Some(fill) = fields.next() else {
         if word == b"read".as_slice() {
-            return Some(Line::Read { id, block });
+            return Some(Line::Read { id, block, count });
         }
         return None;
     };
@@ -79,13 +110,17 @@ fn request_by_word(word: &[u8], id: u32, block: u32, mut fields: SpacedFields) -
         return None;
     }
     let fill = byte(digits)?;
-    Some(Line::Write { id, block, fill })
+    Some(Line::Write {
+        id,
+        block,
+        count,
+        fill,
+    })
 }
 
-/// What a line that is not the first says.
+/// What the fields of a request say.
 fn request(line: &[u8]) -> Option<Line>
-    ensures value { result ≡ request_of (fields_of line.now) }
-    ensures inside { IfSome result IsInside }
+    ensures { result ≡ request_of (fields_of line.now) }
 {
     let mut fields = SpacedFields::new(line);
     let word = fields.next()?;
@@ -94,67 +129,90 @@ fn request(line: &[u8]) -> Option<Line>
     let part = fields.next()?;
     let block = fields.next()?;
     let count = fields.next()?;
-    if unit != b"0".as_slice() || part != b"c".as_slice() || count != b"1".as_slice() {
+    if unit != b"0".as_slice() || part != b"c".as_slice() {
         return None;
     }
     let id = decimal(id, 4294967295)?;
-    let block = decimal(block, 340521)?;
-    request_by_word(word, id as u32, block as u32, fields)
+    let block = decimal(block, DATA_BLOCKS - 1)?;
+    let count = decimal(count, MOST_BLOCKS)?;
+    if count == 0 || block + count > DATA_BLOCKS {
+        return None;
+    }
+    request_by_word(word, id as u32, block as u32, count as u32, fields)
 }
 
-/// Whether a line is a request with an id.
-fn has_id(line: &Line, wanted: u32) -> bool
-    ensures { result ≡ has_id wanted line.now }
+/// The event that a line is.
+fn event(text: &[u8]) -> Option<Line>
+    ensures { result ≡ event_of text.now }
 {
-    match line {
-        Line::Unit => false,
-        Line::Read { id, .. } => wanted == *id,
-        Line::Write { id, .. } => wanted == *id,
+    if text == b"arrive 0".as_slice() {
+        Some(Line::Arrive)
+    } else if text == b"move 0".as_slice() {
+        Some(Line::Move)
+    } else if text == b"attend 0".as_slice() {
+        Some(Line::Attend)
+    } else if text == b"drain".as_slice() {
+        Some(Line::Drain)
+    } else {
+        None
     }
 }
 
-/// Whether two lines are requests with the same id.
-fn same_id(line: &Line, other: &Line) -> bool
-    ensures { result ≡ same_id line.now other.now }
+/// What a line that is not the first says.
+fn later(text: &[u8]) -> Option<Line>
+    ensures { result ≡ later_of text.now }
+{
+    if let Some(line) = event(text) {
+        return Some(line);
+    }
+    request(text)
+}
+
+/// The id of a line that is a request.
+fn id_of(line: &Line) -> Option<u32>
+    ensures { result ≡ id_of line.now }
 {
     match line {
-        Line::Unit => false,
-        Line::Read { id, .. } => has_id(other, *id),
-        Line::Write { id, .. } => has_id(other, *id),
+        Line::Read { id, .. } => Some(*id),
+        Line::Write { id, .. } => Some(*id),
+        _ => None,
     }
 }
 
-/// Whether a line's id stands among these lines.
-fn is_used(lines: &[Line], line: &Line) -> bool
-    ensures { result ≡ is_used lines.now line.now }
+/// What is wrong with a line's id, after requests with these ids.
+fn id_fault(ids: &[u32], line: &Line) -> Option<ScriptKind>
+    ensures { result ≡ id_fault ids.now (id_of line.now) }
 {
-    lines.iter().any(|other| same_id(line, other))
+    let id = id_of(line)?;
+    if ids.len() >= MOST_REQUESTS {
+        return Some(ScriptKind::TooMany);
+    }
+    if ids.contains(&id) {
+        return Some(ScriptKind::IdTwice);
+    }
+    None
 }
 
-/// A line that is not the first, after these.
-fn fresh(before: &[Line], text: &[u8]) -> Result<Line, ScriptKind>
-    ensures value { result ≡ fresh before.now (request_of (fields_of text.now)) }
-    ensures inside { IfOk result IsInside }
+/// A line that is not the first, after requests with these ids.
+fn fresh(ids: &[u32], text: &[u8]) -> Result<Line, ScriptKind>
+    ensures { result ≡ fresh ids.now (later_of text.now) }
 {
-    let Some(line) = request(text) else {
+    let Some(line) = later(text) else {
         return Err(ScriptKind::Word);
     };
-    if before.len() >= 130 {
-        return Err(ScriptKind::TooMany);
+    match id_fault(ids, &line) {
+        Some(kind) => Err(kind),
+        None => Ok(line),
     }
-    if is_used(before, &line) {
-        return Err(ScriptKind::IdTwice);
-    }
-    Ok(line)
 }
 
-/// What a text says after these lines.
-fn judged(lines: &[Line], text: &[u8]) -> Result<Line, ScriptKind>
-    ensures value { result ≡ judged lines.now text.now }
-    ensures inside { IfOk result IsInside }
+/// What a text says after these lines, whose requests have these ids.
+fn judged(lines: &[Line], ids: &[u32], text: &[u8]) -> Result<Line, ScriptKind>
+    requires { ids.now ≡ ids_of lines.now }
+    ensures { result ≡ judged lines.now text.now }
 {
     if !lines.is_empty() {
-        return fresh(lines, text);
+        return fresh(ids, text);
     }
     if text == b"unit 0 rp06".as_slice() {
         Ok(Line::Unit)
@@ -163,10 +221,20 @@ fn judged(lines: &[Line], text: &[u8]) -> Result<Line, ScriptKind>
     }
 }
 
+/// Puts a line's id behind the ids so far, where it is a request.
+fn remember(ids: &mut Vec<u32>, line: &Line) -> Result<(), AllocFailed<u32>>
+    ensures { OnOk result (ids.new.items ≡ ids.old.items ++ option_to_list (id_of line.now)) }
+{
+    match id_of(line) {
+        Some(id) => ids.push(id),
+        None => Ok(()),
+    }
+}
+
 /// The lines that bytes spell, or the first fault.
+#[tactic(auto, using(crate::proofs::ReadingLaws::ids_more))]
 fn read_lines(alloc: Global, bytes: &[u8]) -> Result<Vec<Line>, ReadFault>
     ensures ok { IfOk result (λ lines. script_of bytes.now ≡ Ok lines.items) }
-    ensures inside { IfOk result (λ lines. All IsInside lines.items) }
     ensures err { IfErr result (λ fault. Finds fault (script_of bytes.now)) }
 {
     if bytes.len() > LONGEST {
@@ -176,11 +244,15 @@ fn read_lines(alloc: Global, bytes: &[u8]) -> Result<Vec<Line>, ReadFault>
         });
     }
     let mut lines = Vec::new(alloc);
+    let mut ids = Vec::new(alloc);
     let mut rest = bytes;
     while !rest.is_empty() {
         let (text, after) = first_line(rest);
-        match judged(lines.as_slice(), text) {
-            Ok(line) => lines.push(line)?,
+        match judged(lines.as_slice(), ids.as_slice(), text) {
+            Ok(line) => {
+                remember(&mut ids, &line)?;
+                lines.push(line)?;
+            }
             Err(kind) => {
                 return Err(ReadFault::Refused {
                     line: lines.len() as u64 + 1,

@@ -1,63 +1,74 @@
-ghost use Rattle.std.specs.Prelude.{◌≡◌, ◌≤◌, ◌<◌, ◌∷◌, ◌++◌, [], ℕ, length, decimal};
-ghost use Rattle.subsystem_spec.specs.Request.{Answer};
-ghost use Rattle.subsystem_spec.specs.Request.Kind.{ReadOk, WriteOk};
-ghost use Rattle.subsystem_spec.specs.AnswerText.{answer_text, answer_head, block_text};
+ghost use Rattle.std.specs.Prelude.{◌≡◌, ◌+◌, ◌++◌, ◌≤◌, ◌<◌, ℕ, length, decimal};
+ghost use Rattle.subsystem_spec.specs.Request.Cause.{Unforwarded};
+ghost use Rattle.subsystem_spec.specs.Request.Kind.{Failed};
+ghost use Rattle.subsystem_spec.specs.AnswerText.{answer_line, block_text, kind_text};
+ghost use Rattle.driver_machine.specs.Places.{Held};
+ghost use Rattle.driver_machine.specs.Stands.{answered};
 
-use mass_text::{LineBuf, Radix, content_law};
+use hp_driver::{AnswerKind, Cause};
+use mass_text::{LineBuf, Radix, content_law, numeral_law};
 
-/// How long decimal numbers are as text.
+/// How long small numbers are as text.
 fn decimal_law()
-    ensures long { (n : ℕ) → n < 10000000000 → length (decimal n) ≤ 10 }
-    ensures short { (n : ℕ) → n < 1000 → length (decimal n) ≤ 3 }
+    ensures { (n : ℕ) → n < 1000 → length (decimal n) ≤ 3 }
 {}
 
-/// Puts the line of an answer that is ok.
-fn put_head(text: &mut LineBuf, number: u64, id: u32)
-    requires empty { text.old ≡ [] }
-    requires number { number < 10000000000 }
-    ensures text { text.new ≡ answer_head number id }
-    ensures room { length text.new ≤ 40 }
+/// Puts that a request ended where a block has no home, and how many blocks were done.
+fn put_unforwarded(text: &mut LineBuf, done: u32)
+    requires { length text.old ≤ 100 }
+    ensures text { text.new ≡ text.old ++ kind_text (Failed Unforwarded done) }
+    ensures room { length text.new ≤ length text.old + 60 }
 {
-    decimal_law();
+    numeral_law(Radix::Decimal);
+    text.put("error ");
+    text.put("unforwarded");
+    text.put(" done ");
+    text.put_number(u64::from(done), Radix::Decimal);
+}
+
+/// Puts how a request ended. Which blocks it held makes no difference.
+fn put_kind(text: &mut LineBuf, kind: AnswerKind)
+    requires { length text.old ≤ 100 }
+    ensures text { (h : Held) → text.new ≡ text.old ++ kind_text (answered h kind) }
+    ensures room { length text.new ≤ length text.old + 60 }
+{
+    match kind {
+        AnswerKind::ReadOk { .. } | AnswerKind::WriteOk => text.put("ok"),
+        AnswerKind::Error {
+            cause: Cause::Unforwarded,
+            done,
+        } => put_unforwarded(text, done),
+    }
+}
+
+/// The line of an answer that came at a line, by the id of its request and how that ended.
+pub fn answer_line(number: u64, id: u32, kind: AnswerKind) -> LineBuf
+    ensures { (h : Held) → result ≡ answer_line number id (answered h kind) }
+{
+    numeral_law(Radix::Decimal);
+    let mut text = LineBuf::new();
     text.put("ans ");
     text.put_number(u64::from(id), Radix::Decimal);
     text.put(" at ");
     text.put_number(number, Radix::Decimal);
-    text.put(" ok\n");
-}
-
-/// Puts the line of a read's block, by its number in the read.
-fn put_block(text: &mut LineBuf, block: u64, bytes: &[u8; 512])
-    requires room { length text.old ≤ 40 }
-    requires block { block < 1000 }
-    ensures { text.new ≡ text.old ++ block_text block bytes.now }
-{
-    decimal_law();
-    content_law();
-    text.put("blk ");
-    text.put_number(block, Radix::Decimal);
     text.put(" ");
-    text.put_block(bytes);
+    put_kind(&mut text, kind);
     text.put("\n");
-}
-
-/// The text of a write that was answered ok at a line.
-pub fn write_text(number: u64, id: u32) -> LineBuf
-    requires { number < 10000000000 }
-    ensures { result ≡ answer_text number (record { id = id; kind = WriteOk }) }
-{
-    let mut text = LineBuf::new();
-    put_head(&mut text, number, id);
     text
 }
 
-/// The text of a read of one block that was answered ok at a line.
-pub fn read_text(number: u64, id: u32, bytes: &[u8; 512]) -> LineBuf
-    requires { number < 10000000000 }
-    ensures { result ≡ answer_text number (record { id = id; kind = ReadOk (bytes.now ∷ []) }) }
+/// The line of a block, by its number in its read.
+pub fn block_line(k: u32, bytes: &[u8; 512]) -> LineBuf
+    requires { k < 127 }
+    ensures { result ≡ block_text k bytes.now }
 {
+    decimal_law();
+    content_law();
     let mut text = LineBuf::new();
-    put_head(&mut text, number, id);
-    put_block(&mut text, 0, bytes);
+    text.put("blk ");
+    text.put_number(u64::from(k), Radix::Decimal);
+    text.put(" ");
+    text.put_block(bytes);
+    text.put("\n");
     text
 }
