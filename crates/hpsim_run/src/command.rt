@@ -1,5 +1,4 @@
 ghost use Rattle.std.specs.Prelude.{◌≡◌, ◌⊎◌, ◌↔◌, ℕ, List, true, false, IsTrue};
-ghost use Rattle.pack_model.specs.Content.{IsUnmarked};
 ghost use Rattle.mass_outside.specs.Causes.{Rose};
 ghost use Rattle.event_player.specs.declared.script.Line.{Line};
 ghost use Rattle.event_player.specs.Grammar.{Spells};
@@ -46,8 +45,8 @@ pub fn run<S: Source, P: Packs, O: Sink, T: Sink>(
     out: &mut O,
     trace: &mut T,
 ) -> u8
-    // The headline, over packs on which no block is marked.
-    ensures done { result ≡ 0 → IsTrue (S.tells script.new) → IsTrue (P.tells packs.new) → IsTrue (O.tells out.new) → IsUnmarked (P.held packs.old) →
+    // The headline.
+    ensures done { result ≡ 0 → IsTrue (S.tells script.new) → IsTrue (P.tells packs.new) → IsTrue (O.tells out.new) →
         Headline (S.left script.old) (S.left script.new) (P.held packs.old) (P.held packs.new) (O.taken out.old) (O.taken out.new) }
 
     // Each other status has its cause, and comes exactly there where one can see it.

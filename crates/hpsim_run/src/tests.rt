@@ -2,10 +2,11 @@ use crate::run;
 use mass_outside::mem_packs::{FailCall, MemPacks, PackOp};
 use mass_outside::mem_streams::{MemSink, MemSource};
 use mass_outside::slots::Image;
+use mass_outside::traits::Packs;
 use std::alloc::Global;
 use std::test::Fail;
 
-/// A script, the status of a run over an empty image, and what is printed.
+/// A script, the status of a run, and what is printed.
 struct Row {
     name: &'static str,
     script: &'static [u8],
@@ -13,7 +14,8 @@ struct Row {
     text: &'static [u8],
 }
 
-const ROWS: [Row; 9] = [
+/// Runs over an empty image.
+const ROWS: [Row; 12] = [
     Row {
         name: "first_read",
         script: b"unit 0 rp06\nread 1 0 c 0 1",
@@ -25,6 +27,24 @@ const ROWS: [Row; 9] = [
         script: b"unit 0 rp06\nwrite 1 0 c 340521 1 fill A5\nread 2 0 c 340521 1\n",
         status: 0,
         text: b"ans 1 at 4 ok\nans 2 at 4 ok\nblk 0 fill a5\n",
+    },
+    Row {
+        name: "requests and events",
+        script: b"unit 0 rp06\nwrite 1 0 c 418 2 fill 11\narrive 0\nattend 0\nmove 0\nmove 0\nattend 0\nread 2 0 c 418 2",
+        status: 0,
+        text: b"ans 1 at 7 ok\nans 2 at 9 ok\nblk 0 fill 11\nblk 1 fill 11\n",
+    },
+    Row {
+        name: "a block before which the heads stand",
+        script: b"unit 0 rp06\nread 1 0 c 5 1\nmove 0\nattend 0\n",
+        status: 0,
+        text: b"ans 1 at 4 ok\nblk 0 fill 00\n",
+    },
+    Row {
+        name: "a drain between two requests",
+        script: b"unit 0 rp06\nread 1 0 c 5 1\ndrain\nread 2 0 c 5 1\n",
+        status: 0,
+        text: b"ans 1 at 3 ok\nblk 0 fill 00\nans 2 at 5 ok\nblk 0 fill 00\n",
     },
     Row {
         name: "no line",
@@ -70,6 +90,22 @@ const ROWS: [Row; 9] = [
     },
 ];
 
+/// Runs over an empty image, on which block 1000 is marked.
+const MARKED_ROWS: [Row; 2] = [
+    Row {
+        name: "unforwarded",
+        script: b"unit 0 rp06\nread 1 0 c 998 5\n",
+        status: 0,
+        text: b"ans 1 at 3 error unforwarded done 2\n",
+    },
+    Row {
+        name: "an unforwarded write",
+        script: b"unit 0 rp06\nwrite 1 0 c 998 5 fill 77\nread 2 0 c 998 2\n",
+        status: 0,
+        text: b"ans 1 at 4 error unforwarded done 2\nans 2 at 4 ok\nblk 0 fill 77\nblk 1 fill 77\n",
+    },
+];
+
 /// Which calls fail in a run: of the source, of the sink, and of the packs.
 #[derive(Clone, Copy)]
 struct Faults {
@@ -88,24 +124,24 @@ const NONE: Faults = Faults {
     },
 };
 
-/// Unit 0 with an image.
-fn packs_of(alloc: Global, image: &[u8], fail: FailCall) -> Result<MemPacks, Fail> {
+/// Unit 0 with an image and its marks.
+fn packs_of(alloc: Global, image: &[u8], marks: &[u8], fail: FailCall) -> Result<MemPacks, Fail> {
     let mut images = Vec::new(alloc);
     images.push(Image {
         unit: 0,
         bytes: Vec::from_slice(alloc, image)?,
-        marks: Vec::new(alloc),
+        marks: Vec::from_slice(alloc, marks)?,
         blocks: 340670,
     })?;
     Ok(MemPacks::new(alloc, images, Vec::from_slice(alloc, &[fail])?)?)
 }
 
-/// Runs a command over unit 0 with an image, and answers its status and what was printed.
-fn run_over(
+/// Runs a command over packs, and answers its status and what was printed.
+fn run_on(
     alloc: Global,
     word: &str,
     script: &[u8],
-    image: &[u8],
+    packs: &mut MemPacks,
     faults: Faults,
 ) -> Result<(u8, MemSink), Fail> {
     let mut words = Vec::new(alloc);
@@ -114,18 +150,29 @@ fn run_over(
         Vec::from_slice(alloc, script)?,
         Vec::from_slice(alloc, &[faults.source])?,
     );
-    let mut packs = packs_of(alloc, image, faults.packs)?;
     let mut out = MemSink::new(alloc, 9000, Vec::from_slice(alloc, &[faults.sink])?)?;
     let mut trace = MemSink::new(alloc, 0, Vec::new(alloc))?;
     let status = run(
         alloc,
         words.as_slice(),
         &mut source,
-        &mut packs,
+        packs,
         &mut out,
         &mut trace,
     );
     Ok((status, out))
+}
+
+/// Runs a command over unit 0 with an image on which no block is marked.
+fn run_over(
+    alloc: Global,
+    word: &str,
+    script: &[u8],
+    image: &[u8],
+    faults: Faults,
+) -> Result<(u8, MemSink), Fail> {
+    let mut packs = packs_of(alloc, image, b"", faults.packs)?;
+    run_on(alloc, word, script, &mut packs, faults)
 }
 
 #[test]
@@ -134,6 +181,42 @@ fn answers_and_refusals(rt: HostRuntime) -> Result<(), Fail> {
         let (status, out) = run_over(rt.alloc(), "play", row.script, b"", NONE)?;
         assert_eq!(rt; status, row.status, "{}", row.name);
         assert_eq!(rt; out.taken(), row.text, "{}", row.name);
+    }
+    Ok(())
+}
+
+#[test]
+fn marked_block(rt: HostRuntime) -> Result<(), Fail> {
+    let mut marks = Vec::new(rt.alloc());
+    marks.resize(1000, 0)?;
+    marks.push(1)?;
+    for row in &MARKED_ROWS {
+        let mut packs = packs_of(rt.alloc(), b"", marks.as_slice(), NONE.packs)?;
+        let (status, out) = run_on(rt.alloc(), "play", row.script, &mut packs, NONE)?;
+        assert_eq!(rt; status, row.status, "{}", row.name);
+        assert_eq!(rt; out.taken(), row.text, "{}", row.name);
+    }
+    Ok(())
+}
+
+/// The third block of a write fails: the two before it are written, and the one behind it is as it was.
+#[test]
+fn third_write_fails(rt: HostRuntime) -> Result<(), Fail> {
+    let fail = FailCall {
+        op: PackOp::Write,
+        number: 3,
+    };
+    let mut packs = packs_of(rt.alloc(), &[0x11; 4608], b"", fail)?;
+    let script = b"unit 0 rp06\nwrite 1 0 c 5 4 fill 77\n";
+    let (status, out) = run_on(rt.alloc(), "play", script, &mut packs, NONE)?;
+    assert_eq!(rt; status, 6);
+    assert_eq!(rt; out.taken(), b"".as_slice());
+    let mut bytes = [0u8; 512];
+    for (block, byte) in [(5, 0x77), (6, 0x77), (8, 0x11)] {
+        packs.read(0, block, &mut bytes)?;
+        for i in 0..512usize {
+            assert_eq!(rt; bytes[i], byte, "byte {i} of block {block}");
+        }
     }
     Ok(())
 }
@@ -182,17 +265,21 @@ const TEXT: &[u8] = b"ans 1 at 4 ok\nans 2 at 4 ok\nblk 0 fill 77\n";
 
 /// The numbers of the source's, the sink's and the packs' call that fail (0 for none), the packs' operation, the status,
 /// and how much of the text was taken. Each call fails in turn, until the run ends with 0.
-const FAILING: [(u64, u64, u64, PackOp, u8, usize); 11] = [
+const FAILING: [(u64, u64, u64, PackOp, u8, usize); 15] = [
     (1, 0, 0, PackOp::Read, 4, 0),
     (2, 0, 0, PackOp::Read, 4, 0),
     (3, 0, 0, PackOp::Read, 0, 42),
     (0, 1, 0, PackOp::Read, 5, 0),
     (0, 2, 0, PackOp::Read, 5, 14),
-    (0, 3, 0, PackOp::Read, 0, 42),
+    (0, 3, 0, PackOp::Read, 5, 28),
+    (0, 4, 0, PackOp::Read, 0, 42),
     (0, 0, 1, PackOp::Write, 6, 0),
     (0, 0, 2, PackOp::Write, 0, 42),
     (0, 0, 1, PackOp::Read, 6, 14),
     (0, 0, 2, PackOp::Read, 0, 42),
+    (0, 0, 1, PackOp::Marked, 6, 0),
+    (0, 0, 2, PackOp::Marked, 6, 14),
+    (0, 0, 3, PackOp::Marked, 0, 42),
     (0, 0, 1, PackOp::SetMark, 0, 42),
 ];
 
