@@ -120,8 +120,8 @@ fn rm05_part(part: Part) -> (u32, u32)
 }
 
 /// What a request meets for `count` blocks, 1 to 127, from `block` of a partition: Eof exactly where it begins at the
-/// partition's size, Outside exactly where it begins behind it or reaches past it, and else
-/// Inside with its first block on the pack. A range inside has data blocks only.
+/// partition's size, Outside exactly where it begins behind it or reaches past it, and else Inside with its first
+/// block on the pack. A range inside has data blocks only.
 pub fn admit(kind: DriveKind, part: Part, block: u32, count: u32) -> Admission
     requires some { 1 ≤ count }
     requires few { count ≤ 127 }
