@@ -1,5 +1,5 @@
 -- Noise that is live: it flips places of a sector when that is read.
-use Rattle.std.specs.Prelude.{ℕ, ◌+◌, ◌*◌, ◌-◌, ◌^◌, ◌==◌, ◌&&◌, nat_lt, nat_le, Bool, false, not, if◌then◌else◌, List, [], ◌∷◌, ◌++◌, filter, find, Option, None, Some}
+use Rattle.std.specs.Prelude.{ℕ, ◌+◌, ◌*◌, ◌-◌, ◌^◌, ◌==◌, ◌&&◌, nat_lt, nat_le, Bool, false, not, if◌then◌else◌, List, [], ◌∷◌, ◌++◌, filter, find, All, Option, None, Some}
 use Rattle.drive_registers.specs.Codes.{offset_code, offset_field}
 use Rattle.hardware_table.specs.declared.NoiseSpan.{NoiseSpan}
 use Rattle.hardware_table.specs.declared.NoiseSpan.TheVariants.{Times, Until}
@@ -13,6 +13,10 @@ pub record LiveNoise : Type 0 where
 
 abbrev pub is_at : ℕ → ℕ → LiveNoise → Bool
 is_at unit block noise = (noise.unit == unit) && (noise.block == block)
+
+-- all live noise has this property of its unit, its block and its places
+pub record EachNoise (property : ℕ → ℕ → List ℕ → Type 0) (live : List LiveNoise) : Type 0 where
+  pub each : All (λ (noise : LiveNoise). property noise.unit noise.block noise.places) live
 
 -- the live noise of one sector, in the order of its arming
 abbrev pub noise_at : ℕ → ℕ → List LiveNoise → List LiveNoise
