@@ -1,5 +1,5 @@
 -- The move of one sector: its verdict, and what that does.
-use Rattle.std.specs.Prelude.{◌≡◌, ℕ, ◌+◌, ◌*◌, ◌-◌, ◌%◌, nat_lt, Bool, true, false, not, ◌&&◌, if◌then◌else◌, List, [], ◌∷◌, find, Option, None, Some, option_map, bit_or}
+use Rattle.std.specs.Prelude.{◌≡◌, ℕ, ◌+◌, ◌-◌, ◌%◌, nat_lt, Bool, true, false, not, ◌&&◌, if◌then◌else◌, List, [], ◌∷◌, find, Option, None, Some, option_map, bit_or}
 use Rattle.pack_geometry.specs.declared.DriveKind.{DriveKind}
 use Rattle.pack_geometry.specs.declared.DriveKind.TheVariants.{Rp06, Rm03, Rm05}
 use Rattle.pack_geometry.specs.Geometry.{sectors_of, block_count, place_at, track_and_sector}
@@ -67,8 +67,8 @@ was_written d verdict = has_bytes verdict && is_writing d.work
 
 -- a sector's bytes with those of the places flipped that lie in them; the others are flipped in the check
 pub record IsStruck (places sector bytes : List ℕ) : Type 0 where
-  pub sector : IsData sector
-  pub bytes : IsData bytes
+  pub right : IsData sector
+  pub read : IsData bytes
   pub check : ℕ
   pub flipped : IsFlipped places sector 0 bytes check
 

@@ -2,10 +2,10 @@
 //! row of the hardware table as a function on a state.
 #![tactic(auto)]
 
-ghost use Rattle.std.specs.Prelude.{◌≡◌, ◌≢◌, ◌≤◌, ◌<◌, ◌+◌, ◌*◌, ◌==◌, ◌++◌, ℕ, Bool, true, false, List, [], ◌∷◌, bit_and, if◌then◌else◌};
+ghost use Rattle.std.specs.Prelude.{◌≡◌, ◌≢◌, ◌≤◌, ◌<◌, ◌+◌, ◌*◌, ◌==◌, ◌++◌, ℕ, Bool, true, false, List, [], ◌∷◌, All, bit_and, if◌then◌else◌};
 ghost use Rattle.drive_registers.specs.Bits as bits;
 ghost use Rattle.hardware_table.specs.Drive.{DriveState, status, has_error, is_positioning, is_ready, on};
-ghost use Rattle.hardware_table.specs.Noise.{LiveNoise, EachNoise, noise_at, is_at, first_of, oldest, with_noise, after_strike, first_struck, is_spent};
+ghost use Rattle.hardware_table.specs.Noise.{LiveNoise, IsAmong, noise_at, is_at, first_of, oldest, with_noise, after_strike, first_struck, is_spent};
 ghost use Rattle.hardware_table.specs.Adapter.{AdapterState, IsAdapter, IsLoaded, bytes_between, registers_used, next_window, step_bytes, new_adapter, loaded, started, stepped, completed};
 
 use drive_registers::OffsetCode;
@@ -118,8 +118,8 @@ pub fn status_law()
 
 /// The law of noise. At each sector noise stands in the order of its arming: new noise that is to live comes behind
 /// what is live there, and changes nothing at another sector. The oldest noise of a sector decides; a strike uses
-/// it up or ends it, and changes nothing else. What all live noise has in its unit, block and places, and new noise
-/// too, all has after the arming and after a strike.
+/// it up or ends it, and changes nothing else. No arming and no strike makes noise of another unit, of another block or
+/// of other places than the noise that was armed: what all noise has in these when it is armed, live noise always has.
 pub fn noise_law()
     ensures armed { (live : List LiveNoise) → (noise : LiveNoise) → (unit block : ℕ)
         → noise_at unit block (with_noise noise live)
@@ -133,11 +133,10 @@ pub fn noise_law()
         → noise_at other_unit other (after_strike unit block word live) ≡ noise_at other_unit other live }
     ensures other_block { (live : List LiveNoise) → (unit block word other_unit other : ℕ) → other ≢ block
         → noise_at other_unit other (after_strike unit block word live) ≡ noise_at other_unit other live }
-    ensures each_armed { (property : ℕ → ℕ → List ℕ → Type 0) → (live : List LiveNoise) → (noise : LiveNoise)
-        → EachNoise property live → property noise.unit noise.block noise.places
-        → EachNoise property (with_noise noise live) }
-    ensures each_struck { (property : ℕ → ℕ → List ℕ → Type 0) → (live : List LiveNoise) → (unit block word : ℕ)
-        → EachNoise property live → EachNoise property (after_strike unit block word live) }
+    ensures each_armed { (live : List LiveNoise) → (noise : LiveNoise)
+        → All (IsAmong (noise ∷ live)) (with_noise noise live) }
+    ensures each_struck { (live : List LiveNoise) → (unit block word : ℕ)
+        → All (IsAmong live) (after_strike unit block word live) }
 {}
 
 /// The law of adapters. A new adapter is sound, and each act keeps it so, where it may be done. What was just loaded
