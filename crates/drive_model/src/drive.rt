@@ -126,7 +126,9 @@ impl Drive {
             Function::Search => self.position(self.dc, Some((self.da % 256) as u8)),
             Function::Recal => self.position(0, None),
             Function::Offset => self.position(self.cc, None),
-            Function::Centre => self.offset = Of::from_bits_retain(self.offset.bits() & !OFFSET_CODE),
+            Function::Centre => self.offset = Of::from_bits_retain(
+                self.offset.bits() & !OFFSET_CODE,
+            ),
             Function::Clear => self.clear(),
             Function::Preset => self.preset(),
             Function::Pack => self.valid = true,

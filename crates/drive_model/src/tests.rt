@@ -161,7 +161,7 @@ fn try_row(
 #[test]
 fn verdicts(rt: HostRuntime) -> Result<(), Fail> {
     let mut memory = MainMemory::new(rt.alloc())?;
-    let buffer = to_bus(memory.lend(1, 0)?);
+    let buffer = to_bus(memory.lend(1, 0, 512)?);
     let mut window = memory.window(&buffer, 0);
     for kind in [DriveKind::Rp06, DriveKind::Rm03, DriveKind::Rm05] {
         for row in rows(kind) {

@@ -11,7 +11,7 @@ ghost use Rattle.std.specs.Prelude.{◌≡◌, ◌≢◌, ◌<◌, ◌^◌, ◌*
 ghost use Rattle.fire_code.specs.Remainder.{remainder as the_remainder, power as the_power};
 ghost use Rattle.fire_code.specs.Burst.{IsShortBurst, IsBurst, IsUncorrectable, places_of};
 ghost use Rattle.fire_code.specs.Verdict.{Judges, Names};
-ghost use Rattle.fire_code.specs.Word.{bit_of_word, word_remainder};
+ghost use Rattle.fire_code.specs.Word.{IsData, bit_of_word, word_remainder};
 ghost use Rattle.fire_code.specs.Repair.{burst_byte};
 ghost use Rattle.fire_code.specs.Noise.{IsNoise, IsAlias, IsFlipped, Classes};
 
@@ -239,6 +239,13 @@ pub fn judge_noise(noise: &Noise) -> Verdict
         → Judges result (word_remainder new d) }
 {
     by_residues::verdict_of(remainder_of(noise.places()))
+}
+
+/// The bytes of an array are the data of a sector.
+pub fn data_law(bytes: &[u8; 512])
+    ensures { IsData bytes.now }
+{
+    let _slice = bytes.as_slice();
 }
 
 /// The burst law: no short burst has the remainder zero, and two different ones have different remainders. Hence a

@@ -3,7 +3,7 @@ ghost use Rattle.std.specs.Prelude.{◌≡◌, ◌<◌, ℕ, List, true, IsTrue,
 ghost use Rattle.pack_geometry.specs.Geometry.{block_count};
 ghost use Rattle.hardware_table.specs.Drive.{is_transferring, is_writing};
 ghost use Rattle.mass_outside.specs.Causes.{HasCause};
-ghost use Rattle.main_memory.specs.Windows.{memory_name, window_bytes, Writes};
+ghost use Rattle.main_memory.specs.Windows.{memory_name, window_len, window_bytes, Writes};
 ghost use Rattle.hardware_table.specs.Functions.{refused};
 ghost use Rattle.hardware_table.specs.Noise.{strikes, book_struck};
 ghost use Rattle.hardware_table.specs.Moves.{stop_of, first_armed, IsReadVerdict, was_read, IsReadAs, passed, fault_used, with_fault_bits, with_mark_bits, after_move};
@@ -15,7 +15,7 @@ use crate::book::NoiseBook;
 use crate::drive::Drive;
 use bitflags::Flags;
 use drive_registers::{Er1, Er2};
-use fire_code::{Check, Verdict, apply, judge_noise};
+use fire_code::{Check, Verdict, apply, data_law, judge_noise};
 use hardware_table::{Armed, FaultKind, Moved, Work};
 use main_memory::Window;
 use mass_outside::traits::{Packs, StoreFailed};
@@ -61,7 +61,9 @@ fn read_through(book: &mut NoiseBook, unit: u8, block: u32, of: u16, bytes: &mut
     match book.strike(unit, block, of) {
         None => Moved::Clean,
         Some(noise) => {
+            data_law(bytes);
             let _check = apply(&noise, bytes, Check(0));
+            data_law(bytes);
             moved_by(judge_noise(&noise))
         }
     }
@@ -187,12 +189,13 @@ impl Drive {
     /// 1. The drive is offline: `Offline`.
     /// 2. A fault is armed: the first armed kind, in the order seek, opi, dte, hcrc, late, is used once: `Faulted`.
     /// 3. The sector is marked, by the pack's mark byte: `Marked`.
-    /// 4. A write: the window's bytes go to the pack: `Clean`.
-    /// 5. A read: the sector's bytes, with the noise that strikes, go to the window. The verdict, `Clean`, `Burst`
-    ///    or `Hard`, is that of the sector's word with the noise's places flipped.
+    /// 4. A write: the window's bytes, filled up with zeros, go to the pack: `Clean`.
+    /// 5. A read: the front of the sector's bytes, with the noise that strikes, goes to the window, as far as it
+    ///    reaches. The verdict, `Clean`, `Burst` or `Hard`, is that of the whole sector's word with the noise's places
+    ///    flipped.
     ///
     /// `StoreFailed` comes only where the packs' count of failures rose; then the drive, the book and the window are
-    /// as before, and a block that was to be written is old or new.
+    /// as before, and the block of a write that was found unmarked is old or new.
     pub fn move_sector<P: Packs>(
         &mut self,
         packs: &mut P,
@@ -206,7 +209,7 @@ impl Drive {
         requires block { block < block_count self.old.kind }
 
         // The verdict, the registers by it, and the bytes that moved.
-        ensures moves { IfOk result (λ v. MovesSector unit block self.old (P.tells packs.new)
+        ensures moves { IfOk result (λ v. MovesSector unit block self.old (window_len window.old) (P.tells packs.new)
             (record { book = book.old; held = P.held packs.old; window = window_bytes window.old })
             (record { book = book.new; held = P.held packs.new; window = window_bytes window.new }) v) }
         ensures drive { IfOk result (λ v. self.new ≡ after_move v block self.old) }
