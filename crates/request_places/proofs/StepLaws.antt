@@ -8,6 +8,11 @@ use Rattle.main_memory.specs.Blocks.{Loan, IsLoan, IsSpan, in_frame, in_next, si
 use Rattle.main_memory.specs.Memory.{Memory, IsMemory, IsLent, AreTaken, AreApart, with_block, blocks_of}
 use Rattle.main_memory.proofs.ByteLaws.{length-with_part}
 use Rattle.main_memory.proofs.BlockLaws.{is_span, size_whole, length-bytes_in, slice_get-blocks_of, blocks_of-with_block, blocks_of-with_block_other}
+use Rattle.pack_model.specs.Pack.{Pack}
+use Rattle.hardware_table.specs.declared.Moved.{Moved}
+use Rattle.hardware_table.specs.Drive.{DriveState}
+use Rattle.hardware_table.specs.Noise.{Book}
+use Rattle.drive_model.specs.Move.{MovesSector}
 use Rattle.driver_machine.specs.Places.{Held, held_at, with_held, block_in, with_block_in}
 use Rattle.request_places.specs.declared.slots.Slot.{Slot}
 use Rattle.request_places.specs.Slots.{loan_of, slot_in, held_of, places_of, IsKept}
@@ -151,7 +156,12 @@ module _ (m : Memory) (slots : List (Option Slot)) (p : ℕ) (loan : Loan) (k : 
   shown_step (Ok v) read sound free moved = shown_of (read v) moved sound free
   shown_step (Err e) read sound free moved = moved
 
--- what always holds
-pub if_ok : {V E P : Type 0} (r : Result V E) → P → IfOk r (λ _. P)
-if_ok (Ok v) holds = holds
-if_ok (Err e) holds = tt
+-- what a step moved, said of the block of a place
+pub moves_as : {E : Type 0} (r : Result Moved E) (unit block : ℕ) (drive : DriveState) (told : Bool) (book book_after : Book) (held held_after : ℕ → Pack)
+    {size : ℕ} {old old_block new new_block : List ℕ} → size ≡ 512 → old ≡ old_block → new ≡ new_block
+    → IfOk r (λ v. MovesSector unit block drive size told (record { book = book; held = held; window = old }) (record { book = book_after; held = held_after; window = new }) v)
+    → IfOk r (λ v. MovesSector unit block drive 512 told (record { book = book; held = held; window = old_block }) (record { book = book_after; held = held_after; window = new_block }) v)
+moves_as r unit block drive told book book_after held held_after {size} {old} {old_block} {new} {new_block} whole before after moves =
+    subst (λ (n : ℕ). IfOk r (λ v. MovesSector unit block drive n told (record { book = book; held = held; window = old_block }) (record { book = book_after; held = held_after; window = new_block }) v)) whole
+    (subst (λ (b : List ℕ). IfOk r (λ v. MovesSector unit block drive size told (record { book = book; held = held; window = b }) (record { book = book_after; held = held_after; window = new_block }) v)) before
+    (subst (λ (b : List ℕ). IfOk r (λ v. MovesSector unit block drive size told (record { book = book; held = held; window = old }) (record { book = book_after; held = held_after; window = b }) v)) after moves))
