@@ -5,3 +5,4 @@ pub mod PackTableLaws
 pub mod TableEditBlocks
 pub mod TableEditLaws
 pub mod TableLaws
+pub mod TwoEdits
