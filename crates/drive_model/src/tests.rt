@@ -159,7 +159,9 @@ fn try_row(
     if fail.is_some() {
         assert!(rt; verdict.is_err());
         assert_eq!(rt; drive.read_register(Register::Er1), 0);
-        assert_eq!(rt; window.get(511), 0x77);
+        let mut left = [0; 512];
+        window.copy_out(&mut left);
+        assert!(rt; left == [0x77; 512]);
         verdict = drive.move_sector(&mut packs, 4, 0, &mut book, window);
     }
     assert!(rt; verdict == Ok(row.verdict));
