@@ -3,14 +3,11 @@ ghost use Rattle.mass_outside.specs.Causes.{Rose};
 ghost use Rattle.event_player.specs.Grammar.{Spells};
 ghost use Rattle.hpsim_run.specs.Loading.{RefusesAll};
 
-use event_player::script::{ReadFault, Script, ScriptKind, read_script};
+use event_player::script::{LONGEST, ReadFault, Script, ScriptKind, read_script};
 use mass_outside::traits::Source;
 use mass_outside::whole::{ReadAllFault, read_all};
 use std::alloc::Global;
 use thiserror::Error;
-
-/// The longest script, in bytes: 16 MiB.
-const LONGEST: usize = 16_777_216;
 
 /// Why a script was not loaded.
 #[derive(Clone, Copy, Debug, PartialEq, Eq, Error)]
