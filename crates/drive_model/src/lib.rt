@@ -5,9 +5,11 @@
 mod book;
 mod drive;
 mod entries;
+mod laws;
 
 pub use book::NoiseBook;
 pub use drive::Drive;
+pub use laws::whole_sector_law;
 pub use hardware_table::{FaultKind, Moved, NoiseSpan, Register};
 
 #[cfg(test)]

@@ -1,13 +1,17 @@
 -- What the acts that meet the outside do.
-use Rattle.std.proofs.Common.{◌≡◌, ℕ, zero, suc, ◌+◌, ◌*◌, ◌<◌, ◌≤◌, Bool, true, false, List, [], ◌∷◌, length, drop, get_or, length-take-le, length-drop, ◌-◌, refl, sym, ap, ◌∙◌, subst, arith, None}
+use Rattle.std.proofs.Common.{◌≡◌, ℕ, zero, suc, ◌+◌, ◌*◌, ◌<◌, ◌≤◌, Bool, true, false, List, [], ◌∷◌, length, drop, get_or, length-take-le, length-drop, ◌-◌, refl, sym, ap, ◌∙◌, subst, arith, Option, None, Some}
 use Rattle.std.specs.Prelude.{if◌then◌else◌, IsTrue, slice_set, not, ◌&&◌}
 use Rattle.pack_geometry.specs.Geometry.{limit_of}
 use Rattle.pack_model.specs.Pack.{Pack, block_at, is_marked, with_written}
+use Rattle.pack_model.proofs.PackLaws.{length-block_at}
 use Rattle.hardware_table.specs.declared.Moved.{Moved}
 use Rattle.hardware_table.specs.Drive.{DriveState, is_writing}
 use Rattle.hardware_table.specs.Adapter.{next_block, next_window, stepped, drive_stepped}
-use Rattle.hardware_table.specs.Moves.{IsVerdict, IsReadAs, was_read, was_written, has_bytes}
-use Rattle.hardware_table.specs.Noise.{strikes, book_struck}
+use Rattle.hardware_table.specs.Moves.{IsVerdict, IsReadAs, IsStruck, was_read, was_written, has_bytes}
+use Rattle.hardware_table.specs.Noise.{Book, strikes, book_struck}
+use Rattle.main_memory.specs.Bytes.{front, filled}
+use Rattle.main_memory.proofs.ByteLaws.{front-whole, filled-whole}
+use Rattle.drive_model.specs.Move.{MovesSector, IsFrontRead}
 use Rattle.driver_machine.specs.declared.Request.{Request}
 use Rattle.driver_machine.specs.Places.{Held, Places, IsHeldFor, count_of, slot_at, held_at, with_held, block_in, with_block_in, pieces, blocks_in}
 use Rattle.driver_machine.specs.World.{World, adapter_of, drive_of, unit_at, adapter_for, held_in}
@@ -50,6 +54,7 @@ submit_may w line p r bytes h asked free none for =
       declared = subst (λ (u : ℕ). (unit_at w u).declared ≡ true) (sym unit) asked.declared;
       loan = for.loan;
       offset = for.offset;
+      last = for.last;
       size = for.size ∙ sym count;
       whole = whole r bytes h for asked.bytes;
       inside = subst (λ (u : ℕ). h.first + count_of h ≤ limit_of (unit_at w u).drive.kind) (sym unit)
@@ -72,19 +77,23 @@ submit_does w new line p r bytes h asked free none for e tells packs =
     }
 
 -- MOVE. One sector was tried.
-pub record Stepped (w : World) (u p : ℕ) (tells : Bool) (held held_after : ℕ → Pack) (v : Moved) (places : Places) : Type 0 where
-  pub marked : Bool
-  pub verdict : IsVerdict (unit_at w u).drive marked (strikes u (next_block (adapter_for w u).state) (unit_at w u).drive.offset w.book.live) v
-  pub mark : IsTrue tells → marked ≡ is_marked (held u) (next_block (adapter_for w u).state)
+pub record Stepped (w : World) (u p : ℕ) (tells : Bool) (held held_after : ℕ → Pack) (v : Moved) (places : Places) (book : Book) : Type 0 where
+  pub moves : MovesSector u (next_block (adapter_for w u).state) (unit_at w u).drive 512 tells
+      (record { book = w.book; held = held; window = block_in (held_in w p) (next_window (adapter_for w u).state) })
+      (record { book = book; held = held_after; window = block_in (held_at places p) (next_window (adapter_for w u).state) }) v
   pub places_are : places ≡ (if was_read (unit_at w u).drive v
       then with_held p (with_block_in (next_window (adapter_for w u).state) (block_in (held_at places p) (next_window (adapter_for w u).state)) (held_in w p)) w.places
       else w.places)
   pub size : length (block_in (held_at places p) (next_window (adapter_for w u).state)) ≡ 512
-  pub read : IsTrue (was_read (unit_at w u).drive v) → IsTrue tells
-      → IsReadAs (strikes u (next_block (adapter_for w u).state) (unit_at w u).drive.offset w.book.live) (block_at (held u).image (next_block (adapter_for w u).state))
-      (block_in (held_at places p) (next_window (adapter_for w u).state))
-  pub written : IsTrue tells → held_after ≡ (if was_written (unit_at w u).drive v
-      then with_written held u (next_block (adapter_for w u).state) (block_in (held_in w p) (next_window (adapter_for w u).state)) else held)
+
+-- what is read of a sector into a whole block is all of it
+whole_read : (places : Option (List ℕ)) (sector window : List ℕ) → length sector ≡ 512 → IsFrontRead places sector 512 window → IsReadAs places sector window
+whole_read None sector window size read =
+    let same : read.bytes ≡ sector = read.whole in
+    read.cut ∙ ap (front 512) same ∙ front-whole 512 sector size
+whole_read (Some places) sector window size read =
+    let struck : IsStruck places sector read.bytes = read.whole in
+    subst (IsStruck places sector) (sym (read.cut ∙ front-whole 512 read.bytes struck.bytes.size)) struck
 
 not_both : (d : DriveState) (v : Moved) → was_written d v ≡ true → was_read d v ≡ false
 not_both d v e = by (has_bytes v) (is_writing d.work) e
@@ -97,10 +106,10 @@ not_both d v e = by (has_bytes v) (is_writing d.work) e
         no_true f = cc
     by false w f = refl
 
-module _ (w : World) (line u p : ℕ) (tells : Bool) (held held_after : ℕ → Pack) (v : Moved) (places : Places)
+module _ (w : World) (line u p : ℕ) (tells : Bool) (held held_after : ℕ → Pack) (v : Moved) (places : Places) (book : Book)
     (i : InHand w u p (held_in w p)) (b : IsBusyFor (adapter_for w u).state (drive_of u)) (down : (adapter_for w u).state.completion ≡ false)
     (skip : (adapter_for w u).state.skip ≡ 0) (first : (adapter_for w u).state.block ≡ (held_in w p).first)
-    (s : Stepped w u p tells held held_after v places) where
+    (s : Stepped w u p tells held held_after v places book) where
   window_is : next_window (adapter_for w u).state ≡ (adapter_for w u).state.moved
   window_is = omega (arith, skip)
 
@@ -108,7 +117,7 @@ module _ (w : World) (line u p : ℕ) (tells : Bool) (held held_after : ℕ → 
   block_is = ap (λ (n : ℕ). n + (adapter_for w u).state.moved) first
 
   abbrev pub tried : Tried
-  tried = record { marked = s.marked; verdict = v; bytes = block_in (held_at places p) (next_window (adapter_for w u).state) }
+  tried = record { marked = s.moves.marked; verdict = v; bytes = block_in (held_at places p) (next_window (adapter_for w u).state) }
 
   unread : was_read (unit_at w u).drive v ≡ false → places ≡ w.places
   unread e = s.places_are ∙ ap (λ (c : Bool). if c
@@ -120,6 +129,11 @@ module _ (w : World) (line u p : ℕ) (tells : Bool) (held held_after : ℕ → 
       ap (λ (x : Places). block_in (held_at x p) (next_window (adapter_for w u).state)) (unread (not_both (unit_at w u).drive v t))
       ∙ ap (block_in (held_in w p)) window_is
 
+  -- the block is whole before the step too
+  size_before : was_written (unit_at w u).drive v ≡ true → length (block_in (held_in w p) (next_window (adapter_for w u).state)) ≡ 512
+  size_before e =
+      ap (λ (x : Places). length (block_in (held_at x p) (next_window (adapter_for w u).state))) (sym (unread (not_both (unit_at w u).drive v e))) ∙ s.size
+
   may : Allowed w (Acts.Of line u p (held_in w p) (Acts.Sector (adapter_for w u).state.moved tried))
   may = (
     i,
@@ -128,7 +142,7 @@ module _ (w : World) (line u p : ℕ) (tells : Bool) (held held_after : ℕ → 
       down,
       refl,
       record {
-        verdict = subst (λ (n : ℕ). IsVerdict (unit_at w u).drive s.marked (strikes u n (unit_at w u).drive.offset w.book.live) v) block_is s.verdict;
+        verdict = subst (λ (n : ℕ). IsVerdict (unit_at w u).drive s.moves.marked (strikes u n (unit_at w u).drive.offset w.book.live) v) block_is s.moves.by_rules;
         bytes = same_bytes;
         size = λ t. s.size;
       },
@@ -138,21 +152,29 @@ module _ (w : World) (line u p : ℕ) (tells : Bool) (held held_after : ℕ → 
   written_is : (c : Bool) → was_written (unit_at w u).drive v ≡ c → IsTrue tells
       → held_after ≡ (if c then with_written held u ((held_in w p).first + (adapter_for w u).state.moved) tried.bytes else held)
   written_is true e t =
-      s.written t ∙ ap (λ (c : Bool). if c then with_written held u (next_block (adapter_for w u).state) (block_in (held_in w p) (next_window (adapter_for w u).state)) else held) e
+      s.moves.written t ∙ ap (λ (c : Bool). if c then with_written held u (next_block (adapter_for w u).state) (filled 512 (block_in (held_in w p) (next_window (adapter_for w u).state))) else held) e
+      ∙ ap (with_written held u (next_block (adapter_for w u).state)) (filled-whole 512 (block_in (held_in w p) (next_window (adapter_for w u).state)) (size_before e))
       ∙ ap (λ (n : ℕ). with_written held u n (block_in (held_in w p) (next_window (adapter_for w u).state))) block_is
       ∙ ap (with_written held u ((held_in w p).first + (adapter_for w u).state.moved)) (ap (block_in (held_in w p)) window_is ∙ sym (same_bytes e))
-  written_is false e t = s.written t ∙ ap (λ (c : Bool). if c then with_written held u (next_block (adapter_for w u).state) (block_in (held_in w p) (next_window (adapter_for w u).state)) else held) e
+  written_is false e t =
+      s.moves.written t ∙ ap (λ (c : Bool). if c then with_written held u (next_block (adapter_for w u).state) (filled 512 (block_in (held_in w p) (next_window (adapter_for w u).state))) else held) e
 
   pub step_does : (new : World) → new ≡ record {
     units = slice_set w.units u (record (unit_at w u) { drive = drive_stepped v (adapter_for w u).state (unit_at w u).drive });
     adapters = slice_set w.adapters (adapter_of u) (record (adapter_for w u) { state = stepped v (adapter_for w u).state });
     places = places;
-    book = if was_read (unit_at w u).drive v then book_struck u (next_block (adapter_for w u).state) (unit_at w u).drive.offset w.book else w.book;
+    book = book;
     answers = w.answers;
   } → Does (Acts.Of line u p (held_in w p) (Acts.Sector (adapter_for w u).state.moved tried) ∷ []) w new tells held held_after
   step_does new e = record {
     run = (may, tt);
-    world = e ∙ ap (λ (n : ℕ). record {
+    world = e ∙ ap (λ (b : Book). record {
+      units = slice_set w.units u (record (unit_at w u) { drive = drive_stepped v (adapter_for w u).state (unit_at w u).drive });
+      adapters = slice_set w.adapters (adapter_of u) (record (adapter_for w u) { state = stepped v (adapter_for w u).state });
+      places = places;
+      book = b;
+      answers = w.answers;
+    }) s.moves.book ∙ ap (λ (n : ℕ). record {
       units = slice_set w.units u (record (unit_at w u) { drive = drive_stepped v (adapter_for w u).state (unit_at w u).drive });
       adapters = slice_set w.adapters (adapter_of u) (record (adapter_for w u) { state = stepped v (adapter_for w u).state });
       places = places;
@@ -169,8 +191,9 @@ module _ (w : World) (line u p : ℕ) (tells : Bool) (held held_after : ℕ → 
         else w.places) window_is);
     reads = λ t. (
       record {
-        mark = subst (λ (n : ℕ). s.marked ≡ is_marked (held u) n) block_is (s.mark t);
-        bytes = λ r. subst (λ (n : ℕ). IsReadAs (strikes u n (unit_at w u).drive.offset w.book.live) (block_at (held u).image n) tried.bytes) block_is (s.read r t);
+        mark = subst (λ (n : ℕ). s.moves.marked ≡ is_marked (held u) n) block_is (s.moves.by_pack t);
+        bytes = λ r. subst (λ (n : ℕ). IsReadAs (strikes u n (unit_at w u).drive.offset w.book.live) (block_at (held u).image n) tried.bytes) block_is
+            (whole_read _ _ _ (length-block_at (held u).image (next_block (adapter_for w u).state)) (s.moves.read r t));
       },
       tt,
     );

@@ -1,13 +1,12 @@
 // The units and adapters with all that they have: each act by itself.
 ghost use Rattle.std.specs.Prelude.{◌≡◌, ℕ, ◌+◌, ◌*◌, ◌<◌, ◌≤◌, ◌/◌, [], ◌∷◌, length, drop, slice_set, replicate, Bool, true, false, None, Some, IsTrue, IsSome, IfSome, IfNone, IfOk, OnOk, OnErr, if◌then◌else◌};
 ghost use Rattle.pack_geometry.specs.Geometry.{block_count};
-ghost use Rattle.pack_model.specs.Pack.{block_at, is_marked, with_written};
 ghost use Rattle.mass_outside.specs.Causes.{HasCause};
 ghost use Rattle.hardware_table.specs.Drive.{is_ready, is_positioning};
 ghost use Rattle.hardware_table.specs.Adapter.{next_block, next_window, stepped, drive_stepped};
-ghost use Rattle.hardware_table.specs.Moves.{IsVerdict, IsReadAs, was_read, was_written};
-ghost use Rattle.hardware_table.specs.Noise.{strikes, book_struck};
+ghost use Rattle.hardware_table.specs.Moves.{was_read};
 ghost use Rattle.hardware_table.specs.declared.Work.TheVariants.{Transfer};
+ghost use Rattle.drive_model.specs.Move.{MovesSector};
 ghost use Rattle.mba_adapter.specs.Loaded.{loaded_buffer};
 ghost use Rattle.driver_machine.specs.Places.{Held, IsHeldFor, slot_at, frames_used, count_of, with_held, block_in, with_block_in};
 ghost use Rattle.driver_machine.specs.World.{AreSetups, new_world, set_up, no_unit, new_adapter_view, unit_at, adapter_at, adapter_for, adapter_of, drive_of, held_in};
@@ -157,7 +156,7 @@ impl Driver {
         requires bus { (held_in self.old place).on_bus ≡ true }
         requires loaded { (held_in self.old place).loan ≡ loaded_buffer (adapter_for self.old u).state }
         ensures does { Quiet (Of line u place (held_in self.old place) Intr ∷ []) self.old self.new }
-        ensures ended { result ≡ record { moved = (adapter_for self.old u).state.moved; last = (adapter_for self.old u).state.last } }
+        ensures ended { result ≡ record { moved = (adapter_for self.old u).state.moved; last = (adapter_for self.old u).state.verdict } }
     {
         let channel = &mut self.channels[usize::from(u / 8)];
         let ended = self.places.complete(place, &mut channel.adapter);
@@ -182,9 +181,9 @@ impl Driver {
         requires loaded { (held_in self.old place).loan ≡ loaded_buffer (adapter_for self.old u).state }
         requires transfer { (unit_at self.old u).drive.work ≡ Transfer (adapter_for self.old u).state.write }
         requires block { next_block (adapter_for self.old u).state < block_count (unit_at self.old u).drive.kind }
-        ensures verdict { IfOk result (λ v. (marked : Bool)
-            × IsVerdict (unit_at self.old u).drive marked (strikes u (next_block (adapter_for self.old u).state) (unit_at self.old u).drive.offset self.old.book.live) v
-            × (IsTrue (P.tells packs.new) → marked ≡ is_marked (P.held packs.old u) (next_block (adapter_for self.old u).state))) }
+        ensures moves { IfOk result (λ v. MovesSector u (next_block (adapter_for self.old u).state) (unit_at self.old u).drive 512 (P.tells packs.new)
+            (record { book = self.old.book; held = P.held packs.old; window = block_in (held_in self.old place) (next_window (adapter_for self.old u).state) })
+            (record { book = self.new.book; held = P.held packs.new; window = block_in (held_in self.new place) (next_window (adapter_for self.old u).state) }) v) }
         ensures units { IfOk result (λ v. self.new.units
             ≡ slice_set self.old.units u (record (unit_at self.old u) { drive = drive_stepped v (adapter_for self.old u).state (unit_at self.old u).drive })) }
         ensures adapters { IfOk result (λ v. self.new.adapters
@@ -192,18 +191,8 @@ impl Driver {
         ensures places { IfOk result (λ v. self.new.places ≡ (if was_read (unit_at self.old u).drive v
             then with_held place (with_block_in (next_window (adapter_for self.old u).state) (block_in (held_in self.new place) (next_window (adapter_for self.old u).state)) (held_in self.old place)) self.old.places
             else self.old.places)) }
-        ensures book { IfOk result (λ v. self.new.book ≡ (if was_read (unit_at self.old u).drive v
-            then book_struck u (next_block (adapter_for self.old u).state) (unit_at self.old u).drive.offset self.old.book
-            else self.old.book)) }
         ensures answers { self.new.answers ≡ self.old.answers }
-        ensures size { IfOk result (λ v. length (block_in (held_in self.new place) (next_window (adapter_for self.old u).state)) ≡ 512) }
-        ensures read { IfOk result (λ v. IsTrue (was_read (unit_at self.old u).drive v) → IsTrue (P.tells packs.new)
-            → IsReadAs (strikes u (next_block (adapter_for self.old u).state) (unit_at self.old u).drive.offset self.old.book.live)
-            (block_at (P.held packs.old u).image (next_block (adapter_for self.old u).state))
-            (block_in (held_in self.new place) (next_window (adapter_for self.old u).state))) }
-        ensures written { IfOk result (λ v. IsTrue (P.tells packs.new) → P.held packs.new ≡ (if was_written (unit_at self.old u).drive v
-            then with_written (P.held packs.old) u (next_block (adapter_for self.old u).state) (block_in (held_in self.old place) (next_window (adapter_for self.old u).state))
-            else P.held packs.old)) }
+        ensures size { length (block_in (held_in self.new place) (next_window (adapter_for self.old u).state)) ≡ 512 }
         ensures unchanged { OnErr result (self.new ≡ self.old) }
         ensures never_again { IsTrue (P.tells packs.new) → IsTrue (P.tells packs.old) }
         ensures cause { HasCause (P.faults packs.old) (P.faults packs.new) result }

@@ -11,8 +11,8 @@ use std::test::Fail;
 #[test]
 fn loaded_registers(rt: HostRuntime) -> Result<(), Fail> {
     let mut memory = MainMemory::new(rt.alloc())?;
-    let longer = memory.lend(5, 0)?;
-    let buffer = memory.lend(2, 300)?;
+    let longer = memory.lend(5, 0, 512)?;
+    let buffer = memory.lend(2, 300, 512)?;
     let mut adapter = Adapter::new();
     let longer = adapter.load(longer, 0, 5);
     assert_eq!(rt; adapter.map_register(4), 4);
@@ -50,7 +50,7 @@ fn marked_in_the_middle(rt: HostRuntime) -> Result<(), Fail> {
     let mut packs = packs(rt.alloc())?;
     let mut book = NoiseBook::new(rt.alloc(), 0)?;
     let mut memory = MainMemory::new(rt.alloc())?;
-    let buffer = memory.lend(4, 300)?;
+    let buffer = memory.lend(4, 300, 512)?;
     let blank = [0x77u8; 512];
     memory.store(&buffer, 0, &blank);
     memory.store(&buffer, 1, &blank);

@@ -4,15 +4,11 @@ use Rattle.hp_driver.proofs.driver.Driver.step.Goals as goal
 
 pub returns-clause-does : goal.returns-clause-does
 returns-clause-does g c =
-    let s : Stepped c.args.self.now c.args.u c.args.place (g.P.Packs.tells c.try_sector.new.packs) (g.P.Packs.held c.args.packs.now) (g.P.Packs.held c.try_sector.new.packs) c.in_ok-try_sector.field-0 c.try_sector.new.self.places = record {
-      marked = c.in_ok-try_sector.ensures.verdict.0;
-      verdict = c.in_ok-try_sector.ensures.verdict.1;
-      mark = c.in_ok-try_sector.ensures.verdict.2;
+    let s : Stepped c.args.self.now c.args.u c.args.place (g.P.Packs.tells c.try_sector.new.packs) (g.P.Packs.held c.args.packs.now) (g.P.Packs.held c.try_sector.new.packs) c.in_ok-try_sector.field-0 c.try_sector.new.self.places c.try_sector.new.self.book = record {
+      moves = c.in_ok-try_sector.ensures.moves;
       places_are = c.in_ok-try_sector.ensures.places;
-      size = c.in_ok-try_sector.ensures.size;
-      read = c.in_ok-try_sector.ensures.read;
-      written = c.in_ok-try_sector.ensures.written;
+      size = c.try_sector.ensures.size;
     } in (
-      tried _ c.args.line c.args.u c.args.place _ _ _ c.in_ok-try_sector.field-0 c.try_sector.new.self.places c.requires.in_hand c.requires.busy c.requires.under_way c.requires.skip c.requires.first s,
-      step_does _ c.args.line c.args.u c.args.place _ _ _ c.in_ok-try_sector.field-0 c.try_sector.new.self.places c.requires.in_hand c.requires.busy c.requires.under_way c.requires.skip c.requires.first s _ (search rules),
+      tried _ c.args.line c.args.u c.args.place _ _ _ c.in_ok-try_sector.field-0 c.try_sector.new.self.places c.try_sector.new.self.book c.requires.in_hand c.requires.busy c.requires.under_way c.requires.skip c.requires.first s,
+      step_does _ c.args.line c.args.u c.args.place _ _ _ c.in_ok-try_sector.field-0 c.try_sector.new.self.places c.try_sector.new.self.book c.requires.in_hand c.requires.busy c.requires.under_way c.requires.skip c.requires.first s _ (search rules),
     )

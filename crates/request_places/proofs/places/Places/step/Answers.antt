@@ -1,14 +1,14 @@
 use Rattle.std.proofs.Common.{◌≡◌, ◌<◌, List, Option, Some, sym, ap, ◌∙◌, subst, rules}
 use Rattle.hardware_table.specs.Adapter.{next_window}
 use Rattle.hardware_table.specs.Moves.{was_read}
-use Rattle.main_memory.specs.Blocks.{Loan, span_of, bytes_in}
+use Rattle.main_memory.specs.Blocks.{Loan, size_at, span_of, bytes_in}
 use Rattle.main_memory.specs.Memory.{IsMemory}
 use Rattle.mba_adapter.specs.Loaded.{loaded_buffer}
 use Rattle.driver_machine.specs.Places.{Held, held_at, block_in}
 use Rattle.request_places.specs.declared.slots.Slot.{Slot}
-use Rattle.request_places.specs.Slots.{loan_of, slot_in, IsKept}
+use Rattle.request_places.specs.Slots.{loan_of, slot_in, places_of, IsKept}
 use Rattle.request_places.proofs.SlotLaws.{loan_at}
-use Rattle.request_places.proofs.StepLaws.{IsMoved, moved_block, length-moved_block, kept-same_frames, sound_step, shown_step, if_ok}
+use Rattle.request_places.proofs.StepLaws.{IsMoved, moved_block, size_moved, length-moved_block, kept-same_frames, sound_step, shown_step, moves_as}
 use Rattle.request_places.proofs.places.Places.step.Goals as goal
 use Rattle.request_places.proofs.places.Places.step.Given.{Over}
 
@@ -39,14 +39,9 @@ kept g c =
 pub invariant_of-self : goal.invariant_of-self
 invariant_of-self g c = kept g c
 
-pub returns-clause-read : goal.returns-clause-read
-returns-clause-read g c =
-    rw (moved_block c.step_sector.new.memory c.self.inside.slots.items c.args.place c.in-Adapter.buffer (next_window c.args.adapter.now) (kept g c) (moved g c)) at c.step_sector.ensures.read
-
 pub returns-clause-size : goal.returns-clause-size
 returns-clause-size g c =
-    if_ok c.step_sector.result
-    (length-moved_block c.step_sector.new.memory c.self.inside.slots.items c.args.place c.in-Adapter.buffer (next_window c.args.adapter.now) (kept g c) (moved g c))
+    length-moved_block c.step_sector.new.memory c.self.inside.slots.items c.args.place c.in-Adapter.buffer (next_window c.args.adapter.now) (kept g c) (moved g c)
 
 pub returns-clause-places : goal.returns-clause-places
 returns-clause-places g c =
@@ -61,8 +56,19 @@ block_before g c =
     moved_block c.self.inside.memory c.self.inside.slots.items c.args.place c.in-Adapter.buffer (next_window c.args.adapter.now) c.self.invariant (moved g c)
     ∙ ap (λ (places : List (Option Held)). block_in (held_at places c.args.place) (next_window c.args.adapter.now)) c.self.view_is
 
-pub returns-clause-written : goal.returns-clause-written
-returns-clause-written g c = rw (block_before g c) at c.step_sector.ensures.written
+-- and after it
+block_after : (g : Over) (c : goal.After-step_sector g) → bytes_in (span_of c.in-Adapter.buffer (next_window c.args.adapter.now)) c.step_sector.new.memory.bytes
+    ≡ block_in (held_at (places_of c.step_sector.new.memory c.self.inside.slots.items) c.args.place) (next_window c.args.adapter.now)
+block_after g c =
+    moved_block c.step_sector.new.memory c.self.inside.slots.items c.args.place c.in-Adapter.buffer (next_window c.args.adapter.now) (kept g c) (moved g c)
+
+-- it is whole
+size_is : (g : Over) (c : goal.After-step_sector g) → size_at c.in-Adapter.buffer (next_window c.args.adapter.now) ≡ 512
+size_is g c = size_moved c.self.inside.memory c.self.inside.slots.items c.args.place c.in-Adapter.buffer (next_window c.args.adapter.now) c.self.invariant (moved g c)
+
+pub returns-clause-moves : goal.returns-clause-moves
+returns-clause-moves g c =
+    moves_as c.step_sector.result _ _ _ _ _ _ _ _ (size_is g c) (block_before g c) (block_after g c) c.step_sector.ensures.moves
 
 pub returns-clause-old_or_new : goal.returns-clause-old_or_new
 returns-clause-old_or_new g c = rw (block_before g c) at c.step_sector.ensures.old_or_new
