@@ -1,5 +1,5 @@
 -- What contracts see of a sorted queue.
-use Rattle.std.specs.Prelude.{ℕ, ◌≤◌, List, length}
+use Rattle.std.specs.Prelude.{◌≡◌, ℕ, ◌<◌, ◌≤◌, Bool, false, List, length, slice_index_or}
 use Rattle.disksort.specs.declared.Waiter.{Waiter}
 use Rattle.subsystem_spec.specs.ServiceOrder.{IsInOrder}
 
@@ -11,6 +11,10 @@ pub record Queue : Type 0 where
 
 abbrev pub cylinder_of : Waiter → ℕ
 cylinder_of waiter = waiter.cylinder
+
+-- none of a list is before one that stands in front of it, be it next to it or not
+abbrev pub IsSortedThroughout : {A : Type 0} → (A → A → Bool) → List A → Type 0
+IsSortedThroughout {A} before xs = (i j : ℕ) (d : A) → i < j → j < length xs → before (slice_index_or xs j d) (slice_index_or xs i d) ≡ false
 
 -- what its list keeps: service order, and room that was reserved
 pub record IsKept (waiting : List Waiter) (capacity room : ℕ) : Type 0 where

@@ -2,9 +2,8 @@
 #![tactic(auto)]
 
 ghost use Rattle.std.specs.Prelude.{◌≡◌, ◌≢◌, ◌<◌, ◌≤◌, nat_lt, ◌&&◌, ◌||◌, if◌then◌else◌, List, [], ◌∷◌, length, drop, All, IfOk, IsPermutation, insert, slice_get};
-ghost use Rattle.std.specs.List.Sorted.{IsSortedBy};
 ghost use Rattle.subsystem_spec.specs.ServiceOrder.{Waiting, Change, is_before, service_order, empty_service, service_after, queue_after, queue_of, queue_with, IsInOrder, IsTwoRuns, in_runs};
-ghost use Rattle.disksort.specs.SortQueue.{cylinder_of};
+ghost use Rattle.disksort.specs.SortQueue.{cylinder_of, IsSortedThroughout};
 
 use mass_outside::traits::NoMemory;
 use std::alloc::Global;
@@ -130,13 +129,13 @@ fn goes_before(head: u32, joining: u32, waiting: u32) -> bool
 
 /// The laws of the service order. Whatever joins and leaves, the queue is the list of those that wait, sorted by the
 /// sweep that each got as it joined, its cylinder and its order of joining. The sort keeps all of them, and puts none
-/// in front of one that is served before it. A queue in this order is two ascending runs, and one that joins goes into
+/// anywhere in front of one that is served before it. A queue in this order is two ascending runs, and one that joins goes into
 /// its run behind those of equal cylinder.
 pub fn service_order_law()
     ensures history { (changes : List (Change Waiter))
         → queue_of (service_after cylinder_of empty_service changes) ≡ queue_after cylinder_of [] changes }
     ensures same { (waiting : List (Waiting Waiter)) → IsPermutation waiting (service_order waiting) }
-    ensures sorted { (waiting : List (Waiting Waiter)) → IsSortedBy is_before (service_order waiting) }
+    ensures sorted { (waiting : List (Waiting Waiter)) → IsSortedThroughout is_before (service_order waiting) }
     ensures two_runs { (head : Waiter) (behind : List Waiter) → IsInOrder cylinder_of (head ∷ behind)
         → IsTwoRuns cylinder_of head.cylinder (head ∷ behind) }
     ensures in_its_run { (queue : List Waiter) (joining : Waiter) → IsInOrder cylinder_of queue

@@ -1,5 +1,5 @@
 -- What a sink took so far.
-use Rattle.std.proofs.Common.{◌≡◌, ℕ, ◌+◌, ◌-◌, ◌≤◌, List, ◌++◌, take, drop, length, ◌∙◌, ap, sym, arith, append_assoc, length-drop}
+use Rattle.std.proofs.Common.{◌≡◌, ℕ, ◌+◌, ◌-◌, ◌≤◌, List, ◌++◌, take, drop, length, ◌∙◌, ap, sym, arith, append_assoc, length-append, length-drop}
 use Rattle.std.proofs.lemmas.List.{take_all}
 use Rattle.std.proofs.Math.Seq.{take-add}
 
@@ -18,3 +18,7 @@ pub count_inside : (text : List ℕ) (done count : ℕ) → done ≤ length text
 count_inside text done count d h =
     let same : length (take (length text - done) (drop done text)) ≡ length (drop done text) = ap (λ (xs : List ℕ). length xs) (rest_whole text done) in
     omega (arith, d, h, same, length-drop done text)
+
+-- what was taken of a source is as long as what came of it
+pub taken_bound : (old came new : List ℕ) (limit : ℕ) → old ≡ came ++ new → length came ≤ limit + 1 → length old ≤ length new + limit + 1
+taken_bound old came new limit e h = omega (arith, h, ap length e, length-append came new)

@@ -1,5 +1,5 @@
 -- A call answers that it failed only where the count of faults rose in it.
-use Rattle.std.specs.Prelude.{ℕ, ◌+◌, ◌-◌, ◌^◌, ◌≤◌, min, Result, OnErr}
+use Rattle.std.specs.Prelude.{◌≡◌, ℕ, ◌+◌, ◌-◌, ◌^◌, ◌≤◌, min, Result, Ok, Err, MatchResult, OnErr}
 
 -- a count rose, or stands at its last value
 abbrev pub Rose : ℕ → ℕ → Type 0
@@ -13,3 +13,12 @@ pub record HasCause {T E : Type 0} (before now : ℕ) (result : Result T E) : Ty
 -- a count that rises by one, and stands still at its last value
 abbrev pub next : ℕ → ℕ
 next n = min (n + 1) (2 ^ 64 - 1)
+
+-- a count stays at an Ok, and rises by one at an Err
+abbrev pub Counts : {T E : Type 0} → Result T E → ℕ → ℕ → Type 0
+Counts result before now = MatchResult result (λ _. now ≡ before) (λ _. now ≡ next before)
+
+-- an Ok is handed on, and an Err becomes this one and is counted
+abbrev pub HandsOn : {T D E : Type 0} → Result T D → E → Result T E → ℕ → ℕ → Type 0
+HandsOn answer failed result before now =
+    MatchResult answer (λ x. (result ≡ Ok x) × (now ≡ before)) (λ _. (result ≡ Err failed) × (now ≡ next before))

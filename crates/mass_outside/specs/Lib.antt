@@ -1,6 +1,8 @@
 pub mod Causes
+pub mod Files
 pub mod Images
 pub mod Memory
 pub mod Puts
 pub mod Slots
 pub mod Streams
+pub mod Sure

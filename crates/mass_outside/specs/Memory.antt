@@ -20,8 +20,11 @@ abbrev pub held_by : MemView → ℕ → Pack
 held_by packs unit = held_slots packs.slots unit
 
 -- there is no room for a block of a unit
+abbrev pub is_outside : List SlotView → ℕ → ℕ → Bool
+is_outside slots unit block = not (nat_lt block (blocks_in (slice_get slots unit)))
+
 abbrev pub has_no_room : MemView → ℕ → ℕ → Bool
-has_no_room packs unit block = not (nat_lt block (blocks_in (slice_get packs.slots unit)))
+has_no_room packs unit block = is_outside packs.slots unit block
 
 -- no call was made yet
 pub record IsFresh (packs : MemView) : Type 0 where

@@ -1,15 +1,29 @@
-ghost use Rattle.std.specs.Prelude.{◌≡◌, ◌<◌, ◌≤◌, ℕ, length, IfOk, IfSome, vec_len};
-ghost use Rattle.mass_outside.specs.Causes.{HasCause};
+ghost use Rattle.std.specs.Prelude.{◌≡◌, ◌<◌, ◌≤◌, ◌-◌, ◌*◌, ◌==◌, ◌++◌, ℕ, not, if◌then◌else◌, length, take, replicate, IfOk, OnOk, IfSome, IsSome, vec_len, string_bytes};
+ghost use Rattle.std.specs.Io.KnownBytes.{Appends, WriteAppends};
+ghost use Rattle.std.specs.Io.Seek.{MovesTo};
+ghost use Rattle.mass_outside.specs.Causes.{HasCause, Counts};
+ghost use Rattle.mass_outside.specs.Files.{name_of, FillsFront};
 
+use crate::streams::{counted, some_taken};
 use crate::traits::{Packs, Sink, SinkFailed, StoreFailed};
+use std::alloc::{AllocError, Global};
 use std::fs::{OpenFile, OpenOptions};
 use std::io;
 use std::io::{ErrorKind, Read, Seek, SeekFrom, Write};
 use std::rt::Files;
 
-/// Reads as many bytes as a file has from a place on, and as fit.
-fn read_at<F: Read + Seek>(file: &mut F, at: u64, into: &mut [u8]) -> io::Result<()> {
+/// Goes to a place of a file.
+fn go_to<F: Seek>(file: &mut F, at: u64) -> io::Result<()>
+    ensures { MovesTo (F.stream_position file.old) (F.stream_position file.new) at result }
+{
     file.seek(SeekFrom::Start(at))?;
+    Ok(())
+}
+
+/// Reads as many bytes as there are and as fit, and answers how many they are.
+fn read_front<F: Read>(file: &mut F, into: &mut [u8]) -> io::Result<usize>
+    ensures { IfOk result (λ n. FillsFront (F.remaining file.old) (F.remaining file.new) into.new n) }
+{
     let mut done = 0;
     while done < into.len() {
         let count = file.read(&mut into[done..])?;
@@ -18,21 +32,62 @@ fn read_at<F: Read + Seek>(file: &mut F, at: u64, into: &mut [u8]) -> io::Result
         }
         done += count;
     }
+    Ok(done)
+}
+
+/// Fills with zeros behind the bytes that were read.
+fn fill_rest(into: &mut [u8], count: usize)
+    requires { count ≤ length into.old }
+    ensures { into.new ≡ take count into.old ++ replicate (length into.old - count) 0 }
+{
+    into[count..].fill(0);
+}
+
+/// Reads as many bytes as a file has from a place on, and as fit, and fills the rest with zeros.
+fn read_at<F: Read + Seek>(file: &mut F, at: u64, into: &mut [u8]) -> io::Result<()> {
+    go_to(file, at)?;
+    let count = read_front(file, into)?;
+    fill_rest(into, count);
+    Ok(())
+}
+
+/// Writes all bytes.
+fn write_whole<F: Write>(file: &mut F, from: &[u8]) -> io::Result<()>
+    ensures { OnOk result (Appends (F.contents file.old) (F.contents file.new) from.now) }
+{
+    let mut done = 0;
+    while done < from.len() {
+        let rest = &from[done..];
+        done += some_taken(file.write(rest), rest.len())?;
+    }
     Ok(())
 }
 
 /// Writes bytes at a place.
 fn write_at<F: Write + Seek>(file: &mut F, at: u64, from: &[u8]) -> io::Result<()> {
-    file.seek(SeekFrom::Start(at))?;
-    let mut done = 0;
-    while done < from.len() {
-        let count = file.write(&from[done..])?;
-        if count == 0 {
-            return Err(io::Error::from(ErrorKind::WriteZero));
-        }
-        done += count;
-    }
-    Ok(())
+    go_to(file, at)?;
+    write_whole(file, from)
+}
+
+/// The place of a block in an image, in bytes.
+fn place_in_image(block: u32) -> u64
+    ensures { result ≡ 512 * block }
+{
+    512 * u64::from(block)
+}
+
+/// Whether a mark byte marks its block: any byte but 0 does.
+fn is_mark(byte: u8) -> bool
+    ensures { result ≡ not (byte == 0) }
+{
+    byte != 0
+}
+
+/// The mark byte that is written: 1 for a marked block, 0 for a good one.
+fn mark_byte(on: bool) -> u8
+    ensures { result ≡ (if on then 1 else 0) }
+{
+    u8::from(on)
 }
 
 /// The two files of a unit.
@@ -48,6 +103,16 @@ struct OpenPart<F> {
     unit: u8,
     part: Part,
     file: F,
+}
+
+/// The name of a unit's file.
+fn part_name(alloc: Global, unit: u8, part: Part) -> Result<String, AllocError>
+    ensures { IfOk result (λ name. string_bytes name ≡ name_of unit part) }
+{
+    match part {
+        Part::Image => format!(in alloc; "hp{unit}.dsk"),
+        Part::Marks => format!(in alloc; "hp{unit}.bad"),
+    }
 }
 
 /// Opens a file for reading and writing, or for reading alone where it may not be written and is not to be made.
@@ -107,10 +172,7 @@ impl<R: Files + AllocGlobal> FilePacks<R> {
         if let Some(i) = found {
             return Ok(Some(i));
         }
-        let name = match part {
-            Part::Image => format!(in self.rt.alloc(); "hp{unit}.dsk")?,
-            Part::Marks => format!(in self.rt.alloc(); "hp{unit}.bad")?,
-        };
+        let name = part_name(self.rt.alloc(), unit, part)?;
         match open_part(&self.rt, name.as_str(), create) {
             Ok(file) => {
                 self.files.push(OpenPart { unit, part, file })?;
@@ -137,13 +199,21 @@ impl<R: Files + AllocGlobal> FilePacks<R> {
     fn try_read(&mut self, unit: u8, part: Part, at: u64, into: &mut [u8]) -> io::Result<()>
         ensures { self.new.faults ≡ self.old.faults }
     {
-        for byte in into.iter_mut() {
-            *byte = 0;
-        }
         match self.find(unit, part, false)? {
-            None => Ok(()),
+            None => {
+                fill_rest(into, 0);
+                Ok(())
+            }
             Some(i) => read_at(&mut self.files[i].file, at, into),
         }
+    }
+
+    fn try_marked(&mut self, unit: u8, block: u32) -> io::Result<bool>
+        ensures { self.new.faults ≡ self.old.faults }
+    {
+        let mut byte = [0u8; 1];
+        self.try_read(unit, Part::Marks, u64::from(block), &mut byte)?;
+        Ok(is_mark(byte[0]))
     }
 
     fn try_write(&mut self, unit: u8, part: Part, at: u64, from: &[u8]) -> io::Result<()>
@@ -152,21 +222,6 @@ impl<R: Files + AllocGlobal> FilePacks<R> {
         match self.find(unit, part, true)? {
             None => Err(io::Error::from(ErrorKind::NotFound)),
             Some(i) => write_at(&mut self.files[i].file, at, from),
-        }
-    }
-}
-
-impl<R: Files + AllocGlobal> FilePacks<R> {
-    /// Counts a failure.
-    fn checked<T>(&mut self, answer: io::Result<T>) -> Result<T, StoreFailed>
-        ensures { HasCause self.old.faults self.new.faults result }
-    {
-        match answer {
-            Ok(value) => Ok(value),
-            Err(_) => {
-                self.faults = self.faults.saturating_add(1);
-                Err(StoreFailed)
-            }
         }
     }
 }
@@ -181,31 +236,50 @@ impl<R: Files + AllocGlobal> Packs for FilePacks<R> {
 
     ghost faults = { λ p. p.faults };
 
-    fn length(&mut self, unit: u8) -> Result<u64, StoreFailed> {
+    // Each call counts a failure where it answers one, and nowhere else.
+    fn length(&mut self, unit: u8) -> Result<u64, StoreFailed>
+        requires { unit < 32 }
+        ensures cause { HasCause self.old.faults self.new.faults result }
+        ensures counted { Counts result self.old.faults self.new.faults }
+    {
         let length = self.try_length(unit);
-        self.checked(length)
+        counted(length, StoreFailed, &mut self.faults)
     }
 
-    fn read(&mut self, unit: u8, block: u32, into: &mut [u8; 512]) -> Result<(), StoreFailed> {
-        let read = self.try_read(unit, Part::Image, 512 * u64::from(block), into);
-        self.checked(read)
+    fn read(&mut self, unit: u8, block: u32, into: &mut [u8; 512]) -> Result<(), StoreFailed>
+        requires { unit < 32 }
+        ensures cause { HasCause self.old.faults self.new.faults result }
+        ensures counted { Counts result self.old.faults self.new.faults }
+    {
+        let read = self.try_read(unit, Part::Image, place_in_image(block), into);
+        counted(read, StoreFailed, &mut self.faults)
     }
 
-    fn write(&mut self, unit: u8, block: u32, from: &[u8; 512]) -> Result<(), StoreFailed> {
-        let written = self.try_write(unit, Part::Image, 512 * u64::from(block), from);
-        self.checked(written)
+    fn write(&mut self, unit: u8, block: u32, from: &[u8; 512]) -> Result<(), StoreFailed>
+        requires { unit < 32 }
+        ensures cause { HasCause self.old.faults self.new.faults result }
+        ensures counted { Counts result self.old.faults self.new.faults }
+    {
+        let written = self.try_write(unit, Part::Image, place_in_image(block), from);
+        counted(written, StoreFailed, &mut self.faults)
     }
 
-    fn marked(&mut self, unit: u8, block: u32) -> Result<bool, StoreFailed> {
-        let mut byte = [0u8; 1];
-        let read = self.try_read(unit, Part::Marks, u64::from(block), &mut byte);
-        self.checked(read)?;
-        Ok(byte[0] != 0)
+    fn marked(&mut self, unit: u8, block: u32) -> Result<bool, StoreFailed>
+        requires { unit < 32 }
+        ensures cause { HasCause self.old.faults self.new.faults result }
+        ensures counted { Counts result self.old.faults self.new.faults }
+    {
+        let mark = self.try_marked(unit, block);
+        counted(mark, StoreFailed, &mut self.faults)
     }
 
-    fn set_mark(&mut self, unit: u8, block: u32, on: bool) -> Result<(), StoreFailed> {
-        let written = self.try_write(unit, Part::Marks, u64::from(block), &[u8::from(on)]);
-        self.checked(written)
+    fn set_mark(&mut self, unit: u8, block: u32, on: bool) -> Result<(), StoreFailed>
+        requires { unit < 32 }
+        ensures cause { HasCause self.old.faults self.new.faults result }
+        ensures counted { Counts result self.old.faults self.new.faults }
+    {
+        let written = self.try_write(unit, Part::Marks, u64::from(block), &[mark_byte(on)]);
+        counted(written, StoreFailed, &mut self.faults)
     }
 }
 
@@ -235,6 +309,7 @@ impl<'a, R: Files> FileSink<'a, R> {
 
     fn try_write(&mut self, from: &[u8]) -> io::Result<usize>
         ensures bound { IfOk result (λ n. n ≤ length from.now) }
+        ensures name { self.new.name.now ≡ self.old.name.now }
         ensures faults { self.new.faults ≡ self.old.faults }
     {
         if self.file.is_none() {
@@ -248,7 +323,7 @@ impl<'a, R: Files> FileSink<'a, R> {
 }
 
 impl<'a, R: Files> Sink for FileSink<'a, R> {
-    ghost use Rattle.std.specs.Prelude.{false, []};
+    ghost use Rattle.std.specs.Prelude.{false, List, [], IsTrue, OnErr};
 
     ghost tells = { λ _. false };
 
@@ -256,13 +331,17 @@ impl<'a, R: Files> Sink for FileSink<'a, R> {
 
     ghost faults = { λ s. s.faults };
 
-    fn write(&mut self, from: &[u8]) -> Result<usize, SinkFailed> {
-        if let Ok(count) = self.try_write(from) {
-            if count > 0 || from.is_empty() {
-                return Ok(count);
-            }
-        }
-        self.faults = self.faults.saturating_add(1);
-        Err(SinkFailed)
+    fn write(&mut self, from: &[u8]) -> Result<usize, SinkFailed>
+        ensures bound { IfOk result (λ n. n ≤ length from.now) }
+        ensures some { IfOk result (λ n. 0 < length from.now → 0 < n) }
+        ensures bytes { IfOk result (λ n. IsTrue false → ◌≡◌ {A = List ℕ} [] ([] ++ take n from.now)) }
+        ensures err { OnErr result (IsTrue false → ◌≡◌ {A = List ℕ} [] []) }
+        ensures cause { HasCause self.old.faults self.new.faults result }
+        // It counts each failure and nothing else, and keeps its file's name.
+        ensures counted { Counts result self.old.faults self.new.faults }
+        ensures name { self.new.name.now ≡ self.old.name.now }
+    {
+        let answer = some_taken(self.try_write(from), from.len());
+        counted(answer, SinkFailed, &mut self.faults)
     }
 }

@@ -7,6 +7,7 @@ pub mod mem_packs;
 pub mod mem_streams;
 pub mod slots;
 pub mod streams;
+pub mod sure_packs;
 #[cfg(test)]
 mod tests;
 pub mod traits;

@@ -100,7 +100,7 @@ fn empty_slots(alloc: Global) -> Result<Vec<Slot>, AllocError>
 }
 
 /// Slots with the content of images.
-fn slots_of(alloc: Global, mut images: Vec<Image>) -> Result<Vec<Slot>, AllocError>
+pub(crate) fn slots_of(alloc: Global, mut images: Vec<Image>) -> Result<Vec<Slot>, AllocError>
     ensures len { IfOk result (λ slots. length slots.items ≡ 32) }
     ensures held { IfOk result (λ slots. HoldsImages slots.items images.items) }
 {

@@ -3,11 +3,15 @@ use crate::mem_packs::{FailCall, MemPacks, PackOp};
 use crate::mem_streams::{MemSink, MemSource, SureSink, SureSource};
 use crate::slots::Image;
 use crate::streams::{StdSink, StdSource};
+use crate::sure_packs::SurePacks;
 use crate::traits::{Packs, Sink, Source, StoreFailed};
 use crate::whole::{read_all, write_all};
-use std::alloc::Global;
-use std::fs;
+use std::alloc::{Allocator, Global};
+use std::fs::{File, Metadata, OpenOptions};
+use std::io::{ErrorKind, Read, Write};
+use std::rt::Files;
 use std::test::Fail;
+use std::{fs, io};
 
 /// Reads three pieces of at most two bytes, and answers how many bytes each gave; 9 stands for a failure.
 fn pieces<S: Source>(source: &mut S) -> [u8; 3] {
@@ -135,30 +139,333 @@ fn packs_in_memory(rt: HostRuntime) -> Result<(), Fail> {
     Ok(())
 }
 
-#[test]
-fn adapters(rt: HostRuntime) -> Result<(), Fail> {
-    let mut source = StdSource::new(b"ab".as_slice());
-    let mut piece = [0u8; 9];
-    assert!(rt; source.read(&mut piece) == Ok(2) && source.read(&mut piece) == Ok(0));
-    let mut sink = StdSink::new(Vec::new(rt.alloc()));
-    assert!(rt; sink.write(b"abc") == Ok(3));
-    let mut file = FileSink::new(&rt, "hp.trace");
-    write_all(&mut file, b"idle 1\n")?;
-    let text = fs::read_to_string(&rt, "hp.trace")?;
-    assert!(rt; text.as_str() == "idle 1\n");
+/// A reader of std whose call of one number, counted from 1, fails.
+#[derive(Drop)]
+struct FailingReader<'a> {
+    rest: &'a [u8],
+    calls: u8,
+    fail: u8,
+}
 
-    let mut packs = FilePacks::new(&rt);
+impl<'a> Read for FailingReader<'a> {
+    fn read(&mut self, into: &mut [u8]) -> io::Result<usize> {
+        self.calls = self.calls.saturating_add(1);
+        if self.calls == self.fail {
+            return Err(io::Error::from(ErrorKind::InvalidData));
+        }
+        self.rest.read(into)
+    }
+}
+
+/// A writer of std that takes a few bytes a call, and whose call of one number fails.
+#[derive(Drop)]
+struct ShortWriter<'a> {
+    taken: &'a mut Vec<u8>,
+    most: usize,
+    calls: u8,
+    fail: u8,
+}
+
+impl<'a> Write for ShortWriter<'a> {
+    fn write(&mut self, from: &[u8]) -> io::Result<usize> {
+        self.calls = self.calls.saturating_add(1);
+        if self.calls == self.fail {
+            return Err(io::Error::from(ErrorKind::InvalidData));
+        }
+        let count = from.len().min(self.most);
+        self.taken.extend_from_slice(&from[..count])?;
+        Ok(count)
+    }
+
+    fn flush(&mut self) -> io::Result<()> {
+        Ok(())
+    }
+}
+
+#[test]
+fn streams_of_std(rt: HostRuntime) -> Result<(), Fail> {
+    for (fail, counts) in [
+        (1u8, [9u8, 2, 1]),
+        (2, [2, 9, 1]),
+        (3, [2, 1, 9]),
+        (4, [2, 1, 0]),
+    ] {
+        let mut source = StdSource::new(FailingReader {
+            rest: b"abc",
+            calls: 0,
+            fail,
+        });
+        assert_eq!(rt; pieces(&mut source), counts, "call {fail}");
+    }
+    for (most, fail, done, text) in [
+        (2usize, 9u8, true, b"abcde".as_slice()),
+        (9, 9, true, b"abcde"),
+        (2, 2, false, b"ab"),
+        (3, 1, false, b""),
+        (0, 9, false, b""),
+    ] {
+        let mut taken = Vec::new(rt.alloc());
+        let mut sink = StdSink::new(ShortWriter {
+            taken: &mut taken,
+            most,
+            calls: 0,
+            fail,
+        });
+        assert!(rt;
+            write_all(&mut sink, b"abcde").is_ok() == done,
+            "most {most}, call {fail}"
+        );
+        assert_eq!(rt; taken.as_slice(), text, "most {most}, call {fail}");
+    }
+    Ok(())
+}
+
+/// A call on packs.
+#[derive(Clone, Copy, Debug)]
+enum Call {
+    Length,
+    Read(u32),
+    Write(u32, u8),
+    Marked(u32),
+    Mark(u32, bool),
+}
+
+/// 256 times the first byte, and the last byte.
+fn edges(block: &[u8; 512]) -> u64 {
+    256 * u64::from(block[0]) + u64::from(block[511])
+}
+
+/// What a call answers. Reading answers 256 times the first byte, and the last byte, of a buffer that held 7s before.
+fn answer<P: Packs>(packs: &mut P, unit: u8, call: Call) -> Result<u64, StoreFailed> {
+    let unit = unit.min(31);
     let mut block = [7u8; 512];
-    assert!(rt; packs.length(31) == Ok(0) && packs.marked(31, 5) == Ok(false));
-    packs.write(31, 1, &block)?;
-    packs.set_mark(31, 5, true)?;
-    assert!(rt; packs.length(31) == Ok(1024) && packs.marked(31, 5) == Ok(true));
-    packs.read(31, 0, &mut block)?;
-    assert!(rt; block == [0u8; 512]);
-    packs.read(31, 1, &mut block)?;
-    assert!(rt; block == [7u8; 512]);
-    for name in ["hp.trace", "hp31.dsk", "hp31.bad"] {
+    match call {
+        Call::Length => packs.length(unit),
+        Call::Read(at) => match packs.read(unit, at, &mut block) {
+            Ok(()) => Ok(edges(&block)),
+            Err(error) => Err(error),
+        },
+        Call::Write(at, byte) => match packs.write(unit, at, &[byte; 512]) {
+            Ok(()) => Ok(0),
+            Err(error) => Err(error),
+        },
+        Call::Marked(at) => match packs.marked(unit, at) {
+            Ok(on) => Ok(u64::from(on)),
+            Err(error) => Err(error),
+        },
+        Call::Mark(at, on) => match packs.set_mark(unit, at, on) {
+            Ok(()) => Ok(0),
+            Err(error) => Err(error),
+        },
+    }
+}
+
+/// What calls on the packs of files answer. Unit 28 has an image of 700 bytes 255 and the marks 0, 7 and 1, the image
+/// of unit 27 is a folder, and the other units have no files.
+const FILES: [(u8, Call, Option<u64>); 32] = [
+    (29, Call::Length, Some(0)),
+    (29, Call::Read(3), Some(0)),
+    (29, Call::Marked(5), Some(0)),
+    (28, Call::Length, Some(700)),
+    (28, Call::Read(0), Some(0xFFFF)),
+    (28, Call::Read(1), Some(0xFF00)),
+    (28, Call::Read(2), Some(0)),
+    (28, Call::Marked(0), Some(0)),
+    (28, Call::Marked(1), Some(1)),
+    (28, Call::Marked(2), Some(1)),
+    (28, Call::Marked(3), Some(0)),
+    (28, Call::Mark(1, false), Some(0)),
+    (28, Call::Marked(1), Some(0)),
+    (28, Call::Marked(2), Some(1)),
+    (28, Call::Mark(4, true), Some(0)),
+    (28, Call::Marked(4), Some(1)),
+    (28, Call::Marked(3), Some(0)),
+    (28, Call::Write(3, 5), Some(0)),
+    (28, Call::Length, Some(2048)),
+    (28, Call::Read(3), Some(0x0505)),
+    (28, Call::Read(2), Some(0)),
+    (28, Call::Read(0), Some(0xFFFF)),
+    (27, Call::Length, None),
+    (27, Call::Read(0), None),
+    (27, Call::Write(0, 1), None),
+    (27, Call::Marked(0), Some(0)),
+    (26, Call::Write(340_670, 5), Some(0)),
+    (26, Call::Length, Some(174_423_552)),
+    (26, Call::Read(340_670), Some(0x0505)),
+    (26, Call::Read(340_669), Some(0)),
+    (26, Call::Read(340_671), Some(0)),
+    (29, Call::Length, Some(0)),
+];
+
+/// What they answer afterwards where no file may be written: unit 28 is read, and nothing is written or made.
+const READ_ONLY: [(u8, Call, Option<u64>); 10] = [
+    (28, Call::Write(0, 1), None),
+    (28, Call::Mark(1, true), None),
+    (28, Call::Length, Some(2048)),
+    (28, Call::Read(3), Some(0x0505)),
+    (28, Call::Marked(2), Some(1)),
+    (28, Call::Write(0, 1), None),
+    (28, Call::Mark(1, true), None),
+    (28, Call::Read(0), Some(0xFFFF)),
+    (28, Call::Marked(1), Some(0)),
+    (29, Call::Write(0, 1), None),
+];
+
+/// What they answer where no file may be opened: a file that is there is not taken for a missing one.
+const SHUT: [(u8, Call, Option<u64>); 6] = [
+    (28, Call::Length, None),
+    (28, Call::Read(0), None),
+    (28, Call::Write(0, 1), None),
+    (28, Call::Marked(2), None),
+    (28, Call::Mark(1, true), None),
+    (29, Call::Length, None),
+];
+
+/// The files of the working folder, of which none may be opened for writing, or none at all.
+#[derive(Drop)]
+struct Guarded<'a> {
+    rt: &'a HostRuntime,
+    reads: bool,
+}
+
+impl<'a> Files for Guarded<'a> {
+    type File = File;
+
+    type Dir = <HostRuntime as Files>::Dir;
+
+    fn open_file(&self, how: &OpenOptions, path: &str) -> io::Result<File> {
+        if how.asks_write() || !self.reads {
+            return Err(io::Error::from(ErrorKind::PermissionDenied));
+        }
+        self.rt.open_file(how, path)
+    }
+
+    fn open_dir(&self, path: &str) -> io::Result<Self::Dir> {
+        self.rt.open_dir(path)
+    }
+
+    fn metadata(&self, path: &str) -> io::Result<Metadata> {
+        fs::metadata(self.rt, path)
+    }
+
+    fn symlink_metadata(&self, path: &str) -> io::Result<Metadata> {
+        fs::symlink_metadata(self.rt, path)
+    }
+
+    fn copy(&self, _from: &str, _to: &str) -> io::Result<u64> {
+        Err(io::Error::from(ErrorKind::PermissionDenied))
+    }
+
+    fn rename(&self, _from: &str, _to: &str) -> io::Result<()> {
+        Err(io::Error::from(ErrorKind::PermissionDenied))
+    }
+
+    fn remove_file(&self, _path: &str) -> io::Result<()> {
+        Err(io::Error::from(ErrorKind::PermissionDenied))
+    }
+
+    fn create_dir(&self, _path: &str) -> io::Result<()> {
+        Err(io::Error::from(ErrorKind::PermissionDenied))
+    }
+
+    fn remove_dir(&self, _path: &str) -> io::Result<()> {
+        Err(io::Error::from(ErrorKind::PermissionDenied))
+    }
+
+    fn remove_dir_all<B: Allocator>(&self, _alloc: B, _path: &str) -> io::Result<()> {
+        Err(io::Error::from(ErrorKind::PermissionDenied))
+    }
+}
+
+/// The first call of a list that answers something else, or its length.
+fn first_other<P: Packs>(packs: &mut P, calls: &[(u8, Call, Option<u64>)]) -> usize {
+    for (i, (unit, call, want)) in calls.iter().enumerate() {
+        if answer(packs, *unit, *call).ok() != *want {
+            return i;
+        }
+    }
+    calls.len()
+}
+
+#[test]
+fn packs_in_files(rt: HostRuntime) -> Result<(), Fail> {
+    let alloc = rt.alloc();
+    fs::write(&rt, "hp28.dsk", &[0xFF; 700])?;
+    fs::write(&rt, "hp28.bad", &[0, 7, 1])?;
+    fs::create_dir(&rt, "hp27.dsk")?;
+    assert_eq!(rt; first_other(&mut FilePacks::new(&rt), &FILES), FILES.len());
+    let guarded = Guarded {
+        rt: &rt,
+        reads: true,
+    };
+    assert_eq!(rt;
+        first_other(&mut FilePacks::new((guarded, alloc)), &READ_ONLY),
+        READ_ONLY.len()
+    );
+    let guarded = Guarded {
+        rt: &rt,
+        reads: false,
+    };
+    assert_eq!(rt;
+        first_other(&mut FilePacks::new((guarded, alloc)), &SHUT),
+        SHUT.len()
+    );
+    assert_eq!(rt;
+        fs::read(&rt, "hp28.bad")?.as_slice(),
+        [0u8, 0, 1, 0, 1].as_slice()
+    );
+    for name in ["hp29.dsk", "hp29.bad", "hp27.bad"] {
+        assert!(rt; !fs::exists(&rt, name)?, "{name} is there");
+    }
+    fs::remove_dir(&rt, "hp27.dsk")?;
+    for name in ["hp28.dsk", "hp28.bad", "hp26.dsk"] {
         fs::remove_file(&rt, name)?;
     }
+    Ok(())
+}
+
+#[test]
+fn file_sink(rt: HostRuntime) -> Result<(), Fail> {
+    fs::write(&rt, "hp.trace", b"an older and longer text")?;
+    let mut file = FileSink::new(&rt, "hp.trace");
+    write_all(&mut file, b"idle 1\n")?;
+    write_all(&mut file, b"idle 2\n")?;
+    let text = fs::read_to_string(&rt, "hp.trace")?;
+    assert_eq!(rt; text.as_str(), "idle 1\nidle 2\n");
+    fs::remove_file(&rt, "hp.trace")?;
+    fs::create_dir(&rt, "hp.trace")?;
+    assert!(rt; write_all(&mut FileSink::new(&rt, "hp.trace"), b"idle 1\n").is_err());
+    fs::remove_dir(&rt, "hp.trace")?;
+    Ok(())
+}
+
+/// What calls on packs that never fail answer: unit 3 has an image of 700 bytes 255, and two blocks.
+const SURE: [(u8, Call, Option<u64>); 12] = [
+    (3, Call::Length, Some(700)),
+    (3, Call::Read(1), Some(0xFF00)),
+    (3, Call::Write(1, 5), Some(0)),
+    (3, Call::Mark(1, true), Some(0)),
+    (3, Call::Write(2, 5), Some(0)),
+    (3, Call::Mark(2, true), Some(0)),
+    (4, Call::Write(0, 5), Some(0)),
+    (3, Call::Length, Some(1024)),
+    (3, Call::Read(1), Some(0x0505)),
+    (3, Call::Marked(1), Some(1)),
+    (3, Call::Marked(2), Some(0)),
+    (4, Call::Length, Some(0)),
+];
+
+#[test]
+fn sure_packs(rt: HostRuntime) -> Result<(), Fail> {
+    let alloc = rt.alloc();
+    let mut images = Vec::new(alloc);
+    images.push(Image {
+        unit: 3,
+        bytes: Vec::from_slice(alloc, &[0xFF; 700])?,
+        marks: Vec::new(alloc),
+        blocks: 2,
+    })?;
+    let mut packs = SurePacks::new(alloc, images)?;
+    assert_eq!(rt; first_other(&mut packs, &SURE), SURE.len());
     Ok(())
 }

@@ -50,7 +50,8 @@ impl From<SourceFailed> for ReadAllFault {
     }
 }
 
-/// Reads a source to its end, or until there are more bytes than a limit.
+/// Reads a source to its end, or until there are more bytes than a limit. It takes one byte more than the limit at the
+/// most.
 pub fn read_all<S: Source>(
     alloc: Global,
     source: &mut S,
@@ -60,13 +61,16 @@ pub fn read_all<S: Source>(
     ensures never_again { IsTrue (S.tells source.new) → IsTrue (S.tells source.old) }
     ensures bytes { IfOk result (λ bytes. IsTrue (S.tells source.new) → S.left source.old ≡ bytes.items ++ S.left source.new) }
     ensures end { IfOk result (λ bytes. IsTrue (S.tells source.new) → (S.left source.new ≡ []) ⊎ (limit < length bytes.items)) }
+    ensures bound { IfOk result (λ bytes. length bytes.items ≤ limit + 1) }
+    ensures taken { IsTrue (S.tells source.new) → length (S.left source.old) ≤ length (S.left source.new) + limit + 1 }
     ensures later { S.faults source.old ≤ S.faults source.new }
     ensures failed { IsErrOf result ReadAllFault.Failed → Rose (S.faults source.old) (S.faults source.new) }
 {
     let mut bytes = Vec::new(alloc);
     let mut piece = [0u8; 4096];
     while bytes.len() <= limit {
-        let count = source.read(&mut piece)?;
+        let room = piece.len().min(limit + 1 - bytes.len());
+        let count = source.read(&mut piece[..room])?;
         if count == 0 {
             return Ok(bytes);
         }

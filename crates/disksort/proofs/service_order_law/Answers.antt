@@ -1,7 +1,8 @@
 use Rattle.disksort.specs.SortQueue.{cylinder_of}
-use Rattle.subsystem_spec.specs.ServiceOrder.{empty_service}
-use Rattle.subsystem_spec.proofs.ServiceOrderRuns.{service_law, empty-is}
-use Rattle.subsystem_spec.proofs.ServiceOrderLaws.{service_order-permutation, service_order-sorted, two_runs, queue_with-runs}
+use Rattle.subsystem_spec.specs.ServiceOrder.{empty_service, service_order}
+use Rattle.subsystem_spec.proofs.ServiceOrderRuns.{service_law, empty-is, service_order-ascends}
+use Rattle.subsystem_spec.proofs.ServiceOrderLaws.{service_order-permutation, two_runs, queue_with-runs}
+use Rattle.disksort.proofs.Throughout.{throughout}
 use Rattle.disksort.proofs.service_order_law.Goals as goal
 
 pub returns-clause-history : goal.returns-clause-history
@@ -11,7 +12,7 @@ pub returns-clause-same : goal.returns-clause-same
 returns-clause-same c = service_order-permutation
 
 pub returns-clause-sorted : goal.returns-clause-sorted
-returns-clause-sorted c = service_order-sorted
+returns-clause-sorted c = λ waiting. throughout (service_order waiting) (service_order-ascends waiting)
 
 pub returns-clause-two_runs : goal.returns-clause-two_runs
 returns-clause-two_runs c = λ head behind order. two_runs cylinder_of head behind order
