@@ -304,9 +304,9 @@ impl Script {
     }
 }
 
-/// Reads a script from its bytes. It is refused exactly where the bytes spell none, with the first fault: Refused at
-/// line 0 as ScriptLong for more than 16 MiB; else the first line that is faulty, as Word, TooMany or IdTwice, where
-/// a script without a line is Word at line 1. Memory tells only that there was none.
+/// Reads a script from its bytes. Ok comes only where they spell it, and Refused only where they spell none, with the
+/// first fault: at line 0 as ScriptLong for more than 16 MiB; else the first line that is faulty, as Word, TooMany or
+/// IdTwice, where a script without a line is Word at line 1. Memory tells only that there was none.
 #[tactic(auto, using(crate::proofs::ReadingLaws::spelled, crate::proofs::ReadingLaws::refused))]
 pub fn read_script(alloc: Global, bytes: Vec<u8>) -> Result<Script, ReadFault>
     ensures ok { IfOk result (λ script. Spells bytes.items script) }

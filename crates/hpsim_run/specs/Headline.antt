@@ -18,10 +18,11 @@ pub record Headline (source_tells : Bool) (left left_after : List ℕ) (tells : 
   pub spelled : IsTrue source_tells → Spells left lines
   pub plays : Plays (map seen lines) (drives_of lines) tells old new out_tells taken taken_after
 
--- The bytes spell no script; their first fault is named by the text, where the sink tells what it took.
-pub record TellsRefusal (left : List ℕ) (tells : Bool) (taken taken_after : List ℕ) (faults faults_after : ℕ) : Type 0 where
-  pub none : SpellNone left
+-- A refusal. Where the source tells, its bytes spell no script, and this is their first fault; where the sink tells, its
+-- text was taken, or the sink failed.
+pub record TellsRefusal (source_tells : Bool) (left : List ℕ) (tells : Bool) (taken taken_after : List ℕ) (faults faults_after : ℕ) : Type 0 where
   pub line : ℕ
   pub kind : ScriptKind
-  pub first : IsRefused left line kind
+  pub none : IsTrue source_tells → SpellNone left
+  pub first : IsTrue source_tells → IsRefused left line kind
   pub told : IsTrue tells → Told taken taken_after (refusal_text line kind) faults faults_after

@@ -1,7 +1,7 @@
-ghost use Rattle.std.specs.Prelude.{◌≡◌, ◌⊎◌, ◌↔◌, ℕ, List, true, false, IsTrue};
+ghost use Rattle.std.specs.Prelude.{◌≡◌, ◌⊎◌, ◌↔◌, ◌+◌, ◌≤◌, ℕ, List, true, false, IsTrue, length};
 ghost use Rattle.mass_outside.specs.Causes.{Rose};
 ghost use Rattle.event_player.specs.declared.script.Line.{Line};
-ghost use Rattle.event_player.specs.Grammar.{Spells};
+ghost use Rattle.event_player.specs.Grammar.{longest, Spells};
 ghost use Rattle.event_player.specs.Refusals.{SpellNone};
 ghost use Rattle.hpsim_run.specs.Headline.{Headline, TellsRefusal};
 ghost use Rattle.hpsim_run.specs.Statuses.{status_code, IsStatus};
@@ -56,8 +56,8 @@ pub fn run<S: Source, P: Packs, O: Sink, T: Sink>(
     // Each other status has its cause, and comes exactly there where one can see it.
     ensures statuses { IsStatus result }
     ensures usage { (result ≡ status_code Usage) ↔ (is_command words.now ≡ false) }
-    ensures refused { is_play words.now ≡ true → result ≡ status_code Refused → IsTrue (S.tells script.new) →
-        TellsRefusal (S.left script.old) (O.tells out.new) (O.taken out.old) (O.taken out.new) (O.faults out.old) (O.faults out.new) }
+    ensures refused { is_play words.now ≡ true → result ≡ status_code Refused → TellsRefusal (S.tells script.new) (S.left script.old)
+        (O.tells out.new) (O.taken out.old) (O.taken out.new) (O.faults out.old) (O.faults out.new) }
     ensures only_refused { is_play words.now ≡ true → IsTrue (S.tells script.new) → SpellNone (S.left script.old) →
         (result ≡ status_code Refused) ⊎ (result ≡ status_code SourceFailed) ⊎ (result ≡ status_code OutOfMemory) }
     ensures source { result ≡ status_code SourceFailed → Rose (S.faults script.old) (S.faults script.new) }
@@ -72,6 +72,7 @@ pub fn run<S: Source, P: Packs, O: Sink, T: Sink>(
     // What a refusal prints and leaves.
     ensures usage_told { result ≡ status_code Usage → IsTrue (O.tells out.new) →
         Told (O.taken out.old) (O.taken out.new) usage_text (O.faults out.old) (O.faults out.new) }
+    ensures taken { IsTrue (S.tells script.new) → length (S.left script.old) ≤ length (S.left script.new) + longest + 1 }
     ensures unread { result ≡ status_code Usage → script.new ≡ script.old }
     ensures silent { (result ≡ status_code SourceFailed) ⊎ (result ≡ status_code OutOfMemory) → out.new ≡ out.old }
     ensures untouched { (result ≡ status_code Usage) ⊎ (result ≡ status_code Refused) ⊎ (result ≡ status_code SourceFailed)
