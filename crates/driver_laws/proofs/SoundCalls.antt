@@ -255,7 +255,7 @@ module _ (w : World) (s : Sound w) (line p : ℕ) (h : Held) (new : IsNew w p h)
     unit = new.unit;
     loan = new.loan;
     offset = new.offset;
-        last = new.last;
+    last = new.last;
     size = new.size;
     whole = new.whole;
     inside = subst (λ (y : UnitView). h.first + count_of h ≤ limit_of y.drive.kind) (sym joins_change.units.here) new.inside;

@@ -93,7 +93,7 @@ whole_read None sector window size read =
     read.cut ∙ ap (front 512) same ∙ front-whole 512 sector size
 whole_read (Some places) sector window size read =
     let struck : IsStruck places sector read.bytes = read.whole in
-    subst (IsStruck places sector) (sym (read.cut ∙ front-whole 512 read.bytes struck.bytes.size)) struck
+    subst (IsStruck places sector) (sym (read.cut ∙ front-whole 512 read.bytes struck.read.size)) struck
 
 not_both : (d : DriveState) (v : Moved) → was_written d v ≡ true → was_read d v ≡ false
 not_both d v e = by (has_bytes v) (is_writing d.work) e

@@ -11,7 +11,8 @@ use main_memory::{Buffer, Cpu, MainMemory};
 // Block `k` of so many bytes.
 fn block_at(bytes: &[u8], k: u32) -> [u8; 512]
     requires { 512 * k + 512 ≤ length bytes.now }
-    ensures { result ≡ take 512 (drop (512 * k) bytes.now) }
+    ensures block { result ≡ take 512 (drop (512 * k) bytes.now) }
+    ensures whole { length result ≡ 512 }
 {
     let at = k as usize * 512;
     let mut block = [0; 512];

@@ -16,15 +16,15 @@ all_of loan k block last whole = ap (λ (n : ℕ). front n block) (size_whole lo
 
 stored : (c : goal.After-store) → Stores c.loop-k.memory c.store.new.self c.args.buffer.now c.loop-k.k c.block_at-block.result
 stored c = record {
-  memory = c.store.ensures.memory ∙ ap (λ (block : List ℕ). with_block c.args.buffer.now c.loop-k.k block c.loop-k.memory) (all_of c.args.buffer.now c.loop-k.k c.block_at-block.result c.requires.last c.block_at-block.array_long);
-  held = c.store.ensures.held ∙ ap (set (blocks_of c.args.buffer.now c.loop-k.memory) c.loop-k.k) (all_of c.args.buffer.now c.loop-k.k c.block_at-block.result c.requires.last c.block_at-block.array_long);
+  memory = c.store.ensures.memory ∙ ap (λ (block : List ℕ). with_block c.args.buffer.now c.loop-k.k block c.loop-k.memory) (all_of c.args.buffer.now c.loop-k.k c.block_at-block.result c.requires.last c.block_at-block.ensures.whole);
+  held = c.store.ensures.held ∙ ap (set (blocks_of c.args.buffer.now c.loop-k.memory) c.loop-k.k) (all_of c.args.buffer.now c.loop-k.k c.block_at-block.result c.requires.last c.block_at-block.ensures.whole);
   others = c.store.ensures.others;
   lent = c.store.ensures.lent;
   sound = c.store.ensures.sound;
 }
 
 pub loop-k-preserved : goal.loop-k-preserved
-loop-k-preserved c = filled_more c.args.bytes.now c.loop-k.invariant (stored c) (omega arith) c.block_at-block.ensures
+loop-k-preserved c = filled_more c.args.bytes.now c.loop-k.invariant (stored c) (omega arith) c.block_at-block.ensures.block
 
 pub returns-clause-held : goal.returns-clause-held
 returns-clause-held c = filled_all c.loop-k.k c.loop-k.invariant (omega arith)
