@@ -1,18 +1,19 @@
 -- What no run changes of the packs: their marks, each sector that is no data block's home, and units that are not set up.
-use Rattle.std.proofs.Common.{◌≡◌, ◌≢◌, inl, inr, ℕ, ◌+◌, ◌<◌, Bool, true, false, not, List, [], ◌∷◌, length, Some, None, slice_index, refl, sym, ap, ◌∙◌, subst, arith}
+use Rattle.std.proofs.Common.{◌≡◌, ◌≢◌, ◌⊎◌, inl, inr, ℕ, ◌+◌, ◌*◌, ◌<◌, ◌≤◌, Bool, true, false, not, List, [], ◌∷◌, length, Some, None, slice_index, refl, sym, ap, ◌∙◌, subst, arith}
 use Rattle.std.specs.Prelude.{if◌then◌else◌, ◌==◌}
+use Rattle.std.proofs.lemmas.Grind.{common_steps}
 use Rattle.std.proofs.lemmas.Bool.{cases_eq, false≢true}
 use Rattle.std.proofs.lemmas.Option.{none-some, cond_some}
 use Rattle.pack_geometry.specs.declared.DriveKind.{DriveKind}
-use Rattle.pack_geometry.specs.Geometry.{limit_of}
+use Rattle.pack_geometry.specs.Geometry.{block_count, limit_of}
 use Rattle.hardware_table.specs.declared.Moved.{Moved}
 use Rattle.hardware_table.specs.declared.Moved.TheVariants.{Clean, Marked}
 use Rattle.hardware_table.specs.Moves.{was_written}
-use Rattle.pack_model.specs.Pack.{Pack, block_at, is_marked, with_written}
+use Rattle.pack_model.specs.Pack.{Pack, block_at, is_marked, grown, with_window, with_block, with_written}
 use Rattle.pack_model.specs.Content.{home}
 use Rattle.pack_model.proofs.PackLaws.{block_at-with_block_other}
 use Rattle.subsystem_spec.specs.BlockMachine.{Machine}
-use Rattle.subsystem_spec.specs.Plays.{IsNoHome, HoldsMap}
+use Rattle.subsystem_spec.specs.Plays.{IsNoHome, IsNoLonger, HoldsMap}
 use Rattle.driver_machine.specs.Places.{Held, count_of}
 use Rattle.driver_machine.specs.World.{World, unit_at}
 use Rattle.driver_machine.specs.Acts
@@ -31,10 +32,32 @@ use Rattle.driver_laws.proofs.Does.{run_keeps}
 pub record IsKept (w : World) (old new : ℕ → Pack) : Type 0 where
   pub marks : (u : ℕ) → (new u).marks ≡ (old u).marks
   pub spare : (u sector : ℕ) → IsNoHome (old u) (unit_at w u).drive.kind sector → block_at (new u).image sector ≡ block_at (old u).image sector
+  pub sizes : (u : ℕ) → IsNoLonger (old u).image (new u).image (512 * block_count (unit_at w u).drive.kind)
   pub units : (u : ℕ) → (unit_at w u).declared ≡ false → new u ≡ old u
 
+-- HOW LONG an image is. One block is written: it is as long as before, or ends with that block.
+length-with_window : (at size : ℕ) (bytes image : List ℕ) → (length (with_window at bytes image) ≤ length image) ⊎ (length (with_window at bytes image) ≤ at + length bytes)
+unfolding with_window grown
+length-with_window at size bytes image = grind (arith, common_steps)
+
+no_longer : (image : List ℕ) (size : ℕ) → IsNoLonger image image size
+no_longer image size = inl (omega arith)
+
+longer_then : (old mid new : List ℕ) (size : ℕ) → IsNoLonger old mid size → IsNoLonger mid new size → IsNoLonger old new size
+longer_then old mid new size (inl first) (inl later) = inl (omega (arith, first, later))
+longer_then old mid new size (inr first) (inl later) = inr (omega (arith, first, later))
+longer_then old mid new size first (inr later) = inr later
+
+-- a block of the drive ends inside it
+length-with_block : (image bytes : List ℕ) (block blocks : ℕ) → length bytes ≡ 512 → block < blocks → IsNoLonger image (with_block image block bytes) (512 * blocks)
+unfolding with_block
+length-with_block image bytes block blocks size lt = elim (length-with_window (512 * block) 512 bytes image) [
+  | inl short ↦ inl short
+  | inr end ↦ inr (omega (arith, end, size, lt))
+]
+
 pub kept_same : (w : World) (packs : ℕ → Pack) → IsKept w packs packs
-kept_same w packs = record { marks = λ u. refl; spare = λ u sector away. refl; units = λ u off. refl }
+kept_same w packs = record { marks = λ u. refl; spare = λ u sector away. refl; sizes = λ u. no_longer (packs u).image (512 * block_count (unit_at w u).drive.kind); units = λ u off. refl }
 
 -- a home goes by the marks alone
 home_by : (old new : Pack) (block : ℕ) → new.marks ≡ old.marks → home new block ≡ home old block
@@ -50,6 +73,9 @@ kept_then w next old mid new drives first later = record {
   spare = λ u sector away.
       later.spare u sector (no_home_by (old u) (mid u) (unit_at next u).drive.kind (unit_at w u).drive.kind sector (first.marks u) (drives u).kind away)
       ∙ first.spare u sector away;
+  sizes = λ u.
+      longer_then (old u).image (mid u).image (new u).image (512 * block_count (unit_at w u).drive.kind) (first.sizes u)
+      (subst (λ (k : DriveKind). IsNoLonger (mid u).image (new u).image (512 * block_count k)) (drives u).kind (later.sizes u));
   units = λ u off. later.units u ((drives u).declared ∙ off) ∙ first.units u off;
 }
 
@@ -92,6 +118,20 @@ module _ (w : World) (packs : ℕ → Pack) (sound : Sound w) (u p : ℕ) (h : H
     | inr other ↦ ap (λ (pack : Pack). block_at pack.image sector) (written_elsewhere packs u (h.first + moved) x t.bytes other)
   ]
 
+  on_the_drive : h.first + moved < block_count (unit_at w u).drive.kind
+  on_the_drive = omega (arith, inside)
+
+  sizes_kept : length t.bytes ≡ 512 → (x : ℕ) → IsNoLonger (packs x).image (written x).image (512 * block_count (unit_at w x).drive.kind)
+  sizes_kept size x = elim (cases_eq x u) [
+    | inl here ↦
+        subst (λ (k : ℕ). IsNoLonger (packs k).image (written k).image (512 * block_count (unit_at w k).drive.kind)) (sym here)
+        (subst (λ (pack : Pack). IsNoLonger (packs u).image pack.image (512 * block_count (unit_at w u).drive.kind)) (sym (written_here packs u (h.first + moved) t.bytes))
+        (length-with_block (packs u).image t.bytes (h.first + moved) (block_count (unit_at w u).drive.kind) size on_the_drive))
+    | inr other ↦
+        subst (λ (pack : Pack). IsNoLonger (packs x).image pack.image (512 * block_count (unit_at w x).drive.kind)) (sym (written_elsewhere packs u (h.first + moved) x t.bytes other))
+        (no_longer (packs x).image (512 * block_count (unit_at w x).drive.kind))
+  ]
+
   units_kept : (x : ℕ) → (unit_at w x).declared ≡ false → written x ≡ packs x
   units_kept x off = written_elsewhere packs u (h.first + moved) x t.bytes (λ here. set_up (subst (λ (k : ℕ). (unit_at w k).declared ≡ false) here off))
 
@@ -100,7 +140,7 @@ module _ (w : World) (packs : ℕ → Pack) (sound : Sound w) (u p : ℕ) (h : H
       let verdict : t.verdict ≡ Clean = tried_verdict w u h moved t sound (unit_small w sound u p h hand) may.3 ∙ ap (λ (b : Bool). if b then Marked else Clean) mark in
       let write : h.write ≡ true = sym (ap is_writing (transfer_work w u p h sound hand may.0 may.1)) ∙ ap (λ (x : Moved). was_written (unit_at w u).drive x) (sym verdict) ∙ was in
       let size : length t.bytes ≡ 512 = ap (λ (b : List ℕ). length b) (may.3.bytes was) ∙ ok.whole write moved left in
-      record { marks = marks_kept; spare = spare_kept (sym reads.mark ∙ mark) size; units = units_kept }
+      record { marks = marks_kept; spare = spare_kept (sym reads.mark ∙ mark) size; sizes = sizes_kept size; units = units_kept }
 
   -- what is marked is not written
   not_written : t.marked ≡ true → was_written (unit_at w u).drive t.verdict ≡ false
@@ -157,6 +197,9 @@ module _ (sound_after : (w : World) (act : Act) → Sound w → Allowed w act �
         spare = λ u sector kind drive away.
             let same : (unit_at w u).drive.kind ≡ kind = (cond_some (unit_at w u).declared (unit_at w u).drive.kind kind drive).1 in
             ok.spare u sector (subst (λ (k : DriveKind). IsNoHome (packs u) k sector) (sym same) away);
+        sizes = λ u kind drive.
+            let same : (unit_at w u).drive.kind ≡ kind = (cond_some (unit_at w u).declared (unit_at w u).drive.kind kind drive).1 in
+            subst (λ (k : DriveKind). IsNoLonger (packs u).image (now u).image (512 * block_count k)) same (ok.sizes u);
         marks = ok.marks;
         units = λ u drive. ok.units u (kind_none (unit_at w u).declared (unit_at w u).drive.kind drive);
       }

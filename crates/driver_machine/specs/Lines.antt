@@ -28,10 +28,6 @@ lines_of (Acts.Of line u p h deed) = trace.Of line u h.id (told_of h deed) ∷ [
 lines_of (Acts.Nothing line) = trace.Idle line ∷ []
 lines_of (Acts.Taken p) = []
 
-abbrev pub lines_of_all : List Act → List TraceLine
-lines_of_all [] = []
-lines_of_all (act ∷ acts) = lines_of act ++ lines_of_all acts
-
 -- a request that is submitted is asked
 abbrev pub moments_of : Act → List Moment
 moments_of (Acts.Submit line p h) = trace.Asks (asked h) ∷ []

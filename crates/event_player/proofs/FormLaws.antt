@@ -6,6 +6,8 @@ use Rattle.std.specs.Str.Parse.{digits_value}
 use Rattle.std.proofs.lemmas.Slice.Eq.{bytes_eq-Decides}
 use Rattle.std.proofs.lemmas.Option.{none-some, same_Some}
 use Rattle.std.proofs.lemmas.Bool.Decides.{nat_tests}
+use Rattle.pack_geometry.specs.declared.DriveKind.TheVariants.{Rp06}
+use Rattle.pack_geometry.specs.Geometry.{limit_of}
 use Rattle.mass_text.specs.Numbers.{base_of, number_of, first_other, fault_or, up_to}
 use Rattle.mass_text.specs.declared.numbers.Radix.{Radix}
 use Rattle.mass_text.specs.declared.numbers.Radix.TheVariants.{Decimal, Hex}
@@ -48,7 +50,7 @@ IsNumber-bound max field n i = number_bound Decimal max field n (length field ==
 -- REQUESTS. From what was computed to the form.
 record AreNumbers (idf blockf countf : List ℕ) (id block count : ℕ) : Type 0 where
   id_is : IsNumber 4294967295 idf id
-  block_is : IsNumber 340521 blockf block
+  block_is : IsNumber 4294967295 blockf block
   count_is : IsNumber 127 countf count
   range : IsRange block count
 
@@ -113,24 +115,24 @@ word_is word idf blockf countf id block count (fillw ∷ hh ∷ []) line n e =
     write_by word idf blockf countf fillw hh id block count line (bytes_eq word (codes "write") && bytes_eq fillw (codes "fill")) n refl e
 word_is word idf blockf countf id block count tail line n e = absurd (none-some line e)
 
-range_is : (block count : ℕ) → (count == 0 || nat_lt 340522 (block + count)) ≡ false → count ≤ 127 → IsRange block count
+range_is : (block count : ℕ) → (count == 0 || nat_lt (limit_of Rp06) (block + count)) ≡ false → count ≤ 127 → IsRange block count
 range_is block count t most = record { some = grind (arith, nat_tests); most = most; inside = grind (arith, nat_tests) }
 
-in_range : (word idf blockf countf : List ℕ) (id block count : ℕ) (tail : List (List ℕ)) (line : Line) (b : Bool) → IsNumber 4294967295 idf id → IsNumber 340521 blockf block → IsNumber 127 countf count →
-    (count == 0 || nat_lt 340522 (block + count)) ≡ b → (if b then None else by_word word id block count tail) ≡ Some line → HaveFormOf (fields_with word idf blockf countf tail) line
+in_range : (word idf blockf countf : List ℕ) (id block count : ℕ) (tail : List (List ℕ)) (line : Line) (b : Bool) → IsNumber 4294967295 idf id → IsNumber 4294967295 blockf block → IsNumber 127 countf count →
+    (count == 0 || nat_lt (limit_of Rp06) (block + count)) ≡ b → (if b then None else by_word word id block count tail) ≡ Some line → HaveFormOf (fields_with word idf blockf countf tail) line
 in_range word idf blockf countf id block count tail line true i k c t e = absurd (none-some line e)
 in_range word idf blockf countf id block count tail line false i k c t e =
     word_is word idf blockf countf id block count tail line (record { id_is = i; block_is = k; count_is = c; range = range_is block count t (IsNumber-bound 127 countf count c) }) e
 
-with_numbers : (word idf blockf countf : List ℕ) (id block count : Option ℕ) (tail : List (List ℕ)) (line : Line) → decimal_of 4294967295 idf ≡ id → decimal_of 340521 blockf ≡ block → decimal_of 127 countf ≡ count →
+with_numbers : (word idf blockf countf : List ℕ) (id block count : Option ℕ) (tail : List (List ℕ)) (line : Line) → decimal_of 4294967295 idf ≡ id → decimal_of 4294967295 blockf ≡ block → decimal_of 127 countf ≡ count →
     request_with word id block count tail ≡ Some line → HaveFormOf (fields_with word idf blockf countf tail) line
 with_numbers word idf blockf countf (Some id) (Some block) (Some count) tail line i k c e =
-    in_range word idf blockf countf id block count tail line (count == 0 || nat_lt 340522 (block + count))
-    (value_is (number_of Decimal 4294967295 idf) id i) (value_is (number_of Decimal 340521 blockf) block k) (value_is (number_of Decimal 127 countf) count c) refl e
+    in_range word idf blockf countf id block count tail line (count == 0 || nat_lt (limit_of Rp06) (block + count))
+    (value_is (number_of Decimal 4294967295 idf) id i) (value_is (number_of Decimal 4294967295 blockf) block k) (value_is (number_of Decimal 127 countf) count c) refl e
 with_numbers word idf blockf countf id block count tail line i k c e = absurd (none-some line e)
 
 by_middle : (word idf unitf part blockf countf : List ℕ) (tail : List (List ℕ)) (line : Line) (b : Bool) → (bytes_eq unitf (codes "0") && bytes_eq part (codes "c")) ≡ b →
-    (if b then request_with word (decimal_of 4294967295 idf) (decimal_of 340521 blockf) (decimal_of 127 countf) tail else None) ≡ Some line → HaveFormOf (word ∷ idf ∷ unitf ∷ part ∷ blockf ∷ countf ∷ tail) line
+    (if b then request_with word (decimal_of 4294967295 idf) (decimal_of 4294967295 blockf) (decimal_of 127 countf) tail else None) ≡ Some line → HaveFormOf (word ∷ idf ∷ unitf ∷ part ∷ blockf ∷ countf ∷ tail) line
 by_middle word idf unitf part blockf countf tail line true t e =
     let both = two (bytes_eq unitf (codes "0")) (bytes_eq part (codes "c")) t in
     let u : unitf ≡ codes "0" = (bytes_eq-Decides unitf (codes "0")).0 both.0 in
@@ -139,7 +141,7 @@ by_middle word idf unitf part blockf countf tail line true t e =
     ap (λ (x : List ℕ). word ∷ idf ∷ x ∷ codes "c" ∷ blockf ∷ countf ∷ tail) (sym u)
     ∙ ap (λ (x : List ℕ). word ∷ idf ∷ unitf ∷ x ∷ blockf ∷ countf ∷ tail) (sym p) in
     subst (λ (fs : List (List ℕ)). HaveFormOf fs line) same
-    (with_numbers word idf blockf countf (decimal_of 4294967295 idf) (decimal_of 340521 blockf) (decimal_of 127 countf) tail line refl refl refl e)
+    (with_numbers word idf blockf countf (decimal_of 4294967295 idf) (decimal_of 4294967295 blockf) (decimal_of 127 countf) tail line refl refl refl e)
 by_middle word idf unitf part blockf countf tail line false t e = absurd (none-some line e)
 
 pub request_form : (fields : List (List ℕ)) (line : Line) → request_of fields ≡ Some line → HaveFormOf fields line
@@ -148,13 +150,13 @@ request_form (word ∷ idf ∷ unitf ∷ part ∷ blockf ∷ countf ∷ tail) li
 request_form fields line e = absurd (none-some line e)
 
 -- From the form to what is computed.
-range_test : (block count : ℕ) → IsRange block count → (count == 0 || nat_lt 340522 (block + count)) ≡ false
+range_test : (block count : ℕ) → IsRange block count → (count == 0 || nat_lt (limit_of Rp06) (block + count)) ≡ false
 range_test block count r = grind (arith, nat_tests)
 
-numbers_in : (word idf blockf countf : List ℕ) (id block count : ℕ) (tail : List (List ℕ)) → IsNumber 4294967295 idf id → IsNumber 340521 blockf block → IsNumber 127 countf count → IsRange block count →
-    request_with word (decimal_of 4294967295 idf) (decimal_of 340521 blockf) (decimal_of 127 countf) tail ≡ by_word word id block count tail
+numbers_in : (word idf blockf countf : List ℕ) (id block count : ℕ) (tail : List (List ℕ)) → IsNumber 4294967295 idf id → IsNumber 4294967295 blockf block → IsNumber 127 countf count → IsRange block count →
+    request_with word (decimal_of 4294967295 idf) (decimal_of 4294967295 blockf) (decimal_of 127 countf) tail ≡ by_word word id block count tail
 numbers_in word idf blockf countf id block count tail i k c r =
-    ap (λ (o : Option ℕ). request_with word o (decimal_of 340521 blockf) (decimal_of 127 countf) tail) (ap value_in i)
+    ap (λ (o : Option ℕ). request_with word o (decimal_of 4294967295 blockf) (decimal_of 127 countf) tail) (ap value_in i)
     ∙ ap (λ (o : Option ℕ). request_with word (Some id) o (decimal_of 127 countf) tail) (ap value_in k)
     ∙ ap (λ (o : Option ℕ). request_with word (Some id) (Some block) o tail) (ap value_in c)
     ∙ ap (λ (b : Bool). if b then None else by_word word id block count tail) (range_test block count r)

@@ -1,4 +1,5 @@
 pub mod AnsweringLaws
+pub mod AskedLaws
 pub mod FormLaws
 pub mod LineLaws
 pub mod PlayLaws

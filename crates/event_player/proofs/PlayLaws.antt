@@ -241,6 +241,9 @@ pub good_drives : (lines : List Line) (unit : ℕ) → 0 < length lines → AreG
 good_drives [] unit some good = absurd (omega (arith, some))
 good_drives (line ∷ lines) unit some good = first_drive line lines unit good.order.0 good.order.1
 
+true_false : true ≡ false → ⊥
+true_false e = cc
+
 -- AT THE END the lines and the drain behind them were played.
 pub record Ended (lines : List Line) (w : World) (tells : Bool) (held held_after : ℕ → Pack) (out_tells : Bool) (before after : List ℕ) : Type 0 where
   pub segments : List (List Act)
@@ -289,16 +292,28 @@ module _ {lines : List Line} {w : World} {tells out_tells : Bool} {held held_aft
   told_legal t =
       legal_script sound_after setups 129 0 held end.segments end.drain (map seen lines) end.groups end.answers end.are end.drained start_sound end.does.run (end.does.reads t) none_goes_on
 
-  unfoldable pub plays_all : IsTrue tells → IsTrue out_tells → Plays (map seen lines) (drives_of lines) held held_after before after
-  plays_all t o =
-      let legal = told_legal t in record {
+  -- where the packs tell nothing, any map will do
+  pub final_by : (b : Bool) → tells ≡ b → (final : Blocks)
+      × (IsTrue tells → Legal (contents held) (map seen lines) end.groups end.answers final)
+      × (IsTrue tells → HoldsMap (drives_of lines) final held held_after)
+  final_by true told =
+      let legal = told_legal told in (
+        legal.0,
+        (λ t. legal.1),
+        (λ t. subst (λ (drives : ℕ → Option DriveKind). HoldsMap drives legal.0 held held_after) same_drives
+            (subst (λ (packs : ℕ → Pack). HoldsMap (machine.drives_in start) legal.0 held packs) (sym (end.does.packs t)) legal.2)),
+      )
+  final_by false told = (contents held, (λ t. absurd (true_false (sym t ∙ told))), (λ t. absurd (true_false (sym t ∙ told))))
+
+  unfoldable pub plays_all : Plays (map seen lines) (drives_of lines) tells held held_after out_tells before after
+  plays_all =
+      let final = final_by tells refl in record {
         groups = end.groups;
         drain = end.answers;
-        final = legal.0;
-        legal = legal.1;
-        text = end.text o;
-        packs = subst (λ (drives : ℕ → Option DriveKind). HoldsMap drives legal.0 held held_after) same_drives
-            (subst (λ (packs : ℕ → Pack). HoldsMap (machine.drives_in start) legal.0 held packs) (sym (end.does.packs t)) legal.2);
+        final = final.0;
+        legal = final.1;
+        packs = final.2;
+        text = end.text;
       }
 
 -- THE LOOP over the lines of a script, and the drain behind it.

@@ -11,7 +11,7 @@ use Rattle.std.proofs.lemmas.Bool.Decides.{nat_tests}
 use Rattle.std.proofs.lemmas.List.Folds.{list_any-append}
 use Rattle.std.proofs.lemmas.List.Elements.{filter_map-append, All-nil, All-cons}
 use Rattle.event_player.specs.Lines.{lines_of}
-use Rattle.event_player.specs.Grammar.{HasForm, HaveForms, IsLater, AreLater, MayFollow, AreInOrder, IsRequest, AreApart, AreGood, id_of, ids_of, has_id, same_id, is_used, IsFaulty, FirstFault, Spells, IsRefused}
+use Rattle.event_player.specs.Grammar.{longest, HasForm, HaveForms, IsLater, AreLater, MayFollow, AreInOrder, IsRequest, AreApart, AreGood, id_of, ids_of, has_id, same_id, is_used, IsFaulty, FirstFault, Spells, IsRefused}
 use Rattle.event_player.specs.Playing.{IsInside}
 use Rattle.event_player.specs.Reading.{later_of, id_fault, unless, fresh, judged, on, reading, script_of, Refusal, Finds}
 use Rattle.event_player.specs.Refusals.{Refuses}
@@ -468,10 +468,10 @@ read_err done (text ∷ texts) r good e = at (judged done text) refl (λ line ne
 none_good : AreGood []
 none_good = record { order = tt; few = omega arith; apart = tt }
 
-short_script : (bytes : List ℕ) → length bytes ≤ 16777216 → script_of bytes ≡ reading [] (lines_of bytes)
+short_script : (bytes : List ℕ) → length bytes ≤ longest → script_of bytes ≡ reading [] (lines_of bytes)
 short_script bytes short = grind (arith, nat_tests)
 
-long_script : (bytes : List ℕ) → 16777216 < length bytes → script_of bytes ≡ Err (record { line = 0; kind = ScriptLong })
+long_script : (bytes : List ℕ) → longest < length bytes → script_of bytes ≡ Err (record { line = 0; kind = ScriptLong })
 long_script bytes long = grind (arith, nat_tests)
 
 pub spells_read : (bytes : List ℕ) (lines : List Line) → Spells bytes lines → script_of bytes ≡ Ok lines
@@ -487,10 +487,10 @@ refused_read bytes number kind (inr (inr fault)) = short_script bytes fault.0 �
 pub read_spells : (bytes : List ℕ) (lines : List Line) → script_of bytes ≡ Ok lines → Spells bytes lines
 read_spells bytes lines e = at (cases (length bytes))
   where
-    cases : (n : ℕ) → (n ≤ 16777216) ⊎ (16777216 < n)
+    cases : (n : ℕ) → (n ≤ longest) ⊎ (longest < n)
     cases n = grind arith
 
-    at : (length bytes ≤ 16777216) ⊎ (16777216 < length bytes) → Spells bytes lines
+    at : (length bytes ≤ longest) ⊎ (longest < length bytes) → Spells bytes lines
     at (inl short) =
         let all : Continues [] (lines_of bytes) lines = read_ok [] (lines_of bytes) lines none_good (sym (short_script bytes short) ∙ e) in record {
           short = short;
@@ -503,10 +503,10 @@ read_spells bytes lines e = at (cases (length bytes))
 pub read_refused : (bytes : List ℕ) (r : Refusal) → script_of bytes ≡ Err r → IsRefused bytes r.line r.kind
 read_refused bytes r e = at (cases (length bytes))
   where
-    cases : (n : ℕ) → (n ≤ 16777216) ⊎ (16777216 < n)
+    cases : (n : ℕ) → (n ≤ longest) ⊎ (longest < n)
     cases n = grind arith
 
-    found : length bytes ≤ 16777216 → IsBare [] (lines_of bytes) r ⊎ StopsAt [] (lines_of bytes) r.line r.kind → IsRefused bytes r.line r.kind
+    found : length bytes ≤ longest → IsBare [] (lines_of bytes) r ⊎ StopsAt [] (lines_of bytes) r.line r.kind → IsRefused bytes r.line r.kind
     found short (inl bare) = inr (inl (short, bare.none, bare.line, bare.kind))
     found short (inr s) = inr (inr (
       short,
@@ -523,7 +523,7 @@ read_refused bytes r e = at (cases (length bytes))
       },
     ))
 
-    at : (length bytes ≤ 16777216) ⊎ (16777216 < length bytes) → IsRefused bytes r.line r.kind
+    at : (length bytes ≤ longest) ⊎ (longest < length bytes) → IsRefused bytes r.line r.kind
     at (inl short) = found short (read_err [] (lines_of bytes) r none_good (sym (short_script bytes short) ∙ e))
     at (inr long) =
         let same : ◌≡◌ {A = Refusal} (record { line = 0; kind = ScriptLong }) r = same_Err _ _ (sym (long_script bytes long) ∙ e) in
@@ -554,6 +554,13 @@ one_number bytes number other kind kind_other r s = ap (λ (x : Refusal). x.line
 
 pub one_kind : (bytes : List ℕ) (number other : ℕ) (kind kind_other : ScriptKind) → IsRefused bytes number kind → IsRefused bytes other kind_other → kind ≡ kind_other
 one_kind bytes number other kind kind_other r s = ap (λ (x : Refusal). x.kind) (one_refusal bytes number other kind kind_other r s)
+
+pub script_or_fault : (bytes : List ℕ) → ((lines : List Line) × Spells bytes lines) ⊎ ((number : ℕ) × (kind : ScriptKind) × IsRefused bytes number kind)
+script_or_fault bytes = at (script_of bytes) refl
+  where
+    at : (found : Result (List Line) Refusal) → script_of bytes ≡ found → ((lines : List Line) × Spells bytes lines) ⊎ ((number : ℕ) × (kind : ScriptKind) × IsRefused bytes number kind)
+    at (Ok lines) e = inl (lines, read_spells bytes lines e)
+    at (Err r) e = inr (r.line, r.kind, read_refused bytes r e)
 
 -- what a reader answers, where it read these bytes
 pub spelled : (bytes read : List ℕ) (lines : List Line) → script_of read ≡ Ok lines → read ≡ bytes → Spells bytes lines

@@ -134,10 +134,10 @@ module _ {lines : List Line} {w : World} {tells out_tells : Bool} {held held_aft
       ∙ ap (λ (answers : List Answer). ids_of answers) (answers_of_lines (map seen lines) end.groups end.segments end.drain end.are
       ∙ ap (λ (answers : List Answer). answers_of end.groups answers) (ap answers_in end.drained ∙ answers_in-all end.answers))
 
-  pub plays_by_rules : IsTrue tells → IsTrue out_tells → PlaysByRules (map seen lines) (drives_of lines) held held_after before after
+  pub plays_by_rules : PlaysByRules (map seen lines) (drives_of lines) tells held held_after out_tells before after
   unfolding plays_all
-  plays_by_rules t o = record {
-    plays = plays_all some good end t o;
+  plays_by_rules = record {
+    plays = plays_all some good end;
     moments = moments_of_all all;
     obeys = subst (λ (drives : ℕ → Option DriveKind). Obeys drives (moments_of_all all)) same_drives (rules_hold setups 129 0 sound_after start_sound all end.does.run);
     asked = all_asked;

@@ -168,7 +168,7 @@ asked_write id block count fill bytes h is held =
     (ap (λ (b : Bool). if b then Some h.blocks else None) write ∙ ap (λ (xs : List (List ℕ)). Some xs) blocks)
 
 -- a line that may be played may be submitted
-inside_limit : (kind : DriveKind) (n : ℕ) → kind ≡ Rp06 → n ≤ 340522 → n ≤ limit_of kind
+inside_limit : (kind : DriveKind) (n : ℕ) → kind ≡ Rp06 → n ≤ limit_of Rp06 → n ≤ limit_of kind
 inside_limit kind n is le = subst (λ (k : DriveKind). n ≤ limit_of k) (sym is) le
 
 pub may_read : (w : World) (line : Line) (r : Asked) (id block count : ℕ) → line ≡ Read id block count → r ≡ read_of id block count → MayPlay w line → IsAsked w r 0

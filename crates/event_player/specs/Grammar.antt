@@ -1,6 +1,8 @@
 -- The grammar of a script: which lines its bytes spell, or which line is the first faulty one.
 use Rattle.std.specs.Prelude.{◌≡◌, ◌⊎◌, ℕ, ◌+◌, ◌<◌, ◌≤◌, ◌==◌, Bool, true, false, List, [], ◌∷◌, ◌++◌, length, codes, Option, None, Some, Ok}
 use Rattle.std.specs.List.{list_any, filter_map}
+use Rattle.pack_geometry.specs.declared.DriveKind.TheVariants.{Rp06}
+use Rattle.pack_geometry.specs.Geometry.{limit_of}
 use Rattle.mass_text.specs.Numbers.{number_of}
 use Rattle.mass_text.specs.declared.numbers.Radix.TheVariants.{Decimal, Hex}
 use Rattle.event_player.specs.Lines.{lines_of, fields_of}
@@ -8,6 +10,10 @@ use Rattle.event_player.specs.declared.script.ScriptKind.{ScriptKind}
 use Rattle.event_player.specs.declared.script.ScriptKind.TheVariants.{Word, TooMany, IdTwice, ScriptLong}
 use Rattle.event_player.specs.declared.script.Line.{Line}
 use Rattle.event_player.specs.declared.script.Line.TheVariants.{Unit as UnitLine, Read, Write, Arrive, Move, Attend, Drain}
+
+-- the longest script, in bytes: 16 MiB
+abbrev pub longest : ℕ
+longest = 16777216
 
 -- FORMS. A field is a decimal number up to a bound; a field is two hexadecimal digits.
 abbrev pub IsNumber : ℕ → List ℕ → ℕ → Type 0
@@ -21,7 +27,7 @@ pub record IsByte (field : List ℕ) (byte : ℕ) : Type 0 where
 pub record IsRange (block count : ℕ) : Type 0 where
   pub some : 1 ≤ count
   pub most : count ≤ 127
-  pub inside : block + count ≤ 340522
+  pub inside : block + count ≤ limit_of Rp06
 
 -- `read ID 0 c BLOCK COUNT`
 pub record IsRead (fields : List (List ℕ)) (id block count : ℕ) : Type 0 where
@@ -30,7 +36,7 @@ pub record IsRead (fields : List (List ℕ)) (id block count : ℕ) : Type 0 whe
   pub count_field : List ℕ
   pub form : fields ≡ codes "read" ∷ id_field ∷ codes "0" ∷ codes "c" ∷ block_field ∷ count_field ∷ []
   pub id_is : IsNumber 4294967295 id_field id
-  pub block_is : IsNumber 340521 block_field block
+  pub block_is : IsNumber 4294967295 block_field block
   pub count_is : IsNumber 127 count_field count
   pub range : IsRange block count
 
@@ -42,7 +48,7 @@ pub record IsWrite (fields : List (List ℕ)) (id block count fill : ℕ) : Type
   pub fill_field : List ℕ
   pub form : fields ≡ codes "write" ∷ id_field ∷ codes "0" ∷ codes "c" ∷ block_field ∷ count_field ∷ codes "fill" ∷ fill_field ∷ []
   pub id_is : IsNumber 4294967295 id_field id
-  pub block_is : IsNumber 340521 block_field block
+  pub block_is : IsNumber 4294967295 block_field block
   pub count_is : IsNumber 127 count_field count
   pub range : IsRange block count
   pub fill_is : IsByte fill_field fill
@@ -124,7 +130,7 @@ pub record AreGood (lines : List Line) : Type 0 where
 
 -- SCRIPTS. Bytes spell these lines.
 pub record Spells (bytes : List ℕ) (lines : List Line) : Type 0 where
-  pub short : length bytes ≤ 16777216
+  pub short : length bytes ≤ longest
   pub some : 0 < length lines
   pub forms : HaveForms (lines_of bytes) lines
   pub good : AreGood lines
@@ -152,6 +158,6 @@ pub record FirstFault (texts : List (List ℕ)) (number : ℕ) (kind : ScriptKin
 -- Bytes spell no script: they are too many, or there is no line, or there is a first faulty one.
 abbrev pub IsRefused : List ℕ → ℕ → ScriptKind → Type 0
 IsRefused bytes number kind =
-    ((16777216 < length bytes) × (number ≡ 0) × (kind ≡ ScriptLong))
-    ⊎ ((length bytes ≤ 16777216) × (lines_of bytes ≡ []) × (number ≡ 1) × (kind ≡ Word))
-    ⊎ ((length bytes ≤ 16777216) × FirstFault (lines_of bytes) number kind)
+    ((longest < length bytes) × (number ≡ 0) × (kind ≡ ScriptLong))
+    ⊎ ((length bytes ≤ longest) × (lines_of bytes ≡ []) × (number ≡ 1) × (kind ≡ Word))
+    ⊎ ((length bytes ≤ longest) × FirstFault (lines_of bytes) number kind)

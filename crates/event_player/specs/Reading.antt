@@ -2,10 +2,12 @@
 use Rattle.std.specs.Prelude.{◌≡◌, ℕ, ◌+◌, ◌==◌, ◌&&◌, ◌||◌, nat_le, nat_lt, if◌then◌else◌, List, [], ◌∷◌, ◌++◌, length, codes, Option, None, Some, Result, Ok, Err}
 use Rattle.std.specs.List.{list_any}
 use Rattle.std.specs.Str.{bytes_eq}
+use Rattle.pack_geometry.specs.declared.DriveKind.TheVariants.{Rp06}
+use Rattle.pack_geometry.specs.Geometry.{limit_of}
 use Rattle.mass_text.specs.Numbers.{number_of}
 use Rattle.mass_text.specs.declared.numbers.Radix.TheVariants.{Decimal, Hex}
 use Rattle.event_player.specs.Lines.{lines_of, fields_of}
-use Rattle.event_player.specs.Grammar.{id_of, ids_of}
+use Rattle.event_player.specs.Grammar.{longest, id_of, ids_of}
 use Rattle.event_player.specs.declared.script.ScriptKind.{ScriptKind}
 use Rattle.event_player.specs.declared.script.ScriptKind.TheVariants.{Word, TooMany, IdTwice, ScriptLong}
 use Rattle.event_player.specs.declared.script.ReadFault.{ReadFault}
@@ -39,13 +41,13 @@ by_word word id block count fields = None
 -- the same, where the numbers are there, and the blocks are such as a request may have
 abbrev pub request_with : List ℕ → Option ℕ → Option ℕ → Option ℕ → List (List ℕ) → Option Line
 request_with word (Some id) (Some block) (Some count) fields =
-    if count == 0 || nat_lt 340522 (block + count) then None else by_word word id block count fields
+    if count == 0 || nat_lt (limit_of Rp06) (block + count) then None else by_word word id block count fields
 request_with word id block count fields = None
 
 abbrev pub request_of : List (List ℕ) → Option Line
 request_of (word ∷ id ∷ unit_field ∷ part ∷ block ∷ count ∷ tail) =
     if bytes_eq unit_field (codes "0") && bytes_eq part (codes "c")
-    then request_with word (decimal_of 4294967295 id) (decimal_of 340521 block) (decimal_of 127 count) tail else None
+    then request_with word (decimal_of 4294967295 id) (decimal_of 4294967295 block) (decimal_of 127 count) tail else None
 request_of fields = None
 
 -- an event's line
@@ -103,7 +105,7 @@ reading done (text ∷ texts) =
 
 abbrev pub script_of : List ℕ → Result (List Line) Refusal
 script_of bytes =
-    if nat_lt 16777216 (length bytes) then Err (record { line = 0; kind = ScriptLong }) else reading [] (lines_of bytes)
+    if nat_lt longest (length bytes) then Err (record { line = 0; kind = ScriptLong }) else reading [] (lines_of bytes)
 
 -- what a reader refuses is what it found, unless memory ran out
 abbrev pub Finds : ReadFault → Result (List Line) Refusal → Type 0

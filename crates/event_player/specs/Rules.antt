@@ -1,5 +1,5 @@
--- Playing a script by the rules of what is seen.
-use Rattle.std.specs.Prelude.{◌≡◌, ℕ, List, [], ◌∷◌, ◌++◌, map, Option}
+-- Playing a script by the rules over traces.
+use Rattle.std.specs.Prelude.{◌≡◌, ℕ, Bool, List, [], ◌∷◌, ◌++◌, map, Option}
 use Rattle.pack_geometry.specs.declared.DriveKind.{DriveKind}
 use Rattle.pack_model.specs.Pack.{Pack}
 use Rattle.subsystem_spec.specs.Request.{Request, Answer, Line}
@@ -37,10 +37,10 @@ abbrev pub answers_of : List (List Answer) → List Answer → List Answer
 answers_of [] drain = drain
 answers_of (group ∷ groups) drain = group ++ answers_of groups drain
 
--- What is seen of playing these lines obeys the rules: just the script's requests are asked, in order, and just those whose
--- answers were taken end, in their order.
-pub record PlaysByRules (lines : List Line) (drives : ℕ → Option DriveKind) (old new : ℕ → Pack) (before after : List ℕ) : Type 0 where
-  pub plays : Plays lines drives old new before after
+-- Lines can be told of playing these lines that obey the rules: just the script's requests are asked in them, in order, and
+-- just those that were answered end, in the order of their answers.
+pub record PlaysByRules (lines : List Line) (drives : ℕ → Option DriveKind) (tells : Bool) (old new : ℕ → Pack) (out_tells : Bool) (before after : List ℕ) : Type 0 where
+  pub plays : Plays lines drives tells old new out_tells before after
   pub moments : List Moment
   pub obeys : Obeys drives moments
   pub asked : asked_in moments ≡ requests_of lines

@@ -108,10 +108,10 @@ pub fn play<P: Packs, O: Sink, T: Sink>(
     out: &mut O,
     trace: &mut T,
 ) -> Result<Tally, PlayFault>
-    ensures played { OnOk result (IsTrue (P.tells packs.new) → IsTrue (O.tells out.new) →
-        Plays (map seen script.now) (drives_of script.now) (P.held packs.old) (P.held packs.new) (O.taken out.old) (O.taken out.new)) }
-    ensures obeys { OnOk result (IsTrue (P.tells packs.new) → IsTrue (O.tells out.new) →
-        PlaysByRules (map seen script.now) (drives_of script.now) (P.held packs.old) (P.held packs.new) (O.taken out.old) (O.taken out.new)) }
+    ensures played { OnOk result (Plays (map seen script.now) (drives_of script.now)
+        (P.tells packs.new) (P.held packs.old) (P.held packs.new) (O.tells out.new) (O.taken out.old) (O.taken out.new)) }
+    ensures obeys { OnOk result (PlaysByRules (map seen script.now) (drives_of script.now)
+        (P.tells packs.new) (P.held packs.old) (P.held packs.new) (O.tells out.new) (O.taken out.old) (O.taken out.new)) }
     ensures never_again { IsTrue (P.tells packs.new) → IsTrue (P.tells packs.old) }
     ensures never_again_out { IsTrue (O.tells out.new) → IsTrue (O.tells out.old) }
     ensures later { P.faults packs.old ≤ P.faults packs.new }

@@ -1,21 +1,23 @@
-ghost use Rattle.std.specs.Prelude.{◌≡◌, ◌<◌, ◌++◌, ℕ, List, length, Ok, IfOk, IfErr, OnOk, All};
+ghost use Rattle.std.specs.Prelude.{◌≡◌, ◌⊎◌, ◌<◌, ◌≤◌, ◌++◌, ℕ, List, length, map, Ok, IfOk, IfErr, OnOk, All};
 ghost use Rattle.std.specs.Option.{option_to_list};
+ghost use Rattle.subsystem_spec.specs.LegalAnswers.{times_asked};
 ghost use Rattle.event_player.specs.declared.script.Line.{Line};
 ghost use Rattle.event_player.specs.declared.script.ScriptKind.{ScriptKind};
 ghost use Rattle.event_player.specs.Lines.{fields_of};
 ghost use Rattle.event_player.specs.Grammar.{id_of, ids_of, AreGood, Spells, IsRefused};
-ghost use Rattle.event_player.specs.Playing.{IsInside};
+ghost use Rattle.event_player.specs.Playing.{IsInside, seen};
 ghost use Rattle.event_player.specs.Reading.{by_word, event_of, request_of, later_of, id_fault, fresh, judged, script_of, Finds};
 ghost use Rattle.event_player.specs.Refusals.{Refuses};
 
 use crate::fields::SpacedFields;
 use crate::lines::{byte, decimal, first_line};
+use pack_geometry::{DriveKind, data_limit};
 use std::alloc::{AllocFailed, Global};
 use std::marker::Model;
 use thiserror::Error;
 
 /// The longest script, in bytes: 16 MiB.
-const LONGEST: usize = 16_777_216;
+pub const LONGEST: usize = 16_777_216;
 
 /// The largest number of requests in a script.
 const MOST_REQUESTS: usize = 129;
@@ -23,8 +25,8 @@ const MOST_REQUESTS: usize = 129;
 /// The largest number of blocks in a request.
 const MOST_BLOCKS: u64 = 127;
 
-/// The number of data blocks.
-const DATA_BLOCKS: u64 = 340_522;
+/// The largest number of 32 bits.
+const LARGEST: u64 = 4_294_967_295;
 
 /// A line of a script.
 #[derive(Clone, Copy, Debug, PartialEq, Eq)]
@@ -132,10 +134,10 @@ fn request(line: &[u8]) -> Option<Line>
     if unit != b"0".as_slice() || part != b"c".as_slice() {
         return None;
     }
-    let id = decimal(id, 4294967295)?;
-    let block = decimal(block, DATA_BLOCKS - 1)?;
+    let id = decimal(id, LARGEST)?;
+    let block = decimal(block, LARGEST)?;
     let count = decimal(count, MOST_BLOCKS)?;
-    if count == 0 || block + count > DATA_BLOCKS {
+    if count == 0 || block + count > u64::from(data_limit(DriveKind::Rp06)) {
         return None;
     }
     request_by_word(word, id as u32, block as u32, count as u32, fields)
@@ -302,9 +304,9 @@ impl Script {
     }
 }
 
-/// Reads a script from its bytes. It is refused exactly where the bytes spell none, with the first fault: Refused at
-/// line 0 as ScriptLong for more than 16 MiB; else the first line that is faulty, as Word, TooMany or IdTwice, where
-/// a script without a line is Word at line 1. Memory tells only that there was none.
+/// Reads a script from its bytes. Ok comes only where they spell it, and Refused only where they spell none, with the
+/// first fault: at line 0 as ScriptLong for more than 16 MiB; else the first line that is faulty, as Word, TooMany or
+/// IdTwice, where a script without a line is Word at line 1. Memory tells only that there was none.
 #[tactic(auto, using(crate::proofs::ReadingLaws::spelled, crate::proofs::ReadingLaws::refused))]
 pub fn read_script(alloc: Global, bytes: Vec<u8>) -> Result<Script, ReadFault>
     ensures ok { IfOk result (λ script. Spells bytes.items script) }
@@ -316,8 +318,11 @@ pub fn read_script(alloc: Global, bytes: Vec<u8>) -> Result<Script, ReadFault>
     }
 }
 
-/// The law of the grammar: bytes spell one list of lines, or have one first fault, and never both.
+/// The law of the grammar: bytes spell one list of lines, whose ids differ, or have one first fault; always one of
+/// both, and never both.
 pub fn grammar_law()
+    ensures script_or_fault { (bytes : List ℕ) → ((lines : List Line) × Spells bytes lines) ⊎ ((number : ℕ) × (kind : ScriptKind) × IsRefused bytes number kind) }
+    ensures distinct { (bytes : List ℕ) → (lines : List Line) → Spells bytes lines → (id : ℕ) → times_asked id (map seen lines) ≤ 1 }
     ensures one_script { (bytes : List ℕ) → (lines others : List Line) → Spells bytes lines → Spells bytes others → lines ≡ others }
     ensures no_fault { (bytes : List ℕ) → (lines : List Line) → Spells bytes lines → (number : ℕ) → (kind : ScriptKind) → ¬ IsRefused bytes number kind }
     ensures one_number { (bytes : List ℕ) → (number other : ℕ) → (kind kind_other : ScriptKind) → IsRefused bytes number kind → IsRefused bytes other kind_other → number ≡ other }

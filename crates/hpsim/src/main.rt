@@ -1,16 +1,13 @@
 // The program: it makes the real source, sinks and packs, and ends with the status of the command.
 #![tactic(auto)]
 
-use hpsim_run::run;
+use hpsim_run::{Status, run};
 use mass_outside::files::{FilePacks, FileSink};
 use mass_outside::streams::{StdSink, StdSource};
 use std::alloc::Global;
 use std::io::ErrorKind;
 use std::process::ExitCode;
 use std::{env, io};
-
-/// The status where there is no memory for the words.
-const NO_MEMORY: u8 = 9;
 
 /// The words after the program's name; there are none where one of them is not text, which is no command. None where
 /// there is no memory for them.
@@ -35,7 +32,7 @@ fn words(rt: &HostRuntime) -> Option<Vec<String>> {
 
 fn main(rt: HostRuntime) -> ExitCode {
     let Some(words) = words(&rt) else {
-        return ExitCode::from(NO_MEMORY);
+        return ExitCode::from(Status::OutOfMemory.code());
     };
     let mut script = StdSource::new(rt.reader());
     let mut packs = FilePacks::new(&rt);

@@ -13,6 +13,10 @@ abbrev pub is_play : List (String Global) → Bool
 is_play (word ∷ []) = bytes_eq (string_bytes word) (codes "play")
 is_play words = false
 
+-- the words are a command
+abbrev pub is_command : List (String Global) → Bool
+is_command words = is_play words
+
 unfoldable pub usage_text : List ℕ
 usage_text = codes "usage: hpsim play or bad144 list/add/fresh or exercise N" ++ 10 ∷ []
 

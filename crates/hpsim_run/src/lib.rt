@@ -2,10 +2,14 @@
 #![tactic(auto)]
 
 mod command;
+mod law;
 mod load;
+mod status;
 mod text;
 
 pub use command::run;
+pub use law::headline_law;
+pub use status::Status;
 
 #[cfg(test)]
 mod tests;

@@ -1,16 +1,13 @@
-ghost use Rattle.std.specs.Prelude.{◌≡◌, ◌≤◌, IsTrue, [], IfOk, IfErr, IsErrOf};
+ghost use Rattle.std.specs.Prelude.{◌≡◌, ◌+◌, ◌≤◌, IsTrue, [], length, IfOk, IfErr, IsErrOf};
 ghost use Rattle.mass_outside.specs.Causes.{Rose};
-ghost use Rattle.event_player.specs.Grammar.{Spells};
+ghost use Rattle.event_player.specs.Grammar.{longest, Spells};
 ghost use Rattle.hpsim_run.specs.Loading.{RefusesAll};
 
-use event_player::script::{ReadFault, Script, ScriptKind, read_script};
+use event_player::script::{LONGEST, ReadFault, Script, ScriptKind, read_script};
 use mass_outside::traits::Source;
 use mass_outside::whole::{ReadAllFault, read_all};
 use std::alloc::Global;
 use thiserror::Error;
-
-/// The longest script, in bytes: 16 MiB.
-const LONGEST: usize = 16_777_216;
 
 /// Why a script was not loaded.
 #[derive(Clone, Copy, Debug, PartialEq, Eq, Error)]
@@ -54,12 +51,14 @@ impl From<ReadFault> for LoadFault {
     }
 }
 
-/// Reads the script that a source gives, to its end or to 16 MiB and one piece more. Refused comes exactly where the
-/// bytes spell no script, with the first fault; Failed only where the source's count of faults rose in this call.
+/// Reads the script that a source gives, to its end or to 16 MiB and one byte. Ok comes only where its bytes spell a
+/// script; Refused only where they spell none, with the first fault; Failed only where the source's count of faults
+/// rose in this call; Memory tells that there was none.
 pub fn load<S: Source>(alloc: Global, source: &mut S) -> Result<Script, LoadFault>
     ensures never_again { IsTrue (S.tells source.new) → IsTrue (S.tells source.old) }
     ensures ok { IfOk result (λ script. IsTrue (S.tells source.new) → Spells (S.left source.old) script) }
     ensures end { IfOk result (λ script. IsTrue (S.tells source.new) → S.left source.new ≡ []) }
+    ensures taken { IsTrue (S.tells source.new) → length (S.left source.old) ≤ length (S.left source.new) + longest + 1 }
     ensures refused { IfErr result (λ fault. IsTrue (S.tells source.new) → RefusesAll fault (S.left source.old)) }
     ensures later { S.faults source.old ≤ S.faults source.new }
     ensures failed { IsErrOf result LoadFault.Failed → Rose (S.faults source.old) (S.faults source.new) }

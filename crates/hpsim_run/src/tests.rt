@@ -106,6 +106,19 @@ const MARKED_ROWS: [Row; 2] = [
     },
 ];
 
+/// The words of the command that plays.
+const PLAY: &[&str] = &["play"];
+
+/// Words that are no command.
+const NO_COMMANDS: [&[&str]; 6] = [
+    &[],
+    &["list"],
+    &["--help"],
+    &[""],
+    &["Play"],
+    &["play", "play"],
+];
+
 /// Which calls fail in a run: of the source, of the sink, and of the packs.
 #[derive(Clone, Copy)]
 struct Faults {
@@ -139,13 +152,15 @@ fn packs_of(alloc: Global, image: &[u8], marks: &[u8], fail: FailCall) -> Result
 /// Runs a command over packs, and answers its status and what was printed.
 fn run_on(
     alloc: Global,
-    word: &str,
+    line: &[&str],
     script: &[u8],
     packs: &mut MemPacks,
     faults: Faults,
 ) -> Result<(u8, MemSink), Fail> {
     let mut words = Vec::new(alloc);
-    words.push(String::from_str(alloc, word)?)?;
+    for word in line {
+        words.push(String::from_str(alloc, word)?)?;
+    }
     let mut source = MemSource::new(
         Vec::from_slice(alloc, script)?,
         Vec::from_slice(alloc, &[faults.source])?,
@@ -166,19 +181,19 @@ fn run_on(
 /// Runs a command over unit 0 with an image on which no block is marked.
 fn run_over(
     alloc: Global,
-    word: &str,
+    line: &[&str],
     script: &[u8],
     image: &[u8],
     faults: Faults,
 ) -> Result<(u8, MemSink), Fail> {
     let mut packs = packs_of(alloc, image, b"", faults.packs)?;
-    run_on(alloc, word, script, &mut packs, faults)
+    run_on(alloc, line, script, &mut packs, faults)
 }
 
 #[test]
 fn answers_and_refusals(rt: HostRuntime) -> Result<(), Fail> {
     for row in &ROWS {
-        let (status, out) = run_over(rt.alloc(), "play", row.script, b"", NONE)?;
+        let (status, out) = run_over(rt.alloc(), PLAY, row.script, b"", NONE)?;
         assert_eq!(rt; status, row.status, "{}", row.name);
         assert_eq!(rt; out.taken(), row.text, "{}", row.name);
     }
@@ -192,7 +207,7 @@ fn marked_block(rt: HostRuntime) -> Result<(), Fail> {
     marks.push(1)?;
     for row in &MARKED_ROWS {
         let mut packs = packs_of(rt.alloc(), b"", marks.as_slice(), NONE.packs)?;
-        let (status, out) = run_on(rt.alloc(), "play", row.script, &mut packs, NONE)?;
+        let (status, out) = run_on(rt.alloc(), PLAY, row.script, &mut packs, NONE)?;
         assert_eq!(rt; status, row.status, "{}", row.name);
         assert_eq!(rt; out.taken(), row.text, "{}", row.name);
     }
@@ -208,7 +223,7 @@ fn third_write_fails(rt: HostRuntime) -> Result<(), Fail> {
     };
     let mut packs = packs_of(rt.alloc(), &[0x11; 4608], b"", fail)?;
     let script = b"unit 0 rp06\nwrite 1 0 c 5 4 fill 77\n";
-    let (status, out) = run_on(rt.alloc(), "play", script, &mut packs, NONE)?;
+    let (status, out) = run_on(rt.alloc(), PLAY, script, &mut packs, NONE)?;
     assert_eq!(rt; status, 6);
     assert_eq!(rt; out.taken(), b"".as_slice());
     let mut bytes = [0u8; 512];
@@ -233,14 +248,14 @@ fn reads(alloc: Global, count: u32) -> Result<String, Fail> {
 #[test]
 fn limits(rt: HostRuntime) -> Result<(), Fail> {
     let script = reads(rt.alloc(), 129)?;
-    let (status, _) = run_over(rt.alloc(), "play", script.as_bytes(), b"", NONE)?;
+    let (status, _) = run_over(rt.alloc(), PLAY, script.as_bytes(), b"", NONE)?;
     assert_eq!(rt; status, 0);
     let script = reads(rt.alloc(), 130)?;
-    let (_, out) = run_over(rt.alloc(), "play", script.as_bytes(), b"", NONE)?;
+    let (_, out) = run_over(rt.alloc(), PLAY, script.as_bytes(), b"", NONE)?;
     assert_eq!(rt; out.taken(), b"refused line 131 toomany\n".as_slice());
     let mut long = Vec::new(rt.alloc());
     long.resize(16_777_217, b'\n')?;
-    let (_, out) = run_over(rt.alloc(), "play", long.as_slice(), b"", NONE)?;
+    let (_, out) = run_over(rt.alloc(), PLAY, long.as_slice(), b"", NONE)?;
     assert_eq!(rt; out.taken(), b"refused line 0 scriptlong\n".as_slice());
     Ok(())
 }
@@ -254,7 +269,7 @@ fn short_image(rt: HostRuntime) -> Result<(), Fail> {
     }
     text.push('\n')?;
     let script = b"unit 0 rp06\nread 1 0 c 1 1\n";
-    let (_, out) = run_over(rt.alloc(), "play", script, &[0xFF; 700], NONE)?;
+    let (_, out) = run_over(rt.alloc(), PLAY, script, &[0xFF; 700], NONE)?;
     assert_eq!(rt; out.taken(), text.as_bytes());
     Ok(())
 }
@@ -291,7 +306,7 @@ fn failing_calls(rt: HostRuntime) -> Result<(), Fail> {
             sink,
             packs: FailCall { op, number },
         };
-        let (status, out) = run_over(rt.alloc(), "play", SCRIPT, b"", faults)?;
+        let (status, out) = run_over(rt.alloc(), PLAY, SCRIPT, b"", faults)?;
         assert_eq!(rt; status, wanted, "{source} {sink} {number} {op:?}");
         assert_eq!(rt;
             out.taken(),
@@ -305,10 +320,10 @@ fn failing_calls(rt: HostRuntime) -> Result<(), Fail> {
 #[test]
 fn usage(rt: HostRuntime) -> Result<(), Fail> {
     let usage = b"usage: hpsim play or bad144 list/add/fresh or exercise N\n".as_slice();
-    for word in ["list", "--help", "", "Play"] {
-        let (status, out) = run_over(rt.alloc(), word, SCRIPT, b"", NONE)?;
-        assert_eq!(rt; status, 2, "{word}");
-        assert_eq!(rt; out.taken(), usage, "{word}");
+    for words in NO_COMMANDS {
+        let (status, out) = run_over(rt.alloc(), words, SCRIPT, b"", NONE)?;
+        assert_eq!(rt; status, 2);
+        assert_eq!(rt; out.taken(), usage);
     }
     Ok(())
 }

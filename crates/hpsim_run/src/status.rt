@@ -1,0 +1,38 @@
+ghost use Rattle.std.specs.Prelude.{◌≡◌};
+ghost use Rattle.hpsim_run.specs.Statuses.{status_code};
+
+/// How a run of the program ends.
+#[derive(Clone, Copy, Debug, PartialEq, Eq)]
+pub enum Status {
+    /// It is done.
+    Done,
+    /// The words are no command.
+    Usage,
+    /// The bytes of the source spell no script.
+    Refused,
+    /// A call of the source failed.
+    SourceFailed,
+    /// A call of a sink failed.
+    SinkFailed,
+    /// A call of the packs failed.
+    PacksFailed,
+    /// There was no memory.
+    OutOfMemory,
+}
+
+impl Status {
+    /// The number that the program ends with.
+    pub fn code(self) -> u8
+        ensures { result ≡ status_code self }
+    {
+        match self {
+            Status::Done => 0,
+            Status::Usage => 2,
+            Status::Refused => 3,
+            Status::SourceFailed => 4,
+            Status::SinkFailed => 5,
+            Status::PacksFailed => 6,
+            Status::OutOfMemory => 9,
+        }
+    }
+}
