@@ -8,7 +8,7 @@ use Rattle.std.proofs.lemmas.List.Elements.{All-push}
 use Rattle.std.proofs.lemmas.List.Quantifiers.{all_pairs_push}
 use Rattle.std.proofs.lemmas.Option.{slice_get-get_or}
 use Rattle.pack_geometry.specs.declared.DriveKind.{DriveKind}
-use Rattle.pack_geometry.specs.declared.DriveKind.TheVariants.{Rp06, Rm03}
+use Rattle.pack_geometry.specs.declared.DriveKind.TheVariants.{Rp06, Rm03, Rm05}
 use Rattle.pack_geometry.specs.declared.Place.{Place}
 use Rattle.pack_geometry.specs.Geometry.{IsInside, block_number, limit_of}
 use Rattle.pack_model.specs.TableSpelling.{Table, IsTable}
@@ -34,6 +34,7 @@ same_fields p q cylinder track sector = λ i. record { cylinder = cylinder i; tr
 pub same_number : (kind : DriveKind) (p q : Place) → IsInside kind p → IsInside kind q → block_number kind p ≡ block_number kind q → p ≡ q
 same_number Rp06 p q ip iq e = same_fields p q (omega arith) (omega arith) (omega arith)
 same_number Rm03 p q ip iq e = same_fields p q (omega arith) (omega arith) (omega arith)
+same_number Rm05 p q ip iq e = same_fields p q (omega arith) (omega arith) (omega arith)
 
 -- ---- a place's position among others
 

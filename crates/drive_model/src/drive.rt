@@ -334,5 +334,6 @@ fn type_word(kind: DriveKind) -> u16
     match kind {
         DriveKind::Rp06 => 0o020022,
         DriveKind::Rm03 => 0o020024,
+        DriveKind::Rm05 => 0o020027,
     }
 }

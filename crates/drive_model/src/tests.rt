@@ -85,7 +85,7 @@ fn rows(kind: DriveKind) -> [Row; 11] {
     };
     let (first, second) = match kind {
         DriveKind::Rp06 => (0o20, 0),
-        DriveKind::Rm03 => (0, 0o100000),
+        DriveKind::Rm03 | DriveKind::Rm05 => (0, 0o100000),
     };
     [
         made(Trial::Offline, Moved::Offline, 0o40000, 0, &[]),
@@ -163,7 +163,7 @@ fn verdicts(rt: HostRuntime) -> Result<(), Fail> {
     let mut memory = MainMemory::new(rt.alloc())?;
     let buffer = to_bus(memory.lend(1, 0)?);
     let mut window = memory.window(&buffer, 0);
-    for kind in [DriveKind::Rp06, DriveKind::Rm03] {
+    for kind in [DriveKind::Rp06, DriveKind::Rm03, DriveKind::Rm05] {
         for row in rows(kind) {
             try_row(&rt, rt.alloc(), kind, row, None, &mut window)?;
             for call in row.calls {

@@ -5,7 +5,7 @@ use Rattle.std.proofs.lemmas.Nat.{div-mul-add, mod-mul-add}
 use Rattle.std.proofs.lemmas.Bool.{false≢true}
 use Rattle.std.proofs.lemmas.Bool.Decides.{Decides-ltb, nat_tests}
 use Rattle.pack_geometry.specs.declared.DriveKind.{DriveKind}
-use Rattle.pack_geometry.specs.declared.DriveKind.TheVariants.{Rp06, Rm03}
+use Rattle.pack_geometry.specs.declared.DriveKind.TheVariants.{Rp06, Rm03, Rm05}
 use Rattle.pack_geometry.specs.declared.Place.{Place}
 use Rattle.pack_geometry.specs.Geometry.{cylinders_of, tracks_of, sectors_of, block_count, limit_of, IsInside, place_at}
 use Rattle.drive_registers.specs.declared.Function.{Function}
@@ -34,14 +34,17 @@ use Rattle.driver_machine.specs.Sound.{IsGood, IsClear, IsUnderWay, IsEndedAt}
 pub place_inside : (kind : DriveKind) (block : ℕ) → block < block_count kind → IsInside kind (place_at kind block)
 place_inside Rp06 block lt = record { cylinder = omega arith; track = omega arith; sector = omega arith }
 place_inside Rm03 block lt = record { cylinder = omega arith; track = omega arith; sector = omega arith }
+place_inside Rm05 block lt = record { cylinder = omega arith; track = omega arith; sector = omega arith }
 
 pub sizes_small : (kind : DriveKind) → (cylinders_of kind ≤ 1024) × (tracks_of kind ≤ 256) × (sectors_of kind ≤ 256)
 sizes_small Rp06 = (omega arith, omega arith, omega arith)
 sizes_small Rm03 = (omega arith, omega arith, omega arith)
+sizes_small Rm05 = (omega arith, omega arith, omega arith)
 
 pub below_limit : (kind : DriveKind) (block : ℕ) → block < limit_of kind → block < block_count kind
 below_limit Rp06 block lt = omega arith
 below_limit Rm03 block lt = omega arith
+below_limit Rm05 block lt = omega arith
 
 -- FUNCTIONS that are not refused are done.
 pub performed_as : (f : Function) (d : DriveState) → refusals f d ≡ 0 → performed f d ≡ effect f (record d { cs1 = function_code f })
@@ -98,6 +101,7 @@ search_by false x y c k e = (cc, cc)
 pub sector_before-small : (kind : DriveKind) (sector : ℕ) → sector_before (sectors_of kind) 3 sector < sectors_of kind
 sector_before-small Rp06 sector = omega arith
 sector_before-small Rm03 sector = omega arith
+sector_before-small Rm05 sector = omega arith
 
 pub search_for : (kind : DriveKind) (here look : ℕ) (target : Place) (c k : ℕ) → position_for kind here look target true ≡ position.Search c k
     → (c ≡ target.cylinder) × (k ≡ sector_before (sectors_of kind) 3 target.sector)
@@ -159,14 +163,17 @@ by_if false P x y h g = g
 kind_marked : (kind : DriveKind) (d : DriveState) → (with_mark_bits kind d).kind ≡ d.kind
 kind_marked Rp06 d = refl
 kind_marked Rm03 d = refl
+kind_marked Rm05 d = refl
 
 good_marked : (kind : DriveKind) (d : DriveState) → IsGood d → IsGood (with_mark_bits kind d)
 good_marked Rp06 d g = record { online = g.online; locked = g.locked; valid = g.valid; armed = g.armed; offset = g.offset; cylinder = g.cylinder; look = g.look; look_ahead = g.look_ahead; sector = g.sector }
 good_marked Rm03 d g = record { online = g.online; locked = g.locked; valid = g.valid; armed = g.armed; offset = g.offset; cylinder = g.cylinder; look = g.look; look_ahead = g.look_ahead; sector = g.sector }
+good_marked Rm05 d g = record { online = g.online; locked = g.locked; valid = g.valid; armed = g.armed; offset = g.offset; cylinder = g.cylinder; look = g.look; look_ahead = g.look_ahead; sector = g.sector }
 
 sector_after_small : (kind : DriveKind) (sector : ℕ) → (sector + 1) % sectors_of kind < sectors_of kind
 sector_after_small Rp06 sector = omega arith
 sector_after_small Rm03 sector = omega arith
+sector_after_small Rm05 sector = omega arith
 
 good_passed : (d : DriveState) (block : ℕ) → block < block_count d.kind → IsGood d → IsGood (passed block d)
 good_passed d block lt g =
@@ -239,6 +246,7 @@ under_way_if false d a e w t c = record { work = rw e w; attention = t; clear = 
 marked_work : (kind : DriveKind) (d : DriveState) → (with_mark_bits kind d).attention ≡ d.attention
 marked_work Rp06 d = refl
 marked_work Rm03 d = refl
+marked_work Rm05 d = refl
 
 pub under_way_stepped : (v : Moved) (a : AdapterState) (d : DriveState) → IsPlain v → a.completion ≡ false → IsUnderWay d a
     → IsUnderWay (drive_stepped v a d) (stepped v a)

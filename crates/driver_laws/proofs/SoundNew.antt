@@ -5,7 +5,7 @@ use Rattle.std.proofs.lemmas.List.{length-replicate}
 use Rattle.std.proofs.lemmas.Nat.Bits.{bit_at-zero}
 use Rattle.std.proofs.lemmas.Option.{none-some}
 use Rattle.pack_geometry.specs.declared.DriveKind.{DriveKind}
-use Rattle.pack_geometry.specs.declared.DriveKind.TheVariants.{Rp06, Rm03}
+use Rattle.pack_geometry.specs.declared.DriveKind.TheVariants.{Rp06, Rm03, Rm05}
 use Rattle.pack_geometry.specs.Geometry.{cylinders_of, sectors_of}
 use Rattle.hardware_table.specs.Noise.{Book, empty_book}
 use Rattle.driver_machine.specs.declared.Phase.TheVariants.{Waiting}
@@ -26,10 +26,12 @@ pub record IsIdle (v : UnitView) : Type 0 where
 some_cylinders : (kind : DriveKind) → 0 < cylinders_of kind
 some_cylinders Rp06 = omega arith
 some_cylinders Rm03 = omega arith
+some_cylinders Rm05 = omega arith
 
 some_sectors : (kind : DriveKind) → 0 < sectors_of kind
 some_sectors Rp06 = omega arith
 some_sectors Rm03 = omega arith
+some_sectors Rm05 = omega arith
 
 pub attached_good : (setup : UnitSetup) → IsGood (attached_drive setup)
 attached_good setup = record {

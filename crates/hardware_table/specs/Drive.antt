@@ -1,7 +1,7 @@
 -- The state of a drive, and its registers.
 use Rattle.std.specs.Prelude.{ℕ, ◌/◌, ◌%◌, ◌==◌, ◌&&◌, Bool, true, false, not, if◌then◌else◌, bit_or}
 use Rattle.pack_geometry.specs.declared.DriveKind.{DriveKind}
-use Rattle.pack_geometry.specs.declared.DriveKind.TheVariants.{Rp06, Rm03}
+use Rattle.pack_geometry.specs.declared.DriveKind.TheVariants.{Rp06, Rm03, Rm05}
 use Rattle.drive_registers.specs.Bits as bits
 use Rattle.hardware_table.specs.declared.Armed.{Armed}
 use Rattle.hardware_table.specs.declared.Work.{Work}
@@ -102,6 +102,7 @@ status d =
 abbrev pub type_word : DriveKind → ℕ
 type_word Rp06 = 0o20022
 type_word Rm03 = 0o20024
+type_word Rm05 = 0o20027
 
 -- what a register holds
 abbrev pub register_of : Register → DriveState → ℕ

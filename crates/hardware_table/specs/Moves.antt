@@ -1,9 +1,8 @@
 -- The move of one sector: its verdict, and what that does.
 use Rattle.std.specs.Prelude.{◌≡◌, ℕ, ◌+◌, ◌*◌, ◌-◌, ◌%◌, nat_lt, Bool, true, false, not, ◌&&◌, if◌then◌else◌, List, [], ◌∷◌, find, Option, None, Some, option_map, bit_or}
 use Rattle.pack_geometry.specs.declared.DriveKind.{DriveKind}
-use Rattle.pack_geometry.specs.declared.DriveKind.TheVariants.{Rp06, Rm03}
-use Rattle.pack_geometry.specs.declared.Place.{Place}
-use Rattle.pack_geometry.specs.Geometry.{sectors_of, block_count, place_at}
+use Rattle.pack_geometry.specs.declared.DriveKind.TheVariants.{Rp06, Rm03, Rm05}
+use Rattle.pack_geometry.specs.Geometry.{sectors_of, block_count, place_at, track_and_sector}
 use Rattle.fire_code.specs.Remainder.{remainder}
 use Rattle.fire_code.specs.Burst.{IsBurst, IsUncorrectable}
 use Rattle.fire_code.specs.Noise.{IsFlipped}
@@ -69,16 +68,12 @@ abbrev pub IsReadAs : Option (List ℕ) → List ℕ → List ℕ → Type 0
 IsReadAs None sector bytes = bytes ≡ sector
 IsReadAs (Some places) sector bytes = (check : ℕ) × IsFlipped places sector 0 bytes check
 
--- the word of a place in Da
-abbrev pub address_of : Place → ℕ
-address_of place = place.track * 256 + place.sector
-
 -- a drive whose heads have passed a block: it stands on its cylinder, and Dc and Da name the next block, if any
 abbrev pub passed : ℕ → DriveState → DriveState
 passed block d = record d {
   cc = (place_at d.kind block).cylinder;
   dc = if nat_lt (block + 1) (block_count d.kind) then (place_at d.kind (block + 1)).cylinder else d.dc;
-  da = if nat_lt (block + 1) (block_count d.kind) then address_of (place_at d.kind (block + 1)) else d.da;
+  da = if nat_lt (block + 1) (block_count d.kind) then track_and_sector (place_at d.kind (block + 1)) else d.da;
   la = look_ahead (((place_at d.kind block).sector + 1) % sectors_of d.kind);
 }
 
@@ -94,10 +89,11 @@ with_fault_bits Dte d = record d { er1 = bit_or d.er1 bits.drive_timing_error }
 with_fault_bits Hcrc d = record d { er1 = bit_or d.er1 bits.header_check_error }
 with_fault_bits Late d = d
 
--- the error bits of a marked sector: no sector of the format on an RP06, a bad sector on an RM03
+-- the error bits of a marked sector: no sector of the format on an RP06, a bad sector on an RM03 and an RM05
 abbrev pub with_mark_bits : DriveKind → DriveState → DriveState
 with_mark_bits Rp06 d = record d { er1 = bit_or d.er1 bits.format_error }
 with_mark_bits Rm03 d = record d { er2 = bit_or d.er2 bits.bad_sector_error }
+with_mark_bits Rm05 d = record d { er2 = bit_or d.er2 bits.bad_sector_error }
 
 -- what the verdict on a block does to the drive; the transfer stays under way
 abbrev pub after_move : Moved → ℕ → DriveState → DriveState

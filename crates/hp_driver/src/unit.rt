@@ -121,10 +121,10 @@ impl DiskUnit {
     pub fn kind(&self) -> DriveKind
         ensures { result ≡ self.now.drive.kind }
     {
-        if self.drive.read_register(Register::Dt) == 0o20022 {
-            DriveKind::Rp06
-        } else {
-            DriveKind::Rm03
+        match self.drive.read_register(Register::Dt) {
+            0o20022 => DriveKind::Rp06,
+            0o20024 => DriveKind::Rm03,
+            _ => DriveKind::Rm05,
         }
     }
 

@@ -1,16 +1,17 @@
-// The sizes of the drives, and where their blocks lie.
+//! The sizes of the drives, and where their blocks lie, after the manuals of the RP06, RM03 and RM05 drives.
 #![tactic(auto)]
 
 ghost use Rattle.std.specs.Prelude.{◌≡◌, ◌≢◌, ◌<◌, ◌≤◌, ◌-◌, ◌↔◌, ℕ, IfNone, SomeIff};
 ghost use Rattle.pack_geometry.specs.declared.DriveKind.{DriveKind};
 ghost use Rattle.pack_geometry.specs.declared.Place.{Place};
-ghost use Rattle.pack_geometry.specs.Geometry.{cylinders_of, tracks_of, sectors_of, block_count, limit_of, IsInside, block_number, place_at, copy_at, replacement_at, kind_word};
+ghost use Rattle.pack_geometry.specs.Geometry.{cylinders_of, tracks_of, sectors_of, block_count, limit_of, IsInside, block_number, place_at, copy_at, replacement_at, kind_word, track_and_sector};
 
 /// The kinds of drive.
 #[derive(Clone, Copy, Debug, PartialEq, Eq)]
 pub enum DriveKind {
     Rp06,
     Rm03,
+    Rm05,
 }
 
 /// How many cylinders a drive has, tracks a cylinder, and sectors of 512 bytes a track.
@@ -29,7 +30,7 @@ pub struct Place {
     pub sector: u32,
 }
 
-/// The geometry of a kind: the RP06 in its 16-bit format, and the RM03.
+/// The geometry of a kind: the RP06 in its 16-bit format, the RM03 and the RM05.
 pub fn geometry_of(kind: DriveKind) -> Geometry
     ensures cylinders { result.cylinders ≡ cylinders_of kind }
     ensures tracks { result.tracks ≡ tracks_of kind }
@@ -46,6 +47,11 @@ pub fn geometry_of(kind: DriveKind) -> Geometry
             tracks: 5,
             sectors: 32,
         },
+        DriveKind::Rm05 => Geometry {
+            cylinders: 823,
+            tracks: 19,
+            sectors: 32,
+        },
     }
 }
 
@@ -56,6 +62,7 @@ pub fn blocks(kind: DriveKind) -> u32
     match kind {
         DriveKind::Rp06 => 340670,
         DriveKind::Rm03 => 131680,
+        DriveKind::Rm05 => 500384,
     }
 }
 
@@ -66,10 +73,11 @@ pub fn data_limit(kind: DriveKind) -> u32
     match kind {
         DriveKind::Rp06 => 340522,
         DriveKind::Rm03 => 131522,
+        DriveKind::Rm05 => 500226,
     }
 }
 
-/// The kind that a word names, `rp06` or `rm03`; None exactly where it is neither.
+/// The kind that a word names, `rp06`, `rm03` or `rm05`; None exactly where it is none of them.
 pub fn kind_of(word: &[u8]) -> Option<DriveKind>
     ensures named { (kind : DriveKind) → (result ≡ Some kind) ↔ (word.now ≡ kind_word kind) }
     ensures none { IfNone result ((kind : DriveKind) → word.now ≢ kind_word kind) }
@@ -77,6 +85,7 @@ pub fn kind_of(word: &[u8]) -> Option<DriveKind>
     match word {
         b"rp06" => Some(DriveKind::Rp06),
         b"rm03" => Some(DriveKind::Rm03),
+        b"rm05" => Some(DriveKind::Rm05),
         _ => None,
     }
 }
@@ -109,6 +118,16 @@ pub fn block_of(kind: DriveKind, place: Place) -> Option<u32>
     } else {
         None
     }
+}
+
+/// The word that names a place's track and sector on its cylinder, `track * 256 + sector`, as a drive's address
+/// register, a sector's header and the pairs of a bad-sector table have it.
+pub fn sector_word(place: Place) -> u16
+    requires track { place.track < 256 }
+    requires sector { place.sector < 256 }
+    ensures { result ≡ track_and_sector place }
+{
+    (place.track * 256 + place.sector) as u16
 }
 
 /// The block of copy `k` of the bad-sector table: the five copies lie on the even sectors of the last track.
@@ -154,7 +173,7 @@ mod tests {
     // Places worked out by hand from the drives' sizes, and the ends of a pack.
     #[test]
     fn places_and_parts(rt: HostRuntime) {
-        use DriveKind::{Rm03, Rp06};
+        use DriveKind::{Rm03, Rm05, Rp06};
         for (kind, block, cylinder, track, sector) in [
             (Rp06, 0, 0, 0, 0),
             (Rp06, 1000, 2, 7, 10),
@@ -162,6 +181,9 @@ mod tests {
             (Rm03, 159, 0, 4, 31),
             (Rm03, 160, 1, 0, 0),
             (Rm03, 131679, 822, 4, 31),
+            (Rm05, 1000, 1, 12, 8),
+            (Rm05, 500225, 822, 14, 1),
+            (Rm05, 500383, 822, 18, 31),
         ] {
             if block >= blocks(kind) {
                 assert!(rt; false, "block {block} is beyond the pack");
@@ -182,6 +204,14 @@ mod tests {
         assert_eq!(rt;
             (replacement(Rm03, 0), replacement(Rm03, 125)),
             (131647, 131522)
+        );
+        assert_eq!(rt;
+            (
+                copy_block(Rm05, 0),
+                copy_block(Rm05, 4),
+                replacement(Rm05, 0)
+            ),
+            (500352, 500360, 500351)
         );
     }
 }

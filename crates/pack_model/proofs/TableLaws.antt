@@ -6,7 +6,7 @@ use Rattle.std.proofs.lemmas.Grind.{common_steps, same_number_lists}
 use Rattle.std.proofs.lemmas.List.{get_or_append_left, get_or-append_right, get_or-replicate, length-replicate, same_lists}
 use Rattle.std.specs.List.{flat_map}
 use Rattle.pack_geometry.specs.declared.DriveKind.{DriveKind}
-use Rattle.pack_geometry.specs.declared.DriveKind.TheVariants.{Rp06, Rm03}
+use Rattle.pack_geometry.specs.declared.DriveKind.TheVariants.{Rp06, Rm03, Rm05}
 use Rattle.pack_geometry.specs.declared.Place.{Place}
 use Rattle.pack_geometry.specs.Geometry.{IsInside}
 use Rattle.pack_model.specs.TableFields.{word_at, long_at, place_in, IsEnd}
@@ -120,14 +120,17 @@ same_place c t s place ec et es = rw (ec, et, es) refl
 small_cylinder : (kind : DriveKind) (place : Place) → IsInside kind place → place.cylinder < 65535
 small_cylinder Rp06 place inside = omega arith
 small_cylinder Rm03 place inside = omega arith
+small_cylinder Rm05 place inside = omega arith
 
 small_sector : (kind : DriveKind) (place : Place) → IsInside kind place → place.sector < 256
 small_sector Rp06 place inside = omega arith
 small_sector Rm03 place inside = omega arith
+small_sector Rm05 place inside = omega arith
 
 small_track : (kind : DriveKind) (place : Place) → IsInside kind place → place.track < 256
 small_track Rp06 place inside = omega arith
 small_track Rm03 place inside = omega arith
+small_track Rm05 place inside = omega arith
 
 pub place_in-listed : (kind : DriveKind) (serial : ℕ) (places : List Place) (k : ℕ) (d : Place) → k < length places → IsInside kind (get_or places k d)
     → place_in (table_text serial places) k ≡ get_or places k d

@@ -1,4 +1,6 @@
 pub mod Content
+pub mod Homes
 pub mod Pack
+pub mod PackTable
 pub mod TableFields
 pub mod TableSpelling

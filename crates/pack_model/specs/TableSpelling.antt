@@ -4,7 +4,7 @@ use Rattle.std.specs.Int.{to_le_bytes, w16, w32}
 use Rattle.std.specs.List.{flat_map}
 use Rattle.pack_geometry.specs.declared.DriveKind.{DriveKind}
 use Rattle.pack_geometry.specs.declared.Place.{Place}
-use Rattle.pack_geometry.specs.Geometry.{IsInside, block_number}
+use Rattle.pack_geometry.specs.Geometry.{IsInside, block_number, track_and_sector}
 
 -- a table: the kind of its drive, the pack's serial number, and the places that are listed
 pub record Table : Type 0 where
@@ -23,9 +23,9 @@ pub record IsTable (table : Table) : Type 0 where
 abbrev pub head_text : ℕ → List ℕ
 head_text serial = to_le_bytes w32 serial ++ 0 ∷ 0 ∷ 0 ∷ 0 ∷ []
 
--- a pair of words: the cylinder, and `track*256 + sector`
+-- a pair of words: the cylinder, and the track and sector
 abbrev pub pair_text : Place → List ℕ
-pair_text place = to_le_bytes w16 place.cylinder ++ to_le_bytes w16 (place.track * 256 + place.sector)
+pair_text place = to_le_bytes w16 place.cylinder ++ to_le_bytes w16 (track_and_sector place)
 
 -- the pairs of all places, and then pairs of all ones
 unfoldable pub pairs_text : List Place → List ℕ

@@ -1,7 +1,7 @@
 -- The partitions of the drives, and what a request of one meets.
 use Rattle.std.specs.Prelude.{ℕ, ◌+◌, ◌*◌, ◌==◌, nat_le, if◌then◌else◌}
 use Rattle.pack_geometry.specs.declared.DriveKind.{DriveKind}
-use Rattle.pack_geometry.specs.declared.DriveKind.TheVariants.{Rp06, Rm03}
+use Rattle.pack_geometry.specs.declared.DriveKind.TheVariants.{Rp06, Rm03, Rm05}
 use Rattle.pack_geometry.specs.Geometry.{tracks_of, sectors_of}
 use Rattle.partitions.specs.declared.Part.{Part}
 use Rattle.partitions.specs.declared.Part.TheVariants.{A, B, C, D, E, F, G, H}
@@ -37,6 +37,14 @@ size_of Rm03 E = 55936
 size_of Rm03 F = 10080
 size_of Rm03 G = 82080
 size_of Rm03 H = 0
+size_of Rm05 A = 15884
+size_of Rm05 B = 33440
+size_of Rm05 C = 500226
+size_of Rm05 D = 0
+size_of Rm05 E = 0
+size_of Rm05 F = 0
+size_of Rm05 G = 450370
+size_of Rm05 H = 0
 
 -- the cylinder at which it begins
 abbrev pub cylinder_of : DriveKind → Part → ℕ
@@ -56,6 +64,14 @@ cylinder_of Rm03 E = 409
 cylinder_of Rm03 F = 759
 cylinder_of Rm03 G = 309
 cylinder_of Rm03 H = 0
+cylinder_of Rm05 A = 0
+cylinder_of Rm05 B = 27
+cylinder_of Rm05 C = 0
+cylinder_of Rm05 D = 0
+cylinder_of Rm05 E = 0
+cylinder_of Rm05 F = 0
+cylinder_of Rm05 G = 82
+cylinder_of Rm05 H = 0
 
 -- its first block
 abbrev pub first_of : DriveKind → Part → ℕ

@@ -1,4 +1,5 @@
-// The partitions of the drives, and the admission of requests to them.
+//! The partitions of the drives, and the admission of requests to them. The sizes and the first cylinders are this
+//! project's own: a pack that another system divided has its own.
 #![tactic(auto)]
 
 ghost use Rattle.std.specs.Prelude.{◌≡◌, ◌<◌, ◌≤◌, ◌+◌, ◌↔◌, ◌⊎◌, ℕ, IsSome};
@@ -64,6 +65,7 @@ pub fn part_range(kind: DriveKind, part: Part) -> PartRange
     let (cylinder, size) = match kind {
         DriveKind::Rp06 => rp06_part(part),
         DriveKind::Rm03 => rm03_part(part),
+        DriveKind::Rm05 => rm05_part(part),
     };
     let geometry = geometry_of(kind);
     PartRange {
@@ -104,9 +106,22 @@ fn rm03_part(part: Part) -> (u32, u32)
     }
 }
 
-/// What a request meets for `count` blocks from `block` of a partition, as 4.3BSD's driver judges it: Eof exactly
-/// where it begins at the partition's size, Outside exactly where it begins behind it or reaches past it, and else
-/// Inside with its first block on the pack. A range inside has data blocks only.
+/// The first cylinder and the size of an RM05's partition.
+fn rm05_part(part: Part) -> (u32, u32)
+    ensures { result ≡ (cylinder_of DriveKind.Rm05 part, size_of DriveKind.Rm05 part) }
+{
+    match part {
+        Part::A => (0, 15884),
+        Part::B => (27, 33440),
+        Part::C => (0, 500226),
+        Part::G => (82, 450370),
+        Part::D | Part::E | Part::F | Part::H => (0, 0),
+    }
+}
+
+/// What a request meets for `count` blocks, 1 to 127, from `block` of a partition: Eof exactly where it begins at the
+/// partition's size, Outside exactly where it begins behind it or reaches past it, and else Inside with its first
+/// block on the pack. A range inside has data blocks only.
 pub fn admit(kind: DriveKind, part: Part, block: u32, count: u32) -> Admission
     requires some { 1 ≤ count }
     requires few { count ≤ 127 }
@@ -137,7 +152,7 @@ mod tests {
     #[test]
     fn partition_ends(rt: HostRuntime) {
         use Admission::{Eof, Inside, Outside};
-        use DriveKind::{Rm03, Rp06};
+        use DriveKind::{Rm03, Rm05, Rp06};
         for (kind, part, block, count, wanted) in [
             (Rp06, Part::C, 340522, 1, Eof),
             (Rp06, Part::C, 340521, 2, Outside),
@@ -146,6 +161,11 @@ mod tests {
             (Rp06, Part::B, 0, 127, Inside { first: 15884 }),
             (Rp06, Part::C, u32::MAX, 127, Outside),
             (Rm03, Part::G, 82079, 1, Inside { first: 131519 }),
+            (Rm05, Part::C, 500225, 1, Inside { first: 500225 }),
+            (Rm05, Part::C, 500226, 1, Eof),
+            (Rm05, Part::D, 0, 1, Eof),
+            (Rm05, Part::G, 450369, 1, Inside { first: 500225 }),
+            (Rm05, Part::G, 450369, 2, Outside),
         ] {
             assert_eq!(rt; admit(kind, part, block, count), wanted, "{block} {count}");
         }

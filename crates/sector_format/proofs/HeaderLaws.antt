@@ -4,10 +4,10 @@ use Rattle.std.proofs.lemmas.Bool.{eq-eqb}
 use Rattle.std.proofs.lemmas.Nat.{and_block, and_mask, and_le_r}
 use Rattle.std.specs.Int.Bits.{or_shifted_r}
 use Rattle.pack_geometry.specs.declared.DriveKind.{DriveKind}
-use Rattle.pack_geometry.specs.declared.DriveKind.TheVariants.{Rp06, Rm03}
+use Rattle.pack_geometry.specs.declared.DriveKind.TheVariants.{Rp06, Rm03, Rm05}
 use Rattle.pack_geometry.specs.declared.Place.{Place}
-use Rattle.pack_geometry.specs.Geometry.{place_at}
-use Rattle.sector_format.specs.Headers.{header_at, is_off, names, fault_of, fault_as_marked, track_and_sector}
+use Rattle.pack_geometry.specs.Geometry.{place_at, track_and_sector}
+use Rattle.sector_format.specs.Headers.{header_at, is_off, names, fault_of, fault_as_marked}
 
 -- the bits above the cylinder
 high_bits : (high mask cylinder : ℕ) → cylinder < 2 ^ 10 → bit_and (bit_or cylinder (high * 2 ^ 10)) (mask * 2 ^ 10) ≡ bit_and high mask * 2 ^ 10 + bit_and cylinder 0
@@ -57,6 +57,18 @@ shown Rm03 block false small =
     rw (first, second, off, named) refl
 shown Rm03 block true small =
     let cylinder : ℕ = (place_at Rm03 block).cylinder in
+    let first : is_off (bit_or cylinder 36864) 32768 ≡ false = off_by 36 32 cylinder small in
+    let second : is_off (bit_or cylinder 36864) 16384 ≡ true = off_by 36 16 cylinder small in
+    rw (first, second) refl
+shown Rm05 block false small =
+    let cylinder : ℕ = (place_at Rm05 block).cylinder in
+    let first : is_off (bit_or cylinder 53248) 32768 ≡ false = off_by 52 32 cylinder small in
+    let second : is_off (bit_or cylinder 53248) 16384 ≡ false = off_by 52 16 cylinder small in
+    let off : is_off (bit_or cylinder 53248) 4096 ≡ false = off_by 52 4 cylinder small in
+    let named : names (header_at Rm05 block false) (place_at Rm05 block) ≡ true = names_itself 52 (place_at Rm05 block) small in
+    rw (first, second, off, named) refl
+shown Rm05 block true small =
+    let cylinder : ℕ = (place_at Rm05 block).cylinder in
     let first : is_off (bit_or cylinder 36864) 32768 ≡ false = off_by 36 32 cylinder small in
     let second : is_off (bit_or cylinder 36864) 16384 ≡ true = off_by 36 16 cylinder small in
     rw (first, second) refl

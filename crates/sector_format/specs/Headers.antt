@@ -1,9 +1,9 @@
 -- The two words of a sector's header, and what a header shows.
 use Rattle.std.specs.Prelude.{ℕ, ◌+◌, ◌*◌, ◌==◌, ◌&&◌, ◌||◌, not, Bool, true, false, Option, Some, None, if◌then◌else◌, bit_and, bit_or}
 use Rattle.pack_geometry.specs.declared.DriveKind.{DriveKind}
-use Rattle.pack_geometry.specs.declared.DriveKind.TheVariants.{Rp06, Rm03}
+use Rattle.pack_geometry.specs.declared.DriveKind.TheVariants.{Rp06, Rm03, Rm05}
 use Rattle.pack_geometry.specs.declared.Place.{Place}
-use Rattle.pack_geometry.specs.Geometry.{place_at}
+use Rattle.pack_geometry.specs.Geometry.{place_at, track_and_sector}
 use Rattle.sector_format.specs.declared.Header.{Header}
 use Rattle.sector_format.specs.declared.HeaderFault.{HeaderFault}
 use Rattle.sector_format.specs.declared.HeaderFault.TheVariants.{Format, BadSector, Compare}
@@ -14,9 +14,8 @@ cylinder_bits Rp06 false = 0o10000
 cylinder_bits Rp06 true = 0
 cylinder_bits Rm03 false = 0o150000
 cylinder_bits Rm03 true = 0o110000
-
-abbrev pub track_and_sector : Place → ℕ
-track_and_sector place = place.track * 256 + place.sector
+cylinder_bits Rm05 false = 0o150000
+cylinder_bits Rm05 true = 0o110000
 
 -- the header of a block
 abbrev pub header_at : DriveKind → ℕ → Bool → Header
@@ -29,10 +28,11 @@ header_at kind block marked = record {
 abbrev pub is_off : ℕ → ℕ → Bool
 is_off word bit = bit_and word bit == 0
 
--- an RM03 has two bits that are on in the header of a good sector
+-- an RM03 and an RM05 have two bits that are on in the header of a good sector
 abbrev pub shows_bad : DriveKind → ℕ → Bool
 shows_bad Rp06 word = false
 shows_bad Rm03 word = is_off word 0o100000 || is_off word 0o40000
+shows_bad Rm05 word = is_off word 0o100000 || is_off word 0o40000
 
 -- the header names a place: its low ten bits are the cylinder, and its second word is the track and sector
 abbrev pub names : Header → Place → Bool
@@ -50,6 +50,7 @@ fault_of kind header wanted =
 abbrev pub mark_fault : DriveKind → HeaderFault
 mark_fault Rp06 = Format
 mark_fault Rm03 = BadSector
+mark_fault Rm05 = BadSector
 
 -- what the header made for a block shows where that block is wanted
 abbrev pub fault_as_marked : DriveKind → Bool → Option HeaderFault

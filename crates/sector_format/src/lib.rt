@@ -1,14 +1,14 @@
 //! A sector as it lies on the pack: its header, its 512 bytes and their check. The header's words are made
-//! after the RP06 and RM03 manuals; the bits of this crate's tables are the project's own choice of them.
+//! after the RP06, RM03 and RM05 manuals; the bits of this crate's tables are the project's own choice of them.
 #![tactic(auto)]
 
 ghost use Rattle.std.specs.Prelude.{◌≡◌, ◌<◌};
 ghost use Rattle.pack_geometry.specs.Geometry.{block_count};
 ghost use Rattle.fire_code.specs.Word.{word_remainder};
-ghost use Rattle.sector_format.specs.Headers.{cylinder_bits as the_bits, track_and_sector, shows_bad as is_bad, header_at, fault_of, fault_as_marked};
+ghost use Rattle.sector_format.specs.Headers.{cylinder_bits as the_bits, shows_bad as is_bad, header_at, fault_of, fault_as_marked};
 
 use fire_code::{Check, encode};
-use pack_geometry::{DriveKind, Place, place_of};
+use pack_geometry::{DriveKind, place_of, sector_word};
 
 /// A sector's header: the cylinder and the bits above it that say whether the sector is good, and
 /// `track * 256 + sector`.
@@ -31,7 +31,7 @@ pub struct RawSector {
 pub enum HeaderFault {
     /// The format bit is off; so a marked sector of an RP06 is shown.
     Format,
-    /// A bit of a good sector is off; so a marked sector of an RM03 is shown.
+    /// A bit of a good sector is off; so a marked sector of an RM03 or an RM05 is shown.
     BadSector,
     /// The header is another sector's.
     Compare,
@@ -44,18 +44,9 @@ fn cylinder_bits(kind: DriveKind, marked: bool) -> u16
     match (kind, marked) {
         (DriveKind::Rp06, false) => 0o010000,
         (DriveKind::Rp06, true) => 0,
-        (DriveKind::Rm03, false) => 0o150000,
-        (DriveKind::Rm03, true) => 0o110000,
+        (DriveKind::Rm03 | DriveKind::Rm05, false) => 0o150000,
+        (DriveKind::Rm03 | DriveKind::Rm05, true) => 0o110000,
     }
-}
-
-// The second word of a header.
-fn sector_word(place: Place) -> u16
-    requires track { place.track < 256 }
-    requires sector { place.sector < 256 }
-    ensures { result ≡ track_and_sector place }
-{
-    (place.track * 256 + place.sector) as u16
 }
 
 /// The header of a block, which shows whether the sector is marked.
@@ -72,7 +63,7 @@ pub fn header_of(kind: DriveKind, block: u32, marked: bool) -> Header
 }
 
 /// What is wrong with a header where a block is wanted: the first of these that applies. `BadSector` where the
-/// kind is RM03 and one of the bits 0o100000 and 0o40000 is off; `Format` where the bit 0o10000 is off;
+/// kind is RM03 or RM05 and one of the bits 0o100000 and 0o40000 is off; `Format` where the bit 0o10000 is off;
 /// `Compare` where the header is not of the wanted block's place. `None` where nothing is wrong.
 pub fn header_fault(kind: DriveKind, header: Header, wanted: u32) -> Option<HeaderFault>
     requires { wanted < block_count kind }
@@ -98,7 +89,7 @@ fn shows_bad(kind: DriveKind, word: u16) -> bool
 {
     match kind {
         DriveKind::Rp06 => false,
-        DriveKind::Rm03 => word & 0o100000 == 0 || word & 0o40000 == 0,
+        DriveKind::Rm03 | DriveKind::Rm05 => word & 0o100000 == 0 || word & 0o40000 == 0,
     }
 }
 
@@ -123,7 +114,7 @@ mod tests {
     // The words by the drives' tables, worked out by hand.
     #[test]
     fn headers(rt: HostRuntime) {
-        use DriveKind::{Rm03, Rp06};
+        use DriveKind::{Rm03, Rm05, Rp06};
         for (kind, block, marked, cylinder_word, sector_word, fault) in [
             (Rp06, 1000, false, 0o010002, 0o003412, None),
             (
@@ -136,6 +127,15 @@ mod tests {
             ),
             (Rm03, 160, false, 0o150001, 0, None),
             (Rm03, 160, true, 0o110001, 0, Some(HeaderFault::BadSector)),
+            (Rm05, 1000, false, 0o150001, 0o006010, None),
+            (
+                Rm05,
+                1000,
+                true,
+                0o110001,
+                0o006010,
+                Some(HeaderFault::BadSector),
+            ),
         ] {
             if block < 131680 {
                 let header = header_of(kind, block, marked);

@@ -3,7 +3,7 @@ use Rattle.std.specs.Prelude.{◌≡◌, ℕ, ◌-◌, ◌<◌, ◌≤◌, ◌==
 use Rattle.pack_geometry.specs.declared.DriveKind.{DriveKind}
 use Rattle.pack_geometry.specs.declared.DriveKind.TheVariants.{Rp06}
 use Rattle.pack_geometry.specs.declared.Place.{Place}
-use Rattle.pack_geometry.specs.Geometry.{block_count, place_at}
+use Rattle.pack_geometry.specs.Geometry.{block_count, place_at, track_and_sector}
 use Rattle.drive_registers.specs.declared.Function.{Function}
 use Rattle.drive_registers.specs.declared.Function.TheVariants as function
 use Rattle.drive_registers.specs.Bits as bits
@@ -13,7 +13,7 @@ use Rattle.hardware_table.specs.declared.Register.TheVariants as register
 use Rattle.hardware_table.specs.Drive.{DriveState, new_drive, with_register, is_ready, is_positioning, is_transferring}
 use Rattle.hardware_table.specs.Functions.{performed, refusals, needs_online}
 use Rattle.hardware_table.specs.Events.{arrived, attention_cleared, transfer_ended}
-use Rattle.hardware_table.specs.Moves.{IsVerdict, after_move, address_of}
+use Rattle.hardware_table.specs.Moves.{IsVerdict, after_move}
 use Rattle.subsystem_spec.specs.Request.{Request}
 use Rattle.trace_rules.specs.Trace.{Deed, Search, Arrive, Attn, Command, Sector, Intr, Dclr, End}
 use Rattle.trace_rules.specs.Rule.{Rule, own}
@@ -40,7 +40,7 @@ target_of s = place_at s.drive.kind (first_block s.requests)
 
 -- Before a command its address is written: that of a SEARCH has the track of the request's first block.
 abbrev pub addressed : Place → DriveState → DriveState
-addressed place d = with_register register.Da (address_of place) (with_register register.Dc place.cylinder d)
+addressed place d = with_register register.Da (track_and_sector place) (with_register register.Dc place.cylinder d)
 
 abbrev pub search_place : DriveSeen → ℕ → ℕ → Place
 search_place s cylinder sector = record { cylinder = cylinder; track = (target_of s).track; sector = sector }

@@ -19,7 +19,7 @@ use fire_code::{Check, Verdict, apply, judge_noise};
 use hardware_table::{Armed, FaultKind, Moved, Work};
 use main_memory::Window;
 use mass_outside::traits::{Packs, StoreFailed};
-use pack_geometry::{blocks, geometry_of, place_of};
+use pack_geometry::{blocks, geometry_of, place_of, sector_word};
 use sector_format::{HeaderFault, header_fault, header_of};
 
 // The first armed fault, in the order in which faults strike.
@@ -93,7 +93,7 @@ impl Drive {
         if block + 1 < blocks(self.kind) {
             let next = place_of(self.kind, block + 1);
             self.dc = next.cylinder as u16;
-            self.da = (next.track * 256 + next.sector) as u16;
+            self.da = sector_word(next);
         }
     }
 
@@ -123,7 +123,7 @@ impl Drive {
     }
 
     // A sector is marked: its error bit is that of the fault which its header shows, format error on an RP06 and bad
-    // sector error on an RM03.
+    // sector error on an RM03 and an RM05.
     fn take_mark(&mut self, block: u32)
         requires { block < block_count self.old.kind }
         ensures { self.new ≡ with_mark_bits self.old.kind self.old }

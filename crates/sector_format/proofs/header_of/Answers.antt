@@ -1,6 +1,6 @@
 use Rattle.std.proofs.Common.{◌<◌, ◌^◌, subst, arith}
 use Rattle.pack_geometry.specs.declared.DriveKind.{DriveKind}
-use Rattle.pack_geometry.specs.declared.DriveKind.TheVariants.{Rp06, Rm03}
+use Rattle.pack_geometry.specs.declared.DriveKind.TheVariants.{Rp06, Rm03, Rm05}
 use Rattle.pack_geometry.specs.declared.Place.{Place}
 use Rattle.pack_geometry.specs.Geometry.{place_at, IsInside}
 use Rattle.sector_format.proofs.HeaderLaws.{shown}
@@ -10,6 +10,7 @@ use Rattle.sector_format.proofs.header_of.Goals as goal
 ten_bits : (kind : DriveKind) (place : Place) → IsInside kind place → place.cylinder < 2 ^ 10
 ten_bits Rp06 place is = omega (arith, is.cylinder)
 ten_bits Rm03 place is = omega (arith, is.cylinder)
+ten_bits Rm05 place is = omega (arith, is.cylinder)
 
 pub returns-clause-shown : goal.returns-clause-shown
 returns-clause-shown c =
