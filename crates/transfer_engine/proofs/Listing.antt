@@ -9,7 +9,7 @@ use Rattle.std.proofs.lemmas.Option.{slice_get_within, get_or_from_slice_get}
 use Rattle.pack_geometry.specs.declared.Place.{Place}
 use Rattle.pack_geometry.specs.Geometry.{block_number}
 use Rattle.pack_model.specs.TableSpelling.{Table, IsTable}
-use Rattle.transfer_engine.specs.Calls.{is_place}
+use Rattle.pack_model.specs.Homes.{is_place}
 
 same_fields : (p q : Place) → p.cylinder ≡ q.cylinder → p.track ≡ q.track → p.sector ≡ q.sector → p ≡ q
 same_fields p q cylinder track sector = λ i. record { cylinder = cylinder i; track = track i; sector = sector i }

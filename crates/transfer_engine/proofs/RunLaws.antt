@@ -5,15 +5,16 @@ use Rattle.std.proofs.lemmas.Bool.{eqb-true, eqb-false}
 use Rattle.std.proofs.lemmas.Bool.Decides.{nat_tests}
 use Rattle.std.proofs.lemmas.List.Quantifiers.{position-Some}
 use Rattle.pack_geometry.specs.declared.DriveKind.{DriveKind}
-use Rattle.pack_geometry.specs.declared.DriveKind.TheVariants.{Rp06, Rm03}
+use Rattle.pack_geometry.specs.declared.DriveKind.TheVariants.{Rp06, Rm03, Rm05}
 use Rattle.pack_geometry.specs.declared.Place.{Place}
 use Rattle.pack_geometry.specs.Geometry.{limit_of, replacement_at, place_at}
+use Rattle.pack_model.specs.Homes.{is_place}
 use Rattle.pack_model.specs.TableSpelling.{Table, IsTable}
 use Rattle.transfer_engine.specs.declared.job.Job.{Job}
 use Rattle.transfer_engine.specs.declared.job.Segment.{Segment}
 use Rattle.transfer_engine.specs.declared.states.Next.TheVariants.{Finished, More}
 use Rattle.transfer_engine.specs.State.{TransferState, IsJob, IsTransfer, segment_of, begun, moved_on, forwarded, failures_after, failed}
-use Rattle.transfer_engine.specs.Calls.{is_place, entry_by, forward_by}
+use Rattle.transfer_engine.specs.Calls.{entry_by, forward_by}
 use Rattle.transfer_engine.specs.Runs.{Outcome, Done, Corrected, BadSector, Fault, MayEnd, rest_of, unless_refused, retried, after, IsInJob, IsReplacement, tries_at, calls_left, Follows, CountsFailures, failures_at, Runs}
 
 -- ---- segments
@@ -31,6 +32,7 @@ in_job t valid none =
 above : (kind : DriveKind) (i : ℕ) → i < 126 → limit_of kind ≤ replacement_at kind i
 above Rp06 i small = omega arith
 above Rm03 i small = omega arith
+above Rm05 i small = omega arith
 
 pub is_replacement : (t : TransferState) (i : ℕ) → IsTransfer t → t.index ≡ Some i → IsReplacement t i
 is_replacement t i valid some =

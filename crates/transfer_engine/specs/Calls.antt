@@ -1,8 +1,8 @@
 -- What each end of a segment makes of a transfer.
 use Rattle.std.specs.Prelude.{ℕ, ◌+◌, ◌==◌, ◌&&◌, Bool, not, if◌then◌else◌, Option, None, Some, Result, Ok, Err}
-use Rattle.std.specs.List.{position}
 use Rattle.pack_geometry.specs.declared.Place.{Place}
 use Rattle.pack_geometry.specs.Geometry.{place_at}
+use Rattle.pack_model.specs.Homes.{index_in}
 use Rattle.pack_model.specs.TableSpelling.{Table}
 use Rattle.retry_offsets.specs.declared.Step.{Step}
 use Rattle.retry_offsets.specs.Schedule.{step_after}
@@ -38,15 +38,8 @@ abbrev pub after_corrected : ℕ → TransferState → Next
 after_corrected clean t = next_at (t.done + clean + 1) t
 
 -- A MARKED SECTOR that is the block's own and is listed is replaced; any other ends the request.
-abbrev pub is_place : Place → Place → Bool
-is_place p q = p.cylinder == q.cylinder && (p.track == q.track && p.sector == q.sector)
-
-abbrev pub listed_in : Option Table → Place → Option ℕ
-listed_in None place = None
-listed_in (Some table) place = position (is_place place) table.places
-
 abbrev pub entry_by : Option ℕ → Option Table → Place → Option ℕ
-entry_by None table place = listed_in table place
+entry_by None table place = index_in table place
 entry_by (Some i) table place = None
 
 -- the entry whose replacement takes the place of the sector behind so many

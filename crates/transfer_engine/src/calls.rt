@@ -1,10 +1,10 @@
 //! What each end of a segment makes of a transfer.
 ghost use Rattle.std.specs.Prelude.{◌≡◌, ◌≢◌, ℕ, ◌<◌, ◌≤◌, ◌+◌, ◌^◌, ◌↔◌, IfOk, IfErr, IfSome, IsErr, Option};
 ghost use Rattle.std.specs.Option.{option_copied};
-ghost use Rattle.pack_model.specs.TableSpelling.{Table};
+ghost use Rattle.pack_model.specs.Homes.{index_in};
 ghost use Rattle.retry_offsets.specs.declared.Step.TheVariants.{GiveUp};
 ghost use Rattle.transfer_engine.specs.State.{TransferState, IsJob, IsTransfer, begun, seen_as, segment_of, moved_on, failures_after, failed};
-ghost use Rattle.transfer_engine.specs.Calls.{state_of, with_state, next_at, after_done, after_corrected, listed_in, entry_for, after_bad_sector, step_for};
+ghost use Rattle.transfer_engine.specs.Calls.{state_of, with_state, next_at, after_done, after_corrected, entry_for, after_bad_sector, step_for};
 
 use crate::job::{Job, Segment};
 use crate::progress::Progress;
@@ -195,7 +195,7 @@ impl Transfer {
 
 // The index at which a place is listed.
 fn listed(table: &BadTable, place: Place) -> Option<u8>
-    ensures listed { result ≡ listed_in (Some table.now) place }
+    ensures listed { result ≡ index_in (Some table.now) place }
     ensures bound { IfSome result (λ i. i < 126) }
 {
     let _count = entries(table);
