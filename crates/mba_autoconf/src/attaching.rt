@@ -1,7 +1,13 @@
 //! Attaching a drive.
 ghost use Rattle.std.specs.Prelude.{◌≡◌, ◌<◌, ◌≤◌, true, IfOk, IfErr, IfSome, IsErrOf, IsTrue};
-ghost use Rattle.hardware_table.specs.Drive.{DriveState, is_ready};
+ghost use Rattle.hardware_table.specs.declared.Register.TheVariants.{Dt};
+ghost use Rattle.hardware_table.specs.Drive.{DriveState, is_ready, register_of};
+ghost use Rattle.pack_geometry.specs.declared.DriveKind.{DriveKind};
+ghost use Rattle.pack_model.specs.Pack.{Pack};
+ghost use Rattle.pack_model.specs.PackTable.{HaveSameCopies};
 ghost use Rattle.mass_outside.specs.Causes.{Rose};
+ghost use Rattle.mba_autoconf.specs.declared.attaching.Attached.{Attached};
+ghost use Rattle.mba_autoconf.specs.Probe.{nine_bits, type_code};
 ghost use Rattle.mba_autoconf.specs.Attach.{attached, Answers, IsLong};
 
 use crate::pack_table::table_of;
@@ -13,6 +19,7 @@ use drive_registers::{Function, Of};
 use hardware_table::Register;
 use mass_outside::traits::{Packs, StoreFailed};
 use pack_geometry::{DriveKind, blocks};
+use pack_model::pack_table_law;
 use thiserror::Error;
 
 /// A drive that is attached: its kind, and the bad-sector table of its pack, if it has one.
@@ -76,9 +83,14 @@ pub fn attach<P: Packs>(drive: &mut Drive, packs: &mut P, unit: u8) -> Result<At
     Ok(Attached { kind, table })
 }
 
-/// The law of attaching: what it leaves of any drive, and that packs whose copies are the same are answered with the
-/// same table, whatever else they hold.
+/// The law of attaching: the type register of a drive names its kind; what attaching leaves of any drive; and that packs
+/// whose copies are the same are answered with the same table, whatever else they hold, so that a pack has one answer.
 pub fn attach_law()
+    ensures kind { (d : DriveState) → nine_bits (register_of Dt d) ≡ type_code d.kind }
     ensures drive { (d : DriveState) → attached d
         ≡ record d { cs1 = 0o22; dc = 0; da = 0; offset = 0o10000; valid = true } }
-{}
+    ensures same_table { (kind : DriveKind) → (pack other : Pack) → (found again : Attached) → HaveSameCopies kind pack other
+        → Answers kind pack (Ok found) → Answers kind other (Ok again) → found.table ≡ again.table }
+{
+    pack_table_law();
+}
