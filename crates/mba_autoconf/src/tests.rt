@@ -114,7 +114,11 @@ fn attached_with_the_first_copy_that_is_good(rt: HostRuntime) {
                 panic!(rt; "{wanted:?} is not attached")
             };
             assert!(rt; found.kind == kind);
-            assert_eq!(rt; found.table.as_ref().map(serial), wanted);
+            let number = match &found.table {
+                Some(table) => Some(serial(table)),
+                None => None,
+            };
+            assert_eq!(rt; number, wanted);
             assert!(rt; drive.read_register(Register::Of) == 0o010000);
             assert!(rt; drive.read_register(Register::Ds) & 0o100 != 0);
 
