@@ -5,7 +5,7 @@ ghost use Rattle.bad144_table.specs.Faults.{IsFirstFault, IsReadUpTo};
 
 use crate::table::{BadTable, empty_table, entries, entry, follows, lies_on, push, serial};
 use byteorder::{ByteOrder, LittleEndian};
-use pack_geometry::{DriveKind, Place};
+use pack_geometry::{DriveKind, Place, sector_word};
 use thiserror::Error;
 
 /// Why bytes are no table: the word zero or the word flag is not zero; a pair is outside the geometry; it is not above
@@ -60,11 +60,12 @@ fn pair(bytes: &[u8; 512], i: u8) -> Option<Place>
 fn write_pair(into: &mut [u8], place: Place)
     requires room { 4 ≤ length into.old }
     requires cylinder { place.cylinder < 65536 }
-    requires address { place.track * 256 + place.sector < 65536 }
+    requires track { place.track < 256 }
+    requires sector { place.sector < 256 }
     ensures { into.new ≡ pair_text place ++ drop 4 into.old }
 {
     LittleEndian::write_u16(into, place.cylinder as u16);
-    LittleEndian::write_u16(&mut into[2..], (place.track * 256 + place.sector) as u16);
+    LittleEndian::write_u16(&mut into[2..], sector_word(place));
 }
 
 /// The header of a table without an entry, and pairs of all ones.

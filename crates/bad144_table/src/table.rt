@@ -3,6 +3,7 @@ ghost use Rattle.std.specs.Bool.{OnFalse};
 ghost use Rattle.pack_geometry.specs.declared.Place.{Place};
 ghost use Rattle.pack_geometry.specs.Geometry.{IsInside, block_number};
 ghost use Rattle.pack_model.specs.TableSpelling.{IsTable};
+ghost use Rattle.pack_model.specs.Homes.{index_in};
 ghost use Rattle.bad144_table.specs.Inserts.{Inserts, IsRefused};
 ghost use Rattle.bad144_table.specs.Last.{IsAtOrBelowLast};
 
@@ -94,8 +95,17 @@ pub fn entry(table: &BadTable, i: u8) -> Place
     table.places[i as usize]
 }
 
-/// The index at which a place is listed; None exactly where it is not.
+/// The index at which a place is listed, which is the only one; None exactly where it is not listed.
 pub fn position(table: &BadTable, place: Place) -> Option<u8>
+    ensures index { result ≡ index_in (Some table.now) place }
+    ensures listed { (i : ℕ) → (result ≡ Some i) ↔ (slice_get table.now.places i ≡ Some place) }
+    ensures none { IfNone result (¬ (Contains table.now.places place)) }
+{
+    first_index(table, place)
+}
+
+fn first_index(table: &BadTable, place: Place) -> Option<u8>
+    ensures valid { IsTable table.now }
     ensures listed { IfSome result (λ i. slice_get table.now.places i ≡ Some place) }
     ensures none { IfNone result (¬ (Contains table.now.places place)) }
 {

@@ -73,4 +73,15 @@ fn entries_and_bytes(rt: HostRuntime) {
             assert!(rt; entry(&again, 1) == listed);
         }
     }
+
+    // block 1000 of an RM05
+    let mut wide = empty_table(DriveKind::Rm05, 3);
+    let listed = Place {
+        cylinder: 1,
+        track: 12,
+        sector: 8,
+    };
+    assert!(rt; insert(&mut wide, listed) == Ok(0));
+    write_table(&wide, &mut bytes);
+    assert!(rt; bytes[8..12] == [0x01, 0x00, 0x08, 0x0c]);
 }

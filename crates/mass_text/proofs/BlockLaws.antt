@@ -40,14 +40,14 @@ pub length-hex : (bytes : List ℕ) → length (flat_map hex_byte bytes) ≡ 2 *
 length-hex [] = refl
 length-hex (b ∷ bs) = omega (arith, length-hex bs)
 
--- the digits of a block whose bytes are not all equal have two places each
+-- the digits of bytes that are not all equal have two places each
 pub length-content_other : (bytes : List ℕ) → list_all (λ b. b == slice_index bytes 0) bytes ≡ false → length (content_text bytes) ≡ 4 + 2 * length bytes
 length-content_other bytes e = rw e (omega (arith, length-hex bytes))
 
-content_by : (bytes : List ℕ) (one : Bool) → list_all (λ b. b == slice_index bytes 0) bytes ≡ one → length bytes ≡ 512 → length (content_text bytes) ≤ 1028
+content_by : (bytes : List ℕ) (one : Bool) → list_all (λ b. b == slice_index bytes 0) bytes ≡ one → length bytes ≤ 512 → length (content_text bytes) ≤ 1028
 content_by bytes true e size = rw e (omega arith)
 content_by bytes false e size = omega (arith, length-content_other bytes e)
 
--- a block's text has at most 1,028 bytes
-pub length-content_text-le : (bytes : List ℕ) → length bytes ≡ 512 → length (content_text bytes) ≤ 1028
+-- the text of a block has at most 1,028 bytes
+pub length-content_text-le : (bytes : List ℕ) → length bytes ≤ 512 → length (content_text bytes) ≤ 1028
 length-content_text-le bytes size = content_by bytes (list_all (λ b. b == slice_index bytes 0) bytes) refl size

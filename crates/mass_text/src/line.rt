@@ -23,7 +23,8 @@ impl Model for LineBuf {
     ghost view = { λ buf. buf.text.items };
 }
 
-fn is_one_byte(bytes: &[u8; 512]) -> bool
+fn is_one_byte(bytes: &[u8]) -> bool
+    requires { 1 ≤ length bytes.now }
     ensures { result ≡ list_all (λ b. b == slice_index bytes.now 0) bytes.now }
 {
     let first = bytes[0];
@@ -101,18 +102,29 @@ impl LineBuf {
         });
     }
 
-    /// Puts a block as `fill HH` where all its bytes are equal, and else as `hex` and 1,024 digits in lower case.
-    /// It has to fit.
+    /// Puts the 512 bytes of a block, as `put_bytes` does. They have to fit.
     pub fn put_block(&mut self, bytes: &[u8; 512])
         requires { length self.old + length (content_text bytes.now) ≤ 1100 }
+        ensures { self.new ≡ self.old ++ content_text bytes.now }
+    {
+        self.put_bytes(bytes);
+    }
+
+    /// Puts 1 to 512 bytes as `fill HH` where all of them are equal, and else as `hex` and two digits a byte, in lower
+    /// case. They have to fit.
+    pub fn put_bytes(&mut self, bytes: &[u8])
+        requires some { 1 ≤ length bytes.now }
+        requires few { length bytes.now ≤ 512 }
+        requires room { length self.old + length (content_text bytes.now) ≤ 1100 }
         ensures { self.new ≡ self.old ++ content_text bytes.now }
     {
         if is_one_byte(bytes) {
             self.put("fill ");
             self.put_hex(&[bytes[0]], &mut [0; 2]);
         } else {
+            let mut digits = [0; 1024];
             self.put("hex ");
-            self.put_hex(bytes, &mut [0; 1024]);
+            self.put_hex(bytes, &mut digits[..2 * bytes.len()]);
         }
     }
 
@@ -127,7 +139,7 @@ impl LineBuf {
     }
 }
 
-/// The law of a block's text: it has at most 1,028 bytes.
+/// The law of the text of bytes: of at most 512 it has at most 1,028 bytes.
 pub fn content_law()
-    ensures { (bytes : List ℕ) → length bytes ≡ 512 → length (content_text bytes) ≤ 1028 }
+    ensures { (bytes : List ℕ) → length bytes ≤ 512 → length (content_text bytes) ≤ 1028 }
 {}

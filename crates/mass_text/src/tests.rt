@@ -1,3 +1,5 @@
+ghost use Rattle.std.specs.Prelude.{◌≤◌, length};
+
 use super::*;
 
 #[test]
@@ -48,6 +50,17 @@ fn line_of(value: u64, radix: Radix, bytes: &[u8; 512]) -> LineBuf {
     line
 }
 
+// The front of a block, as the line of an answer has it.
+fn front_of(bytes: &[u8]) -> LineBuf
+    requires some { 1 ≤ length bytes.now }
+    requires few { length bytes.now ≤ 512 }
+{
+    content_law();
+    let mut line = LineBuf::new();
+    line.put_bytes(bytes);
+    line
+}
+
 #[test]
 fn lines(rt: HostRuntime) {
     for (value, radix, wanted) in [
@@ -60,6 +73,17 @@ fn lines(rt: HostRuntime) {
             line_of(value, radix, &[0xa5; 512]).as_bytes() == wanted.as_bytes(),
             "{wanted}"
         );
+    }
+
+    for (bytes, wanted) in [
+        (b"\x07".as_slice(), "fill 07"),
+        (b"\xff\xff\xff".as_slice(), "fill ff"),
+        (b"\x00\x0a\xff".as_slice(), "hex 000aff"),
+        (b"\x00\x00\x01".as_slice(), "hex 000001"),
+    ] {
+        if !bytes.is_empty() && bytes.len() <= 512 {
+            assert!(rt; front_of(bytes).as_bytes() == wanted.as_bytes(), "{wanted}");
+        }
     }
 
     let mut bytes = [0; 512];

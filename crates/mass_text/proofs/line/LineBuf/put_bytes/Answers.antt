@@ -1,6 +1,6 @@
 use Rattle.std.proofs.Common.{arith, sym, ◌∙◌, ap, length, length-append}
 use Rattle.mass_text.proofs.BlockLaws.{length-content_other}
-use Rattle.mass_text.proofs.line.LineBuf.put_block.Goals as goal
+use Rattle.mass_text.proofs.line.LineBuf.put_bytes.Goals as goal
 
 pub put_hex-requires-else-is_one_byte-clause-room : goal.put_hex-requires-else-is_one_byte-clause-room
 put_hex-requires-else-is_one_byte-clause-room c =
