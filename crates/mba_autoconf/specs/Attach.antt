@@ -1,0 +1,33 @@
+-- What attaching leaves and answers.
+use Rattle.std.specs.Prelude.{◌≡◌, ◌<◌, ◌≤◌, ◌*◌, length, Result, Ok, Err}
+use Rattle.pack_geometry.specs.declared.DriveKind.{DriveKind}
+use Rattle.pack_geometry.specs.Geometry.{block_count}
+use Rattle.drive_registers.specs.declared.Function.TheVariants as function
+use Rattle.drive_registers.specs.Bits as bits
+use Rattle.hardware_table.specs.declared.Register.TheVariants as register
+use Rattle.hardware_table.specs.Drive.{DriveState, with_register}
+use Rattle.hardware_table.specs.Functions.{performed}
+use Rattle.pack_model.specs.Pack.{Pack}
+use Rattle.pack_model.specs.PackTable.{IsTableOf}
+use Rattle.mba_autoconf.specs.declared.attaching.Attached.{Attached}
+use Rattle.mba_autoconf.specs.declared.attaching.AttachFault.{AttachFault}
+use Rattle.mba_autoconf.specs.declared.attaching.AttachFault.TheVariants.{TooLong, Store}
+
+-- PRESET, then PACK, and the offset register says the format and no offset
+abbrev pub attached : DriveState → DriveState
+attached d = with_register register.Of bits.sixteen_bit_format (performed function.Pack (performed function.Preset d))
+
+-- the image has no more bytes than the blocks of a drive of this kind
+abbrev pub Fits : DriveKind → Pack → Type 0
+Fits kind pack = length pack.image ≤ 512 * block_count kind
+
+-- an image that is too long has more
+abbrev pub IsLong : DriveKind → AttachFault → Type 0
+IsLong kind (TooLong n) = 512 * block_count kind < n
+IsLong kind Store = Unit {0}
+
+-- The image fits, and the table is the pack's; or the image is longer than it may be. A failure of the packs says nothing.
+abbrev pub Answers : DriveKind → Pack → Result Attached AttachFault → Type 0
+Answers kind pack (Ok unit) = Fits kind pack × IsTableOf kind pack unit.table
+Answers kind pack (Err (TooLong n)) = (n ≡ length pack.image) × (512 * block_count kind < n)
+Answers kind pack (Err Store) = Unit {0}

@@ -1,0 +1,2 @@
+pub mod Attach
+pub mod Probe

@@ -1,0 +1,96 @@
+//! Attaching a drive.
+ghost use Rattle.std.specs.Prelude.{◌≡◌, ◌<◌, ◌≤◌, true, IfOk, IfErr, IfSome, IsErrOf, IsTrue};
+ghost use Rattle.hardware_table.specs.declared.Register.TheVariants.{Dt};
+ghost use Rattle.hardware_table.specs.Drive.{DriveState, is_ready, register_of};
+ghost use Rattle.pack_geometry.specs.declared.DriveKind.{DriveKind};
+ghost use Rattle.pack_model.specs.Pack.{Pack};
+ghost use Rattle.pack_model.specs.PackTable.{HaveSameCopies};
+ghost use Rattle.mass_outside.specs.Causes.{Rose};
+ghost use Rattle.mba_autoconf.specs.declared.attaching.Attached.{Attached};
+ghost use Rattle.mba_autoconf.specs.Probe.{nine_bits, type_code};
+ghost use Rattle.mba_autoconf.specs.Attach.{attached, Answers, IsLong};
+
+use crate::pack_table::table_of;
+use crate::probing::kind_of_drive;
+use bad144_table::BadTable;
+use bitflags::Flags;
+use drive_model::Drive;
+use drive_registers::{Function, Of};
+use hardware_table::Register;
+use mass_outside::traits::{Packs, StoreFailed};
+use pack_geometry::{DriveKind, blocks};
+use pack_model::pack_table_law;
+use thiserror::Error;
+
+/// A drive that is attached: its kind, and the bad-sector table of its pack, if it has one.
+#[derive(Drop)]
+pub struct Attached {
+    pub kind: DriveKind,
+    pub table: Option<BadTable>,
+}
+
+/// Why a pack is not attached.
+#[derive(Debug, Drop, PartialEq, Eq, Error)]
+pub enum AttachFault {
+    /// The image has more bytes than the drive's blocks.
+    #[error("the image has {length} bytes")]
+    TooLong { length: u64 },
+    /// The packs failed.
+    #[error("the packs failed")]
+    Store,
+}
+
+impl From<StoreFailed> for AttachFault {
+    ghost use Rattle.std.specs.Prelude.{◌≡◌};
+    ghost use Rattle.mba_autoconf.specs.declared.attaching.AttachFault.TheVariants.{Store};
+
+    ghost from_gives = { λ _ e. e ≡ Store };
+
+    fn from(_: StoreFailed) -> AttachFault {
+        AttachFault::Store
+    }
+}
+
+/// Attaches a drive that is ready and online, with the pack of unit `unit`, which is below 32: PRESET and PACK, and the
+/// offset register says the 16-bit format and no offset, in every case. The kind is the one that the drive type register
+/// names, and the table is that of the first of the pack's five copies that is unmarked and spells one for that kind.
+///
+/// TooLong comes, before any block is read, exactly where the image has more bytes than the drive's blocks; Store only
+/// where the packs' count of faults rose. The packs stay as they are.
+pub fn attach<P: Packs>(drive: &mut Drive, packs: &mut P, unit: u8) -> Result<Attached, AttachFault>
+    requires unit { unit < 32 }
+    requires ready { is_ready drive.old.work ≡ true }
+    requires online { drive.old.online ≡ true }
+    ensures drive { drive.new ≡ attached drive.old }
+    ensures kind { IfOk result (λ found. found.kind ≡ drive.old.kind) }
+    ensures table_kind { IfOk result (λ found. IfSome found.table (λ table. table.kind ≡ drive.old.kind)) }
+    ensures answer { IsTrue (P.tells packs.new) → Answers drive.old.kind (P.held packs.old unit) result }
+    ensures too_long { IfErr result (IsLong drive.old.kind) }
+    ensures never_again { IsTrue (P.tells packs.new) → IsTrue (P.tells packs.old) }
+    ensures same { IsTrue (P.tells packs.new) → P.held packs.new ≡ P.held packs.old }
+    ensures later { P.faults packs.old ≤ P.faults packs.new }
+    ensures store { IsErrOf result AttachFault.Store → Rose (P.faults packs.old) (P.faults packs.new) }
+{
+    let kind = kind_of_drive(drive);
+    drive.go(Function::Preset);
+    drive.go(Function::Pack);
+    drive.write_register(Register::Of, Of::FMT22.bits());
+    let length = packs.length(unit)?;
+    if length > 512 * u64::from(blocks(kind)) {
+        return Err(AttachFault::TooLong { length });
+    }
+    let table = table_of(packs, unit, kind)?;
+    Ok(Attached { kind, table })
+}
+
+/// The law of attaching: the type register of a drive names its kind; what attaching leaves of any drive; and that packs
+/// whose copies are the same are answered with the same table, whatever else they hold, so that a pack has one answer.
+pub fn attach_law()
+    ensures kind { (d : DriveState) → nine_bits (register_of Dt d) ≡ type_code d.kind }
+    ensures drive { (d : DriveState) → attached d
+        ≡ record d { cs1 = 0o22; dc = 0; da = 0; offset = 0o10000; valid = true } }
+    ensures same_table { (kind : DriveKind) → (pack other : Pack) → (found again : Attached) → HaveSameCopies kind pack other
+        → Answers kind pack (Ok found) → Answers kind other (Ok again) → found.table ≡ again.table }
+{
+    pack_table_law();
+}

@@ -1,0 +1,60 @@
+//! The bad-sector table of a pack, of which it has five copies.
+ghost use Rattle.std.specs.Prelude.{◌≡◌, ◌<◌, ℕ, IfOk, IfSome, IsTrue, MatchOption};
+ghost use Rattle.pack_model.specs.TableSpelling.{Table};
+ghost use Rattle.pack_model.specs.PackTable.{IsTableOf, Tells};
+ghost use Rattle.mass_outside.specs.Causes.{HasCause};
+
+use bad144_table::{BadTable, read_table};
+use mass_outside::traits::{Packs, StoreFailed};
+use pack_geometry::{DriveKind, copy_block};
+
+// The table that copy `k` tells; None where it is marked, or its bytes spell no table for this kind.
+pub(crate) fn told_by<P: Packs>(
+    packs: &mut P,
+    unit: u8,
+    kind: DriveKind,
+    k: u32,
+) -> Result<Option<BadTable>, StoreFailed>
+    requires unit { unit < 32 }
+    requires copy { k < 5 }
+    ensures never_again { IsTrue (P.tells packs.new) → IsTrue (P.tells packs.old) }
+    ensures drive { IfOk result (λ told. IfSome told (λ table. table.kind ≡ kind)) }
+    ensures told { IfOk result (λ told. IsTrue (P.tells packs.new) → MatchOption told
+        ((table : Table) → ¬ (Tells kind (P.held packs.old unit) k table)) (λ table. Tells kind (P.held packs.old unit) k table)) }
+    ensures same { IsTrue (P.tells packs.new) → P.held packs.new ≡ P.held packs.old }
+    ensures cause { HasCause (P.faults packs.old) (P.faults packs.new) result }
+{
+    let block = copy_block(kind, k);
+    if packs.marked(unit, block)? {
+        return Ok(None);
+    }
+    let mut bytes = [0u8; 512];
+    packs.read(unit, block, &mut bytes)?;
+    match read_table(kind, &bytes) {
+        Ok(table) => Ok(Some(table)),
+        Err(_) => Ok(None),
+    }
+}
+
+// The table of a unit's pack: that of the first of its five copies that is unmarked and spells one for this kind of
+// drive. None where no copy does.
+pub(crate) fn table_of<P: Packs>(
+    packs: &mut P,
+    unit: u8,
+    kind: DriveKind,
+) -> Result<Option<BadTable>, StoreFailed>
+    requires { unit < 32 }
+    ensures never_again { IsTrue (P.tells packs.new) → IsTrue (P.tells packs.old) }
+    ensures drive { IfOk result (λ table. IfSome table (λ t. t.kind ≡ kind)) }
+    ensures table { IfOk result (λ table. IsTrue (P.tells packs.new) → IsTableOf kind (P.held packs.old unit) table) }
+    ensures same { IsTrue (P.tells packs.new) → P.held packs.new ≡ P.held packs.old }
+    ensures cause { HasCause (P.faults packs.old) (P.faults packs.new) result }
+{
+    for k in 0..5u32 {
+        match told_by(packs, unit, kind, k)? {
+            Some(table) => return Ok(Some(table)),
+            None => {}
+        }
+    }
+    Ok(None)
+}

@@ -1,0 +1,135 @@
+use super::*;
+use bad144_table::{empty_table, serial, write_table};
+use drive_model::Drive;
+use hardware_table::Register;
+use mass_outside::traits::{Packs, StoreFailed};
+use pack_geometry::{DriveKind, copy_block};
+
+// A pack that has a length and the copies of its table, by the serial number; a copy without one is all zeros, which
+// is no table. It tells nothing, and counts the calls that ask for a block or its mark.
+#[derive(Drop)]
+struct Copies {
+    kind: DriveKind,
+    length: u64,
+    marked: [bool; 5],
+    serials: [Option<u32>; 5],
+    asked: u32,
+}
+
+impl Packs for Copies {
+    ghost use Rattle.std.specs.Prelude.{false};
+    ghost use Rattle.pack_model.specs.Pack.{empty_pack};
+
+    ghost tells = { λ _. false };
+
+    ghost held = { λ _. λ _. empty_pack };
+
+    ghost faults = { λ _. 0 };
+
+    fn length(&mut self, _: u8) -> Result<u64, StoreFailed> {
+        Ok(self.length)
+    }
+
+    fn read(&mut self, _: u8, block: u32, into: &mut [u8; 512]) -> Result<(), StoreFailed> {
+        self.asked = self.asked.saturating_add(1);
+        *into = [0; 512];
+        for k in 0..5u32 {
+            if block == copy_block(self.kind, k) {
+                match self.serials[k as usize] {
+                    Some(number) => write_table(&empty_table(self.kind, number), into),
+                    None => {}
+                }
+            }
+        }
+        Ok(())
+    }
+
+    fn write(&mut self, _: u8, _: u32, _: &[u8; 512]) -> Result<(), StoreFailed> {
+        Ok(())
+    }
+
+    fn marked(&mut self, _: u8, block: u32) -> Result<bool, StoreFailed> {
+        self.asked = self.asked.saturating_add(1);
+        for k in 0..5u32 {
+            if block == copy_block(self.kind, k) {
+                return Ok(self.marked[k as usize]);
+            }
+        }
+        Ok(false)
+    }
+
+    fn set_mark(&mut self, _: u8, _: u32, _: bool) -> Result<(), StoreFailed> {
+        Ok(())
+    }
+}
+
+#[test]
+fn type_words(rt: HostRuntime) {
+    for (word, kind) in [
+        (0o020022, Ok(DriveKind::Rp06)),
+        (0o020024, Ok(DriveKind::Rm03)),
+        (0o020027, Ok(DriveKind::Rm05)),
+        (0o177022, Ok(DriveKind::Rp06)),
+        (0o020023, Err(ProbeFault::Unknown(0o023))),
+        (0o020122, Err(ProbeFault::Unknown(0o122))),
+    ] {
+        assert!(rt; probe(word) == kind, "{word:o}");
+    }
+}
+
+// Which copies are marked, their serial numbers, and the one that is found.
+const PACKS: [([bool; 5], [Option<u32>; 5], Option<u32>); 5] = [
+    (
+        [true, false, false, false, false],
+        [Some(1), Some(2), Some(3), None, None],
+        Some(2),
+    ),
+    ([false; 5], [None, Some(2), Some(3), None, None], Some(2)),
+    (
+        [true, true, true, true, false],
+        [Some(1), Some(2), Some(3), Some(4), Some(5)],
+        Some(5),
+    ),
+    ([false; 5], [None; 5], None),
+    ([true; 5], [Some(1); 5], None),
+];
+
+#[test]
+fn attached_with_the_first_copy_that_is_good(rt: HostRuntime) {
+    for (kind, length) in [
+        (DriveKind::Rp06, 174_423_040),
+        (DriveKind::Rm03, 67_420_160),
+        (DriveKind::Rm05, 256_196_608),
+    ] {
+        for (marked, serials, wanted) in PACKS {
+            let mut packs = Copies {
+                kind,
+                length,
+                marked,
+                serials,
+                asked: 0,
+            };
+            let mut drive = Drive::new(kind, 3);
+            let Ok(found) = attach(&mut drive, &mut packs, 3) else {
+                panic!(rt; "{wanted:?} is not attached")
+            };
+            assert!(rt; found.kind == kind);
+            let number = match &found.table {
+                Some(table) => Some(serial(table)),
+                None => None,
+            };
+            assert_eq!(rt; number, wanted);
+            assert!(rt; drive.read_register(Register::Of) == 0o010000);
+            assert!(rt; drive.read_register(Register::Ds) & 0o100 != 0);
+
+            packs.length = length + 1;
+            packs.asked = 0;
+            let mut drive = Drive::new(kind, 3);
+            let Err(fault) = attach(&mut drive, &mut packs, 3) else {
+                panic!(rt; "an image that is too long is attached")
+            };
+            assert!(rt; fault == AttachFault::TooLong { length: length + 1 });
+            assert_eq!(rt; packs.asked, 0);
+        }
+    }
+}

@@ -1,0 +1,22 @@
+//! What is to be moved, and the part of it that one transfer command moves.
+
+use pack_geometry::DriveKind;
+
+/// A request's blocks: the kind of the drive, the first block on the pack, how many blocks, and whether they are
+/// written.
+#[derive(Clone, Copy, Debug, PartialEq, Eq)]
+pub struct Job {
+    pub kind: DriveKind,
+    pub first: u32,
+    pub count: u32,
+    pub write: bool,
+}
+
+/// What one transfer command moves: the first sector on the pack, the first block in the request's buffer, and how
+/// many of each.
+#[derive(Clone, Copy, Debug, PartialEq, Eq)]
+pub struct Segment {
+    pub block: u32,
+    pub skip: u32,
+    pub count: u32,
+}

@@ -1,0 +1,11 @@
+//! How far a job has come.
+
+use crate::job::Job;
+
+/// A job, its blocks that are done, and the failures at the sector with which its segment begins.
+#[derive(Clone, Copy, Debug, PartialEq, Eq)]
+pub(crate) struct Progress {
+    pub(crate) job: Job,
+    pub(crate) done: u32,
+    pub(crate) failures: u32,
+}

@@ -1,0 +1,107 @@
+use super::*;
+use bad144_table::{BadTable, empty_table, insert};
+use pack_geometry::{DriveKind, Place};
+use retry_offsets::Step;
+
+// How a segment ends, behind so many sectors that moved.
+#[derive(Clone, Copy, Debug, PartialEq, Eq)]
+enum End {
+    Done,
+    Marked(u32),
+    Failed(u32),
+}
+
+// What follows: a transfer, nothing, or an error behind so many blocks.
+fn ended(transfer: Transfer, end: End, table: &BadTable) -> Result<Option<Transfer>, u32> {
+    let count = transfer.segment().count;
+    match end {
+        End::Done => match transfer.on_done() {
+            Next::Finished => Ok(None),
+            Next::More(continued) => Ok(Some(Transfer::Continued(continued))),
+        },
+        End::Marked(clean) if clean < count => match transfer.on_bad_sector(clean, Some(table)) {
+            Ok(forwarded) => Ok(Some(Transfer::Forwarded(forwarded))),
+            Err(unforwarded) => Err(unforwarded.done),
+        },
+        End::Failed(clean) if clean < count => match transfer.on_fault(clean) {
+            Ok((transfer, _)) => Ok(Some(transfer)),
+            Err(exhausted) => Err(exhausted.done),
+        },
+        End::Marked(_) | End::Failed(_) => Err(u32::MAX),
+    }
+}
+
+const REST: Segment = Segment {
+    block: 1001,
+    skip: 2,
+    count: 2,
+};
+
+// A read of blocks 999 to 1002 of an RP06: each segment with the failures at its first sector, and how it ends. Block
+// 1000 is listed and goes to the first replacement, which fails once; block 1001 then fails to the end.
+const SEGMENTS: [(Segment, u32, End); 4] = [
+    (
+        Segment {
+            block: 999,
+            skip: 0,
+            count: 4,
+        },
+        0,
+        End::Marked(1),
+    ),
+    (
+        Segment {
+            block: 340647,
+            skip: 1,
+            count: 1,
+        },
+        0,
+        End::Failed(0),
+    ),
+    (
+        Segment {
+            block: 340647,
+            skip: 1,
+            count: 1,
+        },
+        1,
+        End::Done,
+    ),
+    (REST, 0, End::Failed(0)),
+];
+
+#[test]
+fn forwarded_and_then_retried_to_the_end(rt: HostRuntime) {
+    let mut table = empty_table(DriveKind::Rp06, 1);
+    let listed = Place {
+        cylinder: 2,
+        track: 7,
+        sector: 10,
+    };
+    assert!(rt; insert(&mut table, listed) == Ok(0));
+    let mut transfer = Transfer::Direct(begin(Job {
+        kind: DriveKind::Rp06,
+        first: 999,
+        count: 4,
+        write: false,
+    }));
+    for (segment, failures, end) in SEGMENTS {
+        assert_eq!(rt; transfer.segment(), segment, "{end:?}");
+        assert_eq!(rt; transfer.done(), segment.skip);
+        assert_eq!(rt; transfer.failures(), failures, "{end:?}");
+        let Ok(Some(next)) = ended(transfer, end, &table) else {
+            panic!(rt; "ended early at {end:?}")
+        };
+        transfer = next;
+    }
+    for failures in 1..27 {
+        assert_eq!(rt; transfer.segment(), REST);
+        assert_eq!(rt; transfer.failures(), failures);
+        let Ok((next, step)) = transfer.on_fault(0) else {
+            panic!(rt; "gave up after {failures} failures")
+        };
+        assert!(rt; step != Step::GiveUp);
+        transfer = next;
+    }
+    assert!(rt; matches!(ended(transfer, End::Failed(0), &table), Err(2)));
+}
