@@ -29,9 +29,10 @@ pub fn table_law()
     ensures spelled { (table : Table) → IsTable table → Spells (table_text table.serial table.places) table }
 {}
 
-/// The law of a pack's table: it has one at most, which lists 126 places at most, and which packs with the same copies
-/// share, whatever else they hold.
+/// The law of a pack's table: each pack has one or has none, and never two; it lists 126 places at most; and packs with
+/// the same copies share it, whatever else they hold.
 pub fn pack_table_law()
+    ensures exists { (kind : DriveKind) → (pack : Pack) → (table : Option Table) × IsTableOf kind pack table }
     ensures once { (kind : DriveKind) → (pack : Pack) → (table other : Option Table) → IsTableOf kind pack table
         → IsTableOf kind pack other → table ≡ other }
     ensures room { (kind : DriveKind) → (pack : Pack) → (table : Option Table) → IsTableOf kind pack table
