@@ -10,9 +10,8 @@ ghost use Rattle.mba_autoconf.specs.declared.attaching.Attached.{Attached};
 ghost use Rattle.mba_autoconf.specs.Probe.{nine_bits, type_code};
 ghost use Rattle.mba_autoconf.specs.Attach.{attached, Answers, IsLong};
 
-use crate::pack_table::table_of;
 use crate::probing::kind_of_drive;
-use bad144_table::BadTable;
+use bad144_table::{BadTable, table_of};
 use bitflags::Flags;
 use drive_model::Drive;
 use drive_registers::{Function, Of};

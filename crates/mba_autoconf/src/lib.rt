@@ -3,7 +3,6 @@
 #![tactic(auto)]
 
 mod attaching;
-mod pack_table;
 mod probing;
 #[cfg(test)]
 mod tests;

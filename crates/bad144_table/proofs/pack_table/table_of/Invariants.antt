@@ -1,7 +1,7 @@
 use Rattle.std.proofs.Common.{◌≡◌, ◌<◌, ◌≤◌, ℕ, IsTrue}
 use Rattle.pack_model.specs.TableSpelling.{Table}
 use Rattle.pack_model.specs.PackTable.{Tells}
-use Rattle.mba_autoconf.proofs.pack_table.table_of.Given as goal
+use Rattle.bad144_table.proofs.pack_table.table_of.Given as goal
 
 -- no copy so far tells a table
 abbrev pub invariant-loop-k : goal.invariant-loop-k

@@ -1,15 +1,15 @@
-//! The bad-sector table of a pack, of which it has five copies.
 ghost use Rattle.std.specs.Prelude.{◌≡◌, ◌<◌, ℕ, IfOk, IfSome, IsTrue, MatchOption};
 ghost use Rattle.pack_model.specs.TableSpelling.{Table};
 ghost use Rattle.pack_model.specs.PackTable.{IsTableOf, Tells};
 ghost use Rattle.mass_outside.specs.Causes.{HasCause};
 
-use bad144_table::{BadTable, read_table};
+use crate::spelling::read_table;
+use crate::table::BadTable;
 use mass_outside::traits::{Packs, StoreFailed};
 use pack_geometry::{DriveKind, copy_block};
 
-// The table that copy `k` tells; None where it is marked, or its bytes spell no table for this kind.
-pub(crate) fn told_by<P: Packs>(
+/// The table that copy `k` tells; None where it is marked, or its bytes spell no table for this kind.
+fn told_by<P: Packs>(
     packs: &mut P,
     unit: u8,
     kind: DriveKind,
@@ -36,9 +36,10 @@ pub(crate) fn told_by<P: Packs>(
     }
 }
 
-// The table of a unit's pack: that of the first of its five copies that is unmarked and spells one for this kind of
-// drive. None where no copy does.
-pub(crate) fn table_of<P: Packs>(
+/// The table of a unit's pack: that of the first of its five copies that is unmarked and spells one for this kind of
+/// drive, by DEC STD 144. None where no copy does. The packs stay as they are; they fail only where their count of
+/// faults rose.
+pub fn table_of<P: Packs>(
     packs: &mut P,
     unit: u8,
     kind: DriveKind,
