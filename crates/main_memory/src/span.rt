@@ -1,7 +1,7 @@
 // Where a block of a buffer lies in memory.
 ghost use Rattle.std.specs.Prelude.{◌≡◌, ◌<◌, ◌≤◌, length};
 ghost use Rattle.main_memory.specs.Bytes.{front, filled};
-ghost use Rattle.main_memory.specs.Blocks.{IsSpan, in_frame, in_next, place_in, bytes_in, with_bytes_in};
+ghost use Rattle.main_memory.specs.Blocks.{IsSpan, in_frame, place_in, bytes_in, with_bytes_in};
 
 use crate::bytes::{get, put};
 

@@ -1,5 +1,4 @@
 use Rattle.std.proofs.Common.{◌≡◌, ℕ, List, length, ap, ◌∙◌, subst}
-use Rattle.std.specs.List.{All}
 use Rattle.main_memory.specs.declared.window.Window.{Window}
 use Rattle.main_memory.specs.Bytes.{front, filled}
 use Rattle.main_memory.specs.Windows.{Writes, memory_of, window_len, window_bytes}

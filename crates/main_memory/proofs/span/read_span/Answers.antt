@@ -1,4 +1,4 @@
-use Rattle.std.proofs.Common.{◌≡◌, ◌-◌, ◌+◌, ◌*◌, ℕ, length, ap, refl, ◌∙◌, arith}
+use Rattle.std.proofs.Common.{◌≡◌, ◌+◌, ◌*◌, ℕ, length, ap, refl, ◌∙◌, arith}
 use Rattle.main_memory.specs.Bytes.{part}
 use Rattle.main_memory.specs.Blocks.{bytes_in, in_frame, in_next}
 use Rattle.main_memory.proofs.span.read_span.Goals as goal
