@@ -13,7 +13,7 @@ use Rattle.pack_model.specs.PackTable.{places_of}
 use Rattle.pack_model.specs.Homes.{is_place, index_in, replacement_home, home_of}
 
 -- the place that a test names
-same_place : (p q : Place) → is_place p q ≡ true → p ≡ q
+pub same_place : (p q : Place) → is_place p q ≡ true → p ≡ q
 same_place p q e =
     let c : p.cylinder ≡ q.cylinder = grind (arith, nat_tests) in
     let t : p.track ≡ q.track = grind (arith, nat_tests) in
@@ -26,7 +26,7 @@ back Rp06 block lt = omega arith
 back Rm03 block lt = omega arith
 back Rm05 block lt = omega arith
 
-same_block : (kind : DriveKind) (b c : ℕ) → b < limit_of kind → c < limit_of kind → place_at kind b ≡ place_at kind c → b ≡ c
+pub same_block : (kind : DriveKind) (b c : ℕ) → b < limit_of kind → c < limit_of kind → place_at kind b ≡ place_at kind c → b ≡ c
 same_block kind b c lb lc e = sym (back kind b lb) ∙ ap (block_number kind) e ∙ back kind c lc
 
 -- what a home is: the block itself, or the replacement of an entry that lists the block's place
@@ -71,7 +71,7 @@ replacement_above Rp06 i lt = omega arith
 replacement_above Rm03 i lt = omega arith
 replacement_above Rm05 i lt = omega arith
 
-replacement_once : (kind : DriveKind) (i j : ℕ) → i < 126 → j < 126 → replacement_at kind i ≡ replacement_at kind j → i ≡ j
+pub replacement_once : (kind : DriveKind) (i j : ℕ) → i < 126 → j < 126 → replacement_at kind i ≡ replacement_at kind j → i ≡ j
 replacement_once Rp06 i j li lj e = omega arith
 replacement_once Rm03 i j li lj e = omega arith
 replacement_once Rm05 i j li lj e = omega arith
@@ -120,12 +120,12 @@ pub homes_apart : (kind : DriveKind) (table : Option Table) (pack : Pack) (block
 homes_apart kind table pack block other home room e f =
     apart_by kind table pack block other home room (home_cases kind table pack block home e) (home_cases kind table pack other home f)
 
-below_copies : (kind : DriveKind) (block k : ℕ) → block < limit_of kind → block < copy_at kind k
+pub below_copies : (kind : DriveKind) (block k : ℕ) → block < limit_of kind → block < copy_at kind k
 below_copies Rp06 block k lt = omega arith
 below_copies Rm03 block k lt = omega arith
 below_copies Rm05 block k lt = omega arith
 
-replacement_below : (kind : DriveKind) (i k : ℕ) → i < 126 → replacement_at kind i < copy_at kind k
+pub replacement_below : (kind : DriveKind) (i k : ℕ) → i < 126 → replacement_at kind i < copy_at kind k
 replacement_below Rp06 i k lt = omega arith
 replacement_below Rm03 i k lt = omega arith
 replacement_below Rm05 i k lt = omega arith

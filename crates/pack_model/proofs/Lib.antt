@@ -2,4 +2,6 @@ pub mod HomeLaws
 pub mod HomeWriteLaws
 pub mod PackLaws
 pub mod PackTableLaws
+pub mod TableEditBlocks
+pub mod TableEditLaws
 pub mod TableLaws

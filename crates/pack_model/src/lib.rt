@@ -2,13 +2,14 @@
 //! and the content of each data block.
 #![tactic(auto)]
 
-ghost use Rattle.std.specs.Prelude.{◌≡◌, ◌≢◌, ◌≤◌, ◌<◌, ℕ, false, List, Option, Some, length};
+ghost use Rattle.std.specs.Prelude.{◌≡◌, ◌≢◌, ◌≤◌, ◌<◌, ℕ, true, false, List, Option, Some, length};
 ghost use Rattle.pack_geometry.specs.declared.DriveKind.{DriveKind};
 ghost use Rattle.pack_geometry.specs.Geometry.{copy_at, limit_of};
 ghost use Rattle.pack_model.specs.Pack.{Pack, block_at, is_marked, with_block, with_written, written};
 ghost use Rattle.pack_model.specs.TableSpelling.{Table, IsTable, Spells, table_text};
 ghost use Rattle.pack_model.specs.PackTable.{IsTableOf, AreTablesOf, HaveSameCopies, places_of};
 ghost use Rattle.pack_model.specs.Homes.{home_of, content_of, contents_of, with_content};
+ghost use Rattle.pack_model.specs.TableEdit.{Edit, IsAddedAt, IsEdited, edited, edited_table};
 
 /// The law of blocks: a block has 512 bytes, what was written to it is read again, and a write to one block
 /// changes no other.
@@ -79,4 +80,15 @@ pub fn home_write_law()
         → (kind : DriveKind) → (unit block home : ℕ) → (bytes : List ℕ) → drives unit ≡ Some kind → length bytes ≡ 512
         → home_of kind (tables unit) (packs unit) block ≡ Some home → AreTablesOf drives packs tables
         → AreTablesOf drives (with_written packs unit home bytes) tables }
+{}
+
+/// The law of the table edit: where a block may be added, the writes that list it make the edit. Where they copy the
+/// bytes of a block that was unmarked, every data block holds what it held.
+pub fn table_edit_law()
+    ensures made { (kind : DriveKind) → (pack : Pack) → (table : Table) → (edit : Edit) → (i : ℕ)
+        → IsAddedAt kind pack table edit i → IsEdited kind pack (edited kind pack table edit i) table edit i }
+    ensures kept { (kind : DriveKind) → (pack new : Pack) → (table : Table) → (edit : Edit) → (i : ℕ)
+        → IsAddedAt kind pack table edit i → IsEdited kind pack new table edit i → edit.copy ≡ true
+        → is_marked pack edit.block ≡ false
+        → content_of kind (Some (edited_table kind table edit i)) new ≡ content_of kind (Some table) pack }
 {}
