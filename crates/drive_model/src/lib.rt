@@ -9,8 +9,8 @@ mod laws;
 
 pub use book::NoiseBook;
 pub use drive::Drive;
-pub use laws::whole_sector_law;
 pub use hardware_table::{FaultKind, Moved, NoiseSpan, Register};
+pub use laws::whole_sector_law;
 
 #[cfg(test)]
 mod tests;

@@ -1,4 +1,4 @@
-//! The words of a drive's registers, after the register lists of the RP06 and RM03 manuals: the codes of
+//! The words of a drive's registers, after the register lists of the RP06, RM03 and RM05 manuals: the codes of
 //! functions and offsets, and the bits of the status, error and offset registers.
 #![tactic(auto)]
 
