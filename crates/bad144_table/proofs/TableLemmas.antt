@@ -12,7 +12,8 @@ use Rattle.pack_geometry.specs.declared.DriveKind.TheVariants.{Rp06, Rm03, Rm05}
 use Rattle.pack_geometry.specs.declared.Place.{Place}
 use Rattle.pack_geometry.specs.Geometry.{IsInside, block_number, limit_of}
 use Rattle.pack_model.specs.TableSpelling.{Table, IsTable}
-use Rattle.bad144_table.specs.Inserts.{IsNew, with_place}
+use Rattle.pack_model.specs.TableEdit.{with_place}
+use Rattle.bad144_table.specs.Inserts.{IsNew}
 
 -- from a place on, all lie at or above a block
 pub above_from : (kind : DriveKind) (places : List Place) (i block : ℕ) (e : Place) → AllPairs (λ p q. block_number kind p < block_number kind q) places

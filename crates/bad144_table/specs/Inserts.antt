@@ -1,14 +1,11 @@
 -- What adding a place to a table comes to.
-use Rattle.std.specs.Prelude.{◌≡◌, ℕ, ◌<◌, ◌≤◌, length, Some, slice_get, insert, Contains}
+use Rattle.std.specs.Prelude.{◌≡◌, ℕ, ◌<◌, ◌≤◌, length, Some, slice_get, Contains}
 use Rattle.pack_geometry.specs.declared.Place.{Place}
 use Rattle.pack_geometry.specs.Geometry.{limit_of, block_number}
 use Rattle.pack_model.specs.TableSpelling.{Table, IsTable}
+use Rattle.pack_model.specs.TableEdit.{with_place}
 use Rattle.bad144_table.specs.declared.table.InsertFault.{InsertFault}
 use Rattle.bad144_table.specs.declared.table.InsertFault.TheVariants.{Reserved, Listed, Full}
-
--- the table with one place more, at a position
-abbrev pub with_place : Table → ℕ → Place → Table
-with_place table i place = record table { places = insert table.places i place }
 
 -- the place is a data block's, and is not listed
 pub record IsNew (table : Table) (place : Place) : Type 0 where

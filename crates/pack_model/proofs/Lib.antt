@@ -4,4 +4,6 @@ pub mod PackLaws
 pub mod PackTableLaws
 pub mod TableEditBlocks
 pub mod TableEditLaws
+pub mod TableExists
 pub mod TableLaws
+pub mod TwoEdits

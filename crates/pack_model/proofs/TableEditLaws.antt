@@ -127,10 +127,10 @@ pub record IsAfter (kind : DriveKind) (old new : Pack) (table : Table) (edit : E
   pub marks_other : (b : ℕ) → b ≢ edit.block → is_marked new b ≡ is_marked old b
   pub mark_itself : is_marked new edit.block ≡ (is_marked old edit.block || edit.mark)
 
-not_above : (kind : DriveKind) (block j : ℕ) → block < limit_of kind → j < 126 → block ≢ replacement_at kind j
+pub not_above : (kind : DriveKind) (block j : ℕ) → block < limit_of kind → j < 126 → block ≢ replacement_at kind j
 not_above kind block j lt small e = let above = replacement_above kind j small in absurd (omega (arith, above, e, lt))
 
-not_copy : (kind : DriveKind) (block k : ℕ) → block < limit_of kind → block ≢ copy_at kind k
+pub not_copy : (kind : DriveKind) (block k : ℕ) → block < limit_of kind → block ≢ copy_at kind k
 not_copy kind block k lt e = let below = below_copies kind block k lt in absurd (omega (arith, below, e))
 
 no_replacement_is_copy : (kind : DriveKind) (j k : ℕ) → j < 126 → replacement_at kind j ≢ copy_at kind k

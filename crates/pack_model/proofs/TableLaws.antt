@@ -265,7 +265,7 @@ not_fewer bytes t u st su less =
     let small : length t.places < 126 = omega (arith, su.valid.room) in
     spelled_no_end bytes u (length t.places) su less (spelled_end bytes t (length t.places) st (omega arith) small)
 
-same_table : (t u : Table) → t.kind ≡ u.kind → t.serial ≡ u.serial → t.places ≡ u.places → t ≡ u
+pub same_table : (t u : Table) → t.kind ≡ u.kind → t.serial ≡ u.serial → t.places ≡ u.places → t ≡ u
 same_table t u kind serial places = λ i. record { kind = kind i; serial = serial i; places = places i }
 
 pub spells_once : (bytes : List ℕ) (t u : Table) → Spells bytes t → Spells bytes u → t.kind ≡ u.kind → t ≡ u

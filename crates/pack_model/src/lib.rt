@@ -9,7 +9,7 @@ ghost use Rattle.pack_model.specs.Pack.{Pack, block_at, is_marked, with_block, w
 ghost use Rattle.pack_model.specs.TableSpelling.{Table, IsTable, Spells, table_text};
 ghost use Rattle.pack_model.specs.PackTable.{IsTableOf, AreTablesOf, HaveSameCopies, places_of};
 ghost use Rattle.pack_model.specs.Homes.{home_of, content_of, contents_of, with_content};
-ghost use Rattle.pack_model.specs.TableEdit.{Edit, IsAddedAt, IsEdited, edited, edited_table};
+ghost use Rattle.pack_model.specs.TableEdit.{Edit, IsAddedAt, IsEdited, AreMade, edited, edited_table, twice_edited};
 
 /// The law of blocks: a block has 512 bytes, what was written to it is read again, and a write to one block
 /// changes no other.
@@ -29,9 +29,10 @@ pub fn table_law()
     ensures spelled { (table : Table) → IsTable table → Spells (table_text table.serial table.places) table }
 {}
 
-/// The law of a pack's table: it has one at most, which lists 126 places at most, and which packs with the same copies
-/// share, whatever else they hold.
+/// The law of a pack's table: each pack has one or has none, and never two; it lists 126 places at most; and packs with
+/// the same copies share it, whatever else they hold.
 pub fn pack_table_law()
+    ensures exists { (kind : DriveKind) → (pack : Pack) → (table : Option Table) × IsTableOf kind pack table }
     ensures once { (kind : DriveKind) → (pack : Pack) → (table other : Option Table) → IsTableOf kind pack table
         → IsTableOf kind pack other → table ≡ other }
     ensures room { (kind : DriveKind) → (pack : Pack) → (table : Option Table) → IsTableOf kind pack table
@@ -91,4 +92,18 @@ pub fn table_edit_law()
         → IsAddedAt kind pack table edit i → IsEdited kind pack new table edit i → edit.copy ≡ true
         → is_marked pack edit.block ≡ false
         → content_of kind (Some (edited_table kind table edit i)) new ≡ content_of kind (Some table) pack }
+{}
+
+/// The law of two edits: where two blocks are listed one after the other, and also in the other order, the table and the
+/// content of every data block come to the same.
+pub fn two_edits_law()
+    ensures table { (kind : DriveKind) → (old middle new other_middle other_new : Pack) → (table : Table)
+        → (one two : Edit) → (i j k l : ℕ) → AreMade kind old middle new table one two i j
+        → AreMade kind old other_middle other_new table two one k l
+        → twice_edited kind table one two i j ≡ twice_edited kind table two one k l }
+    ensures contents { (kind : DriveKind) → (old middle new other_middle other_new : Pack) → (table : Table)
+        → (one two : Edit) → (i j k l : ℕ) → one.block ≢ two.block → AreMade kind old middle new table one two i j
+        → AreMade kind old other_middle other_new table two one k l
+        → content_of kind (Some (twice_edited kind table one two i j)) new
+        ≡ content_of kind (Some (twice_edited kind table two one k l)) other_new }
 {}

@@ -125,7 +125,11 @@ mod tests {
     // sector 3 ahead, across the start of the track.
     #[test]
     fn distances(rt: HostRuntime) {
-        for (kind, sectors, ahead) in [(DriveKind::Rp06, 22, 21), (DriveKind::Rm03, 32, 31)] {
+        for (kind, sectors, ahead) in [
+            (DriveKind::Rp06, 22, 21),
+            (DriveKind::Rm03, 32, 31),
+            (DriveKind::Rm05, 32, 31),
+        ] {
             let target = Place {
                 cylinder: 7,
                 track: 0,

@@ -1,5 +1,9 @@
 use Rattle.pack_model.proofs.PackTableLaws.{table_once, table_room, table_same, tables_once}
+use Rattle.pack_model.proofs.TableExists.{table_exists}
 use Rattle.pack_model.proofs.pack_table_law.Goals as goal
+
+pub returns-clause-exists : goal.returns-clause-exists
+returns-clause-exists c = table_exists
 
 pub returns-clause-once : goal.returns-clause-once
 returns-clause-once c = table_once
