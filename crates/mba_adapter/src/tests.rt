@@ -29,6 +29,7 @@ fn loaded_registers(rt: HostRuntime) -> Result<(), Fail> {
     assert_eq!(rt; frames_of(&longer), [0u16, 1, 2, 3, 4].as_slice());
     for (last, third) in [(212, 0), (213, 12)] {
         let short = memory.lend(2, 300, last)?;
+        let mut adapter = Adapter::new();
         let _short = adapter.load(short, 0, 2);
         assert_eq!(rt; adapter.map_register(2), third);
     }
