@@ -1,3 +1,11 @@
+pub mod Appends
+pub mod Bits
+pub mod Chains
+pub mod Joins
 pub mod Kept
-pub mod Places
+pub mod KeptJoins
+pub mod Onces
+pub mod Spells
+pub mod Takes
 pub mod Throughout
+pub mod Walks

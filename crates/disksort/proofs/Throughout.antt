@@ -1,5 +1,5 @@
 -- A list that ascends ascends from each element to every later one.
-use Rattle.std.proofs.Common.{◌≡◌, ℕ, ◌<◌, Bool, false, List, [], ◌∷◌, length, zero, suc, slice_index_or, arith}
+use Rattle.std.proofs.Common.{◌≡◌, false, List, [], ◌∷◌, zero, suc, arith}
 use Rattle.subsystem_spec.specs.ServiceOrder.{Waiting, is_before}
 use Rattle.subsystem_spec.proofs.ServiceOrderRuns.{Ascends}
 use Rattle.subsystem_spec.proofs.ServiceOrderLaws.{at_index}

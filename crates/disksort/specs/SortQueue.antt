@@ -1,6 +1,8 @@
 -- What contracts see of a sorted queue.
-use Rattle.std.specs.Prelude.{◌≡◌, ℕ, ◌<◌, ◌≤◌, Bool, false, List, length, slice_index_or}
+use Rattle.std.specs.Prelude.{◌≡◌, ℕ, ◌<◌, ◌≤◌, Bool, true, false, List, ◌++◌, length, slice_index_or}
+use Rattle.std.specs.List.{AllByRecursion}
 use Rattle.disksort.specs.declared.Waiter.{Waiter}
+use Rattle.disksort.specs.Buckets.{RunView, IsRun, Once, spelled}
 use Rattle.subsystem_spec.specs.ServiceOrder.{IsInOrder}
 
 -- those that wait, in service order; how many can, and how many cylinders the pack has
@@ -12,13 +14,26 @@ pub record Queue : Type 0 where
 abbrev pub cylinder_of : Waiter → ℕ
 cylinder_of waiter = waiter.cylinder
 
+-- those that wait: the first run, and then the second
+abbrev pub waiting_in : RunView → RunView → List ℕ → ℕ → ℕ → List Waiter
+waiting_in first second behind capacity cylinders = spelled capacity first behind cylinders ++ spelled capacity second behind cylinders
+
 -- none of a list is before one that stands in front of it, be it next to it or not
 abbrev pub IsSortedThroughout : {A : Type 0} → (A → A → Bool) → List A → Type 0
 IsSortedThroughout {A} before xs = (i j : ℕ) (d : A) → i < j → j < length xs → before (slice_index_or xs j d) (slice_index_or xs i d) ≡ false
 
--- what its list keeps: service order, and room that was reserved
-pub record IsKept (waiting : List Waiter) (capacity room : ℕ) : Type 0 where
-  pub fits : length waiting ≤ capacity
+-- What the buckets keep: both runs are linked, and what they spell is in service order. No number waits twice, and each
+-- is below the capacity. The second run is of cylinders below those of the first, and is empty where the first one is.
+pub record IsKept (first second : RunView) (behind : List ℕ) (count capacity cylinders : ℕ) : Type 0 where
+  pub first_run : IsRun capacity first behind cylinders
+  pub second_run : IsRun capacity second behind cylinders
+  pub numbers : length behind ≡ capacity
   pub small : capacity ≤ 65536
-  pub reserved : capacity ≤ room
-  pub order : IsInOrder cylinder_of waiting
+  pub few : cylinders ≤ 1024
+  pub counted : count ≡ length (waiting_in first second behind capacity cylinders)
+  pub fits : count ≤ capacity
+  pub inside : AllByRecursion (λ w. w.number < capacity) (waiting_in first second behind capacity cylinders)
+  pub once : Once (waiting_in first second behind capacity cylinders)
+  pub order : IsInOrder cylinder_of (waiting_in first second behind capacity cylinders)
+  pub swept : (c d : ℕ) → second.marked c ≡ true → first.marked d ≡ true → c < d
+  pub begun : ((d : ℕ) → first.marked d ≡ false) → (c : ℕ) → second.marked c ≡ false

@@ -1,10 +1,17 @@
-// The sorted queue of a unit: the arm sweeps from low cylinders to high ones, then begins again.
+// The sorted queue of a unit: the arm sweeps from low cylinders to high ones, then begins again. It is kept in buckets
+// of cylinders, so that one that joins or leaves costs the same however many wait.
 #![tactic(auto)]
 
-ghost use Rattle.std.specs.Prelude.{◌≡◌, ◌≢◌, ◌<◌, ◌≤◌, nat_lt, ◌&&◌, ◌||◌, if◌then◌else◌, List, [], ◌∷◌, length, drop, All, IfOk, IsPermutation, insert, slice_get};
+ghost use Rattle.std.specs.Prelude.{◌≡◌, ◌≢◌, ◌<◌, ◌≤◌, ◌⊎◌, ℕ, false, IsTrue, List, [], ◌∷◌, length, drop, All, IfOk, IsPermutation, slice_get};
 ghost use Rattle.subsystem_spec.specs.ServiceOrder.{Waiting, Change, is_before, service_order, empty_service, service_after, queue_after, queue_of, queue_with, IsInOrder, IsTwoRuns, in_runs};
+ghost use Rattle.disksort.specs.Buckets.{IsLowest};
+ghost use Rattle.disksort.specs.Runs.{seen};
 ghost use Rattle.disksort.specs.SortQueue.{cylinder_of, IsSortedThroughout};
 
+mod row;
+mod run;
+
+use crate::run::{Run, zeros};
 use mass_outside::traits::NoMemory;
 use std::alloc::Global;
 use std::marker::Model;
@@ -17,22 +24,44 @@ pub struct Waiter {
 }
 
 /// The requests that wait at a unit, in the order in which it serves them, after 4.3BSD's `disksort`.
+///
+/// Each of its two runs has the first and the last waiting number of every cylinder and a bit for each cylinder at which
+/// one waits, and each number has the one behind it. A request joins behind the last of its cylinder, and the next
+/// cylinder is found by its bit.
 #[derive(Drop)]
 pub struct SortQueue {
-    waiting: Vec<Waiter>,
+    first: Run,
+    second: Run,
+    behind: Vec<u32>,
+    count: u32,
     capacity: u32,
     cylinders: u32,
 }
 
 impl Model for SortQueue {
-    ghost use Rattle.std.specs.Prelude.{vec_capacity};
-    ghost use Rattle.disksort.specs.SortQueue.{Queue, IsKept};
+    ghost use Rattle.disksort.specs.SortQueue.{Queue, IsKept, waiting_in};
+    ghost use Rattle.disksort.specs.Runs.{seen};
 
     ghost Value = { Queue };
 
-    ghost view = { λ q. record { waiting = q.waiting.items; capacity = q.capacity; cylinders = q.cylinders } };
+    ghost view = { λ q. record {
+      waiting = waiting_in (seen q.first) (seen q.second) q.behind.items q.capacity q.cylinders;
+      capacity = q.capacity;
+      cylinders = q.cylinders;
+    } };
 
-    ghost invariant = { λ q. IsKept q.waiting.items q.capacity (vec_capacity q.waiting) };
+    ghost invariant = { λ q. IsKept (seen q.first) (seen q.second) q.behind.items q.count q.capacity q.cylinders };
+}
+
+/// Whether one that joins at a cylinder goes into the second run: where one waits, and the head's cylinder is higher.
+fn joins_second(first: &Run, cylinder: u32) -> bool
+    ensures second { IsTrue result → (h : ℕ) × IsLowest (seen first.now).marked h × (cylinder < h) }
+    ensures first { result ≡ false → ((c : ℕ) → (seen first.now).marked c ≡ false) ⊎ ((h : ℕ) × IsLowest (seen first.now).marked h × (h ≤ cylinder)) }
+{
+    match first.lowest() {
+        Some(head) => cylinder < head,
+        None => false,
+    }
 }
 
 impl SortQueue {
@@ -42,9 +71,14 @@ impl SortQueue {
         requires cylinders { cylinders ≤ 1024 }
         ensures { IfOk result (λ q. q ≡ record { waiting = []; capacity = capacity; cylinders = cylinders }) }
     {
-        let waiting = Vec::with_capacity(alloc, capacity as usize)?;
+        let first = Run::new(alloc, cylinders)?;
+        let second = Run::new(alloc, cylinders)?;
+        let behind = zeros(alloc, capacity)?;
         Ok(SortQueue {
-            waiting,
+            first,
+            second,
+            behind,
+            count: 0,
             capacity,
             cylinders,
         })
@@ -55,14 +89,18 @@ impl SortQueue {
         ensures len { result ≡ length self.now.waiting }
         ensures fits { result ≤ self.now.capacity }
     {
-        self.waiting.len() as u32
+        self.count
     }
 
     /// The one that is served first. None where none waits.
     pub fn head(&self) -> Option<Waiter>
         ensures { result ≡ slice_get self.now.waiting 0 }
     {
-        self.waiting.first().copied()
+        let Some(cylinder) = self.first.lowest() else {
+            return None;
+        };
+        let number = self.first.first(cylinder);
+        Some(Waiter { number, cylinder })
     }
 
     /// The one that is served after `i` others. None where no more than `i` wait.
@@ -70,7 +108,14 @@ impl SortQueue {
         ensures waiter { result ≡ slice_get self.now.waiting i }
         ensures order { IsInOrder cylinder_of self.now.waiting }
     {
-        self.waiting.get(i as usize).copied()
+        let behind = self.behind.as_slice();
+        match self.first.nth(behind, i) {
+            Ok(waiter) => Some(waiter),
+            Err(rest) => match self.second.nth(behind, rest) {
+                Ok(waiter) => Some(waiter),
+                Err(_) => None,
+            },
+        }
     }
 
     /// Takes out the one that is served first. None where none waits.
@@ -78,10 +123,15 @@ impl SortQueue {
         ensures head { result ≡ slice_get self.old.waiting 0 }
         ensures rest { self.new ≡ record self.old { waiting = drop 1 self.old.waiting } }
     {
-        if self.waiting.is_empty() {
+        let Some(cylinder) = self.first.lowest() else {
             return None;
+        };
+        let number = self.first.take_first(self.behind.as_slice(), cylinder);
+        self.count -= 1;
+        if self.first.is_empty() {
+            self.first.swap(&mut self.second);
         }
-        Some(self.waiting.remove(0))
+        Some(Waiter { number, cylinder })
     }
 
     /// A request joins.
@@ -94,36 +144,12 @@ impl SortQueue {
           waiting = queue_with cylinder_of (record { number = number; cylinder = cylinder }) self.old.waiting;
         } }
     {
-        let waiter = Waiter { number, cylinder };
-        let at = place(self.waiting.as_slice(), waiter);
-        let Ok(()) = self.waiting.insert(at, waiter) else {
-            unreachable!();
-        };
-    }
-}
-
-// Where the one that joins goes: behind all that are served before it.
-fn place(waiting: &[Waiter], joining: Waiter) -> usize
-    requires { IsInOrder cylinder_of waiting.now }
-    ensures bound { result ≤ length waiting.now }
-    ensures place { insert waiting.now result joining ≡ queue_with cylinder_of joining waiting.now }
-{
-    let Some(head) = waiting.first() else {
-        return 0;
-    };
-    waiting.partition_point(|w| !goes_before(head.cylinder, joining.cylinder, w.cylinder))
-}
-
-// Seen from the head, whether a request that joins is served before one that waits.
-fn goes_before(head: u32, joining: u32, waiting: u32) -> bool
-    ensures { result ≡ (if nat_lt joining head
-        then nat_lt waiting head && nat_lt joining waiting
-        else nat_lt waiting head || nat_lt joining waiting) }
-{
-    if joining < head {
-        waiting < head && joining < waiting
-    } else {
-        waiting < head || joining < waiting
+        self.count += 1;
+        if joins_second(&self.first, cylinder) {
+            self.second.append(&mut self.behind, number, cylinder);
+            return;
+        }
+        self.first.append(&mut self.behind, number, cylinder);
     }
 }
 

@@ -1,15 +1,15 @@
-use Rattle.std.proofs.Common.{◌+◌, ◌≤◌, ◌∙◌, ap, arith}
+use Rattle.std.proofs.Common.{◌+◌, ◌<◌, ◌∙◌, ap, arith}
 use Rattle.disksort.specs.declared.Waiter.{Waiter}
 use Rattle.disksort.specs.SortQueue.{cylinder_of}
 use Rattle.subsystem_spec.proofs.ServiceOrderLaws.{length-queue_with, All-queue_with}
 use Rattle.disksort.proofs.tests.queue_with_all.Goals as goal
 
-pub loop-i-preserved : goal.loop-i-preserved
-loop-i-preserved c = rw c.insert.ensures (record {
-  count = length-queue_with cylinder_of _ c.loop-i.queue.waiting ∙ ap (λ n. n + 1) c.loop-i.invariant.count;
-  capacity = c.loop-i.invariant.capacity;
-  cylinders = c.loop-i.invariant.cylinders;
+pub loop-number-preserved : goal.loop-number-preserved
+loop-number-preserved c = rw c.insert.ensures (record {
+  count = length-queue_with cylinder_of _ c.loop-number.queue.waiting ∙ ap (λ n. n + 1) c.loop-number.invariant.count;
+  capacity = c.loop-number.invariant.capacity;
+  cylinders = c.loop-number.invariant.cylinders;
   numbers =
-      All-queue_with (λ (w : Waiter). w.number ≤ c.loop-i.i + 1) cylinder_of _ c.loop-i.queue.waiting (omega arith)
-      (λ k d lt. omega (arith, c.loop-i.invariant.numbers k d lt));
+      All-queue_with (λ (w : Waiter). w.number < c.loop-number.number + 1) cylinder_of _ c.loop-number.queue.waiting (omega arith)
+      (λ k d lt. omega (arith, c.loop-number.invariant.numbers k d lt));
 })

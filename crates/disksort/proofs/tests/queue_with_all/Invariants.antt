@@ -1,10 +1,11 @@
-use Rattle.std.proofs.Common.{◌≡◌, ◌≤◌, All, length}
+use Rattle.std.proofs.Common.{◌≡◌, ◌<◌, All, length}
 use Rattle.disksort.proofs.tests.queue_with_all.Given as goal
 
-abbrev pub invariant-loop-i : goal.invariant-loop-i
-invariant-loop-i l = record {
-  count : length l.queue.waiting ≡ l.i;
-  capacity : l.queue.capacity ≡ 100;
+-- as many wait as have joined, with the numbers so far
+abbrev pub invariant-loop-number : goal.invariant-loop-number
+invariant-loop-number l = record {
+  count : length l.queue.waiting ≡ l.number;
+  capacity : l.queue.capacity ≡ 8;
   cylinders : l.queue.cylinders ≡ 815;
-  numbers : All (λ w. w.number ≤ l.i) l.queue.waiting;
+  numbers : All (λ w. w.number < l.number) l.queue.waiting;
 }
