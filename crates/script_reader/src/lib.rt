@@ -1,0 +1,14 @@
+// Scripts: the words of their lines, and the reader of a whole script.
+#![tactic(auto)]
+
+pub mod fault;
+mod fields;
+mod forms;
+mod known;
+mod lines;
+mod places;
+pub mod script;
+pub mod statement;
+#[cfg(test)]
+mod tests;
+mod words;
