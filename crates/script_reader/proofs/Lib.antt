@@ -1,4 +1,5 @@
 pub mod CarriesLaws
+pub mod DataLaws
 pub mod LineLaws
 pub mod ReaderLaws
 pub mod ReadingLaws

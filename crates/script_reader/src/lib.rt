@@ -1,6 +1,7 @@
 // Scripts: the words of their lines, and the reader of a whole script.
 #![tactic(auto)]
 
+mod data;
 pub mod fault;
 mod fields;
 mod forms;

@@ -2,22 +2,24 @@ ghost use Rattle.std.specs.Prelude.{◌≡◌, ◌⊎◌, ◌<◌, ◌≤◌, �
 ghost use Rattle.std.specs.Option.{option_map};
 ghost use Rattle.script_reader.specs.declared.fault.ScriptKind.{ScriptKind};
 ghost use Rattle.script_reader.specs.declared.statement.Verb.{Verb};
+ghost use Rattle.script_reader.specs.Data.{IsData};
 ghost use Rattle.script_reader.specs.Fields.{and_then, changed};
 ghost use Rattle.script_reader.specs.Grammar.{entry, line_says, Spells, IsRefused};
 ghost use Rattle.script_reader.specs.Known.{Numbered};
 ghost use Rattle.script_reader.specs.Knowing.{known_in, Learns, LearnsFrom};
 ghost use Rattle.script_reader.specs.Lines.{lines_of};
 ghost use Rattle.script_reader.specs.Reading.{reading, Finds, Refuses};
-ghost use Rattle.script_reader.specs.Stored.{renamed, read_of, seen, lines_in, StoresRead, Stores};
+ghost use Rattle.script_reader.specs.Stored.{content_by, digits_at, renamed, read_of, seen, lines_in, StoresRead, Stores};
 ghost use Rattle.script_reader.specs.Words.{all_verbs};
 ghost use Rattle.mass_text.specs.Pieces.{pieces};
 ghost use Rattle.std.specs.Box.{box_value};
 
+use crate::data::{decode, fill, sequence};
 use crate::fault::{ReadFault, ScriptKind};
 use crate::forms::{Read, said};
 use crate::known::Known;
 use crate::lines::{first_piece, without_cr};
-use crate::statement::{Line, Span, Statement};
+use crate::statement::{Content, Line, Span, Statement};
 use crate::words::verb;
 use fire_code::Noise;
 use mass_text::Fields;
@@ -255,6 +257,24 @@ impl Script {
         ensures { result ≡ self.now.count }
     {
         self.count
+    }
+
+    /// Puts what a write writes, in whole blocks: `into` has 512 bytes for each. False exactly where the digits are not two
+    /// for each byte.
+    pub fn data(&self, content: &Content<Span>, into: &mut [u8]) -> bool
+        ensures { IsData (content_by (digits_at self.now.text) content.now) (length into.old) result into.new }
+    {
+        match content {
+            Content::Fill(byte) => {
+                fill(*byte, into);
+                true
+            }
+            Content::Seq(first) => {
+                sequence(*first, into);
+                true
+            }
+            Content::Hex(span) => decode(self.text.as_slice(), *span, into),
+        }
     }
 }
 

@@ -100,15 +100,19 @@ pub enum Statement<D, N> {
         what: FaultKind,
         times: u32,
     },
+    /// A drive goes off line.
     Offline {
         unit: u8,
     },
+    /// A drive comes on line.
     Online {
         unit: u8,
     },
+    /// A drive is locked against writing.
     Lock {
         unit: u8,
     },
+    /// A drive is unlocked.
     Unlock {
         unit: u8,
     },
