@@ -16,7 +16,7 @@ use Rattle.script_reader.specs.declared.statement.Statement.TheVariants as says
 use Rattle.script_reader.specs.declared.statement.Verb.{Verb}
 use Rattle.script_reader.specs.declared.statement.Verb.TheVariants as verbs
 use Rattle.script_reader.specs.Fields.{and_then, some_or, number_field, new_unit_field, unit_field, id_field, kind_field, part_field, fault_field, count_field, byte_field, seq_field, digits_field}
-use Rattle.script_reader.specs.Forms.{Form, gives, next, field, mapped, whole, none_left, content_by, content_form, start_form, tail_form, span_form, places_form, write_form, form_of, unit_number_form, adapter_form}
+use Rattle.script_reader.specs.Forms.{Form, gives, next, field, whole, none_left, content_by, content_form, start_form, tail_form, span_form, places_form, write_form, form_of, unit_number_form, adapter_form}
 use Rattle.script_reader.specs.Grammar.{unless, too_late, said, entry, is_comment, line_says}
 use Rattle.script_reader.specs.Known.{Known, Said}
 use Rattle.script_reader.specs.Words.{named, verb_word}

@@ -1,5 +1,5 @@
 -- Fields that are passed over.
-use Rattle.std.proofs.Common.{◌≡◌, ℕ, ◌+◌, suc, zero, List, [], ◌∷◌, get_or, drop, refl, sym, ap, ◌∙◌, arith}
+use Rattle.std.proofs.Common.{◌≡◌, ℕ, ◌+◌, suc, zero, List, [], ◌∷◌, get_or, drop, refl, ap, ◌∙◌}
 use Rattle.std.proofs.lemmas.List.{drop-drop}
 
 pub drop_more : (i : ℕ) (xs ys : List (List ℕ)) → ys ≡ drop i xs → drop 1 ys ≡ drop (i + 1) xs

@@ -4,7 +4,6 @@ use Rattle.std.specs.Prelude.{if◌then◌else◌, ◌&&◌, ◌==◌, nat_le}
 use Rattle.std.specs.List.Sorted.{IsStrictlyIncreasing}
 use Rattle.std.proofs.lemmas.Bool.Decides.{nat_tests}
 use Rattle.std.proofs.lemmas.List.Elements.{All-nil, All-cons}
-use Rattle.fire_code.specs.Burst.{IsPlaces}
 use Rattle.fire_code.specs.Noise.{IsNoise}
 use Rattle.mass_text.specs.Numbers.{number_of}
 use Rattle.mass_text.specs.declared.numbers.Radix.TheVariants.{Decimal}

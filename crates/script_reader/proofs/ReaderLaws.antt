@@ -3,13 +3,12 @@ use Rattle.std.proofs.Common.{◌≡◌, ℕ, zero, suc, ◌+◌, ◌-◌, ◌�
 use Rattle.std.specs.Prelude.{cond, not, ◌||◌, replicate, slice_range}
 use Rattle.std.specs.List.{list_any, sum_by}
 use Rattle.std.specs.Option.{option_map}
-use Rattle.std.proofs.lemmas.List.{map-append, take-take, drop-drop, length-take}
+use Rattle.std.proofs.lemmas.List.{take-take, drop-drop, length-take}
 use Rattle.std.proofs.lemmas.List.Folds.{list_any-append}
 use Rattle.std.proofs.lemmas.List.Sums.{sum_by-append}
 use Rattle.pack_geometry.specs.declared.DriveKind.{DriveKind}
 use Rattle.mass_text.specs.Pieces.{pieces}
 use Rattle.script_reader.specs.declared.fault.ScriptKind.{ScriptKind}
-use Rattle.script_reader.specs.declared.statement.Line.{Line}
 use Rattle.script_reader.specs.declared.statement.Span.{Span}
 use Rattle.script_reader.specs.declared.statement.Statement.{Statement}
 use Rattle.script_reader.specs.declared.statement.Statement.TheVariants as says
@@ -21,7 +20,7 @@ use Rattle.script_reader.specs.Knowing.{Learns, LearnsFrom, one}
 use Rattle.script_reader.specs.Lines.{lines_of, pieces_of, without_cr}
 use Rattle.script_reader.specs.Reading.{Refusal, Read, on, reading}
 use Rattle.script_reader.specs.Stored.{Kept, read_of, seen, digits_at, StoresRead, Stores}
-use Rattle.script_reader.proofs.CarriesLaws.{Carries, line_carries, same_Ok, err-ok}
+use Rattle.script_reader.proofs.CarriesLaws.{Carries, line_carries}
 use Rattle.script_reader.proofs.StoredLaws.{stands}
 
 -- functions are equal where they agree at each argument

@@ -1,10 +1,9 @@
 -- Whole lines, under the names of what is read.
-use Rattle.std.proofs.Common.{◌≡◌, ℕ, List, [], ◌∷◌, refl, sym, ap, ◌∙◌, Option, None, Some, Result, Ok, Err}
+use Rattle.std.proofs.Common.{◌≡◌, ℕ, List, [], ◌∷◌, refl, sym, ap, ◌∙◌, Some, Result, Ok, Err}
 use Rattle.std.specs.Option.{option_map}
 use Rattle.script_reader.specs.declared.fault.ScriptKind.{ScriptKind}
 use Rattle.script_reader.specs.declared.fault.ScriptKind.TheVariants.{Word}
 use Rattle.script_reader.specs.declared.statement.Span.{Span}
-use Rattle.script_reader.specs.declared.statement.Statement.{Statement}
 use Rattle.script_reader.specs.declared.statement.Verb.{Verb}
 use Rattle.script_reader.specs.Fields.{and_then, changed, some_or}
 use Rattle.script_reader.specs.Forms.{Form, mapped, none_left, whole, Parses}

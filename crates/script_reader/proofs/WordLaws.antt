@@ -1,7 +1,6 @@
 -- Words and the things that they name.
-use Rattle.std.proofs.Common.{◌≡◌, ◌≢◌, ℕ, Bool, true, false, List, [], ◌∷◌, length, get_or, refl, ap, ◌∙◌, sym, arith, Option, None, Some, Result, Ok, Err}
+use Rattle.std.proofs.Common.{◌≡◌, ◌≢◌, ℕ, Bool, true, false, List, [], ◌∷◌, length, get_or, refl, ap, ◌∙◌, arith, None, Some, Ok, Err}
 use Rattle.std.specs.Prelude.{cond}
-use Rattle.std.specs.List.{find}
 use Rattle.std.specs.Str.{bytes_eq}
 use Rattle.std.proofs.lemmas.Slice.Eq.{bytes_eq-Decides}
 use Rattle.pack_geometry.specs.declared.DriveKind.{DriveKind}
@@ -10,7 +9,6 @@ use Rattle.pack_geometry.specs.Geometry.{kind_word}
 use Rattle.partitions.specs.declared.Part.{Part}
 use Rattle.partitions.specs.declared.Part.TheVariants.{A, B, C, D, E, F, G, H}
 use Rattle.partitions.specs.Partitions.{letter_of}
-use Rattle.script_reader.specs.declared.fault.ScriptKind.{ScriptKind}
 use Rattle.script_reader.specs.declared.fault.ScriptKind.TheVariants.{Word}
 use Rattle.script_reader.specs.Fields.{some_or, kind_field, part_field}
 use Rattle.script_reader.specs.Words.{named, kinds, parts, part_word}

@@ -1,7 +1,6 @@
 -- Lines by their fields, from left to right.
-use Rattle.std.specs.Prelude.{◌≡◌, ℕ, ◌-◌, ◌==◌, Bool, false, if◌then◌else◌, List, [], ◌∷◌, codes, Option, None, Some, Result, Ok, Err}
+use Rattle.std.specs.Prelude.{◌≡◌, ℕ, ◌-◌, if◌then◌else◌, List, [], ◌∷◌, codes, Result, Ok, Err}
 use Rattle.std.specs.Str.{bytes_eq}
-use Rattle.pack_geometry.specs.declared.DriveKind.{DriveKind}
 use Rattle.pack_geometry.specs.Geometry.{block_count, sectors_of}
 use Rattle.hardware_table.specs.declared.NoiseSpan.{NoiseSpan}
 use Rattle.hardware_table.specs.declared.NoiseSpan.TheVariants.{Times, Until}
@@ -10,7 +9,6 @@ use Rattle.script_reader.specs.declared.fault.ScriptKind.TheVariants.{Word, Bits
 use Rattle.script_reader.specs.declared.statement.Content.{Content}
 use Rattle.script_reader.specs.declared.statement.Content.TheVariants as contents
 use Rattle.script_reader.specs.declared.statement.Request.{Request}
-use Rattle.script_reader.specs.declared.statement.Statement.{Statement}
 use Rattle.script_reader.specs.declared.statement.Statement.TheVariants as says
 use Rattle.script_reader.specs.declared.statement.Verb.{Verb}
 use Rattle.script_reader.specs.declared.statement.Verb.TheVariants as verbs

@@ -2,7 +2,6 @@
 use Rattle.std.specs.Prelude.{◌≡◌, ◌+◌, ◌||◌, ℕ, Bool, true, false, not, Option, None, Some, slice_index_or}
 use Rattle.std.specs.Ordering.{nat_cmp}
 use Rattle.std.specs.BTreeSet.{contains}
-use Rattle.pack_geometry.specs.declared.DriveKind.{DriveKind}
 use Rattle.script_reader.specs.declared.known.Known.{Known as Kept}
 use Rattle.script_reader.specs.declared.statement.Statement.{Statement}
 use Rattle.script_reader.specs.Known.{Known, verb_of, kind_after, has_id, declares, requests, strikes}

@@ -1,5 +1,5 @@
 -- How the reader goes through a script, line by line: an inner form, which is proved to give what the grammar says.
-use Rattle.std.specs.Prelude.{◌≡◌, ℕ, ◌+◌, ◌-◌, nat_lt, if◌then◌else◌, List, [], ◌∷◌, length, Result, Ok, Err}
+use Rattle.std.specs.Prelude.{◌≡◌, ℕ, ◌+◌, nat_lt, if◌then◌else◌, List, [], ◌∷◌, length, Result, Ok, Err}
 use Rattle.script_reader.specs.declared.fault.ScriptKind.{ScriptKind}
 use Rattle.script_reader.specs.declared.fault.ScriptKind.TheVariants.{ScriptLong}
 use Rattle.script_reader.specs.declared.fault.ReadFault.{ReadFault}

@@ -1,4 +1,4 @@
-use Rattle.std.proofs.Common.{◌≡◌, ℕ, List, [], ◌∷◌, sym, ap, subst, ◌∙◌, arith, Result, Ok}
+use Rattle.std.proofs.Common.{◌≡◌, ℕ, List, [], sym, ap, subst, ◌∙◌, arith, Result, Ok}
 use Rattle.fire_code.specs.Noise.{IsNoise}
 use Rattle.script_reader.specs.declared.fault.ScriptKind.{ScriptKind}
 use Rattle.script_reader.specs.Fields.{and_then, ahead}

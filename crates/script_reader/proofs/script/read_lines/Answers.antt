@@ -1,4 +1,4 @@
-use Rattle.std.proofs.Common.{◌≡◌, ◌+◌, ◌-◌, ◌≤◌, [], length, sym, arith}
+use Rattle.std.proofs.Common.{◌+◌, ◌-◌, ◌≤◌, [], length, sym, arith}
 use Rattle.script_reader.specs.declared.statement.Span.{Span}
 use Rattle.script_reader.specs.Knowing.{known_in}
 use Rattle.script_reader.specs.Lines.{lines_of}

@@ -1,4 +1,4 @@
-use Rattle.std.proofs.Common.{◌≡◌, ◌+◌, ◌-◌, ◌<◌, ◌≤◌, [], length, drop, map}
+use Rattle.std.proofs.Common.{◌≡◌, ◌-◌, ◌<◌, ◌≤◌, [], length, drop, map}
 use Rattle.script_reader.specs.Known.{known_of}
 use Rattle.script_reader.specs.Knowing.{known_in}
 use Rattle.script_reader.specs.Lines.{lines_of}

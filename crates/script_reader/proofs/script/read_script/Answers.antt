@@ -1,4 +1,4 @@
-use Rattle.std.proofs.Common.{◌≡◌, ◌≤◌, ◌-◌, ℕ, List, [], length, map, subst, arith, Ok}
+use Rattle.std.proofs.Common.{◌≡◌, ◌-◌, ℕ, List, [], map, subst, arith, Ok}
 use Rattle.script_reader.specs.Lines.{lines_of}
 use Rattle.script_reader.specs.Reading.{reading, Finds}
 use Rattle.script_reader.specs.Stored.{seen}
