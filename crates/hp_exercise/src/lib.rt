@@ -1,0 +1,68 @@
+// A large script from a number.
+#![tactic(auto)]
+
+mod draw;
+mod text;
+
+ghost use Rattle.std.specs.Prelude.{◌≡◌, ◌≤◌, ℕ, IfOk};
+ghost use Rattle.fire_code.specs.Burst.{IsShortBurst};
+ghost use Rattle.rand_core.specs.Stream.{Stream};
+ghost use Rattle.hp_exercise.specs.Bounds.{frames_of, places_of, most_asked, armed};
+ghost use Rattle.hp_exercise.specs.Exercise.{head_text, script_text};
+
+use mass_outside::traits::NoMemory;
+use rand_core::{Rng, SeedableRng};
+use rand_xoshiro::SplitMix64;
+use std::alloc::Global;
+
+/// The number of lines that are drawn.
+const STEPS: u32 = 2048;
+
+/// The lines that declare the units.
+#[tactic(auto, unfolding(crate::specs::Exercise::head_text))]
+fn head(alloc: Global) -> Result<Vec<u8>, NoMemory>
+    ensures { IfOk result (λ text. text.items ≡ head_text) }
+{
+    let mut text = Vec::new(alloc);
+    text.extend_from_slice(b"unit 0 rp06\nunit 1 rm03\nunit 8 rm03\n")?;
+    Ok(text)
+}
+
+/// The script of a number: three units are declared, and 2,048 lines follow, each drawn from the next word of
+/// SplitMix64, whose seed is the number's eight bytes from the least one on. NoMemory tells only that there was none.
+pub fn script_of(alloc: Global, number: u64) -> Result<Vec<u8>, NoMemory>
+    ensures { IfOk result (λ text. text.items ≡ script_text number) }
+{
+    let mut text = head(alloc)?;
+    let mut generator = SplitMix64::from_seed(number.to_le_bytes());
+    for step in 0..STEPS {
+        let line = text::line(step, generator.next_u64());
+        text.extend_from_slice(line.as_bytes())?;
+    }
+    Ok(text)
+}
+
+/// The law of how large such a script is, whatever the words are: between two drains at most 125 requests are asked, each
+/// of at most 17 frames; the faults strike at most 24 times in all; and the two places of a noise are a short burst.
+pub fn bounds_law()
+    ensures asked { (words : Stream) → most_asked 2048 0 words 0 ≤ 125 }
+    ensures frames { (word : ℕ) → frames_of word ≤ 17 }
+    ensures armed { (words : Stream) → armed 2048 0 words ≤ 24 }
+    ensures short { (word : ℕ) → IsShortBurst (places_of word) }
+{}
+
+#[cfg(test)]
+mod tests {
+    use super::*;
+    use std::test::Fail;
+
+    // The first lines of the script of 0.
+    #[test]
+    fn large_run_begins(rt: HostRuntime) -> Result<(), Fail> {
+        let text = script_of(rt.alloc(), 0)?;
+        let front =
+            b"unit 0 rp06\nunit 1 rm03\nunit 8 rm03\nattend 0\nread 1 1 a 6701 11 off 120\nattend 0\n";
+        assert!(rt; text.as_slice().starts_with(front));
+        Ok(())
+    }
+}

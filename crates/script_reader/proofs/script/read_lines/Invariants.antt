@@ -1,0 +1,24 @@
+use Rattle.std.proofs.Common.{◌≡◌, ◌-◌, ◌<◌, ◌≤◌, [], length, drop, map}
+use Rattle.script_reader.specs.Known.{known_of}
+use Rattle.script_reader.specs.Knowing.{known_in}
+use Rattle.script_reader.specs.Lines.{lines_of}
+use Rattle.script_reader.specs.Reading.{reading}
+use Rattle.script_reader.specs.Stored.{seen}
+use Rattle.script_reader.specs.Words.{all_verbs}
+use Rattle.script_reader.proofs.script.read_lines.Given as goal
+
+-- what is left, behind the lines so far, is read as all of it is
+abbrev pub invariant-lines : goal.invariant-lines
+invariant-lines l = record {
+  same : reading all_verbs (map (seen l.text) l.lines.items) l.number (lines_of l.rest) ≡ reading all_verbs [] 1 (lines_of l.text);
+  known : known_in l.known ≡ known_of (map (seen l.text) l.lines.items);
+  place : l.rest ≡ drop (length l.text - length l.rest) l.text;
+  within : length l.rest ≤ length l.text;
+  first : 0 < l.number;
+  last : l.number ≤ 1000001;
+  requests : l.known.requests < l.number;
+  noises : l.known.noises < l.number;
+}
+
+abbrev pub decreases-lines : goal.decreases-lines
+decreases-lines l = length l.rest

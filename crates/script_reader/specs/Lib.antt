@@ -1,0 +1,10 @@
+pub mod Data
+pub mod Fields
+pub mod Forms
+pub mod Grammar
+pub mod Knowing
+pub mod Known
+pub mod Lines
+pub mod Reading
+pub mod Stored
+pub mod Words

@@ -1,0 +1,83 @@
+ghost use Rattle.std.specs.Prelude.{◌≡◌, ◌<◌, ◌≤◌, ◌+◌, ◌*◌, ◌/◌, ◌%◌, ℕ, [], length, drop, slice_index, slice_index_or, slice_range};
+ghost use Rattle.mass_text.specs.Pieces.{pieces};
+ghost use Rattle.script_reader.specs.Data.{IsFilled, IsSequence, IsDecoded};
+
+use crate::statement::Span;
+use mass_text::Fields;
+
+/// The part of a text at `span`, as far as there is one.
+fn part(text: &[u8], span: Span) -> &[u8]
+    ensures { result.now ≡ slice_range text.now span.start span.end }
+{
+    if span.start >= text.len() || span.end <= span.start {
+        return &[];
+    }
+    if span.end >= text.len() {
+        return &text[span.start..];
+    }
+    &text[span.start..span.end]
+}
+
+/// Passes over a field, where there is one.
+fn skip(fields: &mut Fields)
+    ensures { fields.new ≡ drop 1 fields.old }
+{
+    match fields.next() {
+        Some(_) => {}
+        None => {}
+    }
+}
+
+/// The next field, or nothing where there is none.
+fn field_or_nothing<'a>(fields: &mut Fields<'a>) -> &'a [u8]
+    ensures { result.now ≡ slice_index_or fields.old 0 [] }
+{
+    match fields.next() {
+        Some(field) => field,
+        None => &[],
+    }
+}
+
+/// The eighth field of a line, or nothing where it has fewer.
+#[tactic(auto, using(crate::proofs::DataLaws::drop_more, crate::proofs::DataLaws::eighth_of))]
+fn eighth(line: &[u8]) -> &[u8]
+    ensures { result.now ≡ slice_index_or (pieces line.now) 7 [] }
+{
+    let mut fields = Fields::new(line);
+    for _ in 0..7u32 {
+        skip(&mut fields);
+    }
+    field_or_nothing(&mut fields)
+}
+
+/// Puts one byte everywhere.
+pub fn fill(byte: u8, into: &mut [u8])
+    ensures { IsFilled byte into.new }
+{
+    for place in into.iter_mut() {
+        *place = byte;
+    }
+}
+
+/// The byte at `at` of a sequence over blocks of 512 bytes.
+fn sequence_byte(first: u8, at: usize) -> u8
+    ensures { result ≡ (first + at / 512 + at % 512) % 256 }
+{
+    ((at / 512 % 256 + at % 512 + usize::from(first)) % 256) as u8
+}
+
+/// Puts a sequence.
+pub fn sequence(first: u8, into: &mut [u8])
+    ensures { IsSequence first into.new }
+{
+    for at in 0..into.len() {
+        into[at] = sequence_byte(first, at);
+    }
+}
+
+/// Puts the bytes that the digits of a line say; false exactly where there are not two digits for each byte.
+pub fn decode(text: &[u8], span: Span, into: &mut [u8]) -> bool
+    ensures { IsDecoded (slice_index_or (pieces (slice_range text.now span.start span.end)) 7 []) (length into.old) result into.new }
+{
+    hex::decode_to_slice(eighth(part(text, span)), into).is_ok()
+}

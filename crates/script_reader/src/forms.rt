@@ -1,0 +1,289 @@
+ghost use Rattle.std.specs.Prelude.{◌≡◌, ◌∷◌, ℕ, [], IfOk, ◌≤◌};
+ghost use Rattle.script_reader.specs.Fields.{changed};
+ghost use Rattle.script_reader.specs.Forms.{ends, mapped, start_form, last_form, tail_form, content_form, span_form, unit_form, read_form, write_form, turn_form, noise_form, fault_form, form_of, unit_number_form, adapter_form, Parses, none_left, whole};
+ghost use Rattle.script_reader.specs.Grammar.{too_late, said};
+ghost use Rattle.script_reader.specs.Knowing.{known_in};
+ghost use Rattle.script_reader.specs.declared.statement.Span.{Span};
+ghost use Rattle.script_reader.specs.Stored.{content_by, read_of};
+
+use crate::fault::ScriptKind;
+use crate::fields::{byte_field, check_digits, count_field, need, number_field, seq_field};
+use crate::known::Known;
+use crate::places::places;
+use crate::statement::{Content, Request, Span, Statement, Verb};
+use crate::words::{fault_field, kind_field, offset_field, part_field};
+use fire_code::Noise;
+use hardware_table::NoiseSpan;
+use mass_text::Fields;
+use pack_geometry::{blocks, geometry_of};
+
+/// What a line says, as it is read: the digits of a write are those of the line at a place of the text.
+pub type Read = Statement<Span, Noise>;
+
+/// `ID U PART BLOCK COUNT`
+#[tactic(auto, unfolding(crate::specs::Forms::start_form))]
+fn start(known: &Known, fields: &mut Fields) -> Result<Request, ScriptKind>
+    ensures form { Parses (start_form (known_in known.now)) fields.old result fields.new }
+    ensures count { IfOk result (λ request. request.count ≤ 127) }
+{
+    let id = known.id_field(need(fields)?)?;
+    let (unit, _) = known.unit_field(need(fields)?)?;
+    let part = part_field(need(fields)?)?;
+    let block = number_field(need(fields)?, 0, u32::MAX)?;
+    let count = count_field(need(fields)?)?;
+    Ok(Request {
+        id,
+        unit,
+        part,
+        block,
+        count,
+        offset: 0,
+        last: 512,
+    })
+}
+
+/// The end of a line.
+fn end(fields: &mut Fields) -> Result<(), ScriptKind>
+    ensures { Parses (ends tt) fields.old result fields.new }
+{
+    match fields.next() {
+        Some(_) => Err(ScriptKind::Word),
+        None => Ok(()),
+    }
+}
+
+/// `last M`, of which the first word was read, at the end of a line.
+#[tactic(auto, unfolding(crate::specs::Forms::last_form))]
+fn last(word: &[u8], fields: &mut Fields) -> Result<u32, ScriptKind>
+    ensures { Parses last_form (word.now ∷ fields.old) result fields.new }
+{
+    if word != b"last".as_slice() {
+        return Err(ScriptKind::Word);
+    }
+    let last = number_field(need(fields)?, 1, 512)?;
+    end(fields)?;
+    Ok(last)
+}
+
+/// `[last M]`, at the end of a line.
+#[tactic(auto, unfolding(crate::specs::Forms::last_form))]
+fn last_or_end(fields: &mut Fields) -> Result<u32, ScriptKind>
+    ensures { Parses last_form fields.old result fields.new }
+{
+    match fields.next() {
+        Some(word) => last(word, fields),
+        None => Ok(512),
+    }
+}
+
+/// `[off N] [last M]`, at the end of a line.
+#[tactic(auto, unfolding(crate::specs::Forms::tail_form, crate::specs::Forms::last_form))]
+fn tail(start: &Request, fields: &mut Fields) -> Result<Request, ScriptKind>
+    ensures { Parses (tail_form start.now) fields.old result fields.new }
+{
+    let Some(word) = fields.next() else {
+        return Ok(Request {
+            offset: 0,
+            last: 512,
+            ..*start
+        });
+    };
+    if word == b"off".as_slice() {
+        let offset = number_field(need(fields)?, 0, 511)?;
+        let last = last_or_end(fields)?;
+        return Ok(Request {
+            offset,
+            last,
+            ..*start
+        });
+    }
+    let last = last(word, fields)?;
+    Ok(Request {
+        offset: 0,
+        last,
+        ..*start
+    })
+}
+
+/// `fill HH`, `seq N` or `hex DIGITS`, on the line that stands at `span`.
+#[tactic(auto, unfolding(crate::specs::Forms::content_form))]
+fn content(count: u32, span: Span, fields: &mut Fields) -> Result<Content<Span>, ScriptKind>
+    requires { count ≤ 127 }
+    ensures { Parses (mapped (content_by (λ _. span)) (content_form count)) fields.old result fields.new }
+{
+    let word = need(fields)?;
+    if word == b"fill".as_slice() {
+        Ok(Content::Fill(byte_field(need(fields)?)?))
+    } else if word == b"seq".as_slice() {
+        Ok(Content::Seq(seq_field(need(fields)?)?))
+    } else if word == b"hex".as_slice() {
+        check_digits(count, need(fields)?)?;
+        Ok(Content::Hex(span))
+    } else {
+        Err(ScriptKind::Word)
+    }
+}
+
+/// `TIMES` or `until CODE`
+#[tactic(auto, unfolding(crate::specs::Forms::span_form))]
+fn noise_span(fields: &mut Fields) -> Result<NoiseSpan, ScriptKind>
+    ensures { Parses span_form fields.old result fields.new }
+{
+    let word = need(fields)?;
+    if word == b"until".as_slice() {
+        return Ok(NoiseSpan::Until(offset_field(need(fields)?)?));
+    }
+    Ok(NoiseSpan::Times(number_field(word, 1, 1000)?))
+}
+
+/// A unit that was declared.
+fn unit(known: &Known, fields: &mut Fields) -> Result<u8, ScriptKind>
+    ensures { Parses (unit_number_form (known_in known.now)) fields.old result fields.new }
+{
+    let (unit, _) = known.unit_field(need(fields)?)?;
+    Ok(unit)
+}
+
+/// An adapter.
+fn adapter(fields: &mut Fields) -> Result<u8, ScriptKind>
+    ensures { Parses adapter_form fields.old result fields.new }
+{
+    let adapter = number_field(need(fields)?, 0, 3)?;
+    Ok(adapter as u8)
+}
+
+fn unit_line(known: &Known, fields: &mut Fields) -> Result<Read, ScriptKind>
+    ensures { (span : Span) → Parses (mapped (read_of span) (unit_form (known_in known.now))) fields.old result fields.new }
+{
+    let unit = known.new_unit_field(need(fields)?)?;
+    let kind = kind_field(need(fields)?)?;
+    Ok(Statement::Unit { unit, kind })
+}
+
+fn read_line(known: &Known, fields: &mut Fields) -> Result<Read, ScriptKind>
+    ensures { (span : Span) → Parses (mapped (read_of span) (read_form (known_in known.now))) fields.old result fields.new }
+{
+    let start = start(known, fields)?;
+    let request = tail(&start, fields)?;
+    Ok(Statement::Read { request })
+}
+
+fn write_line(known: &Known, span: Span, fields: &mut Fields) -> Result<Read, ScriptKind>
+    ensures { Parses (mapped (read_of span) (write_form (known_in known.now))) fields.old result fields.new }
+{
+    let start = start(known, fields)?;
+    let content = content(start.count, span, fields)?;
+    let request = tail(&start, fields)?;
+    Ok(Statement::Write { request, content })
+}
+
+fn turn_line(known: &Known, fields: &mut Fields) -> Result<Read, ScriptKind>
+    ensures { (span : Span) → Parses (mapped (read_of span) (turn_form (known_in known.now))) fields.old result fields.new }
+{
+    let (unit, kind) = known.unit_field(need(fields)?)?;
+    let sector = number_field(need(fields)?, 0, geometry_of(kind).sectors - 1)?;
+    Ok(Statement::Turn { unit, sector })
+}
+
+fn noise_line(known: &Known, fields: &mut Fields) -> Result<Read, ScriptKind>
+    ensures { (span : Span) → Parses (mapped (read_of span) (noise_form (known_in known.now))) fields.old result fields.new }
+{
+    let (unit, kind) = known.unit_field(need(fields)?)?;
+    let block = number_field(need(fields)?, 0, blocks(kind) - 1)?;
+    let span = noise_span(fields)?;
+    let places = places(fields)?;
+    Ok(Statement::Noise {
+        unit,
+        block,
+        span,
+        places,
+    })
+}
+
+fn fault_line(known: &Known, fields: &mut Fields) -> Result<Read, ScriptKind>
+    ensures { (span : Span) → Parses (mapped (read_of span) (fault_form (known_in known.now))) fields.old result fields.new }
+{
+    let unit = unit(known, fields)?;
+    let what = fault_field(need(fields)?)?;
+    let times = number_field(need(fields)?, 1, 1000)?;
+    Ok(Statement::Fault { unit, what, times })
+}
+
+/// What the fields behind a word say.
+fn form(known: &Known, verb: Verb, span: Span, fields: &mut Fields) -> Result<Read, ScriptKind>
+    ensures { Parses (mapped (read_of span) (form_of (known_in known.now) verb)) fields.old result fields.new }
+{
+    match verb {
+        Verb::Unit => unit_line(known, fields),
+        Verb::Read => read_line(known, fields),
+        Verb::Write => write_line(known, span, fields),
+        Verb::Arrive => Ok(Statement::Arrive {
+            unit: unit(known, fields)?,
+        }),
+        Verb::Turn => turn_line(known, fields),
+        Verb::Move => Ok(Statement::Move {
+            adapter: adapter(fields)?,
+        }),
+        Verb::Attend => Ok(Statement::Attend {
+            adapter: adapter(fields)?,
+        }),
+        Verb::Noise => noise_line(known, fields),
+        Verb::Fault => fault_line(known, fields),
+        Verb::Offline => Ok(Statement::Offline {
+            unit: unit(known, fields)?,
+        }),
+        Verb::Online => Ok(Statement::Online {
+            unit: unit(known, fields)?,
+        }),
+        Verb::Lock => Ok(Statement::Lock {
+            unit: unit(known, fields)?,
+        }),
+        Verb::Unlock => Ok(Statement::Unlock {
+            unit: unit(known, fields)?,
+        }),
+        Verb::Drain => Ok(Statement::Drain),
+    }
+}
+
+/// What is wrong with a word, whatever the fields behind it.
+fn too_late(known: &Known, verb: Verb) -> Option<ScriptKind>
+    ensures { result ≡ too_late (known_in known.now) verb }
+{
+    if verb == Verb::Unit && known.is_later() {
+        return Some(ScriptKind::LateUnit);
+    }
+    if known.is_full(verb) {
+        return Some(ScriptKind::TooMany);
+    }
+    None
+}
+
+/// What was read, where no field is left.
+fn ended(read: Read, fields: &mut Fields) -> Result<Read, ScriptKind>
+    ensures { result ≡ none_left (read, fields.old) }
+{
+    match fields.next() {
+        Some(_) => Err(ScriptKind::Word),
+        None => Ok(read),
+    }
+}
+
+/// What all the fields behind a word say.
+fn whole(known: &Known, verb: Verb, span: Span, fields: &mut Fields) -> Result<Read, ScriptKind>
+    ensures { result ≡ changed (read_of span) (whole (form_of (known_in known.now) verb) fields.old) }
+{
+    match form(known, verb, span, fields) {
+        Ok(read) => ended(read, fields),
+        Err(kind) => Err(kind),
+    }
+}
+
+/// What a line with this word says.
+pub fn said(known: &Known, verb: Verb, span: Span, fields: &mut Fields) -> Result<Read, ScriptKind>
+    ensures { result ≡ changed (read_of span) (said (known_in known.now) verb fields.old) }
+{
+    match too_late(known, verb) {
+        Some(kind) => Err(kind),
+        None => whole(known, verb, span, fields),
+    }
+}

@@ -1,0 +1,15 @@
+// Scripts: the words of their lines, and the reader of a whole script.
+#![tactic(auto)]
+
+mod data;
+pub mod fault;
+mod fields;
+mod forms;
+mod known;
+mod lines;
+mod places;
+pub mod script;
+pub mod statement;
+#[cfg(test)]
+mod tests;
+mod words;

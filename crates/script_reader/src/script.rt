@@ -1,0 +1,288 @@
+ghost use Rattle.std.specs.Prelude.{◌≡◌, ◌⊎◌, ◌<◌, ◌≤◌, ◌+◌, ℕ, List, Ok, Some, IfOk, IfErr, OnOk, length, map, []};
+ghost use Rattle.std.specs.Option.{option_map};
+ghost use Rattle.script_reader.specs.declared.fault.ScriptKind.{ScriptKind};
+ghost use Rattle.script_reader.specs.declared.statement.Verb.{Verb};
+ghost use Rattle.script_reader.specs.Data.{IsData};
+ghost use Rattle.script_reader.specs.Fields.{and_then, changed};
+ghost use Rattle.script_reader.specs.Grammar.{entry, line_says, Spells, IsRefused};
+ghost use Rattle.script_reader.specs.Known.{Numbered};
+ghost use Rattle.script_reader.specs.Knowing.{known_in, Learns, LearnsFrom};
+ghost use Rattle.script_reader.specs.Lines.{lines_of};
+ghost use Rattle.script_reader.specs.Reading.{reading, Finds, Refuses};
+ghost use Rattle.script_reader.specs.Stored.{content_by, digits_at, renamed, read_of, seen, lines_in, StoresRead, Stores};
+ghost use Rattle.script_reader.specs.Words.{all_verbs};
+ghost use Rattle.mass_text.specs.Pieces.{pieces};
+ghost use Rattle.std.specs.Box.{box_value};
+
+use crate::data::{decode, fill, sequence};
+use crate::fault::{ReadFault, ScriptKind};
+use crate::forms::{Read, said};
+use crate::known::Known;
+use crate::lines::{first_piece, without_cr};
+use crate::statement::{Content, Line, Span, Statement};
+use crate::words::verb;
+use fire_code::Noise;
+use mass_text::Fields;
+use std::alloc::Global;
+use std::marker::Model;
+
+/// The longest script, in bytes: 16 MiB.
+const LONGEST: usize = 16_777_216;
+
+/// The largest number of lines in a script.
+const MOST_LINES: u32 = 1_000_000;
+
+/// The longest line, in bytes.
+const LONGEST_LINE: usize = 140_000;
+
+/// A line as a script holds it: the digits of a write are those of the line at a place of the text.
+pub type Stored = Line<Span, Box<Noise>>;
+
+/// A statement, where one was read.
+fn some_read(read: Result<Read, ScriptKind>) -> Result<Option<Read>, ScriptKind>
+    ensures { result ≡ and_then read (λ r. Ok (Some r)) }
+{
+    match read {
+        Ok(read) => Ok(Some(read)),
+        Err(kind) => Err(kind),
+    }
+}
+
+/// What fields say, on the line at `span` of the text; None where there is none.
+fn entry(known: &Known, span: Span, fields: &mut Fields) -> Result<Option<Read>, ScriptKind>
+    ensures { result ≡ changed (option_map (read_of span)) (entry all_verbs (known_in known.now) fields.old) }
+{
+    match fields.next() {
+        None => Ok(None),
+        Some(word) => match verb(word) {
+            Ok(verb) => some_read(said(known, verb, span, fields)),
+            Err(kind) => Err(kind),
+        },
+    }
+}
+
+/// What line number `number` says, at `span` of the text; None where it is passed over.
+fn line_says(
+    known: &Known,
+    number: u32,
+    span: Span,
+    line: &[u8],
+) -> Result<Option<Read>, ScriptKind>
+    ensures value { result ≡ changed (option_map (read_of span)) (line_says all_verbs (known_in known.now) number line.now) }
+    ensures number { OnOk result (number ≤ 1000000) }
+{
+    if number > MOST_LINES {
+        return Err(ScriptKind::TooMany);
+    }
+    if line.len() > LONGEST_LINE {
+        return Err(ScriptKind::LineLong);
+    }
+    if !line.is_empty() && line[0] == b'#' {
+        return Ok(None);
+    }
+    entry(known, span, &mut Fields::new(line))
+}
+
+/// A statement as a script holds it.
+fn kept(alloc: Global, read: Read) -> Result<Statement<Span, Box<Noise>>, ReadFault>
+    ensures ok { IfOk result (λ statement. renamed (λ span. span) box_value statement ≡ read) }
+    ensures err { IfErr result (λ fault. fault ≡ ReadFault.Memory) }
+{
+    Ok(match read {
+        Statement::Unit { unit, kind } => Statement::Unit { unit, kind },
+        Statement::Read { request } => Statement::Read { request },
+        Statement::Write { request, content } => Statement::Write { request, content },
+        Statement::Arrive { unit } => Statement::Arrive { unit },
+        Statement::Turn { unit, sector } => Statement::Turn { unit, sector },
+        Statement::Move { adapter } => Statement::Move { adapter },
+        Statement::Attend { adapter } => Statement::Attend { adapter },
+        Statement::Noise {
+            unit,
+            block,
+            span,
+            places,
+        } => Statement::Noise {
+            unit,
+            block,
+            span,
+            places: Box::new(alloc, places)?,
+        },
+        Statement::Fault { unit, what, times } => Statement::Fault { unit, what, times },
+        Statement::Offline { unit } => Statement::Offline { unit },
+        Statement::Online { unit } => Statement::Online { unit },
+        Statement::Lock { unit } => Statement::Lock { unit },
+        Statement::Unlock { unit } => Statement::Unlock { unit },
+        Statement::Drain => Statement::Drain,
+    })
+}
+
+/// Stores what was read of line number `number`.
+fn store(
+    alloc: Global,
+    number: u32,
+    read: Read,
+    known: &mut Known,
+    lines: &mut Vec<Stored>,
+) -> Result<(), ReadFault>
+    requires requests { known.old.requests < 1000000 }
+    requires noises { known.old.noises < 1000000 }
+    ensures learns { OnOk result (Learns (known_in known.old) (known_in known.new) read) }
+    ensures stores { OnOk result (StoresRead number read lines.old.items lines.new.items) }
+    ensures requests { OnOk result (known.new.requests ≤ known.old.requests + 1) }
+    ensures noises { OnOk result (known.new.noises ≤ known.old.noises + 1) }
+    ensures err { IfErr result (λ fault. fault ≡ ReadFault.Memory) }
+{
+    known.learn(&read)?;
+    let statement = kept(alloc, read)?;
+    lines.push(Line { number, statement })?;
+    Ok(())
+}
+
+/// Stores what was read of line number `number`, where it says something.
+fn store_some(
+    alloc: Global,
+    number: u32,
+    read: Option<Read>,
+    known: &mut Known,
+    lines: &mut Vec<Stored>,
+) -> Result<(), ReadFault>
+    requires requests { known.old.requests < 1000000 }
+    requires noises { known.old.noises < 1000000 }
+    ensures learns { OnOk result (LearnsFrom read (known_in known.old) (known_in known.new)) }
+    ensures stores { OnOk result (Stores number read lines.old.items lines.new.items) }
+    ensures requests { OnOk result (known.new.requests ≤ known.old.requests + 1) }
+    ensures noises { OnOk result (known.new.noises ≤ known.old.noises + 1) }
+    ensures err { IfErr result (λ fault. fault ≡ ReadFault.Memory) }
+{
+    match read {
+        None => Ok(()),
+        Some(read) => store(alloc, number, read, known, lines),
+    }
+}
+
+/// The lines that were read, and the number of the line behind the last.
+#[derive(Drop)]
+struct Lines {
+    lines: Vec<Stored>,
+    next: u32,
+}
+
+/// Reads the lines of a text.
+fn read_lines(alloc: Global, text: &[u8]) -> Result<Lines, ReadFault>
+    requires { length text.now ≤ 16777216 }
+    ensures ok { IfOk result (λ read. reading all_verbs [] 1 (lines_of text.now) ≡ Ok (record { lines = map (seen text.now) read.lines.items; next = read.next })) }
+    ensures some { IfOk result (λ read. 0 < read.next) }
+    ensures err { IfErr result (λ fault. Finds fault (reading all_verbs [] 1 (lines_of text.now))) }
+{
+    let mut lines = Vec::new(alloc);
+    let mut known = Known::new(alloc);
+    let mut number = 1;
+    let mut rest = text;
+    'lines: while !rest.is_empty() {
+        let start = text.len() - rest.len();
+        let (piece, after) = first_piece(rest);
+        let line = without_cr(piece);
+        let span = Span {
+            start,
+            end: start + line.len(),
+        };
+        match line_says(&known, number, span, line) {
+            Ok(read) => store_some(alloc, number, read, &mut known, &mut lines)?,
+            Err(kind) => {
+                return Err(ReadFault::Refused {
+                    line: u64::from(number),
+                    kind,
+                });
+            }
+        }
+        number += 1;
+        rest = after;
+    }
+    Ok(Lines {
+        lines,
+        next: number,
+    })
+}
+
+/// A script: its text, its lines that say something, and how many lines it has in all.
+#[derive(Drop)]
+pub struct Script {
+    text: Vec<u8>,
+    lines: Vec<Stored>,
+    count: u32,
+}
+
+impl Model for Script {
+    ghost use Rattle.script_reader.specs.Stored.{Stored};
+
+    ghost Value = { Stored };
+
+    ghost view = { λ s. record { text = s.text.items; lines = s.lines.items; count = s.count } };
+}
+
+/// Reads a script from its bytes. It is refused exactly where the bytes spell none, with the first fault: Refused at
+/// line 0 as ScriptLong for more than 16 MiB; else the first line that is faulty, and its kind. Memory tells only
+/// that there was none.
+pub fn read_script(alloc: Global, bytes: Vec<u8>) -> Result<Script, ReadFault>
+    ensures ok { IfOk result (λ script. Spells all_verbs bytes.items (lines_in script) script.count) }
+    ensures text { IfOk result (λ script. script.text ≡ bytes.items) }
+    ensures err { IfErr result (λ fault. Refuses all_verbs fault bytes.items) }
+{
+    if bytes.len() > LONGEST {
+        return Err(ReadFault::Refused {
+            line: 0,
+            kind: ScriptKind::ScriptLong,
+        });
+    }
+    match read_lines(alloc, bytes.as_slice()) {
+        Ok(read) => Ok(Script {
+            text: bytes,
+            lines: read.lines,
+            count: read.next - 1,
+        }),
+        Err(fault) => Err(fault),
+    }
+}
+
+impl Script {
+    /// The lines that say something, in order.
+    pub fn lines(&self) -> &[Stored]
+        ensures { result.now ≡ self.now.lines }
+    {
+        self.lines.as_slice()
+    }
+
+    /// How many lines there are in all, those that are passed over among them.
+    pub fn count(&self) -> u32
+        ensures { result ≡ self.now.count }
+    {
+        self.count
+    }
+
+    /// Puts what a write writes, in whole blocks: `into` has 512 bytes for each. False exactly where the digits are not two
+    /// for each byte.
+    pub fn data(&self, content: &Content<Span>, into: &mut [u8]) -> bool
+        ensures { IsData (content_by (digits_at self.now.text) content.now) (length into.old) result into.new }
+    {
+        match content {
+            Content::Fill(byte) => {
+                fill(*byte, into);
+                true
+            }
+            Content::Seq(first) => {
+                sequence(*first, into);
+                true
+            }
+            Content::Hex(span) => decode(self.text.as_slice(), *span, into),
+        }
+    }
+}
+
+/// The law of the grammar, for any words that are played: bytes spell one list of lines, or have one first fault,
+/// never both and never neither.
+pub fn grammar_law()
+    ensures one_script { (played : List Verb) (bytes : List ℕ) (lines others : List Numbered) (count other : ℕ) → Spells played bytes lines count → Spells played bytes others other → (lines ≡ others) × (count ≡ other) }
+    ensures no_fault { (played : List Verb) (bytes : List ℕ) (lines : List Numbered) (count : ℕ) → Spells played bytes lines count → (number : ℕ) (kind : ScriptKind) → ¬ IsRefused played bytes number kind }
+    ensures one_fault { (played : List Verb) (bytes : List ℕ) (number other : ℕ) (kind kind_other : ScriptKind) → IsRefused played bytes number kind → IsRefused played bytes other kind_other → (number ≡ other) × (kind ≡ kind_other) }
+    ensures some { (played : List Verb) (bytes : List ℕ) → ((lines : List Numbered) × (count : ℕ) × Spells played bytes lines count) ⊎ ((number : ℕ) × (kind : ScriptKind) × IsRefused played bytes number kind) }
+{}

@@ -1,0 +1,111 @@
+ghost use Rattle.std.specs.Prelude.{◌≡◌};
+ghost use Rattle.pack_geometry.specs.Geometry.{kind_word};
+ghost use Rattle.script_reader.specs.Fields.{some_or, kind_field, part_field, offset_field, fault_field};
+ghost use Rattle.script_reader.specs.Words.{named, verb_word, all_verbs};
+
+use crate::fault::ScriptKind;
+use crate::statement::Verb;
+use drive_registers::OffsetCode;
+use hardware_table::FaultKind;
+use pack_geometry::{DriveKind, kind_of};
+use partitions::{Part, part_of};
+
+/// The word at the front of a line.
+pub fn verb(word: &[u8]) -> Result<Verb, ScriptKind>
+    ensures { result ≡ some_or ScriptKind.Word (named verb_word all_verbs word.now) }
+{
+    if word == b"unit".as_slice() {
+        Ok(Verb::Unit)
+    } else if word == b"read".as_slice() {
+        Ok(Verb::Read)
+    } else if word == b"write".as_slice() {
+        Ok(Verb::Write)
+    } else if word == b"arrive".as_slice() {
+        Ok(Verb::Arrive)
+    } else if word == b"turn".as_slice() {
+        Ok(Verb::Turn)
+    } else if word == b"move".as_slice() {
+        Ok(Verb::Move)
+    } else if word == b"attend".as_slice() {
+        Ok(Verb::Attend)
+    } else if word == b"noise".as_slice() {
+        Ok(Verb::Noise)
+    } else if word == b"fault".as_slice() {
+        Ok(Verb::Fault)
+    } else if word == b"offline".as_slice() {
+        Ok(Verb::Offline)
+    } else if word == b"online".as_slice() {
+        Ok(Verb::Online)
+    } else if word == b"lock".as_slice() {
+        Ok(Verb::Lock)
+    } else if word == b"unlock".as_slice() {
+        Ok(Verb::Unlock)
+    } else if word == b"drain".as_slice() {
+        Ok(Verb::Drain)
+    } else {
+        Err(ScriptKind::Word)
+    }
+}
+
+/// A kind of drive.
+pub fn kind_field(word: &[u8]) -> Result<DriveKind, ScriptKind>
+    ensures { result ≡ kind_field word.now }
+{
+    match kind_of(word) {
+        Some(kind) => Ok(kind),
+        None => Err(ScriptKind::Word),
+    }
+}
+
+/// A partition's letter.
+pub fn part_field(word: &[u8]) -> Result<Part, ScriptKind>
+    ensures { result ≡ part_field word.now }
+{
+    if word.len() != 1 {
+        return Err(ScriptKind::Word);
+    }
+    match part_of(word[0]) {
+        Some(part) => Ok(part),
+        None => Err(ScriptKind::Word),
+    }
+}
+
+/// An offset of the heads.
+pub fn offset_field(word: &[u8]) -> Result<OffsetCode, ScriptKind>
+    ensures { result ≡ offset_field word.now }
+{
+    if word == b"+400".as_slice() {
+        Ok(OffsetCode::Plus400)
+    } else if word == b"-400".as_slice() {
+        Ok(OffsetCode::Minus400)
+    } else if word == b"+800".as_slice() {
+        Ok(OffsetCode::Plus800)
+    } else if word == b"-800".as_slice() {
+        Ok(OffsetCode::Minus800)
+    } else if word == b"+1200".as_slice() {
+        Ok(OffsetCode::Plus1200)
+    } else if word == b"-1200".as_slice() {
+        Ok(OffsetCode::Minus1200)
+    } else {
+        Err(ScriptKind::Word)
+    }
+}
+
+/// A kind of fault.
+pub fn fault_field(word: &[u8]) -> Result<FaultKind, ScriptKind>
+    ensures { result ≡ fault_field word.now }
+{
+    if word == b"seek".as_slice() {
+        Ok(FaultKind::Seek)
+    } else if word == b"opi".as_slice() {
+        Ok(FaultKind::Opi)
+    } else if word == b"dte".as_slice() {
+        Ok(FaultKind::Dte)
+    } else if word == b"hcrc".as_slice() {
+        Ok(FaultKind::Hcrc)
+    } else if word == b"late".as_slice() {
+        Ok(FaultKind::Late)
+    } else {
+        Err(ScriptKind::Word)
+    }
+}
