@@ -1,0 +1,17 @@
+pub mod Requests
+pub mod Script
+pub mod Moments
+pub mod Drives
+pub mod Adapters
+pub mod Packs
+pub mod Bytes
+pub mod Service
+pub mod Conversation
+pub mod Events
+pub mod Replay
+pub mod Rules
+pub mod Single
+pub mod Runs
+pub mod Frames
+pub mod Text
+pub mod Causes
