@@ -1,6 +1,6 @@
 -- The rules together, and lists of moments in parts.
 use Rattle.std.proofs.Common.{ℕ, List, [], ◌∷◌, ◌++◌}
-use Rattle.trace_replay.specs.Requests.{Answer}
+use Rattle.trace_replay.specs.Requests.{Rejection}
 use Rattle.trace_replay.specs.Moments.{Deed, Moment, Told, Played, Idle}
 use Rattle.trace_replay.specs.Events.{Wish, NoLine, DueLine, Arrival, SectorLine, Interrupt, Attention, Refusal, IdleLine}
 use Rattle.trace_replay.specs.Replay.{Replay, next_wish, LineMay, RefusalMay, ToldMay, InputMay, IdleMay, MayCome, after_moment, after_moments, Follows}
@@ -28,17 +28,17 @@ all_kept s line unit id deed keeps = record {
   at_work = keeps Work;
 }
 
-refusal_kept : (s : Replay) (line unit id : ℕ) (deed : Deed) (u i : ℕ) (answer : Answer) → RefusalMay s line unit id deed u i answer
-    → (rule : RuleName) → RefusalKeeps rule s line unit id deed u i answer
-refusal_kept s line unit id deed u i answer may Number = may.number
-refusal_kept s line unit id deed u i answer may Events = may.same_unit
-refusal_kept s line unit id deed u i answer may Service = may.same_id
-refusal_kept s line unit id deed u i answer may Conversation = may.answered
-refusal_kept s line unit id deed u i answer may rule = tt
+refusal_kept : (s : Replay) (line unit id : ℕ) (deed : Deed) (u i : ℕ) (why : Rejection) → RefusalMay s line unit id deed u i why
+    → (rule : RuleName) → RefusalKeeps rule s line unit id deed u i why
+refusal_kept s line unit id deed u i why may Number = may.number
+refusal_kept s line unit id deed u i why may Events = may.same_unit
+refusal_kept s line unit id deed u i why may Service = may.same_id
+refusal_kept s line unit id deed u i why may Conversation = may.answered
+refusal_kept s line unit id deed u i why may rule = tt
 
 told_kept : (wish : Wish) (s : Replay) (line unit id : ℕ) (deed : Deed) → ToldMay wish s line unit id deed
     → (rule : RuleName) → ToldKeeps rule wish s line unit id deed
-told_kept (Refusal u i answer) s line unit id deed may rule = refusal_kept s line unit id deed u i answer may rule
+told_kept (Refusal u i why) s line unit id deed may rule = refusal_kept s line unit id deed u i why may rule
 told_kept NoLine s line unit id deed may rule = kept s line unit id deed may rule
 told_kept (DueLine u) s line unit id deed may rule = kept s line unit id deed may rule
 told_kept (Arrival u) s line unit id deed may rule = kept s line unit id deed may rule
@@ -49,7 +49,7 @@ told_kept IdleLine s line unit id deed may rule = kept s line unit id deed may r
 
 told_all : (wish : Wish) (s : Replay) (line unit id : ℕ) (deed : Deed) → ((rule : RuleName) → ToldKeeps rule wish s line unit id deed)
     → ToldMay wish s line unit id deed
-told_all (Refusal u i answer) s line unit id deed keeps =
+told_all (Refusal u i why) s line unit id deed keeps =
     record { number = keeps Number; same_unit = keeps Events; same_id = keeps Service; answered = keeps Conversation }
 told_all NoLine s line unit id deed keeps = all_kept s line unit id deed keeps
 told_all (DueLine u) s line unit id deed keeps = all_kept s line unit id deed keeps

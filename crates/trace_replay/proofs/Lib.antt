@@ -3,5 +3,9 @@ pub mod OneTrace
 pub mod Following
 pub mod Unchanged
 pub mod Uses
-pub mod LockedEnds
+pub mod Histories
 pub mod ReadBytes
+pub mod Kept
+pub mod Explained
+pub mod Unusable
+pub mod AsSaid

@@ -10,7 +10,7 @@ use Rattle.hardware_table.specs.declared.Moved.TheVariants as verdict
 use Rattle.hardware_table.specs.Drive.{DriveState, is_writing}
 use Rattle.hardware_table.specs.Adapter.{AdapterState}
 use Rattle.hardware_table.specs.Moves.{stop_of, IsVerdict, IsVerdictBy, IsReadVerdict}
-use Rattle.trace_replay.specs.Requests.{Answer}
+use Rattle.trace_replay.specs.Requests.{Rejection}
 use Rattle.trace_replay.specs.Moments.{Deed, Search, Seek, Recal, Offset, Centre, Clear, Pack, Transfer, Arrive, Sector, Intr, Try, Attn, End}
 use Rattle.trace_replay.specs.Moments.{Played, Told, Idle}
 use Rattle.trace_replay.specs.Adapters.{AdapterMay}
@@ -82,7 +82,7 @@ unit_in (Arrival unit) = unit
 unit_in (SectorLine unit) = unit
 unit_in (Interrupt unit) = unit
 unit_in (Attention unit) = unit
-unit_in (Refusal unit id answer) = unit
+unit_in (Refusal unit id why) = unit
 unit_in IdleLine = 0
 
 sort_in : Wish → ℕ
@@ -92,7 +92,7 @@ sort_in (Arrival unit) = 0
 sort_in (SectorLine unit) = 1
 sort_in (Interrupt unit) = 2
 sort_in (Attention unit) = 3
-sort_in (Refusal unit id answer) = 5
+sort_in (Refusal unit id why) = 5
 sort_in IdleLine = 6
 
 unit_of_wish : (unit : ℕ) (deed : Deed) → unit_in (wish_of unit deed) ≡ unit
@@ -292,9 +292,9 @@ line_once s line unit id line' unit' id' deed deed' may may' =
         (record { talk = may.talk; adapter = may.adapter; verdict = may.verdict })
         (record { talk = moved.talk; adapter = moved.adapter; verdict = moved.verdict })
 
-refusal_once : (s : Replay) (line unit id line' unit' id' u i : ℕ) (answer : Answer) (deed deed' : Deed)
-    → RefusalMay s line unit id deed u i answer → RefusalMay s line' unit' id' deed' u i answer → Told line unit id deed ≡ Told line' unit' id' deed'
-refusal_once s line unit id line' unit' id' u i answer deed deed' may may' =
+refusal_once : (s : Replay) (line unit id line' unit' id' u i : ℕ) (why : Rejection) (deed deed' : Deed)
+    → RefusalMay s line unit id deed u i why → RefusalMay s line' unit' id' deed' u i why → Told line unit id deed ≡ Told line' unit' id' deed'
+refusal_once s line unit id line' unit' id' u i why deed deed' may may' =
     ap (λ x. Told x unit id deed) (may.number ∙ sym may'.number) ∙ ap (λ x. Told line' x id deed) (may.same_unit ∙ sym may'.same_unit)
     ∙ ap (λ x. Told line' unit' x deed) (may.same_id ∙ sym may'.same_id) ∙ ap (λ x. Told line' unit' id' x) (may.answered ∙ sym may'.answered)
 
@@ -307,7 +307,7 @@ told_once (SectorLine u) s line unit id line' unit' id' deed deed' may may' = li
 told_once (Interrupt u) s line unit id line' unit' id' deed deed' may may' = line_once s line unit id line' unit' id' deed deed' may may'
 told_once (Attention u) s line unit id line' unit' id' deed deed' may may' = line_once s line unit id line' unit' id' deed deed' may may'
 told_once IdleLine s line unit id line' unit' id' deed deed' may may' = line_once s line unit id line' unit' id' deed deed' may may'
-told_once (Refusal u i answer) s line unit id line' unit' id' deed deed' may may' = refusal_once s line unit id line' unit' id' u i answer deed deed' may may'
+told_once (Refusal u i why) s line unit id line' unit' id' deed deed' may may' = refusal_once s line unit id line' unit' id' u i why deed deed' may may'
 
 -- ---- a line of a unit, an idle line and a line of the script never come at once
 unfoldable pub is_told : Wish → ℕ
@@ -317,7 +317,7 @@ is_told (Arrival unit) = 1
 is_told (SectorLine unit) = 1
 is_told (Interrupt unit) = 1
 is_told (Attention unit) = 1
-is_told (Refusal unit id answer) = 1
+is_told (Refusal unit id why) = 1
 is_told IdleLine = 2
 
 told_is : (unit : ℕ) (deed : Deed) → is_told (wish_of unit deed) ≡ 1
@@ -346,7 +346,7 @@ told_wish (SectorLine u) s line unit id deed is may = ap is_told (sym is ∙ may
 told_wish (Interrupt u) s line unit id deed is may = ap is_told (sym is ∙ may.turn) ∙ told_is unit deed
 told_wish (Attention u) s line unit id deed is may = ap is_told (sym is ∙ may.turn) ∙ told_is unit deed
 told_wish IdleLine s line unit id deed is may = ap is_told (sym is ∙ may.turn) ∙ told_is unit deed
-told_wish (Refusal u i answer) s line unit id deed is may = refl
+told_wish (Refusal u i why) s line unit id deed is may = refl
 
 pub told_now : (s : Replay) (line unit id : ℕ) (deed : Deed) → MayCome s (Told line unit id deed) → is_told (next_wish s) ≡ 1
 told_now s line unit id deed may = told_wish (next_wish s) s line unit id deed refl may

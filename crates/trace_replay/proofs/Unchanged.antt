@@ -24,7 +24,7 @@ pub either : (R : Replay → Type 0) (b : Bool) (s t : Replay) → R s → R t �
 either R true s t otherwise then_so = then_so
 either R false s t otherwise then_so = otherwise
 
-drained_keeps : (R : Replay → Type 0) (s : Replay) → ((event : Event) → R (record s { event = event })) → R (drained s)
+pub drained_keeps : (R : Replay → Type 0) (s : Replay) → ((event : Event) → R (record s { event = event })) → R (drained s)
 drained_keeps R s all =
     either R (s.event.drains && (is_no_line (next_wish s) && nat_lt 0 s.outstanding)) s (record s { event = record s.event { between = true; act = act_drained s } })
     (all s.event) (all (record s.event { between = true; act = act_drained s }))
@@ -41,7 +41,7 @@ told_keeps R (SectorLine u) s unit deed same other = drained_keeps R (replay_tol
 told_keeps R (Interrupt u) s unit deed same other = drained_keeps R (replay_told s unit deed (unit_after s unit deed)) other
 told_keeps R (Attention u) s unit deed same other = drained_keeps R (replay_told s unit deed (unit_after s unit deed)) other
 told_keeps R IdleLine s unit deed same other = drained_keeps R (replay_told s unit deed (unit_after s unit deed)) other
-told_keeps R (Refusal u i answer) s unit deed same other = same (record s.event { act = Done })
+told_keeps R (Refusal u i why) s unit deed same other = same (record s.event { act = Done })
 
 pub one_unit : ChangesOneUnit
 one_unit s line unit id deed other apart =
@@ -98,7 +98,7 @@ surface_other s unit (Try b f) other at apart = refl
 surface_other s unit Attn other at apart = refl
 surface_other s unit (End a) other at apart = refl
 
-surface_marks : (s : Replay) (unit : ℕ) (deed : Deed) → (surface_after s unit deed).is_marked ≡ s.surface.is_marked
+pub surface_marks : (s : Replay) (unit : ℕ) (deed : Deed) → (surface_after s unit deed).is_marked ≡ s.surface.is_marked
 surface_marks s unit (Search c y) = refl
 surface_marks s unit (Seek c) = refl
 surface_marks s unit Recal = refl

@@ -1,7 +1,7 @@
 -- THE RULE OF EVENTS. What a line of the script sets going, whose line comes next in it, and when it is over.
 use Rattle.std.specs.Prelude.{ℕ, ◌&&◌, ◌||◌, Bool, true, false, if◌then◌else◌, List, [], ◌∷◌, find, drop, Option, None, Some}
 use Rattle.hardware_table.specs.Adapter.{AdapterState}
-use Rattle.trace_replay.specs.Requests.{Answer}
+use Rattle.trace_replay.specs.Requests.{Rejection}
 use Rattle.trace_replay.specs.Moments.{Deed, Arrive, Sector, Intr, Attn}
 use Rattle.trace_replay.specs.Adapters.{AdapterSeen, unit_of, attentive, can_move}
 
@@ -9,7 +9,7 @@ use Rattle.trace_replay.specs.Adapters.{AdapterSeen, unit_of, attentive, can_mov
 -- adapter; at an adapter the data interrupt, the attentions of some drives, and last its start; or an idle line.
 pub data Act : Type 0 where
   Done : Act
-  Refusing : (unit id : ℕ) (answer : Answer) → Act
+  Refusing : (unit id : ℕ) (why : Rejection) → Act
   Arriving : (unit : ℕ) → Act
   Trying : (adapter : ℕ) → Act
   Serving : (adapter : ℕ) (interrupt : Bool) (drives : List ℕ) → Act
@@ -32,7 +32,7 @@ pub data Wish : Type 0 where
   SectorLine : (unit : ℕ) → Wish
   Interrupt : (unit : ℕ) → Wish
   Attention : (unit : ℕ) → Wish
-  Refusal : (unit id : ℕ) (answer : Answer) → Wish
+  Refusal : (unit id : ℕ) (why : Rejection) → Wish
   IdleLine : Wish
 
 -- the sort of a line
@@ -61,7 +61,7 @@ wish_in_serving adapter a false (drive ∷ drives) = Attention (unit_of adapter 
 -- whose line an event brings next
 abbrev pub wish_in : (ℕ → AdapterSeen) → Act → Wish
 wish_in adapters Done = NoLine
-wish_in adapters (Refusing unit id answer) = Refusal unit id answer
+wish_in adapters (Refusing unit id why) = Refusal unit id why
 wish_in adapters (Arriving unit) = Arrival unit
 wish_in adapters (Trying adapter) = SectorLine (unit_of adapter (adapters adapter).state.drive)
 wish_in adapters (Serving adapter interrupt drives) = wish_in_serving adapter (adapters adapter) interrupt drives

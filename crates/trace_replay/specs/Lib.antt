@@ -14,4 +14,6 @@ pub mod Single
 pub mod Runs
 pub mod Frames
 pub mod Text
+pub mod History
+pub mod Conditions
 pub mod Causes

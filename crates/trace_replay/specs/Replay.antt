@@ -16,7 +16,7 @@ use Rattle.pack_model.specs.TableSpelling.{Table}
 use Rattle.hardware_table.specs.Drive.{DriveState, is_positioning}
 use Rattle.hardware_table.specs.Moves.{was_read}
 use Rattle.subsystem_spec.specs.ServiceOrder.{Service, empty_service}
-use Rattle.trace_replay.specs.Requests.{Request, Answer, OutsidePartition, EndOfPartition, NoFrames}
+use Rattle.trace_replay.specs.Requests.{Request, Rejection, AtEnd, Beyond, FramesShort, rejection_answer}
 use Rattle.trace_replay.specs.Script.{Input, Submit, ArriveAt, MoveAt, AttendTo, Drain, Turn, Noise, Arm, SetOnline, SetLocked}
 use Rattle.trace_replay.specs.Moments.{Deed, Sector, End, Moment, Played, Told, Idle}
 use Rattle.trace_replay.specs.Drives.{DriveMay, drive_after, drive_played, attached}
@@ -124,15 +124,15 @@ pub record LineMay (s : Replay) (line unit id : ℕ) (deed : Deed) : Type 0 wher
   pub at_work : WorkMay s.event.between s
 
 -- a request that is refused as it is submitted has its end line at once
-pub record RefusalMay (s : Replay) (line unit id : ℕ) (deed : Deed) (refused_unit refused_id : ℕ) (answer : Answer) : Type 0 where
+pub record RefusalMay (s : Replay) (line unit id : ℕ) (deed : Deed) (refused_unit refused_id : ℕ) (why : Rejection) : Type 0 where
   pub number : line ≡ s.event.line
   pub same_unit : unit ≡ refused_unit
   pub same_id : id ≡ refused_id
-  pub answered : deed ≡ End answer
+  pub answered : deed ≡ End (rejection_answer why)
 
 -- a refusal where one is due; else a line that keeps the rules
 abbrev pub ToldMay : Wish → Replay → ℕ → ℕ → ℕ → Deed → Type 0
-ToldMay (Refusal refused_unit refused_id answer) s line unit id deed = RefusalMay s line unit id deed refused_unit refused_id answer
+ToldMay (Refusal refused_unit refused_id why) s line unit id deed = RefusalMay s line unit id deed refused_unit refused_id why
 ToldMay wish s line unit id deed = LineMay s line unit id deed
 
 -- a line of the script comes where the event before it is over (a drain's where no request is outstanding) and all units are at
@@ -233,7 +233,7 @@ act_done s = record s { event = record s.event { act = Done } }
 
 -- the replay after a line: a refusal changes nothing
 abbrev pub told_after : Wish → Replay → ℕ → Deed → Replay
-told_after (Refusal refused_unit refused_id answer) s unit deed = act_done s
+told_after (Refusal refused_unit refused_id why) s unit deed = act_done s
 told_after wish s unit deed = drained (replay_told s unit deed (unit_after s unit deed))
 
 -- WHAT A LINE OF THE SCRIPT LEAVES. A request that finds its frames joins its unit's queue, and begins where none was there.
@@ -267,18 +267,18 @@ joined_by s r u = record s {
 
 -- WHAT A REQUEST MEETS as it is submitted: its partition refuses it, or its frames are not there, or it joins.
 pub data Submission : Type 0 where
-  Refused : (answer : Answer) → Submission
+  Refused : (why : Rejection) → Submission
   Joined : Submission
 
 -- inside its partition, where its frames are there or not
 abbrev pub submission_inside : Bool → Submission
 submission_inside true = Joined
-submission_inside false = Refused NoFrames
+submission_inside false = Refused FramesShort
 
 -- by its partition and the frames that are there
 abbrev pub submission_by : Admission → Bool → Submission
-submission_by Eof frames = Refused EndOfPartition
-submission_by Outside frames = Refused OutsidePartition
+submission_by Eof frames = Refused AtEnd
+submission_by Outside frames = Refused Beyond
 submission_by (Inside first) frames = submission_inside frames
 
 -- by the request's own unit, partition, block and count
@@ -287,7 +287,7 @@ submission s r = submission_by (admission (s.units r.unit).drive.kind r.part r.b
 
 -- the replay with a request, where it joins
 abbrev pub submitted : Replay → Request → Submission → Replay
-submitted s r (Refused answer) = s
+submitted s r (Refused why) = s
 submitted s r Joined = joined_by s r (unit_joined (s.units r.unit) r)
 
 -- the replay after a line that changes a condition of a drive, or arms noise
@@ -303,7 +303,7 @@ attend_act adapter a = if can_attend a.state then serving adapter a.state else N
 
 -- a request that joins is followed by its adapter's start
 abbrev pub act_submitted : Request → Submission → Act
-act_submitted r (Refused answer) = Refusing r.unit r.id answer
+act_submitted r (Refused why) = Refusing r.unit r.id why
 act_submitted r Joined = Serving (adapter_of r.unit) false []
 
 -- what a line of the script is to do

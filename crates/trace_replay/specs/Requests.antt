@@ -45,3 +45,16 @@ pub data Answer : Type 0 where
   EndOfPartition : Answer
   NoFrames : Answer
   Failed : (cause : Cause) (done : ℕ) → Answer
+
+-- Why a request is refused as it is submitted: it begins at the very end of its partition, or reaches beyond it, or its frames
+-- are not there.
+pub data Rejection : Type 0 where
+  AtEnd : Rejection
+  Beyond : Rejection
+  FramesShort : Rejection
+
+-- how that is answered
+abbrev pub rejection_answer : Rejection → Answer
+rejection_answer AtEnd = EndOfPartition
+rejection_answer Beyond = OutsidePartition
+rejection_answer FramesShort = NoFrames

@@ -1,6 +1,6 @@
 -- The rules by their names, and rows that are refused: behind a legal beginning a moment that one rule does not let come.
 use Rattle.std.specs.Prelude.{◌≡◌, ◌≢◌, ◌↔◌, ◌++◌, ◌&&◌, ℕ, nat_lt, true, false, List, take}
-use Rattle.trace_replay.specs.Requests.{Answer}
+use Rattle.trace_replay.specs.Requests.{Rejection, rejection_answer}
 use Rattle.trace_replay.specs.Moments.{Deed, End, Moment, Played, Told, Idle}
 use Rattle.trace_replay.specs.Events.{Wish, NoLine, IdleLine, Refusal, wish_of}
 use Rattle.trace_replay.specs.Service.{ServiceMay, in_hand, target_of}
@@ -33,16 +33,16 @@ LineKeeps Packs s line unit id deed = VerdictMay s.surface unit (s.units unit).d
 LineKeeps Work s line unit id deed = WorkMay s.event.between s
 
 -- the end line of a refusal keeps it: its number, its unit, its id and its answer are each one rule's
-abbrev pub RefusalKeeps : RuleName → Replay → ℕ → ℕ → ℕ → Deed → ℕ → ℕ → Answer → Type 0
-RefusalKeeps Number s line unit id deed refused_unit refused_id answer = line ≡ s.event.line
-RefusalKeeps Events s line unit id deed refused_unit refused_id answer = unit ≡ refused_unit
-RefusalKeeps Service s line unit id deed refused_unit refused_id answer = id ≡ refused_id
-RefusalKeeps Conversation s line unit id deed refused_unit refused_id answer = deed ≡ End answer
-RefusalKeeps rule s line unit id deed refused_unit refused_id answer = Unit {0}
+abbrev pub RefusalKeeps : RuleName → Replay → ℕ → ℕ → ℕ → Deed → ℕ → ℕ → Rejection → Type 0
+RefusalKeeps Number s line unit id deed refused_unit refused_id why = line ≡ s.event.line
+RefusalKeeps Events s line unit id deed refused_unit refused_id why = unit ≡ refused_unit
+RefusalKeeps Service s line unit id deed refused_unit refused_id why = id ≡ refused_id
+RefusalKeeps Conversation s line unit id deed refused_unit refused_id why = deed ≡ End (rejection_answer why)
+RefusalKeeps rule s line unit id deed refused_unit refused_id why = Unit {0}
 
 -- a line of the trace: that of a refusal where one is due, else a line that a unit comes to
 abbrev pub ToldKeeps : RuleName → Wish → Replay → ℕ → ℕ → ℕ → Deed → Type 0
-ToldKeeps rule (Refusal refused_unit refused_id answer) s line unit id deed = RefusalKeeps rule s line unit id deed refused_unit refused_id answer
+ToldKeeps rule (Refusal refused_unit refused_id why) s line unit id deed = RefusalKeeps rule s line unit id deed refused_unit refused_id why
 ToldKeeps rule wish s line unit id deed = LineKeeps rule s line unit id deed
 
 -- a line of the script: that the event before it is over is the rule of events; that all are at work is one of its own, which

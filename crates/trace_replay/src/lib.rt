@@ -6,7 +6,8 @@
 ghost use Rattle.trace_replay.specs.Rules.{KeepsEach, FollowOn};
 ghost use Rattle.trace_replay.specs.Bytes.{ReadsAsTold, RepairsBursts};
 ghost use Rattle.trace_replay.specs.Frames.{ChangesOneUnit, ChangesOneAdapter, ChangesOnePack, ChangesNoMark};
-ghost use Rattle.trace_replay.specs.Causes.{StartsPossible, StaysPossible, LockedCause};
+ghost use Rattle.trace_replay.specs.Conditions.{IsAsSaid};
+ghost use Rattle.trace_replay.specs.Causes.{AreExplained, AreUnusable};
 ghost use Rattle.trace_replay.specs.Single.{OneStep, OneTrace};
 ghost use Rattle.trace_replay.specs.Runs.{OneRun, OneText, OnePacks};
 
@@ -30,12 +31,17 @@ pub fn bytes_law()
     ensures repaired { RepairsBursts }
 {}
 
-/// Where each stage is possible, as at the start and ever after, a request ends `locked` only in place of a WCOM that was due,
-/// on a unit that is online and locked.
+/// Whether a unit is online, and whether it is locked, is what the script said last.
+pub fn condition_law()
+    ensures { IsAsSaid }
+{}
+
+/// Each answer is explained by the lines of its request, its unit as its end comes, and the table of its pack: an error of a cause
+/// exactly where that cause holds, and ok exactly where all its blocks are done. Where it ends unforwarded, its first block
+/// not done has no home on its pack.
 pub fn cause_law()
-    ensures start { StartsPossible }
-    ensures stays { StaysPossible }
-    ensures locked { LockedCause }
+    ensures explained { AreExplained }
+    ensures unusable { AreUnusable }
 {}
 
 /// From one state at most one line may come. So for one script over the same packs at most one trace is legal, with its text and
