@@ -178,7 +178,7 @@ never_waiting h (Saying rest next) deed lines f is = no is
 never_waiting h (Ending answer) deed lines f is = no is
 
 -- a unit's next stage
-abbrev UnitTold : UnitSeen → Deed → DriveState → Progress → Service Request → UnitSeen
+abbrev pub UnitTold : UnitSeen → Deed → DriveState → Progress → Service Request → UnitSeen
 UnitTold u deed d p service = record {
   drive = d;
   service = service;
@@ -200,7 +200,7 @@ goes_with u deed d p lines is f held fits = record {
 }
 
 -- the end of a request that joined is no refusal
-abbrev EndKept : Deed → Type 0
+abbrev pub EndKept : Deed → Type 0
 EndKept (End answer) = is_refusal answer ≡ false
 EndKept deed = Unit {0}
 
@@ -224,7 +224,7 @@ answer_kept h OutsidePartition lines f = absurd f
 answer_kept h EndOfPartition lines f = absurd f
 answer_kept h NoFrames lines f = absurd f
 
-end_kept : (d : DriveState) (h : Hand) (stage : Stage) (deed : Deed) (lines : List Deed) → due d h stage ≡ Some deed → Fits h stage lines → EndKept deed
+pub end_kept : (d : DriveState) (h : Hand) (stage : Stage) (deed : Deed) (lines : List Deed) → due d h stage ≡ Some deed → Fits h stage lines → EndKept deed
 end_kept d h Waiting deed lines is f = absurd (none-some deed is)
 end_kept d h (Steps [] segment) deed lines is f =
     guard_holds EndKept d.online (is_write h && d.locked) d.valid h.progress.done (transfer_of segment h) deed
@@ -308,7 +308,7 @@ first_stays : (c : Request → ℕ) (r : Request) (t : ℕ) (y : Waiter Request)
     → is_before y (newcomer c r t (y ∷ ys)) ≡ true
 first_stays c r t y ys p = grind (arith, nat_tests)
 
-head_stays : (c : Request → ℕ) (r : Request) (n : ℕ) (waiting : List (Waiter Request)) → IsService c (record { waiting = waiting; joined = n }) → IsHeld waiting
+pub head_stays : (c : Request → ℕ) (r : Request) (n : ℕ) (waiting : List (Waiter Request)) → IsService c (record { waiting = waiting; joined = n }) → IsHeld waiting
     → first_waiting (put (newcomer c r n waiting) waiting) ≡ first_waiting waiting
 head_stays c r n [] is held = absurd held
 head_stays c r n (y ∷ ys) is held =
@@ -342,7 +342,7 @@ never_empty (Saying rest next) d r is = no is
 never_empty (Ending answer) d r is = no is
 
 -- the hand over a queue
-abbrev HandOver : DriveKind → Progress → Option Table → List (Waiter Request) → Hand
+abbrev pub HandOver : DriveKind → Progress → Option Table → List (Waiter Request) → Hand
 HandOver kind p table waiting = record { kind = kind; request = request_or_none (first_waiting waiting); progress = p; table = table }
 
 fits_joined : (stage : Stage) (d : DriveState) (service : Service Request) (p : Progress) (table : Option Table) (r : Request) (lines : List Deed) → 1 ≤ r.count
@@ -419,7 +419,7 @@ line_keeps s line unit id deed lines may all =
     (after_kind (s.units unit).drive (at_unit s unit).state (target_of (s.units unit).drive.kind (in_hand (s.units unit).service)) deed)
     (all unit) (held_by (s.units unit).service.waiting id may.service) may.talk
 
-line_all : (s : Replay) (line unit id : ℕ) (deed : Deed) (lines : ℕ → List Deed) → LineMay s line unit id deed → AllFit s lines
+pub line_all : (s : Replay) (line unit id : ℕ) (deed : Deed) (lines : ℕ → List Deed) → LineMay s line unit id deed → AllFit s lines
     → AllFit (replay_told s unit deed (unit_after s unit deed)) (λ x. lines_after x (Told line unit id deed) (lines x))
 line_all s line unit id deed lines may all x =
     elim (eqb_tells x unit) [
@@ -441,7 +441,7 @@ refusal_all s line unit id why lines all x = at (x == unit)
     at true = subst (λ z. UnitFits (s.units x) (if z then lines x else [])) (sym (refused_is why)) (all x)
     at false = all x
 
-told_all : (wish : Wish) (s : Replay) (line unit id : ℕ) (deed : Deed) (lines : ℕ → List Deed) → ToldMay wish s line unit id deed → AllFit s lines
+pub told_all : (wish : Wish) (s : Replay) (line unit id : ℕ) (deed : Deed) (lines : ℕ → List Deed) → ToldMay wish s line unit id deed → AllFit s lines
     → AllFit (told_after wish s unit deed) (λ x. lines_after x (Told line unit id deed) (lines x))
 told_all (Refusal u i why) s line unit id deed lines may all =
     subst (λ z. AllFit (told_after (Refusal u i why) s unit deed) (λ x. lines_after x (Told line unit id z) (lines x))) (sym may.answered) (refusal_all s line unit id why lines all)
@@ -471,7 +471,7 @@ pub submitted_all : (s : Replay) (r : Request) (met : Submission) (lines : ℕ �
 submitted_all s r (Refused why) lines some all = all
 submitted_all s r Joined lines some all = λ x. one_joins s lines r.unit (unit_joined (s.units r.unit) r) x (joined (s.units r.unit) r (lines r.unit) some (all r.unit)) all
 
-played_all : (s : Replay) (input : Input) (lines : ℕ → List Deed) → AsksSome input → AllFit s lines → AllFit (replay_played s input) lines
+pub played_all : (s : Replay) (input : Input) (lines : ℕ → List Deed) → AsksSome input → AllFit s lines → AllFit (replay_played s input) lines
 played_all s (Submit r) lines some all = submitted_all s r (submission s r) lines some all
 played_all s (Turn u y) lines some all = λ x. with_drive (s.units x) (drive_played x (s.units x).drive (Turn u y)) (lines x) (played_kind x (s.units x).drive (Turn u y)) (all x)
 played_all s (Noise n) lines some all = λ x. with_drive (s.units x) (drive_played x (s.units x).drive (Noise n)) (lines x) (played_kind x (s.units x).drive (Noise n)) (all x)

@@ -9,3 +9,4 @@ pub mod Kept
 pub mod Explained
 pub mod Unusable
 pub mod AsSaid
+pub mod Smooth

@@ -17,3 +17,4 @@ pub mod Text
 pub mod History
 pub mod Conditions
 pub mod Causes
+pub mod Bounds

@@ -6,6 +6,7 @@
 ghost use Rattle.trace_replay.specs.Rules.{KeepsEach, FollowOn};
 ghost use Rattle.trace_replay.specs.Bytes.{ReadsAsTold, RepairsBursts};
 ghost use Rattle.trace_replay.specs.Frames.{ChangesOneUnit, ChangesOneAdapter, ChangesOnePack, ChangesNoMark};
+ghost use Rattle.trace_replay.specs.Bounds.{OneTransfer};
 ghost use Rattle.trace_replay.specs.Conditions.{IsAsSaid};
 ghost use Rattle.trace_replay.specs.Causes.{AreExplained, AreUnusable};
 ghost use Rattle.trace_replay.specs.Single.{OneStep, OneTrace};
@@ -42,6 +43,11 @@ pub fn condition_law()
 pub fn cause_law()
     ensures explained { AreExplained }
     ensures unusable { AreUnusable }
+{}
+
+/// A request that is answered ok, and all of whose sectors are clean, has one transfer command and at most one search.
+pub fn bounds_law()
+    ensures { OneTransfer }
 {}
 
 /// From one state at most one line may come. So for one script over the same packs at most one trace is legal, with its text and
