@@ -10,3 +10,4 @@ pub mod Explained
 pub mod Unusable
 pub mod AsSaid
 pub mod Smooth
+pub mod RunExplained

@@ -11,10 +11,10 @@ pub mod Events
 pub mod Replay
 pub mod Rules
 pub mod Single
-pub mod Runs
 pub mod Frames
 pub mod Text
 pub mod History
 pub mod Conditions
 pub mod Causes
 pub mod Bounds
+pub mod Runs

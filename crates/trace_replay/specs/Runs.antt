@@ -1,15 +1,18 @@
 -- A RUN: a script played over packs.
-use Rattle.std.specs.Prelude.{◌≡◌, ℕ, ◌<◌, ◌*◌, List, drop, Option, None, Some}
+use Rattle.std.specs.Prelude.{◌≡◌, ℕ, ◌<◌, ◌*◌, List, drop, Option, None, Some, ◌++◌, ◌∷◌, false}
 use Rattle.pack_geometry.specs.declared.DriveKind.{DriveKind}
 use Rattle.pack_geometry.specs.Geometry.{block_count}
 use Rattle.pack_model.specs.Pack as model
 use Rattle.pack_model.specs.TableSpelling.{Table}
 use Rattle.pack_model.specs.PackTable.{AreTablesOf}
 use Rattle.trace_replay.specs.Script.{Script, IsScript, drives_of, inputs_of}
-use Rattle.trace_replay.specs.Moments.{Moment, played, answers_in}
+use Rattle.trace_replay.specs.Requests.{Answer}
+use Rattle.trace_replay.specs.Moments.{Moment, Told, End, played, answers_in}
 use Rattle.trace_replay.specs.Packs.{surface_of}
 use Rattle.trace_replay.specs.Replay.{Replay, new_replay, after_moments, Legal, AreLeft}
 use Rattle.trace_replay.specs.Text.{trace_text}
+use Rattle.trace_replay.specs.History.{is_refusal, lines_of}
+use Rattle.trace_replay.specs.Causes.{IsExplained}
 
 -- the start: the drives that the script declares, with the tables of their packs and what these hold
 abbrev pub start_of : Script → (ℕ → Option Table) → (ℕ → model.Pack) → Replay
@@ -55,3 +58,9 @@ abbrev pub OnePacks : Type 0
 OnePacks = (script : Script) (tables : ℕ → Option Table) (old new new' : ℕ → model.Pack) (ms ns : List Moment)
     → IsLegalRun script tables old new ms → IsLegalRun script tables old new' ns
     → (unit : ℕ) → AreSameAt (drives_of script unit) (new unit) (new' unit)
+
+-- EACH ANSWER of a legal run is explained.
+abbrev pub RunExplained : Type 0
+RunExplained = (script : Script) (tables : ℕ → Option Table) (old new : ℕ → model.Pack) (ms ns : List Moment) (line unit id : ℕ) (answer : Answer)
+    → IsLegalRun script tables old new (ms ++ Told line unit id (End answer) ∷ ns) → is_refusal answer ≡ false
+    → IsExplained ((after_moments (start_of script tables old) ms).units unit) (lines_of unit ms) answer

@@ -10,7 +10,7 @@ ghost use Rattle.trace_replay.specs.Bounds.{OneTransfer};
 ghost use Rattle.trace_replay.specs.Conditions.{IsAsSaid};
 ghost use Rattle.trace_replay.specs.Causes.{AreExplained, AreUnusable};
 ghost use Rattle.trace_replay.specs.Single.{OneStep, OneTrace};
-ghost use Rattle.trace_replay.specs.Runs.{OneRun, OneText, OnePacks};
+ghost use Rattle.trace_replay.specs.Runs.{OneRun, OneText, OnePacks, RunExplained};
 
 /// A moment may come exactly where it keeps each rule; and lists of moments that follow are those that follow in any two parts.
 pub fn parts_law()
@@ -42,6 +42,7 @@ pub fn condition_law()
 /// not done has no home on its pack.
 pub fn cause_law()
     ensures explained { AreExplained }
+    ensures run { RunExplained }
     ensures unusable { AreUnusable }
 {}
 
