@@ -1,2 +1,3 @@
 pub mod BookLaws
 pub mod EntryLaws
+pub mod MoveLaws

@@ -10,7 +10,9 @@ ghost use Rattle.hardware_table.specs.Events.{arrived, attention_cleared, transf
 mod moves;
 
 use bitflags::Flags;
-use drive_registers::{Ds, Er1, Er2, Function, Of, code_of};
+use drive_registers::{
+    Ds, Er1, Er2, Function, OFFSET_CODE, Of, RM03_TYPE, RM05_TYPE, RP06_TYPE, code_of,
+};
 use hardware_table::{Armed, FaultKind, Register, Work};
 use pack_geometry::{DriveKind, geometry_of};
 use std::marker::Model;
@@ -124,7 +126,9 @@ impl Drive {
             Function::Search => self.position(self.dc, Some((self.da % 256) as u8)),
             Function::Recal => self.position(0, None),
             Function::Offset => self.position(self.cc, None),
-            Function::Centre => self.offset = Of::from_bits_retain(self.offset.bits() & 0o177400),
+            Function::Centre => self.offset = Of::from_bits_retain(
+                self.offset.bits() & !OFFSET_CODE,
+            ),
             Function::Clear => self.clear(),
             Function::Preset => self.preset(),
             Function::Pack => self.valid = true,
@@ -332,8 +336,8 @@ fn type_word(kind: DriveKind) -> u16
     ensures { result ≡ type_word kind }
 {
     match kind {
-        DriveKind::Rp06 => 0o020022,
-        DriveKind::Rm03 => 0o020024,
-        DriveKind::Rm05 => 0o020027,
+        DriveKind::Rp06 => RP06_TYPE,
+        DriveKind::Rm03 => RM03_TYPE,
+        DriveKind::Rm05 => RM05_TYPE,
     }
 }

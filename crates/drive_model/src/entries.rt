@@ -5,7 +5,7 @@ ghost use Rattle.hardware_table.specs.Noise.{sector_number, is_ended_by, span_le
 ghost use Rattle.drive_model.specs.declared.entries.Entry.{Entry};
 ghost use Rattle.drive_model.specs.Book.{noise_of, live_of, number_of, is_entry_at, is_entry_behind, AreInOrder, IsFirst, IsNowhere, with_entry, with_used};
 
-use drive_registers::offset_word;
+use drive_registers::{OFFSET_CODE, offset_word};
 use fire_code::Noise;
 use hardware_table::NoiseSpan;
 
@@ -31,7 +31,7 @@ fn is_ended_by(span: NoiseSpan, word: u16) -> bool
 {
     match span {
         NoiseSpan::Times(_) => false,
-        NoiseSpan::Until(code) => offset_word(code) == word & 0o377,
+        NoiseSpan::Until(code) => offset_word(code) == word & OFFSET_CODE,
     }
 }
 

@@ -1,8 +1,10 @@
-ghost use Rattle.std.specs.Prelude.{◌≡◌, true};
+ghost use Rattle.std.specs.Prelude.{◌≡◌, ◌<◌, true};
+ghost use Rattle.pack_geometry.specs.Geometry.{block_count};
+ghost use Rattle.main_memory.specs.Windows.{memory_name};
 ghost use Rattle.hardware_table.specs.Drive.{is_transferring};
 
 use crate::{Drive, FaultKind, Moved, NoiseBook, NoiseSpan, Register};
-use drive_registers::Function;
+use drive_registers::{Function, OffsetCode};
 use fire_code::Noise;
 use main_memory::{MainMemory, Window, to_bus};
 use mass_outside::mem_packs::{FailCall, MemPacks, PackOp};
@@ -20,6 +22,7 @@ enum Trial {
     Mark,
     Noise(&'static [u16]),
     Write,
+    MarkedWrite,
 }
 
 // A drive with a transfer under way.
@@ -33,7 +36,7 @@ fn transferring(kind: DriveKind, trial: Trial) -> Drive
         _ => {}
     }
     match trial {
-        Trial::Write => drive.go(Function::Write),
+        Trial::Write | Trial::MarkedWrite => drive.go(Function::Write),
         _ => drive.go(Function::Read),
     }
     match trial {
@@ -78,7 +81,7 @@ fn noise(places: &'static [u16], verdict: Moved, er1: u16) -> Row {
     )
 }
 
-fn rows(kind: DriveKind) -> [Row; 11] {
+fn rows(kind: DriveKind) -> [Row; 12] {
     let short = Moved::Burst {
         at: 4091,
         pattern: 0o2001,
@@ -96,6 +99,13 @@ fn rows(kind: DriveKind) -> [Row; 11] {
         fault(FaultKind::Late, 0, 0),
         made(Trial::Mark, Moved::Marked, first, second, &[PackOp::Marked]),
         made(
+            Trial::MarkedWrite,
+            Moved::Marked,
+            first,
+            second,
+            &[PackOp::Marked],
+        ),
+        made(
             Trial::Write,
             Moved::Clean,
             0,
@@ -111,7 +121,7 @@ fn rows(kind: DriveKind) -> [Row; 11] {
 // Packs of unit 4 with two blocks, of which the first is marked or not.
 fn packs_with(alloc: Global, trial: Trial, fail: Option<PackOp>) -> Result<MemPacks, Fail> {
     let mark = match trial {
-        Trial::Mark => 1,
+        Trial::Mark | Trial::MarkedWrite => 1,
         _ => 0,
     };
     let mut images = Vec::new(alloc);
@@ -149,7 +159,9 @@ fn try_row(
     if fail.is_some() {
         assert!(rt; verdict.is_err());
         assert_eq!(rt; drive.read_register(Register::Er1), 0);
-        assert_eq!(rt; window.get(511), 0x77);
+        let mut left = [0; 512];
+        window.copy_out(&mut left);
+        assert!(rt; left == [0x77; 512]);
         verdict = drive.move_sector(&mut packs, 4, 0, &mut book, window);
     }
     assert!(rt; verdict == Ok(row.verdict));
@@ -161,7 +173,7 @@ fn try_row(
 #[test]
 fn verdicts(rt: HostRuntime) -> Result<(), Fail> {
     let mut memory = MainMemory::new(rt.alloc())?;
-    let buffer = to_bus(memory.lend(1, 0)?);
+    let buffer = to_bus(memory.lend(1, 0, 512)?);
     let mut window = memory.window(&buffer, 0);
     for kind in [DriveKind::Rp06, DriveKind::Rm03, DriveKind::Rm05] {
         for row in rows(kind) {
@@ -169,6 +181,161 @@ fn verdicts(rt: HostRuntime) -> Result<(), Fail> {
             for call in row.calls {
                 try_row(&rt, rt.alloc(), kind, row, Some(*call), &mut window)?;
             }
+        }
+    }
+    Ok(())
+}
+
+// What a function leaves on a drive whose volume is valid, with 0o2007 in Da and 0o10260 in Of: the function, the word
+// in Dc, and whether the drive is locked; Er1, Ds and Of; and Ds, Cc and La after the arrival, where there is one.
+type Done = (Function, u16, bool, [u16; 3], [u16; 3]);
+
+const FUNCTIONS: [Done; 8] = [
+    (
+        Function::Nop,
+        5,
+        false,
+        [0, 0o10700, 0o10260],
+        [0o10700, 0, 0],
+    ),
+    (
+        Function::Seek,
+        5,
+        false,
+        [0, 0o30500, 0o10260],
+        [0o110700, 5, 0],
+    ),
+    (
+        Function::Search,
+        5,
+        false,
+        [0, 0o30500, 0o10260],
+        [0o110700, 5, 0o700],
+    ),
+    (
+        Function::Search,
+        1000,
+        false,
+        [0o2000, 0o150700, 0o10260],
+        [0o150700, 0, 0],
+    ),
+    (
+        Function::Write,
+        5,
+        true,
+        [0o4000, 0o154700, 0o10260],
+        [0o154700, 0, 0],
+    ),
+    (
+        Function::WriteHeader,
+        5,
+        false,
+        [0o1, 0o150700, 0o10260],
+        [0o150700, 0, 0],
+    ),
+    (
+        Function::Read,
+        5,
+        true,
+        [0, 0o14500, 0o10260],
+        [0o14500, 0, 0],
+    ),
+    (
+        Function::Centre,
+        5,
+        false,
+        [0, 0o10700, 0o10000],
+        [0o10700, 0, 0],
+    ),
+];
+
+fn do_function(rt: &impl Abort, kind: DriveKind, row: Done) {
+    let (function, dc, locked, left, arrived) = row;
+    let mut drive = Drive::new(kind, 3);
+    drive.go(Function::Pack);
+    drive.write_register(Register::Of, 0o10260);
+    drive.write_register(Register::Dc, dc);
+    drive.write_register(Register::Da, 0o2007);
+    drive.set_locked(locked);
+    drive.go(function);
+    let [er1, ds, of] = left;
+    assert_eq!(rt; drive.read_register(Register::Er1), er1);
+    assert_eq!(rt; drive.read_register(Register::Ds), ds);
+    assert_eq!(rt; drive.read_register(Register::Of), of);
+    drive.arrive();
+    let [ds, cc, la] = arrived;
+    assert_eq!(rt; drive.read_register(Register::Ds), ds);
+    assert_eq!(rt; drive.read_register(Register::Cc), cc);
+    assert_eq!(rt; drive.read_register(Register::La), la);
+}
+
+// The type word of each kind, its last block, and that block's cylinder.
+const KINDS: [(DriveKind, u16, u32, u16); 3] = [
+    (DriveKind::Rp06, 0o20022, 340_669, 814),
+    (DriveKind::Rm03, 0o20024, 131_679, 822),
+    (DriveKind::Rm05, 0o20027, 500_383, 822),
+];
+
+#[test]
+fn registers(rt: HostRuntime) {
+    for (kind, word, _, _) in KINDS {
+        assert_eq!(rt; Drive::new(kind, 3).read_register(Register::Dt), word);
+        for row in FUNCTIONS {
+            do_function(&rt, kind, row);
+        }
+    }
+}
+
+// Tries a read of a block of unit 4 with this word in Of, and gives the drive that it leaves.
+fn read_block(
+    kind: DriveKind,
+    of: u16,
+    block: u32,
+    packs: &mut MemPacks,
+    book: &mut NoiseBook,
+    window: &mut Window<'_>,
+) -> Result<(Moved, Drive), Fail>
+    requires { block < block_count kind }
+    ensures { memory_name window.new ≡ memory_name window.old }
+{
+    let mut drive = transferring(kind, Trial::Mark);
+    drive.write_register(Register::Of, of);
+    let verdict = drive.move_sector(packs, 4, block, book, window)?;
+    Ok((verdict, drive))
+}
+
+// Noise until a code strikes under every other code, and ends under its own; then the sector is right.
+const READS: [(u16, u16, u16); 4] = [
+    (0o10000, 4091, 0o2001),
+    (0o10040, 4091, 0o2001),
+    (0o10020, 0, 0),
+    (0o10000, 0, 0),
+];
+
+#[test]
+fn noise_until_a_code(rt: HostRuntime) -> Result<(), Fail> {
+    let mut memory = MainMemory::new(rt.alloc())?;
+    let buffer = to_bus(memory.lend(1, 0, 512)?);
+    let mut window = memory.window(&buffer, 0);
+    for (kind, _, last, cylinder) in KINDS {
+        let mut packs = packs_with(rt.alloc(), Trial::Write, None)?;
+        let mut book = NoiseBook::new(rt.alloc(), 4096)?;
+        let noise = Noise::new(&[4090, 4100]).ok_or("no noise")?;
+        book.arm(4, 0, noise, NoiseSpan::Until(OffsetCode::Plus400));
+        for (of, at, pattern) in READS {
+            let (_, drive) = read_block(kind, of, 0, &mut packs, &mut book, &mut window)?;
+            assert_eq!(rt; drive.read_register(Register::Ec1), at);
+            assert_eq!(rt; drive.read_register(Register::Ec2), pattern);
+        }
+        let (verdict, drive) = read_block(kind, 0, last, &mut packs, &mut book, &mut window)?;
+        assert!(rt; verdict == Moved::Clean);
+        for (register, word) in [
+            (Register::Cc, cylinder),
+            (Register::Dc, 0),
+            (Register::Da, 0),
+            (Register::La, 0),
+        ] {
+            assert_eq!(rt; drive.read_register(register), word);
         }
     }
     Ok(())

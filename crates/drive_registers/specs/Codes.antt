@@ -36,3 +36,17 @@ offset_code Minus1200 = 0o260
 -- the low eight bits of the offset register, where the offset's code stands
 abbrev pub offset_field : ℕ → ℕ
 offset_field word = bit_and word 0o377
+
+-- the offset register with the offset's code cleared
+abbrev pub without_offset : ℕ → ℕ
+without_offset word = bit_and word 0o177400
+
+-- the words in the drive type register, by the drive
+abbrev pub rp06_type : ℕ
+rp06_type = 0o20022
+
+abbrev pub rm03_type : ℕ
+rm03_type = 0o20024
+
+abbrev pub rm05_type : ℕ
+rm05_type = 0o20027

@@ -1,4 +1,4 @@
-//! The words of a drive's registers, after the register lists of the RP06 and RM03 manuals: the codes of
+//! The words of a drive's registers, after the register lists of the RP06, RM03 and RM05 manuals: the codes of
 //! functions and offsets, and the bits of the status, error and offset registers.
 #![tactic(auto)]
 
@@ -48,6 +48,18 @@ pub enum OffsetCode {
     Plus1200,
     Minus1200,
 }
+
+/// The word in the drive type register of an RP06.
+pub const RP06_TYPE: u16 = 0o020022;
+
+/// The word in the drive type register of an RM03.
+pub const RM03_TYPE: u16 = 0o020024;
+
+/// The word in the drive type register of an RM05.
+pub const RM05_TYPE: u16 = 0o020027;
+
+/// The bits of the offset register in which the offset's code stands.
+pub const OFFSET_CODE: u16 = 0o377;
 
 /// The function whose code stands in bits 1 to 5 of a control word. `None` exactly where no function
 /// has that code.

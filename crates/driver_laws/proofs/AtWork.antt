@@ -224,7 +224,7 @@ finish_one w line u p a h state there own going =
     let same = units_after w (Acts.Of line u p h Acts.Intr) in
     let but : GoingBut w u a = record { units = but_one Works no_unit 32 w.units u going.units; adapters = going.adapters } in
     subst (λ x. Going x a) (sym (after_and_then (start_acts line u) w (end_acts line u p h state)))
-    (ends_well state.last next line u p a (returned h) (ending h state.moved state.last) (subst (λ n. u < n) (sym same) there) own (intr_going w line u p a h there own but))
+    (ends_well state.verdict next line u p a (returned h) (ending h state.moved state.verdict) (subst (λ n. u < n) (sym same) there) own (intr_going w line u p a h there own but))
 
 going_finish : (w : World) (line a : ℕ) → a < 4 → Sound w → Going w a → Going (after_all w (finish_acts line a w)) a
 going_finish w line a lt sound going = by_state (adapter_at w a).state.busy (adapter_at w a).state.completion refl

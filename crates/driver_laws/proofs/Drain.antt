@@ -81,7 +81,7 @@ asks_clear (verdict.Faulted fault) line u p h = (tt, tt)
 asks_clear verdict.Offline line u p h = (tt, tt)
 
 asks_end : (line u p : ℕ) (h : Held) (a : AdapterState) → AskNothing (end_acts line u p h a)
-asks_end line u p h a = (tt, AskNothing-append (clear_of a.last line u p (returned h)) _ (asks_clear a.last line u p (returned h)) (tt, tt))
+asks_end line u p h a = (tt, AskNothing-append (clear_of a.verdict line u p (returned h)) _ (asks_clear a.verdict line u p (returned h)) (tt, tt))
 
 asks_finish : (line a : ℕ) (w : World) → AskNothing (finish_acts line a w)
 asks_finish line a w = by_state (adapter_at w a).state.busy (adapter_at w a).state.completion

@@ -70,7 +70,7 @@ module _ (w : World) (packs : ℕ → Pack) (m : Machine) (sound : Sound w) (st 
       let phase : (unit_at joins h.unit).phase ≡ Waiting = ap (λ (v : UnitView). v.phase) now ∙ waits in
       worked_none (packs h.unit) (m.blocks h.unit) g (moved_at joins h.unit) (FoundMarked joins h.unit) (rows.empty h.unit none)
       (ap (λ (x : Phase). moved_by x (adapter_for w h.unit).state.moved) phase)
-      (λ f. subst (λ (x : Phase). found_by x (adapter_for w h.unit).state.completion (adapter_for w h.unit).state.last) phase f)
+      (λ f. subst (λ (x : Phase). found_by x (adapter_for w h.unit).state.completion (adapter_for w h.unit).state.verdict) phase f)
 
   -- another one goes on
   worked_later : (p₀ : ℕ) (h₀ : Held) → InHand w h.unit p₀ h₀ → (q : ℕ) (g : Held) → InHand joins h.unit q g
@@ -83,7 +83,7 @@ module _ (w : World) (packs : ℕ → Pack) (m : Machine) (sound : Sound w) (st 
       let is : g ≡ h₀ = same_slot joins.places p₀ g h₀ (subst (λ (k : ℕ). slot_at joins.places k ≡ Some g) same hand.slot) slot in
       subst (λ (k : Held). IsWorked (packs h.unit) (m.blocks h.unit) k (moved_at joins h.unit) (FoundMarked joins h.unit)) (sym is)
       (subst (λ (z : UnitView). IsWorked (packs h.unit) (m.blocks h.unit) h₀ (moved_by z.phase (adapter_for w h.unit).state.moved)
-      (found_by z.phase (adapter_for w h.unit).state.completion (adapter_for w h.unit).state.last)) (sym now) (rows.worked h.unit p₀ h₀ was))
+      (found_by z.phase (adapter_for w h.unit).state.completion (adapter_for w h.unit).state.verdict)) (sym now) (rows.worked h.unit p₀ h₀ was))
 
   worked_joined : (q : ℕ) (g : Held) → InHand joins h.unit q g → IsWorked (packs h.unit) (m.blocks h.unit) g (moved_at joins h.unit) (FoundMarked joins h.unit)
   worked_joined q g hand = elim (empty_or_in_hand w h.unit sound) [
@@ -215,7 +215,7 @@ module _ (w : World) (packs : ℕ → Pack) (m : Machine) (sound : Sound w) (st 
       (may_by m.blocks (packs u) h moved (FoundMarked w u) row size last cleared kind end
       (λ mark. (
         subst (λ (x : Moved). IsEndedAt x moved (count_of h)) mark stop,
-        subst (λ (x : Phase). found_by x (adapter_for w u).state.completion (adapter_for w u).state.last) (sym e) mark,
+        subst (λ (x : Phase). found_by x (adapter_for w u).state.completion (adapter_for w u).state.verdict) (sym e) mark,
       )))
 
   pub answer_step : Step m (record { id = h.id; kind = answered h kind }) left
@@ -250,7 +250,7 @@ module _ (w : World) (packs : ℕ → Pack) (m : Machine) (sound : Sound w) (st 
       (rows_after w ends u packs packs m.blocks left.blocks sound (rows_of w packs m sound st) left_alone (λ e. now_holds)
       (λ q g its_hand. worked_none (packs u) (left.blocks u) g (moved_at ends u) (FoundMarked ends u) now_holds
       (ap (λ (x : Phase). moved_by x (adapter_for w u).state.moved) now_waits)
-      (λ f. subst (λ (x : Phase). found_by x (adapter_for w u).state.completion (adapter_for w u).state.last) now_waits f)))
+      (λ f. subst (λ (x : Phase). found_by x (adapter_for w u).state.completion (adapter_for w u).state.verdict) now_waits f)))
       (lists_ended w.places m p h over hand.slot (lists_of w packs m st) left its.1 refl
       (λ q g slot on same. sound.differ q p g h slot hand.slot on its.1 same) refl refl)
 

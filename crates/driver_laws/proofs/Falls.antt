@@ -8,7 +8,7 @@ use Rattle.hardware_table.specs.Drive.{is_positioning}
 use Rattle.hardware_table.specs.Events.{arrived}
 use Rattle.hardware_table.specs.Moves.{was_read}
 use Rattle.hardware_table.specs.Noise.{Book}
-use Rattle.hardware_table.specs.Adapter.{AdapterState, stepped, drive_stepped, completed, attention_raised, attention_lowered}
+use Rattle.hardware_table.specs.Adapter.{AdapterState, stepped, drive_stepped, completed, attention_raised, attention_lowered, step_bytes}
 use Rattle.driver_machine.specs.declared.AnswerKind.{AnswerKind}
 use Rattle.driver_machine.specs.declared.Phase.{Phase}
 use Rattle.driver_machine.specs.declared.Phase.TheVariants.{Waiting, Positioning, Queued, Transferring, Interrupted}
@@ -118,7 +118,7 @@ transfer_is : (a : AdapterState) (n : ℕ) (b : Bool) → a.completion ≡ b →
 transfer_is a n b e = ap (λ x. if x then 2 else n - a.moved + 2) e
 
 after_step : (m : Moved) (a : AdapterState) (n : ℕ) → a.moved < n → left_in_transfer (stepped m a) n + 1 ≤ n - a.moved + 2
-after_step verdict.Clean a n more = by_test (a.byte_count - 512 == 0)
+after_step verdict.Clean a n more = by_test (a.byte_count - step_bytes a == 0)
   where
     by_test : (b : Bool) → (if b then 2 else n - (a.moved + 1) + 2) + 1 ≤ n - a.moved + 2
     by_test true = omega arith

@@ -57,7 +57,7 @@ module _ (w : World) (line a u p : ℕ) (s : Sound w) (b : BusyFor w a u p) (up 
   h = held_in w p
 
   -- after the interrupt
-  pub after_intr : Stops (after w (Acts.Of line u p (held_in w p) Acts.Intr)) u p (returned (held_in w p)) (adapter_for w u).state.moved (adapter_for w u).state.last false
+  pub after_intr : Stops (after w (Acts.Of line u p (held_in w p) Acts.Intr)) u p (returned (held_in w p)) (adapter_for w u).state.moved (adapter_for w u).state.verdict false
   after_intr =
       let i = b.transfers.in_hand in
       let there : p < length w.places = slot_there w.places p (held_in w p) i.slot in
@@ -119,37 +119,37 @@ after_clear w line u p h moved verdict.Offline st = after_dclr w line u p h move
 -- The three worlds of a data interrupt: before it, after it, and after DCLR.
 module _ (w now then_ : World) (line a u p : ℕ) (s : Sound w) (b : BusyFor w a u p) (up : (adapter_for w u).state.completion ≡ true)
     (intr : Quiet (Acts.Of line u p (held_in w p) Acts.Intr ∷ []) w now)
-    (clear : Quiet (clear_of (adapter_for w u).state.last line u p (held_in now p)) now then_) where
-  stops_now : Stops now u p (returned (held_in w p)) (adapter_for w u).state.moved (adapter_for w u).state.last false
-  stops_now = subst (λ (x : World). Stops x u p (returned (held_in w p)) (adapter_for w u).state.moved (adapter_for w u).state.last false) (sym (quiet_world intr)) (after_intr w line a u p s b up)
+    (clear : Quiet (clear_of (adapter_for w u).state.verdict line u p (held_in now p)) now then_) where
+  stops_now : Stops now u p (returned (held_in w p)) (adapter_for w u).state.moved (adapter_for w u).state.verdict false
+  stops_now = subst (λ (x : World). Stops x u p (returned (held_in w p)) (adapter_for w u).state.moved (adapter_for w u).state.verdict false) (sym (quiet_world intr)) (after_intr w line a u p s b up)
 
-  stops_then : Stops then_ u p (returned (held_in w p)) (adapter_for w u).state.moved (adapter_for w u).state.last (clears (adapter_for w u).state.last)
-  stops_then = subst (λ (x : World). Stops x u p (returned (held_in w p)) (adapter_for w u).state.moved (adapter_for w u).state.last (clears (adapter_for w u).state.last))
-      (ap (λ (g : Held). after_all now (clear_of (adapter_for w u).state.last line u p g)) (sym stops_now.held) ∙ sym (quiet_world clear))
-      (after_clear now line u p (returned (held_in w p)) (adapter_for w u).state.moved (adapter_for w u).state.last stops_now)
+  stops_then : Stops then_ u p (returned (held_in w p)) (adapter_for w u).state.moved (adapter_for w u).state.verdict (clears (adapter_for w u).state.verdict)
+  stops_then = subst (λ (x : World). Stops x u p (returned (held_in w p)) (adapter_for w u).state.moved (adapter_for w u).state.verdict (clears (adapter_for w u).state.verdict))
+      (ap (λ (g : Held). after_all now (clear_of (adapter_for w u).state.verdict line u p g)) (sym stops_now.held) ∙ sym (quiet_world clear))
+      (after_clear now line u p (returned (held_in w p)) (adapter_for w u).state.moved (adapter_for w u).state.verdict stops_now)
 
   sound_then : Sound then_
   sound_then = sound_quiet (sound_quiet s intr) clear
 
-  pub end_may : Allowed then_ (Acts.Of line u p (held_in then_ p) (Acts.End (ending (held_in then_ p) (adapter_for w u).state.moved (adapter_for w u).state.last)))
-  end_may = subst (λ (g : Held). Allowed then_ (Acts.Of line u p g (Acts.End (ending g (adapter_for w u).state.moved (adapter_for w u).state.last)))) (sym stops_then.held) (
+  pub end_may : Allowed then_ (Acts.Of line u p (held_in then_ p) (Acts.End (ending (held_in then_ p) (adapter_for w u).state.moved (adapter_for w u).state.verdict)))
+  end_may = subst (λ (g : Held). Allowed then_ (Acts.Of line u p g (Acts.End (ending g (adapter_for w u).state.moved (adapter_for w u).state.verdict)))) (sym stops_then.held) (
     stops_then.in_hand,
-    subst (λ (phase : Phase). IsEnd phase (returned (held_in w p)) (ending (returned (held_in w p)) (adapter_for w u).state.moved (adapter_for w u).state.last)) (sym stops_then.phase)
-        (ending_is (returned (held_in w p)) (adapter_for w u).state.moved (adapter_for w u).state.last
-        (stopped_is then_ u p (returned (held_in w p)) (adapter_for w u).state.moved (adapter_for w u).state.last (clears (adapter_for w u).state.last) sound_then b.small stops_then).1),
+    subst (λ (phase : Phase). IsEnd phase (returned (held_in w p)) (ending (returned (held_in w p)) (adapter_for w u).state.moved (adapter_for w u).state.verdict)) (sym stops_then.phase)
+        (ending_is (returned (held_in w p)) (adapter_for w u).state.moved (adapter_for w u).state.verdict
+        (stopped_is then_ u p (returned (held_in w p)) (adapter_for w u).state.moved (adapter_for w u).state.verdict (clears (adapter_for w u).state.verdict) sound_then b.small stops_then).1),
   )
 
   pub end_there : slot_at then_.places p ≡ Some (held_in then_ p)
   end_there = subst (λ (g : Held). slot_at then_.places p ≡ Some g) (sym stops_then.held) stops_then.in_hand.slot
 
-  pub finish_quiet : (end : World) → Quiet (Acts.Of line u p (held_in then_ p) (Acts.End (ending (held_in then_ p) (adapter_for w u).state.moved (adapter_for w u).state.last)) ∷ []) then_ end
+  pub finish_quiet : (end : World) → Quiet (Acts.Of line u p (held_in then_ p) (Acts.End (ending (held_in then_ p) (adapter_for w u).state.moved (adapter_for w u).state.verdict)) ∷ []) then_ end
       → Quiet (end_acts line u p (held_in w p) (adapter_for w u).state) w end
   finish_quiet end q =
-      let last : Quiet (Acts.Of line u p (returned (held_in w p)) (Acts.End (ending (held_in w p) (adapter_for w u).state.moved (adapter_for w u).state.last)) ∷ []) then_ end =
-      quiet_as (ap (λ (g : Held). Acts.Of line u p g (Acts.End (ending g (adapter_for w u).state.moved (adapter_for w u).state.last)) ∷ []) stops_then.held
-      ∙ ap (λ (kind : AnswerKind). Acts.Of line u p (returned (held_in w p)) (Acts.End kind) ∷ []) (ending_same (held_in w p) (adapter_for w u).state.moved (adapter_for w u).state.last)) q in
-      let mid : Quiet (clear_of (adapter_for w u).state.last line u p (returned (held_in w p))) now then_ =
-      quiet_as (ap (λ (g : Held). clear_of (adapter_for w u).state.last line u p g) stops_now.held) clear in
+      let last : Quiet (Acts.Of line u p (returned (held_in w p)) (Acts.End (ending (held_in w p) (adapter_for w u).state.moved (adapter_for w u).state.verdict)) ∷ []) then_ end =
+      quiet_as (ap (λ (g : Held). Acts.Of line u p g (Acts.End (ending g (adapter_for w u).state.moved (adapter_for w u).state.verdict)) ∷ []) stops_then.held
+      ∙ ap (λ (kind : AnswerKind). Acts.Of line u p (returned (held_in w p)) (Acts.End kind) ∷ []) (ending_same (held_in w p) (adapter_for w u).state.moved (adapter_for w u).state.verdict)) q in
+      let mid : Quiet (clear_of (adapter_for w u).state.verdict line u p (returned (held_in w p))) now then_ =
+      quiet_as (ap (λ (g : Held). clear_of (adapter_for w u).state.verdict line u p g) stops_now.held) clear in
       quiet_more intr (quiet_more mid last)
 
 pub clear_is : (last : Moved) (line u p : ℕ) (h : Held) → last ≢ verdict.Clean → clear_of last line u p h ≡ Acts.Of line u p h Acts.Dclr ∷ []
@@ -186,14 +186,14 @@ end_waits w end line u p h kind lt q =
 -- The same with what the interrupt told: how many sectors moved, and the last verdict.
 module _ (w now : World) (line a u p : ℕ) (s : Sound w) (b : BusyFor w a u p) (up : (adapter_for w u).state.completion ≡ true)
     (intr : Quiet (Acts.Of line u p (held_in w p) Acts.Intr ∷ []) w now)
-    (moved : ℕ) (last : Moved) (moved_is : moved ≡ (adapter_for w u).state.moved) (last_is : last ≡ (adapter_for w u).state.last) where
+    (moved : ℕ) (last : Moved) (moved_is : moved ≡ (adapter_for w u).state.moved) (last_is : last ≡ (adapter_for w u).state.verdict) where
   pub clearing : IsClearing now line u p last
   clearing = subst (IsClearing now line u p) (sym last_is)
-      (clear_may now line u p (returned (held_in w p)) (adapter_for w u).state.moved (adapter_for w u).state.last (sound_quiet s intr) b.small
-      (subst (λ (x : World). Stops x u p (returned (held_in w p)) (adapter_for w u).state.moved (adapter_for w u).state.last false) (sym (quiet_world intr)) (after_intr w line a u p s b up)))
+      (clear_may now line u p (returned (held_in w p)) (adapter_for w u).state.moved (adapter_for w u).state.verdict (sound_quiet s intr) b.small
+      (subst (λ (x : World). Stops x u p (returned (held_in w p)) (adapter_for w u).state.moved (adapter_for w u).state.verdict false) (sym (quiet_world intr)) (after_intr w line a u p s b up)))
 
   module _ (then_ : World) (clear : Quiet (clear_of last line u p (held_in now p)) now then_) where
-    cleared_as : Quiet (clear_of (adapter_for w u).state.last line u p (held_in now p)) now then_
+    cleared_as : Quiet (clear_of (adapter_for w u).state.verdict line u p (held_in now p)) now then_
     cleared_as = quiet_as (ap (λ (m : Moved). clear_of m line u p (held_in now p)) last_is) clear
 
     pub slot_then : slot_at then_.places p ≡ Some (held_in then_ p)
@@ -206,7 +206,7 @@ module _ (w now : World) (line a u p : ℕ) (s : Sound w) (b : BusyFor w a u p) 
     same_answers = answers_then w now then_ line u p last (held_in w p) (held_in now p) intr clear
 
     module _ (kind : AnswerKind) (kind_is : kind ≡ ending (held_in then_ p) moved last) where
-      ending_as : kind ≡ ending (held_in then_ p) (adapter_for w u).state.moved (adapter_for w u).state.last
+      ending_as : kind ≡ ending (held_in then_ p) (adapter_for w u).state.moved (adapter_for w u).state.verdict
       ending_as = kind_is ∙ ap (λ (m : ℕ). ending (held_in then_ p) m last) moved_is ∙ ap (ending (held_in then_ p) (adapter_for w u).state.moved) last_is
 
       pub ends : Allowed then_ (Acts.Of line u p (held_in then_ p) (Acts.End kind))

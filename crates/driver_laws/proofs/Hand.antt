@@ -43,10 +43,10 @@ module _ (w : World) (packs : ℕ → Pack) (m : Machine) (sound : Sound w) (st 
   base_none F e lacks = worked_as (packs u) (packs u) (m.blocks u) (m.blocks u) h (moved_at w u) 0 (FoundMarked w u) F refl refl (sym e) (λ f. absurd (lacks f)) base
 
   -- where it is as far as it was
-  base_same : (phase : Phase) (a : AdapterState) → moved_by phase a.moved ≡ moved_at w u → (found_by phase a.completion a.last → FoundMarked w u)
-      → IsWorked (packs u) (m.blocks u) h (moved_by phase a.moved) (found_by phase a.completion a.last)
+  base_same : (phase : Phase) (a : AdapterState) → moved_by phase a.moved ≡ moved_at w u → (found_by phase a.completion a.verdict → FoundMarked w u)
+      → IsWorked (packs u) (m.blocks u) h (moved_by phase a.moved) (found_by phase a.completion a.verdict)
   base_same phase a moved found =
-      worked_as (packs u) (packs u) (m.blocks u) (m.blocks u) h (moved_at w u) (moved_by phase a.moved) (FoundMarked w u) (found_by phase a.completion a.last) refl refl moved found base
+      worked_as (packs u) (packs u) (m.blocks u) (m.blocks u) h (moved_at w u) (moved_by phase a.moved) (FoundMarked w u) (found_by phase a.completion a.verdict) refl refl moved found base
 
   own : (a : AdapterView) → get_or (set w.adapters (adapter_of u) a) (adapter_of u) new_adapter_view ≡ a
   own a = same_adapter w.adapters (adapter_of u) a (own_adapter_there w sound u p h hand)
@@ -95,7 +95,7 @@ module _ (w : World) (packs : ℕ → Pack) (m : Machine) (sound : Sound w) (st 
       (λ x other. refl) lists
       (base_none ⊥ (ap (λ (phase : Phase). moved_by phase (adapter_for w u).state.moved) e) (λ f. f))
 
-  cleared_as : (phase : Phase) (a : AdapterState) → (moved_by (cleared_phase phase) a.moved ≡ moved_by phase a.moved) × (found_by (cleared_phase phase) a.completion a.last → found_by phase a.completion a.last)
+  cleared_as : (phase : Phase) (a : AdapterState) → (moved_by (cleared_phase phase) a.moved ≡ moved_by phase a.moved) × (found_by (cleared_phase phase) a.completion a.verdict → found_by phase a.completion a.verdict)
   cleared_as Waiting a = (refl, λ f. f)
   cleared_as Positioning a = (refl, λ f. f)
   cleared_as Queued a = (refl, λ f. f)
@@ -122,15 +122,15 @@ module _ (w : World) (packs : ℕ → Pack) (m : Machine) (sound : Sound w) (st 
       let adapters : List AdapterView = set w.adapters (adapter_of u) a in
       let places : Places = with_held p (record h { on_bus = true }) w.places in
       let zero_moved : moved_at w u ≡ 0 = ap (λ (phase : Phase). moved_by phase (adapter_for w u).state.moved) (command_phase first) in
-      let mine : IsWorked (packs u) (m.blocks u) (record h { on_bus = true }) 0 ((false ≡ true) × (a.state.last ≡ Marked)) =
-      on_bus_as (packs u) (m.blocks u) h 0 ((false ≡ true) × (a.state.last ≡ Marked)) true (base_none ((false ≡ true) × (a.state.last ≡ Marked)) zero_moved (λ f. true≢false (sym f.0))) in
+      let mine : IsWorked (packs u) (m.blocks u) (record h { on_bus = true }) 0 ((false ≡ true) × (a.state.verdict ≡ Marked)) =
+      on_bus_as (packs u) (m.blocks u) h 0 ((false ≡ true) × (a.state.verdict ≡ Marked)) true (base_none ((false ≡ true) × (a.state.verdict ≡ Marked)) zero_moved (λ f. true≢false (sym f.0))) in
       acted w u v adapters places w.book w.answers packs packs m p h (record h { on_bus = true }) sound later st hand refl (slot_same w.places p (record h { on_bus = true }) lt)
       (λ q g ne there. slot_other w.places p q (record h { on_bus = true }) ne ∙ there)
       (progress_of w u v adapters places w.book w.answers a sound refl hand.unit
       (λ x other here busy. absurd (true≢false (sym busy.busy ∙ ap (λ (k : ℕ). (get_or w.adapters k new_adapter_view).state.busy) here ∙ free))))
       (λ x other. refl)
       (lists_same w.places m p h (record h { on_bus = true }) hand.slot lists refl refl)
-      (subst (λ (y : AdapterView). IsWorked (packs u) (m.blocks u) (record h { on_bus = true }) y.state.moved ((y.state.completion ≡ true) × (y.state.last ≡ Marked))) (sym (own a)) mine)
+      (subst (λ (y : AdapterView). IsWorked (packs u) (m.blocks u) (record h { on_bus = true }) y.state.moved ((y.state.completion ≡ true) × (y.state.verdict ≡ Marked))) (sym (own a)) mine)
 
   -- an adapter that is busy for this unit is so for no other
   other_drive : (x : ℕ) → x ≢ u → adapter_of x ≡ adapter_of u → IsBusyFor (adapter_for w x).state (drive_of x) → IsBusyFor (adapter_for w u).state (drive_of u) → ⊥
@@ -145,15 +145,15 @@ module _ (w : World) (packs : ℕ → Pack) (m : Machine) (sound : Sound w) (st 
       let places : Places = with_held p (record h { on_bus = false }) w.places in
       let its = transfer_of w sound u p h hand busy in
       let far : moved_at w u ≡ (adapter_for w u).state.moved = ap (λ (phase : Phase). moved_by phase (adapter_for w u).state.moved) its.phase in
-      let found : (adapter_for w u).state.last ≡ Marked → FoundMarked w u = λ last.
-      subst (λ (phase : Phase). found_by phase (adapter_for w u).state.completion (adapter_for w u).state.last) (sym its.phase) (up, last) in
+      let found : (adapter_for w u).state.verdict ≡ Marked → FoundMarked w u = λ last.
+      subst (λ (phase : Phase). found_by phase (adapter_for w u).state.completion (adapter_for w u).state.verdict) (sym its.phase) (up, last) in
       acted w u v adapters places w.book w.answers packs packs m p h (record h { on_bus = false }) sound later st hand refl (slot_same w.places p (record h { on_bus = false }) lt)
       (λ q g ne there. slot_other w.places p q (record h { on_bus = false }) ne ∙ there)
       (progress_of w u v adapters places w.book w.answers a sound refl hand.unit (λ x other here theirs. absurd (other_drive x other here theirs busy)))
       (λ x other. refl)
       (lists_same w.places m p h (record h { on_bus = false }) hand.slot lists refl refl)
-      (on_bus_as (packs u) (m.blocks u) h (adapter_for w u).state.moved ((adapter_for w u).state.last ≡ Marked) false
-      (worked_as (packs u) (packs u) (m.blocks u) (m.blocks u) h (moved_at w u) (adapter_for w u).state.moved (FoundMarked w u) ((adapter_for w u).state.last ≡ Marked) refl refl (sym far) found base))
+      (on_bus_as (packs u) (m.blocks u) h (adapter_for w u).state.moved ((adapter_for w u).state.verdict ≡ Marked) false
+      (worked_as (packs u) (packs u) (m.blocks u) (m.blocks u) h (moved_at w u) (adapter_for w u).state.moved (FoundMarked w u) ((adapter_for w u).state.verdict ≡ Marked) refl refl (sym far) found base))
 
   -- One sector is tried.
   module _ (line moved : ℕ) (t : Tried) (later : Sound (after w (Acts.Of line u p h (Acts.Sector moved t)))) (may : May w u h (Acts.Sector moved t))
@@ -174,7 +174,7 @@ module _ (w : World) (packs : ℕ → Pack) (m : Machine) (sound : Sound w) (st 
     now = packs_after w packs (Acts.Of line u p h (Acts.Sector moved t))
 
     abbrev Found : AdapterState → Type 0
-    Found a = (a.completion ≡ true) × (a.last ≡ Marked)
+    Found a = (a.completion ≡ true) × (a.verdict ≡ Marked)
 
     its : Transfers w u p h state
     its = transfer_of w sound u p h hand may.0
@@ -222,7 +222,7 @@ module _ (w : World) (packs : ℕ → Pack) (m : Machine) (sound : Sound w) (st 
         (progress_of w u v adapters places_now book w.answers a sound refl hand.unit (λ x other on theirs. absurd (other_drive x other on theirs may.0)))
         (kept_by (was_written drive t.verdict)) lists_now
         (subst (λ (phase : Phase). IsWorked (now u) (m.blocks u) new (moved_by phase (get_or adapters (adapter_of u) new_adapter_view).state.moved)
-        (found_by phase (get_or adapters (adapter_of u) new_adapter_view).state.completion (get_or adapters (adapter_of u) new_adapter_view).state.last)) (sym its.phase) own_here)
+        (found_by phase (get_or adapters (adapter_of u) new_adapter_view).state.completion (get_or adapters (adapter_of u) new_adapter_view).state.verdict)) (sym its.phase) own_here)
 
     -- it is marked: nothing moves
     tried_marked : t.verdict ≡ Marked → t.marked ≡ true → Stands (after w (Acts.Of line u p h (Acts.Sector moved t))) now m

@@ -35,19 +35,19 @@ all_in_use (Some h ∷ places) all =
     omega (arith, later)
 
 -- the frames that requests of at most 127 blocks need
-frames_few : (places : Places) → ((p : ℕ) (h : Held) → slot_at places p ≡ Some h → (h.loan.offset ≡ 0) × (h.loan.count ≤ 127)) → frames_used places ≤ 127 * in_use places
+frames_few : (places : Places) → ((p : ℕ) (h : Held) → slot_at places p ≡ Some h → (h.loan.offset ≡ 0) × (h.loan.count ≤ 127) × (h.loan.last ≡ 512) × (1 ≤ h.loan.count)) → frames_used places ≤ 127 * in_use places
 frames_few [] all = omega arith
 frames_few (None ∷ places) all = frames_few places (λ p h e. all (suc p) h e)
 frames_few (Some h ∷ places) all =
     let later : frames_used places ≤ 127 * in_use places = frames_few places (λ p g e. all (suc p) g e) in
     let mine = all zero h refl in
-    let needed : frames_needed h.loan.count h.loan.offset ≤ 127 = by h.loan.count h.loan.offset mine.0 mine.1 in
+    let needed : frames_needed h.loan.count h.loan.offset h.loan.last ≤ 127 = by h.loan.count h.loan.offset h.loan.last mine.0 mine.1 mine.2 mine.3 in
     omega (arith, later, needed)
   where
-    by : (count offset : ℕ) → offset ≡ 0 → count ≤ 127 → frames_needed count offset ≤ 127
-    by count offset e few = subst (λ (n : ℕ). frames_needed count n ≤ 127) (sym e) few
+    by : (count offset last : ℕ) → offset ≡ 0 → count ≤ 127 → last ≡ 512 → 1 ≤ count → frames_needed count offset last ≤ 127
+    by count offset last start few whole some = omega arith
 
 pub frames_left : (w : World) (count : ℕ) → Sound w → length w.places ≤ 129 → in_use w.places < length w.places → count ≤ 127 → frames_used w.places + count ≤ 16384
 frames_left w count s few room small =
-    let used : frames_used w.places ≤ 127 * in_use w.places = frames_few w.places (λ p h e. ((s.each_place p h e).offset, (s.each_place p h e).loan.few)) in
+    let used : frames_used w.places ≤ 127 * in_use w.places = frames_few w.places (λ p h e. ((s.each_place p h e).offset, (s.each_place p h e).loan.few, (s.each_place p h e).last, (s.each_place p h e).loan.some)) in
     omega (arith, used, few, room, small)

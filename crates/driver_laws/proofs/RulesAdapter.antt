@@ -4,7 +4,7 @@ use Rattle.std.proofs.Math.Seq.{take-nil}
 use Rattle.std.specs.Int.{bit_at}
 use Rattle.hardware_table.specs.declared.Moved.{Moved}
 use Rattle.hardware_table.specs.declared.Moved.TheVariants as verdict
-use Rattle.hardware_table.specs.Adapter.{AdapterState, registers_of, loaded, started, stepped}
+use Rattle.hardware_table.specs.Adapter.{AdapterState, registers_of, registers_used, bytes_between, loaded, started, stepped}
 use Rattle.trace_rules.specs.Rule.{adapter_of, drive_of}
 use Rattle.trace_rules.specs.AdapterRule.{AdapterMay, adapter_after, adapter_rule}
 use Rattle.driver_machine.specs.Places.{Held, count_of}
@@ -52,9 +52,9 @@ shown_step verdict.Marked a = refl
 shown_step (verdict.Faulted kind) a = refl
 shown_step verdict.Offline a = refl
 
-shown_start : (frames : List ℕ) (offset count drive block : ℕ) (write : Bool) (a : AdapterState) → offset ≡ 0
-    → shown (started drive block write (loaded frames offset count 0 count a)) ≡ started drive block write (loaded [] 0 count 0 count (shown a))
-shown_start frames offset count drive block write a e = let none = take-nil {A = ℕ} count in rw (e, none) refl
+shown_start : (frames : List ℕ) (offset count last drive block : ℕ) (write : Bool) (a : AdapterState) → offset ≡ 0 → last ≡ 512
+    → shown (started drive block write (loaded frames offset count last 0 count a)) ≡ started drive block write (loaded [] 0 count 512 0 count (shown a))
+shown_start frames offset count last drive block write a e whole = let none = take-nil {A = ℕ} (registers_used (bytes_between count 512 0 count) 0) in rw (e, whole, none) refl
 
 -- the adapter of the unit after a deed shows what the rule says, and the deed may be told
 abbrev Told : World → ℕ → ℕ → ℕ → Held → Deed → Type 0
@@ -75,7 +75,7 @@ module _ (w : World) (line u p : ℕ) (h : Held) (s : Sound w) (hand : InHand w 
       let place = s.each_place p h hand.slot in (
         (may.1.1, place.loan.some),
         sym (ap (λ (v : AdapterView). shown v.state) (same_adapter w.adapters (adapter_of u) _ (own_adapter_there w s u p h hand))
-            ∙ shown_start h.loan.frames h.loan.offset (count_of h) (drive_of u) h.first h.write (adapter_for w u).state place.offset),
+            ∙ shown_start h.loan.frames h.loan.offset (count_of h) h.loan.last (drive_of u) h.first h.write (adapter_for w u).state place.offset place.last),
       )
   told (Acts.Sector moved tried) may =
       let one = transfer_of w s u p h hand may.1.0 in (

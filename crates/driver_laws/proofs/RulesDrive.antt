@@ -180,7 +180,7 @@ module _ (w : World) (line u p : ℕ) (h : Held) (s : Sound w) (hand : InHand w 
       one_more verdict.Marked was some down = absurd (let f : true ≡ false = down in cc f)
       one_more (verdict.Faulted kind) was some down = absurd (let f : true ≡ false = down in cc f)
       one_more verdict.Offline was some down = absurd (let f : true ≡ false = down in cc f)
-  told_left n Acts.Intr may left e down = absurd (let f : Interrupted a.moved a.last false ≡ Transferring = e in cc f)
+  told_left n Acts.Intr may left e down = absurd (let f : Interrupted a.moved a.verdict false ≡ Transferring = e in cc f)
   told_left n Acts.Dclr may left e down = absurd (by_phase v.phase may.1 e)
     where
       by_phase : (phase : Phase) → IsToClear phase → cleared_phase phase ≡ Transferring → ⊥

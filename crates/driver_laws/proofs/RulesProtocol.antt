@@ -55,7 +55,7 @@ abbrev pub IsAt : Phase → AdapterState → DriveSeen → Stage → Type 0
 IsAt Waiting a seen stage = stage ≡ begun seen.drive seen.requests
 IsAt Positioning a seen stage = stage ≡ (if is_positioning seen.drive.work then turn.Searching else turn.Arrived)
 IsAt Queued a seen stage = (stage ≡ turn.Begun position.Ready) ⊎ (stage ≡ turn.Attended)
-IsAt Transferring a seen stage = stage ≡ stage_moving a.completion (is_clean a.last) a
+IsAt Transferring a seen stage = stage ≡ stage_moving a.completion (is_clean a.verdict) a
 IsAt (Interrupted moved last cleared) a seen stage = stage ≡ stage_over (is_clean last) cleared
 
 pub record ByTurn (w : World) (x : ℕ) (t : Turn) : Type 0 where
@@ -89,7 +89,7 @@ asked_at Waiting a seen stage r e = rw e (asked_begun seen.drive seen.requests r
 asked_at Positioning a seen stage r e = rw e (same_if seen.drive (seen.requests ++ r ∷ []) (is_positioning seen.drive.work))
 asked_at Queued a seen stage r (inl e) = inl (rw e refl)
 asked_at Queued a seen stage r (inr e) = inr (rw e refl)
-asked_at Transferring a seen stage r e = rw e (same_moving seen.drive (seen.requests ++ r ∷ []) a.completion (is_clean a.last) a)
+asked_at Transferring a seen stage r e = rw e (same_moving seen.drive (seen.requests ++ r ∷ []) a.completion (is_clean a.verdict) a)
 asked_at (Interrupted moved last cleared) a seen stage r e = rw e (same_over seen.drive (seen.requests ++ r ∷ []) (is_clean last) cleared)
 
 -- WHAT A DEED OWES.
@@ -135,11 +135,11 @@ clean_to a n stage left over at =
 moved_to : (marked : Bool) (moved : Moved) (a : AdapterState) (n : ℕ) (stage : Stage) → moved ≡ (if marked then verdict.Marked else verdict.Clean)
     → n + a.moved ≡ a.count → (stepped moved a).completion ≡ is_last moved n
     → stage ≡ turn.Moving (a.block + a.moved) (a.count - a.moved)
-    → stage_moved moved stage ≡ stage_moving (stepped moved a).completion (is_clean (stepped moved a).last) (stepped moved a)
+    → stage_moved moved stage ≡ stage_moving (stepped moved a).completion (is_clean (stepped moved a).verdict) (stepped moved a)
 moved_to true moved a n stage e left over at =
-    subst (λ m. stage_moved m stage ≡ stage_moving (stepped m a).completion (is_clean (stepped m a).last) (stepped m a)) (sym e) refl
+    subst (λ m. stage_moved m stage ≡ stage_moving (stepped m a).completion (is_clean (stepped m a).verdict) (stepped m a)) (sym e) refl
 moved_to false moved a n stage e left over at =
-    subst (λ m. stage_moved m stage ≡ stage_moving (stepped m a).completion (is_clean (stepped m a).last) (stepped m a)) (sym e)
+    subst (λ m. stage_moved m stage ≡ stage_moving (stepped m a).completion (is_clean (stepped m a).verdict) (stepped m a)) (sym e)
     (clean_to a n stage left (subst (λ m. (stepped m a).completion ≡ is_last m n) e over) at)
 
 -- a search positions
@@ -217,11 +217,11 @@ quiet_stage false clean a = refl
 quiet_stage true true a = refl
 quiet_stage true false a = refl
 
-same_stage : (a b : AdapterState) → quiet a ≡ quiet b → stage_moving b.completion (is_clean b.last) b ≡ stage_moving a.completion (is_clean a.last) a
+same_stage : (a b : AdapterState) → quiet a ≡ quiet b → stage_moving b.completion (is_clean b.verdict) b ≡ stage_moving a.completion (is_clean a.verdict) a
 same_stage a b e =
-    sym (quiet_stage b.completion (is_clean b.last) b)
-    ∙ ap (λ (c : AdapterState). stage_moving c.completion (is_clean c.last) c) (sym e)
-    ∙ quiet_stage a.completion (is_clean a.last) a
+    sym (quiet_stage b.completion (is_clean b.verdict) b)
+    ∙ ap (λ (c : AdapterState). stage_moving c.completion (is_clean c.verdict) c) (sym e)
+    ∙ quiet_stage a.completion (is_clean a.verdict) a
 
 module _ (w : World) (line u p : ℕ) (h : Held) (s : Sound w) (hand : InHand w u p h) (t : Turn) (by : ByTurn w u t) where
   abbrev a : AdapterState
@@ -281,7 +281,7 @@ module _ (w : World) (line u p : ℕ) (h : Held) (s : Sound w) (hand : InHand w 
       let left = by.seen.left one.phase may.1.1 in
       let some = some_left a t.seen.left (own_adapter_ok w s u p h hand).state may.1.0.busy may.1.1 left in
       let moving : t.stage ≡ turn.Moving (a.block + a.moved) (a.count - a.moved) =
-      at Transferring one.phase ∙ ap (λ b. stage_moving b (is_clean a.last) a) may.1.1 in
+      at Transferring one.phase ∙ ap (λ b. stage_moving b (is_clean a.verdict) a) may.1.1 in
       let judged = tried_verdict w u h moved tried s lt may.1.3 in
       let block : h.first + moved ≡ a.block + a.moved = λ i. sym one.block i + may.1.2 i in (
         rw moving (block, omega (arith, left, some), seen_clean tried.marked tried.verdict judged),
@@ -292,8 +292,8 @@ module _ (w : World) (line u p : ℕ) (h : Held) (s : Sound w) (hand : InHand w 
       )
   turns Acts.Intr may taken =
       let one = transfer_of w s u p h hand may.1.0 in
-      let over : t.stage ≡ stage_moving true (is_clean a.last) a = at Transferring one.phase ∙ ap (λ b. stage_moving b (is_clean a.last) a) may.1.1 in
-      (interrupt_may (is_clean a.last) a t.stage t.seen.requests over, interrupted_to a.last a t.stage over)
+      let over : t.stage ≡ stage_moving true (is_clean a.verdict) a = at Transferring one.phase ∙ ap (λ b. stage_moving b (is_clean a.verdict) a) may.1.1 in
+      (interrupt_may (is_clean a.verdict) a t.stage t.seen.requests over, interrupted_to a.verdict a t.stage over)
   turns Acts.Dclr may taken = (
     clear_may (unit_at w u).phase a t.seen t.stage t.seen.requests may.1 by.stage,
     cleared_to (unit_at w u).phase (adapter_for (done w line u p h Acts.Dclr) u).state (drive_told t.seen trace.Dclr) may.1,

@@ -1,7 +1,6 @@
 -- What a drive in order takes, and which sector is the last of its transfer.
-use Rattle.std.proofs.Common.{◌≡◌, ℕ, ◌+◌, ◌-◌, ◌*◌, ◌<◌, ◌≤◌, Bool, true, false, refl, ap, arith}
+use Rattle.std.proofs.Common.{◌≡◌, ℕ, ◌+◌, ◌-◌, ◌≤◌, Bool, true, false, refl, ap, ◌∙◌, arith}
 use Rattle.std.specs.Prelude.{◌==◌}
-use Rattle.std.proofs.lemmas.Bool.Decides.{nat_tests}
 use Rattle.pack_geometry.specs.declared.Place.{Place}
 use Rattle.pack_geometry.specs.Geometry.{IsInside}
 use Rattle.drive_registers.specs.declared.Function.TheVariants as function
@@ -12,7 +11,7 @@ use Rattle.hardware_table.specs.Drive.{DriveState, is_ready}
 use Rattle.hardware_table.specs.Adapter.{AdapterState, IsAdapter, stepped}
 use Rattle.trace_rules.specs.DriveRule.{addressed, transfer_function, IsTaken, is_last}
 use Rattle.driver_machine.specs.Sound.{IsGood}
-use Rattle.driver_laws.proofs.SoundDrives.{left_adapter, refusals-search, refusals-transfer}
+use Rattle.driver_laws.proofs.SoundDrives.{left_adapter, last_sector, refusals-search, refusals-transfer}
 
 -- WHAT IS TAKEN. A search and a transfer at an address of the drive, where the drive is ready and in order.
 pub search_taken : (place : Place) (d : DriveState) → IsGood d → d.work ≡ work.Ready → IsInside d.kind place
@@ -35,15 +34,11 @@ pub clear_taken : (d : DriveState) → d.work ≡ work.Ready → IsTaken functio
 clear_taken d still = record { ready = ap is_ready still; online = λ needed. let e : false ≡ true = needed in cc e; accepted = refl }
 
 -- THE LAST SECTOR. The completion goes up with the last sector, and with a verdict other than clean.
-last_by : (bytes n : ℕ) → bytes ≡ 512 * n → 0 < bytes → (bytes - 512 == 0) ≡ (n == 1)
-last_by bytes n e some = grind (arith, nat_tests)
-
 pub completes : (moved : Moved) (a : AdapterState) (n : ℕ) → IsAdapter a → a.busy ≡ true → a.completion ≡ false → n + a.moved ≡ a.count
     → (stepped moved a).completion ≡ is_last moved n
 completes verdict.Clean a n is busy down e =
-    let counted = is.counted busy in
-    let bytes : a.byte_count ≡ 512 * n = omega (arith, counted, e) in
-    last_by a.byte_count n bytes (is.left busy down)
+    let left : a.count - a.moved ≡ n = omega (arith, e) in
+    last_sector a is busy down ∙ ap (λ (k : ℕ). k == 1) left
 completes (verdict.Burst at pattern) a n is busy down e = refl
 completes verdict.Hard a n is busy down e = refl
 completes verdict.Marked a n is busy down e = refl

@@ -108,6 +108,7 @@ module _ (w : World) (s : Sound w) (line u p : ℕ) (h : Held) (i : InHand w u p
         unit = there.unit;
         loan = there.loan;
         offset = there.offset;
+        last = there.last;
         size = there.size;
         whole = there.whole;
         inside = subst (λ y. h.first + count_of h ≤ limit_of y) (sym kind) there.inside;
@@ -254,6 +255,7 @@ module _ (w : World) (s : Sound w) (line p : ℕ) (h : Held) (new : IsNew w p h)
     unit = new.unit;
     loan = new.loan;
     offset = new.offset;
+        last = new.last;
     size = new.size;
     whole = new.whole;
     inside = subst (λ (y : UnitView). h.first + count_of h ≤ limit_of y.drive.kind) (sym joins_change.units.here) new.inside;

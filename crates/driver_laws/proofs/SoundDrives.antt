@@ -1,8 +1,8 @@
 -- A drive in a sound world: its functions are done, a sector's verdict is clean or marked, and it stays good.
-use Rattle.std.proofs.Common.{◌≡◌, inl, inr, ℕ, ◌+◌, ◌*◌, ◌-◌, ◌%◌, ◌<◌, ◌≤◌, Bool, true, false, List, [], Option, Some, None, refl, sym, ap, ◌∙◌, subst, arith}
-use Rattle.std.specs.Prelude.{if◌then◌else◌, ◌==◌, ◌&&◌, not, bit_or}
+use Rattle.std.proofs.Common.{◌≡◌, ◌≢◌, inl, inr, ℕ, ◌+◌, ◌*◌, ◌-◌, ◌%◌, ◌<◌, ◌≤◌, Bool, true, false, List, [], Option, Some, None, refl, sym, ap, ◌∙◌, subst, arith}
+use Rattle.std.specs.Prelude.{if◌then◌else◌, ◌==◌, ◌&&◌, not, bit_or, min}
 use Rattle.std.proofs.lemmas.Nat.{div-mul-add, mod-mul-add}
-use Rattle.std.proofs.lemmas.Bool.{false≢true}
+use Rattle.std.proofs.lemmas.Bool.{false≢true, eqb-true, eqb-false, eq-eqb}
 use Rattle.std.proofs.lemmas.Bool.Decides.{Decides-ltb, nat_tests}
 use Rattle.pack_geometry.specs.declared.DriveKind.{DriveKind}
 use Rattle.pack_geometry.specs.declared.DriveKind.TheVariants.{Rp06, Rm03, Rm05}
@@ -23,7 +23,7 @@ use Rattle.hardware_table.specs.Functions.{is_addressed, refusals, effect, refus
 use Rattle.hardware_table.specs.Events.{arrived_from, transfer_ended}
 use Rattle.hardware_table.specs.Moves.{stop_of, IsVerdictBy, IsVerdict, passed, after_move, with_mark_bits, with_fault_bits, fault_used}
 use Rattle.hardware_table.specs.Noise.{LiveNoise, strikes}
-use Rattle.hardware_table.specs.Adapter.{AdapterState, IsAdapter, loaded, started, stepped, drive_stepped, completed, new_adapter, next_block}
+use Rattle.hardware_table.specs.Adapter.{AdapterState, IsAdapter, bytes_between, bytes_loaded, loaded, started, stepped, drive_stepped, completed, new_adapter, next_block}
 use Rattle.seek_engine.specs.Seek.{position_for, sector_before}
 use Rattle.seek_engine.specs.declared.Position.{Position}
 use Rattle.seek_engine.specs.declared.Position.TheVariants as position
@@ -264,53 +264,145 @@ under_way_stepped verdict.Hard a d plain up u = absurd plain
 under_way_stepped (verdict.Faulted kind) a d plain up u = absurd plain
 under_way_stepped verdict.Offline a d plain up u = absurd plain
 
--- THE ADAPTER.
-pub new_adapter_is : IsAdapter new_adapter
-new_adapter_is = record { inside = omega arith; few = omega arith; offset = omega arith; place = omega arith; counted = λ e. absurd (cc); left = λ e. absurd (cc) }
+-- THE ADAPTER. What was loaded is at most 512 bytes a block, and more than all blocks but the last have.
+pub loaded_few : (blocks last skip count : ℕ) → bytes_between blocks last skip count ≤ 512 * count
+loaded_few blocks last skip count = by_test (skip + count == blocks)
+  where
+    by_test : (b : Bool) → (if b then 512 * count - (512 - last) else 512 * count) ≤ 512 * count
+    by_test true = omega arith
+    by_test false = omega arith
 
-pub started_adapter : (a : AdapterState) (frames : List ℕ) (offset count drive block : ℕ) (write : Bool) → 1 ≤ count → count ≤ 127 → offset < 512
-    → IsAdapter (started drive block write (loaded frames offset count 0 count a))
-started_adapter a frames offset count drive block write some few inside = record {
+pub loaded_many : (blocks last skip count : ℕ) → 1 ≤ last → 1 ≤ count → 512 * count < bytes_between blocks last skip count + 512
+loaded_many blocks last skip count some more = by_test (skip + count == blocks)
+  where
+    by_test : (b : Bool) → 512 * count < (if b then 512 * count - (512 - last) else 512 * count) + 512
+    by_test true = omega arith
+    by_test false = omega arith
+
+pub new_adapter_is : IsAdapter new_adapter
+new_adapter_is = record {
+  inside = omega arith;
+  few = omega arith;
+  offset = omega arith;
+  last_some = λ e. absurd (omega arith);
+  last_few = omega arith;
+  place = omega (arith, loaded_few 0 0 0 0);
+  counted = λ e. absurd (cc);
+  left = λ e. absurd (cc);
+}
+
+pub started_adapter : (a : AdapterState) (frames : List ℕ) (offset count last drive block : ℕ) (write : Bool) → 1 ≤ count → count ≤ 127 → offset < 512 → 1 ≤ last → last ≤ 512
+    → IsAdapter (started drive block write (loaded frames offset count last 0 count a))
+started_adapter a frames offset count last drive block write some few inside last_some last_few = record {
   inside = omega arith;
   few = few;
   offset = inside;
+  last_some = λ e. last_some;
+  last_few = last_few;
   place = refl;
-  counted = λ e. omega arith;
-  left = λ e f. omega arith;
+  counted = λ e. all_left (bytes_between count last 0 count);
+  left = λ e f. omega (arith, loaded_many count last 0 count last_some some);
 }
+  where
+    all_left : (bytes : ℕ) → bytes ≡ bytes - 512 * 0
+    all_left bytes = omega arith
 
 pub completed_adapter : (a : AdapterState) → IsAdapter a → IsAdapter (completed a)
-completed_adapter a k = record { inside = k.inside; few = k.few; offset = k.offset; place = k.place; counted = λ e. absurd (cc); left = λ e. absurd (cc) }
+completed_adapter a k = record {
+  inside = k.inside;
+  few = k.few;
+  offset = k.offset;
+  last_some = k.last_some;
+  last_few = k.last_few;
+  place = k.place;
+  counted = λ e. absurd (cc);
+  left = λ e. absurd (cc);
+}
 
 pub attentions_adapter : (a : AdapterState) (n : ℕ) → IsAdapter a → IsAdapter (record a { attentions = n })
-attentions_adapter a n k = record { inside = k.inside; few = k.few; offset = k.offset; place = k.place; counted = k.counted; left = k.left }
+attentions_adapter a n k = record {
+  inside = k.inside;
+  few = k.few;
+  offset = k.offset;
+  last_some = k.last_some;
+  last_few = k.last_few;
+  place = k.place;
+  counted = k.counted;
+  left = k.left;
+}
+
+moved_fewer : (bytes all moved count : ℕ) → bytes ≡ all - 512 * moved → 0 < bytes → all ≤ 512 * count → moved < count
+moved_fewer bytes all moved count counted some few = omega arith
 
 pub left_adapter : (a : AdapterState) → IsAdapter a → a.busy ≡ true → a.completion ≡ false → a.moved < a.count
-left_adapter a k busy up = let some = k.left busy up in let counted = k.counted busy in omega arith
+left_adapter a k busy up = moved_fewer a.byte_count (bytes_loaded a) a.moved a.count (k.counted busy) (k.left busy up) (loaded_few a.blocks a.last a.skip a.count)
 
-some_left : (n : ℕ) → (n - 512 == 0) ≡ false → 0 < n - 512
-some_left n e = grind (arith, nat_tests)
+-- a step takes 512 bytes, or what is left
+still_placed : (address bytes sum : ℕ) → address + bytes ≡ sum → address + min 512 bytes + (bytes - min 512 bytes) ≡ sum
+still_placed address bytes sum e = omega arith
+
+still_counted : (bytes all moved : ℕ) → bytes ≡ all - 512 * moved → bytes - min 512 bytes ≡ all - 512 * (moved + 1)
+still_counted bytes all moved e = omega arith
+
+some_left : (n : ℕ) → (n == 0) ≡ false → 0 < n
+some_left n e = let ne : n ≢ 0 = eqb-false _ _ e in omega arith
 
 pub stepped_adapter : (v : Moved) (a : AdapterState) → IsPlain v → IsAdapter a → a.busy ≡ true → a.completion ≡ false → IsAdapter (stepped v a)
-stepped_adapter verdict.Clean a plain k busy up =
-    let some = k.left busy up in
-    let counted = k.counted busy in
-    let place = k.place in
-    record { inside = k.inside; few = k.few; offset = k.offset; place = omega arith; counted = λ e. omega arith; left = λ e f. some_left a.byte_count f }
-stepped_adapter verdict.Marked a plain k busy up =
-    record { inside = k.inside; few = k.few; offset = k.offset; place = k.place; counted = k.counted; left = λ e f. absurd (cc) }
+stepped_adapter verdict.Clean a plain k busy up = record {
+  inside = k.inside;
+  few = k.few;
+  offset = k.offset;
+  last_some = k.last_some;
+  last_few = k.last_few;
+  place = still_placed a.address a.byte_count _ k.place;
+  counted = λ e. still_counted a.byte_count (bytes_loaded a) a.moved (k.counted busy);
+  left = λ e f. some_left (a.byte_count - min 512 a.byte_count) f;
+}
+stepped_adapter verdict.Marked a plain k busy up = record {
+  inside = k.inside;
+  few = k.few;
+  offset = k.offset;
+  last_some = k.last_some;
+  last_few = k.last_few;
+  place = k.place;
+  counted = k.counted;
+  left = λ e f. absurd (cc);
+}
 stepped_adapter (verdict.Burst p q) a plain k busy up = absurd plain
 stepped_adapter verdict.Hard a plain k busy up = absurd plain
 stepped_adapter (verdict.Faulted kind) a plain k busy up = absurd plain
 stepped_adapter verdict.Offline a plain k busy up = absurd plain
 
-last_one : (left moved count : ℕ) → 512 * moved + left ≡ 512 * count → 0 < left → (left - 512 == 0) ≡ true → moved + 1 ≡ count
-last_one left moved count e some test = grind (arith, nat_tests)
+-- the last sector of a transfer, by the bytes that are left
+last_by : (bytes all moved count : ℕ) → bytes ≡ all - 512 * moved → 0 < bytes → all ≤ 512 * count → 512 * count < all + 512
+    → (bytes - min 512 bytes == 0) ≡ (count - moved == 1)
+last_by bytes all moved count counted some few many = same_test (bytes - min 512 bytes == 0) (count - moved == 1) (λ e. there (eqb-true _ _ e)) (λ e. back (eqb-true _ _ e))
+  where
+    there : bytes - min 512 bytes ≡ 0 → (count - moved == 1) ≡ true
+    there e = let is : count - moved ≡ 1 = omega arith in eq-eqb _ _ is
+
+    back : count - moved ≡ 1 → (bytes - min 512 bytes == 0) ≡ true
+    back e = let is : bytes - min 512 bytes ≡ 0 = omega arith in eq-eqb _ _ is
+
+    same_test : (x y : Bool) → (x ≡ true → y ≡ true) → (y ≡ true → x ≡ true) → x ≡ y
+    same_test true y f g = sym (f refl)
+    same_test false true f g = g refl
+    same_test false false f g = refl
+
+pub last_sector : (a : AdapterState) → IsAdapter a → a.busy ≡ true → a.completion ≡ false → (stepped verdict.Clean a).completion ≡ (a.count - a.moved == 1)
+last_sector a k busy up =
+    let more = left_adapter a k busy up in
+    last_by a.byte_count (bytes_loaded a) a.moved a.count (k.counted busy) (k.left busy up)
+    (loaded_few a.blocks a.last a.skip a.count)
+    (loaded_many a.blocks a.last a.skip a.count (k.last_some (omega (arith, k.inside))) (omega arith))
+
+one_left : (count moved : ℕ) → (count - moved == 1) ≡ true → moved < count → moved + 1 ≡ count
+one_left count moved e more = let is : count - moved ≡ 1 = eqb-true _ _ e in omega arith
 
 -- where the completion goes up, all sectors moved, or the next one is marked
 pub over_stepped : (v : Moved) (a : AdapterState) → IsPlain v → IsAdapter a → a.busy ≡ true → a.completion ≡ false → (stepped v a).completion ≡ true
-    → IsEndedAt (stepped v a).last (stepped v a).moved a.count
-over_stepped verdict.Clean a plain k busy up e = last_one a.byte_count a.moved a.count (k.counted busy) (k.left busy up) e
+    → IsEndedAt (stepped v a).verdict (stepped v a).moved a.count
+over_stepped verdict.Clean a plain k busy up e = one_left a.count a.moved (sym (last_sector a k busy up) ∙ e) (left_adapter a k busy up)
 over_stepped verdict.Marked a plain k busy up e = left_adapter a k busy up
 over_stepped (verdict.Burst p q) a plain k busy up e = absurd plain
 over_stepped verdict.Hard a plain k busy up e = absurd plain

@@ -209,6 +209,7 @@ module _ (w now : World) (u p : ℕ) (v : UnitView) (z : AdapterView) (o : Optio
         unit = ok.unit;
         loan = ok.loan;
         offset = ok.offset;
+        last = ok.last;
         size = ok.size;
         whole = ok.whole;
         inside = subst (λ y. g.first + count_of g ≤ limit_of y) (sym (kind_stays g.unit)) ok.inside;

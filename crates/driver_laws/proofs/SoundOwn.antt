@@ -133,6 +133,7 @@ module _ (w : World) (s : Sound w) (u p : ℕ) (h : Held) (i : InHand w u p h) (
         unit = ok.unit;
         loan = ok.loan;
         offset = ok.offset;
+        last = ok.last;
         size = size;
         whole = whole;
         inside = subst (λ y. h.first + count_of h ≤ limit_of y) (sym same_kind) ok.inside;

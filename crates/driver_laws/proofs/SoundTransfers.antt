@@ -129,7 +129,7 @@ module _ (w : World) (s : Sound w) (u p : ℕ) (h : Held) (i : InHand w u p h) w
         subst (λ (y : AdapterView). IsUnderWay v.drive y.state) (sym c.adapters.here) way,
       ))
       (record {
-        state = started_adapter mine.state h.loan.frames h.loan.offset h.loan.count (drive_of u) h.first h.write there.loan.some there.loan.few there.loan.inside;
+        state = started_adapter mine.state h.loan.frames h.loan.offset h.loan.count h.loan.last (drive_of u) h.first h.write there.loan.some there.loan.few there.loan.inside there.loan.last_some there.loan.last_few;
         drive = λ x. drive_of-small u;
         busy = λ x. (
           p,
@@ -171,7 +171,7 @@ module _ (w : World) (s : Sound w) (u p : ℕ) (h : Held) (i : InHand w u p h) w
       } in
       let t = transfer_of w s u p h i may.0 in
       let way : IsUnderWay old.drive a = under_way w u s (unit_small w s u p h i) t.phase in
-      let stopped : IsStopped v.drive a.last false = record {
+      let stopped : IsStopped v.drive a.verdict false = record {
         work = way.work ∙ ap (λ b. if b then work.Ready else work.Transfer a.write) may.1;
         attention = way.attention;
         clear = λ x. elim x [ inl e ↦ way.clear (inr e) | inr e ↦ absurd (cc) ];
@@ -184,7 +184,7 @@ module _ (w : World) (s : Sound w) (u p : ℕ) (h : Held) (i : InHand w u p h) w
       (own_unit w s u p h i now v z g c is.0 is.1 refl refl ok.drive (
         has_head w s u p h i,
         stopped,
-        in_hand_only w s u p h i now v z g c refl (λ f. (f.on_bus ≡ false) × IsEndedAt a.last a.moved (count_of f)) (refl, t.over may.1),
+        in_hand_only w s u p h i now v z g c refl (λ f. (f.on_bus ≡ false) × IsEndedAt a.verdict a.moved (count_of f)) (refl, t.over may.1),
       ))
       (record {
         state = completed_adapter a adapter_ok.state;
@@ -249,7 +249,7 @@ module _ (w : World) (s : Sound w) (u p : ℕ) (h : Held) (i : InHand w u p h) w
             skip = step.skip ∙ tr.skip;
             count = step.count ∙ tr.count ∙ sym (ap count_of reading);
             write = step.write ∙ tr.write ∙ sym (ap (λ (f : Held). f.write) reading);
-            over = λ e. subst (IsEndedAt z.state.last z.state.moved) (tr.count ∙ sym (ap count_of reading)) (over_stepped t.verdict a plain adapter_ok.state may.0.busy may.1 e);
+            over = λ e. subst (IsEndedAt z.state.verdict z.state.moved) (tr.count ∙ sym (ap count_of reading)) (over_stepped t.verdict a plain adapter_ok.state may.0.busy may.1 e);
           }),
         );
         rest = λ x. absurd (cc (x, busy.busy));

@@ -112,10 +112,10 @@ stands_of w packs m sound rows lists = record {
 pub record IsSameProgress (old new : AdapterState) : Type 0 where
   pub moved : new.moved ≡ old.moved
   pub completion : new.completion ≡ old.completion
-  pub last : new.last ≡ old.last
+  pub last : new.verdict ≡ old.verdict
 
 pub progress_by : (phase : Phase) (old new : AdapterState) → (phase ≡ Transferring → IsSameProgress old new)
-    → (moved_by phase new.moved ≡ moved_by phase old.moved) × (found_by phase new.completion new.last → found_by phase old.completion old.last)
+    → (moved_by phase new.moved ≡ moved_by phase old.moved) × (found_by phase new.completion new.verdict → found_by phase old.completion old.verdict)
 progress_by Waiting old new same = (refl, λ f. f)
 progress_by Positioning old new same = (refl, λ f. f)
 progress_by Queued old new same = (refl, λ f. f)
@@ -152,7 +152,7 @@ worked_elsewhere w next u x p packs now old new h sound away other rows hand =
     let moved : moved_at next x ≡ moved_at w x = ap (λ (v : UnitView). moved_by v.phase (adapter_for next x).state.moved) kept ∙ by.0 in
     worked_as (packs x) (now x) (old x) (new x) h (moved_at w x) (moved_at next x) (FoundMarked w x) (FoundMarked next x)
     (away.kept x other) (away.blocks x other) moved
-    (λ f. by.1 (subst (λ (v : UnitView). found_by v.phase (adapter_for next x).state.completion (adapter_for next x).state.last) kept f))
+    (λ f. by.1 (subst (λ (v : UnitView). found_by v.phase (adapter_for next x).state.completion (adapter_for next x).state.verdict) kept f))
     (rows.worked x p h (hand_before w next u x p packs now old new h sound away other hand))
 
 -- the rows after an act for one unit: that unit's is shown, and the others are as before
@@ -210,7 +210,7 @@ module _ (w : World) (u : ℕ) (v : UnitView) (adapters : List AdapterView) (pla
         → ((x : ℕ) → x ≢ u → (unit_at w x).phase ≡ Transferring → IsSameProgress (adapter_for w x).state (adapter_for next_world x).state)
         → ((x : ℕ) → x ≢ u → now x ≡ packs x)
         → Lists places m
-        → IsWorked (now u) (m.blocks u) new (moved_by v.phase own_state.moved) (found_by v.phase own_state.completion own_state.last)
+        → IsWorked (now u) (m.blocks u) new (moved_by v.phase own_state.moved) (found_by v.phase own_state.completion own_state.verdict)
         → Stands next_world now m
     acted queue slot slots progress kept lists mine = stands_of next_world now m later
         (rows_after w next_world u packs now m.blocks m.blocks sound (rows_of w packs m sound st) away none worked) lists
@@ -240,4 +240,4 @@ module _ (w : World) (u : ℕ) (v : UnitView) (adapters : List AdapterView) (pla
             let same : q ≡ p = cc (heads) in
             let is : g ≡ new = same_slot places p g new (subst (λ (k : ℕ). slot_at places k ≡ Some g) same its.slot) slot in
             subst (λ (k : Held). IsWorked (now u) (m.blocks u) k (moved_at next_world u) (FoundMarked next_world u)) (sym is)
-            (subst (λ (z : UnitView). IsWorked (now u) (m.blocks u) new (moved_by z.phase own_state.moved) (found_by z.phase own_state.completion own_state.last)) (sym unit_now) mine)
+            (subst (λ (z : UnitView). IsWorked (now u) (m.blocks u) new (moved_by z.phase own_state.moved) (found_by z.phase own_state.completion own_state.verdict)) (sym unit_now) mine)

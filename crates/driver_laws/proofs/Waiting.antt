@@ -122,7 +122,7 @@ own_clear (verdict.Faulted fault) line u p h = (refl, tt)
 own_clear verdict.Offline line u p h = (refl, tt)
 
 own_end : (line u p : ℕ) (h : Held) (a : AdapterState) → AreOwn line (end_acts line u p h a)
-own_end line u p h a = (refl, AreOwn-append line (clear_of a.last line u p (returned h)) _ (own_clear a.last line u p (returned h)) (refl, tt))
+own_end line u p h a = (refl, AreOwn-append line (clear_of a.verdict line u p (returned h)) _ (own_clear a.verdict line u p (returned h)) (refl, tt))
 
 own_finish : (line a : ℕ) (w : World) → AreOwn line (finish_acts line a w)
 own_finish line a w = by_state (adapter_at w a).state.busy (adapter_at w a).state.completion

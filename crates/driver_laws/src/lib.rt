@@ -3,7 +3,9 @@
 
 ghost use Rattle.std.specs.Prelude.{◌≡◌, ◌↔◌, ℕ, ◌<◌, ◌≤◌, ◌*◌, List, None, Some};
 ghost use Rattle.pack_model.specs.Pack.{Pack};
-ghost use Rattle.subsystem_spec.specs.BlockMachine.{Machine, contents, idle};
+ghost use Rattle.main_memory.specs.Frames.{frames_needed as memory_frames_needed};
+ghost use Rattle.subsystem_spec.specs.Request.{Request};
+ghost use Rattle.subsystem_spec.specs.BlockMachine.{Machine, frames_needed, contents, idle};
 ghost use Rattle.trace_rules.specs.Obeys.{Obeys};
 ghost use Rattle.driver_machine.specs.declared.Event.{Event};
 ghost use Rattle.driver_machine.specs.declared.UnitSetup.{UnitSetup};
@@ -54,6 +56,13 @@ pub fn drain_law()
     ensures falls { (w : World) → (line : ℕ) → (e : Event) → (t : Tried) → Sound w → next_of w ≡ Some e → Run w (event_acts line e t w)
         → work_left (after_all w (event_acts line e t w)) < work_left w }
     ensures bound { (w : World) → Sound w → work_left w ≤ 200 * blocks_outstanding w }
+{}
+
+/// The law of frames: the block machine counts for a request the frames of main memory that a buffer of as many whole blocks
+/// needs.
+pub fn frames_law()
+    ensures { (r : Request) → 1 ≤ r.count → r.offset < 512
+        → frames_needed r ≡ memory_frames_needed r.count r.offset 512 }
 {}
 
 /// The law of what is seen. In every run the requests that are asked and the lines that are told obey all rules: the order of

@@ -92,7 +92,7 @@ abbrev pub transferring : Held → UnitView → UnitView
 transferring h v = transferring_at (target_of v h) h.write v
 
 abbrev pub interrupted : AdapterState → UnitView → UnitView
-interrupted a v = record v { phase = Interrupted a.moved a.last false }
+interrupted a v = record v { phase = Interrupted a.moved a.verdict false }
 
 abbrev pub cleared_phase : Phase → Phase
 cleared_phase (Interrupted moved last cleared) = Interrupted moved last true
@@ -114,7 +114,7 @@ with_state f a = record a { state = f a.state }
 abbrev pub commanded : ℕ → Held → AdapterView → AdapterView
 commanded drive h a = record a {
   queue = drop 1 a.queue;
-  state = started drive h.first h.write (loaded h.loan.frames h.loan.offset h.loan.count 0 h.loan.count a.state);
+  state = started drive h.first h.write (loaded h.loan.frames h.loan.offset h.loan.count h.loan.last 0 h.loan.count a.state);
 }
 
 -- how a request ends after a data interrupt
@@ -179,6 +179,7 @@ pub record IsNew (w : World) (p : ℕ) (h : Held) : Type 0 where
   pub declared : (unit_at w h.unit).declared ≡ true
   pub loan : IsLoan h.loan
   pub offset : h.loan.offset ≡ 0
+  pub last : h.loan.last ≡ 512
   pub size : length h.blocks ≡ count_of h
   pub whole : h.write ≡ true → (k : ℕ) → k < count_of h → length (block_in h k) ≡ 512
   pub inside : h.first + count_of h ≤ limit_of (unit_at w h.unit).drive.kind

@@ -118,7 +118,7 @@ returned h = record h { on_bus = false }
 abbrev pub end_acts : ℕ → ℕ → ℕ → Held → AdapterState → List Act
 end_acts line u p h a =
     Acts.Of line u p h Acts.Intr
-    ∷ clear_of a.last line u p (returned h) ++ Acts.Of line u p (returned h) (Acts.End (ending h a.moved a.last)) ∷ []
+    ∷ clear_of a.verdict line u p (returned h) ++ Acts.Of line u p (returned h) (Acts.End (ending h a.moved a.verdict)) ∷ []
 
 abbrev pub finish_head : List ℕ → ℕ → ℕ → ℕ → World → List Act
 finish_head [] line u a w = []

@@ -17,7 +17,7 @@ pub record Held : Type 0 where
   pub blocks : List (List ℕ)
 
 abbrev pub no_loan : Loan
-no_loan = record { frames = []; offset = 0; count = 0 }
+no_loan = record { frames = []; offset = 0; count = 0; last = 0 }
 
 abbrev pub no_held : Held
 no_held = record { id = 0; unit = 0; first = 0; write = false; loan = no_loan; on_bus = false; ended = false; blocks = [] }
@@ -46,7 +46,7 @@ without p places = slice_set places p None
 abbrev pub frames_used : Places → ℕ
 frames_used [] = 0
 frames_used (None ∷ places) = frames_used places
-frames_used (Some h ∷ places) = frames_needed h.loan.count h.loan.offset + frames_used places
+frames_used (Some h ∷ places) = frames_needed h.loan.count h.loan.offset h.loan.last + frames_used places
 
 -- a list of bytes cut in so many pieces of a size
 abbrev pub pieces : ℕ → ℕ → List ℕ → List (List ℕ)
@@ -73,6 +73,7 @@ pub record IsHeldFor (r : Request) (bytes : List ℕ) (h : Held) : Type 0 where
   pub asked : request_of h ≡ r
   pub loan : IsLoan h.loan
   pub offset : h.loan.offset ≡ 0
+  pub last : h.loan.last ≡ 512
   pub on_bus : h.on_bus ≡ false
   pub ended : h.ended ≡ false
   pub size : length h.blocks ≡ r.count

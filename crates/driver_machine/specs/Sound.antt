@@ -68,7 +68,7 @@ pub record IsMoving (d : DriveState) : Type 0 where
 pub record IsUnderWay (d : DriveState) (a : AdapterState) : Type 0 where
   pub work : d.work ≡ (if a.completion then work.Ready else work.Transfer a.write)
   pub attention : d.attention ≡ false
-  pub clear : (a.completion ≡ false) ⊎ (a.last ≡ verdict.Clean) → IsClear d
+  pub clear : (a.completion ≡ false) ⊎ (a.verdict ≡ verdict.Clean) → IsClear d
 
 -- after the data interrupt a drive is still; a verdict other than clean shows in it until it is cleared
 pub record IsStopped (d : DriveState) (last : Moved) (cleared : Bool) : Type 0 where
@@ -125,7 +125,7 @@ pub record Transfers (w : World) (u p : ℕ) (h : Held) (a : AdapterState) : Typ
   pub skip : a.skip ≡ 0
   pub count : a.count ≡ count_of h
   pub write : a.write ≡ h.write
-  pub over : a.completion ≡ true → IsEndedAt a.last a.moved (count_of h)
+  pub over : a.completion ≡ true → IsEndedAt a.verdict a.moved (count_of h)
 
 pub record AdapterOk (w : World) (a : ℕ) (v : AdapterView) : Type 0 where
   pub state : IsAdapter v.state
@@ -142,6 +142,7 @@ pub record PlaceOk (w : World) (p : ℕ) (h : Held) : Type 0 where
   pub unit : h.unit < 32
   pub loan : IsLoan h.loan
   pub offset : h.loan.offset ≡ 0
+  pub last : h.loan.last ≡ 512
   pub size : length h.blocks ≡ count_of h
   pub whole : h.write ≡ true → (k : ℕ) → k < count_of h → length (block_in h k) ≡ 512
   pub inside : h.first + count_of h ≤ limit_of (unit_at w h.unit).drive.kind

@@ -2,11 +2,10 @@
 use Rattle.std.specs.Prelude.{◌≡◌, ℕ, ◌+◌, ◌<◌, Bool, true, false, if◌then◌else◌, List, [], ◌∷◌, ◌++◌, map, take, Some, None}
 use Rattle.hardware_table.specs.declared.Moved.{Moved}
 use Rattle.hardware_table.specs.declared.Moved.TheVariants as verdict
-use Rattle.main_memory.specs.Frames.{frames_needed}
 use Rattle.pack_model.specs.Pack.{Pack}
 use Rattle.subsystem_spec.specs.Request as seen
 use Rattle.subsystem_spec.specs.Request.Line.{Silent, Submits}
-use Rattle.subsystem_spec.specs.BlockMachine.{Blocks, Machine, Step, contents, joined, after_done, AreUsable}
+use Rattle.subsystem_spec.specs.BlockMachine.{Blocks, Machine, Step, frames_needed, contents, joined, after_done, AreUsable}
 use Rattle.driver_machine.specs.declared.AnswerKind.{AnswerKind}
 use Rattle.driver_machine.specs.declared.AnswerKind.TheVariants as answer
 use Rattle.driver_machine.specs.declared.Cause.TheVariants.{Unforwarded}
@@ -84,7 +83,7 @@ found_by Positioning completion last = ⊥
 found_by Queued completion last = ⊥
 
 abbrev pub FoundMarked : World → ℕ → Type 0
-FoundMarked w u = found_by (unit_at w u).phase (adapter_for w u).state.completion (adapter_for w u).state.last
+FoundMarked w u = found_by (unit_at w u).phase (adapter_for w u).state.completion (adapter_for w u).state.verdict
 
 -- the map with the blocks of the request in hand that are done: a write has replaced them
 abbrev pub in_hand_of : List ℕ → World → ℕ → Blocks → Blocks
@@ -106,7 +105,7 @@ abbrev pub frames_outstanding : Places → ℕ
 frames_outstanding [] = 0
 frames_outstanding (None ∷ places) = frames_outstanding places
 frames_outstanding (Some h ∷ places) =
-    (if h.ended then 0 else frames_needed h.loan.count h.loan.offset) + frames_outstanding places
+    (if h.ended then 0 else frames_needed (asked h)) + frames_outstanding places
 
 pub record Stands (w : World) (packs : ℕ → Pack) (m : Machine) : Type 0 where
   pub blocks : (u block : ℕ) → contents packs u block ≡ with_done w u m.blocks u block

@@ -11,11 +11,11 @@ use Rattle.fire_code.specs.Remainder.{remainder}
 use Rattle.fire_code.specs.Burst.{IsShortBurst, IsBurst, places_of}
 use Rattle.fire_code.specs.Noise.{IsFlipped}
 use Rattle.fire_code.specs.Repair.{burst_byte}
-use Rattle.fire_code.specs.Word.{word_remainder}
+use Rattle.fire_code.specs.Word.{IsData, word_remainder}
 use Rattle.fire_code.specs.declared.Verdict.TheVariants.{Burst}
 use Rattle.fire_code.proofs.Laws.{burst_named, repaired as word_named}
 use Rattle.fire_code.proofs.Repairs.{byte_repaired}
-use Rattle.ecc_repair.specs.Repaired.{IsData, repaired, data_bit, pattern_bit}
+use Rattle.ecc_repair.specs.Repaired.{repaired, data_bit, pattern_bit}
 use Rattle.ecc_repair.proofs.Bytes.{length-repaired, byte-repaired, burst-before, burst-after}
 
 -- a byte of repaired data
@@ -56,9 +56,9 @@ moved_bit at q k = by_test (nat_lt k (at - 1)) refl
     by_test true e = rw e (ap (λ n. bit_at n k) (none (q * 2 ^ (at - 1))) ∙ bit_at_cat_low q (at - 1) 0 k (ltb-true k (at - 1) e) ∙ bit_at-zero k)
     by_test false e = rw e (ap (λ n. bit_at n k) (none (q * 2 ^ (at - 1))) ∙ bit_at_cat_high q (at - 1) 0 k (pow_pos (at - 1)) (ltb-false k (at - 1) e))
 
-pub places_flipped : (at q place : ℕ) (bytes : List ℕ) → length bytes ≡ 512 → place < 4096 → data_bit (repaired at q bytes) place ≡ (data_bit bytes place + pattern_bit at q place) % 2
+pub places_flipped : (at q place : ℕ) (bytes : List ℕ) → place < 8 * length bytes → data_bit (repaired at q bytes) place ≡ (data_bit bytes place + pattern_bit at q place) % 2
 unfolding burst_byte
-places_flipped at q place bytes size h =
+places_flipped at q place bytes h =
     ap (λ n. bit_at n (place % 8)) (byte_here at q (place / 8) bytes (omega arith))
     ∙ bit_at_xor (get_or bytes (place / 8) 0) (q * 2 ^ (at - 1) / 2 ^ (8 * (place / 8)) % 2 ^ 8) (place % 8)
     ∙ ap (λ n. (bit_at (get_or bytes (place / 8) 0) (place % 8) + n) % 2)

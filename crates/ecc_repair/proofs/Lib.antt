@@ -1,3 +1,4 @@
 pub mod Bytes
 pub mod Flipping
+pub mod Fronts
 pub mod Laws

@@ -1,12 +1,7 @@
--- A sector's data, and its repair by a burst.
-use Rattle.std.specs.Prelude.{◌≡◌, ℕ, ◌-◌, ◌/◌, ◌%◌, ◌^◌, ◌<◌, nat_lt, if◌then◌else◌, List, [], ◌∷◌, length, All, bit_xor, slice_index, suc}
+-- The data of a sector, or the front of it, and its repair by a burst.
+use Rattle.std.specs.Prelude.{ℕ, ◌-◌, ◌/◌, ◌%◌, nat_lt, if◌then◌else◌, List, [], ◌∷◌, bit_xor, slice_index, suc}
 use Rattle.std.specs.Int.{bit_at}
 use Rattle.fire_code.specs.Repair.{burst_byte}
-
--- 512 bytes
-pub record IsData (bytes : List ℕ) : Type 0 where
-  pub size : length bytes ≡ 512
-  pub small : All (λ byte. byte < 2 ^ 8) bytes
 
 -- bytes, counted from one on, each with the burst's byte flipped in it
 unfoldable pub repaired_from : ℕ → ℕ → ℕ → List ℕ → List ℕ

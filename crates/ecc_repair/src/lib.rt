@@ -1,20 +1,22 @@
 //! The repair of a sector in main memory: the driver flips back the burst that the drive's registers tell.
 #![tactic(auto)]
 
-ghost use Rattle.std.specs.Prelude.{◌≡◌, ◌≤◌, ◌<◌, ◌+◌, ◌-◌, ◌*◌, ◌/◌, ◌%◌, ◌⊎◌, ℕ, List, length, slice_index};
+ghost use Rattle.std.specs.Prelude.{◌≡◌, ◌≤◌, ◌<◌, ◌+◌, ◌-◌, ◌*◌, ◌/◌, ◌%◌, ◌^◌, ◌⊎◌, ℕ, List, All, length, slice_index};
 ghost use Rattle.fire_code.specs.Remainder.{remainder};
 ghost use Rattle.fire_code.specs.Burst.{IsShortBurst, IsBurst};
-ghost use Rattle.fire_code.specs.Word.{word_remainder};
+ghost use Rattle.fire_code.specs.Word.{IsData, word_remainder};
 ghost use Rattle.fire_code.specs.Noise.{IsFlipped};
+ghost use Rattle.main_memory.specs.Bytes.{front};
 ghost use Rattle.main_memory.specs.Windows.{Writes, memory_name, window_bytes};
-ghost use Rattle.ecc_repair.specs.Repaired.{IsData, repaired, data_bit, pattern_bit};
+ghost use Rattle.ecc_repair.specs.Repaired.{repaired, data_bit, pattern_bit};
 
 use main_memory::Window;
 
-/// Repairs the sector that is seen through a window: an exclusive or of `pattern` from bit `(at - 1) % 8` of byte
-/// `(at - 1) / 8` on. `at`, from 1 to 4128, is the first place of the burst, counted from 1, and bit j of `pattern`,
-/// of 11 bits, stands for place `at - 1 + j`, as the drives' registers tell it. It changes at most three bytes, and
-/// none beyond the 512: what lies behind them is the check, which is not in memory.
+/// Repairs the sector that is seen through a window, or the front of it where the window is shorter: an exclusive or
+/// of `pattern` from bit `(at - 1) % 8` of byte `(at - 1) / 8` on. `at`, from 1 to 4128, is the first place of the
+/// burst, counted from 1, and bit j of `pattern`, of 11 bits, stands for place `at - 1 + j`, as the drives' registers
+/// tell it. It changes at most three bytes, and none beyond the window's length: what lies behind them is not in
+/// memory.
 pub fn repair(window: &mut Window<'_>, at: u16, pattern: u16)
     requires first { 1 ≤ at }
     requires last { at ≤ 4128 }
@@ -22,7 +24,7 @@ pub fn repair(window: &mut Window<'_>, at: u16, pattern: u16)
     ensures same_memory { memory_name window.new ≡ memory_name window.old }
     ensures writes { Writes window.old window.new (repaired at pattern (window_bytes window.old)) }
     ensures bytes { window_bytes window.new ≡ repaired at pattern (window_bytes window.old) }
-    ensures whole { IsData (window_bytes window.old) }
+    ensures small { All (λ byte. byte < 2 ^ 8) (window_bytes window.old) }
 {
     let mut bytes = [0; 512];
     window.copy_out(&mut bytes);
@@ -46,15 +48,18 @@ fn flip(bytes: &mut [u8; 512], at: u16, pattern: u16)
 }
 
 /// The laws of the repair. The places that the pattern's bits stand for are flipped, and no other; at most three
-/// bytes change. A sector that is read with a short burst and repaired has the bytes that stand on the pack: by the
-/// burst's places alone, and by the verdict on the whole word that was read, where the sector's own word is right.
+/// bytes change; the front of a sector is repaired as the sector is. A sector that is read with a short burst and
+/// repaired has the bytes that stand on the pack: by the burst's places alone, and by the verdict on the whole word
+/// that was read, where the sector's own word is right.
 pub fn repair_law()
-    ensures places { (at pattern place : ℕ) → (bytes : List ℕ) → length bytes ≡ 512 → place < 4096
+    ensures places { (at pattern place : ℕ) → (bytes : List ℕ) → place < 8 * length bytes
         → data_bit (repaired at pattern bytes) place
         ≡ (data_bit bytes place + pattern_bit at pattern place) % 2 }
     ensures others { (at pattern i : ℕ) → (bytes : List ℕ) → pattern < 2048 → i < length bytes
         → (i < (at - 1) / 8) ⊎ ((at - 1) / 8 + 2 < i)
         → slice_index (repaired at pattern bytes) i ≡ slice_index bytes i }
+    ensures cut { (at pattern size : ℕ) → (bytes : List ℕ)
+        → repaired at pattern (front size bytes) ≡ front size (repaired at pattern bytes) }
     ensures restored { (at pattern : ℕ) → (places sector read : List ℕ) → (check other : ℕ)
         → IsData sector → IsData read → IsShortBurst places → IsFlipped places sector check read other
         → IsBurst at pattern (remainder places)
@@ -72,34 +77,41 @@ mod tests {
     use std::process::Abort;
     use std::test::Fail;
 
-    // Bursts at both ends of a block. In its last byte a burst is cut, and behind it nothing is flipped.
+    // Bursts at both ends of a block, whole or short. In its last byte a burst is cut, and behind it nothing is flipped.
     #[test]
-    fn burst_at_byte_511(rt: HostRuntime) -> Result<(), Fail> {
+    fn burst_at_the_end(rt: HostRuntime) -> Result<(), Fail> {
         let mut memory = MainMemory::new(rt.alloc())?;
-        repaired_block(&rt, &mut memory, 1, 0o1, 0, [0x01, 0, 0])?;
-        repaired_block(&rt, &mut memory, 1, 0o3777, 0, [0xff, 0x07, 0])?;
-        repaired_block(&rt, &mut memory, 8, 0o3777, 0, [0x80, 0xff, 0x03])?;
-        repaired_block(&rt, &mut memory, 4091, 0o2001, 509, [0, 0, 0x04])?;
-        repaired_block(&rt, &mut memory, 4096, 0o3777, 509, [0, 0, 0x80])?;
-        repaired_block(&rt, &mut memory, 4097, 0o3777, 509, [0, 0, 0])?;
-        repaired_block(&rt, &mut memory, 4128, 0o1, 509, [0, 0, 0])?;
+        repaired_block(&rt, &mut memory, 1, 0o1, 512, 0, [0x01, 0, 0])?;
+        repaired_block(&rt, &mut memory, 1, 0o3777, 512, 0, [0xff, 0x07, 0])?;
+        repaired_block(&rt, &mut memory, 8, 0o3777, 512, 0, [0x80, 0xff, 0x03])?;
+        repaired_block(&rt, &mut memory, 4091, 0o2001, 512, 509, [0, 0, 0x04])?;
+        repaired_block(&rt, &mut memory, 4096, 0o3777, 512, 509, [0, 0, 0x80])?;
+        repaired_block(&rt, &mut memory, 4097, 0o3777, 512, 509, [0, 0, 0])?;
+        repaired_block(&rt, &mut memory, 4128, 0o1, 512, 509, [0, 0, 0])?;
+        repaired_block(&rt, &mut memory, 29, 0o177, 5, 3, [0xf0, 0x07, 0])?;
+        repaired_block(&rt, &mut memory, 29, 0o177, 4, 3, [0xf0, 0, 0])?;
+        repaired_block(&rt, &mut memory, 33, 0o177, 4, 3, [0, 0, 0])?;
         Ok(())
     }
 
-    // Repairs a block in two frames, and looks at what is flipped: three bytes from one on, and no other.
+    // Repairs a block in two frames, of `last` bytes 0x55, and looks at what is flipped: three bytes from one on, and no
+    // other, nor the zeros behind the block.
     fn repaired_block(
         rt: &impl Abort,
         memory: &mut MainMemory,
         at: u16,
         pattern: u16,
+        last: u32,
         first: usize,
         flipped: [u8; 3],
     ) -> Result<(), Fail>
         requires at { 1 ≤ at }
-        requires last { at ≤ 4128 }
+        requires end { at ≤ 4128 }
         requires pattern { pattern < 2048 }
+        requires some { 1 ≤ last }
+        requires few { last ≤ 512 }
     {
-        let buffer = memory.lend(1, 300)?;
+        let buffer = memory.lend(1, 300, last)?;
         memory.store(&buffer, 0, &[0x55; 512]);
         let buffer = to_bus(buffer);
         repair(&mut memory.window(&buffer, 0), at, pattern);
@@ -112,7 +124,8 @@ mod tests {
             } else {
                 0
             };
-            assert_eq!(rt; *byte, 0x55 ^ flips, "byte {i} of the burst at {at}");
+            let stored = if i < last as usize { 0x55 } else { 0 };
+            assert_eq!(rt; *byte, stored ^ flips, "byte {i} of the burst at {at}");
         }
         memory.give_back(buffer);
         Ok(())

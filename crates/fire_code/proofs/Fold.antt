@@ -5,7 +5,7 @@ use Rattle.std.proofs.lemmas.Nat.{mod_below, pow_pos}
 use Rattle.std.proofs.lemmas.Bool.{agree_below, agree_below_at, eqb-true}
 use lib.Bits.{bit_xor, xor_lt}
 use Rattle.fire_code.specs.Remainder.{times_x, repeat}
-use Rattle.fire_code.specs.Residue.{turn, turn_window, turn_cycle, window_of}
+use Rattle.fire_code.specs.Residue.{turn, turn_ring, turn_cycle, ring_of}
 use Rattle.fire_code.proofs.Linear.{IsLinear, linear_after, linear_xor, linear_mod, linear_div, linear_shl, linear_id, same_linear, bit_cases}
 use Rattle.fire_code.proofs.Register.{turn-linear, repeat_keeps, bit_times-linear, bit_is}
 
@@ -37,16 +37,16 @@ pub times_x-lt : (v : ℕ) → times_x v < 2 ^ 32
 unfolding times_x turn
 times_x-lt v = turn-lt 31 0x00A00805 v (omega arith)
 
-pub window_of-linear : IsLinear window_of
-unfolding window_of
-window_of-linear = linear_xor (λ v. v % 2 ^ 21) (λ v. v / 2 ^ 21) (linear_mod 21) (linear_div 21)
+pub ring_of-linear : IsLinear ring_of
+unfolding ring_of
+ring_of-linear = linear_xor (λ v. v % 2 ^ 21) (λ v. v / 2 ^ 21) (linear_mod 21) (linear_div 21)
 
-pub window_of-times_x : (v : ℕ) → v < 2 ^ 32 → window_of (times_x v) ≡ turn_window (window_of v)
-unfolding window_of times_x turn
-window_of-times_x =
-    same_by_test (λ v. window_of (times_x v)) (λ v. turn_window (window_of v))
-    (linear_after window_of times_x window_of-linear times_x-linear)
-    (linear_after turn_window window_of (turn-linear 20 1) window_of-linear) 32 refl
+pub ring_of-times_x : (v : ℕ) → v < 2 ^ 32 → ring_of (times_x v) ≡ turn_ring (ring_of v)
+unfolding ring_of times_x turn
+ring_of-times_x =
+    same_by_test (λ v. ring_of (times_x v)) (λ v. turn_ring (ring_of v))
+    (linear_after ring_of times_x ring_of-linear times_x-linear)
+    (linear_after turn_ring ring_of (turn-linear 20 1) ring_of-linear) 32 refl
 
 -- a number of 11 bits times x^21 + 1: where x acts as it does modulo x^11 + x^2 + 1
 unfoldable pub doubled : ℕ → ℕ

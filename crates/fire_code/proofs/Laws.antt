@@ -1,5 +1,5 @@
 -- What the burst law says of verdicts, classes and words.
-use Rattle.std.proofs.Common.{◌≡◌, ℕ, ◌+◌, ◌-◌, ◌<◌, List, refl, sym, ap, ap₂, ◌∙◌, subst, arith, All, ◌/◌, ◌⊎◌, inl, inr, ◌↔◌, ◌==◌, Bool, true, false, cond, bit_xor}
+use Rattle.std.proofs.Common.{◌≡◌, ℕ, ◌+◌, ◌-◌, ◌<◌, ◌≤◌, List, refl, sym, ap, ap₂, ◌∙◌, subst, arith, All, ◌/◌, ◌⊎◌, inl, inr, ◌↔◌, ◌==◌, Bool, true, false, cond, bit_xor}
 use lib.Bits.{xor_zero_r}
 use Rattle.std.specs.List.{list_any}
 use Rattle.std.proofs.lemmas.List.Elements.{All-head}
@@ -22,6 +22,10 @@ use Rattle.fire_code.proofs.Shifted.{shifted_unique}
 
 first_in_word : (at q r : ℕ) → IsBurst at q r → at - 1 < 4128
 first_in_word at q r b = All-head (λ k. k < 4128) (at - 1) (places_of 10 (at - 1 + 1) (q / 2)) (subst (λ ks. All (λ k. k < 4128) ks) (places_of-odd 10 (at - 1) q b.odd) b.burst.set.in_word)
+
+-- a burst begins in the word
+pub burst_begins : (at q r : ℕ) → IsBurst at q r → at ≤ 4128
+burst_begins at q r b = omega (arith, b.counted, first_in_word at q r b)
 
 raised_one : (at q r : ℕ) → IsBurst at q r → repeat times_x 10 r ≡ repeat times_x (4138 - (11 + (at - 1))) (reversed 11 q)
 raised_one at q r b =

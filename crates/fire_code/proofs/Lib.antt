@@ -21,3 +21,4 @@ pub mod LogTable
 pub mod Residues
 pub mod Turns
 pub mod Repairs
+pub mod Periods

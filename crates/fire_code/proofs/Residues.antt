@@ -3,10 +3,10 @@ use Rattle.std.proofs.Common.{◌≡◌, ℕ, zero, suc, ◌+◌, ◌*◌, ◌/�
 use Rattle.std.specs.Int.{bit_at}
 use lib.Bits.{bit_xor}
 use Rattle.fire_code.specs.Remainder.{times_x, repeat}
-use Rattle.fire_code.specs.Residue.{turn, turn_window, turn_cycle, window_of, cycle_of}
+use Rattle.fire_code.specs.Residue.{turn, turn_ring, turn_cycle, ring_of, cycle_of}
 use Rattle.fire_code.proofs.Linear.{IsLinear, linear_after, linear_xor, linear_mod, linear_div, linear_shl, linear_id}
 use Rattle.fire_code.proofs.Register.{turn-linear, repeat_add, repeat_mod, repeat_carried, bit_times-linear}
-use Rattle.fire_code.proofs.Fold.{times_x-linear, times_x-lt, window_of-linear, window_of-times_x, same_by_test}
+use Rattle.fire_code.proofs.Fold.{times_x-linear, times_x-lt, ring_of-linear, ring_of-times_x, same_by_test}
 use Rattle.fire_code.proofs.Cycle.{cycle_round}
 use Rattle.fire_code.proofs.Powers.{repeat_times_x-linear}
 
@@ -43,19 +43,19 @@ combined-linear (suc n) k = linear_xor (λ v. bit_at v n * repeat times_x n k) (
 
 -- a value from its two residues
 abbrev rejoined : ℕ → ℕ
-rejoined v = bit_xor (combined 21 0xBC0005E1 (window_of v)) (combined 11 0xBC0005E0 (cycle_of v))
+rejoined v = bit_xor (combined 21 0xBC0005E1 (ring_of v)) (combined 11 0xBC0005E0 (cycle_of v))
 
 rejoined-is : (v : ℕ) → v < 2 ^ 32 → rejoined v ≡ v
-unfolding combined cycle_of window_of times_x repeat
+unfolding combined cycle_of ring_of times_x repeat
 rejoined-is =
     same_by_test rejoined (λ v. v)
-    (linear_xor (λ v. combined 21 0xBC0005E1 (window_of v)) (λ v. combined 11 0xBC0005E0 (cycle_of v))
-    (linear_after (combined 21 0xBC0005E1) window_of (combined-linear 21 0xBC0005E1) window_of-linear)
+    (linear_xor (λ v. combined 21 0xBC0005E1 (ring_of v)) (λ v. combined 11 0xBC0005E0 (cycle_of v))
+    (linear_after (combined 21 0xBC0005E1) ring_of (combined-linear 21 0xBC0005E1) ring_of-linear)
     (linear_after (combined 11 0xBC0005E0) cycle_of (combined-linear 11 0xBC0005E0) cycle_of-linear))
     linear_id 32 refl
 
 -- two values with the same residues are one
-pub same_residues : (u v : ℕ) → u < 2 ^ 32 → v < 2 ^ 32 → window_of u ≡ window_of v → cycle_of u ≡ cycle_of v → u ≡ v
+pub same_residues : (u v : ℕ) → u < 2 ^ 32 → v < 2 ^ 32 → ring_of u ≡ ring_of v → cycle_of u ≡ cycle_of v → u ≡ v
 same_residues u v hu hv a b =
     sym (rejoined-is u hu) ∙ ap₂ (λ x y. bit_xor (combined 21 0xBC0005E1 x) (combined 11 0xBC0005E0 y)) a b ∙ rejoined-is v hv
 
@@ -66,8 +66,8 @@ cycle_of-lt v h = small (cycle_of v) (cycle_of-high v h)
     small c e = omega arith
 
 -- the residues of w times x^e
-pub window_of-repeat : (e w : ℕ) → w < 2 ^ 32 → window_of (repeat times_x e w) ≡ repeat turn_window e (window_of w)
-window_of-repeat e w h = repeat_carried (λ z. z < 2 ^ 32) times_x turn_window window_of (λ v _. times_x-lt v) window_of-times_x e w h
+pub ring_of-repeat : (e w : ℕ) → w < 2 ^ 32 → ring_of (repeat times_x e w) ≡ repeat turn_ring e (ring_of w)
+ring_of-repeat e w h = repeat_carried (λ z. z < 2 ^ 32) times_x turn_ring ring_of (λ v _. times_x-lt v) ring_of-times_x e w h
 
 pub cycle_of-repeat : (e w : ℕ) → w < 2 ^ 32 → cycle_of (repeat times_x e w) ≡ repeat turn_cycle e (cycle_of w)
 cycle_of-repeat e w h = repeat_carried (λ z. z < 2 ^ 32) times_x turn_cycle cycle_of (λ v _. times_x-lt v) cycle_of-times_x e w h
@@ -109,9 +109,9 @@ ten_turns-linear =
     (linear_after (λ v. v % 2 ^ 21) (λ v. v * 2 ^ 10 % 2 ^ 32) (linear_mod 21) (linear_after (λ v. v % 2 ^ 32) (λ v. v * 2 ^ 10) (linear_mod 32) (linear_shl 10)))
     (linear_div 11)
 
-pub window_of-ten : (v : ℕ) → v < 2 ^ 32 → ten_turns (window_of v) ≡ window_of (repeat times_x 10 v)
-unfolding window_of times_x repeat
-window_of-ten =
-    same_by_test (λ v. ten_turns (window_of v)) (λ v. window_of (repeat times_x 10 v))
-    (linear_after ten_turns window_of ten_turns-linear window_of-linear)
-    (linear_after window_of (repeat times_x 10) window_of-linear (repeat_times_x-linear 10)) 32 refl
+pub ring_of-ten : (v : ℕ) → v < 2 ^ 32 → ten_turns (ring_of v) ≡ ring_of (repeat times_x 10 v)
+unfolding ring_of times_x repeat
+ring_of-ten =
+    same_by_test (λ v. ten_turns (ring_of v)) (λ v. ring_of (repeat times_x 10 v))
+    (linear_after ten_turns ring_of ten_turns-linear ring_of-linear)
+    (linear_after ring_of (repeat times_x 10) ring_of-linear (repeat_times_x-linear 10)) 32 refl

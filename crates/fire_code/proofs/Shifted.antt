@@ -4,16 +4,16 @@ use Rattle.std.proofs.lemmas.Nat.{mod_below}
 use Rattle.std.proofs.lemmas.Bool.{cases_lt}
 use lib.Bits.{bit_xor, xor_mod, xor_zero_r}
 use Rattle.fire_code.specs.Remainder.{times_x, repeat}
-use Rattle.fire_code.specs.Residue.{turn, turn_window, turn_cycle, window_of}
+use Rattle.fire_code.specs.Residue.{turn, turn_ring, turn_cycle, ring_of}
 use Rattle.fire_code.proofs.Linear.{linear_at_zero}
 use Rattle.fire_code.proofs.Register.{repeat_add, repeat_comm, repeat_mod, repeat_linear, repeat_carried}
-use Rattle.fire_code.proofs.Fold.{times_x-lt, times_x-linear, window_of-times_x, doubled, doubled-times_x, turn-lt, repeat_times_x-inj, repeat_times_x-lt}
-use Rattle.fire_code.proofs.Window.{window_round, window_stays, repeat-small}
+use Rattle.fire_code.proofs.Fold.{times_x-lt, times_x-linear, ring_of-times_x, doubled, doubled-times_x, turn-lt, repeat_times_x-inj, repeat_times_x-lt}
+use Rattle.fire_code.proofs.Window.{ring_round, window_stays, repeat-small}
 use Rattle.fire_code.proofs.Cycle.{comes_back}
 
-pub window_of-small : (c : ℕ) → c < 2 ^ 21 → window_of c ≡ c
-unfolding window_of
-window_of-small c h = ap₂ bit_xor (mod-eq_of_lt h) (high c h) ∙ xor_zero_r c
+pub ring_of-small : (c : ℕ) → c < 2 ^ 21 → ring_of c ≡ c
+unfolding ring_of
+ring_of-small c h = ap₂ bit_xor (mod-eq_of_lt h) (high c h) ∙ xor_zero_r c
   where
     high : (n : ℕ) → n < 2 ^ 21 → n / 2 ^ 21 ≡ 0
     high n p = omega arith
@@ -39,7 +39,7 @@ repeat_cycle-lt zero w h = h
 repeat_cycle-lt (suc d) w h = turn-lt 10 5 (repeat turn_cycle d w) (omega arith)
 
 -- what comes back modulo the generator comes back modulo x^11 + x^2 + 1
-back_in_cycle : (d b : ℕ) → b < 2 ^ 11 → repeat times_x d b ≡ b → repeat turn_cycle d b ≡ b
+pub back_in_cycle : (d b : ℕ) → b < 2 ^ 11 → repeat times_x d b ≡ b → repeat turn_cycle d b ≡ b
 back_in_cycle d b hb q = doubled-inj (repeat turn_cycle d b) b (repeat_cycle-lt d b hb) hb (carried ∙ stays)
   where
     carried : doubled (repeat turn_cycle d b) ≡ repeat times_x d (doubled b)
@@ -52,11 +52,11 @@ back_in_cycle d b hb q = doubled-inj (repeat turn_cycle d b) b (repeat_cycle-lt 
         ∙ ap₂ bit_xor q (repeat_comm times_x d 21 b ∙ ap (repeat times_x 21) q)
         ∙ sym (doubled-is b hb)
 
-in_window : (d b c : ℕ) → b < 2 ^ 11 → c < 2 ^ 11 → repeat times_x d c ≡ b → repeat turn_window d c ≡ b
+pub in_window : (d b c : ℕ) → b < 2 ^ 11 → c < 2 ^ 11 → repeat times_x d c ≡ b → repeat turn_ring d c ≡ b
 in_window d b c hb hc q =
-    ap (repeat turn_window d) (sym (window_of-small c (wide c hc)))
-    ∙ sym (repeat_carried (λ z. z < 2 ^ 32) times_x turn_window window_of (λ v _. times_x-lt v) window_of-times_x d c (wider c hc))
-    ∙ ap window_of q ∙ window_of-small b (wide b hb)
+    ap (repeat turn_ring d) (sym (ring_of-small c (wide c hc)))
+    ∙ sym (repeat_carried (λ z. z < 2 ^ 32) times_x turn_ring ring_of (λ v _. times_x-lt v) ring_of-times_x d c (wider c hc))
+    ∙ ap ring_of q ∙ ring_of-small b (wide b hb)
   where
     wide : (n : ℕ) → n < 2 ^ 11 → n < 2 ^ 21
     wide n h = omega arith
@@ -64,7 +64,7 @@ in_window d b c hb hc q =
     wider : (n : ℕ) → n < 2 ^ 11 → n < 2 ^ 32
     wider n h = omega arith
 
-both_periods : (d : ℕ) → d < 42987 → d % 21 ≡ 0 → d % 2047 ≡ 0 → d ≡ 0
+pub both_periods : (d : ℕ) → d < 42987 → d % 21 ≡ 0 → d % 2047 ≡ 0 → d ≡ 0
 both_periods d h p q = omega arith
 
 -- x^d times a number of just 11 bits is one only where d is 0
@@ -75,14 +75,14 @@ same_start d b c hd hb hc tb tc q = (both_periods d hd turned (comes_back d b (t
     top_pos : (n : ℕ) → 2 ^ 10 ≤ n → 0 < n
     top_pos n o = omega arith
 
-    reduced : repeat turn_window (d % 21) c ≡ b
-    reduced = sym (repeat_mod turn_window 21 c (window_round c (omega (arith, hc))) d) ∙ in_window d b c hb hc q
+    reduced : repeat turn_ring (d % 21) c ≡ b
+    reduced = sym (repeat_mod turn_ring 21 c (ring_round c (omega (arith, hc))) d) ∙ in_window d b c hb hc q
 
     turned : d % 21 ≡ 0
     turned = window_stays b c (d % 21) tb hb tc hc (mod_below d 21 (omega arith)) reduced
 
     same : c ≡ b
-    same = sym (ap (λ z. repeat turn_window z c) turned) ∙ reduced
+    same = sym (ap (λ z. repeat turn_ring z c) turned) ∙ reduced
 
     same_back : repeat times_x d b ≡ b
     same_back = ap (repeat times_x d) (sym same) ∙ q

@@ -6,24 +6,24 @@ use Rattle.std.proofs.lemmas.Nat.{mod_below}
 use lib.Bits.{bit_xor, xor_shifted, xor_comm, xor_lt}
 use Rattle.fire_code.specs.Remainder.{times_x, remainder, repeat}
 use Rattle.fire_code.specs.Burst.{IsShortBurst, IsUncorrectable, reversed}
-use Rattle.fire_code.specs.Residue.{turn, turn_window, turn_cycle, window_of, IsWindow, cycle_of}
+use Rattle.fire_code.specs.Residue.{turn, turn_ring, turn_cycle, ring_of, IsWindow, cycle_of}
 use Rattle.fire_code.proofs.Linear.{linear_at_zero, linear_after, linear_xor, linear_div, linear_id}
 use Rattle.fire_code.proofs.Register.{turn-linear, repeat_add, repeat_mod, repeat_linear, bit_times-linear}
 use Rattle.fire_code.proofs.Fold.{same_by_test, repeat_times_x-lt}
-use Rattle.fire_code.proofs.Window.{window_round}
-use Rattle.fire_code.proofs.Shifted.{shifted_unique, window_of-small}
+use Rattle.fire_code.proofs.Window.{ring_round}
+use Rattle.fire_code.proofs.Shifted.{shifted_unique, ring_of-small}
 use Rattle.fire_code.proofs.Bursts.{HasPattern, pattern_from, raised_burst, reversed-lt, reversed_11, reversed_twice}
-use Rattle.fire_code.proofs.Residues.{cycle_of-small, same_residues, window_of-repeat, cycle_of-repeat, by_logarithms}
+use Rattle.fire_code.proofs.Residues.{cycle_of-small, same_residues, ring_of-repeat, cycle_of-repeat, by_logarithms}
 
 -- a turn back of 21 bits
 turn_back : ℕ → ℕ
 turn_back v = bit_xor (v / 2 ^ 1) (bit_at v 0 * 2 ^ 20)
 
-turned_back : (v : ℕ) → v < 2 ^ 21 → turn_window (turn_back v) ≡ v
+turned_back : (v : ℕ) → v < 2 ^ 21 → turn_ring (turn_back v) ≡ v
 unfolding turn_back turn
 turned_back =
-    same_by_test (λ v. turn_window (turn_back v)) (λ v. v)
-    (linear_after turn_window turn_back (turn-linear 20 1) (linear_xor (λ v. v / 2 ^ 1) (λ v. bit_at v 0 * 2 ^ 20) (linear_div 1) (bit_times-linear 0 (2 ^ 20)))) linear_id 21 refl
+    same_by_test (λ v. turn_ring (turn_back v)) (λ v. v)
+    (linear_after turn_ring turn_back (turn-linear 20 1) (linear_xor (λ v. v / 2 ^ 1) (λ v. bit_at v 0 * 2 ^ 20) (linear_div 1) (bit_times-linear 0 (2 ^ 20)))) linear_id 21 refl
 
 turn_back-is : (v : ℕ) → v < 2 ^ 21 → v / 2 + v % 2 * 2 ^ 20 ≡ turn_back v
 unfolding turn_back
@@ -39,40 +39,40 @@ turn_back-lt : (v : ℕ) → v < 2 ^ 21 → v / 2 + v % 2 * 2 ^ 20 < 2 ^ 21
 turn_back-lt v h = omega arith
 
 -- turning 21 bits is one to one
-turn-inj : (t u v : ℕ) → t ≤ 21 → u < 2 ^ 21 → v < 2 ^ 21 → repeat turn_window t u ≡ repeat turn_window t v → u ≡ v
-turn-inj t u v h hu hv q = sym (round u hu) ∙ ap (repeat turn_window (21 - t)) q ∙ round v hv
+turn-inj : (t u v : ℕ) → t ≤ 21 → u < 2 ^ 21 → v < 2 ^ 21 → repeat turn_ring t u ≡ repeat turn_ring t v → u ≡ v
+turn-inj t u v h hu hv q = sym (round u hu) ∙ ap (repeat turn_ring (21 - t)) q ∙ round v hv
   where
     whole : (t : ℕ) → t ≤ 21 → 21 - t + t ≡ 21
     whole t h = omega arith
 
-    round : (w : ℕ) → w < 2 ^ 21 → repeat turn_window (21 - t) (repeat turn_window t w) ≡ w
-    round w hw = sym (repeat_add turn_window (21 - t) t w) ∙ ap (λ z. repeat turn_window z w) (whole t h) ∙ window_round w hw
+    round : (w : ℕ) → w < 2 ^ 21 → repeat turn_ring (21 - t) (repeat turn_ring t w) ≡ w
+    round w hw = sym (repeat_add turn_ring (21 - t) t w) ∙ ap (λ z. repeat turn_ring z w) (whole t h) ∙ ring_round w hw
 
 -- the state of the search after t turns back
 pub record IsTurned (r t w : ℕ) : Type 0 where
   pub small : w < 2 ^ 21
-  pub is : repeat turn_window t w ≡ window_of (repeat times_x 10 r)
+  pub is : repeat turn_ring t w ≡ ring_of (repeat times_x 10 r)
   pub none : (ks : List ℕ) → IsShortBurst ks → remainder ks ≡ r → t ≤ (4127 - get_or ks 0 0) % 21
 
-window_of-lt : (v : ℕ) → v < 2 ^ 32 → window_of v < 2 ^ 21
-unfolding window_of
-window_of-lt v h = xor_lt 21 (v % 2 ^ 21) (v / 2 ^ 21) (mod_below v (2 ^ 21) (omega arith)) (omega arith)
+ring_of-lt : (v : ℕ) → v < 2 ^ 32 → ring_of v < 2 ^ 21
+unfolding ring_of
+ring_of-lt v h = xor_lt 21 (v % 2 ^ 21) (v / 2 ^ 21) (mod_below v (2 ^ 21) (omega arith)) (omega arith)
 
-pub turned_start : (r w : ℕ) → r < 2 ^ 32 → w ≡ window_of (repeat times_x 10 r) → IsTurned r 0 w
+pub turned_start : (r w : ℕ) → r < 2 ^ 32 → w ≡ ring_of (repeat times_x 10 r) → IsTurned r 0 w
 unfolding repeat
 turned_start r w h e = record {
-  small = subst (λ z. z < 2 ^ 21) (sym e) (window_of-lt (repeat times_x 10 r) (repeat_times_x-lt 10 r h));
+  small = subst (λ z. z < 2 ^ 21) (sym e) (ring_of-lt (repeat times_x 10 r) (repeat_times_x-lt 10 r h));
   is = e;
   none = λ ks b q. omega arith;
 }
 
 -- a burst's reversed pattern is the window after as many turns as its exponent has modulo 21
-burst_window : (r : ℕ) → (ks : List ℕ) → IsShortBurst ks → remainder ks ≡ r → (k : HasPattern ks) → repeat turn_window ((4127 - get_or ks 0 0) % 21) (reversed 11 k.pattern) ≡ window_of (repeat times_x 10 r)
+burst_window : (r : ℕ) → (ks : List ℕ) → IsShortBurst ks → remainder ks ≡ r → (k : HasPattern ks) → repeat turn_ring ((4127 - get_or ks 0 0) % 21) (reversed 11 k.pattern) ≡ ring_of (repeat times_x 10 r)
 burst_window r ks b q k =
-    sym (repeat_mod turn_window 21 (reversed 11 k.pattern) (window_round (reversed 11 k.pattern) (wide (reversed 11 k.pattern) (reversed-lt 11 k.pattern))) (4127 - get_or ks 0 0))
-    ∙ ap (repeat turn_window (4127 - get_or ks 0 0)) (sym (window_of-small (reversed 11 k.pattern) (wide (reversed 11 k.pattern) (reversed-lt 11 k.pattern))))
-    ∙ sym (window_of-repeat (4127 - get_or ks 0 0) (reversed 11 k.pattern) (wider (reversed 11 k.pattern) (reversed-lt 11 k.pattern)))
-    ∙ ap window_of (ap (λ z. repeat times_x z (reversed 11 k.pattern)) (exponent k.first (get_or ks 0 0) k.is_first k.within) ∙ sym (raised_burst ks b k) ∙ ap (repeat times_x 10) q)
+    sym (repeat_mod turn_ring 21 (reversed 11 k.pattern) (ring_round (reversed 11 k.pattern) (wide (reversed 11 k.pattern) (reversed-lt 11 k.pattern))) (4127 - get_or ks 0 0))
+    ∙ ap (repeat turn_ring (4127 - get_or ks 0 0)) (sym (ring_of-small (reversed 11 k.pattern) (wide (reversed 11 k.pattern) (reversed-lt 11 k.pattern))))
+    ∙ sym (ring_of-repeat (4127 - get_or ks 0 0) (reversed 11 k.pattern) (wider (reversed 11 k.pattern) (reversed-lt 11 k.pattern)))
+    ∙ ap ring_of (ap (λ z. repeat times_x z (reversed 11 k.pattern)) (exponent k.first (get_or ks 0 0) k.is_first k.within) ∙ sym (raised_burst ks b k) ∙ ap (repeat times_x 10) q)
   where
     wide : (n : ℕ) → n < 2 ^ 11 → n < 2 ^ 21
     wide n l = omega arith
@@ -87,7 +87,7 @@ pub turned_next : (r t w : ℕ) → t < 21 → IsTurned r t w → (2 ^ 10 ≤ w 
 unfolding repeat
 turned_next r t w ht h fails = record {
   small = turn_back-lt w h.small;
-  is = repeat_add turn_window t 1 (w / 2 + w % 2 * 2 ^ 20) ∙ ap (repeat turn_window t) (ap turn_window (turn_back-is w h.small) ∙ turned_back w h.small) ∙ h.is;
+  is = repeat_add turn_ring t 1 (w / 2 + w % 2 * 2 ^ 20) ∙ ap (repeat turn_ring t) (ap turn_ring (turn_back-is w h.small) ∙ turned_back w h.small) ∙ h.is;
   none = λ ks b q. more ks b q (cases_eq ((4127 - get_or ks 0 0) % 21) t);
 }
   where
@@ -95,7 +95,7 @@ turned_next r t w ht h fails = record {
     more ks b q (inl eq) =
         let k : HasPattern ks = pattern_from ks b in
         let same : w ≡ reversed 11 k.pattern = turn-inj t w (reversed 11 k.pattern) (omega arith) h.small (wide (reversed 11 k.pattern) (reversed-lt 11 k.pattern))
-        (h.is ∙ sym (burst_window r ks b q k) ∙ ap (λ z. repeat turn_window z (reversed 11 k.pattern)) eq) in
+        (h.is ∙ sym (burst_window r ks b q k) ∙ ap (λ z. repeat turn_ring z (reversed 11 k.pattern)) eq) in
         absurd (fails (subst (λ z. 2 ^ 10 ≤ z) (sym same) (reversed_11 k.pattern k.small k.odd)) (subst (λ z. z < 2 ^ 11) (sym same) (reversed-lt 11 k.pattern)))
       where
         wide : (n : ℕ) → n < 2 ^ 11 → n < 2 ^ 21
@@ -116,12 +116,12 @@ turned_found r t w e m a b hr h small et em is la ea eb = record { small = wider
     wider : (n : ℕ) → n < 2 ^ 11 → n < 2 ^ 32
     wider n l = omega arith
 
-    windows : window_of (repeat times_x e w) ≡ window_of (repeat times_x 10 r)
+    windows : ring_of (repeat times_x e w) ≡ ring_of (repeat times_x 10 r)
     windows =
-        window_of-repeat e w (wider w small)
-        ∙ ap (repeat turn_window e) (window_of-small w h.small)
-        ∙ repeat_mod turn_window 21 w (window_round w h.small) e
-        ∙ ap (λ z. repeat turn_window z w) et
+        ring_of-repeat e w (wider w small)
+        ∙ ap (repeat turn_ring e) (ring_of-small w h.small)
+        ∙ repeat_mod turn_ring 21 w (ring_round w h.small) e
+        ∙ ap (λ z. repeat turn_ring z w) et
         ∙ h.is
 
     sums : (x a b k : ℕ) → x % 2047 ≡ k → k ≡ (b + 10 + 2047 - a) % 2047 → a < 2047 → (x + a) % 2047 ≡ (10 + b) % 2047

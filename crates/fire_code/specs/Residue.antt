@@ -8,17 +8,17 @@ use Rattle.fire_code.specs.Remainder.{times_x, repeat}
 unfoldable pub turn : ℕ → ℕ → ℕ → ℕ
 turn m back v = bit_xor (v * 2 % 2 ^ suc m) (bit_at v m * back)
 
--- x * v modulo x^21 + 1
-abbrev pub turn_window : ℕ → ℕ
-turn_window = turn 20 1
+-- x * v modulo x^21 + 1: a ring of 21 bits, turned once
+abbrev pub turn_ring : ℕ → ℕ
+turn_ring = turn 20 1
 
 -- x * v modulo x^11 + x^2 + 1
 abbrev pub turn_cycle : ℕ → ℕ
 turn_cycle = turn 10 5
 
--- v modulo x^21 + 1, for v of 32 bits
-unfoldable pub window_of : ℕ → ℕ
-window_of v = bit_xor (v % 2 ^ 21) (v / 2 ^ 21)
+-- v modulo x^21 + 1, for v of 32 bits: its bits laid round a ring of 21
+unfoldable pub ring_of : ℕ → ℕ
+ring_of v = bit_xor (v % 2 ^ 21) (v / 2 ^ 21)
 
 -- v modulo x^11 + x^2 + 1, for v of 32 bits: its product with x^21 + 1, of which the lowest 21 bits tell all
 unfoldable pub cycle_of : ℕ → ℕ

@@ -1,7 +1,7 @@
 // Verdicts by the remainder's residues modulo the generator's factors, x^21 + 1 and x^11 + x^2 + 1.
 ghost use Rattle.std.specs.Prelude.{◌≡◌, ◌≢◌, ℕ, ◌*◌, ◌/◌, ◌%◌, ◌^◌, ◌<◌, ◌≤◌, bit_xor};
 ghost use Rattle.fire_code.specs.Remainder.{times_x, repeat};
-ghost use Rattle.fire_code.specs.Residue.{window_of as the_window, cycle_of as the_cycle, IsWindow};
+ghost use Rattle.fire_code.specs.Residue.{ring_of as the_ring, cycle_of as the_cycle, IsWindow};
 ghost use Rattle.fire_code.specs.Verdict.{Judges};
 
 use crate::Verdict;
@@ -9,8 +9,8 @@ use crate::logarithms::logarithm;
 use crate::pattern::{fits, reversed};
 
 // The remainder times x^10, modulo x^21 + 1.
-fn window_of(remainder: u32) -> u32
-    ensures { result ≡ the_window (repeat times_x 10 remainder) }
+fn ring_of(remainder: u32) -> u32
+    ensures { result ≡ the_ring (repeat times_x 10 remainder) }
 {
     let folded = (remainder % 0x20_0000) ^ (remainder >> 21);
     ((folded << 10) % 0x20_0000) ^ (folded >> 11)
@@ -75,7 +75,7 @@ pub fn verdict_of(remainder: u32) -> Verdict
     if cycle == 0 {
         return Verdict::Uncorrectable;
     }
-    let mut window = window_of(remainder);
+    let mut window = ring_of(remainder);
     for turns in 0..21u32 {
         if 1024 <= window && window < 2048 {
             let power = (logarithm(cycle) + 10 + 2047 - logarithm(window as u16)) % 2047;

@@ -7,11 +7,11 @@
 // bits are the project's own choice.
 #![tactic(auto)]
 
-ghost use Rattle.std.specs.Prelude.{◌≡◌, ◌≢◌, ◌<◌, ◌^◌, ◌*◌, ◌≤◌, ◌-◌, ◌==◌, ℕ, List, take, cond, ◌↔◌, IsTrue, All, SomeIff, bit_xor, slice_index};
-ghost use Rattle.fire_code.specs.Remainder.{remainder as the_remainder};
+ghost use Rattle.std.specs.Prelude.{◌≡◌, ◌≢◌, ◌<◌, ◌^◌, ◌*◌, ◌≤◌, ◌+◌, ◌-◌, ◌%◌, ◌==◌, ℕ, List, take, cond, ◌↔◌, IsTrue, All, SomeIff, bit_xor, slice_index};
+ghost use Rattle.fire_code.specs.Remainder.{remainder as the_remainder, power as the_power};
 ghost use Rattle.fire_code.specs.Burst.{IsShortBurst, IsBurst, IsUncorrectable, places_of};
 ghost use Rattle.fire_code.specs.Verdict.{Judges, Names};
-ghost use Rattle.fire_code.specs.Word.{bit_of_word, word_remainder};
+ghost use Rattle.fire_code.specs.Word.{IsData, bit_of_word, word_remainder};
 ghost use Rattle.fire_code.specs.Repair.{burst_byte};
 ghost use Rattle.fire_code.specs.Noise.{IsNoise, IsAlias, IsFlipped, Classes};
 
@@ -241,10 +241,17 @@ pub fn judge_noise(noise: &Noise) -> Verdict
     by_residues::verdict_of(remainder_of(noise.places()))
 }
 
+/// The bytes of an array are the data of a sector.
+pub fn data_law(bytes: &[u8; 512])
+    ensures { IsData bytes.now }
+{
+    let _slice = bytes.as_slice();
+}
+
 /// The burst law: no short burst has the remainder zero, and two different ones have different remainders. Hence a
 /// remainder has one verdict and noise one class, and a short burst is named by the verdict on its remainder; an
 /// exclusive or of each byte of the data with that of the burst restores it; and places that are flipped twice are as
-/// they were.
+/// they were. A burst begins in the word. Powers of x repeat after each 21 * 2047 = 42,987, and not before.
 pub fn burst_law()
     ensures not_zero { (places : List ℕ) → IsShortBurst places → the_remainder places ≢ 0 }
     ensures apart { (places others : List ℕ) → IsShortBurst places → IsShortBurst others
@@ -260,6 +267,8 @@ pub fn burst_law()
         → bit_xor (slice_index new i) (burst_byte at pattern i) ≡ slice_index old i }
     ensures back { (places old new : List ℕ) (c d : ℕ) → IsFlipped places old c new d
         → IsFlipped places new d old c }
+    ensures begins { (at pattern r : ℕ) → IsBurst at pattern r → at ≤ 4128 }
+    ensures period { (e d : ℕ) → (the_power (e + d) ≡ the_power e) ↔ (d % 42987 ≡ 0) }
 {}
 
 #[cfg(test)]

@@ -3,6 +3,7 @@ use Rattle.std.specs.Prelude.{ℕ, ◌/◌, ◌%◌, ◌==◌, ◌&&◌, Bool, t
 use Rattle.pack_geometry.specs.declared.DriveKind.{DriveKind}
 use Rattle.pack_geometry.specs.declared.DriveKind.TheVariants.{Rp06, Rm03, Rm05}
 use Rattle.drive_registers.specs.Bits as bits
+use Rattle.drive_registers.specs.Codes.{rp06_type, rm03_type, rm05_type}
 use Rattle.hardware_table.specs.declared.Armed.{Armed}
 use Rattle.hardware_table.specs.declared.Work.{Work}
 use Rattle.hardware_table.specs.declared.Work.TheVariants.{Ready, Positioning, Transfer}
@@ -100,9 +101,9 @@ status d =
 
 -- the word in the drive type register
 abbrev pub type_word : DriveKind → ℕ
-type_word Rp06 = 0o20022
-type_word Rm03 = 0o20024
-type_word Rm05 = 0o20027
+type_word Rp06 = rp06_type
+type_word Rm03 = rm03_type
+type_word Rm05 = rm05_type
 
 -- what a register holds
 abbrev pub register_of : Register → DriveState → ℕ

@@ -1,9 +1,9 @@
 -- What each function does to a drive that is ready.
-use Rattle.std.specs.Prelude.{ℕ, ◌==◌, ◌&&◌, nat_lt, Bool, true, false, not, if◌then◌else◌, None, Some, bit_or, bit_and}
+use Rattle.std.specs.Prelude.{ℕ, ◌==◌, ◌&&◌, nat_lt, Bool, true, false, not, if◌then◌else◌, None, Some, bit_or}
 use Rattle.pack_geometry.specs.Geometry.{cylinders_of, tracks_of, sectors_of}
 use Rattle.drive_registers.specs.declared.Function.{Function}
 use Rattle.drive_registers.specs.declared.Function.TheVariants.{Nop, Seek, Recal, Clear, Offset, Centre, Preset, Pack, Search, Write, WriteHeader, Read}
-use Rattle.drive_registers.specs.Codes.{function_code}
+use Rattle.drive_registers.specs.Codes.{function_code, without_offset}
 use Rattle.drive_registers.specs.Bits as bits
 use Rattle.hardware_table.specs.Drive.{DriveState, on, track_in, sector_in}
 use Rattle.hardware_table.specs.declared.Work.TheVariants.{Positioning, Transfer}
@@ -29,7 +29,7 @@ effect Seek d = record d { work = Positioning d.dc None }
 effect Search d = record d { work = Positioning d.dc (Some (sector_in d.da)) }
 effect Recal d = record d { work = Positioning 0 None }
 effect Offset d = record d { work = Positioning d.cc None }
-effect Centre d = record d { offset = bit_and d.offset 0o177400 }
+effect Centre d = record d { offset = without_offset d.offset }
 effect Clear d = record d { er1 = 0; er2 = 0; ec1 = 0; ec2 = 0; attention = false }
 effect Preset d = record d { dc = 0; da = 0; offset = 0 }
 effect Pack d = record d { valid = true }

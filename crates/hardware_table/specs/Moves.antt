@@ -1,11 +1,13 @@
 -- The move of one sector: its verdict, and what that does.
-use Rattle.std.specs.Prelude.{◌≡◌, ℕ, ◌+◌, ◌*◌, ◌-◌, ◌%◌, nat_lt, Bool, true, false, not, ◌&&◌, if◌then◌else◌, List, [], ◌∷◌, find, Option, None, Some, option_map, bit_or}
+use Rattle.std.specs.Prelude.{◌≡◌, ℕ, ◌+◌, ◌-◌, ◌%◌, nat_lt, Bool, true, false, not, ◌&&◌, if◌then◌else◌, List, [], ◌∷◌, find, Option, None, Some, option_map, bit_or}
 use Rattle.pack_geometry.specs.declared.DriveKind.{DriveKind}
 use Rattle.pack_geometry.specs.declared.DriveKind.TheVariants.{Rp06, Rm03, Rm05}
 use Rattle.pack_geometry.specs.Geometry.{sectors_of, block_count, place_at, track_and_sector}
 use Rattle.fire_code.specs.Remainder.{remainder}
-use Rattle.fire_code.specs.Burst.{IsBurst, IsUncorrectable}
+use Rattle.fire_code.specs.Word.{IsData}
 use Rattle.fire_code.specs.Noise.{IsFlipped}
+use Rattle.fire_code.specs.Verdict.{Judges}
+use Rattle.fire_code.specs.declared.Verdict.TheVariants as code
 use Rattle.drive_registers.specs.Bits as bits
 use Rattle.hardware_table.specs.declared.Armed.{Armed}
 use Rattle.hardware_table.specs.declared.FaultKind.{FaultKind}
@@ -26,12 +28,12 @@ first_armed armed = find (λ (kind : FaultKind). nat_lt 0 (times_armed kind arme
 abbrev pub stop_of : DriveState → Option Moved
 stop_of d = if d.online then option_map Faulted (first_armed d.armed) else Some Offline
 
--- the verdict of a read goes by the remainder of the places that noise flips
+-- the verdict of a read is the code's, on the remainder of the places that noise flips
 abbrev pub IsReadVerdict : Option (List ℕ) → Moved → Type 0
 IsReadVerdict None verdict = verdict ≡ Clean
-IsReadVerdict (Some places) Clean = remainder places ≡ 0
-IsReadVerdict (Some places) (Burst at pattern) = IsBurst at pattern (remainder places)
-IsReadVerdict (Some places) Hard = IsUncorrectable (remainder places)
+IsReadVerdict (Some places) Clean = Judges code.Clean (remainder places)
+IsReadVerdict (Some places) (Burst at pattern) = Judges (code.Burst at pattern) (remainder places)
+IsReadVerdict (Some places) Hard = Judges code.Uncorrectable (remainder places)
 IsReadVerdict (Some places) Marked = ⊥
 IsReadVerdict (Some places) (Faulted kind) = ⊥
 IsReadVerdict (Some places) Offline = ⊥
@@ -63,10 +65,17 @@ was_read d verdict = has_bytes verdict && not (is_writing d.work)
 abbrev pub was_written : DriveState → Moved → Bool
 was_written d verdict = has_bytes verdict && is_writing d.work
 
--- what a read gives: the sector's bytes with the places flipped that lie in them
+-- a sector's bytes with those of the places flipped that lie in them; the others are flipped in the check
+pub record IsStruck (places sector bytes : List ℕ) : Type 0 where
+  pub right : IsData sector
+  pub read : IsData bytes
+  pub check : ℕ
+  pub flipped : IsFlipped places sector 0 bytes check
+
+-- what a read gives: the sector's bytes, as noise that strikes them leaves them
 abbrev pub IsReadAs : Option (List ℕ) → List ℕ → List ℕ → Type 0
 IsReadAs None sector bytes = bytes ≡ sector
-IsReadAs (Some places) sector bytes = (check : ℕ) × IsFlipped places sector 0 bytes check
+IsReadAs (Some places) sector bytes = IsStruck places sector bytes
 
 -- a drive whose heads have passed a block: it stands on its cylinder, and Dc and Da name the next block, if any
 abbrev pub passed : ℕ → DriveState → DriveState

@@ -1,5 +1,5 @@
 -- Noise that is live: it flips places of a sector when that is read.
-use Rattle.std.specs.Prelude.{ℕ, ◌+◌, ◌*◌, ◌-◌, ◌^◌, ◌==◌, ◌&&◌, nat_lt, nat_le, Bool, false, not, if◌then◌else◌, List, [], ◌∷◌, ◌++◌, filter, find, Option, None, Some}
+use Rattle.std.specs.Prelude.{◌≡◌, ℕ, ◌+◌, ◌*◌, ◌-◌, ◌^◌, ◌==◌, ◌&&◌, nat_lt, nat_le, Bool, false, not, if◌then◌else◌, List, [], ◌∷◌, ◌++◌, filter, find, Contains, Option, None, Some}
 use Rattle.drive_registers.specs.Codes.{offset_code, offset_field}
 use Rattle.hardware_table.specs.declared.NoiseSpan.{NoiseSpan}
 use Rattle.hardware_table.specs.declared.NoiseSpan.TheVariants.{Times, Until}
@@ -13,6 +13,14 @@ pub record LiveNoise : Type 0 where
 
 abbrev pub is_at : ℕ → ℕ → LiveNoise → Bool
 is_at unit block noise = (noise.unit == unit) && (noise.block == block)
+
+-- noise whose unit, block and places are those of noise of a list
+pub record IsAmong (live : List LiveNoise) (noise : LiveNoise) : Type 0 where
+  pub kin : LiveNoise
+  pub listed : Contains live kin
+  pub unit : noise.unit ≡ kin.unit
+  pub block : noise.block ≡ kin.block
+  pub places : noise.places ≡ kin.places
 
 -- the live noise of one sector, in the order of its arming
 abbrev pub noise_at : ℕ → ℕ → List LiveNoise → List LiveNoise

@@ -2,11 +2,11 @@
 //! row of the hardware table as a function on a state.
 #![tactic(auto)]
 
-ghost use Rattle.std.specs.Prelude.{◌≡◌, ◌≢◌, ◌≤◌, ◌<◌, ◌+◌, ◌==◌, ◌++◌, ℕ, Bool, true, false, List, [], ◌∷◌, bit_and, if◌then◌else◌};
+ghost use Rattle.std.specs.Prelude.{◌≡◌, ◌≢◌, ◌≤◌, ◌<◌, ◌+◌, ◌*◌, ◌==◌, ◌++◌, ℕ, Bool, true, false, List, [], ◌∷◌, All, bit_and, if◌then◌else◌};
 ghost use Rattle.drive_registers.specs.Bits as bits;
 ghost use Rattle.hardware_table.specs.Drive.{DriveState, status, has_error, is_positioning, is_ready, on};
-ghost use Rattle.hardware_table.specs.Noise.{LiveNoise, noise_at, is_at, first_of, oldest, with_noise, after_strike, first_struck, is_spent};
-ghost use Rattle.hardware_table.specs.Adapter.{AdapterState, IsAdapter, IsLoaded, new_adapter, loaded, started, stepped, completed};
+ghost use Rattle.hardware_table.specs.Noise.{LiveNoise, IsAmong, noise_at, is_at, first_of, oldest, with_noise, after_strike, first_struck, is_spent};
+ghost use Rattle.hardware_table.specs.Adapter.{AdapterState, IsAdapter, IsLoaded, bytes_between, registers_used, next_window, step_bytes, new_adapter, loaded, started, stepped, completed};
 
 use drive_registers::OffsetCode;
 
@@ -118,7 +118,8 @@ pub fn status_law()
 
 /// The law of noise. At each sector noise stands in the order of its arming: new noise that is to live comes behind
 /// what is live there, and changes nothing at another sector. The oldest noise of a sector decides; a strike uses
-/// it up or ends it, and changes nothing else.
+/// it up or ends it, and changes nothing else. No arming and no strike makes noise of another unit, of another block or
+/// of other places than the noise that was armed: what all noise has in these when it is armed, live noise always has.
 pub fn noise_law()
     ensures armed { (live : List LiveNoise) → (noise : LiveNoise) → (unit block : ℕ)
         → noise_at unit block (with_noise noise live)
@@ -132,23 +133,40 @@ pub fn noise_law()
         → noise_at other_unit other (after_strike unit block word live) ≡ noise_at other_unit other live }
     ensures other_block { (live : List LiveNoise) → (unit block word other_unit other : ℕ) → other ≢ block
         → noise_at other_unit other (after_strike unit block word live) ≡ noise_at other_unit other live }
+    ensures each_armed { (live : List LiveNoise) → (noise : LiveNoise)
+        → All (IsAmong (noise ∷ live)) (with_noise noise live) }
+    ensures each_struck { (live : List LiveNoise) → (unit block word : ℕ)
+        → All (IsAmong live) (after_strike unit block word live) }
 {}
 
 /// The law of adapters. A new adapter is sound, and each act keeps it so, where it may be done. What was just loaded
-/// can be started. While a transfer is under way a sector of it is left, and a clean step puts the completion up
-/// exactly at the last one.
+/// can be started. While a transfer is under way a sector of it is left, which moves the bytes of its block of the
+/// buffer, and a clean step puts the completion up exactly at the last one.
 pub fn adapter_law()
     ensures new { IsAdapter new_adapter }
-    ensures loaded { (a : AdapterState) → (frames : List ℕ) → (offset blocks skip count : ℕ) → a.busy ≡ false
-        → offset < 512 → blocks ≤ 127 → skip + count ≤ blocks → IsAdapter (loaded frames offset blocks skip count a) }
-    ensures ready { (a : AdapterState) → (frames : List ℕ) → (offset blocks skip count : ℕ) → 1 ≤ count
-        → IsLoaded (loaded frames offset blocks skip count a) count }
+    ensures loaded { (a : AdapterState) → (frames : List ℕ) → (offset blocks last skip count : ℕ) → a.busy ≡ false
+        → offset < 512 → blocks ≤ 127 → 1 ≤ last → last ≤ 512 → skip + count ≤ blocks
+        → IsAdapter (loaded frames offset blocks last skip count a) }
+    ensures ready { (a : AdapterState) → (frames : List ℕ) → (offset blocks last skip count : ℕ) → 1 ≤ count
+        → IsLoaded (loaded frames offset blocks last skip count a) count }
     ensures started { (a : AdapterState) → (drive block count : ℕ) → (write : Bool) → IsAdapter a → IsLoaded a count
         → IsAdapter (started drive block write a) }
     ensures stepped { (a : AdapterState) → (verdict : Moved) → IsAdapter a → a.busy ≡ true → a.completion ≡ false
         → IsAdapter (stepped verdict a) }
     ensures completed { (a : AdapterState) → IsAdapter a → IsAdapter (completed a) }
     ensures left { (a : AdapterState) → IsAdapter a → a.busy ≡ true → a.completion ≡ false → a.moved < a.count }
+    ensures window { (a : AdapterState) → IsAdapter a → a.busy ≡ true → a.completion ≡ false
+        → step_bytes a ≡ (if next_window a + 1 == a.blocks then a.last else 512) }
     ensures last { (a : AdapterState) → IsAdapter a → a.busy ≡ true → a.completion ≡ false
         → (stepped Moved.Clean a).completion ≡ (a.moved + 1 == a.count) }
+{}
+
+/// The law of whole blocks: where the last block of a buffer has all its 512 bytes, each block of a transfer is 512
+/// bytes, and uses one map register and the transfer one more where it does not begin at a frame's start.
+pub fn whole_blocks_law()
+    ensures bytes { (blocks skip count : ℕ) → bytes_between blocks 512 skip count ≡ 512 * count }
+    ensures registers { (count offset : ℕ) → offset < 512
+        → registers_used (512 * count) offset ≡ (if offset == 0 then count else count + 1) }
+    ensures step { (a : AdapterState) → IsAdapter a → a.busy ≡ true → a.completion ≡ false → a.last ≡ 512
+        → step_bytes a ≡ 512 }
 {}

@@ -157,7 +157,7 @@ impl Driver {
         requires bus { (held_in self.old place).on_bus ≡ true }
         requires loaded { (held_in self.old place).loan ≡ loaded_buffer (adapter_for self.old u).state }
         ensures does { Quiet (Of line u place (held_in self.old place) Intr ∷ []) self.old self.new }
-        ensures ended { result ≡ record { moved = (adapter_for self.old u).state.moved; last = (adapter_for self.old u).state.last } }
+        ensures ended { result ≡ record { moved = (adapter_for self.old u).state.moved; last = (adapter_for self.old u).state.verdict } }
     {
         let channel = &mut self.channels[usize::from(u / 8)];
         let ended = self.places.complete(place, &mut channel.adapter);

@@ -1,10 +1,9 @@
 -- What a verdict on a sector leaves in the registers that a data interrupt reads.
-use Rattle.std.specs.Prelude.{◌≡◌, ℕ, Bool, true, false}
-use Rattle.hardware_table.specs.declared.FaultKind.{FaultKind}
-use Rattle.hardware_table.specs.declared.FaultKind.TheVariants.{Seek, Opi, Dte, Hcrc, Late}
+use Rattle.std.specs.Prelude.{◌≡◌, ℕ, Bool, false}
 use Rattle.hardware_table.specs.declared.Moved.{Moved}
 use Rattle.hardware_table.specs.declared.Moved.TheVariants as moved
 use Rattle.hardware_table.specs.Drive.{DriveState}
+use Rattle.hardware_table.specs.Adapter.{late_after}
 use Rattle.hardware_table.specs.Moves.{after_move}
 use Rattle.hp_interrupts.specs.declared.DataCause.{DataCause}
 use Rattle.hp_interrupts.specs.declared.DataCause.TheVariants.{Complete, Corrected, BadSector, Offline, Drive, Hard}
@@ -15,22 +14,15 @@ abbrev pub registers_of : DriveState → Bool → TransferRegs
 registers_of drive late = record { er1 = drive.er1; er2 = drive.er2; ec1 = drive.ec1; ec2 = drive.ec2; late = late }
 
 -- data late is the adapter's to show
-abbrev pub is_late : FaultKind → Bool
-is_late Seek = false
-is_late Opi = false
-is_late Dte = false
-is_late Hcrc = false
-is_late Late = true
-
 abbrev pub shows_late : Moved → Bool
 shows_late moved.Clean = false
 shows_late (moved.Burst at pattern) = false
 shows_late moved.Hard = false
 shows_late moved.Marked = false
-shows_late (moved.Faulted kind) = is_late kind
+shows_late (moved.Faulted kind) = late_after kind false
 shows_late moved.Offline = false
 
--- the registers are as this verdict on a block leaves them, on a drive of either kind that had no error before
+-- the registers are as this verdict on a block leaves them, on a drive of any kind that had no error before
 pub record IsLeftBy (verdict : Moved) (drive : DriveState) (block : ℕ) (regs : TransferRegs) : Type 0 where
   pub first_clear : drive.er1 ≡ 0
   pub second_clear : drive.er2 ≡ 0

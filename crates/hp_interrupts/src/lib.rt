@@ -1,5 +1,5 @@
-//! What the driver reads from the registers at an interrupt and before a command, after the registers of the RP06
-//! and RM03 drives.
+//! What the driver reads from the registers at an interrupt and before a command, after the registers of the RP06,
+//! RM03 and RM05 drives.
 #![tactic(auto)]
 
 ghost use Rattle.std.specs.Prelude.{◌≡◌, ◌<◌, ◌↔◌, ℕ, false, IsTrue, IsNone, IfSome, Some};
@@ -55,8 +55,8 @@ pub enum Sensed {
 }
 
 /// The cause that the registers show: that of the verdict on the last sector that was tried. On an RP06 a marked
-/// sector shows as a format error, and on an RM03 as a bad sector. A data check can be corrected unless the hard
-/// error is on with it.
+/// sector shows as a format error, and on an RM03 and an RM05 as a bad sector. A data check can be corrected unless the
+/// hard error is on with it.
 pub fn data_interrupt(regs: TransferRegs) -> DataCause
     requires left { AreLeft regs }
     ensures cause { (verdict : Moved) → (drive : DriveState) → (block : ℕ) → IsLeftBy verdict drive block regs

@@ -2,62 +2,62 @@
 use Rattle.std.proofs.Common.{◌≡◌, ◌≢◌, ◌⊎◌, inl, inr, ℕ, zero, suc, ◌+◌, ◌-◌, ◌*◌, ◌<◌, ◌≤◌, ◌==◌, nat_lt, Bool, if◌then◌else◌, List, [], ◌∷◌, length, get_or, refl, sym, ap, ◌∙◌, subst, arith}
 use Rattle.std.proofs.Math.ListN.{set}
 use Rattle.std.proofs.lemmas.Bool.{ltb-true, ltb-false, eqb-true, eqb-false}
-use Rattle.std.proofs.lemmas.Bool.Decides.{nat_tests}
 use Rattle.std.proofs.lemmas.List.{get_or_past}
 use Rattle.std.proofs.lemmas.Option.{slice_get-get_or}
 use Rattle.std.specs.List.{Contains, slice_get}
 use Rattle.std.specs.Prelude.{Some}
+use Rattle.main_memory.specs.Bytes.{front}
 use Rattle.main_memory.specs.declared.span.Span.{Span}
 use Rattle.main_memory.specs.Frames.{frames_needed}
-use Rattle.main_memory.specs.Blocks.{Loan, IsLoan, IsSpan, AreSeparate, place_in, span_of, bytes_in, with_bytes_in, blocks_from}
+use Rattle.main_memory.specs.Blocks.{Loan, IsLoan, IsSpan, AreSeparate, in_frame, in_next, size_at, place_in, span_of, bytes_in, with_bytes_in, blocks_from}
 use Rattle.main_memory.specs.Memory.{Memory, IsLent, AreApart, with_block, blocks_of}
 use Rattle.main_memory.proofs.FrameLaws.{by_test}
-use Rattle.main_memory.proofs.ByteLaws.{Fits, Outside, length-joined, length-spread, joined-spread, spread-spread, spread-joined, joined-spread_other, joined_first, joined_second, set_first, set_second}
+use Rattle.main_memory.proofs.ByteLaws.{Fits, length-front, Outside, length-joined, length-spread, joined-spread, spread-spread, spread-joined, joined-spread_other, joined_first, joined_second, set_first, set_second}
 
-by_order : (span : Span) → span.frame ≢ span.next → span.offset < 512 → (512 * span.frame + span.offset + (512 - span.offset) ≤ 512 * span.next) ⊎ (512 * span.next + span.offset ≤ 512 * span.frame + span.offset)
-by_order span ne inside =
+by_order : (span : Span) → span.frame ≢ span.next → span.offset < 512 → span.len ≤ 512 → (512 * span.frame + span.offset + in_frame span ≤ 512 * span.next) ⊎ (512 * span.next + in_next span ≤ 512 * span.frame + span.offset)
+by_order span ne inside few =
     by_test (nat_lt span.frame span.next)
     (λ below. let lt : span.frame < span.next = ltb-true _ _ below in inl (omega arith))
     (λ above. let ge : span.next ≤ span.frame = ltb-false _ _ above in inr (omega arith))
 
 -- a span lies in the memory
-pub fits_span : (span : Span) (n : ℕ) → IsSpan span → n ≡ 8388608 → Fits (512 * span.frame + span.offset) (512 - span.offset) (512 * span.next) span.offset n
+pub fits_span : (span : Span) (n : ℕ) → IsSpan span → n ≡ 8388608 → Fits (512 * span.frame + span.offset) (in_frame span) (512 * span.next) (in_next span) n
 fits_span span n is size = record {
   first = omega (arith, is.frame_small, is.inside);
-  second = omega (arith, is.next_small, is.inside);
-  apart = λ some. by_order span (is.differ some) is.inside;
+  second = omega (arith, is.next_small, is.inside, is.few);
+  apart = λ some. by_order span (is.differ some) is.inside is.few;
 }
 
-whole_block : (span : Span) (block : List ℕ) → IsSpan span → length block ≡ 512 → length block ≡ (512 - span.offset) + span.offset
+whole_block : (span : Span) (block : List ℕ) → IsSpan span → length block ≡ span.len → length block ≡ in_frame span + in_next span
 whole_block span block is size = omega (arith, is.inside)
 
-pub length-bytes_in : (span : Span) (bytes : List ℕ) → IsSpan span → length bytes ≡ 8388608 → length (bytes_in span bytes) ≡ 512
+pub length-bytes_in : (span : Span) (bytes : List ℕ) → IsSpan span → length bytes ≡ 8388608 → length (bytes_in span bytes) ≡ span.len
 unfolding bytes_in
 length-bytes_in span bytes is size =
-    omega (arith, is.inside, length-joined (512 * span.frame + span.offset) (512 - span.offset) (512 * span.next) span.offset bytes (fits_span span _ is size))
+    omega (arith, is.inside, length-joined (512 * span.frame + span.offset) (in_frame span) (512 * span.next) (in_next span) bytes (fits_span span _ is size))
 
-pub length-with_bytes_in : (span : Span) (block bytes : List ℕ) → IsSpan span → length block ≡ 512 → length bytes ≡ 8388608 → length (with_bytes_in span block bytes) ≡ 8388608
+pub length-with_bytes_in : (span : Span) (block bytes : List ℕ) → IsSpan span → length block ≡ span.len → length bytes ≡ 8388608 → length (with_bytes_in span block bytes) ≡ 8388608
 unfolding with_bytes_in
 length-with_bytes_in span block bytes is whole size =
-    length-spread (512 * span.frame + span.offset) (512 - span.offset) (512 * span.next) span.offset block bytes (whole_block span block is whole) (fits_span span _ is size) ∙ size
+    length-spread (512 * span.frame + span.offset) (in_frame span) (512 * span.next) (in_next span) block bytes (whole_block span block is whole) (fits_span span _ is size) ∙ size
 
 -- what was written is read
-pub bytes_in-with_bytes_in : (span : Span) (block bytes : List ℕ) → IsSpan span → length block ≡ 512 → length bytes ≡ 8388608 → bytes_in span (with_bytes_in span block bytes) ≡ block
+pub bytes_in-with_bytes_in : (span : Span) (block bytes : List ℕ) → IsSpan span → length block ≡ span.len → length bytes ≡ 8388608 → bytes_in span (with_bytes_in span block bytes) ≡ block
 unfolding bytes_in with_bytes_in
 bytes_in-with_bytes_in span block bytes is whole size =
-    joined-spread (512 * span.frame + span.offset) (512 - span.offset) (512 * span.next) span.offset block bytes (whole_block span block is whole) (fits_span span _ is size)
+    joined-spread (512 * span.frame + span.offset) (in_frame span) (512 * span.next) (in_next span) block bytes (whole_block span block is whole) (fits_span span _ is size)
 
 -- the last write counts
-pub with_bytes_in-twice : (span : Span) (block old bytes : List ℕ) → IsSpan span → length block ≡ 512 → length old ≡ 512 → length bytes ≡ 8388608
+pub with_bytes_in-twice : (span : Span) (block old bytes : List ℕ) → IsSpan span → length block ≡ span.len → length old ≡ span.len → length bytes ≡ 8388608
     → with_bytes_in span block (with_bytes_in span old bytes) ≡ with_bytes_in span block bytes
 unfolding with_bytes_in
 with_bytes_in-twice span block old bytes is whole old_whole size =
-    spread-spread (512 * span.frame + span.offset) (512 - span.offset) (512 * span.next) span.offset block bytes (whole_block span block is whole) (fits_span span _ is size) old (whole_block span old is old_whole)
+    spread-spread (512 * span.frame + span.offset) (in_frame span) (512 * span.next) (in_next span) block bytes (whole_block span block is whole) (fits_span span _ is size) old (whole_block span old is old_whole)
 
 -- a block written over itself
 pub with_bytes_in-same : (span : Span) (bytes : List ℕ) → IsSpan span → length bytes ≡ 8388608 → with_bytes_in span (bytes_in span bytes) bytes ≡ bytes
 unfolding bytes_in with_bytes_in
-with_bytes_in-same span bytes is size = spread-joined (512 * span.frame + span.offset) (512 - span.offset) (512 * span.next) span.offset bytes (fits_span span _ is size)
+with_bytes_in-same span bytes is size = spread-joined (512 * span.frame + span.offset) (in_frame span) (512 * span.next) (in_next span) bytes (fits_span span _ is size)
 
 -- a place of a frame lies outside a part of another frame
 outside_frame : (f g low size place i at : ℕ) → f ≢ g → low + size ≤ 512 → place < 512 → i ≡ 512 * f + place → at ≡ 512 * g + low → Outside i at size
@@ -77,33 +77,33 @@ outside_start f g size place i if_same small inside i_is =
     (λ other. let ne : g ≢ f = eqb-false _ _ other in outside_frame f g 0 size place i (512 * g) (λ e. ne (sym e)) (omega arith) inside i_is (omega arith))
 
 -- and outside the rest of its own frame, if that begins later
-outside_rest : (f g low place i at : ℕ) → (g ≡ f → place < low) → low ≤ 512 → place < 512 → i ≡ 512 * f + place → at ≡ 512 * g + low → Outside i at (512 - low)
-outside_rest f g low place i at if_same small inside i_is at_is =
+outside_rest : (f g low size place i at : ℕ) → (g ≡ f → place < low) → low + size ≤ 512 → place < 512 → i ≡ 512 * f + place → at ≡ 512 * g + low → Outside i at size
+outside_rest f g low size place i at if_same small inside i_is at_is =
     by_test (g == f)
     (λ same. let e : g ≡ f = eqb-true _ _ same in let lt : place < low = if_same e in inl (omega arith))
-    (λ other. let ne : g ≢ f = eqb-false _ _ other in outside_frame f g low (512 - low) place i at (λ e. ne (sym e)) (omega arith) inside i_is at_is)
+    (λ other. let ne : g ≢ f = eqb-false _ _ other in outside_frame f g low size place i at (λ e. ne (sym e)) small inside i_is at_is)
 
-first_outside : (span other : Span) → IsSpan span → IsSpan other → AreSeparate span other → (k : ℕ) → k < 512 - other.offset
-    → Outside (512 * other.frame + other.offset + k) (512 * span.frame + span.offset) (512 - span.offset) × Outside (512 * other.frame + other.offset + k) (512 * span.next) span.offset
+first_outside : (span other : Span) → IsSpan span → IsSpan other → AreSeparate span other → (k : ℕ) → k < in_frame other
+    → Outside (512 * other.frame + other.offset + k) (512 * span.frame + span.offset) (in_frame span) × Outside (512 * other.frame + other.offset + k) (512 * span.next) (in_next span)
 first_outside span other is other_is separate k small = (
-  outside_frame other.frame span.frame span.offset (512 - span.offset) (other.offset + k) _ _ (λ e. separate.frames (sym e)) (omega (arith, is.inside)) (omega arith) (omega arith) refl,
-  outside_start other.frame span.next span.offset (other.offset + k) _ (λ some e. omega (arith, separate.ends some e)) (omega (arith, is.inside)) (omega arith) (omega arith),
+  outside_frame other.frame span.frame span.offset (in_frame span) (other.offset + k) _ _ (λ e. separate.frames (sym e)) (omega (arith, is.inside)) (omega (arith, other_is.inside)) (omega arith) refl,
+  outside_start other.frame span.next (in_next span) (other.offset + k) _ (λ some e. omega (arith, separate.ends some e)) (omega (arith, is.few)) (omega (arith, other_is.inside)) (omega arith),
 )
 
-second_outside : (span other : Span) → IsSpan span → IsSpan other → AreSeparate span other → (k : ℕ) → k < other.offset
-    → Outside (512 * other.next + k) (512 * span.frame + span.offset) (512 - span.offset) × Outside (512 * other.next + k) (512 * span.next) span.offset
+second_outside : (span other : Span) → IsSpan span → IsSpan other → AreSeparate span other → (k : ℕ) → k < in_next other
+    → Outside (512 * other.next + k) (512 * span.frame + span.offset) (in_frame span) × Outside (512 * other.next + k) (512 * span.next) (in_next span)
 second_outside span other is other_is separate k small = (
-  outside_rest other.next span.frame span.offset k _ _ (λ e. omega (arith, separate.begins (omega arith) (sym e))) (omega (arith, is.inside)) (omega (arith, other_is.inside)) refl refl,
-  outside_start other.next span.next span.offset k _ (λ some e. absurd (separate.nexts some (omega arith) e)) (omega (arith, is.inside)) (omega (arith, other_is.inside)) refl,
+  outside_rest other.next span.frame span.offset (in_frame span) k _ _ (λ e. omega (arith, separate.begins (omega arith) (sym e))) (omega (arith, is.inside)) (omega (arith, other_is.few)) refl refl,
+  outside_start other.next span.next (in_next span) k _ (λ some e. absurd (separate.nexts some (omega arith) e)) (omega (arith, is.few)) (omega (arith, other_is.few)) refl,
 )
 
 -- a block that shares no byte with the one that was written stays
-pub bytes_in-with_bytes_in_other : (span other : Span) (block bytes : List ℕ) → IsSpan span → IsSpan other → AreSeparate span other → length block ≡ 512 → length bytes ≡ 8388608
+pub bytes_in-with_bytes_in_other : (span other : Span) (block bytes : List ℕ) → IsSpan span → IsSpan other → AreSeparate span other → length block ≡ span.len → length bytes ≡ 8388608
     → bytes_in other (with_bytes_in span block bytes) ≡ bytes_in other bytes
 unfolding bytes_in with_bytes_in
 bytes_in-with_bytes_in_other span other block bytes is other_is separate whole size =
-    joined-spread_other (512 * span.frame + span.offset) (512 - span.offset) (512 * span.next) span.offset block bytes (whole_block span block is whole) (fits_span span _ is size)
-    (512 * other.frame + other.offset) (512 - other.offset) (512 * other.next) other.offset (fits_span other _ other_is size)
+    joined-spread_other (512 * span.frame + span.offset) (in_frame span) (512 * span.next) (in_next span) block bytes (whole_block span block is whole) (fits_span span _ is size)
+    (512 * other.frame + other.offset) (in_frame other) (512 * other.next) (in_next other) (fits_span other _ other_is size)
     (first_outside span other is other_is separate)
     (second_outside span other is other_is separate)
 
@@ -115,18 +115,35 @@ contains_at xs i inside = (i, inside, get_or_default xs i inside)
     get_or_default (x ∷ xs) zero inside = refl
     get_or_default (x ∷ xs) (suc i) inside = get_or_default xs i (omega arith)
 
+-- the last block has what the buffer has of it, each other one 512 bytes
+pub by_size : (loan : Loan) (k : ℕ) {X : Type 0} → (k + 1 ≡ loan.count → size_at loan k ≡ loan.last → X) → (k + 1 ≢ loan.count → size_at loan k ≡ 512 → X) → X
+by_size loan k last other = by_test (k + 1 == loan.count) (λ same. last (eqb-true _ _ same) (rw same refl)) (λ ne. other (eqb-false _ _ ne) (rw ne refl))
+
+pub size_some : (loan : Loan) (k : ℕ) → IsLoan loan → 1 ≤ size_at loan k
+size_some loan k is = by_size loan k (λ last e. omega (arith, e, is.last_some)) (λ other e. omega (arith, e))
+
+pub size_few : (loan : Loan) (k : ℕ) → IsLoan loan → size_at loan k ≤ 512
+size_few loan k is = by_size loan k (λ last e. omega (arith, e, is.last_few)) (λ other e. omega (arith, e))
+
+pub size_whole : (loan : Loan) (k : ℕ) → loan.last ≡ 512 → size_at loan k ≡ 512
+size_whole loan k whole = by_size loan k (λ last e. e ∙ whole) (λ other e. e)
+
+pub frames_whole : (count offset : ℕ) → 1 ≤ count → offset < 512 → frames_needed count offset 512 ≡ (if offset == 0 then count else count + 1)
+frames_whole count offset some inside =
+    by_test (offset == 0)
+    (λ start. let e : offset ≡ 0 = eqb-true _ _ start in rw start (omega arith))
+    (λ other. let ne : offset ≢ 0 = eqb-false _ _ other in rw other (omega arith))
+
+pub length-front_of : (loan : Loan) (k : ℕ) (block : List ℕ) → IsLoan loan → length block ≡ 512 → length (front (size_at loan k) block) ≡ size_at loan k
+length-front_of loan k block is whole = length-front (size_at loan k) block (omega (arith, size_few loan k is))
+
 -- block k of a buffer begins in one of its frames, and ends in the next one where it is in two
-at_least : (count offset : ℕ) → count ≤ frames_needed count offset
-at_least count offset = grind (arith, nat_tests)
-
-one_more : (count offset : ℕ) → 0 < offset → frames_needed count offset ≡ count + 1
-one_more count offset some = grind (arith, nat_tests)
-
 pub has_frame : (loan : Loan) (k : ℕ) → IsLoan loan → k < loan.count → k < length loan.frames
-has_frame loan k is inside = omega (arith, is.enough, at_least loan.count loan.offset)
+has_frame loan k is inside = omega (arith, is.enough, is.last_some)
 
-pub has_next : (loan : Loan) (k : ℕ) → IsLoan loan → k < loan.count → 0 < loan.offset → k + 1 < length loan.frames
-has_next loan k is inside some = omega (arith, is.enough, one_more loan.count loan.offset some)
+pub has_next : (loan : Loan) (k : ℕ) → IsLoan loan → k < loan.count → 0 < in_next (span_of loan k) → k + 1 < length loan.frames
+has_next loan k is inside some =
+    by_size loan k (λ last e. omega (arith, e, some, is.enough, is.inside)) (λ other e. omega (arith, other, is.enough, is.last_some))
 
 next_small : (memory : Memory) (loan : Loan) (k : ℕ) → IsLent memory loan → get_or loan.frames (k + 1) 0 < 16384
 next_small memory loan k lent =
@@ -140,6 +157,8 @@ is_span memory loan k is lent inside = record {
   frame_small = lent.small k (has_frame loan k is inside);
   next_small = next_small memory loan k lent;
   inside = is.inside;
+  some = size_some loan k is;
+  few = size_few loan k is;
   differ = λ some. lent.differ k (k + 1) (omega arith) (has_next loan k is inside some);
 }
 
@@ -153,9 +172,9 @@ frames_differ memory loan i j lent i_in j_in ne =
 pub separate_blocks : (memory : Memory) (loan : Loan) (k j : ℕ) → IsLoan loan → IsLent memory loan → k < loan.count → j < loan.count → j ≢ k → AreSeparate (span_of loan k) (span_of loan j)
 separate_blocks memory loan k j is lent k_in j_in ne = record {
   frames = frames_differ memory loan k j lent (has_frame loan k is k_in) (has_frame loan j is j_in) (λ e. ne (sym e));
-  nexts = λ some _. frames_differ memory loan (k + 1) (j + 1) lent (has_next loan k is k_in some) (has_next loan j is j_in some) (λ e. ne (omega arith));
-  ends = λ some e. omega arith;
-  begins = λ some e. omega arith;
+  nexts = λ some other_some. frames_differ memory loan (k + 1) (j + 1) lent (has_next loan k is k_in some) (has_next loan j is j_in other_some) (λ e. ne (omega arith));
+  ends = λ some e. omega (arith, size_few loan k is);
+  begins = λ some e. omega (arith, size_few loan j is);
 }
 
 -- blocks of two buffers that have no frame in common share no byte
@@ -211,7 +230,7 @@ blocks_from-set loan bytes other block k (suc n) (suc i) inside at same =
     rw (here, rest) refl
 
 -- what a buffer holds after a write to one of its blocks
-pub blocks_of-with_block : (memory : Memory) (loan : Loan) (k : ℕ) (block : List ℕ) → length memory.bytes ≡ 8388608 → IsLoan loan → IsLent memory loan → k < loan.count → length block ≡ 512
+pub blocks_of-with_block : (memory : Memory) (loan : Loan) (k : ℕ) (block : List ℕ) → length memory.bytes ≡ 8388608 → IsLoan loan → IsLent memory loan → k < loan.count → length block ≡ size_at loan k
     → blocks_of loan (with_block loan k block memory) ≡ set (blocks_of loan memory) k block
 blocks_of-with_block memory loan k block size is lent inside whole =
     let here : IsSpan (span_of loan k) = is_span memory loan k is lent inside in
@@ -224,7 +243,7 @@ blocks_of-with_block memory loan k block size is lent inside whole =
     bytes_in-with_bytes_in_other (span_of loan k) (span_of loan j) block memory.bytes here (is_span memory loan j is lent j_in) (separate_blocks memory loan k j is lent inside j_in ne_k) whole size)
 
 -- what another buffer holds after it
-pub blocks_of-with_block_other : (memory : Memory) (loan other : Loan) (k : ℕ) (block : List ℕ) → length memory.bytes ≡ 8388608 → IsLoan loan → IsLent memory loan → k < loan.count → length block ≡ 512
+pub blocks_of-with_block_other : (memory : Memory) (loan other : Loan) (k : ℕ) (block : List ℕ) → length memory.bytes ≡ 8388608 → IsLoan loan → IsLent memory loan → k < loan.count → length block ≡ size_at loan k
     → IsLoan other → IsLent memory other → AreApart loan other → blocks_of other (with_block loan k block memory) ≡ blocks_of other memory
 blocks_of-with_block_other memory loan other k block size is lent inside whole other_is other_lent apart =
     blocks_from-same other memory.bytes (with_bytes_in (span_of loan k) block memory.bytes) 0 other.count
@@ -241,25 +260,29 @@ slice_get-blocks_of memory loan k inside =
     slice_get-get_or all k [] here ∙ ap (λ (b : List ℕ). Some b) (get_or-blocks_from loan memory.bytes 0 loan.count k [] inside ∙ ap (λ (j : ℕ). bytes_in (span_of loan j) memory.bytes) first)
 
 -- byte by byte
-pub get_or-bytes_in : (span : Span) (bytes : List ℕ) (at : ℕ) → IsSpan span → length bytes ≡ 8388608 → at < 512 → get_or bytes (place_in span at) 0 ≡ get_or (bytes_in span bytes) at 0
+pub get_or-bytes_in : (span : Span) (bytes : List ℕ) (at : ℕ) → IsSpan span → length bytes ≡ 8388608 → at < span.len → get_or bytes (place_in span at) 0 ≡ get_or (bytes_in span bytes) at 0
 unfolding bytes_in
 get_or-bytes_in span bytes at is size inside =
     by_test (nat_lt at (512 - span.offset))
     (λ first. let lt : at < 512 - span.offset = ltb-true _ _ first in
     ap (λ (b : Bool). get_or bytes (if b then 512 * span.frame + span.offset + at else 512 * span.next + (at - (512 - span.offset))) 0) first
-    ∙ sym (joined_first (512 * span.frame + span.offset) (512 - span.offset) (512 * span.next) span.offset bytes (fits_span span _ is size) at lt))
+    ∙ sym (joined_first (512 * span.frame + span.offset) (in_frame span) (512 * span.next) (in_next span) bytes (fits_span span _ is size) at (omega arith)))
     (λ second. let ge : 512 - span.offset ≤ at = ltb-false _ _ second in
+    let whole : 512 - span.offset ≡ in_frame span = omega arith in
     ap (λ (b : Bool). get_or bytes (if b then 512 * span.frame + span.offset + at else 512 * span.next + (at - (512 - span.offset))) 0) second
-    ∙ sym (joined_second (512 * span.frame + span.offset) (512 - span.offset) (512 * span.next) span.offset bytes (fits_span span _ is size) at ge (omega (arith, is.inside))))
+    ∙ ap (λ (n : ℕ). get_or bytes (512 * span.next + (at - n)) 0) whole
+    ∙ sym (joined_second (512 * span.frame + span.offset) (in_frame span) (512 * span.next) (in_next span) bytes (fits_span span _ is size) at (omega arith) (omega arith)))
 
-pub set-bytes_in : (span : Span) (bytes : List ℕ) (at byte : ℕ) → IsSpan span → length bytes ≡ 8388608 → at < 512
+pub set-bytes_in : (span : Span) (bytes : List ℕ) (at byte : ℕ) → IsSpan span → length bytes ≡ 8388608 → at < span.len
     → set bytes (place_in span at) byte ≡ with_bytes_in span (set (bytes_in span bytes) at byte) bytes
 unfolding bytes_in with_bytes_in
 set-bytes_in span bytes at byte is size inside =
     by_test (nat_lt at (512 - span.offset))
     (λ first. let lt : at < 512 - span.offset = ltb-true _ _ first in
     ap (λ (b : Bool). set bytes (if b then 512 * span.frame + span.offset + at else 512 * span.next + (at - (512 - span.offset))) byte) first
-    ∙ set_first (512 * span.frame + span.offset) (512 - span.offset) (512 * span.next) span.offset bytes (fits_span span _ is size) at byte lt)
+    ∙ set_first (512 * span.frame + span.offset) (in_frame span) (512 * span.next) (in_next span) bytes (fits_span span _ is size) at byte (omega arith))
     (λ second. let ge : 512 - span.offset ≤ at = ltb-false _ _ second in
+    let whole : 512 - span.offset ≡ in_frame span = omega arith in
     ap (λ (b : Bool). set bytes (if b then 512 * span.frame + span.offset + at else 512 * span.next + (at - (512 - span.offset))) byte) second
-    ∙ set_second (512 * span.frame + span.offset) (512 - span.offset) (512 * span.next) span.offset bytes (fits_span span _ is size) at byte ge (omega (arith, is.inside)))
+    ∙ ap (λ (n : ℕ). set bytes (512 * span.next + (at - n)) byte) whole
+    ∙ set_second (512 * span.frame + span.offset) (in_frame span) (512 * span.next) (in_next span) bytes (fits_span span _ is size) at byte (omega arith) (omega arith))

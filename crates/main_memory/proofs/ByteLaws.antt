@@ -1,12 +1,12 @@
 -- Laws of parts of bytes, and of two parts read and written as one.
 use Rattle.std.proofs.Common.{◌≡◌, ◌≢◌, ◌⊎◌, inl, inr, ℕ, ◌+◌, ◌-◌, ◌<◌, ◌≤◌, ◌==◌, nat_lt, List, ◌++◌, take, drop, length, get_or, sym, ap, ◌∙◌, arith}
 use Rattle.std.proofs.Common.{get_or-set_same, get_or-set_other}
-use Rattle.std.proofs.Math.ListN.{set, length-set}
+use Rattle.std.proofs.Math.ListN.{set, length-set, replicate}
 use Rattle.std.proofs.lemmas.Bool.{ltb-true, ltb-false, eqb-true, eqb-false}
 use Rattle.std.proofs.lemmas.Grind.{common_steps, same_number_lists}
-use Rattle.std.proofs.lemmas.List.{get_or-take, get_or-drop, get_or_append_left, get_or-append_right}
-use Rattle.std.proofs.Common.{length-append}
-use Rattle.main_memory.specs.Bytes.{part, with_part}
+use Rattle.std.proofs.lemmas.List.{get_or-take, get_or-drop, get_or_append_left, get_or-append_right, length-replicate}
+use Rattle.std.proofs.Common.{length-append, append-nil}
+use Rattle.main_memory.specs.Bytes.{part, with_part, front, filled}
 use Rattle.main_memory.proofs.FrameLaws.{by_test}
 
 pub length-part : (size at : ℕ) (bytes : List ℕ) → at + size ≤ length bytes → length (part size at bytes) ≡ size
@@ -20,6 +20,26 @@ get_or-part size at bytes i small = get_or-take size (drop at bytes) i 0 small �
 pub length-with_part : (at : ℕ) (new bytes : List ℕ) → at + length new ≤ length bytes → length (with_part at new bytes) ≡ length bytes
 unfolding with_part
 length-with_part at new bytes inside = grind (arith, common_steps)
+
+pub length-front : (size : ℕ) (bytes : List ℕ) → size ≤ length bytes → length (front size bytes) ≡ size
+unfolding front
+length-front size bytes inside = grind (arith, common_steps)
+
+pub front-whole : (size : ℕ) (bytes : List ℕ) → length bytes ≡ size → front size bytes ≡ bytes
+unfolding front
+front-whole size bytes whole = grind (arith, common_steps)
+
+pub filled-whole : (size : ℕ) (bytes : List ℕ) → length bytes ≡ size → filled size bytes ≡ bytes
+unfolding filled
+filled-whole size bytes whole = let none : size - length bytes ≡ 0 = omega arith in rw none (append-nil bytes)
+
+pub length-filled : (size : ℕ) (bytes : List ℕ) → length bytes ≤ size → length (filled size bytes) ≡ size
+unfolding filled
+length-filled size bytes fits = omega (arith, length-append bytes (replicate (size - length bytes) 0), length-replicate {A = ℕ} (size - length bytes) 0)
+
+pub front-filled : (size len : ℕ) (bytes : List ℕ) → length bytes ≡ len → front len (filled size bytes) ≡ bytes
+unfolding front filled
+front-filled size len bytes is = grind (arith, common_steps)
 
 three_before : (xs ys zs : List ℕ) (i : ℕ) → i < length xs → get_or (xs ++ (ys ++ zs)) i 0 ≡ get_or xs i 0
 three_before xs ys zs i h = grind (arith, common_steps)

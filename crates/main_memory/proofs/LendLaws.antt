@@ -110,9 +110,9 @@ not_in_both xs n x i j up front rest =
     omega (arith, ascending_lt xs i (n + j) up (omega arith) two.inside, one.here, two.here)
 
 -- the lowest free frames, lent
-pub lent_front : (bytes free : List ℕ) (n offset count : ℕ) → IsMemory (record { bytes = bytes; free = free })
-    → IsLent (record { bytes = bytes; free = drop n free }) (record { frames = take n free; offset = offset; count = count })
-lent_front bytes free n offset count is = record {
+pub lent_front : (bytes free : List ℕ) (n offset count last : ℕ) → IsMemory (record { bytes = bytes; free = free })
+    → IsLent (record { bytes = bytes; free = drop n free }) (record { frames = take n free; offset = offset; count = count; last = last })
+lent_front bytes free n offset count last is = record {
   differ = λ i j lt inside.
       let size : j < length (take n free) = inside in
       let bound = length-take n free in
@@ -126,9 +126,9 @@ lent_front bytes free n offset count is = record {
 }
 
 -- what was lent before has none of these frames, and stays lent
-pub apart_front : (bytes free : List ℕ) (n offset count : ℕ) (other : Loan) → IsLent (record { bytes = bytes; free = free }) other
-    → AreApart (record { frames = take n free; offset = offset; count = count }) other
-apart_front bytes free n offset count other lent = λ frame front in_other. lent.taken frame in_other (in_front free n frame front)
+pub apart_front : (bytes free : List ℕ) (n offset count last : ℕ) (other : Loan) → IsLent (record { bytes = bytes; free = free }) other
+    → AreApart (record { frames = take n free; offset = offset; count = count; last = last }) other
+apart_front bytes free n offset count last other lent = λ frame front in_other. lent.taken frame in_other (in_front free n frame front)
 
 pub still_lent : (bytes free : List ℕ) (n : ℕ) (other : Loan) → IsLent (record { bytes = bytes; free = free }) other → IsLent (record { bytes = bytes; free = drop n free }) other
 still_lent bytes free n other lent = record { differ = lent.differ; small = lent.small; taken = λ frame in_other rest. lent.taken frame in_other (in_rest free n frame rest) }
@@ -236,11 +236,11 @@ pub words_lent : (bytes words after : List ℕ) (n : ℕ) (loan : Loan) → leng
     → IsLent (record { bytes = bytes; free = free_frames after }) loan
 words_lent bytes words after n loan size front rest =
     let is : IsMemory (record { bytes = bytes; free = free_frames words }) = is_memory bytes words size in
-    let lent : IsLent (record { bytes = bytes; free = drop n (free_frames words) }) (record { frames = take n (free_frames words); offset = loan.offset; count = loan.count }) =
-    lent_front bytes (free_frames words) n loan.offset loan.count is in
-    let there : IsLent (record { bytes = bytes; free = free_frames after }) (record { frames = take n (free_frames words); offset = loan.offset; count = loan.count }) =
-    subst (λ (free : List ℕ). IsLent (record { bytes = bytes; free = free }) (record { frames = take n (free_frames words); offset = loan.offset; count = loan.count })) (sym rest) lent in
-    subst (λ (frames : List ℕ). IsLent (record { bytes = bytes; free = free_frames after }) (record { frames = frames; offset = loan.offset; count = loan.count })) (sym front) there
+    let lent : IsLent (record { bytes = bytes; free = drop n (free_frames words) }) (record { frames = take n (free_frames words); offset = loan.offset; count = loan.count; last = loan.last }) =
+    lent_front bytes (free_frames words) n loan.offset loan.count loan.last is in
+    let there : IsLent (record { bytes = bytes; free = free_frames after }) (record { frames = take n (free_frames words); offset = loan.offset; count = loan.count; last = loan.last }) =
+    subst (λ (free : List ℕ). IsLent (record { bytes = bytes; free = free }) (record { frames = take n (free_frames words); offset = loan.offset; count = loan.count; last = loan.last })) (sym rest) lent in
+    subst (λ (frames : List ℕ). IsLent (record { bytes = bytes; free = free_frames after }) (record { frames = frames; offset = loan.offset; count = loan.count; last = loan.last })) (sym front) there
 
 pub words_apart : (bytes words : List ℕ) (n : ℕ) (memory : Memory) (loan other : Loan) → record { bytes = bytes; free = free_frames words } ≡ memory → loan.frames ≡ take n (free_frames words)
     → IsLent memory other → AreApart loan other

@@ -3,3 +3,4 @@ pub mod BlockLaws
 pub mod ByteLaws
 pub mod FrameLaws
 pub mod LendLaws
+pub mod TextLaws

@@ -1,5 +1,5 @@
--- Parts of a list of bytes.
-use Rattle.std.specs.Prelude.{ℕ, ◌+◌, List, ◌++◌, take, drop, length}
+-- Parts of a list of bytes, and bytes with zeros behind them.
+use Rattle.std.specs.Prelude.{ℕ, ◌+◌, ◌-◌, List, ◌++◌, take, drop, length, replicate}
 
 -- so many bytes from a place on
 unfoldable pub part : ℕ → ℕ → List ℕ → List ℕ
@@ -8,3 +8,11 @@ part size at bytes = take size (drop at bytes)
 -- the list with these bytes from a place on
 unfoldable pub with_part : ℕ → List ℕ → List ℕ → List ℕ
 with_part at new bytes = take at bytes ++ (new ++ drop (at + length new) bytes)
+
+-- the first bytes, so many
+unfoldable pub front : ℕ → List ℕ → List ℕ
+front size bytes = take size bytes
+
+-- the bytes and then zeros, so many in all
+unfoldable pub filled : ℕ → List ℕ → List ℕ
+filled size bytes = bytes ++ replicate (size - length bytes) 0

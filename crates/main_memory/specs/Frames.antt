@@ -1,5 +1,5 @@
 -- Frames of main memory: which are free, and which a buffer needs.
-use Rattle.std.specs.Prelude.{ℕ, ◌+◌, ◌/◌, ◌%◌, ◌==◌, Bool, true, if◌then◌else◌, List, [], ◌∷◌, nat_lt, slice_index, zero, suc}
+use Rattle.std.specs.Prelude.{ℕ, ◌+◌, ◌-◌, ◌*◌, ◌/◌, ◌%◌, ◌==◌, Bool, true, if◌then◌else◌, List, [], ◌∷◌, nat_lt, slice_index, zero, suc}
 use Rattle.std.specs.Int.{bit_at}
 
 -- those of n numbers, from one on, that pass a test, in ascending order
@@ -29,6 +29,7 @@ unfoldable pub with_frames : List ℕ → List ℕ → List ℕ
 with_frames [] xs = xs
 with_frames (frame ∷ frames) xs = with_frames frames (with_frame frame xs)
 
--- how many frames so many blocks need: one more than blocks where the first frame is not used from its start
-abbrev pub frames_needed : ℕ → ℕ → ℕ
-frames_needed count offset = if offset == 0 then count else count + 1
+-- how many frames so many blocks need, the last of them of `last` bytes: those that their bytes reach, which begin
+-- at a place of the first frame
+abbrev pub frames_needed : ℕ → ℕ → ℕ → ℕ
+frames_needed count offset last = (offset + 512 * (count - 1) + last + 511) / 512

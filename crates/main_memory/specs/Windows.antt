@@ -13,7 +13,11 @@ memory_name window = window.memory.ghost_name
 abbrev pub memory_of : Window → Memory
 memory_of window = window.memory.now
 
--- the 512 bytes that are seen through a window
+-- how many bytes are seen through a window
+abbrev pub window_len : Window → ℕ
+window_len window = window.span.len
+
+-- these bytes
 abbrev pub window_bytes : Window → List ℕ
 window_bytes window = bytes_in window.span window.memory.now.bytes
 
@@ -21,7 +25,7 @@ window_bytes window = bytes_in window.span window.memory.now.bytes
 abbrev pub IsOn : Loan → ℕ → Window → Type 0
 IsOn loan k window = window.span ≡ span_of loan k
 
--- a window after these 512 bytes were written through it: it is on the same block, and the memory has changed
+-- a window after these bytes were written through it: it is on the same block, and the memory has changed
 -- in no other byte
 pub record Writes (old new : Window) (block : List ℕ) : Type 0 where
   pub same_block : new.span ≡ old.span

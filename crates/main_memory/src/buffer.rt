@@ -1,6 +1,6 @@
 // Buffers: frames that memory lent, as moved values.
 ghost use Rattle.std.specs.Prelude.{◌≡◌, ◌<◌, length};
-ghost use Rattle.main_memory.specs.Blocks.{IsLoan, span_of};
+ghost use Rattle.main_memory.specs.Blocks.{IsLoan, size_at, span_of};
 
 use crate::span::Span;
 use arrayvec::ArrayVec;
@@ -15,13 +15,15 @@ pub struct Cpu;
 pub struct Bus;
 
 /// Blocks of 512 bytes in frames of main memory: the frames in order, the place in the first frame where
-/// the bytes begin, from 0 to 511, and the number of blocks, from 1 to 127. A buffer is moved, not copied,
-/// between the driver and an adapter. The frames of a buffer that is dropped stay lent.
+/// the bytes begin, from 0 to 511, the number of blocks, from 1 to 127, and how many bytes the last block has,
+/// from 1 to 512. A buffer is moved, not copied, between the driver and an adapter. The frames of a buffer that
+/// is dropped stay lent.
 #[derive(Drop)]
 pub struct Buffer<S> {
     frames: ArrayVec<u16, 128>,
     offset: u32,
     count: u32,
+    last: u32,
     state: PhantomData<S>,
 }
 
@@ -30,22 +32,23 @@ impl<S> Model for Buffer<S> {
 
     ghost Value = { Loan };
 
-    ghost view = { λ b. record { frames = b.frames.items; offset = b.offset; count = b.count } };
+    ghost view = { λ b. record { frames = b.frames.items; offset = b.offset; count = b.count; last = b.last } };
 
-    ghost invariant = { λ b. IsLoan (record { frames = b.frames.items; offset = b.offset; count = b.count }) };
+    ghost invariant = { λ b. IsLoan (record { frames = b.frames.items; offset = b.offset; count = b.count; last = b.last }) };
 }
 
 impl<S> Buffer<S> {
     // A buffer of these frames.
-    pub(crate) fn of(frames: ArrayVec<u16, 128>, offset: u32, count: u32) -> Buffer<S>
-        requires { IsLoan (record { frames = frames.items; offset = offset; count = count }) }
-        ensures value { result ≡ record { frames = frames.items; offset = offset; count = count } }
+    pub(crate) fn of(frames: ArrayVec<u16, 128>, offset: u32, count: u32, last: u32) -> Buffer<S>
+        requires { IsLoan (record { frames = frames.items; offset = offset; count = count; last = last }) }
+        ensures value { result ≡ record { frames = frames.items; offset = offset; count = count; last = last } }
         ensures shape { IsLoan result }
     {
         Buffer {
             frames,
             offset,
             count,
+            last,
             state: PhantomData,
         }
     }
@@ -64,12 +67,30 @@ impl<S> Buffer<S> {
         self.count
     }
 
+    /// How many bytes the last block has, from 1 to 512.
+    pub fn last(&self) -> u32
+        ensures { result ≡ self.now.last }
+    {
+        self.last
+    }
+
+    // How many bytes a block has.
+    fn size_at(&self, k: u32) -> u32
+        requires { k < self.now.count }
+        ensures size { result ≡ size_at self.now k }
+        ensures shape { IsLoan self.now }
+    {
+        let count = self.count;
+        if k + 1 == count { self.last } else { 512 }
+    }
+
     // Where a block lies.
     pub(crate) fn span_at(&self, k: u32) -> Span
         requires { k < self.now.count }
         ensures span { result ≡ span_of self.now k }
         ensures shape { IsLoan self.now }
     {
+        let len = self.size_at(k) as usize;
         let frames = self.frames.as_slice();
         let k = k as usize;
         let next = frames.get(k + 1).copied().unwrap_or(0);
@@ -77,6 +98,7 @@ impl<S> Buffer<S> {
             frame: usize::from(frames[k]),
             next: usize::from(next),
             offset: self.offset as usize,
+            len,
         }
     }
 }
@@ -90,9 +112,10 @@ pub fn to_bus(buffer: Buffer<Cpu>) -> Buffer<Bus>
         frames,
         offset,
         count,
+        last,
         state: _,
     } = buffer;
-    Buffer::of(frames, offset, count)
+    Buffer::<Bus>::of(frames, offset, count, last)
 }
 
 /// Hands a buffer back to the driver.
@@ -104,9 +127,10 @@ pub fn to_cpu(buffer: Buffer<Bus>) -> Buffer<Cpu>
         frames,
         offset,
         count,
+        last,
         state: _,
     } = buffer;
-    Buffer::of(frames, offset, count)
+    Buffer::<Cpu>::of(frames, offset, count, last)
 }
 
 /// The buffer's frames, in order.

@@ -1,12 +1,13 @@
 // The memory itself: frames lent and given back, and blocks stored and fetched.
-ghost use Rattle.std.specs.Prelude.{◌≡◌, ◌≤◌, ◌<◌, ◌+◌, ◌↔◌, IfOk, OnOk, IfErr, OnErr, IsErr, Some, slice_get, slice_index, length, take, drop, slice_set, List, ℕ};
+ghost use Rattle.std.specs.Prelude.{◌≡◌, ◌≤◌, ◌<◌, ◌+◌, ◌↔◌, IfOk, OnOk, IfErr, OnErr, IsErr, IsSomeAnd, slice_get, slice_index, length, take, drop, slice_set, List, ℕ};
 ghost use Rattle.main_memory.specs.Frames.{all_frames, frames_needed, with_frames};
-ghost use Rattle.main_memory.specs.Blocks.{Loan, IsLoan, IsSpan, span_of, bytes_in};
+ghost use Rattle.main_memory.specs.Bytes.{front, filled};
+ghost use Rattle.main_memory.specs.Blocks.{Loan, IsLoan, IsSpan, size_at, span_of, bytes_in};
 ghost use Rattle.main_memory.specs.Memory.{IsMemory, IsLent, AreApart, with_block, with_span, blocks_of};
 
 use crate::bits::{all_free, give_frames, take_frames};
 use crate::buffer::{Buffer, Cpu, frames_of};
-use crate::span::{Span, read_span, write_span};
+use crate::span::{Span, read_filled, write_front};
 use mass_outside::traits::NoMemory;
 use std::alloc::{AllocError, Global};
 use std::marker::Model;
@@ -70,22 +71,24 @@ impl MainMemory {
         })
     }
 
-    /// Lends the frames that `count` blocks need, from place `offset` of the first frame on: one frame for
-    /// each block, and one more where `offset` is not 0. They are the lowest free frames, in ascending order.
-    /// `NoFrames` exactly where fewer frames are free; then nothing changes.
-    pub fn lend(&mut self, count: u32, offset: u32) -> Result<Buffer<Cpu>, NoFrames>
+    /// Lends the frames that `count` blocks need, from 1 to 127, the last of them of `last` bytes, from 1 to 512,
+    /// from place `offset` of the first frame on, from 0 to 511: as many frames as these bytes reach. They are the
+    /// lowest free frames, in ascending order. `NoFrames` exactly where fewer frames are free; then nothing changes.
+    pub fn lend(&mut self, count: u32, offset: u32, last: u32) -> Result<Buffer<Cpu>, NoFrames>
         requires some { 1 ≤ count }
         requires few { count ≤ 127 }
         requires inside { offset < 512 }
+        requires last_some { 1 ≤ last }
+        requires last_few { last ≤ 512 }
 
         // Refused exactly where too few frames are free.
-        ensures refused { IsErr result ↔ (length self.old.free < frames_needed count offset) }
+        ensures refused { IsErr result ↔ (length self.old.free < frames_needed count offset last) }
         ensures free { IfErr result (λ e. e.free ≡ length self.old.free) }
         ensures unchanged { OnErr result (self.new ≡ self.old) }
 
         // Lent: the lowest free frames, which are then not free.
-        ensures buffer { IfOk result (λ b. b ≡ record { frames = take (frames_needed count offset) self.old.free; offset = offset; count = count }) }
-        ensures memory { OnOk result (self.new ≡ record self.old { free = drop (frames_needed count offset) self.old.free }) }
+        ensures buffer { IfOk result (λ b. b ≡ record { frames = take (frames_needed count offset last) self.old.free; offset = offset; count = count; last = last }) }
+        ensures memory { OnOk result (self.new ≡ record self.old { free = drop (frames_needed count offset last) self.old.free }) }
 
         // No frame is lent twice.
         ensures lent { IfOk result (λ b. IsLoan b × IsLent self.new b) }
@@ -93,13 +96,13 @@ impl MainMemory {
         ensures others { (other : Loan) → IsLent self.old other → IsLent self.new other }
         ensures sound { IsMemory self.new }
     {
-        let needed = if offset == 0 { count } else { count + 1 };
+        let needed = (offset + 512 * (count - 1) + last + 511) / 512;
         if self.free < needed {
             return Err(NoFrames { free: self.free });
         }
         let frames = take_frames(&mut self.free_words, needed);
         self.free -= needed;
-        Ok(Buffer::of(frames, offset, count))
+        Ok(Buffer::of(frames, offset, count, last))
     }
 
     /// Takes a buffer's frames back: they are free again.
@@ -115,12 +118,12 @@ impl MainMemory {
         self.free += frames.len() as u32;
     }
 
-    /// Writes block `k` of a buffer, counted from 0.
+    /// Writes block `k` of a buffer, counted from 0: as many of these bytes as the block has.
     pub fn store(&mut self, buffer: &Buffer<Cpu>, k: u32, from: &[u8; 512])
         requires lent { IsLent self.old buffer.now }
         requires inside { k < buffer.now.count }
-        ensures memory { self.new ≡ with_block buffer.now k from.now self.old }
-        ensures held { blocks_of buffer.now self.new ≡ slice_set (blocks_of buffer.now self.old) k from.now }
+        ensures memory { self.new ≡ with_block buffer.now k (front (size_at buffer.now k) from.now) self.old }
+        ensures held { blocks_of buffer.now self.new ≡ slice_set (blocks_of buffer.now self.old) k (front (size_at buffer.now k) from.now) }
         ensures others { (other : Loan) → IsLoan other → IsLent self.old other → AreApart buffer.now other
             → blocks_of other self.new ≡ blocks_of other self.old }
         ensures lent { (other : Loan) → IsLent self.old other → IsLent self.new other }
@@ -129,33 +132,33 @@ impl MainMemory {
         self.write(buffer.span_at(k), from);
     }
 
-    /// Reads block `k` of a buffer, counted from 0.
+    /// Reads block `k` of a buffer, counted from 0: its bytes, and then zeros.
     pub fn fetch(&self, buffer: &Buffer<Cpu>, k: u32, into: &mut [u8; 512])
         requires lent { IsLent self.now buffer.now }
         requires inside { k < buffer.now.count }
-        ensures block { into.new ≡ bytes_in (span_of buffer.now k) self.now.bytes }
-        ensures held { slice_get (blocks_of buffer.now self.now) k ≡ Some into.new }
+        ensures block { into.new ≡ filled 512 (bytes_in (span_of buffer.now k) self.now.bytes) }
+        ensures held { IsSomeAnd (slice_get (blocks_of buffer.now self.now) k) (λ block. into.new ≡ filled 512 block) }
     {
         self.read(buffer.span_at(k), into);
     }
 
-    // Writes the 512 bytes of a span.
+    // Writes the bytes of a span, the first of these 512.
     pub(crate) fn write(&mut self, span: Span, from: &[u8; 512])
         requires { IsSpan span }
-        ensures memory { self.new ≡ with_span span from.now self.old }
+        ensures memory { self.new ≡ with_span span (front span.len from.now) self.old }
         ensures size { length self.old.bytes ≡ 8388608 }
         ensures sound { IsMemory self.new }
     {
-        write_span(self.bytes.as_mut_slice(), span, from);
+        write_front(self.bytes.as_mut_slice(), span, from);
     }
 
-    // Reads the 512 bytes of a span.
+    // Reads the bytes of a span, and then zeros.
     pub(crate) fn read(&self, span: Span, into: &mut [u8; 512])
         requires { IsSpan span }
-        ensures block { into.new ≡ bytes_in span self.now.bytes }
+        ensures block { into.new ≡ filled 512 (bytes_in span self.now.bytes) }
         ensures size { length self.now.bytes ≡ 8388608 }
     {
-        read_span(self.bytes.as_slice(), span, into);
+        read_filled(self.bytes.as_slice(), span, into);
     }
 
     // The byte at a place.

@@ -1,21 +1,32 @@
 // Where a block of a buffer lies in memory.
-ghost use Rattle.std.specs.Prelude.{◌≡◌, ◌<◌, length};
-ghost use Rattle.main_memory.specs.Blocks.{IsSpan, place_in, bytes_in, with_bytes_in};
+ghost use Rattle.std.specs.Prelude.{◌≡◌, ◌<◌, ◌≤◌, length};
+ghost use Rattle.main_memory.specs.Bytes.{front, filled};
+ghost use Rattle.main_memory.specs.Blocks.{IsSpan, in_frame, in_next, place_in, bytes_in, with_bytes_in};
 
 use crate::bytes::{get, put};
 
-// In a frame from the offset on, and then in the next frame below the offset.
+// `len` bytes: in a frame from the offset on, and where they don't end there in the next frame from its start on.
 #[derive(Clone, Copy)]
 pub struct Span {
     pub frame: usize,
     pub next: usize,
     pub offset: usize,
+    pub len: usize,
 }
 
-// Where byte `at` of the 512 lies.
+// How many of the bytes lie in the first frame.
+fn len_in_frame(span: Span) -> usize
+    requires span { IsSpan span }
+    ensures frame { result ≡ in_frame span }
+    ensures inside { result ≤ span.len }
+{
+    span.len.min(512 - span.offset)
+}
+
+// Where byte `at` of them lies.
 pub fn place(span: Span, at: usize) -> usize
     requires span { IsSpan span }
-    requires inside { at < 512 }
+    requires inside { at < span.len }
     ensures place { result ≡ place_in span at }
     ensures small { result < 8388608 }
 {
@@ -27,24 +38,47 @@ pub fn place(span: Span, at: usize) -> usize
     }
 }
 
-// Writes the 512 bytes there.
-pub fn write_span(bytes: &mut [u8], span: Span, from: &[u8; 512])
+// Writes the bytes there.
+pub fn write_span(bytes: &mut [u8], span: Span, from: &[u8])
     requires memory { length bytes.old ≡ 8388608 }
     requires span { IsSpan span }
+    requires whole { length from.now ≡ span.len }
     ensures { bytes.new ≡ with_bytes_in span from.now bytes.old }
 {
-    let (first, second) = from.split_at(512 - span.offset);
+    let (first, second) = from.split_at(len_in_frame(span));
     put(bytes, 512 * span.frame + span.offset, first);
     put(bytes, 512 * span.next, second);
 }
 
-// Reads the 512 bytes there.
-pub fn read_span(bytes: &[u8], span: Span, into: &mut [u8; 512])
+// Reads the bytes there.
+pub fn read_span(bytes: &[u8], span: Span, into: &mut [u8])
     requires memory { length bytes.now ≡ 8388608 }
     requires span { IsSpan span }
+    requires whole { length into.old ≡ span.len }
     ensures { into.new ≡ bytes_in span bytes.now }
 {
-    let (first, second) = into.split_at_mut(512 - span.offset);
+    let (first, second) = into.split_at_mut(len_in_frame(span));
     get(bytes, 512 * span.frame + span.offset, first);
     get(bytes, 512 * span.next, second);
+}
+
+// Writes there the first bytes of 512.
+pub fn write_front(bytes: &mut [u8], span: Span, from: &[u8; 512])
+    requires memory { length bytes.old ≡ 8388608 }
+    requires span { IsSpan span }
+    ensures { bytes.new ≡ with_bytes_in span (front span.len from.now) bytes.old }
+{
+    write_span(bytes, span, &from[..span.len]);
+}
+
+// Reads the bytes there and then zeros.
+pub fn read_filled(bytes: &[u8], span: Span, into: &mut [u8])
+    requires memory { length bytes.now ≡ 8388608 }
+    requires span { IsSpan span }
+    requires room { span.len ≤ length into.old }
+    ensures { into.new ≡ filled (length into.old) (bytes_in span bytes.now) }
+{
+    let (window, rest) = into.split_at_mut(span.len);
+    read_span(bytes, span, window);
+    rest.fill(0);
 }

@@ -13,7 +13,7 @@ fn pattern(seed: u8) -> [u8; 512] {
 #[test]
 fn window_in_two_frames(rt: HostRuntime) -> Result<(), Fail> {
     let mut memory = MainMemory::new(rt.alloc())?;
-    let buffer = memory.lend(2, 300)?;
+    let buffer = memory.lend(2, 300, 512)?;
     assert_eq!(rt; frames_of(&buffer), [0u16, 1, 2].as_slice());
     let zeros = [0u8; 512];
     memory.store(&buffer, 0, &zeros);
@@ -24,8 +24,9 @@ fn window_in_two_frames(rt: HostRuntime) -> Result<(), Fail> {
     window.copy_in(&block);
     memory.give_back(to_cpu(buffer));
 
-    // The same frames as blocks of their own: window 1 is bytes 300 to 511 of frame 1 and 0 to 299 of frame 2.
-    let frames = memory.lend(3, 0)?;
+    // The same frames as blocks of their own: byte 211 of window 1 is the last of frame 1, byte 212 the first of
+    // frame 2.
+    let frames = memory.lend(3, 0, 512)?;
     let mut frame = [0u8; 512];
     memory.fetch(&frames, 1, &mut frame);
     for i in 0..512usize {
@@ -39,15 +40,58 @@ fn window_in_two_frames(rt: HostRuntime) -> Result<(), Fail> {
 }
 
 #[test]
+fn short_last_block(rt: HostRuntime) -> Result<(), Fail> {
+    let mut memory = MainMemory::new(rt.alloc())?;
+    let whole = memory.lend(1, 0, 512)?;
+    memory.store(&whole, 0, &[0x77; 512]);
+    memory.give_back(whole);
+    let buffer = memory.lend(1, 300, 3)?;
+    assert_eq!(rt; frames_of(&buffer), [0u16].as_slice());
+    memory.store(&buffer, 0, &pattern(0));
+    let buffer = to_bus(buffer);
+    let mut bytes = [0xffu8; 512];
+    let mut window = memory.window(&buffer, 0);
+    assert_eq!(rt; window.len(), 3);
+    window.set(2, 9);
+    assert_eq!(rt; window.get(1), 1);
+    window.copy_out(&mut bytes);
+    for i in 0..512usize {
+        assert_eq!(rt;
+            bytes[i],
+            if i < 2 {
+                i as u8
+            } else {
+                if i == 2 { 9 } else { 0 }
+            }
+        );
+    }
+    memory.give_back(to_cpu(buffer));
+
+    // The other bytes of the frame stay.
+    let whole = memory.lend(1, 0, 512)?;
+    memory.fetch(&whole, 0, &mut bytes);
+    assert_eq!(rt;
+        (bytes[299], bytes[300], bytes[302], bytes[303]),
+        (0x77, 0, 9, 0x77)
+    );
+    Ok(())
+}
+
+#[test]
 fn frames_run_out(rt: HostRuntime) -> Result<(), Fail> {
     let mut memory = MainMemory::new(rt.alloc())?;
-    for _ in 0..129 {
-        assert!(rt; memory.lend(127, 0).is_ok());
+    for (last, frames) in [(212, 127), (213, 128)] {
+        let buffer = memory.lend(127, 300, last)?;
+        assert_eq!(rt; frames_of(&buffer).len(), frames);
+        memory.give_back(buffer);
     }
-    match memory.lend(1, 5) {
+    for _ in 0..129 {
+        assert!(rt; memory.lend(127, 0, 512).is_ok());
+    }
+    match memory.lend(1, 5, 512) {
         Ok(_) => assert!(rt; false, "one frame is not enough"),
         Err(NoFrames { free }) => assert_eq!(rt; free, 1),
     }
-    assert!(rt; memory.lend(1, 0).is_ok());
+    assert!(rt; memory.lend(1, 0, 512).is_ok());
     Ok(())
 }

@@ -1,14 +1,16 @@
 // Windows on blocks of a buffer.
-ghost use Rattle.std.specs.Prelude.{◌≡◌, ◌<◌, length, slice_index, slice_set};
+ghost use Rattle.std.specs.Prelude.{◌≡◌, ◌<◌, ◌≤◌, length, slice_index, slice_set};
 ghost use Rattle.main_memory.specs.Blocks.{IsSpan};
+ghost use Rattle.main_memory.specs.Bytes.{front, filled};
 ghost use Rattle.main_memory.specs.Memory.{IsLent};
 
 use crate::buffer::{Buffer, Bus};
 use crate::memory::MainMemory;
 use crate::span::{Span, place};
 
-/// Block `k` of a buffer as 512 bytes of main memory, in one frame or two. What is written through it is that
-/// block, and no other byte of the memory changes. While it is open it borrows the memory.
+/// Block `k` of a buffer as bytes of main memory, in one frame or two: 512 bytes, or for the last block what the
+/// buffer has of it. What is written through it is that block, and no other byte of the memory changes. While it
+/// is open it borrows the memory.
 #[derive(Drop)]
 pub struct Window<'a> {
     memory: &'a mut MainMemory,
@@ -35,37 +37,46 @@ impl MainMemory {
 }
 
 impl<'a> Window<'a> {
-    ghost use Rattle.main_memory.specs.Windows.{memory_name, memory_of, window_bytes, Writes};
+    ghost use Rattle.main_memory.specs.Windows.{memory_name, memory_of, window_len, window_bytes, Writes};
 
-    /// Writes the block.
+    /// How many bytes the block has: 512, or for a buffer's last block from 1 to 512.
+    pub fn len(&self) -> u32
+        ensures len { result ≡ window_len self.now }
+        ensures some { 1 ≤ result }
+        ensures few { result ≤ 512 }
+    {
+        self.span.len as u32
+    }
+
+    /// Writes the block: the first `len` of these bytes.
     pub fn copy_in(&mut self, from: &[u8; 512])
         ensures same_memory { memory_name self.new ≡ memory_name self.old }
-        ensures writes { Writes self.old self.new from.now }
-        ensures bytes { window_bytes self.new ≡ from.now }
+        ensures writes { Writes self.old self.new (front (window_len self.old) from.now) }
+        ensures bytes { window_bytes self.new ≡ front (window_len self.old) from.now }
     {
         self.memory.write(self.span, from);
     }
 
-    /// Reads the block.
+    /// Reads the block: its bytes, and then zeros.
     pub fn copy_out(&self, into: &mut [u8; 512])
-        ensures bytes { into.new ≡ window_bytes self.now }
+        ensures bytes { into.new ≡ filled 512 (window_bytes self.now) }
         ensures whole { length (memory_of self.now).bytes ≡ 8388608 }
     {
         self.memory.read(self.span, into);
     }
 
-    /// Byte `at` of the block.
+    /// Byte `at` of the block, below its `len`.
     pub fn get(&self, at: u32) -> u8
-        requires { at < 512 }
+        requires { at < window_len self.now }
         ensures byte { result ≡ slice_index (window_bytes self.now) at }
         ensures whole { length (memory_of self.now).bytes ≡ 8388608 }
     {
         self.memory.byte_at(place(self.span, at as usize))
     }
 
-    /// Sets byte `at` of the block.
+    /// Sets byte `at` of the block, below its `len`.
     pub fn set(&mut self, at: u32, byte: u8)
-        requires { at < 512 }
+        requires { at < window_len self.old }
         ensures same_memory { memory_name self.new ≡ memory_name self.old }
         ensures writes { Writes self.old self.new (slice_set (window_bytes self.old) at byte) }
         ensures bytes { window_bytes self.new ≡ slice_set (window_bytes self.old) at byte }

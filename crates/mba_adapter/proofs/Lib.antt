@@ -1,2 +1,3 @@
 pub mod AttentionLaws
 pub mod MapLaws
+pub mod WindowLaws

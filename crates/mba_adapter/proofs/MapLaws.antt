@@ -3,15 +3,16 @@ use Rattle.std.proofs.Common.{◌≡◌, ◌≤◌, ◌<◌, ◌+◌, ◌-◌, �
 use Rattle.std.proofs.lemmas.List.{drop-replicate, get_or_append_left, get_or-take, get_or-drop, get_or-append_right, length-take-le, length-drop}
 use Rattle.std.proofs.lemmas.Bool.Decides.{nat_tests}
 use Rattle.main_memory.specs.Frames.{frames_needed}
-use Rattle.hardware_table.specs.Adapter.{registers_of, registers_used}
+use Rattle.hardware_table.specs.Adapter.{registers_of, bytes_between, registers_used}
 
 pub put_first-registers : (size : ℕ) → (frames : List ℕ) → frames ++ drop (length frames) (replicate size 0) ≡ registers_of size frames
 unfolding registers_of
 put_first-registers size frames = ap (λ zeros. frames ++ zeros) (drop-replicate (length frames) size 0)
 
 -- a buffer has the frames that a transfer of its blocks uses
-pub frames_enough : (count blocks offset skip : ℕ) → skip + count ≤ blocks → skip + registers_used count offset ≤ frames_needed blocks offset
-frames_enough count blocks offset skip inside = grind (arith, nat_tests)
+pub frames_enough : (count blocks last offset skip : ℕ) → 1 ≤ count → 1 ≤ last → last ≤ 512 → skip + count ≤ blocks
+    → skip + registers_used (bytes_between blocks last skip count) offset ≤ frames_needed blocks offset last
+frames_enough count blocks last offset skip some one few inside = grind (arith, nat_tests)
 
 pub registers-used : (size : ℕ) → (frames : List ℕ) → (skip used j : ℕ) → skip + used ≤ length frames → j < used
     → slice_index (registers_of size (take used (drop skip frames))) j ≡ slice_index frames (skip + j)

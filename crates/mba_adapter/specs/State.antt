@@ -16,9 +16,10 @@ state_of a = record {
   frames = a.frames.items;
   offset = a.offset;
   blocks = a.blocks;
+  last = a.last;
   drive = a.drive;
   block = a.block;
   write = a.write;
   moved = a.moved;
-  last = a.last;
+  verdict = a.verdict;
 }

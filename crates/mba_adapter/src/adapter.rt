@@ -1,12 +1,12 @@
 // An adapter: what it holds, and its acts.
 ghost use Rattle.std.specs.Prelude.{◌≡◌, ◌≤◌, ◌<◌, ◌+◌, ◌==◌, ℕ, true, false, if◌then◌else◌, slice_index};
 ghost use Rattle.std.specs.Int.{bit_at};
-ghost use Rattle.hardware_table.specs.Adapter.{new_adapter, registers_used, loaded, IsLoaded, IsAdapter, started, stepped, completed, attention_raised, attention_lowered};
+ghost use Rattle.hardware_table.specs.Adapter.{new_adapter, bytes_between, registers_used, loaded, IsLoaded, IsAdapter, started, stepped, completed, attention_raised, attention_lowered};
 ghost use Rattle.mba_adapter.specs.Loaded.{loaded_buffer};
 
 mod steps;
 
-use crate::map::{copy_of, map_of, registers_used};
+use crate::map::{bytes_between, copy_of, map_of, registers_used};
 use arrayvec::ArrayVec;
 use drive_model::Moved;
 use main_memory::{Buffer, Bus, Cpu, frames_of, to_bus, to_cpu};
@@ -36,11 +36,12 @@ pub struct Adapter {
     frames: ArrayVec<u16, 128>,
     offset: u32,
     blocks: u32,
+    last: u32,
     drive: u8,
     block: u32,
     write: bool,
     moved: u32,
-    last: Moved,
+    verdict: Moved,
 }
 
 impl Model for Adapter {
@@ -73,11 +74,12 @@ impl Adapter {
             frames: ArrayVec::new(),
             offset: 0,
             blocks: 0,
+            last: 0,
             drive: 0,
             block: 0,
             write: false,
             moved: 0,
-            last: Moved::Clean,
+            verdict: Moved::Clean,
         }
     }
 
@@ -123,30 +125,34 @@ impl Adapter {
         u32::from(self.map_registers[usize::from(j)])
     }
 
-    /// Takes a buffer for a transfer of `count` of its blocks, from block `skip` on. Map register j gets frame
-    /// `skip + j` of the buffer for each j below `count`, and for j = `count` too where the buffer's offset is not 0;
-    /// the other map registers become 0. The virtual address becomes the offset, and the byte count 512 times `count`.
+    /// Takes a buffer for a transfer of `count` of its blocks, from block `skip` on. The byte count becomes 512 times
+    /// `count`, less what the last block of the buffer lacks of 512 bytes where it is among them. Map register j gets
+    /// frame `skip + j` of the buffer for each j below `(offset + byte count + 511) / 512`; the other map registers
+    /// become 0. The virtual address becomes the offset.
     pub fn load(&mut self, buffer: Buffer<Cpu>, skip: u32, count: u32) -> Buffer<Bus>
         requires free { self.old.busy ≡ false }
         requires some { 1 ≤ count }
         requires inside { skip + count ≤ buffer.count }
-        ensures adapter { self.new ≡ loaded buffer.frames buffer.offset buffer.count skip count self.old }
+        ensures adapter { self.new ≡ loaded buffer.frames buffer.offset buffer.count buffer.last skip count self.old }
         ensures same_buffer { result ≡ buffer }
-        ensures mapped { (j : ℕ) → j < registers_used count buffer.offset
+        ensures mapped { (j : ℕ) → j < registers_used (bytes_between buffer.count buffer.last skip count) buffer.offset
             → slice_index self.new.map_registers j ≡ slice_index buffer.frames (skip + j) }
-        ensures cleared { (j : ℕ) → registers_used count buffer.offset ≤ j → slice_index self.new.map_registers j ≡ 0 }
+        ensures cleared { (j : ℕ) → registers_used (bytes_between buffer.count buffer.last skip count) buffer.offset ≤ j
+            → slice_index self.new.map_registers j ≡ 0 }
     {
+        let bytes = bytes_between(buffer.count(), buffer.last(), skip, count);
+        let used = registers_used(bytes, buffer.offset()) as usize;
         let frames = frames_of(&buffer);
         let first = skip as usize;
-        let used = registers_used(count, buffer.offset()) as usize;
         self.map_registers = map_of(&frames[first..first + used]);
         self.address = buffer.offset();
-        self.byte_count = 512 * count;
+        self.byte_count = bytes;
         self.skip = skip;
         self.count = count;
         self.frames = copy_of(frames);
         self.offset = buffer.offset();
         self.blocks = buffer.count();
+        self.last = buffer.last();
         to_bus(buffer)
     }
 
@@ -174,14 +180,14 @@ impl Adapter {
         requires loaded { buffer ≡ loaded_buffer self.old }
         ensures adapter { self.new ≡ completed self.old }
         ensures same_buffer { result.0 ≡ buffer }
-        ensures ended { result.1 ≡ record { moved = self.old.moved; last = self.old.last } }
+        ensures ended { result.1 ≡ record { moved = self.old.moved; last = self.old.verdict } }
     {
         self.busy = false;
         self.completion = false;
         self.data_late = false;
         let ended = Ended {
             moved: self.moved,
-            last: self.last,
+            last: self.verdict,
         };
         (to_cpu(buffer), ended)
     }

@@ -3,9 +3,11 @@
 #![tactic(auto)]
 
 mod adapter;
+mod laws;
 mod map;
 
 pub use adapter::{Adapter, Ended};
+pub use laws::transfer_law;
 
 #[cfg(test)]
 mod tests;

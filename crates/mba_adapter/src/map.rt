@@ -1,15 +1,32 @@
 // The map registers that a transfer uses.
-ghost use Rattle.std.specs.Prelude.{◌≡◌, ◌≤◌, ◌++◌, drop, length};
-ghost use Rattle.hardware_table.specs.Adapter.{registers_of, registers_used};
+ghost use Rattle.std.specs.Prelude.{◌≡◌, ◌≤◌, ◌<◌, ◌+◌, ◌*◌, ◌++◌, drop, length};
+ghost use Rattle.hardware_table.specs.Adapter.{registers_of, bytes_between, registers_used};
 
 use arrayvec::ArrayVec;
 
-// How many registers so many blocks use.
-pub fn registers_used(count: u32, offset: u32) -> u32
-    requires { count ≤ 127 }
-    ensures { result ≡ registers_used count offset }
+// How many bytes blocks skip to skip + count - 1 of a buffer have, whose last block has `last` bytes.
+pub fn bytes_between(blocks: u32, last: u32, skip: u32, count: u32) -> u32
+    requires some { 1 ≤ count }
+    requires inside { skip + count ≤ blocks }
+    requires few { blocks ≤ 127 }
+    requires last { last ≤ 512 }
+    ensures bytes { result ≡ bytes_between blocks last skip count }
+    ensures bound { result ≤ 512 * count }
 {
-    if offset == 0 { count } else { count + 1 }
+    if skip + count == blocks {
+        512 * count - (512 - last)
+    } else {
+        512 * count
+    }
+}
+
+// How many registers so many bytes use, from a place of the first frame on.
+pub fn registers_used(bytes: u32, offset: u32) -> u32
+    requires bytes { bytes ≤ 65024 }
+    requires offset { offset < 512 }
+    ensures { result ≡ registers_used bytes offset }
+{
+    (offset + bytes + 511) / 512
 }
 
 // Puts frames into the first registers.

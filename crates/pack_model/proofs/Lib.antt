@@ -1,2 +1,5 @@
+pub mod HomeLaws
+pub mod HomeWriteLaws
 pub mod PackLaws
+pub mod PackTableLaws
 pub mod TableLaws

@@ -1,8 +1,8 @@
 -- Laws of the bytes of a bad-sector table.
-use Rattle.std.proofs.Common.{◌≡◌, ◌⊎◌, inl, inr, ℕ, zero, suc, ◌+◌, ◌*◌, ◌-◌, ◌/◌, ◌%◌, ◌^◌, ◌<◌, ◌≤◌, List, [], ◌∷◌, ◌++◌, length, get_or, slice_index, refl, sym, ap, ◌∙◌, arith, length-append}
+use Rattle.std.proofs.Common.{◌≡◌, inl, inr, ℕ, zero, suc, ◌+◌, ◌*◌, ◌-◌, ◌/◌, ◌%◌, ◌^◌, ◌<◌, ◌≤◌, List, [], ◌∷◌, ◌++◌, length, get_or, refl, sym, ap, ◌∙◌, arith, length-append}
 use Rattle.std.proofs.Math.ListN.{replicate}
 use Rattle.std.proofs.lemmas.Bool.{cases_lt}
-use Rattle.std.proofs.lemmas.Grind.{common_steps, same_number_lists}
+use Rattle.std.proofs.lemmas.Grind.{same_number_lists}
 use Rattle.std.proofs.lemmas.List.{get_or_append_left, get_or-append_right, get_or-replicate, length-replicate, same_lists}
 use Rattle.std.specs.List.{flat_map}
 use Rattle.pack_geometry.specs.declared.DriveKind.{DriveKind}
@@ -10,7 +10,7 @@ use Rattle.pack_geometry.specs.declared.DriveKind.TheVariants.{Rp06, Rm03, Rm05}
 use Rattle.pack_geometry.specs.declared.Place.{Place}
 use Rattle.pack_geometry.specs.Geometry.{IsInside}
 use Rattle.pack_model.specs.TableFields.{word_at, long_at, place_in, IsEnd}
-use Rattle.pack_model.specs.TableSpelling.{Table, IsTable, head_text, pair_text, pairs_text, table_text, Spells}
+use Rattle.pack_model.specs.TableSpelling.{Table, head_text, pair_text, pairs_text, table_text, Spells}
 
 -- four bytes a pair
 length-pairs : (places : List Place) → length (flat_map pair_text places) ≡ 4 * length places

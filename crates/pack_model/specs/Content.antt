@@ -1,5 +1,5 @@
 -- Where a data block's bytes live, and what they are.
-use Rattle.std.specs.Prelude.{◌≡◌, ℕ, Bool, true, false, if◌then◌else◌, List, Option, None, Some}
+use Rattle.std.specs.Prelude.{ℕ, if◌then◌else◌, List, Option, None, Some}
 use Rattle.pack_model.specs.Pack.{Pack, block_at, is_marked}
 
 -- The home of a data block is its own sector where that is unmarked. No table is read yet, so a marked block has
@@ -15,7 +15,3 @@ bytes_at pack (Some home) = Some (block_at pack.image home)
 -- the content of a data block, or none where it is unusable
 abbrev pub content : Pack → ℕ → Option (List ℕ)
 content pack block = bytes_at pack (home pack block)
-
--- no block of any pack is marked
-abbrev pub IsUnmarked : (ℕ → Pack) → Type 0
-IsUnmarked packs = (unit block : ℕ) → is_marked (packs unit) block ≡ false

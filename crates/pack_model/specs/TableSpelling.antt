@@ -1,5 +1,5 @@
 -- Which 512 bytes spell a bad-sector table, after DEC STD 144.
-use Rattle.std.specs.Prelude.{◌≡◌, ℕ, ◌<◌, ◌≤◌, ◌+◌, ◌*◌, ◌-◌, ◌^◌, List, [], ◌∷◌, ◌++◌, length, replicate, All, AllPairs}
+use Rattle.std.specs.Prelude.{◌≡◌, ℕ, ◌<◌, ◌≤◌, ◌*◌, ◌-◌, ◌^◌, List, [], ◌∷◌, ◌++◌, length, replicate, All, AllPairs}
 use Rattle.std.specs.Int.{to_le_bytes, w16, w32}
 use Rattle.std.specs.List.{flat_map}
 use Rattle.pack_geometry.specs.declared.DriveKind.{DriveKind}

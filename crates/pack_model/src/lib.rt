@@ -1,9 +1,14 @@
-// What a pack holds, as the contracts of all crates see it: image and mark bytes, and a block's content.
+//! What a pack holds, as the contracts of all crates see it: image and mark bytes, the bad-sector table, and the home
+//! and the content of each data block.
 #![tactic(auto)]
 
-ghost use Rattle.std.specs.Prelude.{◌≡◌, ◌≢◌, ℕ, List, length};
-ghost use Rattle.pack_model.specs.Pack.{block_at, with_block};
+ghost use Rattle.std.specs.Prelude.{◌≡◌, ◌≢◌, ◌≤◌, ◌<◌, ℕ, false, List, Option, Some, length};
+ghost use Rattle.pack_geometry.specs.declared.DriveKind.{DriveKind};
+ghost use Rattle.pack_geometry.specs.Geometry.{copy_at, limit_of};
+ghost use Rattle.pack_model.specs.Pack.{Pack, block_at, is_marked, with_block, with_written, written};
 ghost use Rattle.pack_model.specs.TableSpelling.{Table, IsTable, Spells, table_text};
+ghost use Rattle.pack_model.specs.PackTable.{IsTableOf, AreTablesOf, HaveSameCopies, places_of};
+ghost use Rattle.pack_model.specs.Homes.{home_of, content_of, contents_of, with_content};
 
 /// The law of blocks: a block has 512 bytes, what was written to it is read again, and a write to one block
 /// changes no other.
@@ -21,4 +26,57 @@ pub fn table_law()
         → table.kind ≡ other.kind → table ≡ other }
     ensures size { (bytes : List ℕ) → (table : Table) → Spells bytes table → length bytes ≡ 512 }
     ensures spelled { (table : Table) → IsTable table → Spells (table_text table.serial table.places) table }
+{}
+
+/// The law of a pack's table: it has one at most, which lists 126 places at most, and which packs with the same copies
+/// share, whatever else they hold.
+pub fn pack_table_law()
+    ensures once { (kind : DriveKind) → (pack : Pack) → (table other : Option Table) → IsTableOf kind pack table
+        → IsTableOf kind pack other → table ≡ other }
+    ensures room { (kind : DriveKind) → (pack : Pack) → (table : Option Table) → IsTableOf kind pack table
+        → length (places_of table) ≤ 126 }
+    ensures copies { (kind : DriveKind) → (pack other : Pack) → (table : Option Table) → HaveSameCopies kind pack other
+        → IsTableOf kind pack table → IsTableOf kind other table }
+    ensures all_once { (drives : ℕ → Option DriveKind) → (packs : ℕ → Pack) → (tables others : ℕ → Option Table)
+        → AreTablesOf drives packs tables → AreTablesOf drives packs others → tables ≡ others }
+{}
+
+/// The law of homes: only data blocks have one; it is an unmarked sector below the copies of the table; no two data
+/// blocks share a home; and homes go by the marks and the table alone.
+pub fn home_law()
+    ensures only_data { (kind : DriveKind) → (table : Option Table) → (pack : Pack) → (block home : ℕ)
+        → home_of kind table pack block ≡ Some home → block < limit_of kind }
+    ensures unmarked { (kind : DriveKind) → (table : Option Table) → (pack : Pack) → (block home : ℕ)
+        → home_of kind table pack block ≡ Some home → is_marked pack home ≡ false }
+    ensures below { (kind : DriveKind) → (table : Option Table) → (pack : Pack) → (block home k : ℕ)
+        → length (places_of table) ≤ 126 → home_of kind table pack block ≡ Some home → home < copy_at kind k }
+    ensures apart { (kind : DriveKind) → (table : Option Table) → (pack : Pack) → (block other home : ℕ)
+        → length (places_of table) ≤ 126 → home_of kind table pack block ≡ Some home
+        → home_of kind table pack other ≡ Some home → block ≡ other }
+    ensures marks { (kind : DriveKind) → (table : Option Table) → (pack other : Pack) → pack.marks ≡ other.marks
+        → home_of kind table pack ≡ home_of kind table other }
+{}
+
+/// The law of a write at the home of a data block: that block then has the bytes that were written; the copies of the
+/// table, and so the table, and every other block's content are as before.
+pub fn home_write_law()
+    ensures same { (kind : DriveKind) → (table : Option Table) → (pack : Pack) → (block home : ℕ) → (bytes : List ℕ)
+        → length bytes ≡ 512 → home_of kind table pack block ≡ Some home
+        → content_of kind table (written pack home bytes) block ≡ Some bytes }
+    ensures other { (kind : DriveKind) → (table : Option Table) → (pack : Pack) → (block home other : ℕ)
+        → (bytes : List ℕ) → length bytes ≡ 512 → length (places_of table) ≤ 126
+        → home_of kind table pack block ≡ Some home → other ≢ block
+        → content_of kind table (written pack home bytes) other ≡ content_of kind table pack other }
+    ensures copies { (kind : DriveKind) → (table : Option Table) → (pack : Pack) → (block home : ℕ) → (bytes : List ℕ)
+        → length bytes ≡ 512 → length (places_of table) ≤ 126 → home_of kind table pack block ≡ Some home
+        → HaveSameCopies kind pack (written pack home bytes) }
+    ensures contents { (drives : ℕ → Option DriveKind) → (tables : ℕ → Option Table) → (packs : ℕ → Pack)
+        → (kind : DriveKind) → (unit block home : ℕ) → (bytes : List ℕ) → drives unit ≡ Some kind → length bytes ≡ 512
+        → length (places_of (tables unit)) ≤ 126 → home_of kind (tables unit) (packs unit) block ≡ Some home
+        → contents_of drives tables (with_written packs unit home bytes)
+        ≡ with_content (contents_of drives tables packs) unit block bytes }
+    ensures tables { (drives : ℕ → Option DriveKind) → (tables : ℕ → Option Table) → (packs : ℕ → Pack)
+        → (kind : DriveKind) → (unit block home : ℕ) → (bytes : List ℕ) → drives unit ≡ Some kind → length bytes ≡ 512
+        → home_of kind (tables unit) (packs unit) block ≡ Some home → AreTablesOf drives packs tables
+        → AreTablesOf drives (with_written packs unit home bytes) tables }
 {}

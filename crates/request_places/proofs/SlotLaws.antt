@@ -63,7 +63,7 @@ slot_cases (x ∷ xs) (suc p) (suc q) o found at here there =
 -- the frames that the slots need
 abbrev need_of : Option Slot → ℕ
 need_of None = 0
-need_of (Some slot) = frames_needed (loan_of slot.buffer).count (loan_of slot.buffer).offset
+need_of (Some slot) = frames_needed (loan_of slot.buffer).count (loan_of slot.buffer).offset (loan_of slot.buffer).last
 
 abbrev used_by : Memory → Option Slot → List (Option Slot) → ℕ
 used_by m o slots = frames_used (places_of m (o ∷ slots))
@@ -118,6 +118,7 @@ places_of-set m m' (x ∷ xs) (suc p) o same =
 pub record IsFit (m : Memory) (slots : List (Option Slot)) (p : ℕ) (slot : Slot) : Type 0 where
   pub shape : IsLoan (loan_of slot.buffer)
   pub lent : IsLent m (loan_of slot.buffer)
+  pub whole : (loan_of slot.buffer).last ≡ 512
   pub asked : slot.request.count ≡ (loan_of slot.buffer).count
   pub apart : (q : ℕ) → (other : Slot) → q ≢ p → slot_in slots q ≡ Some other → AreApart (loan_of slot.buffer) (loan_of other.buffer)
 
@@ -133,6 +134,7 @@ kept-set m m' slots p o kept inside sound lent fit frames = record {
   few = omega (arith, length-set slots p o, kept.few);
   shape = λ q slot at. slot_cases slots p q o slot at (λ e is. (fit slot is).shape) (λ ne is. kept.shape q slot is);
   lent = λ q slot at. slot_cases slots p q o slot at (λ e is. (fit slot is).lent) (λ ne is. lent q slot ne is);
+  whole = λ q slot at. slot_cases slots p q o slot at (λ e is. (fit slot is).whole) (λ ne is. kept.whole q slot is);
   asked = λ q slot at. slot_cases slots p q o slot at (λ e is. (fit slot is).asked) (λ ne is. kept.asked q slot is);
   apart = λ q r slot other ne at there.
       slot_cases slots p q o slot at
@@ -164,12 +166,13 @@ kept-replaced {m} {slots} {after} {p} {slot} {new} kept r loan count =
     subst (IsKept m) (sym r.there)
     (kept-set m m slots p (Some new) kept (slot_within slots p slot r.here) kept.sound (λ q other ne at. kept.lent q other at)
     (λ found is. subst (IsFit m slots p) (same_Some _ _ is) fit)
-    (ap (λ (n : ℕ). length m.free + n) (ap (λ (l : Loan). frames_needed l.count l.offset) loan ∙ sym (ap need_of r.here))))
+    (ap (λ (n : ℕ). length m.free + n) (ap (λ (l : Loan). frames_needed l.count l.offset l.last) loan ∙ sym (ap need_of r.here))))
   where
     fit : IsFit m slots p new
     fit = record {
       shape = subst IsLoan (sym loan) (kept.shape p slot r.here);
       lent = subst (IsLent m) (sym loan) (kept.lent p slot r.here);
+      whole = ap (λ (l : Loan). l.last) loan ∙ kept.whole p slot r.here;
       asked = count ∙ kept.asked p slot r.here ∙ ap (λ (l : Loan). l.count) (sym loan);
       apart = λ q other ne at. subst (λ (l : Loan). AreApart l (loan_of other.buffer)) (sym loan) (kept.apart p q slot other (λ e. ne (sym e)) r.here at);
     }
@@ -208,6 +211,7 @@ kept-replicate m n sound all few = record {
   few = omega (arith, length-replicate {A = Option Slot} n None, few);
   shape = λ p slot at. absurd (slot_in-replicate n p slot at);
   lent = λ p slot at. absurd (slot_in-replicate n p slot at);
+  whole = λ p slot at. absurd (slot_in-replicate n p slot at);
   asked = λ p slot at. absurd (slot_in-replicate n p slot at);
   apart = λ p q slot other ne at there. absurd (slot_in-replicate n p slot at);
   counted = omega (arith, frames_used-replicate m n, all);
@@ -240,7 +244,7 @@ pub record GivesBack (m m' : Memory) (loan : Loan) : Type 0 where
 pub kept-left : {m m' : Memory} {slots after : List (Option Slot)} (p : ℕ) {slot : Slot} {loan : Loan} → IsKept m slots → slot_in slots p ≡ Some slot → after ≡ set slots p None
     → loan_of slot.buffer ≡ loan → GivesBack m m' loan → IsKept m' after
 kept-left {m} {m'} {slots} {after} p {slot} {loan} kept here rest has back =
-    let need : need_of (slot_in slots p) ≡ frames_needed loan.count loan.offset = ap need_of here ∙ ap (λ (l : Loan). frames_needed l.count l.offset) has in
+    let need : need_of (slot_in slots p) ≡ frames_needed loan.count loan.offset loan.last = ap need_of here ∙ ap (λ (l : Loan). frames_needed l.count l.offset l.last) has in
     let shape : IsLoan loan = subst IsLoan has (kept.shape p slot here) in
     subst (IsKept m') (sym rest)
     (kept-set m m' slots p None kept (slot_within slots p slot here) back.sound
@@ -260,18 +264,22 @@ pub kept-joined : {m m' : Memory} {slots after : List (Option Slot)} (p : ℕ) (
     → HasLent m m' (loan_of new.buffer) new.request.count → IsKept m' after
 kept-joined {m} {m'} {slots} {after} p new kept inside none put lent =
     let free_before : need_of (slot_in slots p) ≡ 0 = ap need_of none in
-    let needs : frames_needed (loan_of new.buffer).count (loan_of new.buffer).offset ≡ (loan_of new.buffer).count =
-    ap (frames_needed (loan_of new.buffer).count) lent.offset in
+    let needs : frames_needed (loan_of new.buffer).count (loan_of new.buffer).offset (loan_of new.buffer).last ≡ (loan_of new.buffer).count =
+    one_a_block (loan_of new.buffer).count (loan_of new.buffer).offset (loan_of new.buffer).last lent.offset lent.last lent.shape.some in
     subst (IsKept m') (sym put)
     (kept-set m m' slots p (Some new) kept inside lent.sound
     (λ q other ne at. lent.others (loan_of other.buffer) (kept.lent q other at))
     (λ found is. subst (IsFit m' slots p) (same_Some _ _ is) fit)
     (omega (arith, free_before, needs, lent.counted, lent.free)))
   where
+    one_a_block : (count offset last : ℕ) → offset ≡ 0 → last ≡ 512 → 1 ≤ count → frames_needed count offset last ≡ count
+    one_a_block count offset last start whole some = omega arith
+
     fit : IsFit m' slots p new
     fit = record {
       shape = lent.shape;
       lent = lent.lent;
+      whole = lent.last;
       asked = sym lent.counted;
       apart = λ q other ne at. lent.apart (loan_of other.buffer) (kept.lent q other at);
     }
@@ -289,6 +297,7 @@ is_held_for m new bytes lent driver fresh content = record {
   asked = ap (λ (n : ℕ). record new.request { count = n }) lent.counted;
   loan = lent.shape;
   offset = lent.offset;
+  last = lent.last;
   on_bus = driver;
   ended = fresh;
   size = length-blocks_from (loan_of new.buffer) m.bytes 0 (loan_of new.buffer).count ∙ lent.counted;

@@ -4,10 +4,10 @@ use Rattle.std.specs.Result.{IfOk, OnErr}
 use Rattle.std.proofs.lemmas.List.{length-take, length-drop, length-append, set-get_or}
 use Rattle.main_memory.specs.declared.span.Span.{Span}
 use Rattle.main_memory.specs.Bytes.{part, with_part}
-use Rattle.main_memory.specs.Blocks.{Loan, IsLoan, IsSpan, span_of, bytes_in, with_bytes_in}
+use Rattle.main_memory.specs.Blocks.{Loan, IsLoan, IsSpan, in_frame, in_next, size_at, span_of, bytes_in, with_bytes_in}
 use Rattle.main_memory.specs.Memory.{Memory, IsMemory, IsLent, AreTaken, AreApart, with_block, blocks_of}
 use Rattle.main_memory.proofs.ByteLaws.{length-with_part}
-use Rattle.main_memory.proofs.BlockLaws.{is_span, length-bytes_in, slice_get-blocks_of, blocks_of-with_block, blocks_of-with_block_other}
+use Rattle.main_memory.proofs.BlockLaws.{is_span, size_whole, length-bytes_in, slice_get-blocks_of, blocks_of-with_block, blocks_of-with_block_other}
 use Rattle.driver_machine.specs.Places.{Held, held_at, with_held, block_in, with_block_in}
 use Rattle.request_places.specs.declared.slots.Slot.{Slot}
 use Rattle.request_places.specs.Slots.{loan_of, slot_in, held_of, places_of, IsKept}
@@ -18,21 +18,21 @@ length-part_le : (size at : ℕ) (bytes : List ℕ) → length (part size at byt
 unfolding part
 length-part_le size at bytes = omega (arith, length-take size (drop at bytes))
 
-length-bytes_in_le : (span : Span) (bytes : List ℕ) → IsSpan span → length (bytes_in span bytes) ≤ 512
+length-bytes_in_le : (span : Span) (bytes : List ℕ) → length (bytes_in span bytes) ≤ span.len
 unfolding bytes_in
-length-bytes_in_le span bytes is =
+length-bytes_in_le span bytes =
     let a : ℕ = 512 * span.frame + span.offset in
     let c : ℕ = 512 * span.next in
-    omega (arith, is.inside, length-append (part (512 - span.offset) a bytes) (part span.offset c bytes), length-part_le (512 - span.offset) a bytes, length-part_le span.offset c bytes)
+    omega (arith, length-append (part (in_frame span) a bytes) (part (in_next span) c bytes), length-part_le (in_frame span) a bytes, length-part_le (in_next span) c bytes)
 
-length-with_bytes_in_le : (span : Span) (block bytes : List ℕ) → IsSpan span → length block ≤ 512 → length bytes ≡ 8388608 → length (with_bytes_in span block bytes) ≡ 8388608
+length-with_bytes_in_le : (span : Span) (block bytes : List ℕ) → IsSpan span → length block ≤ span.len → length bytes ≡ 8388608 → length (with_bytes_in span block bytes) ≡ 8388608
 unfolding with_bytes_in
 length-with_bytes_in_le span block bytes is short size =
-    let s : ℕ = 512 - span.offset in
+    let s : ℕ = in_frame span in
     let front : length (take s block) ≤ s = omega (arith, length-take s block) in
-    let rest : length (drop s block) ≤ span.offset = omega (arith, length-drop s block, is.inside) in
+    let rest : length (drop s block) ≤ in_next span = omega (arith, length-drop s block) in
     let middle = length-with_part (512 * span.frame + span.offset) (take s block) bytes (omega (arith, is.inside, is.frame_small)) in
-    let last = length-with_part (512 * span.next) (drop s block) (with_part (512 * span.frame + span.offset) (take s block) bytes) (omega (arith, is.inside, is.next_small, middle)) in
+    let last = length-with_part (512 * span.next) (drop s block) (with_part (512 * span.frame + span.offset) (take s block) bytes) (omega (arith, is.few, is.next_small, middle)) in
     last ∙ middle ∙ size
 
 -- A place of whose buffer one block is moved.
@@ -56,8 +56,12 @@ module _ (m : Memory) (slots : List (Option Slot)) (p : ℕ) (loan : Loan) (k : 
   pub moved_block : bytes_in (span_of loan k) m.bytes ≡ block_in (held_at (places_of m slots) p) k
   moved_block = block_in-places_of m p loan k refl refl at.here at.has (slice_get-blocks_of m loan k at.inside)
 
+  -- each block is whole
+  pub size_moved : size_at loan k ≡ 512
+  size_moved = size_whole loan k (sym (ap (λ (l : Loan). l.last) at.has) ∙ kept.whole p at.slot at.here)
+
   pub length-moved_block : length (block_in (held_at (places_of m slots) p) k) ≡ 512
-  length-moved_block = sym (ap length moved_block) ∙ length-bytes_in (span_of loan k) m.bytes span kept.sound.size
+  length-moved_block = sym (ap length moved_block) ∙ length-bytes_in (span_of loan k) m.bytes span kept.sound.size ∙ size_moved
 
 -- the memory in which the block was written that it then holds there
 module _ (m : Memory) (slots : List (Option Slot)) (p : ℕ) (loan : Loan) (k : ℕ) (kept : IsKept m slots) (at : IsMoved slots p loan k)
@@ -65,9 +69,9 @@ module _ (m : Memory) (slots : List (Option Slot)) (p : ℕ) (loan : Loan) (k : 
   size : length m'.bytes ≡ 8388608
   size =
       ap (λ (memory : Memory). length memory.bytes) reads
-      ∙ length-with_bytes_in_le (span_of loan k) (bytes_in (span_of loan k) m'.bytes) m.bytes (span m slots p loan k kept at) (length-bytes_in_le (span_of loan k) m'.bytes (span m slots p loan k kept at)) kept.sound.size
+      ∙ length-with_bytes_in_le (span_of loan k) (bytes_in (span_of loan k) m'.bytes) m.bytes (span m slots p loan k kept at) (length-bytes_in_le (span_of loan k) m'.bytes) kept.sound.size
 
-  whole : length (bytes_in (span_of loan k) m'.bytes) ≡ 512
+  whole : length (bytes_in (span_of loan k) m'.bytes) ≡ size_at loan k
   whole = length-bytes_in (span_of loan k) m'.bytes (span m slots p loan k kept at) size
 
   sound_after : IsMemory m'
@@ -108,6 +112,7 @@ kept-same_frames m m' slots kept free sound = record {
   few = kept.few;
   shape = kept.shape;
   lent = λ p slot at. subst (AreTaken (loan_of slot.buffer).frames) (sym free) (kept.lent p slot at);
+  whole = kept.whole;
   asked = kept.asked;
   apart = kept.apart;
   counted = omega (arith, frames_used-same m m' slots, ap length free, kept.counted);

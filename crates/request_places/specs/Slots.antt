@@ -37,13 +37,14 @@ held_of memory slot = record {
 abbrev pub places_of : Memory → List (Option Slot) → List (Option Held)
 places_of memory slots = map (option_map (held_of memory)) slots
 
--- What the places keep: each request has a buffer of its own, of as many blocks as it asks for, which the memory lent;
+-- What the places keep: each request has a buffer of its own, of as many whole blocks as it asks for, which the memory lent;
 -- and each frame of the memory is free, or a frame that a request needs.
 pub record IsKept (memory : Memory) (slots : List (Option Slot)) : Type 0 where
   pub sound : IsMemory memory
   pub few : length slots ≤ 65536
   pub shape : (p : ℕ) → (slot : Slot) → slot_in slots p ≡ Some slot → IsLoan (loan_of slot.buffer)
   pub lent : (p : ℕ) → (slot : Slot) → slot_in slots p ≡ Some slot → IsLent memory (loan_of slot.buffer)
+  pub whole : (p : ℕ) → (slot : Slot) → slot_in slots p ≡ Some slot → (loan_of slot.buffer).last ≡ 512
   pub asked : (p : ℕ) → (slot : Slot) → slot_in slots p ≡ Some slot → slot.request.count ≡ (loan_of slot.buffer).count
   pub apart : (p q : ℕ) → (slot other : Slot) → p ≢ q → slot_in slots p ≡ Some slot → slot_in slots q ≡ Some other
       → AreApart (loan_of slot.buffer) (loan_of other.buffer)

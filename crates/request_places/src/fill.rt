@@ -22,6 +22,7 @@ fn block_at(bytes: &[u8], k: u32) -> [u8; 512]
 // Stores the bytes into the buffer, block by block.
 fn fill(memory: &mut MainMemory, buffer: &Buffer<Cpu>, bytes: &[u8])
     requires shape { IsLoan buffer.now }
+    requires last { buffer.now.last ≡ 512 }
     requires lent { IsLent memory.old buffer.now }
     requires sound { IsMemory memory.old }
     requires whole { length bytes.now ≡ 512 * buffer.now.count }
@@ -47,7 +48,7 @@ pub fn lend_filled(memory: &mut MainMemory, request: Request, bytes: &[u8]) -> B
     ensures lent { HasLent memory.old memory.new result request.count }
     ensures content { request.write ≡ true → blocks_of result memory.new ≡ blocks_in request.count bytes.now }
 {
-    let buffer = match memory.lend(request.count, 0) {
+    let buffer = match memory.lend(request.count, 0, 512) {
         Ok(buffer) => buffer,
         Err(_) => unreachable!(),
     };

@@ -103,7 +103,7 @@ impl Places {
         ensures places { let h = held_at self.old place in
             self.new ≡ with_held place (record h { on_bus = true }) self.old }
         ensures adapter { let l = (held_at self.old place).loan in
-            adapter.new ≡ loaded l.frames l.offset l.count 0 l.count adapter.old }
+            adapter.new ≡ loaded l.frames l.offset l.count l.last 0 l.count adapter.old }
     {
         let Slot {
             request,
@@ -145,7 +145,7 @@ impl Places {
         ensures places { let h = held_at self.old place in
             self.new ≡ with_held place (record h { on_bus = false }) self.old }
         ensures adapter { adapter.new ≡ completed adapter.old }
-        ensures ended { result ≡ record { moved = adapter.old.moved; last = adapter.old.last } }
+        ensures ended { result ≡ record { moved = adapter.old.moved; last = adapter.old.verdict } }
     {
         let Slot {
             request,

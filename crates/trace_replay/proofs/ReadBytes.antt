@@ -1,5 +1,6 @@
 -- Read and repaired bytes.
-use Rattle.std.proofs.Common.{◌≡◌, ℕ, zero, suc, ◌+◌, ◌-◌, ◌*◌, ◌/◌, ◌%◌, ◌^◌, ◌<◌, ◌≤◌, List, [], ◌∷◌, length, get_or, take, replicate, None, Some, refl, sym, ap, ap₂, ◌∙◌, subst, arith, ◌⊎◌, inl, inr, cond, eqb, ltb, lt-ltb, le-ltb, Bool, true, false}
+use Rattle.std.proofs.Common.{◌≡◌, ℕ, zero, suc, ◌+◌, ◌-◌, ◌*◌, ◌/◌, ◌%◌, ◌^◌, ◌<◌, ◌≤◌, List, [], ◌∷◌, length, get_or, take, replicate, None, Some, refl, sym, ap, ap₂, ◌∙◌, subst, arith, ◌⊎◌, inl, inr, cond, eqb, ltb, lt-ltb, le-ltb, Bool, true, false, All}
+use Rattle.std.proofs.lemmas.List.Elements.{All-head, All-tail, All-cons, All-nil}
 use Rattle.std.specs.Int.{bit_at}
 use Rattle.std.specs.List.{list_any}
 use Rattle.std.proofs.lemmas.Bool.{cases_eq, cases_lt, eq-eqb, ne_eqb, cond-true, cond-false}
@@ -154,11 +155,6 @@ flipped_word ps sector r long = record { bits = λ k below. at k below (cases_lt
     at k below (inl low) = in_data k low
     at k below (inr high) = in_check k below high
 
-pub reads_as_told : ReadsAsTold
-reads_as_told None sector places long = refl
-reads_as_told (Some ps) sector places long = (check_flips ps, flipped_word ps sector (rising_from_places ps (places ps refl)) long)
-
--- ---- repaired bytes
 mask_small : (i : ℕ) (ps : List ℕ) → flipped_in i ps < 2 ^ 8
 mask_small i [] = pow_pos 8
 mask_small i (p ∷ ps) = xor_lt 8 (cond (eqb (p / 8) i) (2 ^ (p % 8)) 0) (flipped_in i ps) (one (eqb (p / 8) i)) (mask_small i ps)
@@ -181,6 +177,27 @@ mask_small i (p ∷ ps) = xor_lt 8 (cond (eqb (p / 8) i) (2 ^ (p % 8)) 0) (flipp
     one true = low (p % 8) (mod_below p 8 (omega arith))
     one false = pow_pos 8
 
+length_flipped : (i : ℕ) (ps bytes : List ℕ) → length (flipped_from i ps bytes) ≡ length bytes
+length_flipped i ps [] = refl
+length_flipped i ps (b ∷ bytes) = let e : length (flipped_from (i + 1) ps bytes) ≡ length bytes = length_flipped (i + 1) ps bytes in omega (arith, e)
+
+small_flipped : (i : ℕ) (ps bytes : List ℕ) → All (λ byte. byte < 2 ^ 8) bytes → All (λ byte. byte < 2 ^ 8) (flipped_from i ps bytes)
+small_flipped i ps [] all = All-nil (λ byte. byte < 2 ^ 8)
+small_flipped i ps (b ∷ bytes) all =
+    All-cons (λ byte. byte < 2 ^ 8) (bit_xor b (flipped_in i ps)) (flipped_from (i + 1) ps bytes)
+    (xor_lt 8 b (flipped_in i ps) (All-head (λ byte. byte < 2 ^ 8) b bytes all) (mask_small i ps))
+    (small_flipped (i + 1) ps bytes (All-tail (λ byte. byte < 2 ^ 8) b bytes all))
+
+pub reads_as_told : ReadsAsTold
+reads_as_told None sector places data_of = refl
+reads_as_told (Some ps) sector places data_of = record {
+  right = data_of;
+  read = record { size = length_flipped 0 ps sector ∙ data_of.size; small = small_flipped 0 ps sector data_of.small };
+  check = check_flips ps;
+  flipped = flipped_word ps sector (rising_from_places ps (places ps refl)) data_of.size;
+}
+
+-- ---- repaired bytes
 xor_zero_l : (a : ℕ) → bit_xor 0 a ≡ a
 xor_zero_l a = xor_comm 0 a ∙ xor_zero_r a
 

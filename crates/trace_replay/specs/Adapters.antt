@@ -51,9 +51,9 @@ AdapterMay a unit Intr = is_busy_for a unit && a.completion ≡ true
 AdapterMay a unit Attn = bit_at a.attentions (drive_of unit) ≡ 1
 AdapterMay a unit deed = Unit {0}
 
--- the buffer that is loaded is not seen: its frames are left out
+-- the buffer that is loaded is not seen: its frames are left out, and its blocks are whole
 abbrev pub adapter_after : AdapterState → ℕ → Deed → AdapterState
-adapter_after a unit (Transfer write block count) = started (drive_of unit) block write (loaded [] 0 count 0 count a)
+adapter_after a unit (Transfer write block count) = started (drive_of unit) block write (loaded [] 0 count 512 0 count a)
 adapter_after a unit (Sector block verdict) = stepped verdict a
 adapter_after a unit Intr = completed a
 adapter_after a unit Arrive = attention_raised (drive_of unit) a

@@ -2,6 +2,7 @@
 use Rattle.std.specs.Prelude.{◌≡◌, ℕ, ◌≤◌, List, length, take, Option, Some}
 use Rattle.fire_code.specs.Remainder.{remainder}
 use Rattle.fire_code.specs.Burst.{IsPlaces, IsShortBurst, IsBurst}
+use Rattle.fire_code.specs.Word.{IsData}
 use Rattle.hardware_table.specs.Moves.{IsReadAs}
 use Rattle.trace_replay.specs.Packs.{read_as, repaired_from}
 
@@ -11,7 +12,7 @@ ArePlaces flips = (places : List ℕ) → flips ≡ Some places → IsPlaces pla
 
 -- READ BYTES. A sector of 512 bytes is read as the hardware table has it, with just these places flipped.
 abbrev pub ReadsAsTold : Type 0
-ReadsAsTold = (flips : Option (List ℕ)) (sector : List ℕ) → ArePlaces flips → length sector ≡ 512 → IsReadAs flips sector (read_as flips sector)
+ReadsAsTold = (flips : Option (List ℕ)) (sector : List ℕ) → ArePlaces flips → IsData sector → IsReadAs flips sector (read_as flips sector)
 
 -- REPAIRED BYTES. Where a short burst was flipped, and its remainder is that of the burst which is named, the repair gives the
 -- sector's bytes: of all 512, or of as many as were asked for.

@@ -21,7 +21,7 @@ AdapterMay a unit deed = Unit {0}
 abbrev pub adapter_after : AdapterState → ℕ → Deed → AdapterState
 adapter_after a unit Arrive = attention_raised (drive_of unit) a
 adapter_after a unit Attn = attention_lowered (drive_of unit) a
-adapter_after a unit (Command write block count) = started (drive_of unit) block write (loaded [] 0 count 0 count a)
+adapter_after a unit (Command write block count) = started (drive_of unit) block write (loaded [] 0 count 512 0 count a)
 adapter_after a unit (Sector block verdict) = stepped verdict a
 adapter_after a unit Intr = completed a
 adapter_after a unit deed = a

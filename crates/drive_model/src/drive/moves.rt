@@ -1,13 +1,13 @@
 // The move of one sector between the pack and the memory.
-ghost use Rattle.std.specs.Prelude.{◌≡◌, ◌<◌, ℕ, List, Bool, true, IsTrue, MatchBool, IfOk, IsOk, OnErr, Some, IsSome, ◌⊎◌, if◌then◌else◌, bit_or};
+ghost use Rattle.std.specs.Prelude.{◌≡◌, ◌<◌, ℕ, List, true, IsTrue, MatchBool, IfOk, IsOk, OnErr, Some, IsSome, bit_or};
 ghost use Rattle.pack_geometry.specs.Geometry.{block_count};
 ghost use Rattle.hardware_table.specs.Drive.{is_transferring, is_writing};
-ghost use Rattle.pack_model.specs.Pack.{block_at, is_marked, with_written};
 ghost use Rattle.mass_outside.specs.Causes.{HasCause};
-ghost use Rattle.main_memory.specs.Windows.{memory_name, window_bytes, Writes};
+ghost use Rattle.main_memory.specs.Windows.{memory_name, window_len, window_bytes, Writes};
 ghost use Rattle.hardware_table.specs.Functions.{refused};
 ghost use Rattle.hardware_table.specs.Noise.{strikes, book_struck};
-ghost use Rattle.hardware_table.specs.Moves.{stop_of, first_armed, IsReadVerdict, IsVerdict, was_read, was_written, IsReadAs, passed, fault_used, with_fault_bits, with_mark_bits, after_move};
+ghost use Rattle.hardware_table.specs.Moves.{stop_of, first_armed, IsReadVerdict, was_read, IsReadAs, passed, fault_used, with_fault_bits, with_mark_bits, after_move};
+ghost use Rattle.drive_model.specs.Move.{MovesSector, IsOldOrNew};
 ghost use Rattle.fire_code.specs.Remainder.{remainder};
 ghost use Rattle.fire_code.specs.Verdict.{Judges};
 
@@ -15,7 +15,7 @@ use crate::book::NoiseBook;
 use crate::drive::Drive;
 use bitflags::Flags;
 use drive_registers::{Er1, Er2};
-use fire_code::{Check, Verdict, apply, judge_noise};
+use fire_code::{Check, Verdict, apply, data_law, judge_noise};
 use hardware_table::{Armed, FaultKind, Moved, Work};
 use main_memory::Window;
 use mass_outside::traits::{Packs, StoreFailed};
@@ -61,7 +61,9 @@ fn read_through(book: &mut NoiseBook, unit: u8, block: u32, of: u16, bytes: &mut
     match book.strike(unit, block, of) {
         None => Moved::Clean,
         Some(noise) => {
+            data_law(bytes);
             let _check = apply(&noise, bytes, Check(0));
+            data_law(bytes);
             moved_by(judge_noise(&noise))
         }
     }
@@ -187,12 +189,13 @@ impl Drive {
     /// 1. The drive is offline: `Offline`.
     /// 2. A fault is armed: the first armed kind, in the order seek, opi, dte, hcrc, late, is used once: `Faulted`.
     /// 3. The sector is marked, by the pack's mark byte: `Marked`.
-    /// 4. A write: the window's bytes go to the pack: `Clean`.
-    /// 5. A read: the sector's bytes, with the noise that strikes, go to the window. The verdict, `Clean`, `Burst`
-    ///    or `Hard`, is that of the sector's word with the noise's places flipped.
+    /// 4. A write: the window's bytes, filled up with zeros, go to the pack: `Clean`.
+    /// 5. A read: the front of the sector's bytes, with the noise that strikes, goes to the window, as far as it
+    ///    reaches. The verdict, `Clean`, `Burst` or `Hard`, is that of the whole sector's word with the noise's places
+    ///    flipped.
     ///
     /// `StoreFailed` comes only where the packs' count of failures rose; then the drive, the book and the window are
-    /// as before, and a block that was to be written is old or new.
+    /// as before, and the block of a write that was found unmarked is old or new.
     pub fn move_sector<P: Packs>(
         &mut self,
         packs: &mut P,
@@ -205,23 +208,15 @@ impl Drive {
         requires transfer { is_transferring self.old.work ≡ true }
         requires block { block < block_count self.old.kind }
 
-        // The verdict, by the rules in their order; where told, the mark is the pack's.
-        ensures verdict { IfOk result (λ v. (marked : Bool)
-            × IsVerdict self.old marked (strikes unit block self.old.offset book.old.live) v
-            × (IsTrue (P.tells packs.new) → marked ≡ is_marked (P.held packs.old unit) block)) }
+        // The verdict, the registers by it, and the bytes that moved.
+        ensures moves { IfOk result (λ v. MovesSector unit block self.old (window_len window.old) (P.tells packs.new)
+            (record { book = book.old; held = P.held packs.old; window = window_bytes window.old })
+            (record { book = book.new; held = P.held packs.new; window = window_bytes window.new }) v) }
         ensures drive { IfOk result (λ v. self.new ≡ after_move v block self.old) }
-        ensures book { IfOk result (λ v. book.new
-            ≡ (if was_read self.old v then book_struck unit block self.old.offset book.old else book.old)) }
 
-        // The bytes: those that are read, where told, and those that are written.
-        ensures read { IfOk result (λ v. IsTrue (was_read self.old v) → IsTrue (P.tells packs.new)
-            → IsReadAs (strikes unit block self.old.offset book.old.live)
-            (block_at (P.held packs.old unit).image block) (window_bytes window.new)) }
+        // Nothing is written to memory but the window of a read.
         ensures window { IfOk result (λ v. MatchBool (was_read self.old v)
             (Writes window.old window.new (window_bytes window.new)) (window.new ≡ window.old)) }
-        ensures written { IfOk result (λ v. IsTrue (P.tells packs.new) → P.held packs.new
-            ≡ (if was_written self.old v then with_written (P.held packs.old) unit block (window_bytes window.old)
-            else P.held packs.old)) }
         ensures same_memory { memory_name window.new ≡ memory_name window.old }
 
         // A drive that is stopped asks nothing of the packs.
@@ -229,9 +224,8 @@ impl Drive {
 
         // A failure.
         ensures unchanged { OnErr result ((self.new ≡ self.old) × (book.new ≡ book.old) × (window.new ≡ window.old)) }
-        ensures old_or_new { OnErr result (IsTrue (P.tells packs.new) → (P.held packs.new ≡ P.held packs.old)
-            ⊎ ((is_writing self.old.work ≡ true)
-            × (P.held packs.new ≡ with_written (P.held packs.old) unit block (window_bytes window.old)))) }
+        ensures old_or_new { OnErr result (IsOldOrNew unit block self.old (P.tells packs.new)
+            (record { book = book.old; held = P.held packs.old; window = window_bytes window.old }) (P.held packs.new)) }
         ensures never_again { IsTrue (P.tells packs.new) → IsTrue (P.tells packs.old) }
         ensures cause { HasCause (P.faults packs.old) (P.faults packs.new) result }
     {

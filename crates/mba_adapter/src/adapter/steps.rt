@@ -1,16 +1,14 @@
 // One step of a transfer: the move of one sector between the drive and the loaded buffer.
 ghost use Rattle.std.specs.Prelude.{◌≡◌, ◌<◌, Bool, true, false, IsTrue, IfOk, IsOk, OnErr, IsSome, ◌⊎◌, if◌then◌else◌};
 ghost use Rattle.pack_geometry.specs.Geometry.{block_count};
-ghost use Rattle.pack_model.specs.Pack.{block_at, is_marked, with_written};
 ghost use Rattle.mass_outside.specs.Causes.{HasCause};
-ghost use Rattle.main_memory.specs.Blocks.{Loan, span_of, bytes_in};
+ghost use Rattle.main_memory.specs.Blocks.{Loan, size_at};
 ghost use Rattle.main_memory.specs.Memory.{IsLent, with_block};
-ghost use Rattle.hardware_table.specs.Drive.{is_writing};
 ghost use Rattle.hardware_table.specs.declared.Work.TheVariants.{Transfer};
-ghost use Rattle.hardware_table.specs.Noise.{strikes, book_struck};
-ghost use Rattle.hardware_table.specs.Moves.{stop_of, IsVerdict, was_read, was_written, IsReadAs, after_move};
+ghost use Rattle.hardware_table.specs.Moves.{stop_of, was_read};
 ghost use Rattle.hardware_table.specs.Adapter.{next_block, next_window, stepped, drive_stepped};
-ghost use Rattle.mba_adapter.specs.Loaded.{loaded_buffer};
+ghost use Rattle.drive_model.specs.Move.{MovesSector, IsOldOrNew};
+ghost use Rattle.mba_adapter.specs.Loaded.{loaded_buffer, next_bytes};
 
 use crate::adapter::Adapter;
 use drive_model::{Drive, FaultKind, Moved, NoiseBook};
@@ -24,11 +22,12 @@ impl Adapter {
         requires under_way { self.old.completion ≡ false }
         ensures { self.new ≡ stepped verdict self.old }
     {
-        self.last = verdict;
+        self.verdict = verdict;
         match verdict {
             Moved::Clean => {
-                self.address += 512;
-                self.byte_count -= 512;
+                let bytes = self.byte_count.min(512);
+                self.address += bytes;
+                self.byte_count -= bytes;
                 self.moved += 1;
                 self.completion = self.byte_count == 0;
             }
@@ -46,7 +45,7 @@ impl Adapter {
     /// then the drive's transfer has ended too.
     ///
     /// `StoreFailed` comes only where the packs' count of failures rose; then the adapter, the drive, the memory and
-    /// the book are as before, and a block that was to be written is old or new.
+    /// the book are as before, and the block of a write that was found unmarked is old or new.
     pub fn step_sector<P: Packs>(
         &mut self,
         drive: &mut Drive,
@@ -64,30 +63,19 @@ impl Adapter {
         requires transfer { drive.old.work ≡ Transfer self.old.write }
         requires block { next_block self.old < block_count drive.old.kind }
 
-        // The verdict, by the rules in their order; where told, the mark is the pack's.
-        ensures verdict { IfOk result (λ v. (marked : Bool)
-            × IsVerdict drive.old marked (strikes unit (next_block self.old) drive.old.offset book.old.live) v
-            × (IsTrue (P.tells packs.new) → marked ≡ is_marked (P.held packs.old unit) (next_block self.old))) }
+        // The verdict, and the bytes that moved.
+        ensures moves { IfOk result (λ v. MovesSector unit (next_block self.old) drive.old
+            (size_at buffer.now (next_window self.old)) (P.tells packs.new)
+            (record { book = book.old; held = P.held packs.old; window = next_bytes self.old buffer.now memory.old })
+            (record { book = book.new; held = P.held packs.new; window = next_bytes self.old buffer.now memory.new }) v) }
         ensures adapter { IfOk result (λ v. self.new ≡ stepped v self.old) }
         ensures drive { IfOk result (λ v. drive.new ≡ drive_stepped v self.old drive.old) }
-        ensures book { IfOk result (λ v. book.new
-            ≡ (if was_read drive.old v then book_struck unit (next_block self.old) drive.old.offset book.old else book.old)) }
 
-        // The bytes: those that are read, where told, and those that are written. No other byte of the memory changes.
-        ensures read { IfOk result (λ v. IsTrue (was_read drive.old v) → IsTrue (P.tells packs.new)
-            → IsReadAs (strikes unit (next_block self.old) drive.old.offset book.old.live)
-            (block_at (P.held packs.old unit).image (next_block self.old))
-            (bytes_in (span_of buffer.now (next_window self.old)) memory.new.bytes)) }
+        // No byte of the memory changes but those of the block.
         ensures memory { IfOk result (λ v. memory.new
             ≡ (if was_read drive.old v
-            then with_block buffer.now (next_window self.old)
-            (bytes_in (span_of buffer.now (next_window self.old)) memory.new.bytes) memory.old
+            then with_block buffer.now (next_window self.old) (next_bytes self.old buffer.now memory.new) memory.old
             else memory.old)) }
-        ensures written { IfOk result (λ v. IsTrue (P.tells packs.new) → P.held packs.new
-            ≡ (if was_written drive.old v
-            then with_written (P.held packs.old) unit (next_block self.old)
-            (bytes_in (span_of buffer.now (next_window self.old)) memory.old.bytes)
-            else P.held packs.old)) }
 
         // The block is one of the buffer's.
         ensures inside { next_window self.old < self.old.blocks }
@@ -101,10 +89,9 @@ impl Adapter {
 
         // A failure.
         ensures unchanged { OnErr result ((self.new ≡ self.old) × (drive.new ≡ drive.old) × (memory.new ≡ memory.old) × (book.new ≡ book.old)) }
-        ensures old_or_new { OnErr result (IsTrue (P.tells packs.new) → (P.held packs.new ≡ P.held packs.old)
-            ⊎ ((is_writing drive.old.work ≡ true)
-            × (P.held packs.new ≡ with_written (P.held packs.old) unit (next_block self.old)
-            (bytes_in (span_of buffer.now (next_window self.old)) memory.old.bytes)))) }
+        ensures old_or_new { OnErr result (IsOldOrNew unit (next_block self.old) drive.old (P.tells packs.new)
+            (record { book = book.old; held = P.held packs.old; window = next_bytes self.old buffer.now memory.old })
+            (P.held packs.new)) }
         ensures never_again { IsTrue (P.tells packs.new) → IsTrue (P.tells packs.old) }
         ensures cause { HasCause (P.faults packs.old) (P.faults packs.new) result }
     {

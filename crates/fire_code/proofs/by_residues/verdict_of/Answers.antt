@@ -8,7 +8,7 @@ pub returns-then-cycle-eq0 : goal.returns-then-cycle-eq0
 returns-then-cycle-eq0 c = cycle_zero c.args.remainder (omega arith) c.if-remainder-eq0.false (sym c.cycle_of-cycle.ensures.value ∙ c.if-cycle-eq0.true)
 
 pub loop-turns-init : goal.loop-turns-init
-loop-turns-init c = turned_start c.args.remainder c.window_of-window.result (omega arith) c.window_of-window.ensures
+loop-turns-init c = turned_start c.args.remainder c.ring_of-window.result (omega arith) c.ring_of-window.ensures
 
 pub returns-then-window-lt2048 : goal.returns-then-window-lt2048
 returns-then-window-lt2048 c =

@@ -4,4 +4,4 @@ use Rattle.main_memory.proofs.span.write_span.Goals as goal
 
 pub returns : goal.returns
 unfolding with_bytes_in
-returns c = rw (c.put-2.ensures, c.put.ensures, c.split_at.ensures.back, c.split_at.ensures.front) refl
+returns c = rw (c.put-2.ensures, c.put.ensures, c.split_at.ensures.back, c.split_at.ensures.front, c.len_in_frame.ensures.frame) refl

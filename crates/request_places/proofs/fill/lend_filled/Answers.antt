@@ -1,5 +1,6 @@
-use Rattle.std.proofs.Common.{◌≡◌, drop, length, ap, ◌∙◌, arith}
+use Rattle.std.proofs.Common.{◌≡◌, ℕ, drop, length, ap, ◌∙◌, arith}
 use Rattle.std.proofs.lemmas.List.{length-drop}
+use Rattle.main_memory.specs.Frames.{frames_needed}
 use Rattle.main_memory.specs.Blocks.{Loan, blocks_from}
 use Rattle.main_memory.specs.Memory.{Memory}
 use Rattle.request_places.proofs.fill.lend_filled.Goals as goal
@@ -9,6 +10,7 @@ returns-clause-lent c = record {
   shape = c.in-Ok.ensures.lent.0;
   counted = ap (λ (l : Loan). l.count) c.in-Ok.ensures.buffer;
   offset = ap (λ (l : Loan). l.offset) c.in-Ok.ensures.buffer;
+  last = ap (λ (l : Loan). l.last) c.in-Ok.ensures.buffer;
   lent = c.fill.ensures.lent c.in-Ok.buffer c.in-Ok.ensures.lent.1;
   apart = c.in-Ok.ensures.apart;
   others = λ other lent. c.fill.ensures.lent other (c.in-Ok.ensures.others other lent);
@@ -16,7 +18,9 @@ returns-clause-lent c = record {
       c.fill.ensures.others other shape (c.in-Ok.ensures.others other lent) (c.in-Ok.ensures.apart other lent)
       ∙ ap (λ (m : Memory). blocks_from other m.bytes 0 other.count) c.in-Ok.ensures.memory;
   free =
-      let left : c.fill.new.memory.free ≡ drop c.args.request.count c.args.memory.now.free = c.fill.ensures.free ∙ ap (λ (m : Memory). m.free) c.in-Ok.ensures.memory in
+      let frames : frames_needed c.args.request.count 0 512 ≡ c.args.request.count = omega (arith, c.requires.some) in
+      let left : c.fill.new.memory.free ≡ drop c.args.request.count c.args.memory.now.free =
+      c.fill.ensures.free ∙ ap (λ (m : Memory). m.free) c.in-Ok.ensures.memory ∙ ap (λ (n : ℕ). drop n c.args.memory.now.free) frames in
       omega (arith, ap length left, length-drop c.args.request.count c.args.memory.now.free);
   sound = c.fill.ensures.sound;
 }

@@ -1,18 +1,11 @@
-use Rattle.std.proofs.Common.{◌≡◌, Bool, List, ℕ, Option, Some, refl, sym, ◌∙◌}
-use Rattle.pack_model.specs.Pack.{is_marked}
-use Rattle.hardware_table.specs.declared.Moved.{Moved}
-use Rattle.hardware_table.specs.Drive.{DriveState}
-use Rattle.hardware_table.specs.Moves.{stop_of, IsVerdict}
+use Rattle.std.proofs.Common.{◌≡◌, Bool, List, ℕ, Option, Some, refl, sym, ◌∙◌, rules, false}
+use Rattle.drive_model.proofs.MoveLaws.{stopped_moves, read_moves}
 use Rattle.drive_model.proofs.drive.Drive.move_sector.Goals as goal
 
--- a drive that is stopped has that verdict, whatever the pack holds
-when_stopped : (d : DriveState) → (marked : Bool) → (places : Option (List ℕ)) → (verdict : Moved) → stop_of d ≡ Some verdict
-    → IsVerdict d marked places verdict
-when_stopped d marked places verdict e = rw e refl
+pub returns-in-Some-clause-moves : goal.returns-in-Some-clause-moves
+returns-in-Some-clause-moves g c = stopped_moves _ _ _ _ _ _ c.in-Some.verdict (sym c.stop.ensures ∙ c.in-Some.is)
 
-pub returns-in-Some-clause-verdict : goal.returns-in-Some-clause-verdict
-returns-in-Some-clause-verdict g c = (
-  is_marked (g.P.Packs.held c.args.packs.now c.args.unit) c.args.block,
-  when_stopped c.args.self.now _ _ c.in-Some.verdict (sym c.stop.ensures ∙ c.in-Some.is),
-  λ told. refl,
-)
+pub returns-clause-moves : goal.returns-clause-moves
+returns-clause-moves g c = read_moves _ _ c.bits.result _ _ _ _ _ _ c.read.new.into c.read_through-moved.new.bytes
+    (search rules) (search rules) (search rules) (search rules) c.read_through-moved.ensures.verdict c.read_through-moved.ensures.book c.read_through-moved.ensures.bytes
+    (search rules) (search rules) (search rules)
