@@ -1,0 +1,13 @@
+pub mod OneStep
+pub mod OneTrace
+pub mod Following
+pub mod Unchanged
+pub mod Uses
+pub mod Histories
+pub mod ReadBytes
+pub mod Kept
+pub mod Explained
+pub mod Unusable
+pub mod AsSaid
+pub mod Smooth
+pub mod RunExplained

@@ -1,0 +1,14 @@
+pub mod Bursts
+pub mod Shown
+pub mod Given
+pub mod Rows1
+pub mod Rows2
+pub mod Rows3
+pub mod Rows4
+pub mod Rows5
+pub mod Rows6
+pub mod Rows7
+pub mod Rows8
+pub mod Rows9
+pub mod Rows10
+pub mod Refused1

@@ -1,0 +1,601 @@
+#!/usr/bin/env python3
+"""Rows of traces: scripts over packs, each with the answers and the trace that belong to it, as files `rows/NAME.row`.
+
+    rows.py run PROGRAM [NAME..]   plays the rows by a program (`PROGRAM play` in a folder of its own, with hpU.dsk and hpU.bad)
+                                   and writes its answers and its trace into them; each answer is one line, with its bytes
+    rows.py write [NAME..]         writes the crate `trace_rows` anew: each row as a script and as moments, the lines out of
+                                   place of `refused.txt`, and their proofs
+
+A row has a first line that says what it shows, and then sections. `[packs]` has lines `U table SERIAL BLOCK..`,
+`U mark BLOCK..` and `U block BLOCK HH`: all else on a pack is zeros. A row with a `[start]` begins where so
+many frames are taken; no program plays it. To try a trace of your own, write a row with `[script]`,
+`[packs]`, `[answers]` and `[trace]`, and check the crate: it proves that the trace is legal, or the check fails at the moment
+that no rule lets come.
+"""
+import os, re, subprocess, sys, tempfile
+
+HERE = os.path.dirname(os.path.abspath(__file__))
+CRATE = os.path.join(HERE, '..', '..', 'crates', 'trace_rows')
+KINDS = {'rp06': (815, 19, 22, 'Rp06'), 'rm03': (823, 5, 32, 'Rm03'), 'rm05': (823, 19, 32, 'Rm05')}
+CODE = {'+400': 'Plus400', '-400': 'Minus400', '+800': 'Plus800', '-800': 'Minus800', '+1200': 'Plus1200', '-1200': 'Minus1200'}
+FAULT = {k: f'kind.{k.capitalize()}' for k in ('seek', 'opi', 'dte', 'hcrc', 'late')}
+CAUSE = {k: k.capitalize() for k in ('offline', 'locked', 'unforwarded', 'fault')}
+
+
+# ---- rows as files
+def read_row(name):
+    row = {'name': name, 'what': '', 'start': [], 'script': [], 'packs': [], 'answers': [], 'trace': []}
+    part = None
+    for line in open(f'{HERE}/rows/{name}.row').read().split('\n')[:-1]:
+        if part is None and line.startswith('# '):
+            row['what'] = line[2:]
+        elif re.fullmatch(r'\[\w+\]', line):
+            part = line[1:-1]
+        else:
+            row[part].append(line)
+    return row
+
+
+def write_row(row):
+    with open(f"{HERE}/rows/{row['name']}.row", 'w') as f:
+        f.write(f"# {row['what']}\n")
+        for part in ('start', 'script', 'packs', 'answers', 'trace'):
+            if part == 'start' and not row[part]:
+                continue
+            f.write(f'[{part}]\n' + ''.join(line + '\n' for line in row[part]))
+
+
+def units_of(row):
+    return {int(l.split()[1]): l.split()[2] for l in row['script'] if l.startswith('unit ')}
+
+
+def blocks_of(kind):
+    cylinders, tracks, sectors, _ = KINDS[kind]
+    return cylinders * tracks * sectors
+
+
+def packs_of(row):
+    """for each unit its sectors that are not zeros, its marks, and the places of its table"""
+    out = {u: ({}, [], None) for u in units_of(row)}
+    for line in row['packs']:
+        f = line.split()
+        unit = int(f[0])
+        kind = units_of(row)[unit]
+        _, tracks, sectors, _ = KINDS[kind]
+        blocks, marks, table = out[unit]
+        if f[1] == 'mark':
+            marks += [int(b) for b in f[2:]]
+        elif f[1] == 'block':
+            blocks[int(f[2])] = bytes([int(f[3], 16)]) * 512
+        else:
+            table = [(b // (tracks * sectors), b % (tracks * sectors) // sectors, b % sectors) for b in map(int, f[3:])]
+            text = int(f[2]).to_bytes(4, 'little') + bytes(4)
+            for c, t, s in table:
+                text += bytes([c % 256, c // 256, s, t])
+            blocks[blocks_of(kind) - sectors] = text + b'\xff' * (512 - len(text))
+        out[unit] = (blocks, marks, table)
+    return out
+
+
+# ---- bytes as runs, `N*HH+..`
+def runs(data):
+    out = []
+    for b in data:
+        if out and out[-1][1] == b:
+            out[-1][0] += 1
+        else:
+            out.append([1, b])
+    return out
+
+
+def runs_text(data):
+    return '+'.join(f'{n}*{b:02x}' for n, b in runs(data)) or '0*00'
+
+
+def bytes_of(text):
+    return b''.join(int(n) * bytes([int(b, 16)]) for n, b in (r.split('*') for r in text.split('+')))
+
+
+def bytes_term(data):
+    return '(' + ' ++ '.join(f'replicate {n} {b}' for n, b in runs(data)) + ')' if data else '[]'
+
+
+# ---- run
+def requests_of(row):
+    out = {}
+    for line in row['script']:
+        f = line.split()
+        if f and f[0] in ('read', 'write'):
+            last = int(f[f.index('last') + 1]) if 'last' in f else 512
+            out[int(f[1])] = (int(f[5]), last, f[0] == 'write')
+    return out
+
+
+def run(program, names):
+    for name in names:
+        row = read_row(name)
+        if row['start']:
+            continue
+        with tempfile.TemporaryDirectory() as folder:
+            for unit, (blocks, marks, _) in packs_of(row).items():
+                if blocks:
+                    with open(f'{folder}/hp{unit}.dsk', 'wb') as f:
+                        for b, data in sorted(blocks.items()):
+                            f.seek(512 * b)
+                            f.write(data)
+                if marks:
+                    with open(f'{folder}/hp{unit}.bad', 'wb') as f:
+                        for b in sorted(marks):
+                            f.seek(b)
+                            f.write(b'\1')
+            script = ''.join(line + '\n' for line in row['script']).encode()
+            done = subprocess.run([program, 'play'], input=script, cwd=folder, capture_output=True)
+            if done.returncode:
+                sys.exit(f'{name}: status {done.returncode}: {done.stdout!r}')
+            path = f'{folder}/hp.trace'
+            row['trace'] = open(path).read().split('\n')[:-1] if os.path.exists(path) else []
+        row['answers'] = []
+        sizes = requests_of(row)
+        for line in done.stdout.decode().split('\n')[:-1]:
+            f = line.split()
+            if f[0] == 'ans':
+                row['answers'].append(line)
+                data = b''
+            elif f[0] == 'blk':
+                count, last, _ = sizes[int(row['answers'][-1].split()[1])]
+                want = last if int(f[1]) == count - 1 else 512
+                data += bytes([int(f[3], 16)]) * want if f[2] == 'fill' else bytes.fromhex(f[3])
+                row['answers'][-1] = ' '.join(row['answers'][-1].split()[:5]) + ' ' + runs_text(data)
+        write_row(row)
+
+
+# ---- write: moments
+def written_by(fields, count, last):
+    if fields[0] == 'fill':
+        data = bytes([int(fields[1], 16)]) * (512 * count)
+    elif fields[0] == 'seq':
+        data = bytes((int(fields[1]) + j + t) % 256 for j in range(count) for t in range(512))
+    else:
+        data = bytes.fromhex(fields[1])
+    return data[:512 * (count - 1) + last]
+
+
+def request_term(f):
+    count = int(f[5])
+    option = lambda word, other: int(f[f.index(word) + 1]) if word in f else other
+    last = option('last', 512)
+    written = f'Some {bytes_term(written_by(f[6:], count, last))}' if f[0] == 'write' else 'None'
+    return (f'record {{ id = {int(f[1])}; unit = {int(f[2])}; part = part.{f[3].upper()}; block = {int(f[4])}; count = {count}; '
+            f"last = {last}; offset = {option('off', 0)}; written = {written} }}")
+
+
+def input_term(line):
+    """what a line of the script asks for or says, or None where it declares a drive or is passed over"""
+    f = line.split()
+    if not f or line.startswith('#') or f[0] == 'unit':
+        return None
+    if f[0] in ('read', 'write'):
+        return f'Submit ({request_term(f)})'
+    if f[0] == 'noise':
+        span, places = (f'Until {CODE[f[4]]}', f[5:]) if f[3] == 'until' else (f'Times {int(f[3])}', f[4:])
+        return f"Noise (record {{ unit = {f[1]}; block = {f[2]}; span = {span}; places = {' ∷ '.join(places)} ∷ [] }})"
+    if f[0] == 'fault':
+        return f'Arm {f[1]} {FAULT[f[2]]} {f[3]}'
+    return {'arrive': 'ArriveAt {0}', 'move': 'MoveAt {0}', 'attend': 'AttendTo {0}', 'drain': 'Drain', 'turn': 'Turn {0} {1}',
+            'online': 'SetOnline {0} true', 'offline': 'SetOnline {0} false',
+            'lock': 'SetLocked {0} true', 'unlock': 'SetLocked {0} false'}[f[0]].format(*f[1:])
+
+
+def script_term(row):
+    """the lines that say something, with their numbers, and how many there are"""
+    lines = []
+    for number, line in enumerate(row['script'], 1):
+        f = line.split()
+        if f and not line.startswith('#'):
+            statement = f'Declares {f[1]} {KINDS[f[2]][3]}' if f[0] == 'unit' else f'Plays ({input_term(line)})'
+            lines.append(f'record {{ number = {number}; statement = {statement} }}')
+    return f"record {{ lines = {' ∷ '.join(lines + ['[]'])}; count = {len(row['script'])} }}"
+
+
+def answer_term(words, write):
+    """`ok` with the bytes of a read, `eof`, or `error CAUSE done K`"""
+    if words[0] == 'ok':
+        return 'WriteOk' if write else f'ReadOk {bytes_term(bytes_of(words[1]))}'
+    if words[0] == 'eof':
+        return 'EndOfPartition'
+    if words[1] in CAUSE:
+        return f'Failed {CAUSE[words[1]]} {words[3]}'
+    return {'partition': 'OutsidePartition', 'frames': 'NoFrames'}[words[1]]
+
+
+def deed_term(f, answer):
+    if f[0] == 'cmd':
+        word, rest = f[4], f[5:]
+        return {'search': 'Search {0} {1}', 'seek': 'Seek {0}', 'recal': 'Recal', 'rtc': 'Centre', 'dclr': 'Clear', 'pack': 'Pack',
+                'rcom': 'Transfer false {0} {1}', 'wcom': 'Transfer true {0} {1}'}[word].format(*rest) \
+            if word != 'offset' else f'Offset {CODE[rest[0]]}'
+    if f[0] == 'sector':
+        verdict = {'clean': 'Clean', 'ecc': 'Hard', 'mark': 'Marked', 'offline': 'verdict.Offline'}.get(f[5])
+        if f[5] == 'burst':
+            verdict = f'(Burst {f[6]} {int(f[7], 8)})'
+        return f'Sector {f[4]} {verdict or "(Faulted " + FAULT[f[5]] + ")"}'
+    if f[0] == 'try':
+        return f'Try {f[4]} {f[5]}'
+    if f[0] == 'end':
+        return f'End ({answer})' if ' ' in answer else f'End {answer}'
+    return {'arrive': 'Arrive', 'intr': 'Intr', 'attn': 'Attn'}[f[0]]
+
+
+def told_term(line, answer=None):
+    """a line of a trace as a moment; an end line has its answer behind a colon, or is given it"""
+    text, _, words = line.partition(' : ')
+    f = text.split()
+    if f[0] == 'idle':
+        return f'Idle {f[1]}'
+    deed = deed_term(f, answer_term(words.split(), words == 'ok') if words else answer)
+    return f'Told {f[1]} {f[2]} {f[3]} ' + (f'({deed})' if ' ' in deed else deed)
+
+
+def moments_of(row):
+    """the moments, and beside each its text"""
+    sizes = requests_of(row)
+    answers = list(row['answers'])
+    told = {}
+    for line in row['trace']:
+        number = int(line.split()[1])
+        answer = None
+        if line.startswith('end '):
+            a = answers.pop(0).split()
+            assert (a[1], a[3]) == (line.split()[3], line.split()[1]), line
+            answer = answer_term(a[4:], sizes[int(a[1])][2])
+        told.setdefault(number, []).append((told_term(line, answer), line))
+    assert not answers, row['name']
+    out = []
+    for number, line in enumerate(row['script'] + ['drain'], 1):
+        term = input_term(line)
+        if term:
+            out.append((f'Played {number} ({term})' if ' ' in term else f'Played {number} {term}', '> ' + line))
+            out += told.pop(number, [])
+    assert not told, row['name']
+    return out
+
+
+def packs_terms(row):
+    """the tables, and the sectors and marks, as functions"""
+    tables, sectors, marks = 'None', [], []
+    serials = {int(l.split()[0]): l.split()[2] for l in row['packs'] if ' table ' in l}
+    for unit, (blocks, marked, table) in packs_of(row).items():
+        if table is not None:
+            places = ' ∷ '.join(f'record {{ cylinder = {c}; track = {t}; sector = {s} }}' for c, t, s in table)
+            kind, serial = KINDS[units_of(row)[unit]][3], serials[unit]
+            tables = f'if unit == {unit} then Some (record {{ kind = {kind}; serial = {serial}; places = {places} ∷ [] }}) else {tables}'
+        sectors += [(unit, b, bytes_term(d)) for b, d in sorted(blocks.items())]
+        marks += [(unit, b, 'true') for b in marked]
+    def chosen(cases, other):
+        for unit, block, value in reversed(cases):
+            other = f'if (unit == {unit}) && (block == {block}) then {value} else {other}'
+        return other
+    return tables, chosen(sectors, 'replicate 512 0'), chosen(marks, 'false')
+
+
+def row_specs(row):
+    name = row['name']
+    tables, sectors, marks = packs_terms(row)
+    start = f'over {name}_script (λ unit. {tables}) (λ unit block. {sectors}) (λ unit block. {marks})' \
+        if row['packs'] else f'over_zeros {name}_script'
+    for line in row['start']:
+        start = f'record ({start}) {{ frames = {line.split()[1]} }}'
+    moments = '\n    ∷ '.join([m for m, _ in moments_of(row)] + ['[]'])
+    return (f"-- {name}: {row['what']}\nabbrev pub {name}_script : Script\n{name}_script = {script_term(row)}\n\n"
+            f'abbrev pub {name}_start : Replay\n{name}_start = {start}\n\n'
+            f'abbrev pub {name} : List Moment\n{name} =\n    {moments}\n')
+
+
+# ---- write: proofs
+def step_proof(moment):
+    if moment.startswith('Played'):
+        return 'record { later = refl; over = refl; finished = refl; at_work = refl }'
+    if moment.startswith('Idle'):
+        return 'record { number = refl; nothing = refl }'
+    if re.search(r'End (OutsidePartition|EndOfPartition|NoFrames)', moment):
+        return 'record { number = refl; same_unit = refl; same_id = refl; answered = refl }'
+    words = moment.split(' ', 4)[4].strip('()').split(' ')
+    verdict = 'refl' if words[0] == 'Sector' else 'tt'
+    if words[0] == 'Sector' and words[2] == '(Burst':
+        verdict = f'burst_{words[3]}_{words[4]}'
+    if words[0] == 'Sector' and words[2] == 'Hard':
+        verdict = 'shown_0_7_14'
+    drive = 'tt' if words[0] in ('End', 'Intr', 'Try') else 'refl'
+    adapter = {'Transfer': 'refl', 'Sector': '(refl, refl)', 'Intr': 'refl', 'Attn': 'refl'}.get(words[0], 'tt')
+    return (f'record {{ number = refl; turn = refl; service = refl; talk = refl; drive = {drive}; adapter = {adapter}; '
+            f'verdict = {verdict}; at_work = WORK }}')
+
+
+def row_proof(row):
+    """each moment by computation: a record of `refl`"""
+    name, moments = row['name'], [m for m, _ in moments_of(row)]
+    works = work_marks(row)
+    term = ''.join(f'({step_proof(m).replace("WORK", w)}, ' for m, w in zip(moments, works)) + 'tt' + ')' * len(moments)
+    unfolding = 'unfolding repair.burst_byte\n' if any('(Burst' in m for m in moments) else ''
+    if name == 'alias_noise':
+        unfolding = 'unfolding code.remainder code.power code.times_x\n'
+    return (f'pub {name}_accepted : IsAccepted {name}_script {name}_start {name}\n{unfolding}{name}_accepted = record {{\n'
+            f'  inputs = refl;\n  legal = record {{ follows = {term}; over = record {{ over = refl; answered = refl }} }};\n}}\n')
+
+
+def work_marks(row):
+    """`refl` where a line begins a further event of a drain, at which all units must be at work; else `tt`"""
+    out, draining = [], False
+    moments = [m for m, _ in moments_of(row)]
+    for i, m in enumerate(moments):
+        if m.startswith('Played'):
+            out.append('tt')
+            draining = m.endswith(' Drain')
+            continue
+        begins = draining and not moments[i - 1].startswith('Played') and re.search(r' (Arrive|Intr|Attn|\(Sector .*)$', m) is not None
+        if begins and m.endswith(' Attn'):
+            # an attention behind another line of one attend does not begin an event
+            begins = began_apart(moments, i)
+        out.append('refl' if begins else 'tt')
+    return out
+
+
+def began_apart(moments, i):
+    """whether the attention at i is the first of its attend: the event before it ended with an arrival or a sector, or with an
+    attend of another adapter"""
+    unit = int(moments[i].split()[2])
+    for j in range(i - 1, -1, -1):
+        m = moments[j]
+        if m.startswith('Played'):
+            return False
+        if m.endswith(' Arrive') or '(Sector' in m:
+            return True
+        if m.endswith(' Attn') or m.endswith(' Intr'):
+            return int(m.split()[2]) // 8 != unit // 8
+    return False
+
+
+# ---- write: lines out of place
+def read_refused():
+    """`NAME RULE ROW [alone]`, then the line of the row before which it would stand, then the line that is refused"""
+    out, lines = [], [l for l in open(f'{HERE}/refused.txt').read().split('\n') if l and not l.startswith('#')]
+    for head, before, line in zip(*[iter(lines)] * 3):
+        out.append((head.split(), before.strip(), line.strip()))
+    return out
+
+
+def place_of(rows, name, before):
+    """how many moments stand before the nth line of this text, `TEXT`, `TEXT * N` or `TEXT * N + K`"""
+    texts = [t for _, t in moments_of(rows[name])]
+    if before in ('the beginning', 'the end'):
+        return 0 if before == 'the beginning' else len(texts)
+    text, _, more = before.partition(' * ')
+    nth, _, behind = (more or '1').partition(' + ')
+    found = [i for i, t in enumerate(texts) if t == text]
+    if len(found) < int(nth):
+        sys.exit(f'{name}: no line {before}')
+    return found[int(nth) - 1] + int(behind or '0')
+
+
+def refused_term(line):
+    if line.startswith('> '):
+        number, _, text = line[2:].partition(' ')
+        term = input_term(text)
+        return f'Played {number} ({term})' if ' ' in term else f'Played {number} {term}'
+    return told_term(line)
+
+
+RULES = ['Number', 'Events', 'Service', 'Conversation', 'Drives', 'Adapters', 'Packs', 'Work']
+
+
+def alone_proof(head, start, n, term):
+    """the other rules hold, each by computation"""
+    name, rule, row = head[:3]
+    deed = term.split(' ', 4)[4].strip('()').split(' ')[0] if term.startswith('Told') else ''
+    words = {
+        'Drives': 'tt' if deed in ('End', 'Intr', 'Try') else 'refl', 'Packs': 'tt' if deed != 'Sector' else 'refl',
+        'Adapters': {'Transfer': 'refl', 'Sector': '(refl, refl)', 'Intr': 'refl', 'Attn': 'refl'}.get(deed, 'tt'),
+        'Work': 'refl' if deed in ('Arrive', 'Sector', 'Intr') else 'tt',
+    }
+    out = f'pub {name}_alone : (other : RuleName) → other ≢ {rule} → Keeps other (after_moments {start} (take {n} {row})) ({term})\n'
+    for other in RULES:
+        proof = 'absurd (apart refl)' if other == rule else words.get(other, 'refl')
+        out += f'{name}_alone {other} apart = {proof}\n'
+    return out
+
+
+# ---- write: the crate
+PRELUDE = 'Rattle.std.specs.Prelude'
+ROW_USES = """use Rattle.std.specs.Prelude.{◌==◌, ◌&&◌, ◌++◌, true, false, if◌then◌else◌, List, [], ◌∷◌, Some, None, replicate}
+use Rattle.pack_geometry.specs.declared.DriveKind.TheVariants.{Rp06, Rm03, Rm05}
+use Rattle.partitions.specs.declared.Part.TheVariants as part
+use Rattle.drive_registers.specs.declared.OffsetCode.TheVariants.{Plus400, Minus400, Plus800, Minus800, Plus1200, Minus1200}
+use Rattle.hardware_table.specs.declared.FaultKind.TheVariants as kind
+use Rattle.hardware_table.specs.declared.NoiseSpan.TheVariants.{Times, Until}
+use Rattle.hardware_table.specs.declared.Moved.TheVariants as verdict
+use Rattle.hardware_table.specs.declared.Moved.TheVariants.{Clean, Burst, Hard, Marked, Faulted}
+use Rattle.trace_replay.specs.Requests.{Offline, Locked, Unforwarded, Fault, ReadOk, WriteOk, OutsidePartition, EndOfPartition, NoFrames, Failed}
+use Rattle.trace_replay.specs.Script.{Submit, ArriveAt, MoveAt, AttendTo, Drain, Turn, Noise, Arm, SetOnline, SetLocked, Script, Declares, Plays}
+use Rattle.trace_replay.specs.Moments.{Search, Seek, Recal, Offset, Centre, Clear, Pack, Transfer, Arrive, Sector, Intr, Try, Attn, End, Moment, Played, Told, Idle}
+use Rattle.trace_replay.specs.Replay.{Replay}
+use Rattle.trace_rows.specs.Accepted.{over, over_zeros}
+"""
+
+
+def used(text, uses):
+    """the `use` lines that the text needs, with the names that it needs"""
+    out = []
+    body = re.sub(r'--.*', '', text)
+    for line in uses.strip().split('\n'):
+        m = re.fullmatch(r'use (\S+)\.\{(.*)\}', line)
+        if m is None:
+            if re.search(r'\b' + line.rsplit(' as ', 1)[1] + r'\.', body):
+                out.append(line)
+            continue
+        def is_used(n):
+            if '◌' in n:
+                return all(re.search(r'(?<![\w])' + re.escape(p) + r'(?![\w])' if p.isalpha() else re.escape(p), body) for p in n.split('◌') if p)
+            if n == '[]':
+                return '[]' in body
+            return re.search(r'(?<![\w.])' + re.escape(n) + r"(?![\w'])", body) is not None
+        names = [n for n in m.group(2).split(', ') if is_used(n)]
+        if names:
+            out.append(f"use {m.group(1)}.{{{', '.join(names)}}}")
+    return '\n'.join(out) + '\n'
+
+
+def chunks(rows):
+    """rows in files of a few hundred moments each"""
+    out, size = [[]], 0
+    for row in rows:
+        n = len(moments_of(row))
+        if size and size + n > 200:
+            out.append([])
+            size = 0
+        out[-1].append(row)
+        size += n
+    return out
+
+
+def bursts_of(rows):
+    """each burst that a sector shows, with its places"""
+    seen = {}
+    for row in rows:
+        for line in row['script']:
+            f = line.split()
+            if f and f[0] == 'noise':
+                places = [int(x) for x in f[5 if f[3] == 'until' else 4:]]
+                seen[(places[0] + 1, sum(1 << (p - places[0]) for p in places if p - places[0] < 11))] = places
+    shown = {(int(a), int(p)) for row in rows for m, _ in moments_of(row) for a, p in re.findall(r'\(Burst (\d+) (\d+)\)', m)}
+    return {key: seen[key] for key in sorted(shown)}
+
+
+def write(names):
+    rows = {n: read_row(n) for n in names}
+    groups = chunks(list(rows.values()))
+    put = lambda path, text: (os.makedirs(os.path.dirname(f'{CRATE}/{path}'), exist_ok=True), open(f'{CRATE}/{path}', 'w').write(text))
+    for folder in ('specs', 'proofs'):
+        for f in os.listdir(f'{CRATE}/{folder}'):
+            if re.fullmatch(r'(Rows|Refused)\d*\.antt', f):
+                os.remove(f'{CRATE}/{folder}/{f}')
+    for k, group in enumerate(groups, 1):
+        body = '\n'.join(row_specs(r) for r in group)
+        put(f'specs/Rows{k}.antt', '-- Rows of traces, as docs/trace-rows/rows.py writes them.\n' + used(body, ROW_USES) + '\n' + body)
+        proof = '\n'.join(row_proof(r) for r in group)
+        bursts = ', '.join(f'burst_{a}_{p}' for a, p in bursts_of(group))
+        head = '-- Each moment of the rows may come, by computation; docs/trace-rows/rows.py writes this.\nuse Rattle.std.proofs.Common.{refl}\n'
+        if 'code.' in proof:
+            head += 'use Rattle.fire_code.specs.Remainder as code\n'
+        if 'repair.' in proof:
+            head += 'use Rattle.fire_code.specs.Repair as repair\n'
+        head += f"use Rattle.trace_rows.specs.Accepted.{{IsAccepted}}\nuse Rattle.trace_rows.specs.Rows{k}.{{{', '.join(f'{r}_script, {r}_start, {r}'.replace('{r}', r) for r in (x['name'] for x in group))}}}\n"
+        if bursts:
+            head += f'use Rattle.trace_rows.proofs.Bursts.{{{bursts}}}\n'
+        if 'shown_0_7_14' in proof:
+            head += 'use Rattle.trace_rows.proofs.Shown.{shown_0_7_14}\n'
+        put(f'proofs/Rows{k}.antt', head + '\n' + proof)
+    bursts = '-- Short bursts of the rows; docs/trace-rows/rows.py writes this.\nuse Rattle.std.proofs.Common.{List, [], ◌∷◌, refl, arith}\nuse Rattle.fire_code.specs.Burst as burst\nuse Rattle.fire_code.specs.Burst.{IsBurst}\nuse Rattle.fire_code.specs.Remainder.{remainder}\n'
+    for (at, pattern), places in bursts_of(rows.values()).items():
+        bursts += (f"\npub burst_{at}_{pattern} : IsBurst {at} {pattern} (remainder ({' ∷ '.join(map(str, places))} ∷ []))\nunfolding burst.places_of\n"
+                   f'burst_{at}_{pattern} = record {{ counted = omega arith; odd = refl; small = omega arith; burst = search arith; is = refl }}\n')
+    put('proofs/Bursts.antt', bursts)
+    refused = read_refused()
+    alone, clauses = [], []
+    for head, before, line in refused:
+        name, rule, row = head[:3]
+        n = place_of(rows, row, before)
+        start = f'{row}_start' if len(head) < 5 else head[4]
+        term = refused_term(line)
+        word = 'Breaks'
+        if 'alone' in head:
+            alone.append((head, start, n, term))
+            word = 'BreaksAlone'
+        clauses.append(f'    ensures {name} {{ {word} {rule} {start} {row} {n} ({term}) }}')
+    unfinished = [('empty_script', 1), ('first_read', 8), ('retries_run_out', 40), ('attentions_together', 20)]
+    body = '\n'.join(alone_proof(*a) for a in alone)
+    where = {r['name']: k for k, g in enumerate(groups, 1) for r in g}
+    row_names = lambda which: '\n'.join(f"use Rattle.trace_rows.specs.Rows{k}.{{{', '.join(n for r in g for n in which(r['name']))}}}" for k, g in enumerate(groups, 1) if any(which(r['name']) for r in g))
+    lib = LIB_HEAD
+    texts = ['first_read', 'empty_script', 'short_burst_repaired', 'until_offset', 'written_as_far_as_done', 'offline', 'partition_ends', 'each_fault']
+    laws = '/// The traces of the rows are legal: each plays its script, and its moments may come one after another.\npub fn rows_law()\n'
+    laws += ''.join(f'    ensures {n} {{ IsAccepted {n}_script {n}_start {n} }}\n' for n in rows) + '{}\n\n'
+    laws += ('/// What is refused: behind so many moments of a row, a moment that breaks the rule that is named, for each rule once no other.\n'
+             '/// And some traces that stop too early.\npub fn refusals_law()\n')
+    laws += '\n'.join(clauses) + '\n' + ''.join(f'    ensures {n}_unfinished {{ IsUnfinished {n}_start {n} {k} }}\n' for n, k in unfinished) + '{}\n\n'
+    laws += '/// The texts of traces of rows, byte for byte.\npub fn text_law()\n'
+    for n in texts:
+        laws += f'    ensures {n} {{ trace_text {n} ≡ ended (' + ' ∷ '.join(f'codes "{l}"' for l in rows[n]['trace']) + ' ∷ []) }\n'
+    laws += '{}\n'
+    uses = used(laws, LIB_USES + row_names(lambda n: [f'{n}_script', f'{n}_start', n]))
+    put('src/lib.rt', lib + ''.join('ghost ' + l + ';\n' for l in uses.strip().split('\n')) + '\n' + laws)
+    answers = 'use Rattle.trace_rows.proofs.rows_law.Goals as goal\n' + ''.join(
+        f"use Rattle.trace_rows.proofs.Rows{k}.{{{', '.join(r['name'] + '_accepted' for r in g)}}}\n" for k, g in enumerate(groups, 1))
+    for n in rows:
+        answers += f'\npub returns-clause-{n} : goal.returns-clause-{n}\nreturns-clause-{n} c = {n}_accepted\n'
+    put('proofs/rows_law/Answers.antt', answers)
+    put('proofs/Refused1.antt', '-- What a row that breaks one rule alone keeps: all others; docs/trace-rows/rows.py writes this.\n'
+        + used(body, LIB_USES + 'use Rattle.std.proofs.Common.{refl}\n' + 'use Rattle.std.specs.Prelude.{◌≢◌, take}\n' + row_names(lambda n: [f'{n}_start', n])) + '\n' + body)
+    answers = REFUSED_HEAD + f"use Rattle.trace_rows.proofs.Refused1.{{{', '.join(h[0] + '_alone' for h, _, _, _ in alone)}}}\n" + REFUSED_BURST
+    for h, _, _, _ in alone:
+        answers += f'\npub returns-clause-{h[0]} : goal.returns-clause-{h[0]}\nreturns-clause-{h[0]} c = record {{ broken = search arith; others = {h[0]}_alone }}\n'
+    put('proofs/refusals_law/Answers.antt', answers)
+    answers = 'use Rattle.std.proofs.Common.{refl}\nuse Rattle.std.specs.Fmt as fmt\nuse Rattle.trace_rows.proofs.text_law.Goals as goal\n'
+    for n in texts:
+        answers += f'\npub returns-clause-{n} : goal.returns-clause-{n}\nunfolding fmt.digits\nreturns-clause-{n} c = refl\n'
+    put('proofs/text_law/Answers.antt', answers)
+    put('specs/Lib.antt', 'pub mod Accepted\npub mod Strange\n' + ''.join(f'pub mod Rows{k}\n' for k in range(1, len(groups) + 1)))
+    put('proofs/Lib.antt', 'pub mod Bursts\npub mod Shown\npub mod Given\n' + ''.join(f'pub mod Rows{k}\n' for k in range(1, len(groups) + 1)) + 'pub mod Refused1\n')
+    print(f'{len(rows)} rows, {len(refused)} lines refused, {len(alone)} of them by one rule alone')
+
+
+LIB_HEAD = """//! Rows of traces: scripts over packs with the traces that belong to them, each proved legal by computation, and lines out of
+//! place, each refused by its rule. The rows stand as text in `docs/trace-rows`, and `rows.py` there writes this crate anew.
+#![tactic(auto)]
+
+"""
+LIB_USES = """use Rattle.std.specs.Prelude.{◌≡◌, ◌++◌, true, false, replicate, Some, None, [], ◌∷◌, codes}
+use Rattle.partitions.specs.declared.Part.TheVariants as part
+use Rattle.drive_registers.specs.declared.OffsetCode.TheVariants.{Plus400, Minus400, Plus800, Minus800, Plus1200, Minus1200}
+use Rattle.hardware_table.specs.declared.FaultKind.TheVariants as kind
+use Rattle.hardware_table.specs.declared.Moved.TheVariants as verdict
+use Rattle.hardware_table.specs.declared.Moved.TheVariants.{Clean, Burst, Hard, Marked, Faulted}
+use Rattle.trace_replay.specs.Requests.{Offline, Locked, Unforwarded, Fault, ReadOk, WriteOk, OutsidePartition, EndOfPartition, NoFrames, Failed}
+use Rattle.trace_replay.specs.Script.{Submit, ArriveAt, MoveAt, AttendTo, Drain, Turn, Noise, Arm, SetOnline, SetLocked}
+use Rattle.trace_replay.specs.Moments.{Search, Seek, Recal, Offset, Centre, Clear, Pack, Transfer, Arrive, Sector, Intr, Try, Attn, End, Played, Told, Idle}
+use Rattle.trace_replay.specs.Replay.{after_moments}
+use Rattle.trace_replay.specs.Rules.{Breaks, BreaksAlone, IsUnfinished, RuleName, Keeps, Number, Events, Service, Conversation, Drives, Adapters, Packs, Work}
+use Rattle.trace_replay.specs.Text.{trace_text, ended}
+use Rattle.trace_rows.specs.Accepted.{IsAccepted}
+use Rattle.trace_rows.specs.Strange.{busy_start, stranded_start, skewed_start}
+"""
+REFUSED_HEAD = """use Rattle.std.proofs.Common.{ap, arith}
+use Rattle.fire_code.specs.Remainder as code
+use Rattle.fire_code.specs.Repair as repair
+use Rattle.trace_rows.proofs.Given.{byte_given}
+use Rattle.trace_rows.proofs.refusals_law.Goals as goal
+"""
+REFUSED_BURST = """
+-- the burst's remainder, computed, is another number than 0
+pub returns-clause-burst_as_clean : goal.returns-clause-burst_as_clean
+unfolding code.remainder code.power code.times_x
+returns-clause-burst_as_clean c = λ h. omega (arith, h)
+
+-- the bytes that a burst flips, computed, are other bytes
+pub returns-clause-burst_not_repaired : goal.returns-clause-burst_not_repaired
+unfolding repair.burst_byte byte_given
+returns-clause-burst_not_repaired c = λ h. omega (arith, ap (byte_given 211) h)
+
+pub returns-clause-repaired_beyond_the_end : goal.returns-clause-repaired_beyond_the_end
+unfolding repair.burst_byte
+returns-clause-repaired_beyond_the_end c = search arith
+"""
+
+if __name__ == '__main__':
+    args = sys.argv[1:]
+    every = sorted(f[:-4] for f in os.listdir(f'{HERE}/rows'))
+    if args[:1] == ['run'] and len(args) > 1:
+        run(args[1], args[2:] or every)
+    elif args[:1] == ['write']:
+        write(args[1:] or every)
+    else:
+        sys.exit(__doc__)
