@@ -1,0 +1,5 @@
+pub mod AddLaws
+pub mod ChangeLaws
+pub mod EditLaws
+pub mod ListLaws
+pub mod TableEdits

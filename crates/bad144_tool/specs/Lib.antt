@@ -1,0 +1,5 @@
+pub mod Adding
+pub mod Changes
+pub mod Edit
+pub mod Faults
+pub mod Texts

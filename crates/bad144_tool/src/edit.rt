@@ -1,0 +1,188 @@
+ghost use Rattle.std.specs.Prelude.{◌≡◌, ◌<◌, ◌≤◌, ◌-◌, ◌+◌, ◌*◌, ◌^◌, [], ◌∷◌, ◌++◌, IsTrue, IfOk, OnOk, OnErr, length, replicate};
+ghost use Rattle.pack_geometry.specs.Geometry.{copy_at, limit_of, replacement_at};
+ghost use Rattle.pack_model.specs.Pack.{block_at};
+ghost use Rattle.pack_model.specs.TableSpelling.{Table, table_text};
+ghost use Rattle.mass_outside.specs.Causes.{HasCause};
+ghost use Rattle.bad144_tool.specs.Changes.{DoesAll, with_changes, Block, Mark};
+ghost use Rattle.bad144_tool.specs.Edit.{copies, edit_writes, first_content, marking, moves, writes_with};
+
+use bad144_table::{BadTable, entries, write_table};
+use mass_outside::traits::{Packs, StoreFailed};
+use pack_geometry::{DriveKind, copy_block, replacement};
+
+/// How a block is added to a table: whether its bytes are copied to its replacement (else that gets zeros), and whether
+/// it is marked.
+#[derive(Clone, Copy, Debug, PartialEq, Eq)]
+pub struct AddWay {
+    pub copy: bool,
+    pub mark: bool,
+}
+
+/// Replaces a block.
+fn write_block<P: Packs>(
+    packs: &mut P,
+    unit: u8,
+    block: u32,
+    bytes: &[u8; 512],
+) -> Result<(), StoreFailed>
+    requires { unit < 32 }
+    ensures { DoesAll P.tells P.held P.faults unit packs.old packs.new result (Block block bytes.now ∷ []) }
+{
+    packs.write(unit, block, bytes)
+}
+
+/// Copies replacement `j` to replacement `j + 1`.
+fn move_up<P: Packs>(packs: &mut P, unit: u8, kind: DriveKind, j: u32) -> Result<(), StoreFailed>
+    requires unit { unit < 32 }
+    requires index { j < 125 }
+    ensures { DoesAll P.tells P.held P.faults unit packs.old packs.new result
+        (Block (replacement_at kind (j + 1)) (block_at (P.held packs.old unit).image (replacement_at kind j)) ∷ []) }
+{
+    let mut bytes = [0u8; 512];
+    packs.read(unit, replacement(kind, j), &mut bytes)?;
+    write_block(packs, unit, replacement(kind, j + 1), &bytes)
+}
+
+/// Moves replacements `i` to `end - 1` up by one, the last of them first.
+fn move_all<P: Packs>(
+    packs: &mut P,
+    unit: u8,
+    kind: DriveKind,
+    i: u32,
+    end: u32,
+) -> Result<(), StoreFailed>
+    requires unit { unit < 32 }
+    requires order { i ≤ end }
+    requires room { end < 126 }
+    ensures { DoesAll P.tells P.held P.faults unit packs.old packs.new result
+        (moves kind (P.held packs.old unit).image i (end - i)) }
+{
+    if i == end {
+        return Ok(());
+    }
+    move_up(packs, unit, kind, end - 1)?;
+    move_all(packs, unit, kind, i, end - 1)
+}
+
+/// Gives replacement `i` its content: a block's own bytes, or zeros.
+fn write_first<P: Packs>(
+    packs: &mut P,
+    unit: u8,
+    kind: DriveKind,
+    i: u32,
+    block: u32,
+    copy: bool,
+) -> Result<(), StoreFailed>
+    requires unit { unit < 32 }
+    requires index { i < 126 }
+    ensures { DoesAll P.tells P.held P.faults unit packs.old packs.new result
+        (Block (replacement_at kind i) (first_content copy (P.held packs.old unit).image block) ∷ []) }
+{
+    let mut bytes = [0u8; 512];
+    if copy {
+        packs.read(unit, block, &mut bytes)?;
+    }
+    write_block(packs, unit, replacement(kind, i), &bytes)
+}
+
+/// Writes a text to copy `k` of the table.
+fn write_copy<P: Packs>(
+    packs: &mut P,
+    unit: u8,
+    kind: DriveKind,
+    k: u32,
+    text: &[u8; 512],
+) -> Result<(), StoreFailed>
+    requires unit { unit < 32 }
+    requires copy { k < 5 }
+    ensures { DoesAll P.tells P.held P.faults unit packs.old packs.new result (Block (copy_at kind k) text.now ∷ []) }
+{
+    write_block(packs, unit, copy_block(kind, k), text)
+}
+
+/// Writes a text to the five copies of the table, copy 0 first.
+fn write_to_all<P: Packs>(
+    packs: &mut P,
+    unit: u8,
+    kind: DriveKind,
+    text: &[u8; 512],
+) -> Result<(), StoreFailed>
+    requires { unit < 32 }
+    ensures { DoesAll P.tells P.held P.faults unit packs.old packs.new result (copies kind text.now) }
+{
+    write_copy(packs, unit, kind, 0, text)?;
+    write_copy(packs, unit, kind, 1, text)?;
+    write_copy(packs, unit, kind, 2, text)?;
+    write_copy(packs, unit, kind, 3, text)?;
+    write_copy(packs, unit, kind, 4, text)
+}
+
+/// Writes the five copies of a table, copy 0 first.
+pub(crate) fn write_copies<P: Packs>(
+    packs: &mut P,
+    unit: u8,
+    kind: DriveKind,
+    table: &BadTable,
+) -> Result<(), StoreFailed>
+    requires { unit < 32 }
+    ensures { DoesAll P.tells P.held P.faults unit packs.old packs.new result
+        (copies kind (table_text table.now.serial table.now.places)) }
+{
+    let mut bytes = [0u8; 512];
+    write_table(table, &mut bytes);
+    write_to_all(packs, unit, kind, &bytes)
+}
+
+fn write_mark<P: Packs>(packs: &mut P, unit: u8, block: u32, mark: bool) -> Result<(), StoreFailed>
+    requires { unit < 32 }
+    ensures { DoesAll P.tells P.held P.faults unit packs.old packs.new result (marking mark block) }
+{
+    if !mark {
+        return Ok(());
+    }
+    packs.set_mark(unit, block, true)
+}
+
+/// Does the writes of an edit that lists `block` at index `i` of the table, whose last entry has index `last`.
+fn write_at<P: Packs>(
+    packs: &mut P,
+    unit: u8,
+    kind: DriveKind,
+    block: u32,
+    way: AddWay,
+    table: &BadTable,
+    i: u32,
+    last: u32,
+) -> Result<(), StoreFailed>
+    requires unit { unit < 32 }
+    requires block { block < limit_of kind }
+    requires order { i ≤ last }
+    requires room { last < 126 }
+    ensures { DoesAll P.tells P.held P.faults unit packs.old packs.new result
+        (writes_with kind (P.held packs.old unit).image table.now i (last - i) block way) }
+{
+    move_all(packs, unit, kind, i, last)?;
+    write_first(packs, unit, kind, i, block, way.copy)?;
+    write_copies(packs, unit, kind, table)?;
+    write_mark(packs, unit, block, way.mark)
+}
+
+/// Does the writes of an edit that lists `block` at index `i` of the table.
+pub(crate) fn write_edit<P: Packs>(
+    packs: &mut P,
+    unit: u8,
+    kind: DriveKind,
+    block: u32,
+    way: AddWay,
+    table: &BadTable,
+    i: u8,
+) -> Result<(), StoreFailed>
+    requires unit { unit < 32 }
+    requires block { block < limit_of kind }
+    requires index { i < length table.now.places }
+    ensures { DoesAll P.tells P.held P.faults unit packs.old packs.new result
+        (edit_writes kind (P.held packs.old unit).image table.now i block way) }
+{
+    let last = u32::from(entries(table)) - 1;
+    write_at(packs, unit, kind, block, way, table, u32::from(i), last)
+}

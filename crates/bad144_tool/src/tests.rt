@@ -1,0 +1,84 @@
+use crate::{AddWay, ToolFault, add, fresh, list};
+use mass_outside::mem_packs::{FailCall, MemPacks, PackOp};
+use mass_outside::mem_streams::MemSink;
+use mass_outside::slots::Image;
+use mass_outside::traits::Packs;
+use pack_geometry::{DriveKind, replacement};
+use std::alloc::Global;
+use std::test::Fail;
+
+const WAY: AddWay = AddWay {
+    copy: false,
+    mark: true,
+};
+
+/// Unit 0 with an empty image, of which no copy of a table is there yet.
+fn packs(alloc: Global, fail: Vec<FailCall>) -> Result<MemPacks, Fail> {
+    let mut images = Vec::new(alloc);
+    images.push(Image {
+        unit: 0,
+        bytes: Vec::new(alloc),
+        marks: Vec::new(alloc),
+        blocks: 131_680,
+    })?;
+    Ok(MemPacks::new(alloc, images, fail)?)
+}
+
+/// How many of replacements 1 to 10 of the RM03 hold what the one before held: 1 for replacement 0, and so on.
+fn moved(packs: &mut MemPacks) -> Result<u32, Fail> {
+    let mut count = 0u32;
+    let mut bytes = [0u8; 512];
+    for j in 0..10u32 {
+        packs.read(0, replacement(DriveKind::Rm03, j + 1), &mut bytes)?;
+        if bytes[511] == j as u8 + 1 {
+            count = count.saturating_add(1);
+        }
+    }
+    Ok(count)
+}
+
+/// A table of ten entries, to which a block below them is added while each write fails in turn: the moves up to that
+/// write were done, from the last replacement down, and the block is not marked.
+#[test]
+fn each_write_fails_in_turn(rt: HostRuntime) -> Result<(), Fail> {
+    // each turn makes the table by 5 and 10 times 6 writes, fills 11 replacements, and then adds the block
+    let mut fail = Vec::new(rt.alloc());
+    let mut number = 0u64;
+    for n in 1..=16u64 {
+        number = number.saturating_add(76 + n);
+        fail.push(FailCall {
+            op: PackOp::Write,
+            number,
+        })?;
+    }
+    let mut packs = packs(rt.alloc(), fail)?;
+    for n in 1..=16u64 {
+        assert!(rt; fresh(&mut packs, 0, DriveKind::Rm03, 7).is_ok());
+        for block in 0..10u32 {
+            assert!(rt; add(&mut packs, 0, DriveKind::Rm03, 1000 + block, WAY).is_ok());
+        }
+        for j in 0..11u32 {
+            packs.write(0, replacement(DriveKind::Rm03, j), &[j as u8 + 1; 512])?;
+        }
+        assert!(rt; add(&mut packs, 0, DriveKind::Rm03, 999, WAY) == Err(ToolFault::Store));
+        assert_eq!(rt; moved(&mut packs)?, (n - 1).min(10) as u32, "write {n}");
+        assert!(rt; !packs.marked(0, 999)?);
+    }
+    Ok(())
+}
+
+/// The list of a pack's table, and of a pack whose image ends before its copies.
+#[test]
+fn lists(rt: HostRuntime) -> Result<(), Fail> {
+    let mut packs = packs(rt.alloc(), Vec::new(rt.alloc()))?;
+    let mut out = MemSink::new(rt.alloc(), 200, Vec::new(rt.alloc()))?;
+    assert!(rt; list(&mut packs, 0, DriveKind::Rm03, &mut out).is_ok());
+    assert!(rt; fresh(&mut packs, 0, DriveKind::Rm03, 7).is_ok());
+    assert!(rt; add(&mut packs, 0, DriveKind::Rm03, 1000, WAY).is_ok());
+    assert!(rt; list(&mut packs, 0, DriveKind::Rm03, &mut out).is_ok());
+    assert_eq!(rt;
+        out.taken(),
+        b"no table\nserial 7 entries 1\nentry 0 cylinder 6 track 1 sector 8 block 1000\n".as_slice()
+    );
+    Ok(())
+}
