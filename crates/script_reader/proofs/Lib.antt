@@ -4,6 +4,9 @@ pub mod LineLaws
 pub mod ReaderLaws
 pub mod ReadingLaws
 pub mod PlacesLaws
+pub mod BackLaws
+pub mod FormLaws
 pub mod StoredLaws
+pub mod TextLaws
 pub mod WholeLaws
 pub mod WordLaws

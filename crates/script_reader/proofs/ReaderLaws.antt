@@ -113,7 +113,7 @@ one_is false = refl
 count_more : (p : Numbered → Bool) (lines : List Numbered) (line : Numbered) → sum_by (λ x. cond (p x) 1 0) (lines ++ line ∷ []) ≡ sum_by (λ x. cond (p x) 1 0) lines + one (p line)
 count_more p lines line = sum_by-append (λ x. cond (p x) 1 0) lines (line ∷ []) ∙ ap (λ (k : ℕ). sum_by (λ x. cond (p x) 1 0) lines + k) (one_is (p line))
 
-known_more : (lines : List Numbered) (line : Numbered) (new : Known) → Learns (known_of lines) new line.statement → new ≡ known_of (lines ++ line ∷ [])
+pub known_more : (lines : List Numbered) (line : Numbered) (new : Known) → Learns (known_of lines) new line.statement → new ≡ known_of (lines ++ line ∷ [])
 known_more lines line new l =
     same_known new (known_of (lines ++ line ∷ []))
     (fun_ext _ _ (λ u. l.kinds u ∙ sym (kind_in-more u lines line None)))

@@ -24,7 +24,7 @@ none_named word (x ∷ xs) text none =
     ap (λ (b : Bool). cond b (Some x) (named word xs text)) (not_true (bytes_eq text (word x)) (λ t. none x ((bytes_eq-Decides text (word x)).0 t)))
     ∙ none_named word xs text none
 
-kind_of_word : (kind : DriveKind) → kind_field (kind_word kind) ≡ Ok kind
+pub kind_of_word : (kind : DriveKind) → kind_field (kind_word kind) ≡ Ok kind
 kind_of_word Rp06 = refl
 kind_of_word Rm03 = refl
 kind_of_word Rm05 = refl
@@ -35,7 +35,7 @@ kind_named text kind e = ap kind_field e ∙ kind_of_word kind
 pub no_kind : (text : List ℕ) → ((kind : DriveKind) → text ≢ kind_word kind) → kind_field text ≡ Err Word
 no_kind text none = ap (some_or Word) (none_named kind_word kinds text none)
 
-part_of_word : (part : Part) → part_field (part_word part) ≡ Ok part
+pub part_of_word : (part : Part) → part_field (part_word part) ≡ Ok part
 part_of_word A = refl
 part_of_word B = refl
 part_of_word C = refl

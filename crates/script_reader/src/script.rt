@@ -5,9 +5,11 @@ ghost use Rattle.script_reader.specs.declared.statement.Verb.{Verb};
 ghost use Rattle.script_reader.specs.Data.{IsData};
 ghost use Rattle.script_reader.specs.Fields.{and_then, changed};
 ghost use Rattle.script_reader.specs.Grammar.{entry, line_says, Spells, IsRefused};
-ghost use Rattle.script_reader.specs.Known.{Numbered};
+ghost use Rattle.script_reader.specs.Formed.{AreWell};
+ghost use Rattle.script_reader.specs.Known.{Said, Numbered, known_of};
 ghost use Rattle.script_reader.specs.Knowing.{known_in, Learns, LearnsFrom};
 ghost use Rattle.script_reader.specs.Lines.{lines_of};
+ghost use Rattle.script_reader.specs.Printing.{text_of, numbered};
 ghost use Rattle.script_reader.specs.Reading.{reading, Finds, Refuses};
 ghost use Rattle.script_reader.specs.Stored.{content_by, digits_at, renamed, read_of, seen, lines_in, StoresRead, Stores};
 ghost use Rattle.script_reader.specs.Words.{all_verbs};
@@ -285,4 +287,9 @@ pub fn grammar_law()
     ensures no_fault { (played : List Verb) (bytes : List ℕ) (lines : List Numbered) (count : ℕ) → Spells played bytes lines count → (number : ℕ) (kind : ScriptKind) → ¬ IsRefused played bytes number kind }
     ensures one_fault { (played : List Verb) (bytes : List ℕ) (number other : ℕ) (kind kind_other : ScriptKind) → IsRefused played bytes number kind → IsRefused played bytes other kind_other → (number ≡ other) × (kind ≡ kind_other) }
     ensures some { (played : List Verb) (bytes : List ℕ) → ((lines : List Numbered) × (count : ℕ) × Spells played bytes lines count) ⊎ ((number : ℕ) × (kind : ScriptKind) × IsRefused played bytes number kind) }
+{}
+
+/// The law of printed lines: the text of well-formed statements spells just those, one on each line.
+pub fn read_back_law()
+    ensures { (statements : List Said) → AreWell (known_of {D = List ℕ} {N = List ℕ} []) statements → length statements ≤ 1000000 → length (text_of statements) ≤ 16777216 → Spells all_verbs (text_of statements) (numbered 1 statements) (length statements) }
 {}
