@@ -1,2 +1,5 @@
 pub mod BoundLaws
+pub mod CaseLaws
+pub mod LineLaws
+pub mod ReadyLaws
 pub mod StepLaws

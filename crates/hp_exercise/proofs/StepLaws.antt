@@ -1,5 +1,5 @@
 -- One step of the script.
-use Rattle.std.proofs.Common.{◌≡◌, ℕ, suc, ◌+◌, ◌-◌, ◌<◌, List, [], ◌++◌, refl, sym, ap, ◌∙◌, arith, append_assoc, append-nil}
+use Rattle.std.proofs.Common.{◌≡◌, ℕ, suc, ◌+◌, ◌-◌, ◌<◌, List, ◌++◌, sym, ap, ◌∙◌, arith, append_assoc, append-nil}
 use Rattle.rand_core.specs.Stream.{Stream, next_u64}
 use Rattle.hp_exercise.specs.Exercise.{step_text, steps_text}
 

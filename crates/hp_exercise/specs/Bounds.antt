@@ -1,35 +1,46 @@
--- How large the script of a number is, whatever the words are.
-use Rattle.std.specs.Prelude.{ℕ, zero, suc, ◌+◌, ◌*◌, ◌/◌, ◌%◌, ◌==◌, ◌&&◌, nat_lt, max, not, Bool, true, false, if◌then◌else◌, List, [], ◌∷◌}
-use Rattle.rand_core.specs.Stream.{Stream, next_u64}
-use Rattle.hp_exercise.specs.Exercise.{place_of, count_of, offset_of, times_of, choice_of}
+-- How much the lines of a script ask for.
+use Rattle.std.specs.Prelude.{ℕ, ◌+◌, ◌-◌, ◌*◌, ◌/◌, ◌≤◌, max, Bool, true, false, if◌then◌else◌, List, [], ◌∷◌}
+use Rattle.fire_code.specs.Burst.{IsShortBurst}
+use Rattle.script_reader.specs.Known.{Said, verb_of, requests}
+use Rattle.script_reader.specs.declared.statement.Request.{Request}
+use Rattle.script_reader.specs.declared.statement.Statement.TheVariants as says
+use Rattle.script_reader.specs.declared.statement.Verb.{Verb}
+use Rattle.script_reader.specs.declared.statement.Verb.TheVariants as verbs
 
 -- how many frames of 512 bytes a request takes whose first byte stands at an offset
-abbrev pub frames_of : ℕ → ℕ
-frames_of w = (offset_of w + 512 * count_of w + 511) / 512
+abbrev pub frames_of : Request → ℕ
+frames_of request = (request.offset + 512 * (request.count - 1) + request.last + 511) / 512
 
--- the places of a noise line
-abbrev pub places_of : ℕ → List ℕ
-places_of w = place_of w ∷ (place_of w + 7) ∷ []
+-- what is asked for takes at most 17 frames
+abbrev pub IsNarrow : Said → Type 0
+IsNarrow (says.Read request) = frames_of request ≤ 17
+IsNarrow (says.Write request content) = frames_of request ≤ 17
+IsNarrow statement = Unit {0}
 
--- a step that may ask for blocks, by its number alone, and one that does
-abbrev pub may_ask : ℕ → Bool
-may_ask s = not (s % 256 == 254) && not (s % 64 == 63)
+-- a noise is short
+abbrev pub HasShortNoise : Said → Type 0
+HasShortNoise (says.Noise u block span places) = IsShortBurst places
+HasShortNoise statement = Unit {0}
 
-abbrev pub asks : ℕ → ℕ → Bool
-asks s w = may_ask s && nat_lt (choice_of w) 5
+abbrev pub drains : Verb → Bool
+drains verbs.Drain = true
+drains verb = false
 
 abbrev pub one_more : Bool → ℕ → ℕ
 one_more true n = n + 1
 one_more false n = n
 
--- of so many steps from `s` on, the most requests between two drains, where `since` came since the last one
-unfoldable pub most_asked : ℕ → ℕ → Stream → ℕ → ℕ
-most_asked zero s words since = since
-most_asked (suc n) s words since =
-    if s % 128 == 125 then max since (most_asked n (s + 1) (next_u64 words).1 0)
-    else most_asked n (s + 1) (next_u64 words).1 (one_more (asks s (next_u64 words).0) since)
+-- the most requests between two drains, where `since` came since the last one
+abbrev pub most_asked : ℕ → List Said → ℕ
+most_asked since [] = since
+most_asked since (statement ∷ rest) =
+    if drains (verb_of statement) then max since (most_asked 0 rest) else most_asked (one_more (requests (verb_of statement)) since) rest
 
--- how often all the faults strike that so many steps from `s` on arm
-unfoldable pub armed : ℕ → ℕ → Stream → ℕ
-armed zero s words = 0
-armed (suc n) s words = (if s % 256 == 254 then times_of (next_u64 words).0 else 0) + armed n (s + 1) (next_u64 words).1
+-- how often the faults strike that a line arms, and all lines do
+abbrev pub strikes_of : Said → ℕ
+strikes_of (says.Fault u what times) = times
+strikes_of statement = 0
+
+abbrev pub armed : List Said → ℕ
+armed [] = 0
+armed (statement ∷ rest) = strikes_of statement + armed rest

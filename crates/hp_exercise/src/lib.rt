@@ -4,11 +4,13 @@
 mod draw;
 mod text;
 
-ghost use Rattle.std.specs.Prelude.{◌≡◌, ◌≤◌, ℕ, IfOk};
-ghost use Rattle.fire_code.specs.Burst.{IsShortBurst};
-ghost use Rattle.rand_core.specs.Stream.{Stream};
-ghost use Rattle.hp_exercise.specs.Bounds.{frames_of, places_of, most_asked, armed};
+ghost use Rattle.std.specs.Prelude.{◌≡◌, ◌≤◌, ℕ, All, IfOk};
+ghost use Rattle.hp_exercise.specs.Bounds.{IsNarrow, HasShortNoise, most_asked, armed};
 ghost use Rattle.hp_exercise.specs.Exercise.{head_text, script_text};
+ghost use Rattle.hp_exercise.specs.Statements.{script_statements};
+ghost use Rattle.script_reader.specs.Grammar.{Spells};
+ghost use Rattle.script_reader.specs.Printing.{numbered};
+ghost use Rattle.script_reader.specs.Words.{all_verbs};
 
 use mass_outside::traits::NoMemory;
 use rand_core::{Rng, SeedableRng};
@@ -42,13 +44,18 @@ pub fn script_of(alloc: Global, number: u64) -> Result<Vec<u8>, NoMemory>
     Ok(text)
 }
 
-/// The law of how large such a script is, whatever the words are: between two drains at most 125 requests are asked, each
-/// of at most 17 frames; the faults strike at most 24 times in all; and the two places of a noise are a short burst.
+/// The law of what such a text spells: three units, and then what each step's word chooses, in 2,051 lines.
+pub fn spelling_law()
+    ensures { (number : ℕ) → Spells all_verbs (script_text number) (numbered 1 (script_statements number)) 2051 }
+{}
+
+/// The law of how large such a script is: between two drains at most 125 requests are asked, each of at most 17 frames;
+/// the faults strike at most 24 times in all; and all noise is short.
 pub fn bounds_law()
-    ensures asked { (words : Stream) → most_asked 2048 0 words 0 ≤ 125 }
-    ensures frames { (word : ℕ) → frames_of word ≤ 17 }
-    ensures armed { (words : Stream) → armed 2048 0 words ≤ 24 }
-    ensures short { (word : ℕ) → IsShortBurst (places_of word) }
+    ensures asked { (number : ℕ) → most_asked 0 (script_statements number) ≤ 125 }
+    ensures frames { (number : ℕ) → All IsNarrow (script_statements number) }
+    ensures armed { (number : ℕ) → armed (script_statements number) ≤ 24 }
+    ensures short { (number : ℕ) → All HasShortNoise (script_statements number) }
 {}
 
 #[cfg(test)]
