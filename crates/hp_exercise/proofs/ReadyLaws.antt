@@ -161,9 +161,6 @@ steps_well (suc n) s words known le r =
       steps_well n (s + 1) (next_u64 words).1 (learned known (step_statement s (next_u64 words).0)) next (ready_step known s (next_u64 words).0 r),
     )
 
-nothing : Known
-nothing = known_of {D = List ℕ} {N = List ℕ} []
-
 pub script_well : (number : ℕ) → AreWell (known_of {D = List ℕ} {N = List ℕ} []) (script_statements number)
 script_well number =
     let first : Known = known_of {D = List ℕ} {N = List ℕ} [] in

@@ -384,7 +384,7 @@ line_back known n s le w =
     ∙ entry_back known s w
 
 -- ALL LINES
-learned_more : (lines : List Numbered) (n : ℕ) (s : Said) → learned (known_of lines) s ≡ known_of (lines ++ record { number = n; statement = s } ∷ [])
+pub learned_more : (lines : List Numbered) (n : ℕ) (s : Said) → learned (known_of lines) s ≡ known_of (lines ++ record { number = n; statement = s } ∷ [])
 learned_more lines n s =
     known_more lines (record { number = n; statement = s }) (learned (known_of lines) s)
     (record { kinds = λ u. refl; used = λ id. refl; later = refl; requests = refl; noises = refl })

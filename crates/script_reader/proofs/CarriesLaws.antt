@@ -33,7 +33,7 @@ then_ok (Ok a) f b e = (a, refl, e)
 then_ok (Err x) f b e = absurd (err-ok x b e)
 
 -- a fault that is not there
-if_err : {A : Type 0} (test : Bool) (kind : ScriptKind) (x : Result A ScriptKind) (a : A) → (if test then Err kind else x) ≡ Ok a → x ≡ Ok a
+pub if_err : {A : Type 0} (test : Bool) (kind : ScriptKind) (x : Result A ScriptKind) (a : A) → (if test then Err kind else x) ≡ Ok a → x ≡ Ok a
 if_err true kind x a e = absurd (err-ok kind a e)
 if_err false kind x a e = e
 
@@ -42,10 +42,10 @@ unless_ok (Some kind) x a e = absurd (err-ok kind a e)
 unless_ok None x a e = e
 
 -- FORMS that give only what has a property
-abbrev Gives : {A : Type 0} → (A → Type 0) → Form A → Type 0
+abbrev pub Gives : {A : Type 0} → (A → Type 0) → Form A → Type 0
 Gives {A} P form = (fields : List (List ℕ)) (a : A) (rest : List (List ℕ)) → form fields ≡ Ok (a, rest) → P a
 
-gives_it : {A : Type 0} (P : A → Type 0) (a : A) → P a → Gives P (gives a)
+pub gives_it : {A : Type 0} (P : A → Type 0) (a : A) → P a → Gives P (gives a)
 gives_it {A} P a p fields b rest e = subst P (ap (λ (q : A × List (List ℕ)). q.0) (same_Ok (a, fields) (b, rest) e)) p
 
 gives_next : {A B : Type 0} (P : B → Type 0) (form : Form A) (rest : A → Form B) → ((a : A) → Gives P (rest a)) → Gives P (next form rest)
@@ -180,7 +180,7 @@ verb_carries known verbs.Lock fields p e = gives_next Free (unit_number_form kno
 verb_carries known verbs.Unlock fields p e = gives_next Free (unit_number_form known) _ (λ u. gives_it Free (says.Unlock u) (λ d. tt)) fields p.0 p.1 e (get_or fields 6 [])
 verb_carries known verbs.Drain fields p e = gives_it Free says.Drain (λ d. tt) fields p.0 p.1 e (get_or fields 6 [])
 
-whole_ok : (p : Said × List (List ℕ)) (s : Said) → none_left p ≡ Ok s → p.0 ≡ s
+pub whole_ok : (p : Said × List (List ℕ)) (s : Said) → none_left p ≡ Ok s → p.0 ≡ s
 whole_ok (a, []) s e = same_Ok a s e
 whole_ok (a, text ∷ fields) s e = absurd (err-ok Word s e)
 
@@ -190,10 +190,10 @@ said_carries known verb fields s e =
     let found = then_ok (form_of known verb fields) none_left s few in
     subst (Carries (get_or fields 6 [])) (whole_ok found.0 s found.2) (verb_carries known verb fields found.0 found.1)
 
-same_Some : (x y : Said) → ◌≡◌ {A = Option Said} (Some x) (Some y) → x ≡ y
+pub same_Some : (x y : Said) → ◌≡◌ {A = Option Said} (Some x) (Some y) → x ≡ y
 same_Some x y e = cc
 
-none-some : (y : Said) → ◌≡◌ {A = Option Said} None (Some y) → ⊥
+pub none-some : (y : Said) → ◌≡◌ {A = Option Said} None (Some y) → ⊥
 none-some y e = cc
 
 entry_carries : (played : List Verb) (known : Known) (fields : List (List ℕ)) (s : Said) → entry played known fields ≡ Ok (Some s) → Carries (get_or fields 7 []) s
@@ -203,7 +203,7 @@ entry_carries played known (word ∷ fields) s e =
     let found = then_ok (said known verb.0 fields) (λ x. Ok (Some x)) (Some s) verb.2 in
     subst (Carries (get_or fields 6 [])) (same_Some found.0 s (same_Ok (Some found.0) (Some s) found.2)) (said_carries known verb.0 fields found.0 found.1)
 
-comment : (test : Bool) (x : Result (Option Said) ScriptKind) (s : Said) → (if test then Ok None else x) ≡ Ok (Some s) → x ≡ Ok (Some s)
+pub comment : (test : Bool) (x : Result (Option Said) ScriptKind) (s : Said) → (if test then Ok None else x) ≡ Ok (Some s) → x ≡ Ok (Some s)
 comment true x s e = absurd (none-some s (same_Ok None (Some s) e))
 comment false x s e = e
 

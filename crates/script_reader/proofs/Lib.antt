@@ -8,5 +8,6 @@ pub mod BackLaws
 pub mod FormLaws
 pub mod StoredLaws
 pub mod TextLaws
+pub mod WellLaws
 pub mod WholeLaws
 pub mod WordLaws

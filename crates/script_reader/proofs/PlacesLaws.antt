@@ -69,7 +69,7 @@ noise_true places e = at (is_rising 0 places) refl e
     at true t f = (t, grind (arith, nat_tests))
     at false t f = absurd (cc)
 
-is_noise : (places : List ℕ) → AreSmall places → 0 < length places → are_noise places ≡ true → IsNoise places
+pub is_noise : (places : List ℕ) → AreSmall places → 0 < length places → are_noise places ≡ true → IsNoise places
 is_noise places small some e =
     let both = noise_true places e in record {
       set = record { ascending = rising_increasing 0 places both.0; in_word = all_small places small };

@@ -289,7 +289,9 @@ pub fn grammar_law()
     ensures some { (played : List Verb) (bytes : List ℕ) → ((lines : List Numbered) × (count : ℕ) × Spells played bytes lines count) ⊎ ((number : ℕ) × (kind : ScriptKind) × IsRefused played bytes number kind) }
 {}
 
-/// The law of printed lines: the text of well-formed statements spells just those, one on each line.
+/// The law of printed lines: the text of well-formed statements spells just those, one on each line; and what any text
+/// spells is well formed.
 pub fn read_back_law()
-    ensures { (statements : List Said) → AreWell (known_of {D = List ℕ} {N = List ℕ} []) statements → length statements ≤ 1000000 → length (text_of statements) ≤ 16777216 → Spells all_verbs (text_of statements) (numbered 1 statements) (length statements) }
+    ensures back { (statements : List Said) → AreWell (known_of {D = List ℕ} {N = List ℕ} []) statements → length statements ≤ 1000000 → length (text_of statements) ≤ 16777216 → Spells all_verbs (text_of statements) (numbered 1 statements) (length statements) }
+    ensures well { (played : List Verb) (bytes : List ℕ) (lines : List Numbered) (count : ℕ) → Spells played bytes lines count → AreWell (known_of {D = List ℕ} {N = List ℕ} []) (map (λ line. line.statement) lines) }
 {}
