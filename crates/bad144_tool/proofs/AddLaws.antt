@@ -1,5 +1,5 @@
 -- What adding a block comes to, from what its steps come to.
-use Rattle.std.proofs.Common.{◌≡◌, ℕ, ◌+◌, ◌<◌, ◌≤◌, true, false, IsTrue, List, length, Some, Result, Ok, Err, refl, sym, ap, ◌∙◌, subst, arith}
+use Rattle.std.proofs.Common.{◌≡◌, ℕ, ◌<◌, ◌≤◌, length, Some, Result, Ok, Err, refl, sym, ap, ◌∙◌, subst}
 use Rattle.std.specs.Prelude.{IfErr, IsErrAnd}
 use Rattle.pack_geometry.specs.declared.DriveKind.{DriveKind}
 use Rattle.pack_geometry.specs.declared.Place.{Place}
@@ -9,7 +9,7 @@ use Rattle.pack_model.specs.TableSpelling.{Table}
 use Rattle.bad144_table.specs.declared.table.InsertFault.{InsertFault}
 use Rattle.bad144_table.specs.declared.table.InsertFault.TheVariants as insert_fault
 use Rattle.bad144_table.specs.Inserts.{Inserts, IsNew, IsRefused}
-use Rattle.bad144_tool.specs.Adding.{Adds, AreFree, GoesTo, HasTable, IsFirstMarked, IsFull, IsListed, IsReserved, IsSpare, IsStopped, MayList, Within}
+use Rattle.bad144_tool.specs.Adding.{Adds, AreFree, GoesTo, HasTable, IsFirstMarked, IsStopped, MayList, Within}
 use Rattle.bad144_tool.specs.Changes.{IsCutShort, with_changes}
 use Rattle.bad144_tool.specs.Edit.{edit_writes}
 use Rattle.bad144_tool.specs.Faults.{IsSpareFault, IsWhy, from_insert}

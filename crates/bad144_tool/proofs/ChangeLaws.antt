@@ -1,10 +1,9 @@
 -- Laws of writes that are done one after another.
-use Rattle.std.proofs.Common.{◌≡◌, ℕ, ◌+◌, ◌≤◌, Bool, true, false, IsTrue, List, [], ◌∷◌, ◌++◌, take, length, Result, Ok, Err, IsErr, refl, sym, ap, ◌∙◌, subst, arith}
+use Rattle.std.proofs.Common.{◌≡◌, ℕ, ◌+◌, Bool, true, false, IsTrue, List, [], ◌∷◌, ◌++◌, take, length, Result, Ok, Err, IsErr, refl, sym, ap, ◌∙◌, arith}
 use Rattle.std.proofs.Math.Seq.{take-append-add}
-use Rattle.std.proofs.lemmas.List.{take-append-le, take_min, length-take}
+use Rattle.std.proofs.lemmas.List.{take-append-le, take_min}
 use Rattle.std.specs.Prelude.{min}
 use Rattle.pack_model.specs.Pack.{Pack}
-use Rattle.mass_outside.specs.Causes.{HasCause}
 use Rattle.bad144_tool.specs.Changes.{Change, with_change, with_changes, IsCutShort, DoesAll}
 
 pub with_changes-append : (packs : ℕ → Pack) (unit : ℕ) (xs ys : List Change)

@@ -1,13 +1,12 @@
 -- The writes of an edit leave what later ones read.
-use Rattle.std.proofs.Common.{◌≡◌, ◌≢◌, ℕ, zero, suc, ◌+◌, ◌-◌, ◌<◌, ◌≤◌, Bool, true, false, IsTrue, List, [], ◌∷◌, ◌++◌, length, refl, sym, ap, ◌∙◌, subst, arith, Result, Ok, Err}
+use Rattle.std.proofs.Common.{◌≡◌, ◌≢◌, ℕ, zero, suc, ◌+◌, ◌-◌, ◌<◌, Bool, true, false, List, [], ◌∷◌, ◌++◌, length, refl, sym, ap, ◌∙◌, arith, Result, Ok}
 use Rattle.std.proofs.lemmas.Bool.Decides.{nat_tests}
-use Rattle.std.specs.Prelude.{if◌then◌else◌, ◌==◌, replicate}
 use Rattle.pack_geometry.specs.declared.DriveKind.{DriveKind}
 use Rattle.pack_geometry.specs.declared.DriveKind.TheVariants.{Rp06, Rm03, Rm05}
 use Rattle.pack_geometry.specs.Geometry.{replacement_at, limit_of}
 use Rattle.pack_model.specs.Pack.{Pack, block_at, with_block, with_written}
 use Rattle.pack_model.proofs.PackLaws.{length-block_at, block_at-with_block_other}
-use Rattle.bad144_tool.specs.Changes.{Change, Block, Mark, with_change, with_changes, DoesAll}
+use Rattle.bad144_tool.specs.Changes.{Change, Block, with_changes, DoesAll}
 use Rattle.bad144_tool.specs.Edit.{moves, first_content}
 use Rattle.bad144_tool.proofs.ChangeLaws.{does_then, does_same}
 

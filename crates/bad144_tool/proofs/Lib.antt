@@ -3,3 +3,4 @@ pub mod ChangeLaws
 pub mod EditLaws
 pub mod ListLaws
 pub mod TableEdits
+pub mod RefusalLaws

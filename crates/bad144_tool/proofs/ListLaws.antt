@@ -1,7 +1,7 @@
 -- The lines of a table's entries, one after another.
 use Rattle.std.proofs.Common.{◌≡◌, ℕ, suc, Bool, true, false, IsTrue, Result, Ok, Err, IsErr, ◌+◌, ◌<◌, ◌≤◌, List, [], ◌∷◌, ◌++◌, take, drop, length, get_or, Some, refl, sym, ap, ◌∙◌, subst, arith, append_assoc}
 use Rattle.std.proofs.Math.Seq.{take-append-add, take-suc}
-use Rattle.std.proofs.lemmas.List.{take-append-le, take_min, length-take, length-take-le, take-append-drop}
+use Rattle.std.proofs.lemmas.List.{take-append-le, take_min, length-take-le, take-append-drop}
 use Rattle.std.proofs.lemmas.Option.{get_or_from_slice_get, slice_get_within}
 use Rattle.std.specs.Prelude.{min, slice_get}
 use Rattle.pack_geometry.specs.declared.DriveKind.{DriveKind}

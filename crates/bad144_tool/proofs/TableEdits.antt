@@ -1,22 +1,18 @@
 -- The writes of an edit make the table edit.
-use Rattle.std.proofs.Common.{◌≡◌, ◌≢◌, ℕ, zero, suc, ◌+◌, ◌-◌, ◌<◌, ◌≤◌, Bool, true, false, List, [], ◌∷◌, ◌++◌, length, Some, refl, sym, ap, ◌∙◌, subst, arith}
+use Rattle.std.proofs.Common.{◌≡◌, ◌≢◌, ℕ, zero, suc, ◌+◌, ◌-◌, ◌<◌, ◌≤◌, Bool, true, false, List, [], ◌∷◌, ◌++◌, length, refl, sym, ap, ◌∙◌, subst, arith}
 use Rattle.std.proofs.lemmas.Bool.Decides.{nat_tests}
 use Rattle.std.proofs.lemmas.List.Edits.{length-insert}
-use Rattle.std.specs.Prelude.{if◌then◌else◌, insert, replicate}
+use Rattle.std.specs.Prelude.{if◌then◌else◌, insert}
 use Rattle.pack_geometry.specs.declared.DriveKind.{DriveKind}
 use Rattle.pack_geometry.specs.declared.DriveKind.TheVariants.{Rp06, Rm03, Rm05}
-use Rattle.pack_geometry.specs.declared.Place.{Place}
-use Rattle.pack_geometry.specs.Geometry.{block_count, block_number, copy_at, limit_of, place_at, replacement_at}
-use Rattle.pack_model.specs.Pack.{Pack, block_at, written, with_written, with_mark, with_window}
-use Rattle.pack_model.specs.PackTable.{IsTableOf}
+use Rattle.pack_geometry.specs.Geometry.{block_count, block_number, limit_of, place_at, replacement_at}
+use Rattle.pack_model.specs.Pack.{Pack, block_at, written}
 use Rattle.pack_model.specs.TableSpelling.{Table, IsTable, table_text}
-use Rattle.pack_model.specs.TableEdit.{Edit, IsAddedAt, edited, edited_table, moved_up, replacement_bytes, with_copies, with_mark_at, with_place, zero_block}
-use Rattle.bad144_table.specs.Inserts.{Inserts}
+use Rattle.pack_model.specs.TableEdit.{IsAddedAt, edited, moved_up, with_copies, with_mark_at, with_place, zero_block}
 use Rattle.bad144_tool.specs.Adding.{Adds, MayList, edit_of}
 use Rattle.bad144_tool.specs.Changes.{Change, Block, Mark, with_change, with_changes}
 use Rattle.bad144_tool.specs.Edit.{copies, edit_writes, first_content, marking, moves, writes_with}
 use Rattle.bad144_tool.specs.declared.edit.AddWay.{AddWay}
-use Rattle.bad144_tool.proofs.ChangeLaws.{with_changes-append}
 use Rattle.bad144_tool.proofs.EditLaws.{different_replacements, moves_same}
 use Rattle.pack_model.proofs.PackLaws.{block_at-with_block_other, length-block_at}
 
@@ -94,7 +90,7 @@ writes_are kind pack table new_table i n block way placed count small =
     ∙ ap (λ (bytes : List ℕ). written (moved_up kind pack i (length table.places - i)) (replacement_at kind i) bytes) (content_is way.copy pack.image block)))
 
 -- a block and its place
-number_of_place : (kind : DriveKind) (block : ℕ) → block < block_count kind → block_number kind (place_at kind block) ≡ block
+pub number_of_place : (kind : DriveKind) (block : ℕ) → block < block_count kind → block_number kind (place_at kind block) ≡ block
 number_of_place Rp06 block small = omega arith
 number_of_place Rm03 block small = omega arith
 number_of_place Rm05 block small = omega arith

@@ -1,5 +1,5 @@
 -- What adding a block to the table of a unit's pack comes to.
-use Rattle.std.specs.Prelude.{◌≡◌, ℕ, ◌<◌, ◌≤◌, ◌*◌, true, false, length, Some, None, slice_get, IsTrue}
+use Rattle.std.specs.Prelude.{◌≡◌, ℕ, ◌<◌, ◌≤◌, ◌*◌, true, false, length, Some, None, slice_get}
 use Rattle.pack_geometry.specs.declared.DriveKind.{DriveKind}
 use Rattle.pack_geometry.specs.Geometry.{block_count, limit_of, place_at, replacement_at}
 use Rattle.pack_model.specs.Pack.{Pack, is_marked}

@@ -78,3 +78,14 @@ Leaves kind unit block way old new (Listed i) = new ≡ old
 Leaves kind unit block way old new Full = new ≡ old
 Leaves kind unit block way old new (Spare j) = new ≡ old
 Leaves kind unit block way old new Sink = new ≡ old
+
+-- a refusal, which is no failure of the packs or of the sink
+abbrev pub IsRefusal : ToolFault → Type 0
+IsRefusal (TooLong n) = Unit {0}
+IsRefusal NoTable = Unit {0}
+IsRefusal Reserved = Unit {0}
+IsRefusal (Listed i) = Unit {0}
+IsRefusal Full = Unit {0}
+IsRefusal (Spare j) = Unit {0}
+IsRefusal Store = ⊥
+IsRefusal Sink = ⊥

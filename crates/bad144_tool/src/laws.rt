@@ -3,7 +3,10 @@ ghost use Rattle.pack_geometry.specs.declared.DriveKind.{DriveKind};
 ghost use Rattle.pack_geometry.specs.Geometry.{block_count};
 ghost use Rattle.pack_model.specs.Pack.{Pack};
 ghost use Rattle.pack_model.specs.TableEdit.{IsAddedAt, IsEdited};
-ghost use Rattle.bad144_tool.specs.Adding.{Adds, edit_of};
+ghost use Rattle.pack_model.specs.TableSpelling.{Table};
+ghost use Rattle.bad144_tool.specs.Adding.{Adds, MayList, edit_of};
+ghost use Rattle.bad144_tool.specs.Faults.{IsRefusal, IsWhy};
+ghost use Rattle.bad144_tool.specs.declared.fault.ToolFault.{ToolFault};
 ghost use Rattle.bad144_tool.specs.declared.edit.AddWay.{AddWay};
 
 use pack_model::table_edit_law;
@@ -20,3 +23,15 @@ pub fn add_law()
 {
     table_edit_law();
 }
+
+/// The law of refusals: what a pack holds determines what `add` answers, where the packs don't fail. One refusal at most
+/// has its reason there, and where one has, the block may not be listed at any index. So each refusal comes exactly where
+/// its reason holds.
+pub fn refusal_law()
+    ensures once { (kind : DriveKind) → (pack : Pack) → (block : ℕ) → (f g : ToolFault) → block < block_count kind
+        → IsRefusal f → IsRefusal g → IsWhy kind pack block f → IsWhy kind pack block g → f ≡ g }
+    ensures never_both { (kind : DriveKind) → (pack : Pack) → (block i : ℕ) → (f : ToolFault) → (old new : Table)
+        → block < block_count kind → IsRefusal f → IsWhy kind pack block f → ¬ (MayList kind pack block i old new) }
+    ensures one_index { (kind : DriveKind) → (pack : Pack) → (block i j : ℕ) → (old new other other_new : Table)
+        → block < block_count kind → MayList kind pack block i old new → MayList kind pack block j other other_new → i ≡ j }
+{}

@@ -10,7 +10,7 @@ mod tool;
 
 pub use edit::AddWay;
 pub use fault::ToolFault;
-pub use laws::add_law;
+pub use laws::{add_law, refusal_law};
 pub use tool::{add, fresh, list};
 
 #[cfg(test)]

@@ -2,7 +2,7 @@ use crate::{AddWay, ToolFault, add, fresh, list};
 use mass_outside::mem_packs::{FailCall, MemPacks, PackOp};
 use mass_outside::mem_streams::MemSink;
 use mass_outside::slots::Image;
-use mass_outside::traits::Packs;
+use mass_outside::traits::{Packs, StoreFailed};
 use pack_geometry::{DriveKind, replacement};
 use std::alloc::Global;
 use std::test::Fail;
@@ -81,4 +81,86 @@ fn lists(rt: HostRuntime) -> Result<(), Fail> {
         b"no table\nserial 7 entries 1\nentry 0 cylinder 6 track 1 sector 8 block 1000\n".as_slice()
     );
     Ok(())
+}
+
+/// Packs of which few blocks are written: these are kept with their numbers, and all others are zeros. They don't fail,
+/// and tell nothing.
+#[derive(Drop)]
+struct Sparse {
+    blocks: [u32; 8],
+    bytes: [[u8; 512]; 8],
+    used: usize,
+    marked: u32,
+}
+
+impl Sparse {
+    fn place(&self, block: u32) -> Option<usize> {
+        let used = self.used.min(8);
+        self.blocks[..used].iter().position(|kept| *kept == block)
+    }
+}
+
+impl Packs for Sparse {
+    ghost use Rattle.std.specs.Prelude.{false};
+    ghost use Rattle.pack_model.specs.Pack.{empty_pack};
+
+    ghost tells = { λ _. false };
+
+    ghost held = { λ _ _. empty_pack };
+
+    ghost faults = { λ _. 0 };
+
+    fn length(&mut self, _unit: u8) -> Result<u64, StoreFailed> {
+        Ok(0)
+    }
+
+    fn read(&mut self, _unit: u8, block: u32, into: &mut [u8; 512]) -> Result<(), StoreFailed> {
+        *into = [0; 512];
+        if let Some(at) = self.place(block) {
+            if at < 8 {
+                *into = self.bytes[at];
+            }
+        }
+        Ok(())
+    }
+
+    fn write(&mut self, _unit: u8, block: u32, from: &[u8; 512]) -> Result<(), StoreFailed> {
+        let at = self.place(block).unwrap_or(self.used);
+        if at < 8 {
+            self.blocks[at] = block;
+            self.bytes[at] = *from;
+            self.used = self.used.max(at + 1);
+        }
+        Ok(())
+    }
+
+    fn marked(&mut self, _unit: u8, block: u32) -> Result<bool, StoreFailed> {
+        Ok(self.marked == block)
+    }
+
+    fn set_mark(&mut self, _unit: u8, block: u32, on: bool) -> Result<(), StoreFailed> {
+        if on {
+            self.marked = block;
+        }
+        Ok(())
+    }
+}
+
+/// An RM05's table lies in its last track, and entry 0 names block 1000 by its cylinder, track and sector.
+#[test]
+fn rm05_table(rt: HostRuntime) {
+    let mut packs = Sparse {
+        blocks: [0; 8],
+        bytes: [[0; 512]; 8],
+        used: 0,
+        marked: 0,
+    };
+    assert!(rt; fresh(&mut packs, 0, DriveKind::Rm05, 3).is_ok());
+    assert!(rt; packs.blocks[..5] == [500_352, 500_354, 500_356, 500_358, 500_360]);
+    assert!(rt; add(&mut packs, 0, DriveKind::Rm05, 1000, WAY) == Ok(0));
+    for k in 0..5usize {
+        let bytes = &packs.bytes[k];
+        assert!(rt; bytes[0] == 3 && bytes[8..12] == [0x01, 0x00, 0x08, 0x0c]);
+    }
+    assert!(rt; packs.used == 6 && packs.blocks[5] == 500_351 && packs.marked == 1000);
 }

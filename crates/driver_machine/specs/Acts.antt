@@ -1,7 +1,7 @@
 -- The acts of the driver: where each may come, and what it leaves.
 use Rattle.std.specs.Prelude.{◌≡◌, ◌≢◌, ℕ, ◌+◌, ◌*◌, ◌/◌, ◌<◌, ◌≤◌, Bool, true, false, IsTrue, if◌then◌else◌, List, [], ◌∷◌, ◌++◌, length, drop, slice_set, Some, None}
 use Rattle.pack_geometry.specs.declared.Place.{Place}
-use Rattle.pack_geometry.specs.Geometry.{place_at, limit_of}
+use Rattle.pack_geometry.specs.Geometry.{place_at, limit_of, track_and_sector}
 use Rattle.drive_registers.specs.declared.Function.{Function}
 use Rattle.drive_registers.specs.declared.Function.TheVariants as function
 use Rattle.hardware_table.specs.declared.Moved.{Moved}
@@ -66,7 +66,7 @@ joined p v = record v { queue = v.queue ++ p ∷ [] }
 
 abbrev pub addressed : ℕ → ℕ → ℕ → DriveState → DriveState
 addressed cylinder track sector d =
-    with_register register.Da (track * 256 + sector) (with_register register.Dc cylinder d)
+    with_register register.Da (track_and_sector (record { cylinder = cylinder; track = track; sector = sector })) (with_register register.Dc cylinder d)
 
 abbrev pub searching : ℕ → ℕ → ℕ → UnitView → UnitView
 searching cylinder track sector v =

@@ -84,6 +84,7 @@ mod tests {
         repaired_block(&rt, &mut memory, 1, 0o1, 512, 0, [0x01, 0, 0])?;
         repaired_block(&rt, &mut memory, 1, 0o3777, 512, 0, [0xff, 0x07, 0])?;
         repaired_block(&rt, &mut memory, 8, 0o3777, 512, 0, [0x80, 0xff, 0x03])?;
+        repaired_block(&rt, &mut memory, 1691, 0o401, 512, 211, [0x04, 0x04, 0])?;
         repaired_block(&rt, &mut memory, 4091, 0o2001, 512, 509, [0, 0, 0x04])?;
         repaired_block(&rt, &mut memory, 4096, 0o3777, 512, 509, [0, 0, 0x80])?;
         repaired_block(&rt, &mut memory, 4097, 0o3777, 512, 509, [0, 0, 0])?;

@@ -10,10 +10,10 @@ ghost use Rattle.driver_machine.specs.Acts.{joined, addressed, searching, ready,
 use arrayvec::ArrayVec;
 use bitflags::Flags;
 use drive_model::{Drive, Moved, Register};
-use drive_registers::{Function, Of};
+use drive_registers::{Ds, Function, Of, RM03_TYPE, RP06_TYPE};
 use driver_machine::{Phase, UnitSetup};
 use hardware_table::status_law;
-use pack_geometry::{DriveKind, Place};
+use pack_geometry::{DriveKind, Place, sector_word};
 use seek_engine::{Position, decide};
 use std::marker::Model;
 
@@ -47,15 +47,6 @@ fn attached_drive(setup: UnitSetup) -> Drive
     drive.go(Function::Pack);
     drive.write_register(Register::Of, Of::FMT22.bits());
     drive
-}
-
-/// The word of an address in the register Da.
-fn address_word(track: u32, sector: u32) -> u16
-    requires track { track < 256 }
-    requires sector { sector < 256 }
-    ensures { result ≡ track * 256 + sector }
-{
-    (track * 256 + sector) as u16
 }
 
 impl DiskUnit {
@@ -106,7 +97,7 @@ impl DiskUnit {
         ensures { result ≡ is_positioning self.now.drive.work }
     {
         status_law();
-        self.drive.read_register(Register::Ds) & 0o20000 != 0
+        self.drive.read_register(Register::Ds) & Ds::PIP.bits() != 0
     }
 
     /// Whether the drive's attention is up.
@@ -114,7 +105,7 @@ impl DiskUnit {
         ensures { result ≡ self.now.drive.attention }
     {
         status_law();
-        self.drive.read_register(Register::Ds) & 0o100000 != 0
+        self.drive.read_register(Register::Ds) & Ds::ATA.bits() != 0
     }
 
     /// The kind of the drive.
@@ -122,8 +113,8 @@ impl DiskUnit {
         ensures { result ≡ self.now.drive.kind }
     {
         match self.drive.read_register(Register::Dt) {
-            0o20022 => DriveKind::Rp06,
-            0o20024 => DriveKind::Rm03,
+            RP06_TYPE => DriveKind::Rp06,
+            RM03_TYPE => DriveKind::Rm03,
             _ => DriveKind::Rm05,
         }
     }
@@ -155,9 +146,13 @@ impl DiskUnit {
         requires sector { sector < 256 }
         ensures { self.new ≡ with_drive (addressed cylinder track sector) self.old }
     {
+        let place = Place {
+            cylinder,
+            track,
+            sector,
+        };
         self.drive.write_register(Register::Dc, cylinder as u16);
-        self.drive
-            .write_register(Register::Da, address_word(track, sector));
+        self.drive.write_register(Register::Da, sector_word(place));
     }
 
     /// Issues SEARCH.

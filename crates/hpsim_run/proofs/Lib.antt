@@ -1,1 +1,3 @@
 pub mod LoadLaws
+pub mod ToolLaws
+pub mod WordLaws

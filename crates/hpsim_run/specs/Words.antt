@@ -1,21 +1,17 @@
 -- The words of the command line, and the texts of refusals.
-use Rattle.std.specs.Prelude.{◌≡◌, ◌⊎◌, ℕ, Bool, true, false, List, [], ◌∷◌, ◌++◌, codes, decimal, String}
+use Rattle.std.specs.Prelude.{◌≡◌, ◌⊎◌, ℕ, List, [], ◌∷◌, ◌++◌, Option, map, codes, decimal, String}
 use Rattle.std.specs.declared.alloc.Global.{Global}
-use Rattle.std.specs.Str.{bytes_eq}
 use Rattle.std.specs.String.{string_bytes}
 use Rattle.mass_outside.specs.Causes.{Rose}
 use Rattle.mass_outside.specs.Puts.{TakesFront}
+use Rattle.hpsim_run.specs.declared.words.Command.{Command}
+use Rattle.hpsim_run.specs.Commands.{command_named}
 use Rattle.event_player.specs.declared.script.ScriptKind.{ScriptKind}
 use Rattle.event_player.specs.declared.script.ScriptKind.TheVariants.{Word, TooMany, IdTwice, ScriptLong}
 
--- the words are `play`
-abbrev pub is_play : List (String Global) → Bool
-is_play (word ∷ []) = bytes_eq (string_bytes word) (codes "play")
-is_play words = false
-
--- the words are a command
-abbrev pub is_command : List (String Global) → Bool
-is_command words = is_play words
+-- the command that the words name
+abbrev pub command_of : List (String Global) → Option Command
+command_of words = command_named (map string_bytes words)
 
 unfoldable pub usage_text : List ℕ
 usage_text = codes "usage: hpsim play or bad144 list/add/fresh or exercise N" ++ 10 ∷ []

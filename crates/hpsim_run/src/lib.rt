@@ -6,6 +6,8 @@ mod law;
 mod load;
 mod status;
 mod text;
+mod tools;
+mod words;
 
 pub use command::run;
 pub use law::headline_law;

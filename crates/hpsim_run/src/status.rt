@@ -16,6 +16,10 @@ pub enum Status {
     SinkFailed,
     /// A call of the packs failed.
     PacksFailed,
+    /// An image is longer than its pack.
+    TooLong,
+    /// The tool for bad-sector tables refused what was asked.
+    ToolRefused,
     /// There was no memory.
     OutOfMemory,
 }
@@ -32,6 +36,8 @@ impl Status {
             Status::SourceFailed => 4,
             Status::SinkFailed => 5,
             Status::PacksFailed => 6,
+            Status::TooLong => 7,
+            Status::ToolRefused => 8,
             Status::OutOfMemory => 9,
         }
     }

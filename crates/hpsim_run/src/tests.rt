@@ -274,6 +274,8 @@ fn short_image(rt: HostRuntime) -> Result<(), Fail> {
     Ok(())
 }
 
+const USAGE: &[u8] = b"usage: hpsim play or bad144 list/add/fresh or exercise N\n";
+
 const SCRIPT: &[u8] = b"unit 0 rp06\nwrite 1 0 c 5 1 fill 77\nread 2 0 c 5 1\n";
 
 const TEXT: &[u8] = b"ans 1 at 4 ok\nans 2 at 4 ok\nblk 0 fill 77\n";
@@ -319,11 +321,90 @@ fn failing_calls(rt: HostRuntime) -> Result<(), Fail> {
 
 #[test]
 fn usage(rt: HostRuntime) -> Result<(), Fail> {
-    let usage = b"usage: hpsim play or bad144 list/add/fresh or exercise N\n".as_slice();
     for words in NO_COMMANDS {
         let (status, out) = run_over(rt.alloc(), words, SCRIPT, b"", NONE)?;
         assert_eq!(rt; status, 2);
-        assert_eq!(rt; out.taken(), usage);
+        assert_eq!(rt; out.taken(), USAGE);
     }
+    Ok(())
+}
+
+/// Commands of the tool over one empty RP06, one after another: their words, the status, and what is printed.
+const TOOL: [(&str, u8, &[u8]); 10] = [
+    ("bad144 list 0 rp06", 0, b"no table\n"),
+    ("bad144 add 0 rp06 340670", 2, USAGE),
+    ("bad144 add 0 rp06 1000", 8, b"refused no table\n"),
+    ("bad144 fresh 0 rp06 7", 0, b"serial 7\n"),
+    ("bad144 add 0 rp06 1000", 0, b"entry 0\n"),
+    ("bad144 add 0 rp06 125 copy mark", 0, b"entry 0\n"),
+    (
+        "bad144 list 0 rp06",
+        0,
+        b"serial 7 entries 2\nentry 0 cylinder 0 track 5 sector 15 block 125\nentry 1 cylinder 2 track 7 sector 10 block 1000\n",
+    ),
+    ("bad144 add 0 rp06 125 copy mark", 8, b"refused listed 0\n"),
+    ("bad144 add 0 rp06 340522", 8, b"refused reserved\n"),
+    ("bad144 list 32 rp06", 2, USAGE),
+];
+
+/// The words of a line.
+fn words_of(alloc: Global, line: &str) -> Result<Vec<String>, Fail> {
+    let mut words = Vec::new(alloc);
+    for word in line.split(' ') {
+        words.push(String::from_str(alloc, word)?)?;
+    }
+    Ok(words)
+}
+
+/// Runs a command of the tool, whose source and trace are not to be touched.
+fn tool(alloc: Global, line: &str, packs: &mut MemPacks) -> Result<(u8, MemSink), Fail> {
+    let words = words_of(alloc, line)?;
+    let mut source = MemSource::new(Vec::new(alloc), Vec::new(alloc));
+    let mut out = MemSink::new(alloc, 9000, Vec::new(alloc))?;
+    let mut trace = MemSink::new(alloc, 0, Vec::new(alloc))?;
+    let status = run(
+        alloc,
+        words.as_slice(),
+        &mut source,
+        packs,
+        &mut out,
+        &mut trace,
+    );
+    Ok((status, out))
+}
+
+#[test]
+fn bad144_tool_run(rt: HostRuntime) -> Result<(), Fail> {
+    let mut packs = packs_of(rt.alloc(), b"", b"", NONE.packs)?;
+    for (line, status, text) in TOOL {
+        let (answer, out) = tool(rt.alloc(), line, &mut packs)?;
+        assert_eq!(rt; answer, status, "{line}");
+        assert_eq!(rt; out.taken(), text, "{line}");
+    }
+    let mut bytes = [0u8; 512];
+    for block in [340648, 340650, 340652, 340654, 340656] {
+        packs.read(0, block, &mut bytes)?;
+        for (i, byte) in [
+            7, 0, 0, 0, 0, 0, 0, 0, 0x00, 0x00, 0x0f, 0x05, 0x02, 0x00, 0x0a, 0x07,
+        ]
+        .iter()
+        .enumerate()
+        {
+            assert_eq!(rt; bytes[i], *byte, "byte {i} of block {block}");
+        }
+        assert_eq!(rt; bytes[511], 0xff);
+    }
+    assert!(rt; packs.marked(0, 125)? && !packs.marked(0, 1000)?);
+    packs.set_mark(0, 340645, true)?;
+    let (_, out) = tool(rt.alloc(), "bad144 add 0 rp06 2000", &mut packs)?;
+    assert_eq!(rt; out.taken(), b"refused spare 2\n".as_slice());
+    packs.set_mark(0, 340645, false)?;
+    for block in 0..124u32 {
+        let line = format!(in rt.alloc(); "bad144 add 0 rp06 {}", 3000 + block)?;
+        let (answer, _) = tool(rt.alloc(), line.as_str(), &mut packs)?;
+        assert_eq!(rt; answer, 0, "{block}");
+    }
+    let (_, out) = tool(rt.alloc(), "bad144 add 0 rp06 2000", &mut packs)?;
+    assert_eq!(rt; out.taken(), b"refused full\n".as_slice());
     Ok(())
 }

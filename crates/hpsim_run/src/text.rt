@@ -1,6 +1,8 @@
-ghost use Rattle.std.specs.Prelude.{◌≡◌, ◌≤◌, ◌+◌, ◌++◌, [], length};
+ghost use Rattle.std.specs.Prelude.{◌≡◌, ◌≤◌, ◌+◌, ◌++◌, [], ◌∷◌, decimal, length};
+ghost use Rattle.hpsim_run.specs.Tools.{entry_text, fault_text, serial_text, too_long_text};
 ghost use Rattle.hpsim_run.specs.Words.{refusal_text, usage_text, kind_word, refused_line};
 
+use bad144_tool::ToolFault;
 use event_player::script::ScriptKind;
 use mass_text::{LineBuf, Radix, numeral_law};
 
@@ -51,4 +53,72 @@ pub fn usage() -> LineBuf
     let mut text = LineBuf::new();
     text.put("usage: hpsim play or bad144 list/add/fresh or exercise N\n");
     text
+}
+
+/// Puts a name and a number, and ends the line.
+fn numbered(name: &str, value: u64) -> LineBuf
+    requires { length name.now ≤ 100 }
+    ensures { result ≡ name.now ++ decimal value ++ 10 ∷ [] }
+{
+    numeral_law(Radix::Decimal);
+    let mut text = LineBuf::new();
+    text.put(name);
+    text.put_number(value, Radix::Decimal);
+    text.put("\n");
+    text
+}
+
+/// A text without a number, as a line.
+fn plain(words: &str) -> LineBuf
+    requires { length words.now ≤ 100 }
+    ensures { result ≡ words.now ++ 10 ∷ [] }
+{
+    let mut text = LineBuf::new();
+    text.put(words);
+    text.put("\n");
+    text
+}
+
+/// The text of an image that is longer than its pack: `too long unit U length L`.
+fn too_long(unit: u8, length: u64) -> LineBuf
+    ensures { result ≡ too_long_text unit length }
+{
+    numeral_law(Radix::Decimal);
+    let mut text = LineBuf::new();
+    text.put("too long unit ");
+    text.put_number(u64::from(unit), Radix::Decimal);
+    text.put(" length ");
+    text.put_number(length, Radix::Decimal);
+    text.put("\n");
+    text
+}
+
+/// What is printed of a fault of the tool; nothing where the packs or the sink failed.
+#[tactic(auto, unfolding(crate::specs::Tools::fault_text))]
+pub fn fault_line(unit: u8, fault: &ToolFault) -> LineBuf
+    ensures { result ≡ fault_text unit fault.now }
+{
+    match fault {
+        ToolFault::NoTable => plain("refused no table"),
+        ToolFault::Reserved => plain("refused reserved"),
+        ToolFault::Listed(i) => numbered("refused listed ", u64::from(*i)),
+        ToolFault::Full => plain("refused full"),
+        ToolFault::Spare(j) => numbered("refused spare ", u64::from(*j)),
+        ToolFault::TooLong { length } => too_long(unit, *length),
+        ToolFault::Store | ToolFault::Sink => LineBuf::new(),
+    }
+}
+
+/// The text of an addition: `entry I`.
+pub fn entry_line(i: u8) -> LineBuf
+    ensures { result ≡ entry_text i }
+{
+    numbered("entry ", u64::from(i))
+}
+
+/// The text of a new table: `serial S`.
+pub fn serial_line(serial: u32) -> LineBuf
+    ensures { result ≡ serial_text serial }
+{
+    numbered("serial ", u64::from(serial))
 }

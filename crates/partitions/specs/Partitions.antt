@@ -2,7 +2,7 @@
 use Rattle.std.specs.Prelude.{ℕ, ◌+◌, ◌*◌, ◌==◌, nat_le, if◌then◌else◌}
 use Rattle.pack_geometry.specs.declared.DriveKind.{DriveKind}
 use Rattle.pack_geometry.specs.declared.DriveKind.TheVariants.{Rp06, Rm03, Rm05}
-use Rattle.pack_geometry.specs.Geometry.{tracks_of, sectors_of}
+use Rattle.pack_geometry.specs.Geometry.{tracks_of, sectors_of, limit_of}
 use Rattle.partitions.specs.declared.Part.{Part}
 use Rattle.partitions.specs.declared.Part.TheVariants.{A, B, C, D, E, F, G, H}
 use Rattle.partitions.specs.declared.Admission.{Admission}
@@ -19,11 +19,11 @@ letter_of F = 102
 letter_of G = 103
 letter_of H = 104
 
--- how many blocks a partition has
+-- how many blocks a partition has; `c` is all data blocks
 abbrev pub size_of : DriveKind → Part → ℕ
 size_of Rp06 A = 15884
 size_of Rp06 B = 33440
-size_of Rp06 C = 340522
+size_of Rp06 C = limit_of Rp06
 size_of Rp06 D = 15884
 size_of Rp06 E = 55936
 size_of Rp06 F = 219296
@@ -31,7 +31,7 @@ size_of Rp06 G = 291192
 size_of Rp06 H = 0
 size_of Rm03 A = 15884
 size_of Rm03 B = 33440
-size_of Rm03 C = 131522
+size_of Rm03 C = limit_of Rm03
 size_of Rm03 D = 15884
 size_of Rm03 E = 55936
 size_of Rm03 F = 10080
@@ -39,7 +39,7 @@ size_of Rm03 G = 82080
 size_of Rm03 H = 0
 size_of Rm05 A = 15884
 size_of Rm05 B = 33440
-size_of Rm05 C = 500226
+size_of Rm05 C = limit_of Rm05
 size_of Rm05 D = 0
 size_of Rm05 E = 0
 size_of Rm05 F = 0

@@ -7,7 +7,7 @@ ghost use Rattle.pack_geometry.specs.Geometry.{limit_of};
 ghost use Rattle.partitions.specs.declared.Part.{Part};
 ghost use Rattle.partitions.specs.Partitions.{letter_of, size_of, cylinder_of, first_of, admission};
 
-use pack_geometry::{DriveKind, geometry_of};
+use pack_geometry::{DriveKind, data_limit, geometry_of};
 
 /// A drive's partitions.
 #[derive(Clone, Copy, Debug, PartialEq, Eq)]
@@ -81,7 +81,7 @@ fn rp06_part(part: Part) -> (u32, u32)
     match part {
         Part::A => (0, 15884),
         Part::B => (38, 33440),
-        Part::C => (0, 340522),
+        Part::C => (0, data_limit(DriveKind::Rp06)),
         Part::D => (118, 15884),
         Part::E => (156, 55936),
         Part::F => (290, 219296),
@@ -97,7 +97,7 @@ fn rm03_part(part: Part) -> (u32, u32)
     match part {
         Part::A => (0, 15884),
         Part::B => (100, 33440),
-        Part::C => (0, 131522),
+        Part::C => (0, data_limit(DriveKind::Rm03)),
         Part::D => (309, 15884),
         Part::E => (409, 55936),
         Part::F => (759, 10080),
@@ -113,7 +113,7 @@ fn rm05_part(part: Part) -> (u32, u32)
     match part {
         Part::A => (0, 15884),
         Part::B => (27, 33440),
-        Part::C => (0, 500226),
+        Part::C => (0, data_limit(DriveKind::Rm05)),
         Part::G => (82, 450370),
         Part::D | Part::E | Part::F | Part::H => (0, 0),
     }

@@ -1,4 +1,4 @@
-use Rattle.std.proofs.Common.{◌≡◌, ℕ, subst, ap, Err}
+use Rattle.std.proofs.Common.{ℕ, subst, ap, Err}
 use Rattle.pack_model.specs.Pack.{Pack}
 use Rattle.bad144_tool.specs.Adding.{AreFree, IsFirstMarked}
 use Rattle.bad144_tool.proofs.AddLaws.{at_error, goes_to, may_list, why_refused, why_spare}

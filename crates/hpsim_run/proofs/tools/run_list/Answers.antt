@@ -1,0 +1,13 @@
+use Rattle.std.proofs.Common.{ap, Err, subst}
+use Rattle.bad144_tool.specs.declared.fault.ToolFault.TheVariants as fault
+use Rattle.hpsim_run.specs.Tools.{fault_text}
+use Rattle.hpsim_run.specs.Words.{Told}
+use Rattle.hpsim_run.proofs.ToolLaws.{list_front, list_run, sink_text}
+use Rattle.hpsim_run.proofs.tools.run_list.Goals as goal
+
+pub returns-in-Err-clause-runs : goal.returns-in-Err-clause-runs
+returns-in-Err-clause-runs g c =
+    list_run c.in-Err.fault c.refuse.ensures.status c.in-Err.ensures.faults c.in-Err.ensures.why c.in-Err.ensures.same
+    (λ e told. list_front _ _ (c.in-Err.ensures.front (ap (λ f. Err f) e) told) c.refuse.ensures.never_again (λ t. sink_text _ _ _ _ _ c.in-Err.fault e (c.refuse.ensures.told t)))
+    (λ ne t. subst (λ o. Told (g.O.Sink.taken o) (g.O.Sink.taken c.refuse.new.out) (fault_text c.args.unit c.in-Err.fault) (g.O.Sink.faults o) (g.O.Sink.faults c.refuse.new.out))
+    (c.in-Err.ensures.silent ne) (c.refuse.ensures.told t))
