@@ -307,7 +307,7 @@ def step_proof(moment):
         verdict = 'shown_0_7_14'
     drive = 'tt' if words[0] in ('End', 'Intr', 'Try') else 'refl'
     adapter = {'Transfer': 'refl', 'Sector': '(refl, refl)', 'Intr': 'refl', 'Attn': 'refl'}.get(words[0], 'tt')
-    return (f'record {{ number = refl; turn = refl; service = refl; talk = refl; drive = {drive}; adapter = {adapter}; '
+    return (f'record {{ number = refl; wished = refl; service = refl; talk = refl; drive = {drive}; adapter = {adapter}; '
             f'verdict = {verdict}; at_work = WORK }}')
 
 

@@ -4,9 +4,9 @@ use Rattle.std.specs.Prelude.{◌⊎◌, slice_index}
 use Rattle.std.specs.List.{AllByRecursion}
 use Rattle.std.proofs.lemmas.Bool.{cond-true, cond-false}
 use Rattle.std.proofs.lemmas.List.{length-append}
-use Rattle.disksort.specs.Buckets.{RunView, IsRun, IsLinked, Leads, bucket, turned, appended, behind_appended}
+use Rattle.disksort.specs.Buckets.{RunView, IsRun, IsLinked, Leads, bucket, with_bit, appended, behind_appended}
 use Rattle.disksort.proofs.Chains.{Distinct, leads-frame, leads-more, bucket-none, bucket-same, bucket-is}
-use Rattle.disksort.proofs.Takes.{turned-here, turned-other, here-or}
+use Rattle.disksort.proofs.Takes.{with_bit-here, with_bit-other, here-or}
 
 pub record IsAppended (capacity : ℕ) (run new : RunView) (behind later : List ℕ) (c cylinders n : ℕ) : Type 0 where
   pub own : bucket capacity new later c ≡ bucket capacity run behind c ++ n ∷ []
@@ -108,34 +108,34 @@ append-behind capacity run behind c cylinders n is on lt once other room free =
 
 -- the first of its cylinder
 append-first : (capacity : ℕ) (run : RunView) (behind : List ℕ) (c cylinders n : ℕ) → IsRun capacity run behind cylinders → run.marked c ≡ false → c < cylinders → 1 ≤ capacity
-    → IsAppended capacity run (record { firsts = set run.firsts c n; lasts = set run.lasts c n; marked = turned run.marked c true }) behind behind c cylinders n
+    → IsAppended capacity run (record { firsts = set run.firsts c n; lasts = set run.lasts c n; marked = with_bit run.marked c true }) behind behind c cylinders n
 append-first capacity run behind c cylinders n is off there room =
-    let new : RunView = record { firsts = set run.firsts c n; lasts = set run.lasts c n; marked = turned run.marked c true } in
-    let on : new.marked c ≡ true = turned-here run.marked c true in
+    let new : RunView = record { firsts = set run.firsts c n; lasts = set run.lasts c n; marked = with_bit run.marked c true } in
+    let on : new.marked c ≡ true = with_bit-here run.marked c true in
     let first : slice_index new.firsts c ≡ n = get_or-set_same run.firsts c n 0 (omega (arith, is.firsts)) in
     let last : slice_index new.lasts c ≡ n = get_or-set_same run.lasts c n 0 (omega (arith, is.lasts)) in
     let own : bucket capacity new behind c ≡ n ∷ [] = bucket-is capacity new behind c n [] on (sym first) (sym last) (tt, tt) room in
     let first-other : (i : ℕ) → i ≢ c → slice_index new.firsts i ≡ slice_index run.firsts i = λ i ne. get_or-set_other run.firsts c i n 0 ne in
     let last-other : (i : ℕ) → i ≢ c → slice_index new.lasts i ≡ slice_index run.lasts i = λ i ne. get_or-set_other run.lasts c i n 0 ne in
     let same : (i : ℕ) → i ≢ c → bucket capacity new behind i ≡ bucket capacity run behind i =
-    λ i ne. bucket-same capacity run new behind i (turned-other run.marked c i true ne) (first-other i ne) (last-other i ne) in
+    λ i ne. bucket-same capacity run new behind i (with_bit-other run.marked c i true ne) (first-other i ne) (last-other i ne) in
     record {
       own = own ∙ ap (λ l. l ++ n ∷ []) (sym (bucket-none capacity run behind c off));
       same = same;
       is = record {
         firsts = length-set run.firsts c n ∙ is.firsts;
         lasts = length-set run.lasts c n ∙ is.lasts;
-        inside = λ i m. here-or (i < cylinders) i c (λ e. omega arith) (λ ne. is.inside i (sym (turned-other run.marked c i true ne) ∙ m));
+        inside = λ i m. here-or (i < cylinders) i c (λ e. omega arith) (λ ne. is.inside i (sym (with_bit-other run.marked c i true ne) ∙ m));
         linked = λ i m. here-or (IsLinked behind (bucket capacity new behind i) (slice_index new.firsts i) (slice_index new.lasts i)) i c
             (λ e. subst (λ j. IsLinked behind (bucket capacity new behind j) (slice_index new.firsts j) (slice_index new.lasts j)) (sym e)
             (subst (λ k. IsLinked behind k (slice_index new.firsts c) (slice_index new.lasts c)) (sym own) (sym first, sym last)))
             (λ ne. subst (λ k. IsLinked behind k (slice_index new.firsts i) (slice_index new.lasts i)) (sym (same i ne))
             (subst (λ f. IsLinked behind (bucket capacity run behind i) f (slice_index new.lasts i)) (sym (first-other i ne))
             (subst (λ z. IsLinked behind (bucket capacity run behind i) (slice_index run.firsts i) z) (sym (last-other i ne))
-            (is.linked i (sym (turned-other run.marked c i true ne) ∙ m)))));
+            (is.linked i (sym (with_bit-other run.marked c i true ne) ∙ m)))));
       };
       on = on;
-      marks = λ i m. here-or ((i ≡ c) ⊎ (run.marked i ≡ true)) i c inl (λ ne. inr (sym (turned-other run.marked c i true ne) ∙ m));
+      marks = λ i m. here-or ((i ≡ c) ⊎ (run.marked i ≡ true)) i c inl (λ ne. inr (sym (with_bit-other run.marked c i true ne) ∙ m));
     }
 
 -- the other run
@@ -176,5 +176,5 @@ append-both capacity run other behind c cylinders n is rest there room last free
         ))
     at false off =
         subst (λ r. Both r (behind_appended run behind n c)) (sym (cond-false _ _ _ off))
-        (subst (Both (record { firsts = set run.firsts c n; lasts = set run.lasts c n; marked = turned run.marked c true })) (sym (cond-false _ _ _ off))
+        (subst (Both (record { firsts = set run.firsts c n; lasts = set run.lasts c n; marked = with_bit run.marked c true })) (sym (cond-false _ _ _ off))
         (append-first capacity run behind c cylinders n is off there room, record { same = λ i. refl; is = rest }))

@@ -5,13 +5,13 @@ use Rattle.std.specs.Prelude.{◌==◌, if◌then◌else◌}
 use Rattle.std.specs.Int.{bit_at}
 use Rattle.std.proofs.lemmas.Bool.Decides.{nat_tests}
 use Rattle.std.proofs.lemmas.Nat.Bits.{bit_at-zero}
-use Rattle.disksort.specs.Buckets.{has_bit, turned}
+use Rattle.disksort.specs.Buckets.{has_bit, with_bit}
 
 -- one word written anew, of which one bit alone may have changed
-pub row-turned : (words : List ℕ) (c new : ℕ) (on : Bool) → c / 64 < length words → (bit_at new (c % 64) == 1) ≡ on
+pub row-with_bit : (words : List ℕ) (c new : ℕ) (on : Bool) → c / 64 < length words → (bit_at new (c % 64) == 1) ≡ on
     → ((i : ℕ) → i < 64 → i ≢ c % 64 → bit_at new i ≡ bit_at (get_or words (c / 64) 0) i)
-    → has_bit (set words (c / 64) new) ≡ turned (has_bit words) c on
-row-turned words c new on lt own others = λ i. λ k. at k (k == c) refl i
+    → has_bit (set words (c / 64) new) ≡ with_bit (has_bit words) c on
+row-with_bit words c new on lt own others = λ i. λ k. at k (k == c) refl i
   where
     to_same : (k : ℕ) → (k == c) ≡ true → k ≡ c
     to_same k e = grind (arith, nat_tests)

@@ -140,9 +140,9 @@ kept-left first second behind count capacity cylinders c d kept lowest on =
     (subst Once l.queue kept.once).1 (subst (λ q. IsInOrder cylinder_of (drop 1 q)) l.queue (drop-in_order cylinder_of _ kept.order))
     (λ a b two one. kept.swept a b two (l.marks b one)) (λ none. absurd (not-both (new.marked d) on (none d)))
 
-turned-round : (first second : RunView) (behind : List ℕ) (capacity cylinders : ℕ) → ((c : ℕ) → first.marked c ≡ false)
+runs-swapped : (first second : RunView) (behind : List ℕ) (capacity cylinders : ℕ) → ((c : ℕ) → first.marked c ≡ false)
     → waiting_in second first behind capacity cylinders ≡ waiting_in first second behind capacity cylinders
-turned-round first second behind capacity cylinders none =
+runs-swapped first second behind capacity cylinders none =
     let S : List Waiter = spelled capacity second behind cylinders in
     let F : spelled capacity first behind cylinders ≡ [] = spelled-none capacity first behind cylinders none in
     ap (λ l. S ++ l) F ∙ append-nil S ∙ sym (ap (λ l. l ++ S) F)
@@ -154,7 +154,7 @@ kept-swapped first second behind count capacity cylinders c kept lowest none =
     let l = leaving first second behind count capacity cylinders c kept lowest in
     let new : RunView = without_first first behind c in
     let rest : List Waiter = waiting_in new second behind capacity cylinders in
-    kept-of second new behind (count - 1) capacity cylinders rest (turned-round new second behind capacity cylinders none) kept.second_run l.is kept.numbers kept.small kept.few
+    kept-of second new behind (count - 1) capacity cylinders rest (runs-swapped new second behind capacity cylinders none) kept.second_run l.is kept.numbers kept.small kept.few
     (omega (arith, kept.counted, ap (λ (q : List Waiter). length q) l.queue)) (omega (arith, kept.fits)) (subst (Each (λ w. w.number < capacity)) l.queue kept.inside).1
     (subst Once l.queue kept.once).1 (subst (λ q. IsInOrder cylinder_of (drop 1 q)) l.queue (drop-in_order cylinder_of _ kept.order))
     (λ a b two one. absurd (not-both (new.marked a) two (none a))) (λ h a. none a)
@@ -164,7 +164,7 @@ pub queue-swapped : (first second : RunView) (behind : List ℕ) (count capacity
     → waiting_in second (without_first first behind c) behind capacity cylinders ≡ drop 1 (waiting_in first second behind capacity cylinders)
 queue-swapped first second behind count capacity cylinders c kept lowest none =
     let l = leaving first second behind count capacity cylinders c kept lowest in
-    turned-round (without_first first behind c) second behind capacity cylinders none ∙ sym (ap (drop 1) l.queue)
+    runs-swapped (without_first first behind c) second behind capacity cylinders none ∙ sym (ap (drop 1) l.queue)
 
 -- the same of a run that is known to be the one without its first number, and of exchanged ones
 pub left-kept : (first second new : RunView) (behind : List ℕ) (count capacity cylinders c d : ℕ) → IsKept first second behind count capacity cylinders

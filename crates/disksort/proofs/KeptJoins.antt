@@ -9,7 +9,7 @@ use Rattle.disksort.specs.Buckets.{RunView, IsRun, IsLowest, Once, bucket, at_cy
 use Rattle.disksort.specs.SortQueue.{IsKept, cylinder_of, waiting_in}
 use Rattle.disksort.proofs.Chains.{bucket-none, linked-last}
 use Rattle.disksort.proofs.Spells.{Each, each-front, each-back, above, spell-same, spell-from, spell-until, spell-at, above-at, of_numbers, spell-put}
-use Rattle.disksort.proofs.Onces.{Apart, alone, once-turned, once-queue_with, each-queue_with}
+use Rattle.disksort.proofs.Onces.{Apart, alone, once-swapped, once-queue_with, each-queue_with}
 use Rattle.disksort.proofs.Appends.{IsAppended, IsFramed, IsFree, append-both}
 use Rattle.disksort.proofs.Joins.{join-first, join-second, join-empty}
 use Rattle.disksort.proofs.Kept.{leaving, kept-of, size-at, side, not-both, none-or, spelled-none}
@@ -68,7 +68,7 @@ module _ (capacity : ℕ) (run other : RunView) (behind : List ℕ) (c cylinders
       let whole = alone B (spell O cylinders) c cylinders r.there r.once in
       let size = size-at O cylinders i lt in (
         of_numbers (λ z. l ≢ z) i (O i) (spell-at (λ w. l ≢ w.number) O cylinders i lt (last-apart on (spell O cylinders) whole.rest)),
-        (alone O (spell B cylinders) i cylinders lt (once-turned (spell B cylinders) (spell O cylinders) r.once)).distinct,
+        (alone O (spell B cylinders) i cylinders lt (once-swapped (spell B cylinders) (spell O cylinders) r.once)).distinct,
         omega (arith, size, r.room),
       )
 
@@ -115,7 +115,7 @@ ready-second first second behind count capacity cylinders n c kept lt room absen
       is = kept.second_run;
       rest = kept.first_run;
       numbers = kept.numbers;
-      once = once-turned F S kept.once;
+      once = once-swapped F S kept.once;
       inside = each-back (λ w. w.number < capacity) F S kept.inside;
       absent = each-back (λ w. w.number ≢ n) F S absent;
       room = omega (arith, length-append F S, kept.counted);

@@ -37,12 +37,12 @@ one-more-apart : (x : Waiter) (xs ys : List Waiter) → Each (λ y. x.number ≢
 one-more-apart x xs [] h k = tt
 one-more-apart x xs (y ∷ ys) h k = (((λ e. h.0 (sym e)), k.0), one-more-apart x xs ys h.1 k.1)
 
-pub apart-turned : (xs ys : List Waiter) → Apart xs ys → Apart ys xs
-apart-turned [] ys a = none-apart ys
-apart-turned (x ∷ xs) ys a = one-more-apart x xs ys a.0 (apart-turned xs ys a.1)
+pub apart-swapped : (xs ys : List Waiter) → Apart xs ys → Apart ys xs
+apart-swapped [] ys a = none-apart ys
+apart-swapped (x ∷ xs) ys a = one-more-apart x xs ys a.0 (apart-swapped xs ys a.1)
 
-pub once-turned : (xs ys : List Waiter) → Once (xs ++ ys) → Once (ys ++ xs)
-once-turned xs ys h = once-join ys xs (once-back xs ys h) (once-front xs ys h) (apart-turned xs ys (once-apart xs ys h))
+pub once-swapped : (xs ys : List Waiter) → Once (xs ++ ys) → Once (ys ++ xs)
+once-swapped xs ys h = once-join ys xs (once-back xs ys h) (once-front xs ys h) (apart-swapped xs ys (once-apart xs ys h))
 
 pub once-distinct : (c : ℕ) (ns : List ℕ) → Once (at_cylinder c ns) → Distinct ns
 once-distinct c [] h = tt
@@ -63,7 +63,7 @@ alone B other c k lt h =
     let from : Apart (spell B c ++ (own ++ above B c k)) other = subst (λ l. Apart l other) (spell-split B c k lt) (once-apart (spell B k) other h) in
     record {
       distinct = once-distinct c (B c) (once-front own (above B c k) back);
-      low = apart-turned (spell B c) own (apart-front (spell B c) own (above B c k) (once-apart (spell B c) (own ++ above B c k) run));
+      low = apart-swapped (spell B c) own (apart-front (spell B c) own (above B c k) (once-apart (spell B c) (own ++ above B c k) run));
       high = once-apart own (above B c k) back;
       rest = each-front _ own (above B c k) (each-back _ (spell B c) (own ++ above B c k) from);
     }

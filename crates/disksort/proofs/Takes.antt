@@ -3,7 +3,7 @@ use Rattle.std.proofs.Common.{◌≡◌, ◌≢◌, ℕ, ◌<◌, ◌≤◌, Boo
 use Rattle.std.specs.Prelude.{◌==◌, slice_index}
 use Rattle.std.proofs.lemmas.Bool.{cond-true, cond-false}
 use Rattle.std.proofs.lemmas.Bool.Decides.{nat_tests}
-use Rattle.disksort.specs.Buckets.{RunView, IsRun, IsLinked, Leads, bucket, turned, without_first}
+use Rattle.disksort.specs.Buckets.{RunView, IsRun, IsLinked, Leads, bucket, with_bit, without_first}
 use Rattle.disksort.proofs.Chains.{Distinct, eq_same, eq_other, of_last, bucket-none, bucket-same, bucket-is}
 
 pub record IsTaken (capacity : ℕ) (run new : RunView) (behind : List ℕ) (c cylinders : ℕ) (ns : List ℕ) : Type 0 where
@@ -13,11 +13,11 @@ pub record IsTaken (capacity : ℕ) (run new : RunView) (behind : List ℕ) (c c
   pub is : IsRun capacity new behind cylinders
   pub marks : (i : ℕ) → new.marked i ≡ true → run.marked i ≡ true
 
-pub turned-here : (marked : ℕ → Bool) (c : ℕ) (on : Bool) → turned marked c on c ≡ on
-turned-here marked c on = cond-true _ _ _ (eq_same c c refl)
+pub with_bit-here : (marked : ℕ → Bool) (c : ℕ) (on : Bool) → with_bit marked c on c ≡ on
+with_bit-here marked c on = cond-true _ _ _ (eq_same c c refl)
 
-pub turned-other : (marked : ℕ → Bool) (c i : ℕ) (on : Bool) → i ≢ c → turned marked c on i ≡ marked i
-turned-other marked c i on ne = cond-false _ _ _ (eq_other i c ne)
+pub with_bit-other : (marked : ℕ → Bool) (c i : ℕ) (on : Bool) → i ≢ c → with_bit marked c on i ≡ marked i
+with_bit-other marked c i on ne = cond-false _ _ _ (eq_other i c ne)
 
 -- this cylinder, or another
 pub here-or : (A : Type 0) (i c : ℕ) → (i ≡ c → A) → (i ≢ c → A) → A
@@ -33,24 +33,24 @@ not-both b t f = cc
 -- the only one of its bucket
 taken-one : (capacity : ℕ) (run : RunView) (behind : List ℕ) (c cylinders : ℕ) → IsRun capacity run behind cylinders → run.marked c ≡ true
     → bucket capacity run behind c ≡ slice_index run.firsts c ∷ []
-    → IsTaken capacity run (record run { marked = turned run.marked c false }) behind c cylinders []
+    → IsTaken capacity run (record run { marked = with_bit run.marked c false }) behind c cylinders []
 taken-one capacity run behind c cylinders is on own =
-    let new : RunView = record run { marked = turned run.marked c false } in
+    let new : RunView = record run { marked = with_bit run.marked c false } in
     let same : (i : ℕ) → i ≢ c → bucket capacity new behind i ≡ bucket capacity run behind i =
-    λ i ne. bucket-same capacity run new behind i (turned-other run.marked c i false ne) refl refl in
+    λ i ne. bucket-same capacity run new behind i (with_bit-other run.marked c i false ne) refl refl in
     let marks : (i : ℕ) → new.marked i ≡ true → run.marked i ≡ true =
     λ i m. here-or (run.marked i ≡ true) i c
-    (λ e. absurd (not-both (new.marked i) m (ap new.marked e ∙ turned-here run.marked c false))) (λ ne. sym (turned-other run.marked c i false ne) ∙ m) in
+    (λ e. absurd (not-both (new.marked i) m (ap new.marked e ∙ with_bit-here run.marked c false))) (λ ne. sym (with_bit-other run.marked c i false ne) ∙ m) in
     record {
       own = own;
-      rest = bucket-none capacity new behind c (turned-here run.marked c false);
+      rest = bucket-none capacity new behind c (with_bit-here run.marked c false);
       same = same;
       is = record {
         firsts = is.firsts;
         lasts = is.lasts;
         inside = λ i m. is.inside i (marks i m);
         linked = λ i m. here-or (IsLinked behind (bucket capacity new behind i) (slice_index run.firsts i) (slice_index run.lasts i)) i c
-            (λ e. absurd (not-both (new.marked i) m (ap new.marked e ∙ turned-here run.marked c false)))
+            (λ e. absurd (not-both (new.marked i) m (ap new.marked e ∙ with_bit-here run.marked c false)))
             (λ ne. subst (λ l. IsLinked behind l (slice_index run.firsts i) (slice_index run.lasts i)) (sym (same i ne)) (is.linked i (marks i m)));
       };
       marks = marks;

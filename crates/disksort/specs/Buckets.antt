@@ -15,8 +15,8 @@ abbrev pub has_bit : List ℕ → ℕ → Bool
 has_bit words = λ cylinder. bit_at (slice_index words (cylinder / 64)) (cylinder % 64) == 1
 
 -- the marks, with one that is on or off
-abbrev pub turned : (ℕ → Bool) → ℕ → Bool → ℕ → Bool
-turned marked cylinder on = λ c. if c == cylinder then on else marked c
+abbrev pub with_bit : (ℕ → Bool) → ℕ → Bool → ℕ → Bool
+with_bit marked cylinder on = λ c. if c == cylinder then on else marked c
 
 -- the lowest mark
 pub record IsLowest (marked : ℕ → Bool) (cylinder : ℕ) : Type 0 where
@@ -31,7 +31,7 @@ appended run number cylinder =
     else record {
       firsts = slice_set run.firsts cylinder number;
       lasts = slice_set run.lasts cylinder number;
-      marked = turned run.marked cylinder true;
+      marked = with_bit run.marked cylinder true;
     }
 
 abbrev pub behind_appended : RunView → List ℕ → ℕ → ℕ → List ℕ
@@ -41,7 +41,7 @@ behind_appended run behind number cylinder = if run.marked cylinder then slice_s
 abbrev pub without_first : RunView → List ℕ → ℕ → RunView
 without_first run behind cylinder =
     if slice_index run.firsts cylinder == slice_index run.lasts cylinder
-    then record run { marked = turned run.marked cylinder false }
+    then record run { marked = with_bit run.marked cylinder false }
     else record run { firsts = slice_set run.firsts cylinder (slice_index behind (slice_index run.firsts cylinder)) }
 
 -- from a number on, each next one by the number behind it, up to the last one, and at most so many

@@ -1,6 +1,6 @@
 // A row of bits in words of 64: one bit for each cylinder.
 ghost use Rattle.std.specs.Prelude.{◌≡◌, ◌+◌, ◌*◌, ◌<◌, ◌≤◌, ◌==◌, ℕ, Bool, true, false, if◌then◌else◌, length, IfSome, IfNone};
-ghost use Rattle.disksort.specs.Buckets.{has_bit, turned};
+ghost use Rattle.disksort.specs.Buckets.{has_bit, with_bit};
 
 /// Whether a cylinder's bit is on.
 pub(crate) fn is_on(words: &[u64], cylinder: u32) -> bool
@@ -11,18 +11,18 @@ pub(crate) fn is_on(words: &[u64], cylinder: u32) -> bool
     (word >> (cylinder % 64)) & 1 == 1
 }
 
-/// Turns a cylinder's bit on.
-pub(crate) fn turn_on(words: &mut [u64], cylinder: u32)
+/// Sets the bit of a cylinder.
+pub(crate) fn set_bit(words: &mut [u64], cylinder: u32)
     requires { cylinder < 64 * length words.old }
-    ensures { has_bit words.new ≡ turned (has_bit words.old) cylinder true }
+    ensures { has_bit words.new ≡ with_bit (has_bit words.old) cylinder true }
 {
     words[(cylinder / 64) as usize] |= 1 << (cylinder % 64);
 }
 
-/// Turns a cylinder's bit off.
-pub(crate) fn turn_off(words: &mut [u64], cylinder: u32)
+/// Clears the bit of a cylinder.
+pub(crate) fn clear_bit(words: &mut [u64], cylinder: u32)
     requires { cylinder < 64 * length words.old }
-    ensures { has_bit words.new ≡ turned (has_bit words.old) cylinder false }
+    ensures { has_bit words.new ≡ with_bit (has_bit words.old) cylinder false }
 {
     words[(cylinder / 64) as usize] &= !(1 << (cylinder % 64));
 }

@@ -2,10 +2,10 @@
 ghost use Rattle.std.specs.Prelude.{◌≡◌, ◌≢◌, ◌+◌, ◌<◌, ◌≤◌, ℕ, true, false, length, slice_get, slice_index, slice_set, IfOk, IfErr, IfSome, IfNone, Some};
 ghost use Rattle.std.specs.List.{AllByRecursion};
 ghost use Rattle.disksort.specs.Runs.{seen};
-ghost use Rattle.disksort.specs.Buckets.{RunView, IsRun, IsLinked, IsLowest, chain, bucket, spelled, turned, appended, behind_appended, without_first};
+ghost use Rattle.disksort.specs.Buckets.{RunView, IsRun, IsLinked, IsLowest, chain, bucket, spelled, with_bit, appended, behind_appended, without_first};
 
 use crate::Waiter;
-use crate::row::{is_on, lowest, turn_off, turn_on};
+use crate::row::{clear_bit, is_on, lowest, set_bit};
 use mass_outside::traits::NoMemory;
 use std::alloc::Global;
 use std::mem::swap;
@@ -100,7 +100,7 @@ impl Run {
         }
         self.firsts[at] = number;
         self.lasts[at] = number;
-        turn_on(&mut self.words, cylinder);
+        set_bit(&mut self.words, cylinder);
     }
 
     /// Takes out the first number of a cylinder at which one waits.
@@ -115,7 +115,7 @@ impl Run {
         let at = cylinder as usize;
         let number = self.firsts[at];
         if number == self.lasts[at] {
-            turn_off(&mut self.words, cylinder);
+            clear_bit(&mut self.words, cylinder);
             return number;
         }
         self.firsts[at] = behind[number as usize];

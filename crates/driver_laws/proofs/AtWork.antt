@@ -19,7 +19,7 @@ use Rattle.driver_machine.specs.World.{UnitView, AdapterView, World, no_unit, ne
 use Rattle.driver_machine.specs.Acts
 use Rattle.driver_machine.specs.Acts.{Act, Tried, Allowed, after, position_of, target_of, joined, searching, ready, with_drive, attended, transferring, interrupted, cleared, ended, waits_too, with_state, commanded}
 use Rattle.driver_machine.specs.Does.{Run, after_all}
-use Rattle.driver_machine.specs.Events.{start_by, start_of, start_acts, and_then, command_of, turn_of, turn_acts, restart_of, restart_acts, submit_acts, arrive_of, sector_of, move_of, ending, clear_of, returned, end_acts, finish_head, finish_of, finish_acts, attn_of, attn_one, attn_acts, taken_acts, or_nothing, attend_acts, event_acts, IsThere}
+use Rattle.driver_machine.specs.Events.{start_by, start_of, start_acts, and_then, command_of, adapter_start_of, adapter_start_acts, restart_of, restart_acts, submit_acts, arrive_of, sector_of, move_of, ending, clear_of, returned, end_acts, finish_head, finish_of, finish_acts, attn_of, attn_one, attn_acts, taken_acts, or_nothing, attend_acts, event_acts, IsThere}
 use Rattle.driver_machine.specs.Sound.{Among, HasHead, Sound, WorkOf, AtWork}
 use Rattle.driver_laws.proofs.Does.{after_all-append, Run-split, run_keeps}
 use Rattle.driver_laws.proofs.Each.{Each, EachBut, but_one, but_set, each_here, each_set, units_after, units_after_all}
@@ -82,8 +82,8 @@ going_start w line u a there own going waits = by_queue (unit_at w u).queue refl
     by_queue (p ∷ rest) e = by_position p (position_of (unit_at w u) (held_in w p)) refl
 
 -- ADAPTER START.
-pub work_turn : (w : World) (line a : ℕ) → a < 4 → Sound w → Going w a → AtWork (after_all w (turn_acts line a w))
-work_turn w line a lt sound going = by_busy (adapter_at w a).state.busy refl
+pub work_adapter_start : (w : World) (line a : ℕ) → a < 4 → Sound w → Going w a → AtWork (after_all w (adapter_start_acts line a w))
+work_adapter_start w line a lt sound going = by_busy (adapter_at w a).state.busy refl
   where
     by_unit : (u : ℕ) (q : List ℕ) → u < 32 → adapter_of u ≡ a → (unit_at w u).phase ≡ Queued → (unit_at w u).queue ≡ q → AtWork (after_all w (command_of q line u w))
     by_unit u [] small own queued e = absurd (subst HasHead e (phase_is w u Queued sound small queued).0)
@@ -96,7 +96,7 @@ work_turn w line a lt sound going = by_busy (adapter_at w a).state.busy refl
           adapters = each_set Serves new_adapter_view 4 w.adapters (adapter_of u) (commanded (drive_of u) (held_in w p) (adapter_for w u)) there others (λ free. absurd (cc (free)));
         }
 
-    by_queue : (q : List ℕ) → (adapter_at w a).queue ≡ q → AtWork (after_all w (turn_of false q line w))
+    by_queue : (q : List ℕ) → (adapter_at w a).queue ≡ q → AtWork (after_all w (adapter_start_of false q line w))
     by_queue [] e = record {
       units = going.units;
       adapters = each_here Serves new_adapter_view 4 w.adapters a going.adapters (λ free. e);
@@ -105,7 +105,7 @@ work_turn w line a lt sound going = by_busy (adapter_at w a).state.busy refl
         let waits = (sound.each_adapter a lt).waits u (subst (Among u) (sym e) (inl refl)) in
         by_unit u (unit_at w u).queue waits.0 waits.1 waits.2 refl
 
-    by_busy : (b : Bool) → (adapter_at w a).state.busy ≡ b → AtWork (after_all w (turn_of b (adapter_at w a).queue line w))
+    by_busy : (b : Bool) → (adapter_at w a).state.busy ≡ b → AtWork (after_all w (adapter_start_of b (adapter_at w a).queue line w))
     by_busy true e = record {
       units = going.units;
       adapters = each_here Serves new_adapter_view 4 w.adapters a going.adapters (λ free. absurd (cc (e, free)));
@@ -123,10 +123,10 @@ run_and_then next w acts run = Run-split w acts (next (after_all w acts)) run
 abbrev pub SoundAfter : Type 0
 SoundAfter = (w : World) (act : Act) → Sound w → Allowed w act → Sound (after w act)
 
-work_then_turn : SoundAfter → (w : World) (line a : ℕ) (acts : List Act) → a < 4 → Sound w → Run w acts → Going (after_all w acts) a
-    → AtWork (after_all w (and_then (turn_acts line a) w acts))
-work_then_turn keeps w line a acts lt sound run going =
-    subst AtWork (sym (after_and_then (turn_acts line a) w acts)) (work_turn (after_all w acts) line a lt (run_keeps Sound keeps w acts sound run) going)
+work_then_adapter_start : SoundAfter → (w : World) (line a : ℕ) (acts : List Act) → a < 4 → Sound w → Run w acts → Going (after_all w acts) a
+    → AtWork (after_all w (and_then (adapter_start_acts line a) w acts))
+work_then_adapter_start keeps w line a acts lt sound run going =
+    subst AtWork (sym (after_and_then (adapter_start_acts line a) w acts)) (work_adapter_start (after_all w acts) line a lt (run_keeps Sound keeps w acts sound run) going)
 
 -- SUBMISSION.
 module _ (w : World) (line p : ℕ) (h : Held) (sound : Sound w) (work : AtWork w) (small : h.unit < 32) where
@@ -168,9 +168,9 @@ module _ (w : World) (line p : ℕ) (h : Held) (sound : Sound w) (work : AtWork 
 pub work_submit : SoundAfter → (w : World) (line p : ℕ) (h : Held) → Sound w → AtWork w → Run w (submit_acts line p h w) → AtWork (after_all w (submit_acts line p h w))
 work_submit keeps w line p h sound work run =
     let first = and_then (restart_acts line h.unit) w (Acts.Submit line p h ∷ []) in
-    let parts = run_and_then (turn_acts line (adapter_of h.unit)) w first run in
+    let parts = run_and_then (adapter_start_acts line (adapter_of h.unit)) w first run in
     let small : h.unit < 32 = parts.0.0.unit in
-    work_then_turn keeps w line (adapter_of h.unit) first (adapter_of-small h.unit small) sound parts.0 (going_submit w line p h sound work small)
+    work_then_adapter_start keeps w line (adapter_of h.unit) first (adapter_of-small h.unit small) sound parts.0 (going_submit w line p h sound work small)
 
 -- THE DATA INTERRUPT.
 module _ (w : World) (line u p a : ℕ) (h : Held) (there : u < length w.units) (own : adapter_of u ≡ a) (going : GoingBut w u a) where
@@ -283,9 +283,9 @@ work_attend : SoundAfter → (w : World) (line a : ℕ) → a < 4 → Sound w �
 work_attend keeps w line a lt sound work run =
     let acts = taken_acts line a w in
     let first = and_then (attn_acts 8 line a) w (finish_acts line a w) in
-    let parts = run_and_then (turn_acts line a) w first (or_nothing_run w line acts run) in
+    let parts = run_and_then (adapter_start_acts line a) w first (or_nothing_run w line acts run) in
     subst AtWork (sym (or_nothing_world w line acts))
-    (work_then_turn keeps w line a first lt sound parts.0 (going_served keeps w line a lt sound (going_from w a work) parts.0))
+    (work_then_adapter_start keeps w line a first lt sound parts.0 (going_served keeps w line a lt sound (going_from w a work) parts.0))
 
 -- ARRIVE AND MOVE. Neither changes where a unit is with its queue.
 stepped_busy : (m : Moved) (a : AdapterState) → (stepped m a).busy ≡ a.busy

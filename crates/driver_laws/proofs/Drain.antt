@@ -14,7 +14,7 @@ use Rattle.driver_machine.specs.Places.{Held, count_of, slot_at}
 use Rattle.driver_machine.specs.World.{UnitView, World, no_unit, unit_on, unit_of, unit_at, adapter_at, held_in}
 use Rattle.driver_machine.specs.Acts.{Act, Tried, after, position_of, target_of, attended}
 use Rattle.driver_machine.specs.Does.{Run, after_all}
-use Rattle.driver_machine.specs.Events.{start_by, start_of, start_acts, and_then, command_of, turn_of, turn_acts, arrive_of, sector_of, move_of, clear_of, returned, end_acts, finish_head, finish_of, finish_acts, attn_of, attn_one, attn_acts, taken_acts, or_nothing, attend_acts, event_acts, next_of}
+use Rattle.driver_machine.specs.Events.{start_by, start_of, start_acts, and_then, command_of, adapter_start_of, adapter_start_acts, arrive_of, sector_of, move_of, clear_of, returned, end_acts, finish_head, finish_of, finish_acts, attn_of, attn_one, attn_acts, taken_acts, or_nothing, attend_acts, event_acts, next_of}
 use Rattle.driver_machine.specs.Sound.{HasHead, Sound}
 use Rattle.driver_machine.specs.Measure.{left_by, left_of, left_at, blocks_of, blocks_outstanding, work_left}
 use Rattle.driver_laws.proofs.AtWork.{SoundAfter, after_and_then}
@@ -60,14 +60,14 @@ asks_start line u w = by_queue (unit_at w u).queue
     by_queue [] = tt
     by_queue (p ∷ rest) = by_position (position_of (unit_at w u) (held_in w p)) p (held_in w p) (target_of (unit_at w u) (held_in w p)).track
 
-asks_turn : (line a : ℕ) (w : World) → AskNothing (turn_acts line a w)
-asks_turn line a w = by_busy (adapter_at w a).state.busy (adapter_at w a).queue
+asks_adapter_start : (line a : ℕ) (w : World) → AskNothing (adapter_start_acts line a w)
+asks_adapter_start line a w = by_busy (adapter_at w a).state.busy (adapter_at w a).queue
   where
     by_unit : (q : List ℕ) (u : ℕ) → AskNothing (command_of q line u w)
     by_unit [] u = tt
     by_unit (p ∷ rest) u = (tt, tt)
 
-    by_busy : (b : Bool) (q : List ℕ) → AskNothing (turn_of b q line w)
+    by_busy : (b : Bool) (q : List ℕ) → AskNothing (adapter_start_of b q line w)
     by_busy true q = tt
     by_busy false [] = tt
     by_busy false (u ∷ rest) = by_unit (unit_at w u).queue u
@@ -115,9 +115,9 @@ asks_taken line a w =
     let first = finish_acts line a w in
     let mid = after_all w first in
     let both = and_then (attn_acts 8 line a) w first in
-    AskNothing-append both (turn_acts line a (after_all w both))
+    AskNothing-append both (adapter_start_acts line a (after_all w both))
     (AskNothing-append first (attn_acts 8 line a mid) (asks_finish line a w) (asks_attns 8 line a mid))
-    (asks_turn line a (after_all w both))
+    (asks_adapter_start line a (after_all w both))
 
 asks_or_nothing : (line : ℕ) (acts : List Act) → AskNothing acts → AskNothing (or_nothing line acts)
 asks_or_nothing line [] asks = (tt, tt)
@@ -221,7 +221,7 @@ attend_first w line a h =
     let first = finish_acts line a w in
     let both = and_then (attn_acts 8 line a) w first in
     let one = falls-append first (attn_acts 8 line a (after_all w first)) in
-    let two = falls-append both (turn_acts line a (after_all w both)) in
+    let two = falls-append both (adapter_start_acts line a (after_all w both)) in
     let three = or_nothing_falls line (taken_acts line a w) in
     omega arith
 
@@ -229,7 +229,7 @@ attend_second : (w : World) (line a : ℕ) → finish_acts line a w ≡ [] → 1
 attend_second w line a none h =
     let both = and_then (attn_acts 8 line a) w (finish_acts line a w) in
     let same : falls both ≡ falls (attn_acts 8 line a w) = ap (λ acts. falls (and_then (attn_acts 8 line a) w acts)) none in
-    let two = falls-append both (turn_acts line a (after_all w both)) in
+    let two = falls-append both (adapter_start_acts line a (after_all w both)) in
     let three = or_nothing_falls line (taken_acts line a w) in
     omega arith
 

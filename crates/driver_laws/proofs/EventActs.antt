@@ -12,7 +12,7 @@ use Rattle.driver_machine.specs.World.{AdapterView, World, adapter_of, drive_of,
 use Rattle.driver_machine.specs.Acts
 use Rattle.driver_machine.specs.Acts.{Act, Deed, Tried, Allowed, May, InHand, IsBusyFor, position_of, target_of}
 use Rattle.driver_machine.specs.Does.{Does, Quiet}
-use Rattle.driver_machine.specs.Events.{start_acts, start_of, start_by, turn_acts, turn_of, command_of, arrive_acts, arrive_of, move_acts, move_of, attn_one, attn_of, finish_acts, finish_of, finish_head, end_acts, and_then, or_nothing}
+use Rattle.driver_machine.specs.Events.{start_acts, start_of, start_by, adapter_start_acts, adapter_start_of, command_of, arrive_acts, arrive_of, move_acts, move_of, attn_one, attn_of, finish_acts, finish_of, finish_head, end_acts, and_then, or_nothing}
 use Rattle.driver_machine.specs.Due.{BusyFor}
 use Rattle.driver_machine.specs.Sound.{Among, IsStill, AdapterOk, Sound}
 use Rattle.driver_laws.proofs.SoundFacts.{phase_is, in_hand, in_hand_is, in_hand_ok, block_small, transfers_at, transfer_of, under_way, next_small}
@@ -68,12 +68,12 @@ positioning_queued v a b = cc
 
 -- ADAPTER START.
 
-turn_free : (line a : ℕ) (w : World) (queue : List ℕ) → (adapter_at w a).state.busy ≡ false → (adapter_at w a).queue ≡ queue → turn_acts line a w ≡ turn_of false queue line w
-turn_free line a w queue e q = ap (λ (b : Bool). turn_of b (adapter_at w a).queue line w) e ∙ ap (λ (xs : List ℕ). turn_of false xs line w) q
+adapter_start_free : (line a : ℕ) (w : World) (queue : List ℕ) → (adapter_at w a).state.busy ≡ false → (adapter_at w a).queue ≡ queue → adapter_start_acts line a w ≡ adapter_start_of false queue line w
+adapter_start_free line a w queue e q = ap (λ (b : Bool). adapter_start_of b (adapter_at w a).queue line w) e ∙ ap (λ (xs : List ℕ). adapter_start_of false xs line w) q
 
-pub turn_command : (line a u p : ℕ) (w : World) → (adapter_at w a).state.busy ≡ false → (adapter_at w a).queue ≡ u ∷ drop 1 (adapter_at w a).queue
-    → (unit_at w u).queue ≡ p ∷ drop 1 (unit_at w u).queue → turn_acts line a w ≡ Acts.Of line u p (held_in w p) Acts.Command ∷ []
-turn_command line a u p w e q n = turn_free line a w (u ∷ drop 1 (adapter_at w a).queue) e q ∙ ap (λ (xs : List ℕ). command_of xs line u w) n
+pub adapter_start_command : (line a u p : ℕ) (w : World) → (adapter_at w a).state.busy ≡ false → (adapter_at w a).queue ≡ u ∷ drop 1 (adapter_at w a).queue
+    → (unit_at w u).queue ≡ p ∷ drop 1 (unit_at w u).queue → adapter_start_acts line a w ≡ Acts.Of line u p (held_in w p) Acts.Command ∷ []
+adapter_start_command line a u p w e q n = adapter_start_free line a w (u ∷ drop 1 (adapter_at w a).queue) e q ∙ ap (λ (xs : List ℕ). command_of xs line u w) n
 
 -- the first unit that waits for an adapter
 pub record FirstWaiting (w : World) (a u : ℕ) : Type 0 where

@@ -9,7 +9,7 @@ use Rattle.pack_geometry.specs.declared.DriveKind.TheVariants.{Rp06}
 use Rattle.trace_rules.specs.ServiceRule.{service_rule, no_requests}
 use Rattle.trace_rules.specs.DriveRule.{attached, drive_rule, attached_drives}
 use Rattle.trace_rules.specs.AdapterRule.{adapter_rule, new_adapters}
-use Rattle.trace_rules.specs.ProtocolRule.{protocol_rule, first_turns}
+use Rattle.trace_rules.specs.ProtocolRule.{protocol_rule, first_talks}
 use Rattle.trace_rules.specs.Obeys.{Obeys}
 use Rattle.driver_machine.specs.declared.UnitSetup.{UnitSetup}
 use Rattle.driver_machine.specs.declared.Phase.TheVariants.{Waiting, Transferring}
@@ -24,7 +24,7 @@ use Rattle.driver_laws.proofs.RulesRequests.{asked_all}
 use Rattle.driver_laws.proofs.RulesService.{InService, service_kept}
 use Rattle.driver_laws.proofs.RulesAdapter.{IsShown, adapter_kept}
 use Rattle.driver_laws.proofs.RulesDrive.{ByDrive, drive_kept}
-use Rattle.driver_laws.proofs.RulesProtocol.{ByTurn, turn_kept}
+use Rattle.driver_laws.proofs.RulesProtocol.{ByTalk, talk_kept}
 use Rattle.driver_laws.proofs.SoundNew.{new_idle, new_free}
 
 -- AT THE START the drive of a unit that is set up is attached.
@@ -72,8 +72,8 @@ module _ (setups : List UnitSetup) (outstanding noises : ℕ) where
     left = λ e down. absurd (let f : Waiting ≡ Transferring = sym (new_idle setups outstanding noises x).phase ∙ e in cc f);
   }
 
-  turns_start : (x : ℕ) → ByTurn w x (first_turns (drives_set_up setups) x)
-  turns_start x = record { seen = drives_start x; stage = rw (new_idle setups outstanding noises x).phase refl }
+  talks_start : (x : ℕ) → ByTalk w x (first_talks (drives_set_up setups) x)
+  talks_start x = record { seen = drives_start x; stage = rw (new_idle setups outstanding noises x).phase refl }
 
   adapters_start : (a : ℕ) → IsShown w a (new_adapters a)
   adapters_start a = rw (new_free setups outstanding noises a) refl
@@ -85,5 +85,5 @@ module _ (setups : List UnitSetup) (outstanding noises : ℕ) where
     service = rule_holds service_rule InService service_kept sound_after w no_requests acts sound run service_starts;
     each_drive = rule_holds drive_rule ByDrive drive_kept sound_after w (attached_drives (drives_set_up setups)) acts sound run drives_start;
     each_adapter = rule_holds adapter_rule IsShown adapter_kept sound_after w new_adapters acts sound run adapters_start;
-    protocol = rule_holds protocol_rule ByTurn turn_kept sound_after w (first_turns (drives_set_up setups)) acts sound run turns_start;
+    protocol = rule_holds protocol_rule ByTalk talk_kept sound_after w (first_talks (drives_set_up setups)) acts sound run talks_start;
   }

@@ -16,8 +16,8 @@ use Rattle.subsystem_spec.specs.Request.{Request}
 use Rattle.trace_rules.specs.Rule.{own}
 use Rattle.trace_rules.specs.Trace as trace
 use Rattle.trace_rules.specs.DriveRule.{DriveSeen, addressed, search_place, IsTaken, DriveMay, drive_told, drive_asked, is_last}
-use Rattle.trace_rules.specs.ProtocolRule.{Stage, Turn, begun, IsWhole, IsSeen, TurnMay, stage_moved, stage_interrupted, stage_after, turn_told, stage_asked, turn_asked, protocol_rule}
-use Rattle.trace_rules.specs.ProtocolRule as turn
+use Rattle.trace_rules.specs.ProtocolRule.{Stage, Talk, begun, IsWhole, IsSeen, TalkMay, stage_moved, stage_interrupted, stage_after, talk_told, stage_asked, talk_asked, protocol_rule}
+use Rattle.trace_rules.specs.ProtocolRule as stages
 use Rattle.driver_machine.specs.declared.AnswerKind.{AnswerKind}
 use Rattle.driver_machine.specs.declared.Phase.{Phase}
 use Rattle.driver_machine.specs.declared.Phase.TheVariants.{Waiting, Positioning, Queued, Transferring, Interrupted}
@@ -42,23 +42,23 @@ is_clean verdict.Clean = true
 is_clean _ = false
 
 abbrev pub stage_moving : Bool → Bool → AdapterState → Stage
-stage_moving false clean a = turn.Moving (a.block + a.moved) (a.count - a.moved)
-stage_moving true true a = turn.Moving (a.block + a.moved) 0
-stage_moving true false a = turn.Stopped
+stage_moving false clean a = stages.Moving (a.block + a.moved) (a.count - a.moved)
+stage_moving true true a = stages.Moving (a.block + a.moved) 0
+stage_moving true false a = stages.Stopped
 
 abbrev pub stage_over : Bool → Bool → Stage
-stage_over true cleared = turn.Ending
-stage_over false false = turn.ToClear
-stage_over false true = turn.Ending
+stage_over true cleared = stages.Ending
+stage_over false false = stages.ToClear
+stage_over false true = stages.Ending
 
 abbrev pub IsAt : Phase → AdapterState → DriveSeen → Stage → Type 0
 IsAt Waiting a seen stage = stage ≡ begun seen.drive seen.requests
-IsAt Positioning a seen stage = stage ≡ (if is_positioning seen.drive.work then turn.Searching else turn.Arrived)
-IsAt Queued a seen stage = (stage ≡ turn.Begun position.Ready) ⊎ (stage ≡ turn.Attended)
+IsAt Positioning a seen stage = stage ≡ (if is_positioning seen.drive.work then stages.Searching else stages.Arrived)
+IsAt Queued a seen stage = (stage ≡ stages.Begun position.Ready) ⊎ (stage ≡ stages.Attended)
 IsAt Transferring a seen stage = stage ≡ stage_moving a.completion (is_clean a.verdict) a
 IsAt (Interrupted moved last cleared) a seen stage = stage ≡ stage_over (is_clean last) cleared
 
-pub record ByTurn (w : World) (x : ℕ) (t : Turn) : Type 0 where
+pub record ByTalk (w : World) (x : ℕ) (t : Talk) : Type 0 where
   pub seen : ByDrive w x t.seen
   pub stage : IsAt (unit_at w x).phase (adapter_for w x).state t.seen t.stage
 
@@ -69,7 +69,7 @@ asked_begun d [] r = refl
 asked_begun d (first ∷ rest) r = refl
 
 module _ (d : DriveState) (requests : List Request) where
-  same_if : (b : Bool) → stage_asked (if b then turn.Searching else turn.Arrived) d requests ≡ (if b then turn.Searching else turn.Arrived)
+  same_if : (b : Bool) → stage_asked (if b then stages.Searching else stages.Arrived) d requests ≡ (if b then stages.Searching else stages.Arrived)
   same_if true = refl
   same_if false = refl
 
@@ -103,8 +103,8 @@ whole w u p h requests hand e =
     is_write true = refl
     is_write false = refl
 
-command_may : (stage : Stage) (requests : List Request) (write : Bool) (block count : ℕ) → (stage ≡ turn.Begun position.Ready) ⊎ (stage ≡ turn.Attended)
-    → IsWhole requests write block count → TurnMay stage requests (trace.Command write block count)
+command_may : (stage : Stage) (requests : List Request) (write : Bool) (block count : ℕ) → (stage ≡ stages.Begun position.Ready) ⊎ (stage ≡ stages.Attended)
+    → IsWhole requests write block count → TalkMay stage requests (trace.Command write block count)
 command_may stage requests write block count (inl e) is = rw e is
 command_may stage requests write block count (inr e) is = rw e is
 
@@ -114,10 +114,10 @@ seen_clean false moved e = rw e tt
 
 -- the stage behind a sector
 clean_to : (a : AdapterState) (n : ℕ) (stage : Stage) → n + a.moved ≡ a.count → (stepped verdict.Clean a).completion ≡ (n == 1)
-    → stage ≡ turn.Moving (a.block + a.moved) (a.count - a.moved)
+    → stage ≡ stages.Moving (a.block + a.moved) (a.count - a.moved)
     → stage_moved verdict.Clean stage ≡ stage_moving (stepped verdict.Clean a).completion true (stepped verdict.Clean a)
 clean_to a n stage left over at =
-    rw at (subst (λ b. turn.Moving (a.block + a.moved + 1) (a.count - a.moved - 1) ≡ stage_moving b true (stepped verdict.Clean a)) (sym over) (by_last (n == 1) refl))
+    rw at (subst (λ b. stages.Moving (a.block + a.moved + 1) (a.count - a.moved - 1) ≡ stage_moving b true (stepped verdict.Clean a)) (sym over) (by_last (n == 1) refl))
   where
     next : a.block + a.moved + 1 ≡ a.block + (a.moved + 1)
     next = omega arith
@@ -128,13 +128,13 @@ clean_to a n stage left over at =
     fewer : a.count - a.moved - 1 ≡ a.count - (a.moved + 1)
     fewer = omega arith
 
-    by_last : (b : Bool) → (n == 1) ≡ b → turn.Moving (a.block + a.moved + 1) (a.count - a.moved - 1) ≡ stage_moving b true (stepped verdict.Clean a)
-    by_last true e = λ i. turn.Moving (next i) (none e i)
-    by_last false e = λ i. turn.Moving (next i) (fewer i)
+    by_last : (b : Bool) → (n == 1) ≡ b → stages.Moving (a.block + a.moved + 1) (a.count - a.moved - 1) ≡ stage_moving b true (stepped verdict.Clean a)
+    by_last true e = λ i. stages.Moving (next i) (none e i)
+    by_last false e = λ i. stages.Moving (next i) (fewer i)
 
 moved_to : (marked : Bool) (moved : Moved) (a : AdapterState) (n : ℕ) (stage : Stage) → moved ≡ (if marked then verdict.Marked else verdict.Clean)
     → n + a.moved ≡ a.count → (stepped moved a).completion ≡ is_last moved n
-    → stage ≡ turn.Moving (a.block + a.moved) (a.count - a.moved)
+    → stage ≡ stages.Moving (a.block + a.moved) (a.count - a.moved)
     → stage_moved moved stage ≡ stage_moving (stepped moved a).completion (is_clean (stepped moved a).verdict) (stepped moved a)
 moved_to true moved a n stage e left over at =
     subst (λ m. stage_moved m stage ≡ stage_moving (stepped m a).completion (is_clean (stepped m a).verdict) (stepped m a)) (sym e) refl
@@ -161,17 +161,17 @@ interrupted_to last a stage at = by_clean (is_clean last) at
     by_clean false e = rw e refl
 
 interrupt_may : (clean : Bool) (a : AdapterState) (stage : Stage) (requests : List Request) → stage ≡ stage_moving true clean a
-    → TurnMay stage requests trace.Intr
+    → TalkMay stage requests trace.Intr
 interrupt_may true a stage requests e = rw e refl
 interrupt_may false a stage requests e = rw e tt
 
 -- a verdict that is cleared
-to_clear : (last : Moved) (cleared : Bool) → last ≢ verdict.Clean → cleared ≡ false → stage_over (is_clean last) cleared ≡ turn.ToClear
+to_clear : (last : Moved) (cleared : Bool) → last ≢ verdict.Clean → cleared ≡ false → stage_over (is_clean last) cleared ≡ stages.ToClear
 to_clear verdict.Clean cleared not_clean down = absurd (not_clean refl)
 to_clear last cleared not_clean down = rw down refl
 
 clear_may : (phase : Phase) (a : AdapterState) (seen : DriveSeen) (stage : Stage) (requests : List Request) → IsToClear phase
-    → IsAt phase a seen stage → TurnMay stage requests trace.Dclr
+    → IsAt phase a seen stage → TalkMay stage requests trace.Dclr
 clear_may (Interrupted moved last cleared) a seen stage requests may e =
     let due = e ∙ to_clear last cleared may.0 may.1 in rw due tt
 clear_may Waiting a seen stage requests may e = absurd may
@@ -179,10 +179,10 @@ clear_may Positioning a seen stage requests may e = absurd may
 clear_may Queued a seen stage requests may e = absurd may
 clear_may Transferring a seen stage requests may e = absurd may
 
-cleared_to : (phase : Phase) (a : AdapterState) (seen : DriveSeen) → IsToClear phase → IsAt (cleared_phase phase) a seen turn.Ending
+cleared_to : (phase : Phase) (a : AdapterState) (seen : DriveSeen) → IsToClear phase → IsAt (cleared_phase phase) a seen stages.Ending
 cleared_to (Interrupted moved last cleared) a seen may = by_clean (is_clean last)
   where
-    by_clean : (clean : Bool) → turn.Ending ≡ stage_over clean true
+    by_clean : (clean : Bool) → stages.Ending ≡ stage_over clean true
     by_clean true = refl
     by_clean false = refl
 cleared_to Waiting a seen may = absurd may
@@ -192,7 +192,7 @@ cleared_to Transferring a seen may = absurd may
 
 -- a request that may end
 end_may : (phase : Phase) (h : Held) (kind : AnswerKind) (a : AdapterState) (seen : DriveSeen) (stage : Stage) (requests : List Request)
-    → IsEnd phase h kind → IsAt phase a seen stage → TurnMay stage requests trace.End
+    → IsEnd phase h kind → IsAt phase a seen stage → TalkMay stage requests trace.End
 end_may (Interrupted moved verdict.Clean cleared) h kind a seen stage requests may e = rw e tt
 end_may (Interrupted moved verdict.Marked true) h kind a seen stage requests may e = rw e tt
 end_may (Interrupted moved verdict.Marked false) h kind a seen stage requests may e = absurd may
@@ -207,10 +207,10 @@ end_may Transferring h kind a seen stage requests may e = absurd may
 
 -- the request that begins is the first of the unit's
 begins_with : (w : World) (u p : ℕ) (h : Held) (seen : DriveSeen) → InHand w u p h → requests_of w u ≡ seen.requests → (unit_at w u).drive ≡ seen.drive
-    → begun seen.drive seen.requests ≡ turn.Begun (position_of (unit_at w u) h)
+    → begun seen.drive seen.requests ≡ stages.Begun (position_of (unit_at w u) h)
 begins_with w u p h seen hand q e =
     ap (begun seen.drive) (sym q ∙ head_is w u p h hand)
-    ∙ ap (λ (d : DriveState). turn.Begun (first_position d.kind d.cc (d.la / 64) (place_at d.kind h.first))) (sym e)
+    ∙ ap (λ (d : DriveState). stages.Begun (first_position d.kind d.cc (d.la / 64) (place_at d.kind h.first))) (sym e)
 
 quiet_stage : (b clean : Bool) (a : AdapterState) → stage_moving b clean (quiet a) ≡ stage_moving b clean a
 quiet_stage false clean a = refl
@@ -223,7 +223,7 @@ same_stage a b e =
     ∙ ap (λ (c : AdapterState). stage_moving c.completion (is_clean c.verdict) c) (sym e)
     ∙ quiet_stage a.completion (is_clean a.verdict) a
 
-module _ (w : World) (line u p : ℕ) (h : Held) (s : Sound w) (hand : InHand w u p h) (t : Turn) (by : ByTurn w u t) where
+module _ (w : World) (line u p : ℕ) (h : Held) (s : Sound w) (hand : InHand w u p h) (t : Talk) (by : ByTalk w u t) where
   abbrev a : AdapterState
   a = (adapter_for w u).state
 
@@ -238,37 +238,37 @@ module _ (w : World) (line u p : ℕ) (h : Held) (s : Sound w) (hand : InHand w 
 
   -- where the deed leaves the unit
   abbrev Leaves : Deed → AdapterState → Type 0
-  Leaves deed b = IsAt (view_after w u h deed).phase b (drive_told t.seen (told_of h deed)) (turn_told t (told_of h deed)).stage
+  Leaves deed b = IsAt (view_after w u h deed).phase b (drive_told t.seen (told_of h deed)) (talk_told t (told_of h deed)).stage
 
-  abbrev Turns : Deed → Type 0
-  Turns deed = TurnMay t.stage t.seen.requests (told_of h deed) × Leaves deed (adapter_for (done w line u p h deed) u).state
+  abbrev Talks : Deed → Type 0
+  Talks deed = TalkMay t.stage t.seen.requests (told_of h deed) × Leaves deed (adapter_for (done w line u p h deed) u).state
 
   adapter_becomes : (deed : Deed) (v : AdapterView) → adapter_for (done w line u p h deed) u ≡ v → Leaves deed v.state → Leaves deed (adapter_for (done w line u p h deed) u).state
   adapter_becomes deed v e leaves = subst (λ (x : AdapterView). Leaves deed x.state) (sym e) leaves
 
-  turns : (deed : Deed) → Allowed w (Acts.Of line u p h deed) → DriveMay t.seen (told_of h deed) → Turns deed
-  turns (Acts.Search c track k) may taken =
-      let begins = at Waiting may.1.0 ∙ begins_with w u p h t.seen hand by.seen.requests same ∙ ap turn.Begun may.1.1 in (
+  talks : (deed : Deed) → Allowed w (Acts.Of line u p h deed) → DriveMay t.seen (told_of h deed) → Talks deed
+  talks (Acts.Search c track k) may taken =
+      let begins = at Waiting may.1.0 ∙ begins_with w u p h t.seen hand by.seen.requests same ∙ ap stages.Begun may.1.1 in (
         rw begins (refl, refl),
-        sym (ap (λ b. if b then turn.Searching else turn.Arrived) (searches (addressed (search_place t.seen c k) t.seen.drive) taken)),
+        sym (ap (λ b. if b then stages.Searching else stages.Arrived) (searches (addressed (search_place t.seen c k) t.seen.drive) taken)),
       )
-  turns Acts.Arrive may taken =
+  talks Acts.Arrive may taken =
       let phase = (moves w u (unit_ok w s u p h hand) may.1).phase in
-      let searching : t.stage ≡ turn.Searching = at Positioning phase ∙ ap (λ b. if b then turn.Searching else turn.Arrived) taken in (
+      let searching : t.stage ≡ stages.Searching = at Positioning phase ∙ ap (λ b. if b then stages.Searching else stages.Arrived) taken in (
         rw searching tt,
-        subst (λ x. IsAt x (adapter_for (done w line u p h Acts.Arrive) u).state (drive_told t.seen trace.Arrive) turn.Arrived) (sym phase)
-            (sym (ap (λ b. if b then turn.Searching else turn.Arrived) (arrived_rests t.seen.drive.work t.seen.drive taken))),
+        subst (λ x. IsAt x (adapter_for (done w line u p h Acts.Arrive) u).state (drive_told t.seen trace.Arrive) stages.Arrived) (sym phase)
+            (sym (ap (λ b. if b then stages.Searching else stages.Arrived) (arrived_rests t.seen.drive.work t.seen.drive taken))),
       )
-  turns Acts.Attn may taken =
+  talks Acts.Attn may taken =
       let stands = (raised w u (unit_ok w s u p h hand) may.1.1).work in
       let ended : is_positioning t.seen.drive.work ≡ false = ap (λ (d : DriveState). is_positioning d.work) (sym same) ∙ ap is_positioning stands in
-      let arrived : t.stage ≡ turn.Arrived = at Positioning may.1.0 ∙ ap (λ b. if b then turn.Searching else turn.Arrived) ended in
+      let arrived : t.stage ≡ stages.Arrived = at Positioning may.1.0 ∙ ap (λ b. if b then stages.Searching else stages.Arrived) ended in
       (rw arrived tt, inr refl)
-  turns Acts.Command may taken = (
+  talks Acts.Command may taken = (
     command_may t.stage t.seen.requests h.write h.first (count_of h) (at Queued (queued_still w line u p h s hand may.1.0))
         (whole w u p h t.seen.requests hand by.seen.requests),
     adapter_becomes Acts.Command (commanded (drive_of u) h (adapter_for w u)) (same_adapter w.adapters (adapter_of u) _ (own_adapter_there w s u p h hand))
-        (λ i. turn.Moving (from h.first i) (all (count_of h) i)),
+        (λ i. stages.Moving (from h.first i) (all (count_of h) i)),
   )
     where
       from : (b : ℕ) → b ≡ b + 0
@@ -276,11 +276,11 @@ module _ (w : World) (line u p : ℕ) (h : Held) (s : Sound w) (hand : InHand w 
 
       all : (k : ℕ) → k ≡ k - 0
       all k = omega arith
-  turns (Acts.Sector moved tried) may taken =
+  talks (Acts.Sector moved tried) may taken =
       let one = transfer_of w s u p h hand may.1.0 in
       let left = by.seen.left one.phase may.1.1 in
       let some = some_left a t.seen.left (own_adapter_ok w s u p h hand).state may.1.0.busy may.1.1 left in
-      let moving : t.stage ≡ turn.Moving (a.block + a.moved) (a.count - a.moved) =
+      let moving : t.stage ≡ stages.Moving (a.block + a.moved) (a.count - a.moved) =
       at Transferring one.phase ∙ ap (λ b. stage_moving b (is_clean a.verdict) a) may.1.1 in
       let judged = tried_verdict w u h moved tried s lt may.1.3 in
       let block : h.first + moved ≡ a.block + a.moved = λ i. sym one.block i + may.1.2 i in (
@@ -290,25 +290,25 @@ module _ (w : World) (line u p : ℕ) (h : Held) (s : Sound w) (hand : InHand w 
             (subst (λ x. IsAt x (stepped tried.verdict a) (drive_told t.seen (told_of h (Acts.Sector moved tried))) (stage_moved tried.verdict t.stage)) (sym one.phase)
             (moved_to tried.marked tried.verdict a t.seen.left t.stage judged left (completes tried.verdict a t.seen.left (own_adapter_ok w s u p h hand).state may.1.0.busy may.1.1 left) moving)),
       )
-  turns Acts.Intr may taken =
+  talks Acts.Intr may taken =
       let one = transfer_of w s u p h hand may.1.0 in
       let over : t.stage ≡ stage_moving true (is_clean a.verdict) a = at Transferring one.phase ∙ ap (λ b. stage_moving b (is_clean a.verdict) a) may.1.1 in
       (interrupt_may (is_clean a.verdict) a t.stage t.seen.requests over, interrupted_to a.verdict a t.stage over)
-  turns Acts.Dclr may taken = (
+  talks Acts.Dclr may taken = (
     clear_may (unit_at w u).phase a t.seen t.stage t.seen.requests may.1 by.stage,
     cleared_to (unit_at w u).phase (adapter_for (done w line u p h Acts.Dclr) u).state (drive_told t.seen trace.Dclr) may.1,
   )
-  turns (Acts.End kind) may taken = (end_may (unit_at w u).phase h kind a t.seen t.stage t.seen.requests may.1 by.stage, refl)
+  talks (Acts.End kind) may taken = (end_may (unit_at w u).phase h kind a t.seen t.stage t.seen.requests may.1 by.stage, refl)
 
-  turn_tells : (deed : Deed) → Allowed w (Acts.Of line u p h deed)
-      → TurnMay t.stage t.seen.requests (told_of h deed) × ByTurn (done w line u p h deed) u (turn_told t (told_of h deed))
-  turn_tells deed may =
+  talk_tells : (deed : Deed) → Allowed w (Acts.Of line u p h deed)
+      → TalkMay t.stage t.seen.requests (told_of h deed) × ByTalk (done w line u p h deed) u (talk_told t (told_of h deed))
+  talk_tells deed may =
       let drives = drive_kept.tells w line u p h deed t.seen s may by.seen in
-      let one = turns deed may drives.0 in (
+      let one = talks deed may drives.0 in (
         one.0,
         record {
           seen = drives.1;
-          stage = subst (λ (x : UnitView). IsAt x.phase (adapter_for (done w line u p h deed) u).state (drive_told t.seen (told_of h deed)) (turn_told t (told_of h deed)).stage)
+          stage = subst (λ (x : UnitView). IsAt x.phase (adapter_for (done w line u p h deed) u).state (drive_told t.seen (told_of h deed)) (talk_told t (told_of h deed)).stage)
               (sym (unit_told w line u p h deed hand.unit)) one.1;
         },
       )
@@ -322,21 +322,21 @@ at_apart Queued a b seen stage still e = e
 at_apart Transferring a b seen stage still e = e ∙ same_stage b a (still refl)
 at_apart (Interrupted moved last cleared) a b seen stage still e = e
 
-turn_apart : (w : World) (act : Act) (x : ℕ) (t : Turn) → Sound w → Allowed w act → IsApart own act x → ByTurn w x t → ByTurn (after w act) x t
-turn_apart w act x t s may ne by = record {
+talk_apart : (w : World) (act : Act) (x : ℕ) (t : Talk) → Sound w → Allowed w act → IsApart own act x → ByTalk w x t → ByTalk (after w act) x t
+talk_apart w act x t s may ne by = record {
   seen = drive_kept.apart w act x t.seen s may ne by.seen;
   stage = subst (λ (v : UnitView). IsAt v.phase (adapter_for (after w act) x).state t.seen t.stage) (sym (unit_apart w act x ne))
       (at_apart (unit_at w x).phase (adapter_for w x).state (adapter_for (after w act) x).state t.seen t.stage
       (λ e. quiet_apart w act x s may ne (transferring_small w x s e) e) by.stage);
 }
 
-pub turn_kept : KeptBy protocol_rule ByTurn
-turn_kept = record {
+pub talk_kept : KeptBy protocol_rule ByTalk
+talk_kept = record {
   asks = λ w line p h t s may by.
       let now : unit_at (after w (Acts.Submit line p h)) h.unit ≡ joined p (unit_at w h.unit) =
       same_unit w.units h.unit (joined p (unit_at w h.unit)) (omega (arith, s.units, may.unit)) in record {
         seen = drive_kept.asks w line p h t.seen s may by.seen;
-        stage = subst (λ (v : UnitView). IsAt v.phase (adapter_for w h.unit).state (drive_asked t.seen (asked h)) (turn_asked t (asked h)).stage) (sym now)
+        stage = subst (λ (v : UnitView). IsAt v.phase (adapter_for w h.unit).state (drive_asked t.seen (asked h)) (talk_asked t (asked h)).stage) (sym now)
             (asked_at (unit_at w h.unit).phase (adapter_for w h.unit).state t.seen t.stage (asked h) by.stage);
       };
   begins = λ w u p h t s may by.
@@ -344,8 +344,8 @@ turn_kept = record {
       let begun_here = subst (λ x. IsAt x (adapter_for w u).state t.seen t.stage) may.1 by.stage in record {
         seen = drive_kept.begins w u p h t.seen s may by.seen;
         stage = subst (λ (v : UnitView). IsAt v.phase (adapter_for (after w (Acts.Ready u p h)) u).state t.seen t.stage) (sym now)
-            (inl (begun_here ∙ begins_with w u p h t.seen may.0 by.seen.requests (by.seen.drive (declared_in_hand w u p h s may.0)) ∙ ap turn.Begun may.2));
+            (inl (begun_here ∙ begins_with w u p h t.seen may.0 by.seen.requests (by.seen.drive (declared_in_hand w u p h s may.0)) ∙ ap stages.Begun may.2));
       };
-  tells = λ w line u p h deed t s may by. turn_tells w line u p h s may.0 t by deed may;
-  apart = turn_apart;
+  tells = λ w line u p h deed t s may by. talk_tells w line u p h s may.0 t by deed may;
+  apart = talk_apart;
 }

@@ -24,7 +24,7 @@ use Rattle.driver_machine.specs.World.{World, unit_on, unit_of, unit_at, adapter
 use Rattle.driver_machine.specs.Acts
 use Rattle.driver_machine.specs.Acts.{Act, Deed, Tried, InHand, IsEnding, IsEnd, Allowed, after, position_of, target_of}
 use Rattle.driver_machine.specs.Does.{Run, after_all}
-use Rattle.driver_machine.specs.Events.{start_by, start_of, start_acts, and_then, command_of, turn_of, turn_acts, restart_of, restart_acts, submit_acts, arrive_of, sector_of, move_of, clear_of, returned, end_acts, finish_head, finish_of, finish_acts, attn_of, attn_one, attn_acts, taken_acts, or_nothing, event_acts}
+use Rattle.driver_machine.specs.Events.{start_by, start_of, start_acts, and_then, command_of, adapter_start_of, adapter_start_acts, restart_of, restart_acts, submit_acts, arrive_of, sector_of, move_of, clear_of, returned, end_acts, finish_head, finish_of, finish_acts, attn_of, attn_one, attn_acts, taken_acts, or_nothing, event_acts}
 use Rattle.driver_machine.specs.Sound.{Among, Once, IsMade, PlaceOk, Sound}
 use Rattle.driver_machine.specs.Stands.{Call, answered, asked, calls_of, calls_of_all, calls_at}
 use Rattle.driver_machine.specs.Stands.Call.{Asks, Answers}
@@ -91,14 +91,14 @@ own_start line u w = by_queue (unit_at w u).queue
     by_queue [] = tt
     by_queue (p ∷ rest) = by_position (position_of (unit_at w u) (held_in w p)) p (held_in w p) (target_of (unit_at w u) (held_in w p)).track
 
-own_turn : (line a : ℕ) (w : World) → AreOwn line (turn_acts line a w)
-own_turn line a w = by_busy (adapter_at w a).state.busy (adapter_at w a).queue
+own_adapter_start : (line a : ℕ) (w : World) → AreOwn line (adapter_start_acts line a w)
+own_adapter_start line a w = by_busy (adapter_at w a).state.busy (adapter_at w a).queue
   where
     by_unit : (q : List ℕ) (u : ℕ) → AreOwn line (command_of q line u w)
     by_unit [] u = tt
     by_unit (p ∷ rest) u = (refl, tt)
 
-    by_busy : (b : Bool) (q : List ℕ) → AreOwn line (turn_of b q line w)
+    by_busy : (b : Bool) (q : List ℕ) → AreOwn line (adapter_start_of b q line w)
     by_busy true q = tt
     by_busy false [] = tt
     by_busy false (u ∷ rest) = by_unit (unit_at w u).queue u
@@ -156,9 +156,9 @@ own_taken line a w =
     let first = finish_acts line a w in
     let mid = after_all w first in
     let both = and_then (attn_acts 8 line a) w first in
-    AreOwn-append line both (turn_acts line a (after_all w both))
+    AreOwn-append line both (adapter_start_acts line a (after_all w both))
     (AreOwn-append line first (attn_acts 8 line a mid) (own_finish line a w) (own_attns 8 line a mid))
-    (own_turn line a (after_all w both))
+    (own_adapter_start line a (after_all w both))
 
 own_or_nothing : (line : ℕ) (acts : List Act) → AreOwn line acts → AreOwn line (or_nothing line acts)
 own_or_nothing line [] own = (refl, tt)
@@ -187,7 +187,7 @@ own_event line (event.Attend a) t w = own_or_nothing line (taken_acts line a w) 
 abbrev pub behind_submit : ℕ → ℕ → Held → World → List Act
 behind_submit line p h w =
     let joined = after w (Acts.Submit line p h) in
-    restart_acts line h.unit joined ++ turn_acts line (adapter_of h.unit) (after_all joined (restart_acts line h.unit joined))
+    restart_acts line h.unit joined ++ adapter_start_acts line (adapter_of h.unit) (after_all joined (restart_acts line h.unit joined))
 
 pub submit_first : (line p : ℕ) (h : Held) (w : World) → submit_acts line p h w ≡ Acts.Submit line p h ∷ behind_submit line p h w
 submit_first line p h w = refl
@@ -195,7 +195,7 @@ submit_first line p h w = refl
 pub own_submit : (line p : ℕ) (h : Held) (w : World) → AreOwn line (behind_submit line p h w)
 own_submit line p h w =
     let joined = after w (Acts.Submit line p h) in
-    AreOwn-append line (restart_acts line h.unit joined) _ (own_restart line h.unit joined) (own_turn line (adapter_of h.unit) (after_all joined (restart_acts line h.unit joined)))
+    AreOwn-append line (restart_acts line h.unit joined) _ (own_restart line h.unit joined) (own_adapter_start line (adapter_of h.unit) (after_all joined (restart_acts line h.unit joined)))
 
 -- REQUESTS THAT HAVE ENDED stay in their places until their answers are taken.
 abbrev pub EndedStay : World → World → Type 0

@@ -44,13 +44,13 @@ abbrev pub command_of : List ℕ → ℕ → ℕ → World → List Act
 command_of [] line u w = []
 command_of (p ∷ rest) line u w = Acts.Of line u p (held_in w p) Acts.Command ∷ []
 
-abbrev pub turn_of : Bool → List ℕ → ℕ → World → List Act
-turn_of true queue line w = []
-turn_of false [] line w = []
-turn_of false (u ∷ rest) line w = command_of (unit_at w u).queue line u w
+abbrev pub adapter_start_of : Bool → List ℕ → ℕ → World → List Act
+adapter_start_of true queue line w = []
+adapter_start_of false [] line w = []
+adapter_start_of false (u ∷ rest) line w = command_of (unit_at w u).queue line u w
 
-abbrev pub turn_acts : ℕ → ℕ → World → List Act
-turn_acts line a w = turn_of (adapter_at w a).state.busy (adapter_at w a).queue line w
+abbrev pub adapter_start_acts : ℕ → ℕ → World → List Act
+adapter_start_acts line a w = adapter_start_of (adapter_at w a).state.busy (adapter_at w a).queue line w
 
 -- SUBMISSION. The request joins; a unit that waits is started; and then comes adapter start.
 abbrev pub restart_of : Phase → ℕ → ℕ → World → List Act
@@ -65,7 +65,7 @@ restart_acts line u w = restart_of (unit_at w u).phase line u w
 
 abbrev pub submit_acts : ℕ → ℕ → Held → World → List Act
 submit_acts line p h w =
-    and_then (turn_acts line (adapter_of h.unit)) w
+    and_then (adapter_start_acts line (adapter_of h.unit)) w
     (and_then (restart_acts line h.unit) w (Acts.Submit line p h ∷ []))
 
 -- A request that may be submitted with so many bytes: its unit is set up, its blocks are data blocks, and no request that
@@ -147,7 +147,7 @@ attn_acts (suc n) line a w = and_then (attn_one line (unit_on a n)) w (attn_acts
 
 -- and last adapter start; where there was nothing of all this, the event finds nothing
 abbrev pub taken_acts : ℕ → ℕ → World → List Act
-taken_acts line a w = and_then (turn_acts line a) w (and_then (attn_acts 8 line a) w (finish_acts line a w))
+taken_acts line a w = and_then (adapter_start_acts line a) w (and_then (attn_acts 8 line a) w (finish_acts line a w))
 
 abbrev pub or_nothing : ℕ → List Act → List Act
 or_nothing line [] = Acts.Nothing line ∷ []

@@ -29,13 +29,13 @@ byte-repaired i at q (suc j) (b ∷ bytes) h = byte-repaired (suc i) at q j byte
 pub burst-behind : (at q first s j : ℕ) → at - 1 ≡ 8 * first + s → burst_byte at q (first + j) ≡ q * 2 ^ s / 2 ^ (8 * j) % 2 ^ 8
 unfolding burst_byte
 burst-behind at q first s j e =
-    ap (λ n. q * 2 ^ n / 2 ^ (8 * (first + j)) % 2 ^ 8) (e ∙ turned (8 * first) s)
+    ap (λ n. q * 2 ^ n / 2 ^ (8 * (first + j)) % 2 ^ 8) (e ∙ swapped (8 * first) s)
     ∙ ap (λ n. n / 2 ^ (8 * (first + j)) % 2 ^ 8) (ap (λ n. q * n) (pow-add 2 s (8 * first)) ∙ sym (mul_assoc q (2 ^ s) (2 ^ (8 * first))))
     ∙ ap (λ n. q * 2 ^ s * 2 ^ (8 * first) / 2 ^ n % 2 ^ 8) (apart first j)
     ∙ ap (λ n. n % 2 ^ 8) (sym (shr-shr (q * 2 ^ s * 2 ^ (8 * first)) (8 * first) (8 * j)) ∙ ap (λ n. n / 2 ^ (8 * j)) (shl-shr (q * 2 ^ s) (8 * first)))
   where
-    turned : (a b : ℕ) → a + b ≡ b + a
-    turned a b = omega arith
+    swapped : (a b : ℕ) → a + b ≡ b + a
+    swapped a b = omega arith
 
     apart : (a b : ℕ) → 8 * (a + b) ≡ 8 * a + 8 * b
     apart a b = omega arith

@@ -317,11 +317,11 @@ module _ {lines : List Line} {w : World} {tells out_tells : Bool} {held held_aft
       }
 
 -- THE LOOP over the lines of a script, and the drain behind it.
-pub so_far_turn : (lines : List Line) {i number : ℕ} {w new : World} {told tells out_told out_tells : Bool} {held mid held_after : ℕ → Pack} {before between after : List ℕ} (d : Line)
+pub so_far_next : (lines : List Line) {i number : ℕ} {w new : World} {told tells out_told out_tells : Bool} {held mid held_after : ℕ → Pack} {before between after : List ℕ} (d : Line)
     → i < length lines → number ≡ i + 1 → (IsTrue tells → IsTrue told) → (IsTrue out_tells → IsTrue out_told)
     → SoFar (take i lines) w told held mid out_told before between → PlaysLine number (seen (get_or lines i d)) w new tells mid held_after out_tells between after
     → SoFar (take (i + 1) lines) new tells held held_after out_tells before after
-so_far_turn lines {i} {number} {w} {new} {told} {tells} {out_told} {out_tells} {held} {mid} {held_after} {before} {between} {after} d lt is still still_out so one =
+so_far_next lines {i} {number} {w} {new} {told} {tells} {out_told} {out_tells} {held} {mid} {held_after} {before} {between} {after} d lt is still still_out so one =
     let here : number ≡ length (take i lines) + 1 = omega (arith, is, length-take-le i lines (omega arith)) in
     subst (λ (ls : List Line). SoFar ls new tells held held_after out_tells before after) (sym (take_more lines i d lt))
     (so_far_more (get_or lines i d) still still_out here so one)

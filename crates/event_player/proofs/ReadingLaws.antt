@@ -334,9 +334,9 @@ next_at before text line behind g form = record {
 one_behind : (done : List Line) (line : Line) (more : List Line) → (done ++ line ∷ []) ++ more ≡ done ++ line ∷ more
 one_behind done line more = append_assoc done (line ∷ []) more
 
-turn : (done : List Line) (text : List ℕ) (texts : List (List ℕ)) (line : Line) → judged done text ≡ Ok line → reading done (text ∷ texts) ≡ reading (done ++ line ∷ []) texts
-turn [] text texts line e = ap (λ (r : Result Line ScriptKind). on r (λ line. reading (line ∷ []) texts) (λ kind. Err (record { line = 1; kind = kind }))) e
-turn (first ∷ done) text texts line e =
+one_more : (done : List Line) (text : List ℕ) (texts : List (List ℕ)) (line : Line) → judged done text ≡ Ok line → reading done (text ∷ texts) ≡ reading (done ++ line ∷ []) texts
+one_more [] text texts line e = ap (λ (r : Result Line ScriptKind). on r (λ line. reading (line ∷ []) texts) (λ kind. Err (record { line = 1; kind = kind }))) e
+one_more (first ∷ done) text texts line e =
     ap (λ (r : Result Line ScriptKind). on r (λ line. reading ((first ∷ done) ++ line ∷ []) texts) (λ kind. Err (record { line = length (first ∷ done) + 1; kind = kind }))) e
 
 stop : (done : List Line) (text : List ℕ) (texts : List (List ℕ)) (kind : ScriptKind) → judged done text ≡ Err kind → reading done (text ∷ texts) ≡ Err (record { line = length done + 1; kind = kind })
@@ -351,7 +351,7 @@ reading_through done (line ∷ more) [] rest forms good = absurd forms
 reading_through done (line ∷ more) (text ∷ texts) rest forms good =
     let next : IsNext done text line = next_at done text line more good forms.0 in
     let same : (done ++ line ∷ []) ++ more ≡ done ++ line ∷ more = one_behind done line more in
-    turn done text (texts ++ rest) line (next_judged done text line next)
+    one_more done text (texts ++ rest) line (next_judged done text line next)
     ∙ reading_through (done ++ line ∷ []) more texts rest forms.1 (subst AreGood (sym same) good)
     ∙ ap (λ (ls : List Line). reading ls rest) same
 
@@ -392,7 +392,7 @@ read_ok done (text ∷ texts) lines good e = at (judged done text) refl (λ line
     at : (r : Result Line ScriptKind) → judged done text ≡ r → ((line : Line) → IsNext done text line → reading (done ++ line ∷ []) texts ≡ Ok lines → Continues (done ++ line ∷ []) texts lines) → Continues done (text ∷ texts) lines
     at (Ok line) j later =
         let next : IsNext done text line = judged_ok done text line j in
-        let rest : Continues (done ++ line ∷ []) texts lines = later line next (sym (turn done text texts line j) ∙ e) in record {
+        let rest : Continues (done ++ line ∷ []) texts lines = later line next (sym (one_more done text texts line j) ∙ e) in record {
           more = line ∷ rest.more;
           all = rest.all ∙ one_behind done line rest.more;
           forms = (next.form, rest.forms);
@@ -448,7 +448,7 @@ read_err done (text ∷ texts) r good e = at (judged done text) refl (λ line ne
 
     at : (j : Result Line ScriptKind) → judged done text ≡ j → ((line : Line) → IsNext done text line → reading (done ++ line ∷ []) texts ≡ Err r → IsBare (done ++ line ∷ []) texts r ⊎ StopsAt (done ++ line ∷ []) texts r.line r.kind) → IsBare done (text ∷ texts) r ⊎ StopsAt done (text ∷ texts) r.line r.kind
     at (Ok line) j later =
-        let next : IsNext done text line = judged_ok done text line j in on_rest line next (later line next (sym (turn done text texts line j) ∙ e))
+        let next : IsNext done text line = judged_ok done text line j in on_rest line next (later line next (sym (one_more done text texts line j) ∙ e))
     at (Err kind) j later =
         let same : ◌≡◌ {A = Refusal} (record { line = length done + 1; kind = kind }) r = same_Err _ _ (sym (stop done text texts kind j) ∙ e) in
         let nothing : done ++ [] ≡ done = append-nil done in

@@ -5,13 +5,13 @@ use Rattle.std.proofs.lemmas.Bool.{agree_below, agree_below_at}
 use Rattle.std.proofs.lemmas.Nat.{mod_below, pow_pos, shl_below, pow-add, shr-shr}
 use lib.Bits.{bit_xor, xor_shifted, xor_assoc, xor_comm, xor_zero_r}
 use Rattle.fire_code.specs.Remainder.{times_x, repeat, power}
-use Rattle.fire_code.specs.Residue.{turn}
+use Rattle.fire_code.specs.Residue.{clock}
 use Rattle.fire_code.specs.Burst.{reversed}
 use Rattle.fire_code.specs.Word.{bit_of_word}
 use Rattle.fire_code.proofs.Linear.{IsLinear, linear_after, linear_xor, linear_mod, linear_div, linear_shl}
 use Rattle.fire_code.proofs.Register.{repeat_comm}
 use Rattle.fire_code.proofs.Fold.{times_x-linear, same_by_test}
-use Rattle.fire_code.proofs.Window.{turn-small, repeat-small}
+use Rattle.fire_code.proofs.Window.{clock-small, repeat-small}
 use Rattle.fire_code.proofs.Powers.{repeat_times_x-linear, repeat_power, power-lt}
 use Rattle.fire_code.proofs.Bursts.{by_test, reversed-lt}
 use Rattle.fire_code.proofs.Words.{fed, data_bit}
@@ -29,8 +29,8 @@ unfolding reversed
 reversed-more n w = refl
 
 times_x-small : (v : ℕ) → v < 2 ^ 31 → times_x v ≡ v * 2
-unfolding times_x turn
-times_x-small v h = turn-small 31 0x00A00805 v h
+unfolding times_x clock
+times_x-small v h = clock-small 31 0x00A00805 v h
 
 -- a bit above n others, all moved up by m
 moved_up : (b r n m : ℕ) → n + m ≡ 31 → r < 2 ^ n → bit_xor (b * 2 ^ 31) (r * 2 ^ m) ≡ (b * 2 ^ n + r) * 2 ^ m
@@ -83,7 +83,7 @@ fed_run bit (suc n) m k w e at =
 
 -- eight steps are a shift by eight and those of the bits that fall out
 eight_at_once : (state r : ℕ) → state < 2 ^ 32 → r < 2 ^ 8 → repeat times_x 8 (bit_xor state (r * 2 ^ 24)) ≡ bit_xor (state * 256 % 2 ^ 32) (repeat times_x 8 (bit_xor (state / 2 ^ 24) r * 2 ^ 24))
-unfolding times_x turn
+unfolding times_x clock
 eight_at_once state r hs hr =
     ap (repeat times_x 8)
     (ap (λ z. bit_xor z (r * 2 ^ 24)) (sym (div-add-mod' state (2 ^ 24)) ∙ sym (xor_shifted (state / 2 ^ 24) 24 (state % 2 ^ 24) low))
@@ -104,13 +104,13 @@ pub fed_byte : (bytes : List ℕ) (i state r high eight : ℕ) → i < 512 → s
     → high ≡ bit_xor (state / 2 ^ 24) r → eight ≡ repeat times_x 8 (high * 2 ^ 24) → bit_xor (state * 256 % 2 ^ 32) eight ≡ fed (bit_of_word bytes 0) (8 * (i + 1))
 fed_byte bytes i state r high eight hi hs hb s e eh ee =
     ap (bit_xor (state * 256 % 2 ^ 32)) (ee ∙ ap (λ z. repeat times_x 8 (z * 2 ^ 24)) eh)
-    ∙ sym (eight_at_once state r hs (subst (λ z. z < 2 ^ 8) (sym turned) (reversed-lt 8 (get_or bytes i 0))))
-    ∙ ap₂ (λ x y. repeat times_x 8 (bit_xor x (y * 2 ^ 24))) s turned
+    ∙ sym (eight_at_once state r hs (subst (λ z. z < 2 ^ 8) (sym mirrored) (reversed-lt 8 (get_or bytes i 0))))
+    ∙ ap₂ (λ x y. repeat times_x 8 (bit_xor x (y * 2 ^ 24))) s mirrored
     ∙ sym (fed_run (bit_of_word bytes 0) 8 24 (8 * i) (get_or bytes i 0) (omega arith) (λ j h. data_bit bytes i j hi h))
     ∙ ap (fed (bit_of_word bytes 0)) (next i)
   where
-    turned : r ≡ reversed 8 (get_or bytes i 0)
-    turned = e ∙ reverse_bits-is (get_or bytes i 0) hb
+    mirrored : r ≡ reversed 8 (get_or bytes i 0)
+    mirrored = e ∙ reverse_bits-is (get_or bytes i 0) hb
 
     next : (i : ℕ) → 8 * i + 8 ≡ 8 * (i + 1)
     next i = omega arith

@@ -19,6 +19,6 @@ pub mod ByteTable
 pub mod PowerTable
 pub mod LogTable
 pub mod Residues
-pub mod Turns
+pub mod Clocks
 pub mod Repairs
 pub mod Periods

@@ -2,7 +2,7 @@
 use Rattle.std.proofs.Common.{◌≡◌, ℕ, ◌+◌, ◌*◌, ◌%◌, ◌^◌, ◌<◌, ◌↔◌, zero, suc, refl, sym, ap, ◌∙◌, arith, pow-suc}
 use Rattle.std.proofs.lemmas.Nat.{mod_below, pow_pos}
 use Rattle.fire_code.specs.Remainder.{times_x, power, repeat}
-use Rattle.fire_code.specs.Residue.{turn_ring, turn_cycle}
+use Rattle.fire_code.specs.Residue.{clock_ring, clock_cycle}
 use Rattle.fire_code.proofs.Cycle.{comes_back, cycle_round}
 use Rattle.fire_code.proofs.Fold.{repeat_times_x-inj, repeat_times_x-lt}
 use Rattle.fire_code.proofs.Powers.{power-is, power-lt, repeat_power}
@@ -12,7 +12,7 @@ use Rattle.fire_code.proofs.Shifted.{ring_of-small, back_in_cycle, in_window}
 use Rattle.fire_code.proofs.Window.{ring_round, repeat-small}
 
 -- below 21 only x^0 is 1 in the ring
-once_round : (k : ℕ) → k < 21 → repeat turn_ring k 1 ≡ 1 → k ≡ 0
+once_round : (k : ℕ) → k < 21 → repeat clock_ring k 1 ≡ 1 → k ≡ 0
 once_round zero h q = refl
 once_round (suc k) h q = absurd (doubled (2 ^ k) (pow_pos k) (sym (pow-suc 2 k) ∙ sym (one (2 ^ suc k)) ∙ sym (repeat-small 20 1 1 1 (omega arith) (suc k) (omega arith)) ∙ q))
   where
@@ -33,18 +33,18 @@ second d p = omega arith
 
 -- a power that is 1 is a multiple of both periods
 one_only : (d : ℕ) → repeat times_x d 1 ≡ 1 → d % 42987 ≡ 0
-one_only d q = both d (once_round (d % 21) (mod_below d 21 (omega arith)) turned) (comes_back d 1 (omega arith) (omega arith) (back_in_cycle d 1 (omega arith) q))
+one_only d q = both d (once_round (d % 21) (mod_below d 21 (omega arith)) clocked) (comes_back d 1 (omega arith) (omega arith) (back_in_cycle d 1 (omega arith) q))
   where
-    turned : repeat turn_ring (d % 21) 1 ≡ 1
-    turned = sym (repeat_mod turn_ring 21 1 (ring_round 1 (omega arith)) d) ∙ in_window d 1 1 (omega arith) (omega arith) q
+    clocked : repeat clock_ring (d % 21) 1 ≡ 1
+    clocked = sym (repeat_mod clock_ring 21 1 (ring_round 1 (omega arith)) d) ∙ in_window d 1 1 (omega arith) (omega arith) q
 
 one_again : (d : ℕ) → d % 21 ≡ 0 → d % 2047 ≡ 0 → repeat times_x d 1 ≡ 1
 unfolding repeat
 one_again d p q = same_residues (repeat times_x d 1) 1 (repeat_times_x-lt d 1 (omega arith)) (omega arith)
-    (ring_of-repeat d 1 (omega arith) ∙ ap (repeat turn_ring d) (ring_of-small 1 (omega arith))
-    ∙ repeat_mod turn_ring 21 1 (ring_round 1 (omega arith)) d ∙ ap (λ z. repeat turn_ring z 1) p ∙ sym (ring_of-small 1 (omega arith)))
-    (cycle_of-repeat d 1 (omega arith) ∙ ap (repeat turn_cycle d) (cycle_of-small 1 (omega arith))
-    ∙ repeat_mod turn_cycle 2047 1 cycle_round d ∙ ap (λ z. repeat turn_cycle z 1) q ∙ sym (cycle_of-small 1 (omega arith)))
+    (ring_of-repeat d 1 (omega arith) ∙ ap (repeat clock_ring d) (ring_of-small 1 (omega arith))
+    ∙ repeat_mod clock_ring 21 1 (ring_round 1 (omega arith)) d ∙ ap (λ z. repeat clock_ring z 1) p ∙ sym (ring_of-small 1 (omega arith)))
+    (cycle_of-repeat d 1 (omega arith) ∙ ap (repeat clock_cycle d) (cycle_of-small 1 (omega arith))
+    ∙ repeat_mod clock_cycle 2047 1 cycle_round d ∙ ap (λ z. repeat clock_cycle z 1) q ∙ sym (cycle_of-small 1 (omega arith)))
 
 pub power_period : (e d : ℕ) → (power (e + d) ≡ power e) ↔ (d % 42987 ≡ 0)
 unfolding power

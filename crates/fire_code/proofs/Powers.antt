@@ -3,7 +3,7 @@ use Rattle.std.proofs.Common.{◌≡◌, ℕ, zero, suc, ◌+◌, ◌-◌, ◌^�
 use lib.Bits.{bit_xor, xor_lt}
 use Rattle.std.proofs.lemmas.List.Elements.{All-head, All-tail}
 use Rattle.fire_code.specs.Remainder.{times_x, power, remainder, repeat}
-use Rattle.fire_code.specs.Residue.{turn}
+use Rattle.fire_code.specs.Residue.{clock}
 use Rattle.fire_code.proofs.Linear.{IsLinear, linear_at_zero}
 use Rattle.fire_code.proofs.Register.{repeat_add, repeat_linear}
 use Rattle.fire_code.proofs.Fold.{times_x-lt, times_x-linear}
@@ -21,7 +21,7 @@ power-lt (suc e) = times_x-lt (power e)
 
 -- below x^32 a power is a bit
 pub power_low : (j : ℕ) → j < 32 → power j ≡ 2 ^ j
-unfolding times_x turn
+unfolding times_x clock
 power_low j h = power-is j ∙ repeat-small 31 0x00A00805 1 1 (omega arith) j (omega arith) ∙ one-mul (2 ^ j)
 
 pub repeat_power : (d e : ℕ) → repeat times_x d (power e) ≡ power (d + e)

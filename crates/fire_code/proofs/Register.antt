@@ -5,7 +5,7 @@ use Rattle.std.proofs.lemmas.Nat.{mod_below, div-add-mod'}
 use lib.Bits.{bit_xor, xor_zero_r, xor_self}
 use Rattle.fire_code.proofs.Linear.{IsLinear, linear_after, linear_xor, linear_mod, linear_div, linear_shl, bit_cases}
 use Rattle.fire_code.specs.Remainder.{repeat}
-use Rattle.fire_code.specs.Residue.{turn}
+use Rattle.fire_code.specs.Residue.{clock}
 
 zero_mul : (m : ℕ) → 0 * m ≡ 0
 zero_mul m = omega arith
@@ -25,9 +25,9 @@ bit_linear m = linear_after (λ v. v % 2 ^ 1) (λ v. v / 2 ^ m) (linear_mod 1) (
 pub bit_times-linear : (m back : ℕ) → IsLinear (λ v. bit_at v m * back)
 bit_times-linear m back a b = ap (λ z. z * back) (bit_linear m a b) ∙ times_bit back (bit_at a m) (bit_at b m) (bit_is a m) (bit_is b m)
 
-pub turn-linear : (m back : ℕ) → IsLinear (turn m back)
-unfolding turn
-turn-linear m back =
+pub clock-linear : (m back : ℕ) → IsLinear (clock m back)
+unfolding clock
+clock-linear m back =
     linear_xor (λ v. v * 2 % 2 ^ suc m) (λ v. bit_at v m * back)
     (linear_after (λ v. v % 2 ^ suc m) (λ v. v * 2 ^ 1) (linear_mod (suc m)) (linear_shl 1))
     (bit_times-linear m back)

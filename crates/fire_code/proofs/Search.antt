@@ -75,7 +75,7 @@ none_next r e w he h fails before ks b q = at (cases_eq (get_or ks 0 0 + e) 4127
   where
     found : HasPattern ks → get_or ks 0 0 + e ≡ 4127 → ⊥
     found k eq = fails (subst (λ z. 2 ^ 10 ≤ z) (sym same) (reversed_11 k.pattern k.small k.odd)) (subst (λ z. z < 2 ^ 11) (sym same) (reversed-lt 11 k.pattern))
-        (subst (λ z. z < 2 ^ (4128 - (4127 - e))) (sym turned) (subst (λ z. k.pattern < 2 ^ (4128 - z)) (place (get_or ks 0 0) eq k.first k.is_first) k.fits))
+        (subst (λ z. z < 2 ^ (4128 - (4127 - e))) (sym mirrored) (subst (λ z. k.pattern < 2 ^ (4128 - z)) (place (get_or ks 0 0) eq k.first k.is_first) k.fits))
       where
         place : (g : ℕ) → g + e ≡ 4127 → (f : ℕ) → f ≡ g → f ≡ 4127 - e
         place g p f i = omega arith
@@ -90,8 +90,8 @@ none_next r e w he h fails before ks b q = at (cases_eq (get_or ks 0 0 + e) 4127
             wide : (n : ℕ) → n < 2 ^ 11 → n < 2 ^ 32
             wide n l = omega arith
 
-        turned : reversed 11 w ≡ k.pattern
-        turned = ap (reversed 11) same ∙ reversed_twice k.pattern k.small
+        mirrored : reversed 11 w ≡ k.pattern
+        mirrored = ap (reversed 11) same ∙ reversed_twice k.pattern k.small
 
     at : (get_or ks 0 0 + e ≡ 4127) ⊎ (get_or ks 0 0 + e ≡ 4127 → ⊥) → get_or ks 0 0 + (e + 1) < 4128
     at (inl eq) = absurd (found (pattern_from ks b) eq)

@@ -4,10 +4,10 @@ use Rattle.std.proofs.lemmas.Nat.{mod_below}
 use Rattle.std.proofs.lemmas.Bool.{cases_lt}
 use lib.Bits.{bit_xor, xor_mod, xor_zero_r}
 use Rattle.fire_code.specs.Remainder.{times_x, repeat}
-use Rattle.fire_code.specs.Residue.{turn, turn_ring, turn_cycle, ring_of}
+use Rattle.fire_code.specs.Residue.{clock, clock_ring, clock_cycle, ring_of}
 use Rattle.fire_code.proofs.Linear.{linear_at_zero}
 use Rattle.fire_code.proofs.Register.{repeat_add, repeat_comm, repeat_mod, repeat_linear, repeat_carried}
-use Rattle.fire_code.proofs.Fold.{times_x-lt, times_x-linear, ring_of-times_x, doubled, doubled-times_x, turn-lt, repeat_times_x-inj, repeat_times_x-lt}
+use Rattle.fire_code.proofs.Fold.{times_x-lt, times_x-linear, ring_of-times_x, doubled, doubled-times_x, clock-lt, repeat_times_x-inj, repeat_times_x-lt}
 use Rattle.fire_code.proofs.Window.{ring_round, window_stays, repeat-small}
 use Rattle.fire_code.proofs.Cycle.{comes_back}
 
@@ -30,20 +30,20 @@ doubled-inj u w hu hw q = sym (doubled-low u hu) ∙ ap (λ z. z % 2 ^ 21) q ∙
 
 -- a number of 11 bits and that number times x^21, both at once
 doubled-is : (w : ℕ) → w < 2 ^ 11 → doubled w ≡ bit_xor w (repeat times_x 21 w)
-unfolding doubled times_x turn
+unfolding doubled times_x clock
 doubled-is w h = ap (bit_xor w) (sym (repeat-small 31 0x00A00805 w 11 h 21 (omega arith)))
 
-pub repeat_cycle-lt : (d w : ℕ) → w < 2 ^ 11 → repeat turn_cycle d w < 2 ^ 11
+pub repeat_cycle-lt : (d w : ℕ) → w < 2 ^ 11 → repeat clock_cycle d w < 2 ^ 11
 unfolding repeat
 repeat_cycle-lt zero w h = h
-repeat_cycle-lt (suc d) w h = turn-lt 10 5 (repeat turn_cycle d w) (omega arith)
+repeat_cycle-lt (suc d) w h = clock-lt 10 5 (repeat clock_cycle d w) (omega arith)
 
 -- what comes back modulo the generator comes back modulo x^11 + x^2 + 1
-pub back_in_cycle : (d b : ℕ) → b < 2 ^ 11 → repeat times_x d b ≡ b → repeat turn_cycle d b ≡ b
-back_in_cycle d b hb q = doubled-inj (repeat turn_cycle d b) b (repeat_cycle-lt d b hb) hb (carried ∙ stays)
+pub back_in_cycle : (d b : ℕ) → b < 2 ^ 11 → repeat times_x d b ≡ b → repeat clock_cycle d b ≡ b
+back_in_cycle d b hb q = doubled-inj (repeat clock_cycle d b) b (repeat_cycle-lt d b hb) hb (carried ∙ stays)
   where
-    carried : doubled (repeat turn_cycle d b) ≡ repeat times_x d (doubled b)
-    carried = repeat_carried (λ z. z < 2 ^ 11) turn_cycle times_x doubled (λ v _. turn-lt 10 5 v (omega arith)) doubled-times_x d b hb
+    carried : doubled (repeat clock_cycle d b) ≡ repeat times_x d (doubled b)
+    carried = repeat_carried (λ z. z < 2 ^ 11) clock_cycle times_x doubled (λ v _. clock-lt 10 5 v (omega arith)) doubled-times_x d b hb
 
     stays : repeat times_x d (doubled b) ≡ doubled b
     stays =
@@ -52,10 +52,10 @@ back_in_cycle d b hb q = doubled-inj (repeat turn_cycle d b) b (repeat_cycle-lt 
         ∙ ap₂ bit_xor q (repeat_comm times_x d 21 b ∙ ap (repeat times_x 21) q)
         ∙ sym (doubled-is b hb)
 
-pub in_window : (d b c : ℕ) → b < 2 ^ 11 → c < 2 ^ 11 → repeat times_x d c ≡ b → repeat turn_ring d c ≡ b
+pub in_window : (d b c : ℕ) → b < 2 ^ 11 → c < 2 ^ 11 → repeat times_x d c ≡ b → repeat clock_ring d c ≡ b
 in_window d b c hb hc q =
-    ap (repeat turn_ring d) (sym (ring_of-small c (wide c hc)))
-    ∙ sym (repeat_carried (λ z. z < 2 ^ 32) times_x turn_ring ring_of (λ v _. times_x-lt v) ring_of-times_x d c (wider c hc))
+    ap (repeat clock_ring d) (sym (ring_of-small c (wide c hc)))
+    ∙ sym (repeat_carried (λ z. z < 2 ^ 32) times_x clock_ring ring_of (λ v _. times_x-lt v) ring_of-times_x d c (wider c hc))
     ∙ ap ring_of q ∙ ring_of-small b (wide b hb)
   where
     wide : (n : ℕ) → n < 2 ^ 11 → n < 2 ^ 21
@@ -70,19 +70,19 @@ both_periods d h p q = omega arith
 -- x^d times a number of just 11 bits is one only where d is 0
 pub same_start : (d b c : ℕ) → d < 42987 → b < 2 ^ 11 → c < 2 ^ 11 → 2 ^ 10 ≤ b → 2 ^ 10 ≤ c → repeat times_x d c ≡ b → (d ≡ 0) × (c ≡ b)
 unfolding repeat
-same_start d b c hd hb hc tb tc q = (both_periods d hd turned (comes_back d b (top_pos b tb) hb (back_in_cycle d b hb same_back)), same)
+same_start d b c hd hb hc tb tc q = (both_periods d hd clocked (comes_back d b (top_pos b tb) hb (back_in_cycle d b hb same_back)), same)
   where
     top_pos : (n : ℕ) → 2 ^ 10 ≤ n → 0 < n
     top_pos n o = omega arith
 
-    reduced : repeat turn_ring (d % 21) c ≡ b
-    reduced = sym (repeat_mod turn_ring 21 c (ring_round c (omega (arith, hc))) d) ∙ in_window d b c hb hc q
+    reduced : repeat clock_ring (d % 21) c ≡ b
+    reduced = sym (repeat_mod clock_ring 21 c (ring_round c (omega (arith, hc))) d) ∙ in_window d b c hb hc q
 
-    turned : d % 21 ≡ 0
-    turned = window_stays b c (d % 21) tb hb tc hc (mod_below d 21 (omega arith)) reduced
+    clocked : d % 21 ≡ 0
+    clocked = window_stays b c (d % 21) tb hb tc hc (mod_below d 21 (omega arith)) reduced
 
     same : c ≡ b
-    same = sym (ap (λ z. repeat turn_ring z c) turned) ∙ reduced
+    same = sym (ap (λ z. repeat clock_ring z c) clocked) ∙ reduced
 
     same_back : repeat times_x d b ≡ b
     same_back = ap (repeat times_x d) (sym same) ∙ q

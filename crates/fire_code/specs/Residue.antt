@@ -5,16 +5,16 @@ use Rattle.std.proofs.Common.{suc}
 use Rattle.fire_code.specs.Remainder.{times_x, repeat}
 
 -- x * v modulo x^(m+1) + back, for v of m + 1 bits
-unfoldable pub turn : ℕ → ℕ → ℕ → ℕ
-turn m back v = bit_xor (v * 2 % 2 ^ suc m) (bit_at v m * back)
+unfoldable pub clock : ℕ → ℕ → ℕ → ℕ
+clock m back v = bit_xor (v * 2 % 2 ^ suc m) (bit_at v m * back)
 
--- x * v modulo x^21 + 1: a ring of 21 bits, turned once
-abbrev pub turn_ring : ℕ → ℕ
-turn_ring = turn 20 1
+-- x * v modulo x^21 + 1: a ring of 21 bits, clocked once
+abbrev pub clock_ring : ℕ → ℕ
+clock_ring = clock 20 1
 
 -- x * v modulo x^11 + x^2 + 1
-abbrev pub turn_cycle : ℕ → ℕ
-turn_cycle = turn 10 5
+abbrev pub clock_cycle : ℕ → ℕ
+clock_cycle = clock 10 5
 
 -- v modulo x^21 + 1, for v of 32 bits: its bits laid round a ring of 21
 unfoldable pub ring_of : ℕ → ℕ

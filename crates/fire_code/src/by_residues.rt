@@ -33,14 +33,14 @@ fn cycle_of(remainder: u32) -> u16
 }
 
 // The exponent below 21 * 2047 that has both residues.
-fn joined(turns: u32, power: u32) -> u32
-    requires turns { turns < 21 }
+fn joined(clocks: u32, power: u32) -> u32
+    requires clocks { clocks < 21 }
     requires power { power < 2047 }
     ensures below { result < 42987 }
-    ensures window { result % 21 ≡ turns }
+    ensures window { result % 21 ≡ clocks }
     ensures cycle { result % 2047 ≡ power }
 {
-    power + 2047 * ((turns + 21 - power % 21) * 19 % 21)
+    power + 2047 * ((clocks + 21 - power % 21) * 19 % 21)
 }
 
 // The burst whose window has this exponent, where it lies in the word.
@@ -76,10 +76,10 @@ pub fn verdict_of(remainder: u32) -> Verdict
         return Verdict::Uncorrectable;
     }
     let mut window = ring_of(remainder);
-    for turns in 0..21u32 {
+    for clocks in 0..21u32 {
         if 1024 <= window && window < 2048 {
             let power = (logarithm(cycle) + 10 + 2047 - logarithm(window as u16)) % 2047;
-            return burst_at(joined(turns, u32::from(power)), window as u16);
+            return burst_at(joined(clocks, u32::from(power)), window as u16);
         }
         window = window / 2 + window % 2 * 0x10_0000;
     }

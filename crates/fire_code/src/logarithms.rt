@@ -1,7 +1,7 @@
 // Logarithms modulo x^11 + x^2 + 1.
 ghost use Rattle.std.specs.Prelude.{◌≡◌, ℕ, ◌<◌, ◌^◌};
 ghost use Rattle.fire_code.specs.Remainder.{repeat};
-ghost use Rattle.fire_code.specs.Residue.{turn_cycle};
+ghost use Rattle.fire_code.specs.Residue.{clock_cycle};
 
 // At v, the i below 2047 with x^i = v; at 0, which has none, 0.
 static LOGARITHMS: [u16; 2048] = [
@@ -132,8 +132,8 @@ pub fn logarithm(value: u16) -> u16
     requires not_zero { 0 < value }
     requires small { value < 2 ^ 11 }
     ensures below { result < 2047 }
-    ensures power { repeat turn_cycle result 1 ≡ value }
-    ensures only { (i : ℕ) → i < 2047 → repeat turn_cycle i 1 ≡ value → i ≡ result }
+    ensures power { repeat clock_cycle result 1 ≡ value }
+    ensures only { (i : ℕ) → i < 2047 → repeat clock_cycle i 1 ≡ value → i ≡ result }
 {
     LOGARITHMS[usize::from(value)]
 }

@@ -8,12 +8,12 @@ pub fn reversed(value: u16) -> u16
     ensures { result ≡ the_reversed 11 value }
 {
     let mut rest = value;
-    let mut turned = 0;
+    let mut mirrored = 0;
     for _step in 0..11u32 {
-        turned = 2 * turned + rest % 2;
+        mirrored = 2 * mirrored + rest % 2;
         rest /= 2;
     }
-    turned
+    mirrored
 }
 
 // Whether a pattern from the first place on stays in the word.

@@ -9,7 +9,7 @@ ghost use Rattle.driver_machine.specs.World.{World, unit_at, adapter_at, adapter
 ghost use Rattle.driver_machine.specs.Acts.{Tried, target_of, position_of};
 ghost use Rattle.driver_machine.specs.Does.{Does, Quiet};
 ghost use Rattle.driver_machine.specs.Sound.{Sound};
-ghost use Rattle.driver_machine.specs.Events.{start_acts, restart_acts, turn_acts, submit_acts, arrive_acts, move_acts, attn_one, attn_acts, finish_acts, end_acts, clear_of, attend_acts, event_acts, IsThere, ending, IsAsked, lowest, can_arrive, can_move, can_attend, next_of};
+ghost use Rattle.driver_machine.specs.Events.{start_acts, restart_acts, adapter_start_acts, submit_acts, arrive_acts, move_acts, attn_one, attn_acts, finish_acts, end_acts, clear_of, attend_acts, event_acts, IsThere, ending, IsAsked, lowest, can_arrive, can_move, can_attend, next_of};
 ghost use Rattle.driver_machine.specs.Due.{BusyFor, IsClearing};
 
 use crate::driver::Driver;
@@ -61,10 +61,10 @@ impl Driver {
     }
 
     /// Adapter start: a free adapter is given to the first unit that waits for it.
-    pub(crate) fn turn(&mut self, line: u64, a: u8)
+    pub(crate) fn start_adapter(&mut self, line: u64, a: u8)
         requires sound { Sound self.old }
         requires adapter { a < 4 }
-        ensures does { Quiet (turn_acts line a self.old) self.old self.new }
+        ensures does { Quiet (adapter_start_acts line a self.old) self.old self.new }
     {
         if self.is_busy(a) {
             return;
@@ -202,7 +202,7 @@ impl Driver {
     {
         self.finish(line, a);
         self.take_attentions(line, a);
-        self.turn(line, a);
+        self.start_adapter(line, a);
     }
 
     /// A unit that waits is started.
@@ -229,7 +229,7 @@ impl Driver {
     {
         self.join(line, place, request, bytes);
         self.restart(line, request.unit);
-        self.turn(line, request.unit / 8);
+        self.start_adapter(line, request.unit / 8);
     }
 
     /// An event. A failure of the packs leaves everything here as it was.

@@ -183,7 +183,7 @@ queue_with-runs c x q h = queue_with-inserted c x q h ∙ inserted-runs c x q h
 
 -- a queue of requests, and that of what is seen of each
 abbrev relabelled : {A B : Type 0} → (A → B) → Waiting A → Waiting B
-relabelled f w = record { request = f w.request; sweep = w.sweep; cylinder = w.cylinder; turn = w.turn }
+relabelled f w = record { request = f w.request; sweep = w.sweep; cylinder = w.cylinder; ticket = w.ticket }
 
 map-cond : {A B : Type 0} (f : A → B) (b : Bool) (xs ys : List A) → map f (cond b xs ys) ≡ cond b (map f xs) (map f ys)
 map-cond f true xs ys = refl
@@ -230,7 +230,7 @@ after_join-relabelled : {A B : Type 0} (f : A → B) (c : B → ℕ) (x : A) (s 
 after_join-relabelled f c x s =
     let n = newcomer (λ a. c (f a)) x s.joined s.waiting in
     map-relabelled f (service_order (n ∷ s.waiting)) ∙ ap (map (λ w. w.request)) (relabelled-service_order f (n ∷ s.waiting)) ∙
-    ap (λ k. map (λ w. w.request) (service_order (record { request = f x; sweep = k; cylinder = c (f x); turn = s.joined } ∷ map (relabelled f) s.waiting)))
+    ap (λ k. map (λ w. w.request) (service_order (record { request = f x; sweep = k; cylinder = c (f x); ticket = s.joined } ∷ map (relabelled f) s.waiting)))
     (sym (sweep_for-relabelled f (c (f x)) s.waiting))
 
 pub map-queue_with : {A B : Type 0} (f : A → B) (c : B → ℕ) (x : A) (q : List A)

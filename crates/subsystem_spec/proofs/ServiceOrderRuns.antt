@@ -68,7 +68,7 @@ inserted c x (y ∷ ys) = y ∷ put_in c (c y) x ys
 pub record IsPlaced {A : Type 0} (c : A → ℕ) (h s t : ℕ) (y : Waiting A) : Type 0 where
   pub same : c y.request ≡ y.cylinder
   pub sweep : y.sweep ≡ (if nat_lt y.cylinder h then s + 1 else s)
-  pub turn : y.turn < t
+  pub ticket : y.ticket < t
 
 abbrev pub ArePlaced : {A : Type 0} → (A → ℕ) → ℕ → List (Waiting A) → Type 0
 ArePlaced c t [] = Unit {0}
@@ -83,10 +83,10 @@ empty-is c = record { placed = tt; ascends = tt }
 
 -- the one that joins
 abbrev pub newcomer : {A : Type 0} → (A → ℕ) → A → ℕ → List (Waiting A) → Waiting A
-newcomer c x t waiting = record { request = x; sweep = sweep_for (c x) waiting; cylinder = c x; turn = t }
+newcomer c x t waiting = record { request = x; sweep = sweep_for (c x) waiting; cylinder = c x; ticket = t }
 
 placed-later : {A : Type 0} (c : A → ℕ) (h s t : ℕ) (y : Waiting A) → IsPlaced c h s t y → IsPlaced c h s (t + 1) y
-placed-later c h s t y p = record { same = p.same; sweep = p.sweep; turn = omega arith }
+placed-later c h s t y p = record { same = p.same; sweep = p.sweep; ticket = omega arith }
 
 not_below : (n s : ℕ) → s ≡ (if nat_lt n n then s + 1 else s)
 not_below n s = grind (arith, nat_tests)
@@ -97,11 +97,11 @@ first-stays c x t y ys p = grind (arith, nat_tests)
 
 join-placed : {A : Type 0} (c : A → ℕ) (x : A) (t : ℕ) (ys : List (Waiting A)) → ArePlaced c t ys
     → ArePlaced c (t + 1) (put (newcomer c x t ys) ys)
-join-placed c x t [] h = (record { same = refl; sweep = not_below (c x) 0; turn = omega arith }, tt)
+join-placed c x t [] h = (record { same = refl; sweep = not_below (c x) 0; ticket = omega arith }, tt)
 join-placed c x t (y ∷ ys) h =
     let n = newcomer c x t (y ∷ ys) in
     let e : put n (y ∷ ys) ≡ y ∷ put n ys = cond-true _ _ _ (first-stays c x t y ys h.0) in
-    let new : IsPlaced c y.cylinder y.sweep (t + 1) n = record { same = refl; sweep = refl; turn = omega arith } in
+    let new : IsPlaced c y.cylinder y.sweep (t + 1) n = record { same = refl; sweep = refl; ticket = omega arith } in
     subst (ArePlaced c (t + 1)) (sym e)
     (placed-later c _ _ t y h.0, each-put _ n ys new (each_weaker _ _ (λ z p. placed-later c _ _ t z p) ys h.1))
 
@@ -124,9 +124,9 @@ leave-placed : {A : Type 0} (c : A → ℕ) (t : ℕ) (xs : List (Waiting A)) �
 leave-placed c t [] h a = tt
 leave-placed c t (x ∷ []) h a = tt
 leave-placed c t (x ∷ y ∷ ys) h a = (
-  record { same = h.1.0.same; sweep = not_below y.cylinder y.sweep; turn = h.1.0.turn },
+  record { same = h.1.0.same; sweep = not_below y.cylinder y.sweep; ticket = h.1.0.ticket },
   each_both _ _ (IsPlaced c y.cylinder y.sweep t)
-      (λ z p k. record { same = p.same; sweep = leave-sweep c t x y z h.1.0 p a.0.0 k; turn = p.turn }) ys h.1.1 a.1.0,
+      (λ z p k. record { same = p.same; sweep = leave-sweep c t x y z h.1.0 p a.0.0 k; ticket = p.ticket }) ys h.1.1 a.1.0,
 )
 
 leave-ascends : {A : Type 0} (xs : List (Waiting A)) → Ascends xs → Ascends (drop 1 xs)
@@ -138,9 +138,9 @@ after_leave-is c s h = record { placed = leave-placed c s.joined s.waiting h.pla
 
 -- what an insertion makes of the requests
 before-runs : {A : Type 0} (c : A → ℕ) (h s t : ℕ) (n y : Waiting A) → IsPlaced c h s t y → c n.request ≡ n.cylinder
-    → n.sweep ≡ (if nat_lt n.cylinder h then s + 1 else s) → t ≤ n.turn
+    → n.sweep ≡ (if nat_lt n.cylinder h then s + 1 else s) → t ≤ n.ticket
     → goes_before h (c n.request) (c y.request) ≡ not (is_before y n)
-before-runs c h s t n y p same sweep turn = rw (same, p.same) (grind (arith, nat_tests))
+before-runs c h s t n y p same sweep ticket = rw (same, p.same) (grind (arith, nat_tests))
 
 by_test : {A : Type 0} (b g : Bool) (n y : Waiting A) (ys : List (Waiting A)) (zs : List A) → g ≡ not b → map (λ w. w.request) (put n ys) ≡ zs
     → map (λ w. w.request) (if b then y ∷ put n ys else n ∷ y ∷ ys) ≡ (if g then n.request ∷ y.request ∷ map (λ w. w.request) ys else y.request ∷ zs)
@@ -148,12 +148,12 @@ by_test true g n y ys zs e h = rw e (ap (λ l. y.request ∷ l) h)
 by_test false g n y ys zs e h = rw e refl
 
 pub map-put : {A : Type 0} (c : A → ℕ) (h s t : ℕ) (n : Waiting A) → c n.request ≡ n.cylinder
-    → n.sweep ≡ (if nat_lt n.cylinder h then s + 1 else s) → t ≤ n.turn → (ys : List (Waiting A)) → AllByRecursion (IsPlaced c h s t) ys
+    → n.sweep ≡ (if nat_lt n.cylinder h then s + 1 else s) → t ≤ n.ticket → (ys : List (Waiting A)) → AllByRecursion (IsPlaced c h s t) ys
     → map (λ w. w.request) (put n ys) ≡ put_in c h n.request (map (λ w. w.request) ys)
-map-put c h s t n same sweep turn [] all = refl
-map-put c h s t n same sweep turn (y ∷ ys) all =
-    by_test (is_before y n) (goes_before h (c n.request) (c y.request)) n y ys _ (before-runs c h s t n y all.0 same sweep turn)
-    (map-put c h s t n same sweep turn ys all.1)
+map-put c h s t n same sweep ticket [] all = refl
+map-put c h s t n same sweep ticket (y ∷ ys) all =
+    by_test (is_before y n) (goes_before h (c n.request) (c y.request)) n y ys _ (before-runs c h s t n y all.0 same sweep ticket)
+    (map-put c h s t n same sweep ticket ys all.1)
 
 join-runs : {A : Type 0} (c : A → ℕ) (x : A) (t : ℕ) (ys : List (Waiting A)) → ArePlaced c t ys
     → map (λ w. w.request) (put (newcomer c x t ys) ys) ≡ inserted c x (map (λ w. w.request) ys)
@@ -179,7 +179,7 @@ queue_of-after_leave s = at s.waiting where
 waiting_from-placed : {A : Type 0} (c : A → ℕ) (h k t : ℕ) (q : List A) → k + length q ≤ t → AllByRecursion (IsPlaced c h 0 t) (waiting_from c h k q)
 waiting_from-placed c h k t [] le = tt
 waiting_from-placed c h k t (x ∷ xs) le =
-    (record { same = refl; sweep = refl; turn = omega arith }, waiting_from-placed c h (k + 1) t xs (omega arith))
+    (record { same = refl; sweep = refl; ticket = omega arith }, waiting_from-placed c h (k + 1) t xs (omega arith))
 
 service_of-placed : {A : Type 0} (c : A → ℕ) (q : List A) → ArePlaced c (service_of c q).joined (service_of c q).waiting
 service_of-placed c [] = tt
@@ -197,7 +197,7 @@ queue_of-service_of c (x ∷ xs) = map-waiting_from c (c x) 0 (x ∷ xs)
 
 -- the same order, with the sweeps counted anew
 abbrev pub counted : {A : Type 0} → (A → ℕ) → ℕ → ℕ → A → Waiting A
-counted c h k x = record { request = x; sweep = if nat_lt (c x) h then 1 else 0; cylinder = c x; turn = k }
+counted c h k x = record { request = x; sweep = if nat_lt (c x) h then 1 else 0; cylinder = c x; ticket = k }
 
 counted-behind : {A : Type 0} (c : A → ℕ) (h s t j k : ℕ) (x y : Waiting A) → IsPlaced c h s t x → IsPlaced c h s t y → is_before y x ≡ false → k < j
     → is_before (counted c h j y.request) (counted c h k x.request) ≡ false

@@ -11,13 +11,13 @@ pub record Waiting (A : Type 0) : Type 0 where
   pub request : A
   pub sweep : ℕ
   pub cylinder : ℕ
-  pub turn : ℕ
+  pub ticket : ℕ
 
 -- by sweep; in one sweep by cylinder; at one cylinder by order of joining
 abbrev pub is_before : {A : Type 0} → Waiting A → Waiting A → Bool
 is_before x y =
     if x.sweep == y.sweep
-    then (if x.cylinder == y.cylinder then nat_lt x.turn y.turn else nat_lt x.cylinder y.cylinder)
+    then (if x.cylinder == y.cylinder then nat_lt x.ticket y.ticket else nat_lt x.cylinder y.cylinder)
     else nat_lt x.sweep y.sweep
 
 -- a sort of the whole list
@@ -49,7 +49,7 @@ after_join cylinder_of x service = record {
     request = x;
     sweep = sweep_for (cylinder_of x) service.waiting;
     cylinder = cylinder_of x;
-    turn = service.joined;
+    ticket = service.joined;
   } ∷ service.waiting);
   joined = service.joined + 1;
 }
@@ -62,15 +62,15 @@ abbrev pub queue_of : {A : Type 0} → Service A → List A
 queue_of service = map (λ x. x.request) service.waiting
 
 -- A queue in service order tells its own sweeps, counted from the head's: those below the head's cylinder are one sweep
--- later. Turns are counted along it, since at one cylinder of one sweep it is in order of joining.
+-- later. Tickets are counted along it, since at one cylinder of one sweep it is in order of joining.
 abbrev pub waiting_from : {A : Type 0} → (A → ℕ) → ℕ → ℕ → List A → List (Waiting A)
-waiting_from cylinder_of head turn [] = []
-waiting_from cylinder_of head turn (x ∷ xs) = record {
+waiting_from cylinder_of head ticket [] = []
+waiting_from cylinder_of head ticket (x ∷ xs) = record {
   request = x;
   sweep = if nat_lt (cylinder_of x) head then 1 else 0;
   cylinder = cylinder_of x;
-  turn = turn;
-} ∷ waiting_from cylinder_of head (turn + 1) xs
+  ticket = ticket;
+} ∷ waiting_from cylinder_of head (ticket + 1) xs
 
 abbrev pub service_of : {A : Type 0} → (A → ℕ) → List A → Service A
 service_of cylinder_of [] = empty_service

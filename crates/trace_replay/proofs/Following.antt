@@ -8,7 +8,7 @@ use Rattle.trace_replay.specs.Rules.{RuleName, Number, Events, Service, Conversa
 
 kept : (s : Replay) (line unit id : ℕ) (deed : Deed) → LineMay s line unit id deed → (rule : RuleName) → LineKeeps rule s line unit id deed
 kept s line unit id deed may Number = may.number
-kept s line unit id deed may Events = may.turn
+kept s line unit id deed may Events = may.wished
 kept s line unit id deed may Service = may.service
 kept s line unit id deed may Conversation = may.talk
 kept s line unit id deed may Drives = may.drive
@@ -19,7 +19,7 @@ kept s line unit id deed may Work = may.at_work
 all_kept : (s : Replay) (line unit id : ℕ) (deed : Deed) → ((rule : RuleName) → LineKeeps rule s line unit id deed) → LineMay s line unit id deed
 all_kept s line unit id deed keeps = record {
   number = keeps Number;
-  turn = keeps Events;
+  wished = keeps Events;
   service = keeps Service;
   talk = keeps Conversation;
   drive = keeps Drives;

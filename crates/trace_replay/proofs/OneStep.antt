@@ -273,7 +273,7 @@ line_once s line unit id line' unit' id' deed deed' may may' =
     lines = may.number ∙ sym may'.number
 
     wishes : wish_of unit deed ≡ wish_of unit' deed'
-    wishes = sym may.turn ∙ may'.turn
+    wishes = sym may.wished ∙ may'.wished
 
     units : unit ≡ unit'
     units = sym (unit_of_wish unit deed) ∙ ap unit_in wishes ∙ unit_of_wish unit' deed'
@@ -339,13 +339,13 @@ told_is unit (End a) = refl
 
 told_wish : (wish : Wish) (s : Replay) (line unit id : ℕ) (deed : Deed) → next_wish s ≡ wish → ToldMay wish s line unit id deed → is_told wish ≡ 1
 unfolding is_told
-told_wish NoLine s line unit id deed is may = ap is_told (sym is ∙ may.turn) ∙ told_is unit deed
-told_wish (DueLine u) s line unit id deed is may = ap is_told (sym is ∙ may.turn) ∙ told_is unit deed
-told_wish (Arrival u) s line unit id deed is may = ap is_told (sym is ∙ may.turn) ∙ told_is unit deed
-told_wish (SectorLine u) s line unit id deed is may = ap is_told (sym is ∙ may.turn) ∙ told_is unit deed
-told_wish (Interrupt u) s line unit id deed is may = ap is_told (sym is ∙ may.turn) ∙ told_is unit deed
-told_wish (Attention u) s line unit id deed is may = ap is_told (sym is ∙ may.turn) ∙ told_is unit deed
-told_wish IdleLine s line unit id deed is may = ap is_told (sym is ∙ may.turn) ∙ told_is unit deed
+told_wish NoLine s line unit id deed is may = ap is_told (sym is ∙ may.wished) ∙ told_is unit deed
+told_wish (DueLine u) s line unit id deed is may = ap is_told (sym is ∙ may.wished) ∙ told_is unit deed
+told_wish (Arrival u) s line unit id deed is may = ap is_told (sym is ∙ may.wished) ∙ told_is unit deed
+told_wish (SectorLine u) s line unit id deed is may = ap is_told (sym is ∙ may.wished) ∙ told_is unit deed
+told_wish (Interrupt u) s line unit id deed is may = ap is_told (sym is ∙ may.wished) ∙ told_is unit deed
+told_wish (Attention u) s line unit id deed is may = ap is_told (sym is ∙ may.wished) ∙ told_is unit deed
+told_wish IdleLine s line unit id deed is may = ap is_told (sym is ∙ may.wished) ∙ told_is unit deed
 told_wish (Refusal u i why) s line unit id deed is may = refl
 
 pub told_now : (s : Replay) (line unit id : ℕ) (deed : Deed) → MayCome s (Told line unit id deed) → is_told (next_wish s) ≡ 1

@@ -16,7 +16,7 @@ pub arrival_may : (s : Replay) (unit id : ℕ) (left : List Positioning) (segmen
     → WorkMay s.event.between s → LineMay s s.event.line unit id Arrive
 arrival_may s unit id left segment act quiet head stage positions work = record {
   number = refl;
-  turn = rw (quiet, act) refl;
+  wished = rw (quiet, act) refl;
   service = head;
   talk = rw stage refl;
   drive = positions;
@@ -34,7 +34,7 @@ pub search_may : (s : Replay) (unit id c t : ℕ) (left : List Positioning) (seg
     → WorkMay s.event.between s → LineMay s s.event.line unit id (Search c t)
 search_may s unit id c t left segment speaker head stage online valid taken work = record {
   number = refl;
-  turn = rw (speaker, stage) refl;
+  wished = rw (speaker, stage) refl;
   service = head;
   talk = rw (stage, online, valid) refl;
   drive = taken;

@@ -115,7 +115,7 @@ WorkMay false s = Unit {0}
 -- WHAT MAY COME. A line of a unit keeps each rule.
 pub record LineMay (s : Replay) (line unit id : ℕ) (deed : Deed) : Type 0 where
   pub number : line ≡ s.event.line
-  pub turn : next_wish s ≡ wish_of unit deed
+  pub wished : next_wish s ≡ wish_of unit deed
   pub service : ServiceMay (s.units unit).service id
   pub talk : TalkMay (s.units unit).drive (hand_of (s.units unit)) (s.units unit).stage deed
   pub drive : DriveMay (s.units unit).drive (target_of (s.units unit).drive.kind (in_hand (s.units unit).service)) deed

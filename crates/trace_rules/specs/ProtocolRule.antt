@@ -28,7 +28,7 @@ pub data Stage : Type 0 where
   Ending : Stage
 
 -- the drive, and how far the request in hand is
-pub record Turn : Type 0 where
+pub record Talk : Type 0 where
   pub seen : DriveSeen
   pub stage : Stage
 
@@ -53,17 +53,17 @@ IsSeen verdict.Clean = Unit {0}
 IsSeen verdict.Marked = Unit {0}
 IsSeen _ = ⊥
 
-abbrev pub TurnMay : Stage → List Request → Deed → Type 0
-TurnMay (Begun position) requests deed = Begins position requests deed
-TurnMay Searching requests Arrive = Unit {0}
-TurnMay Arrived requests Attn = Unit {0}
-TurnMay Attended requests (Command write block count) = IsWhole requests write block count
-TurnMay (Moving block left) requests (Sector at verdict) = (at ≡ block) × (1 ≤ left) × IsSeen verdict
-TurnMay (Moving block left) requests Intr = left ≡ 0
-TurnMay Stopped requests Intr = Unit {0}
-TurnMay ToClear requests Dclr = Unit {0}
-TurnMay Ending requests End = Unit {0}
-TurnMay stage requests deed = ⊥
+abbrev pub TalkMay : Stage → List Request → Deed → Type 0
+TalkMay (Begun position) requests deed = Begins position requests deed
+TalkMay Searching requests Arrive = Unit {0}
+TalkMay Arrived requests Attn = Unit {0}
+TalkMay Attended requests (Command write block count) = IsWhole requests write block count
+TalkMay (Moving block left) requests (Sector at verdict) = (at ≡ block) × (1 ≤ left) × IsSeen verdict
+TalkMay (Moving block left) requests Intr = left ≡ 0
+TalkMay Stopped requests Intr = Unit {0}
+TalkMay ToClear requests Dclr = Unit {0}
+TalkMay Ending requests End = Unit {0}
+TalkMay stage requests deed = ⊥
 
 abbrev pub stage_moved : Moved → Stage → Stage
 stage_moved verdict.Clean (Moving block left) = Moving (block + 1) (left - 1)
@@ -85,8 +85,8 @@ stage_after stage Intr d requests = stage_interrupted stage
 stage_after stage Dclr d requests = Ending
 stage_after stage End d requests = begun d requests
 
-abbrev pub turn_told : Turn → Deed → Turn
-turn_told t deed = record {
+abbrev pub talk_told : Talk → Deed → Talk
+talk_told t deed = record {
   seen = drive_told t.seen deed;
   stage = stage_after t.stage deed (drive_told t.seen deed).drive (drive_told t.seen deed).requests;
 }
@@ -96,19 +96,19 @@ abbrev pub stage_asked : Stage → DriveState → List Request → Stage
 stage_asked NoRequest d requests = begun d requests
 stage_asked stage d requests = stage
 
-abbrev pub turn_asked : Turn → Request → Turn
-turn_asked t r = record {
+abbrev pub talk_asked : Talk → Request → Talk
+talk_asked t r = record {
   seen = drive_asked t.seen r;
   stage = stage_asked t.stage t.seen.drive (t.seen.requests ++ r ∷ []);
 }
 
-abbrev pub protocol_rule : Rule Turn
+abbrev pub protocol_rule : Rule Talk
 protocol_rule = record {
   keeper = own;
-  may = λ t unit id deed. TurnMay t.stage t.seen.requests deed;
-  told = λ t unit id deed. turn_told t deed;
-  asked = turn_asked;
+  may = λ t unit id deed. TalkMay t.stage t.seen.requests deed;
+  told = λ t unit id deed. talk_told t deed;
+  asked = talk_asked;
 }
 
-abbrev pub first_turns : (ℕ → Option DriveKind) → ℕ → Turn
-first_turns drives unit = record { seen = attached_drives drives unit; stage = NoRequest }
+abbrev pub first_talks : (ℕ → Option DriveKind) → ℕ → Talk
+first_talks drives unit = record { seen = attached_drives drives unit; stage = NoRequest }

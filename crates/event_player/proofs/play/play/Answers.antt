@@ -2,7 +2,7 @@ use Rattle.std.proofs.Common.{rules, ap, refl, arith}
 use Rattle.driver_laws.proofs.Sound.{sound_does}
 use Rattle.hp_driver.specs.Subsystem.{State}
 use Rattle.event_player.specs.declared.script.Line.TheVariants.{Unit as UnitLine}
-use Rattle.event_player.proofs.PlayLaws.{start_sound, so_far_none, so_far_turn, so_far_end, may_play, plays_all}
+use Rattle.event_player.proofs.PlayLaws.{start_sound, so_far_none, so_far_next, so_far_end, may_play, plays_all}
 use Rattle.event_player.proofs.RuleLaws.{plays_by_rules}
 use Rattle.event_player.proofs.play.play.Goals as goal
 
@@ -30,7 +30,7 @@ loop-i-preserved g c = record {
   later_out = search rules;
   trace = search rules;
   going = search rules;
-  so_far = so_far_turn c.lines-lines.result.now UnitLine (omega arith) refl c.in_ok-play_line.ensures.never_again c.in_ok-play_line.ensures.never_again_out c.loop-i.invariant.so_far c.in_ok-play_line.ensures.plays;
+  so_far = so_far_next c.lines-lines.result.now UnitLine (omega arith) refl c.in_ok-play_line.ensures.never_again c.in_ok-play_line.ensures.never_again_out c.loop-i.invariant.so_far c.in_ok-play_line.ensures.plays;
 }
 
 pub drain-requires-clause-sound : goal.drain-requires-clause-sound

@@ -4,7 +4,7 @@ use Rattle.std.proofs.lemmas.Bool.{both_ways}
 use Rattle.fire_code.specs.Burst.{IsBurst}
 use Rattle.fire_code.proofs.Bursts.{reversed-lt}
 use Rattle.fire_code.proofs.Search.{window_found}
-use Rattle.fire_code.proofs.Turns.{too_early, no_room}
+use Rattle.fire_code.proofs.Clocks.{too_early, no_room}
 use Rattle.fire_code.proofs.by_residues.burst_at.Goals as goal
 
 pub returns-then-exponent-gt4127 : goal.returns-then-exponent-gt4127

@@ -1,4 +1,4 @@
--- The residue, turned ten times at once.
+-- The residue, clocked ten times at once.
 use Rattle.std.proofs.Common.{arith}
 use Rattle.fire_code.specs.Residue.{ring_of as the_ring}
 use Rattle.fire_code.proofs.Residues.{ring_of-ten}

@@ -12,15 +12,15 @@ join-requires-clause-room c =
 pub restart-requires-clause-sound : goal.restart-requires-clause-sound
 restart-requires-clause-sound c = sound_quiet c.requires.sound c.join.ensures.joined.2
 
-pub turn-requires-clause-sound : goal.turn-requires-clause-sound
-turn-requires-clause-sound c = sound_quiet (sound_quiet c.requires.sound c.join.ensures.joined.2) c.restart.ensures.does
+pub start_adapter-requires-clause-sound : goal.start_adapter-requires-clause-sound
+start_adapter-requires-clause-sound c = sound_quiet (sound_quiet c.requires.sound c.join.ensures.joined.2) c.restart.ensures.does
 
 pub returns : goal.returns
 returns c = record {
   does = (
     c.join.ensures.joined.0,
     c.join.ensures.joined.1,
-    submitted c.args.self.now c.join.new.self c.restart.new.self c.turn.new.self c.args.line c.args.place c.args.request.unit c.join.ensures.joined.0
-        (ap (λ (r : Request). r.unit) c.join.ensures.joined.1.asked) c.join.ensures.joined.2 c.restart.ensures.does c.turn.ensures.does,
+    submitted c.args.self.now c.join.new.self c.restart.new.self c.start_adapter.new.self c.args.line c.args.place c.args.request.unit c.join.ensures.joined.0
+        (ap (λ (r : Request). r.unit) c.join.ensures.joined.1.asked) c.join.ensures.joined.2 c.restart.ensures.does c.start_adapter.ensures.does,
   );
 }

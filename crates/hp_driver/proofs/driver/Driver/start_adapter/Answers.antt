@@ -1,7 +1,7 @@
 use Rattle.std.proofs.Common.{sym}
 use Rattle.driver_laws.proofs.Does.{quiet_as}
-use Rattle.driver_laws.proofs.EventActs.{FirstWaiting, first_waiting, command_may, turn_command, on_cpu, first_inside, queued_transferring, some_blocks}
-use Rattle.hp_driver.proofs.driver.Driver.turn.Goals as goal
+use Rattle.driver_laws.proofs.EventActs.{FirstWaiting, first_waiting, command_may, adapter_start_command, on_cpu, first_inside, queued_transferring, some_blocks}
+use Rattle.hp_driver.proofs.driver.Driver.start_adapter.Goals as goal
 use Rattle.driver_laws.proofs.SoundFacts.{unit_there}
 
 pub head-requires : goal.head-requires
@@ -30,6 +30,6 @@ command-requires-clause-block c =
 pub returns : goal.returns
 returns c = record {
   does = quiet_as
-      (sym (turn_command c.args.line c.args.a c.in-Some.u c.in-Some-head.place c.args.self.now (sym c.if-is_busy.ensures) c.in-Some.ensures.some c.in-Some-head.ensures.some))
+      (sym (adapter_start_command c.args.line c.args.a c.in-Some.u c.in-Some-head.place c.args.self.now (sym c.if-is_busy.ensures) c.in-Some.ensures.some c.in-Some-head.ensures.some))
       c.command.ensures.does;
 }
