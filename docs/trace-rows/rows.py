@@ -3,6 +3,7 @@
 
     rows.py run PROGRAM [NAME..]   plays the rows by a program (`PROGRAM play` in a folder of its own, with hpU.dsk and hpU.bad)
                                    and writes its answers and its trace into them; each answer is one line, with its bytes
+                                   as runs `N*HH+..`, or `N*seqF` for N bytes of a sequence from F
     rows.py write [NAME..]         writes the crate `trace_rows` anew: each row as a script and as moments, the lines out of
                                    place of `refused.txt`, and their proofs
 
@@ -77,7 +78,7 @@ def packs_of(row):
     return out
 
 
-# ---- bytes as runs, `N*HH+..`
+# ---- bytes as runs, `N*HH+..`, or as a whole sequence, `N*seqF`
 def runs(data):
     out = []
     for b in data:
@@ -88,15 +89,30 @@ def runs(data):
     return out
 
 
+def sequence(first, size):
+    return bytes((first + i // 512 + i % 512) % 256 for i in range(size))
+
+
+def is_sequence(data):
+    return len(data) > 1 and data[0] != data[1] and data == sequence(data[0], len(data))
+
+
 def runs_text(data):
+    if is_sequence(data):
+        return f'{len(data)}*seq{data[0]}'
     return '+'.join(f'{n}*{b:02x}' for n, b in runs(data)) or '0*00'
 
 
 def bytes_of(text):
+    if '*seq' in text:
+        size, first = text.split('*seq')
+        return sequence(int(first), int(size))
     return b''.join(int(n) * bytes([int(b, 16)]) for n, b in (r.split('*') for r in text.split('+')))
 
 
 def bytes_term(data):
+    if is_sequence(data):
+        return f'(sequence {data[0]} {len(data)})'
     return '(' + ' ++ '.join(f'replicate {n} {b}' for n, b in runs(data)) + ')' if data else '[]'
 
 
@@ -154,7 +170,7 @@ def written_by(fields, count, last):
     if fields[0] == 'fill':
         data = bytes([int(fields[1], 16)]) * (512 * count)
     elif fields[0] == 'seq':
-        data = bytes((int(fields[1]) + j + t) % 256 for j in range(count) for t in range(512))
+        data = sequence(int(fields[1]), 512 * count)
     else:
         data = bytes.fromhex(fields[1])
     return data[:512 * (count - 1) + last]
@@ -311,16 +327,47 @@ def step_proof(moment):
             f'verdict = {verdict}; at_work = WORK }}')
 
 
+PART = 40
+
+
+def is_long(row):
+    """whether the proof of a row is cut into parts: a whole long row would be computed from its start at each moment"""
+    return len(moments_of(row)) > 2 * PART
+
+
+def steps_term(steps):
+    return ''.join(f'({step}, ' for step in steps) + 'tt' + ')' * len(steps)
+
+
 def row_proof(row):
     """each moment by computation: a record of `refl`"""
     name, moments = row['name'], [m for m, _ in moments_of(row)]
-    works = work_marks(row)
-    term = ''.join(f'({step_proof(m).replace("WORK", w)}, ' for m, w in zip(moments, works)) + 'tt' + ')' * len(moments)
+    steps = [step_proof(m).replace('WORK', w) for m, w in zip(moments, work_marks(row))]
     unfolding = 'unfolding repair.burst_byte\n' if any('(Burst' in m for m in moments) else ''
     if name == 'alias_noise':
         unfolding = 'unfolding code.remainder code.power code.times_x\n'
-    return (f'pub {name}_accepted : IsAccepted {name}_script {name}_start {name}\n{unfolding}{name}_accepted = record {{\n'
-            f'  inputs = refl;\n  legal = record {{ follows = {term}; over = record {{ over = refl; answered = refl }} }};\n}}\n')
+    parts = parts_proof(name, steps, unfolding) if is_long(row) else ''
+    follows = f'{name}_follows_0' if parts else steps_term(steps)
+    return (f'{parts}pub {name}_accepted : IsAccepted {name}_script {name}_start {name}\n{unfolding}{name}_accepted = record {{\n'
+            f'  inputs = refl;\n  legal = record {{ follows = {follows}; over = record {{ over = refl; answered = refl }} }};\n}}\n')
+
+
+def parts_proof(name, steps, unfolding):
+    """the moments in parts: what a part leaves, that its moments may come, and last that all do"""
+    count = (len(steps) + PART - 1) // PART
+    out, joins = '', ''
+    for k in range(count):
+        state, rest = (f'{name}_after_{k}', f'{name}_from_{k}') if k else (f'{name}_start', name)
+        if k:
+            before = f'{name}_after_{k - 1}' if k > 1 else f'{name}_start'
+            whole = f'{name}_from_{k - 1}' if k > 1 else name
+            out += f'abbrev {state} : Replay\n{state} = after_moments {before} (take {PART} {whole})\n\n'
+            out += f'abbrev {rest} : List Moment\n{rest} = drop {PART} {whole}\n\n'
+        out += f'{name}_part_{k} : Follows {state} (take {PART} {rest})\n{unfolding}{name}_part_{k} = {steps_term(steps[PART * k:PART * (k + 1)])}\n\n'
+        last = k == count - 1
+        join = f'{name}_part_{k}' if last else f'(follow_on {state} (take {PART} {rest}) (drop {PART} {rest})).1 ({name}_part_{k}, {name}_follows_{k + 1})'
+        joins = f'{name}_follows_{k} : Follows {state} {rest}\n{name}_follows_{k} = {join}\n\n' + joins
+    return out + joins
 
 
 def work_marks(row):
@@ -419,6 +466,7 @@ use Rattle.trace_replay.specs.Script.{Submit, ArriveAt, MoveAt, AttendTo, Drain,
 use Rattle.trace_replay.specs.Moments.{Search, Seek, Recal, Offset, Centre, Clear, Pack, Transfer, Arrive, Sector, Intr, Try, Attn, End, Moment, Played, Told, Idle}
 use Rattle.trace_replay.specs.Replay.{Replay}
 use Rattle.trace_rows.specs.Accepted.{over, over_zeros}
+use Rattle.trace_rows.specs.Sequences.{sequence}
 """
 
 
@@ -484,6 +532,8 @@ def write(names):
         proof = '\n'.join(row_proof(r) for r in group)
         bursts = ', '.join(f'burst_{a}_{p}' for a, p in bursts_of(group))
         head = '-- Each moment of the rows may come, by computation; docs/trace-rows/rows.py writes this.\nuse Rattle.std.proofs.Common.{refl}\n'
+        if '_part_' in proof:
+            head = head.replace('{refl}', '{List, take, drop, refl}') + PART_USES
         if 'code.' in proof:
             head += 'use Rattle.fire_code.specs.Remainder as code\n'
         if 'repair.' in proof:
@@ -494,7 +544,7 @@ def write(names):
         if 'shown_0_7_14' in proof:
             head += 'use Rattle.trace_rows.proofs.Shown.{shown_0_7_14}\n'
         put(f'proofs/Rows{k}.antt', head + '\n' + proof)
-    bursts = '-- Short bursts of the rows; docs/trace-rows/rows.py writes this.\nuse Rattle.std.proofs.Common.{List, [], ◌∷◌, refl, arith}\nuse Rattle.fire_code.specs.Burst as burst\nuse Rattle.fire_code.specs.Burst.{IsBurst}\nuse Rattle.fire_code.specs.Remainder.{remainder}\n'
+    bursts = '-- Short bursts of the rows; docs/trace-rows/rows.py writes this.\nuse Rattle.std.proofs.Common.{[], ◌∷◌, refl, arith}\nuse Rattle.fire_code.specs.Burst as burst\nuse Rattle.fire_code.specs.Burst.{IsBurst}\nuse Rattle.fire_code.specs.Remainder.{remainder}\n'
     for (at, pattern), places in bursts_of(rows.values()).items():
         bursts += (f"\npub burst_{at}_{pattern} : IsBurst {at} {pattern} (remainder ({' ∷ '.join(map(str, places))} ∷ []))\nunfolding burst.places_of\n"
                    f'burst_{at}_{pattern} = record {{ counted = omega arith; odd = refl; small = omega arith; burst = search arith; is = refl }}\n')
@@ -543,11 +593,15 @@ def write(names):
     for n in texts:
         answers += f'\npub returns-clause-{n} : goal.returns-clause-{n}\nunfolding fmt.digits\nreturns-clause-{n} c = refl\n'
     put('proofs/text_law/Answers.antt', answers)
-    put('specs/Lib.antt', 'pub mod Accepted\npub mod Strange\n' + ''.join(f'pub mod Rows{k}\n' for k in range(1, len(groups) + 1)))
+    put('specs/Lib.antt', 'pub mod Accepted\npub mod Sequences\npub mod Strange\n' + ''.join(f'pub mod Rows{k}\n' for k in range(1, len(groups) + 1)))
     put('proofs/Lib.antt', 'pub mod Bursts\npub mod Shown\npub mod Given\n' + ''.join(f'pub mod Rows{k}\n' for k in range(1, len(groups) + 1)) + 'pub mod Refused1\n')
     print(f'{len(rows)} rows, {len(refused)} lines refused, {len(alone)} of them by one rule alone')
 
 
+PART_USES = """use Rattle.trace_replay.specs.Moments.{Moment}
+use Rattle.trace_replay.specs.Replay.{Replay, Follows, after_moments}
+use Rattle.trace_replay.proofs.Following.{follow_on}
+"""
 LIB_HEAD = """//! Rows of traces: scripts over packs with the traces that belong to them, each proved legal by computation, and lines out of
 //! place, each refused by its rule. The rows stand as text in `docs/trace-rows`, and `rows.py` there writes this crate anew.
 #![tactic(auto)]

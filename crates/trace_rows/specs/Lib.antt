@@ -1,4 +1,5 @@
 pub mod Accepted
+pub mod Sequences
 pub mod Strange
 pub mod Rows1
 pub mod Rows2
@@ -10,3 +11,5 @@ pub mod Rows7
 pub mod Rows8
 pub mod Rows9
 pub mod Rows10
+pub mod Rows11
+pub mod Rows12

@@ -24,7 +24,9 @@ ghost use Rattle.trace_rows.specs.Rows6.{retries_run_out_in_the_request_script, 
 ghost use Rattle.trace_rows.specs.Rows7.{rm03_partition_g_script, rm03_partition_g_start, rm03_partition_g, rm05_last_block_script, rm05_last_block_start, rm05_last_block, second_adapter_script, second_adapter_start, second_adapter, short_burst_repaired_script, short_burst_repaired_start, short_burst_repaired, turned_script, turned_start, turned};
 ghost use Rattle.trace_rows.specs.Rows8.{twenty_seven_retries_script, twenty_seven_retries_start, twenty_seven_retries};
 ghost use Rattle.trace_rows.specs.Rows9.{two_adapters_overlap_script, two_adapters_overlap_start, two_adapters_overlap, two_sweeps_script, two_sweeps_start, two_sweeps, unforwarded_script, unforwarded_start, unforwarded, unmarked_block_reads_its_own_sector_script, unmarked_block_reads_its_own_sector_start, unmarked_block_reads_its_own_sector};
-ghost use Rattle.trace_rows.specs.Rows10.{until_offset_script, until_offset_start, until_offset, write_by_events_script, write_by_events_start, write_by_events, written_as_far_as_done_script, written_as_far_as_done_start, written_as_far_as_done, written_short_script, written_short_start, written_short};
+ghost use Rattle.trace_rows.specs.Rows10.{until_offset_script, until_offset_start, until_offset};
+ghost use Rattle.trace_rows.specs.Rows11.{users_run_script, users_run_start, users_run};
+ghost use Rattle.trace_rows.specs.Rows12.{write_by_events_script, write_by_events_start, write_by_events, written_as_far_as_done_script, written_as_far_as_done_start, written_as_far_as_done, written_short_script, written_short_start, written_short};
 
 /// The traces of the rows are legal: each plays its script, and its moments may come one after another.
 pub fn rows_law()
@@ -63,6 +65,7 @@ pub fn rows_law()
     ensures unforwarded { IsAccepted unforwarded_script unforwarded_start unforwarded }
     ensures unmarked_block_reads_its_own_sector { IsAccepted unmarked_block_reads_its_own_sector_script unmarked_block_reads_its_own_sector_start unmarked_block_reads_its_own_sector }
     ensures until_offset { IsAccepted until_offset_script until_offset_start until_offset }
+    ensures users_run { IsAccepted users_run_script users_run_start users_run }
     ensures write_by_events { IsAccepted write_by_events_script write_by_events_start write_by_events }
     ensures written_as_far_as_done { IsAccepted written_as_far_as_done_script written_as_far_as_done_start written_as_far_as_done }
     ensures written_short { IsAccepted written_short_script written_short_start written_short }

@@ -8,7 +8,9 @@ use Rattle.trace_rows.proofs.Rows6.{retries_run_out_in_the_request_accepted}
 use Rattle.trace_rows.proofs.Rows7.{rm03_partition_g_accepted, rm05_last_block_accepted, second_adapter_accepted, short_burst_repaired_accepted, turned_accepted}
 use Rattle.trace_rows.proofs.Rows8.{twenty_seven_retries_accepted}
 use Rattle.trace_rows.proofs.Rows9.{two_adapters_overlap_accepted, two_sweeps_accepted, unforwarded_accepted, unmarked_block_reads_its_own_sector_accepted}
-use Rattle.trace_rows.proofs.Rows10.{until_offset_accepted, write_by_events_accepted, written_as_far_as_done_accepted, written_short_accepted}
+use Rattle.trace_rows.proofs.Rows10.{until_offset_accepted}
+use Rattle.trace_rows.proofs.Rows11.{users_run_accepted}
+use Rattle.trace_rows.proofs.Rows12.{write_by_events_accepted, written_as_far_as_done_accepted, written_short_accepted}
 
 pub returns-clause-alias_noise : goal.returns-clause-alias_noise
 returns-clause-alias_noise c = alias_noise_accepted
@@ -114,6 +116,9 @@ returns-clause-unmarked_block_reads_its_own_sector c = unmarked_block_reads_its_
 
 pub returns-clause-until_offset : goal.returns-clause-until_offset
 returns-clause-until_offset c = until_offset_accepted
+
+pub returns-clause-users_run : goal.returns-clause-users_run
+returns-clause-users_run c = users_run_accepted
 
 pub returns-clause-write_by_events : goal.returns-clause-write_by_events
 returns-clause-write_by_events c = write_by_events_accepted

@@ -1,0 +1,5 @@
+pub mod Numbers
+pub mod Bytes
+pub mod Scripts
+pub mod Drives
+pub mod Rows
