@@ -1,0 +1,9 @@
+pub mod Numbers
+pub mod Costs
+pub mod Units
+pub mod Drain
+pub mod Packs
+pub mod Commands
+pub mod Words
+pub mod Runs
+pub mod Tells

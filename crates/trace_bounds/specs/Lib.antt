@@ -1,0 +1,4 @@
+pub mod Commands
+pub mod Measure
+pub mod Drains
+pub mod Runs

@@ -1,0 +1,29 @@
+//! What a request and a drain cost, over legal traces. The definitions stand in `specs/`. The functions here do nothing: each
+//! stands for a law.
+#![tactic(auto)]
+
+ghost use Rattle.trace_bounds.specs.Commands.{AreToldAsCommands, CommandsAreBounded, EndsAreBounded};
+ghost use Rattle.trace_bounds.specs.Drains.{AreToldAsEvents, EventsFall, EventsAreFew, EventsTell, DrainsTell, DrainsAreBounded};
+ghost use Rattle.trace_bounds.specs.Runs.{RunCommandsAreBounded, RunDrainsAreBounded};
+
+/// A request has at most 300 commands for each of its blocks, at any time and as its end comes. The commands are the lines that a
+/// trace tells as `cmd`.
+pub fn commands_law()
+    ensures told { AreToldAsCommands }
+    ensures reached { CommandsAreBounded }
+    ensures ended { EndsAreBounded }
+    ensures run { RunCommandsAreBounded }
+{}
+
+/// A drain has at most 200 event lines for each block of the requests that are outstanding at its start; they are what a trace tells
+/// as `arrive`, `sector`, `intr` and `attn`. A number of the state, which is never more than that, falls with each of them and rises
+/// with no line of the trace; and each event of a drain begins with one.
+pub fn drain_law()
+    ensures told { AreToldAsEvents }
+    ensures falls { EventsFall }
+    ensures few { EventsAreFew }
+    ensures tells { EventsTell }
+    ensures begins { DrainsTell }
+    ensures drain { DrainsAreBounded }
+    ensures run { RunDrainsAreBounded }
+{}
