@@ -1,0 +1,16 @@
+pub mod Stages
+pub mod Queues
+pub mod Driven
+pub mod Own
+pub mod Others
+pub mod Working
+pub mod Controls
+pub mod Consistency
+pub mod Conserved
+pub mod Armed
+pub mod Known
+pub mod KnownLines
+pub mod KnownScript
+pub mod Asking
+pub mod Answered
+pub mod Going
