@@ -1,0 +1,5 @@
+pub mod Machine
+pub mod LegalAnswers
+pub mod LastWrites
+pub mod Stands
+pub mod Laws
