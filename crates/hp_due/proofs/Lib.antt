@@ -1,0 +1,4 @@
+pub mod DueFacts
+pub mod Falls
+pub mod Frame
+pub mod Until
