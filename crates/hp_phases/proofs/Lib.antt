@@ -1,0 +1,13 @@
+pub mod Drives
+pub mod Scene
+pub mod OwnTasks
+pub mod OwnStarts
+pub mod OwnEvents
+pub mod Own
+pub mod Lists
+pub mod Others
+pub mod Frame
+pub mod Units
+pub mod AdapterDeeds
+pub mod Adapters
+pub mod EachAct

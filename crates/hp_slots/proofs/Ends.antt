@@ -1,0 +1,162 @@
+-- The end of a request: it leaves its queue, its frames are free again, and its answer waits.
+use Rattle.std.proofs.Common.{◌≡◌, inl, inr, ℕ, ◌+◌, ◌-◌, ◌≤◌, Bool, true, false, List, [], ◌∷◌, ◌++◌, drop, length-set, Option, Some, None, refl, sym, ap, ◌∙◌, subst, arith}
+use Rattle.std.specs.Prelude.{Contains}
+use Rattle.std.proofs.lemmas.Option.{same_Some}
+use Rattle.std.proofs.lemmas.List.Elements.{Contains-push_cases}
+use Rattle.pack_geometry.specs.Geometry.{limit_of}
+use Rattle.pack_geometry.specs.declared.DriveKind.{DriveKind}
+use Rattle.subsystem_spec.proofs.ServiceOrderRuns.{drop-in_order}
+use Rattle.hp_machine.specs.declared.AnswerKind.{AnswerKind}
+use Rattle.hp_machine.specs.declared.Made.{Made}
+use Rattle.hp_machine.specs.declared.Phase.TheVariants.{Transferring}
+use Rattle.hp_machine.specs.World.{World, UnitView, Held, no_unit, unit_at, adapter_at, slot_at, held_in, slot_in_hand, adapter_of, frames_of}
+use Rattle.hp_machine.specs.Acts as deed
+use Rattle.hp_machine.specs.Acts.{Scene, scene_of, with_scene, effect, answer_at}
+use Rattle.hp_machine.specs.Guards.{InHand, IsNext, IsApart}
+use Rattle.hp_machine.specs.Sound.{Among, Once, slot_made, slots_made, frames_by, frames_used, IsGiven, UnitOk, SlotOk, IsMade, Sound}
+use Rattle.hp_due.specs.DueFacts.{IsDue, Ends}
+use Rattle.hp_due.proofs.DueFacts.{due_facts, chosen_facts}
+use Rattle.hp_slots.specs.Parts.{IsServed, AreFrames, AreAnswers}
+use Rattle.hp_slots.proofs.Lists.{put_set, cylinder_of, not_head, Once-drop, Among-behind, Among-left, Among-last, Once-push, Contains-first, Contains-later, Contains-drop}
+use Rattle.hp_slots.proofs.Frames.{frames_at, frames_put}
+use Rattle.hp_slots.proofs.Changed.{AreParts, Changed, Leaves, outstanding_stays, kind_stays, slots_changed, parts_changed}
+use Rattle.hp_slots.proofs.Hand.{in_slot, hand_there, unit_ok, unit_there, slot_ok, own, going_on, mine, not_made}
+use Rattle.hp_slots.proofs.Deeds.{not_transferring}
+use Rattle.hp_slots.proofs.Given.{ends_given}
+
+-- the slots of answers, with one more behind
+pub slots_made-push : (answers : List Made) (made : Made) (p : ℕ) → made.slot ≡ Some p → slots_made (answers ++ made ∷ []) ≡ slots_made answers ++ p ∷ []
+slots_made-push [] made p is = ap (λ (o : Option ℕ). slot_made o []) is
+slots_made-push (first ∷ answers) made p is = ap (slot_made first.slot) (slots_made-push answers made p is) ∙ front first.slot (slots_made answers) p
+  where
+    front : (o : Option ℕ) (xs : List ℕ) (p : ℕ) → slot_made o (xs ++ p ∷ []) ≡ slot_made o xs ++ p ∷ []
+    front None xs p = refl
+    front (Some q) xs p = refl
+
+-- a slot among them is that of an answer
+made_by : (o : Option ℕ) (first : Made) (answers : List Made) (p : ℕ) → first.slot ≡ o → (Among p (slots_made answers) → (m : Made) × Contains answers m × (m.slot ≡ Some p))
+    → Among p (slot_made o (slots_made answers)) → (m : Made) × Contains (first ∷ answers) m × (m.slot ≡ Some p)
+made_by None first answers p is rest m = let found = rest m in (found.0, Contains-later found.0 first answers found.1, found.2)
+made_by (Some q) first answers p is rest (inl same) = (first, Contains-first first answers, is ∙ ap (λ (n : ℕ). Some n) (sym same))
+made_by (Some q) first answers p is rest (inr later) = let found = rest later in (found.0, Contains-later found.0 first answers found.1, found.2)
+
+pub made_at : (answers : List Made) (p : ℕ) → Among p (slots_made answers) → (m : Made) × Contains answers m × (m.slot ≡ Some p)
+made_at [] p m = absurd m
+made_at (first ∷ answers) p m = made_by first.slot first answers p refl (made_at answers p) m
+
+ends_by : (u : ℕ) (s : Scene) (kind : AnswerKind) → IsNext u (deed.End kind) s → Ends s.unit s.held kind
+ends_by u s kind (inl next) = due_facts s.unit s.held (deed.End kind) next
+ends_by u s kind (inr chosen) = subst (IsDue s.unit s.held) (sym chosen.due) (chosen_facts s.unit s.held chosen.phase)
+
+true_false : true ≡ false → ⊥
+true_false e = grind arith
+
+used_less : (frames used now at needed : ℕ) → frames ≡ used → now + at ≡ used + 0 → at ≡ needed → frames - needed ≡ now
+used_less frames used now at needed a b c = omega (arith, a, b, c)
+
+room_less : (frames needed : ℕ) → frames ≤ 16384 → frames - needed ≤ 16384
+room_less frames needed le = omega (arith, le)
+
+module _ (w : World) (s : Sound w) (line u id : ℕ) (i : InHand w u id) (kind : AnswerKind) (may : IsNext u (deed.End kind) (scene_of w u)) where
+  abbrev old : UnitView
+  old = unit_at w u
+
+  abbrev p : ℕ
+  p = slot_in_hand old
+
+  abbrev h : Held
+  h = held_in w p
+
+  abbrev new : Scene
+  new = effect line u p (deed.End kind) (scene_of w u)
+
+  abbrev now : World
+  now = with_scene w u p new
+
+  given : IsGiven h kind
+  given = ends_given u old (adapter_at w (adapter_of u)) h kind (slot_ok w s u id i).loan.some (ends_by u (scene_of w u) kind may) (unit_ok w s u id i).phase
+
+  change : Changed w now u p new.unit (Some new.held)
+  change = record {
+    units = put_set w.units u new.unit no_unit (unit_there w s u id i);
+    adapters = length-set w.adapters (adapter_of u) new.adapter;
+    slots = put_set w.slots p (Some new.held) None (hand_there w s u id i);
+  }
+
+  made_now : slots_made new.answers ≡ slots_made w.answers ++ p ∷ []
+  made_now = slots_made-push w.answers (answer_at line (Some p) h.id kind) p refl
+
+  leaves : Leaves w now u p new.unit
+  leaves = record {
+    mine = mine w s u id i;
+    kind = refl;
+    queue = λ q ne m. Among-behind old.queue q ne m;
+    bus = λ q ne first phase. absurd (ne first);
+    made = λ q ne m. subst (Among q) (sym made_now) (Among-left q (slots_made w.answers) p m);
+  }
+
+  own_unit : IsServed now u new.unit
+  own_unit =
+      let ok : UnitOk w u old = unit_ok w s u id i in
+      record {
+        queue = λ x c. outstanding_stays w now u p new.unit (Some new.held) s change leaves u x (not_head old.queue x ok.once c) (ok.queue x (Contains-drop x old.queue c));
+        once = Once-drop old.queue ok.once;
+        order = drop-in_order cylinder_of old.queue ok.order;
+        head = λ e. absurd (true_false e);
+        undeclared = λ e. ap (drop 1) (ok.undeclared e);
+      }
+
+  own_slot : SlotOk now p new.held
+  own_slot =
+      let ok : SlotOk w p h = slot_ok w s u id i in
+      record {
+        unit = ok.unit;
+        loan = ok.loan;
+        small = ok.small;
+        size = ok.size;
+        whole = ok.whole;
+        inside = subst (λ (k : DriveKind). h.first + h.loan.count ≤ limit_of k) (sym (kind_stays w now u p new.unit (Some new.held) s change leaves h.unit)) ok.inside;
+        queued = λ e. absurd (true_false e);
+        bus = λ e. absurd (not_transferring u (deed.End kind) (scene_of w u) may (subst (λ (x : ℕ). (unit_at w x).phase ≡ Transferring) (own w s u id i) (ok.bus e).1));
+        made = λ e. subst (Among p) (sym made_now) (Among-last p (slots_made w.answers));
+      }
+
+  own_frames : AreFrames now
+  own_frames =
+      let put = frames_put w.slots p (Some new.held) (hand_there w s u id i) in
+      let at = ap frames_at (in_slot w s u id i) ∙ ap (λ (b : Bool). frames_by b h) (going_on w s u id i) in
+      record {
+        used = used_less w.frames (frames_used w.slots) (frames_used now.slots) (frames_at (slot_at w p)) (frames_of h) s.frames put at;
+        room = room_less w.frames (frames_of h) s.room;
+      }
+
+  none_made : Among p (slots_made w.answers) → ⊥
+  none_made m = let found = made_at w.answers p m in not_made w s u id i found.0 p (s.answers found.0 p found.1 found.2) refl
+
+  own_answers : AreAnswers now
+  own_answers = record {
+    each = λ made q c e. elim (Contains-push_cases w.answers (answer_at line (Some p) h.id kind) made c) [
+      | inl before ↦
+          let was : IsMade w made q = s.answers made q before e in
+          record { held = was.held; slot = change.slots.others q (not_made w s u id i made q was) ∙ was.slot; over = was.over; given = was.given }
+      | inr same ↦
+          let here : p ≡ q = same_Some p q (ap (λ (m : Made). m.slot) same ∙ e) in
+          subst (λ (m : Made). IsMade now m q) same (subst (IsMade now (answer_at line (Some p) h.id kind)) here (record {
+            held = new.held;
+            slot = change.slots.here;
+            over = refl;
+            given = given;
+          }))
+    ];
+    once = subst Once (sym made_now) (Once-push (slots_made w.answers) p s.once none_made);
+  }
+
+  pub end_parts : AreParts now
+  end_parts =
+      parts_changed w now u p new.unit (Some new.held) s change leaves (λ lt. own_unit)
+      (slots_changed w now u p new.unit (Some new.held) s change leaves
+      (λ g e. subst (SlotOk now p) (same_Some new.held g e) own_slot)
+      (λ g e on. absurd (true_false (ap (λ (x : Held). x.ended) (same_Some new.held g e) ∙ on)))
+      (λ g e q f ne there. subst (λ (x : Held). IsApart x.loan.frames f.loan.frames) (same_Some new.held g e)
+      (s.apart p q h f (in_slot w s u id i) there (λ same. ne (sym same)))))
+      own_frames own_answers

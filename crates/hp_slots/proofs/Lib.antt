@@ -1,0 +1,14 @@
+pub mod Lists
+pub mod Frames
+pub mod Changed
+pub mod Hand
+pub mod KindStays
+pub mod Deeds
+pub mod Given
+pub mod Ends
+pub mod Joins
+pub mod Quiet
+pub mod EachAct
+pub mod Starts
+pub mod Sizes
+pub mod Whole
