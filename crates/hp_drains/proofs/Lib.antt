@@ -1,0 +1,4 @@
+pub mod Fronts
+pub mod Asked
+pub mod Telling
+pub mod Falls
