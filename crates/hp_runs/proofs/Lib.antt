@@ -1,0 +1,4 @@
+mod Images
+mod Acts
+mod Units
+mod Runs
