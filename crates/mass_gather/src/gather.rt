@@ -1,0 +1,108 @@
+ghost use Rattle.std.specs.Prelude.{◌≡◌, ◌+◌, ◌≤◌, ◌==◌, IfOk, [], ◌++◌, length, vec_len, vec_capacity};
+ghost use Rattle.mass_outside.specs.Puts.{Puts};
+ghost use Rattle.mass_outside.specs.declared.traits.SinkFailed.{SinkFailed};
+ghost use Rattle.mass_gather.specs.Gathers.{Gathers, PutsNothing, Join, Stop, PutWhole};
+
+use mass_outside::traits::{NoMemory, Sink, SinkFailed};
+use mass_outside::whole::write_all;
+use std::alloc::Global;
+use std::marker::Model;
+
+/// How many bytes are kept at most.
+const ROOM: usize = 16384;
+
+/// Text that is kept for a sink, at most 16,384 bytes. Their room is reserved once.
+#[derive(Drop)]
+pub struct Gather {
+    bytes: Vec<u8>,
+    ghost few: { vec_len bytes ≤ 16384 },
+    ghost reserved: { 16384 ≤ vec_capacity bytes },
+}
+
+impl Model for Gather {
+    ghost use Rattle.std.specs.Prelude.{ℕ, List};
+
+    ghost Value = { List ℕ };
+
+    ghost view = { λ gather. gather.bytes.items };
+}
+
+impl Gather {
+    /// A writer that keeps nothing yet.
+    pub fn new(alloc: Global) -> Result<Gather, NoMemory>
+        ensures { IfOk result (λ gather. gather ≡ []) }
+    {
+        let bytes = Vec::with_capacity(alloc, ROOM)?;
+        Ok(Gather { bytes })
+    }
+
+    /// How many bytes are kept.
+    pub fn len(&self) -> usize
+        ensures { result ≡ length self.now }
+    {
+        self.bytes.len()
+    }
+
+    /// Whether nothing is kept.
+    pub fn is_empty(&self) -> bool
+        ensures { result ≡ (length self.now == 0) }
+    {
+        self.bytes.is_empty()
+    }
+
+    /// Keeps a text that fits.
+    fn keep(&mut self, text: &[u8])
+        requires { length self.old + length text.now ≤ 16384 }
+        ensures { self.new ≡ self.old ++ text.now }
+    {
+        // The room is reserved, so this cannot fail.
+        let _ = self.bytes.extend_from_slice(text);
+    }
+
+    /// Passes on what is kept. Nothing is kept after it, also where the sink failed.
+    pub fn flush<T: Sink>(&mut self, sink: &mut T) -> Result<(), SinkFailed>
+        ensures puts { Puts T.tells T.taken T.faults sink.old sink.new result self.old }
+        ensures gathers { Gathers T.tells T.taken T.faults sink.old sink.new self.old self.new result [] }
+        ensures empty { self.new ≡ [] }
+    {
+        let result = write_all(sink, self.bytes.as_slice());
+        self.bytes.clear();
+        result
+    }
+
+    /// Puts a text where nothing is kept: keeps it, or passes it on at once where it does not fit.
+    fn put_first<T: Sink>(&mut self, text: &[u8], sink: &mut T) -> Result<(), SinkFailed>
+        requires { self.old ≡ [] }
+        ensures { Gathers T.tells T.taken T.faults sink.old sink.new [] self.new result text.now }
+    {
+        if text.len() > ROOM {
+            return write_all(sink, text);
+        }
+        self.keep(text);
+        Ok(())
+    }
+
+    /// Puts a text behind what is kept, and passes on before what is kept where it does not fit there.
+    pub fn put<T: Sink>(&mut self, text: &[u8], sink: &mut T) -> Result<(), SinkFailed>
+        ensures { Gathers T.tells T.taken T.faults sink.old sink.new self.old self.new result text.now }
+    {
+        if text.len() > ROOM - self.bytes.len() {
+            match self.flush(sink) {
+                Ok(()) => self.put_first(text, sink),
+                Err(failed) => Err(failed),
+            }
+        } else {
+            self.keep(text);
+            Ok(())
+        }
+    }
+}
+
+/// The law of gathering: texts put one after another are one text, and what began and ends with nothing kept was put to the
+/// sink itself.
+pub fn gather_law<T: Sink>()
+    ensures nothing { PutsNothing (Unit {0}) SinkFailed T.tells T.taken T.faults }
+    ensures join { Join (Unit {0}) SinkFailed T.tells T.taken T.faults }
+    ensures stop { Stop (Unit {0}) SinkFailed T.tells T.taken T.faults }
+    ensures whole { PutWhole (Unit {0}) SinkFailed T.tells T.taken T.faults }
+{}

@@ -1,0 +1,117 @@
+use super::*;
+use mass_outside::mem_streams::MemSink;
+use mass_outside::traits::{Sink, SinkFailed};
+use std::test::Fail;
+
+/// Pieces of these sizes are put to a sink with so much room, whose call of a number fails: whether all went well, and how
+/// many bytes came.
+struct Row {
+    sizes: [usize; 4],
+    room: usize,
+    fail: u64,
+    well: bool,
+    came: usize,
+}
+
+const ROWS: [Row; 8] = [
+    // All of it is kept up to the end: one call.
+    Row {
+        sizes: [5, 0, 7, 16372],
+        room: 16384,
+        fail: 2,
+        well: true,
+        came: 16384,
+    },
+    // One byte more, and the first three are passed on before.
+    Row {
+        sizes: [5, 0, 7, 16373],
+        room: 20000,
+        fail: 2,
+        well: false,
+        came: 12,
+    },
+    Row {
+        sizes: [5, 0, 7, 16373],
+        room: 20000,
+        fail: 3,
+        well: true,
+        came: 16385,
+    },
+    // What is longer than the room of the writer is passed on at once, behind what was kept.
+    Row {
+        sizes: [3, 16385, 4, 2],
+        room: 20000,
+        fail: 4,
+        well: true,
+        came: 16394,
+    },
+    Row {
+        sizes: [3, 16385, 4, 2],
+        room: 20000,
+        fail: 2,
+        well: false,
+        came: 3,
+    },
+    Row {
+        sizes: [3, 16385, 4, 2],
+        room: 20000,
+        fail: 1,
+        well: false,
+        came: 0,
+    },
+    // The sink's room ends.
+    Row {
+        sizes: [3, 16385, 4, 2],
+        room: 16390,
+        fail: 0,
+        well: false,
+        came: 16388,
+    },
+    // Nothing is put: no call.
+    Row {
+        sizes: [0, 0, 0, 0],
+        room: 0,
+        fail: 1,
+        well: true,
+        came: 0,
+    },
+];
+
+/// Puts the pieces of a text, one after another, and passes on the rest.
+fn put_pieces<T: Sink>(
+    gather: &mut Gather,
+    sizes: &[usize; 4],
+    text: &[u8],
+    sink: &mut T,
+) -> Result<(), SinkFailed> {
+    let mut rest = text;
+    for size in sizes {
+        let (piece, more) = rest.split_at((*size).min(rest.len()));
+        gather.put(piece, sink)?;
+        rest = more;
+    }
+    gather.flush(sink)
+}
+
+#[test]
+fn pieces(rt: HostRuntime) -> Result<(), Fail> {
+    let alloc = rt.alloc();
+    let mut text = Vec::new(alloc);
+    for i in 0..20000u32 {
+        text.push((i % 251) as u8)?;
+    }
+    for row in &ROWS {
+        let mut sink = MemSink::new(alloc, row.room, Vec::from_slice(alloc, &[row.fail])?)?;
+        let mut gather = Gather::new(alloc)?;
+        let well = put_pieces(&mut gather, &row.sizes, text.as_slice(), &mut sink).is_ok();
+        assert!(rt; well == row.well, "room {}, call {}", row.room, row.fail);
+        assert!(rt;
+            sink.taken() == &text[..row.came.min(text.len())],
+            "room {}, call {}",
+            row.room,
+            row.fail
+        );
+        assert!(rt; gather.is_empty() && gather.len() == 0);
+    }
+    Ok(())
+}

@@ -1,0 +1,12 @@
+//! The lines of a trace, as code writes them: each is the text of its moment.
+#![tactic(auto)]
+
+mod lines;
+mod telling;
+mod words;
+
+pub use lines::{idle, line};
+pub use telling::Told;
+
+#[cfg(test)]
+mod tests;
