@@ -1,0 +1,14 @@
+use Rattle.std.proofs.Common.{rules, ◌≡◌, sym, subst, ◌+◌, ◌∷◌, drop, slice_get, unwrap_or, IfSome}
+use Rattle.std.specs.Option.{option_map}
+use Rattle.transfer_engine.specs.Calls.{state_of}
+use Rattle.hp_machine.specs.World.{no_transfer}
+use Rattle.hp_machine.specs.Due.{steps_of}
+use Rattle.hp_units.proofs.Heads.{read-in-front}
+use Rattle.hp_units.proofs.tries.step_in.Goals as goal
+
+pub returns-clause-some : goal.returns-clause-some
+returns-clause-some c =
+    let read : c.step_at.result ≡ slice_get (steps_of (state_of c.in-Some.transfer)) c.args.taken = search rules in
+    subst (λ o. IfSome c.step_at.result (λ step. drop c.args.taken (steps_of (unwrap_or (option_map state_of o) no_transfer))
+    ≡ step ∷ drop (c.args.taken + 1) (steps_of (unwrap_or (option_map state_of o) no_transfer)))) (sym c.in-Some.is)
+    (read-in-front c.step_at.result (steps_of (state_of c.in-Some.transfer)) c.args.taken read)

@@ -1,0 +1,75 @@
+// One adapter, with the units that wait for it.
+ghost use Rattle.std.specs.Prelude.{◌≡◌, ◌<◌, ◌∷◌, [], length, drop, IfSome, IfNone};
+ghost use Rattle.hp_machine.specs.World.{new_adapter_view};
+ghost use Rattle.hp_machine.specs.Acts.{waits_too, no_more_waits, with_state};
+ghost use Rattle.hardware_table.specs.Adapter.{attention_raised, attention_lowered};
+
+use arrayvec::ArrayVec;
+use mba_adapter::Adapter;
+use std::marker::Model;
+
+/// An adapter: its state, and the units that wait for it in the order in which they became ready.
+#[derive(Drop)]
+pub struct Channel {
+    queue: ArrayVec<u8, 32>,
+    pub adapter: Adapter,
+}
+
+impl Model for Channel {
+    ghost use Rattle.hp_machine.specs.World.{AdapterView};
+
+    ghost Value = { AdapterView };
+
+    ghost view = { λ c. record { queue = c.queue.items; state = c.adapter } };
+}
+
+impl Channel {
+    /// A free adapter, for which no unit waits.
+    pub fn new() -> Channel
+        ensures { result ≡ new_adapter_view }
+    {
+        Channel {
+            queue: ArrayVec::new(),
+            adapter: Adapter::new(),
+        }
+    }
+
+    /// The unit that waits longest. None where none waits.
+    pub fn first(&self) -> Option<u8>
+        ensures some { IfSome result (λ u. self.now.queue ≡ u ∷ drop 1 self.now.queue) }
+        ensures none { IfNone result (self.now.queue ≡ []) }
+    {
+        self.queue.first().copied()
+    }
+
+    /// A unit waits.
+    pub fn wait(&mut self, unit: u8)
+        requires room { length self.old.queue < 32 }
+        ensures { self.new ≡ waits_too unit self.old }
+    {
+        self.queue.push(unit);
+    }
+
+    /// A unit waits no more, if it did.
+    pub fn leave(&mut self, unit: u8)
+        ensures { self.new ≡ no_more_waits unit self.old }
+    {
+        self.queue.retain(|waiting| *waiting != unit);
+    }
+
+    /// The attention of a drive goes up.
+    pub fn raise(&mut self, drive: u8)
+        requires { drive < 8 }
+        ensures { self.new ≡ with_state (attention_raised drive) self.old }
+    {
+        self.adapter.raise_attention(drive);
+    }
+
+    /// The attention of a drive goes down.
+    pub fn lower(&mut self, drive: u8)
+        requires { drive < 8 }
+        ensures { self.new ≡ with_state (attention_lowered drive) self.old }
+    {
+        self.adapter.clear_attention(drive);
+    }
+}

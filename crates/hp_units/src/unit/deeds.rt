@@ -1,0 +1,278 @@
+// The unit's part of each deed.
+ghost use Rattle.std.specs.Prelude.{ℕ, ◌≡◌, ◌≢◌, ◌<◌, ◌≤◌, ◌+◌, length, drop, true, All, IfSome, IfNone, Option};
+ghost use Rattle.pack_geometry.specs.Geometry.{block_count};
+ghost use Rattle.drive_registers.specs.declared.Function.TheVariants.{Pack as PackFunction, Clear as ClearFunction};
+ghost use Rattle.hardware_table.specs.Drive.{is_ready};
+ghost use Rattle.hardware_table.specs.Functions.{performed};
+ghost use Rattle.hardware_table.specs.Events.{arrived, attention_cleared};
+ghost use Rattle.hardware_table.specs.declared.Moved.TheVariants as verdict;
+ghost use Rattle.transfer_engine.specs.State.{IsJob, begun, segment_of, moved_on, forwarded, failures_after};
+ghost use Rattle.transfer_engine.specs.Calls.{entry_for, step_for};
+ghost use Rattle.trace_replay.specs.Drives.{addressed};
+ghost use Rattle.hp_machine.specs.declared.Task.TheVariants as task;
+ghost use Rattle.hp_machine.specs.declared.Phase.TheVariants as phase;
+ghost use Rattle.hp_machine.specs.declared.RetryStep.TheVariants as retry_step;
+ghost use Rattle.hp_machine.specs.World.{no_held, transfer_of};
+ghost use Rattle.hp_machine.specs.Acts.{joined, searching, stepping, transferring, centred, with_drive, going_to, in_phase, with_transfer, transfer_tried, interrupted};
+ghost use Rattle.hp_machine.specs.Due.{task_for};
+
+use super::DiskUnit;
+use crate::tries::{continued, failures_at, forwarded_to, tried};
+use bitflags::Flags;
+use drive_registers::{Function, Of, offset_word};
+use hardware_table::{Moved, Register};
+use hp_machine::{Phase, RetryStep, Task};
+use pack_geometry::{Place, place_of, sector_word};
+use transfer_engine::{Job, Transfer, begin};
+
+impl DiskUnit {
+    /// A request joins, by its slot and its first block.
+    pub fn join(&mut self, slot: u32, first: u32)
+        requires declared { self.old.declared ≡ true }
+        requires room { length self.old.queue < 65536 }
+        requires slot { slot < 65536 }
+        requires absent { All (λ w. w.number ≢ slot) self.old.queue }
+        requires inside { first < block_count self.old.drive.kind }
+        ensures { self.new ≡ joined slot (record no_held { first = first }) self.old }
+    {
+        let place = place_of(self.kind(), first);
+        self.queue.insert(slot, place.cylinder);
+    }
+
+    /// Writes the desired cylinder and address.
+    fn address(&mut self, place: Place)
+        requires cylinder { place.cylinder < 65536 }
+        requires track { place.track < 256 }
+        requires sector { place.sector < 256 }
+        ensures { self.new ≡ with_drive (addressed place) self.old }
+    {
+        self.drive
+            .write_register(Register::Dc, place.cylinder as u16);
+        self.drive.write_register(Register::Da, sector_word(place));
+    }
+
+    /// The positioning that is under way ends.
+    pub fn arrive(&mut self)
+        ensures { self.new ≡ with_drive arrived self.old }
+    {
+        self.drive.arrive();
+    }
+
+    /// The attention is taken; the retry's next step is due, or the unit is ready.
+    pub fn attend(&mut self, taken: u32)
+        ensures { self.new ≡ going_to (phase.Due (task.Steps taken)) attention_cleared self.old }
+    {
+        self.drive.clear_attention();
+        self.phase = Phase::Due {
+            task: Task::Steps { taken },
+        };
+    }
+
+    /// Issues SEARCH for a first try at a target, and begins the transfer.
+    pub fn search(&mut self, target: Place, sector: u32, job: Job)
+        requires cylinder { target.cylinder < 65536 }
+        requires track { target.track < 256 }
+        requires sector { sector < 256 }
+        requires job { IsJob job }
+        requires ready { is_ready self.old.drive.work ≡ true }
+        requires online { self.old.drive.online ≡ true }
+        ensures { self.new ≡ record (going_to (phase.Positioning 0) (searching target sector) self.old) { transfer = Some (begun job) } }
+    {
+        self.address(Place {
+            cylinder: target.cylinder,
+            track: target.track,
+            sector,
+        });
+        self.drive.go(Function::Search);
+        self.phase = Phase::Positioning { taken: 0 };
+        self.transfer = Some(Transfer::Direct(begin(job)));
+    }
+
+    /// Begins a step of a retry on the drive.
+    fn go_step(&mut self, step: RetryStep)
+        requires cylinder { (cylinder : ℕ) → step ≡ retry_step.Seek cylinder → cylinder < 65536 }
+        requires ready { is_ready self.old.drive.work ≡ true }
+        requires online { self.old.drive.online ≡ true }
+        ensures { self.new ≡ with_drive (stepping step) self.old }
+    {
+        match step {
+            RetryStep::Recalibrate => self.drive.go(Function::Recal),
+            RetryStep::Seek { cylinder } => {
+                self.drive.write_register(Register::Dc, cylinder as u16);
+                self.drive.go(Function::Seek);
+            }
+            RetryStep::Offset { code } => {
+                let word = Of::FMT22.bits() | offset_word(code);
+                self.drive.write_register(Register::Of, word);
+                self.drive.go(Function::Offset);
+            }
+        }
+    }
+
+    /// Issues RECAL, SEEK or OFFSET, a step of a retry; so many are then taken.
+    pub fn step(&mut self, step: RetryStep, taken: u32)
+        requires cylinder { (cylinder : ℕ) → step ≡ retry_step.Seek cylinder → cylinder < 65536 }
+        requires ready { is_ready self.old.drive.work ≡ true }
+        requires online { self.old.drive.online ≡ true }
+        ensures { self.new ≡ going_to (phase.Positioning taken) (stepping step) self.old }
+    {
+        self.go_step(step);
+        self.phase = Phase::Positioning { taken };
+    }
+
+    /// Issues RCOM or WCOM from a block on.
+    pub fn transfer(&mut self, write: bool, block: u32)
+        requires block { block < block_count self.old.drive.kind }
+        requires ready { is_ready self.old.drive.work ≡ true }
+        requires online { self.old.drive.online ≡ true }
+        ensures { self.new ≡ going_to phase.Transferring (transferring write block) self.old }
+    {
+        let place = place_of(self.kind(), block);
+        self.address(place);
+        self.drive.go(if write {
+            Function::Write
+        } else {
+            Function::Read
+        });
+        self.phase = Phase::Transferring;
+    }
+
+    /// Issues PACK.
+    pub fn pack(&mut self)
+        requires ready { is_ready self.old.drive.work ≡ true }
+        requires online { self.old.drive.online ≡ true }
+        ensures { self.new ≡ with_drive (performed PackFunction) self.old }
+    {
+        self.drive.go(Function::Pack);
+    }
+
+    /// The data interrupt was taken: so many sectors moved clean, and this is the last verdict.
+    pub fn interrupt(&mut self, moved: u32, verdict: Moved)
+        ensures { self.new ≡ in_phase (phase.Due (interrupted moved verdict)) self.old }
+    {
+        let task = match verdict {
+            Moved::Clean => Task::Judge { moved, verdict },
+            _ => Task::Clear { moved, verdict },
+        };
+        self.phase = Phase::Due { task };
+    }
+
+    /// Issues DCLR, behind which the verdict is judged.
+    pub fn clear(&mut self, moved: u32, verdict: Moved)
+        requires ready { is_ready self.old.drive.work ≡ true }
+        ensures { self.new ≡ going_to (phase.Due (task.Judge moved verdict)) (performed ClearFunction) self.old }
+    {
+        self.drive.go(Function::Clear);
+        self.phase = Phase::Due {
+            task: Task::Judge { moved, verdict },
+        };
+    }
+
+    /// Issues RTC, behind which no offset is set.
+    pub fn centre(&mut self)
+        requires ready { is_ready self.old.drive.work ≡ true }
+        ensures { self.new ≡ with_drive centred self.old }
+    {
+        self.drive.go(Function::Centre);
+        self.drive.write_register(Register::Of, Of::FMT22.bits());
+    }
+
+    /// The unit is ready at once for a new transfer.
+    pub fn begin(&mut self, job: Job)
+        requires job { IsJob job }
+        ensures { self.new ≡ record self.old { phase = phase.Queued; transfer = Some (begun job) } }
+    {
+        self.phase = Phase::Queued;
+        self.transfer = Some(Transfer::Direct(begin(job)));
+    }
+
+    /// The unit is ready for the transfer that is there.
+    pub fn ready(&mut self)
+        requires begun { self.old.transfer ≡ Some (transfer_of self.old) }
+        ensures { self.new ≡ record self.old { phase = phase.Queued; transfer = Some (transfer_of self.old) } }
+    {
+        self.phase = Phase::Queued;
+    }
+
+    /// A block was repaired in the buffer: with it so many moved clean, which is judged again.
+    pub fn judge_again(&mut self, moved: u32)
+        ensures { self.new ≡ in_phase (phase.Due (task.Judge moved verdict.Clean)) self.old }
+    {
+        self.phase = Phase::Due {
+            task: Task::Judge {
+                moved,
+                verdict: Moved::Clean,
+            },
+        };
+    }
+
+    /// The replacement of the sector behind so many others comes next, and its entry is given. None where the sector is a
+    /// replacement or its place is not listed, and then the unit stays as it was.
+    pub fn forward(&mut self, moved: u32) -> Option<u8>
+        requires begun { self.old.transfer ≡ Some (transfer_of self.old) }
+        requires kind { (transfer_of self.old).job.kind ≡ self.old.drive.kind }
+        requires moved { moved < (segment_of (transfer_of self.old)).count }
+        ensures entry { result ≡ entry_for moved self.old.table (transfer_of self.old) }
+        ensures some { IfSome result (λ i. self.new ≡ with_transfer (Some (forwarded moved i (transfer_of self.old))) task.Command self.old) }
+        ensures none { IfNone result (self.new ≡ self.old) }
+    {
+        let Some(index) = self.entry(moved) else {
+            return None;
+        };
+        let Some(transfer) = self.transfer.take() else {
+            unreachable!();
+        };
+        self.transfer = Some(forwarded_to(transfer, moved, &self.table, index));
+        self.phase = Phase::Due {
+            task: Task::Command,
+        };
+        Some(index)
+    }
+
+    /// The blocks behind so many that moved come next.
+    pub fn go_on(&mut self, moved: u32)
+        requires begun { self.old.transfer ≡ Some (transfer_of self.old) }
+        requires some { 1 ≤ moved }
+        requires moved { moved ≤ (segment_of (transfer_of self.old)).count }
+        requires left { (transfer_of self.old).done + moved < (transfer_of self.old).job.count }
+        ensures { self.new ≡ with_transfer (Some (moved_on ((transfer_of self.old).done + moved) (transfer_of self.old))) task.Command self.old }
+    {
+        let Some(transfer) = self.transfer.take() else {
+            unreachable!();
+        };
+        self.transfer = Some(continued(transfer, moved));
+        self.phase = Phase::Due {
+            task: Task::Command,
+        };
+    }
+
+    /// The try at the sector behind so many others failed: which block that is, how often it has failed, and what comes next.
+    /// Behind the last try the unit has no transfer.
+    pub fn retry(&mut self, moved: u32) -> (u32, u32, Task)
+        requires begun { self.old.transfer ≡ Some (transfer_of self.old) }
+        requires moved { moved < (segment_of (transfer_of self.old)).count }
+        ensures block { result.0 ≡ (segment_of (transfer_of self.old)).block + moved }
+        ensures number { result.1 ≡ failures_after moved (transfer_of self.old).failures }
+        ensures next { result.2 ≡ task_for (step_for moved (transfer_of self.old)) ((transfer_of self.old).done + moved) }
+        ensures unit { self.new ≡ with_transfer (transfer_tried result.2 moved (transfer_of self.old)) result.2 self.old }
+    {
+        let Some(transfer) = self.transfer.take() else {
+            unreachable!();
+        };
+        let block = transfer.segment().block + moved;
+        let number = failures_at(&transfer, moved);
+        let (transfer, task) = tried(transfer, moved);
+        self.transfer = transfer;
+        self.phase = Phase::Due { task };
+        (block, number, task)
+    }
+
+    /// The request in hand has ended: it leaves the queue, and its transfer is let go.
+    pub fn end(&mut self)
+        ensures { self.new ≡ record self.old { queue = drop 1 self.old.queue; phase = phase.Waiting; transfer = None } }
+    {
+        let _head = self.queue.take_head();
+        self.phase = Phase::Waiting;
+        self.transfer = None;
+    }
+}

@@ -1,0 +1,4 @@
+pub mod Lending
+pub mod Order
+pub mod Requests
+pub mod Stored

@@ -1,0 +1,14 @@
+// What a request asks of its slot.
+
+/// What is asked: a read or a write of `count` blocks of a unit from block `first` of its pack on, from 1 to 127, the last one
+/// of `last` bytes, from 1 to 512. Its buffer begins at place `offset` of its first frame, from 0 to 511.
+#[derive(Clone, Copy, Debug, PartialEq, Eq)]
+pub struct Asked {
+    pub id: u32,
+    pub unit: u8,
+    pub first: u32,
+    pub count: u32,
+    pub last: u32,
+    pub write: bool,
+    pub offset: u32,
+}

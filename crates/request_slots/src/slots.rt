@@ -1,0 +1,252 @@
+// The slots themselves.
+ghost use Rattle.std.specs.Prelude.{◌≡◌, ◌≢◌, ◌≤◌, ◌<◌, ◌+◌, ◌-◌, ◌*◌, if◌then◌else◌, ℕ, true, false, min, None, Some, IsSome, IfOk, IfSome, IfNone, length, replicate, slice_set};
+ghost use Rattle.main_memory.specs.Bytes.{filled};
+ghost use Rattle.main_memory.specs.Frames.{frames_needed};
+ghost use Rattle.hardware_table.specs.Adapter.{loaded, completed};
+ghost use Rattle.mba_adapter.specs.Loaded.{loaded_buffer};
+ghost use Rattle.hp_machine.specs.World.{Held, count_of, block_in};
+ghost use Rattle.hp_machine.specs.Acts.{repaired_at};
+ghost use Rattle.hp_machine.specs.Guards.{IsApart};
+ghost use Rattle.request_slots.specs.Requests.{slot_at, held_at, frames_lent, asked_of, IsWhole, IsHeldFor};
+
+mod steps;
+
+use crate::asked::Asked;
+use crate::fill::{lend_filled, repair_block};
+use crate::occupancy::Occupancy;
+use crate::slot::{Holder, Slot, free_slots, put_slot, slot_at, take_slot};
+use main_memory::{MainMemory, frames_of};
+use mass_outside::traits::NoMemory;
+use mba_adapter::{Adapter, Ended};
+use std::alloc::Global;
+use std::marker::Model;
+
+// How many frames there are. As many requests can have buffers at a time.
+const FRAMES: u32 = 16384;
+
+/// The slots of outstanding requests, by number: each is free, or has a request and its buffer.
+#[derive(Drop)]
+pub struct Slots {
+    memory: MainMemory,
+    free: u32,
+    slots: Vec<Option<Slot>>,
+    occupancy: Occupancy,
+}
+
+impl Model for Slots {
+    ghost use Rattle.std.specs.Prelude.{List, Option};
+    ghost use Rattle.hp_machine.specs.World.{Held};
+
+    ghost Value = { List (Option Held) };
+
+    ghost use Rattle.request_slots.specs.Stored.{as_seen, IsStored};
+
+    ghost view = { λ s. as_seen s.memory s.slots.items };
+
+    ghost invariant = { λ s. IsStored s.memory s.free s.slots.items s.occupancy };
+}
+
+impl Slots {
+    /// Takes main memory and so many slots, at most one for each frame; all are free. `NoMemory` where the memory is not
+    /// to be had. No later call takes any.
+    pub fn new(alloc: Global, count: u32) -> Result<Slots, NoMemory>
+        ensures { IfOk result (λ s. s ≡ replicate (min count 16384) None) }
+    {
+        let memory = MainMemory::new(alloc)?;
+        let count = count.min(FRAMES);
+        let slots = free_slots(alloc, count)?;
+        let occupancy = Occupancy::new(alloc, count)?;
+        Ok(Slots {
+            memory,
+            free: FRAMES,
+            slots,
+            occupancy,
+        })
+    }
+
+    /// The law of slots: each request in its slot is whole, and has no frame of another one; no more frames are lent than
+    /// there are, and at least one to each request.
+    pub fn law(&self)
+        ensures whole { (p : ℕ) → (h : Held) → slot_at self.now p ≡ Some h → IsWhole h }
+        ensures apart { (p q : ℕ) → (g h : Held) → p ≢ q → slot_at self.now p ≡ Some g → slot_at self.now q ≡ Some h
+            → IsApart g.loan.frames h.loan.frames }
+        ensures frames { frames_lent self.now ≤ 16384 }
+        ensures full { ((p : ℕ) → p < length self.now → IsSome (slot_at self.now p)) → length self.now ≤ frames_lent self.now }
+    {
+        let _ = &self.slots;
+    }
+
+    /// A free slot, found at once; none where a request stands in each.
+    pub fn free_slot(&self) -> Option<u32>
+        ensures some { IfSome result (λ p. (p < length self.now) × (slot_at self.now p ≡ None)) }
+        ensures none { IfNone result ((p : ℕ) → p < length self.now → IsSome (slot_at self.now p)) }
+    {
+        self.occupancy.free()
+    }
+
+    /// How many frames are free: those that are not lent to a request in its slot.
+    pub fn free_frames(&self) -> u32
+        ensures { result + frames_lent self.now ≡ 16384 }
+    {
+        self.free
+    }
+
+    /// Puts a request into a free slot, with a buffer. The bytes of a write go into the buffer.
+    pub fn join(&mut self, slot: u32, asked: Asked, bytes: &[u8])
+        requires free { slot < length self.old }
+        requires none { slot_at self.old slot ≡ None }
+        requires some { 1 ≤ asked.count }
+        requires few { asked.count ≤ 127 }
+        requires last_some { 1 ≤ asked.last }
+        requires last_few { asked.last ≤ 512 }
+        requires inside { asked.offset < 512 }
+        requires room { frames_lent self.old + frames_needed asked.count asked.offset asked.last ≤ 16384 }
+        requires bytes { length bytes.now ≡ (if asked.write then 512 * (asked.count - 1) + asked.last else 0) }
+        ensures { (h : Held) × IsHeldFor asked bytes.now h × (self.new ≡ slice_set self.old slot (Some h)) }
+    {
+        let buffer = lend_filled(&mut self.memory, asked, bytes);
+        self.free -= frames_of(&buffer).len() as u32;
+        self.occupancy.take(slot);
+        let joined = Slot {
+            asked,
+            ended: false,
+            buffer: Holder::Driver(buffer),
+        };
+        put_slot(&mut self.slots, slot, joined);
+    }
+
+    /// What the request in a slot asks.
+    pub fn asked(&self, slot: u32) -> Asked
+        requires { IsSome (slot_at self.now slot) }
+        ensures { result ≡ asked_of (held_at self.now slot) }
+    {
+        slot_at(self.slots.as_slice(), slot).asked
+    }
+
+    /// Hands the buffer of a slot to an adapter, for a transfer of `count` of its blocks, from block `skip` on.
+    pub fn load(&mut self, slot: u32, adapter: &mut Adapter, skip: u32, count: u32)
+        requires there { IsSome (slot_at self.old slot) }
+        requires cpu { (held_at self.old slot).on_bus ≡ false }
+        requires free { adapter.old.busy ≡ false }
+        requires some { 1 ≤ count }
+        requires inside { skip + count ≤ count_of (held_at self.old slot) }
+        ensures slots { let h = held_at self.old slot in
+            self.new ≡ slice_set self.old slot (Some (record h { on_bus = true })) }
+        ensures adapter { let l = (held_at self.old slot).loan in
+            adapter.new ≡ loaded l.frames l.offset l.count l.last skip count adapter.old }
+    {
+        let Slot {
+            asked,
+            ended,
+            buffer,
+        } = take_slot(&mut self.slots, slot);
+        let Holder::Driver(buffer) = buffer else {
+            unreachable!()
+        };
+        let handed = Slot {
+            asked,
+            ended,
+            buffer: Holder::Adapter(adapter.load(buffer, skip, count)),
+        };
+        put_slot(&mut self.slots, slot, handed);
+    }
+
+    /// Takes the data interrupt: gives the buffer of a slot back to the driver, and says how the transfer ended. The
+    /// adapter is free afterwards.
+    pub fn complete(&mut self, slot: u32, adapter: &mut Adapter) -> Ended
+        requires there { IsSome (slot_at self.old slot) }
+        requires bus { (held_at self.old slot).on_bus ≡ true }
+        requires completion { adapter.old.completion ≡ true }
+        requires loaded { (held_at self.old slot).loan ≡ loaded_buffer adapter.old }
+        ensures slots { let h = held_at self.old slot in
+            self.new ≡ slice_set self.old slot (Some (record h { on_bus = false })) }
+        ensures adapter { adapter.new ≡ completed adapter.old }
+        ensures ended { result ≡ record { moved = adapter.old.moved; last = adapter.old.verdict } }
+    {
+        let Slot {
+            asked,
+            ended,
+            buffer,
+        } = take_slot(&mut self.slots, slot);
+        let Holder::Adapter(buffer) = buffer else {
+            unreachable!()
+        };
+        let (buffer, outcome) = adapter.complete(buffer);
+        let handed = Slot {
+            asked,
+            ended,
+            buffer: Holder::Driver(buffer),
+        };
+        put_slot(&mut self.slots, slot, handed);
+        outcome
+    }
+
+    /// Repairs block `k` of the buffer of a slot, counted from 0: flips back the burst of this first place, counted from
+    /// 1, and pattern. What lies behind the end of a short block is not in memory.
+    pub fn repair(&mut self, slot: u32, k: u32, at: u16, pattern: u16)
+        requires there { IsSome (slot_at self.old slot) }
+        requires cpu { (held_at self.old slot).on_bus ≡ false }
+        requires inside { k < count_of (held_at self.old slot) }
+        requires first { 1 ≤ at }
+        requires last { at ≤ 4128 }
+        requires pattern { pattern < 2048 }
+        ensures { self.new ≡ slice_set self.old slot (Some (repaired_at k at pattern (held_at self.old slot))) }
+    {
+        let Slot {
+            asked,
+            ended,
+            buffer,
+        } = take_slot(&mut self.slots, slot);
+        let Holder::Driver(buffer) = buffer else {
+            unreachable!()
+        };
+        let buffer = repair_block(&mut self.memory, buffer, k, at, pattern);
+        let repaired = Slot {
+            asked,
+            ended,
+            buffer: Holder::Driver(buffer),
+        };
+        put_slot(&mut self.slots, slot, repaired);
+    }
+
+    /// The request in a slot has ended; it keeps its slot until it leaves.
+    pub fn end(&mut self, slot: u32)
+        requires there { IsSome (slot_at self.old slot) }
+        ensures { let h = held_at self.old slot in
+            self.new ≡ slice_set self.old slot (Some (record h { ended = true })) }
+    {
+        let ended = Slot {
+            ended: true,
+            ..take_slot(&mut self.slots, slot)
+        };
+        put_slot(&mut self.slots, slot, ended);
+    }
+
+    /// Reads block `k` of the buffer of a slot, counted from 0: its bytes, and then zeros.
+    pub fn block(&self, slot: u32, k: u32, into: &mut [u8; 512])
+        requires there { IsSome (slot_at self.now slot) }
+        requires cpu { (held_at self.now slot).on_bus ≡ false }
+        requires inside { k < count_of (held_at self.now slot) }
+        ensures { into.new ≡ filled 512 (block_in (held_at self.now slot) k) }
+    {
+        let Holder::Driver(buffer) = &slot_at(self.slots.as_slice(), slot).buffer else {
+            unreachable!()
+        };
+        self.memory.fetch(buffer, k, into);
+    }
+
+    /// The request in a slot leaves it. The slot and the frames of the request are free again.
+    pub fn leave(&mut self, slot: u32)
+        requires there { IsSome (slot_at self.old slot) }
+        requires cpu { (held_at self.old slot).on_bus ≡ false }
+        ensures { self.new ≡ slice_set self.old slot None }
+    {
+        let Slot { buffer, .. } = take_slot(&mut self.slots, slot);
+        let Holder::Driver(buffer) = buffer else {
+            unreachable!()
+        };
+        self.free += frames_of(&buffer).len() as u32;
+        self.occupancy.give(slot);
+        self.memory.give_back(buffer);
+    }
+}

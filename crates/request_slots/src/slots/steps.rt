@@ -1,0 +1,79 @@
+// One step of the transfer of a request.
+ghost use Rattle.std.specs.Prelude.{◌≡◌, ◌<◌, true, false, IsTrue, IfOk, IsOk, OnErr, IsSome, Some, if◌then◌else◌, length, slice_set};
+ghost use Rattle.pack_geometry.specs.Geometry.{block_count};
+ghost use Rattle.mass_outside.specs.Causes.{HasCause};
+ghost use Rattle.main_memory.specs.Blocks.{size_at};
+ghost use Rattle.hardware_table.specs.declared.Work.TheVariants.{Transfer};
+ghost use Rattle.hardware_table.specs.Moves.{stop_of, was_read};
+ghost use Rattle.hardware_table.specs.Adapter.{next_block, next_window, stepped, drive_stepped};
+ghost use Rattle.drive_model.specs.Move.{MovesSector, IsOldOrNew};
+ghost use Rattle.mba_adapter.specs.Loaded.{loaded_buffer};
+ghost use Rattle.hp_machine.specs.World.{block_in, with_block_in};
+ghost use Rattle.request_slots.specs.Requests.{slot_at, held_at};
+
+use crate::slot::{Holder, slot_at};
+use crate::slots::Slots;
+use drive_model::{Drive, Moved, NoiseBook};
+use mass_outside::traits::{Packs, StoreFailed};
+use mba_adapter::Adapter;
+
+impl Slots {
+    /// Moves one sector of a transfer between the pack and the buffer of a slot, which the adapter has, as
+    /// [`Adapter::step_sector`] does. A sector that is read is the next block of that slot, the front of it where this is
+    /// shorter; else no slot changes.
+    ///
+    /// `StoreFailed` comes only where the packs' count of failures rose; then the slots, the adapter, the drive and
+    /// the book are as before, and the block of a write that was found unmarked is old or new.
+    pub fn step<P: Packs>(
+        &mut self,
+        slot: u32,
+        adapter: &mut Adapter,
+        drive: &mut Drive,
+        packs: &mut P,
+        unit: u8,
+        book: &mut NoiseBook,
+    ) -> Result<Moved, StoreFailed>
+        requires there { IsSome (slot_at self.old slot) }
+        requires bus { (held_at self.old slot).on_bus ≡ true }
+        requires loaded { (held_at self.old slot).loan ≡ loaded_buffer adapter.old }
+        requires unit { unit < 32 }
+        requires busy { adapter.old.busy ≡ true }
+        requires under_way { adapter.old.completion ≡ false }
+        requires transfer { drive.old.work ≡ Transfer adapter.old.write }
+        requires block { next_block adapter.old < block_count drive.old.kind }
+
+        // The verdict, and the bytes that moved: those of the next block of that slot.
+        ensures moves { let h = held_at self.old slot in let k = next_window adapter.old in
+            IfOk result (λ v. MovesSector unit (next_block adapter.old) drive.old (size_at h.loan k) (P.tells packs.new)
+            (record { book = book.old; held = P.held packs.old; window = block_in h k })
+            (record { book = book.new; held = P.held packs.new; window = block_in (held_at self.new slot) k }) v) }
+        ensures adapter { IfOk result (λ v. adapter.new ≡ stepped v adapter.old) }
+        ensures drive { IfOk result (λ v. drive.new ≡ drive_stepped v adapter.old drive.old) }
+
+        // No other block of a slot changes.
+        ensures slots { let h = held_at self.old slot in let k = next_window adapter.old in
+            IfOk result (λ v. self.new
+            ≡ (if was_read drive.old v then slice_set self.old slot (Some (with_block_in k (block_in (held_at self.new slot) k) h))
+            else self.old)) }
+        ensures size { let k = next_window adapter.old in
+            length (block_in (held_at self.new slot) k) ≡ size_at (held_at self.old slot).loan k }
+
+        // A drive that is stopped asks nothing of the packs.
+        ensures stopped { IsSome (stop_of drive.old) → IsOk result × (packs.new ≡ packs.old) }
+
+        // A failure.
+        ensures unchanged { OnErr result ((self.new ≡ self.old)
+            × (adapter.new ≡ adapter.old) × (drive.new ≡ drive.old) × (book.new ≡ book.old)) }
+        ensures old_or_new { let k = next_window adapter.old in
+            OnErr result (IsOldOrNew unit (next_block adapter.old) drive.old (P.tells packs.new)
+            (record { book = book.old; held = P.held packs.old; window = block_in (held_at self.old slot) k })
+            (P.held packs.new)) }
+        ensures never_again { IsTrue (P.tells packs.new) → IsTrue (P.tells packs.old) }
+        ensures cause { HasCause (P.faults packs.old) (P.faults packs.new) result }
+    {
+        let Holder::Adapter(buffer) = &slot_at(self.slots.as_slice(), slot).buffer else {
+            unreachable!()
+        };
+        adapter.step_sector(drive, packs, unit, &mut self.memory, buffer, book)
+    }
+}
