@@ -1,0 +1,5 @@
+pub mod Telling
+pub mod Scenes
+pub mod Deeds
+pub mod Rooms
+pub mod Tries

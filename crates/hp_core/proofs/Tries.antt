@@ -1,0 +1,142 @@
+-- What the trying of one sector comes to.
+use Rattle.std.proofs.Common.{◌≡◌, inl, inr, ℕ, Bool, true, false, List, [], ◌∷◌, ◌++◌, length, Option, Some, refl, sym, ap, ◌∙◌, subst}
+use Rattle.std.specs.Prelude.{Result, Err, if◌then◌else◌, IsTrue, slice_set, not, ◌&&◌}
+use Rattle.main_memory.specs.Bytes.{filled}
+use Rattle.main_memory.specs.Blocks.{size_at}
+use Rattle.pack_model.specs.Pack.{Pack, with_written}
+use Rattle.hardware_table.specs.declared.Moved.{Moved}
+use Rattle.hardware_table.specs.Drive.{DriveState, is_writing}
+use Rattle.hardware_table.specs.Adapter.{next_block, next_window, stepped, drive_stepped}
+use Rattle.hardware_table.specs.Moves.{was_read, was_written, has_bytes}
+use Rattle.hardware_table.specs.Noise.{Book}
+use Rattle.drive_model.specs.Move.{MovesSector, IsOldOrNew}
+use Rattle.hp_machine.specs.World.{World, UnitView, AdapterView, Held, unit_at, adapter_at, held_in, slot_in_hand, adapter_of, drive_of, block_in, with_block_in}
+use Rattle.hp_machine.specs.Acts.{Of, Sector, Tried, with_drive, with_state, after}
+use Rattle.hp_machine.specs.Guards.{InHand, IsBusyFor, Allowed}
+use Rattle.hp_outcome.specs.Packs.{Reads, packs_after}
+use Rattle.hardware_table.specs.declared.Moved.TheVariants.{Clean}
+use Rattle.mass_gather.specs.Gathers.{Gathers}
+use Rattle.trace_replay.specs.Moments as moments
+use Rattle.trace_replay.specs.Text.{moment_text}
+use Rattle.hp_outcome.specs.Outcome.{Outcome, stop_in}
+use Rattle.hp_outcome.specs.declared.Stop.{Stop}
+use Rattle.hp_outcome.specs.declared.Stop.TheVariants.{Store}
+use Rattle.hp_outcome.proofs.Joined.{nothing_done}
+use Rattle.hp_core.specs.State.{State, site}
+use Rattle.hp_core.specs.Done.{Tells, TriesSector}
+use Rattle.hp_core.proofs.Telling.{outcome_of}
+use Rattle.hp_core.proofs.Scenes.{same_slot}
+
+not_both : (d : DriveState) (v : Moved) → was_written d v ≡ true → was_read d v ≡ false
+not_both d v e = by (has_bytes v) (is_writing d.work) e
+  where
+    by : (b w : Bool) → (b && w) ≡ true → (b && not w) ≡ false
+    by true true f = refl
+    by true false f = absurd (no_true f)
+      where
+        no_true : false ≡ true → ⊥
+        no_true f = cc
+    by false w f = refl
+
+-- a sector was tried, and this is what the driver and the packs are then
+pub record Stepped (w now : World) (u : ℕ) (told : Bool) (held held' : ℕ → Pack) (v : Moved) : Type 0 where
+  pub moves : MovesSector u (next_block (adapter_at w (adapter_of u)).state) (unit_at w u).drive
+      (size_at (held_in w (slot_in_hand (unit_at w u))).loan (next_window (adapter_at w (adapter_of u)).state)) told
+      (record { book = w.book; held = held; window = block_in (held_in w (slot_in_hand (unit_at w u))) (next_window (adapter_at w (adapter_of u)).state) })
+      (record { book = now.book; held = held'; window = block_in (held_in now (slot_in_hand (unit_at w u))) (next_window (adapter_at w (adapter_of u)).state) }) v
+  pub units : now.units ≡ slice_set w.units u (with_drive (drive_stepped v (adapter_at w (adapter_of u)).state) (unit_at w u))
+  pub adapters : now.adapters ≡ slice_set w.adapters (adapter_of u) (with_state (stepped v) (adapter_at w (adapter_of u)))
+  pub slots : now.slots ≡ (if was_read (unit_at w u).drive v
+      then slice_set w.slots (slot_in_hand (unit_at w u)) (Some (with_block_in (next_window (adapter_at w (adapter_of u)).state)
+      (block_in (held_in now (slot_in_hand (unit_at w u))) (next_window (adapter_at w (adapter_of u)).state)) (held_in w (slot_in_hand (unit_at w u)))))
+      else w.slots)
+  pub size : length (block_in (held_in now (slot_in_hand (unit_at w u))) (next_window (adapter_at w (adapter_of u)).state))
+      ≡ size_at (held_in w (slot_in_hand (unit_at w u))).loan (next_window (adapter_at w (adapter_of u)).state)
+  pub frames : now.frames ≡ w.frames
+  pub answers : now.answers ≡ w.answers
+
+module _ (w now : World) (line u id : ℕ) (told : Bool) (held held' : ℕ → Pack) (v : Moved) (i : InHand w u id)
+    (b : IsBusyFor (adapter_at w (adapter_of u)).state (drive_of u) false) (s : Stepped w now u told held held' v) where
+  abbrev pub tried : Tried
+  tried = record { marked = s.moves.marked; verdict = v; bytes = block_in (held_in now (slot_in_hand (unit_at w u))) (next_window (adapter_at w (adapter_of u)).state) }
+
+  same_bytes : was_written (unit_at w u).drive v ≡ true → tried.bytes ≡ block_in (held_in w (slot_in_hand (unit_at w u))) (next_window (adapter_at w (adapter_of u)).state)
+  same_bytes e = s.moves.unread (not_both (unit_at w u).drive v e)
+
+  pub sector_may : Allowed w (Of line u id (Sector (next_block (adapter_at w (adapter_of u)).state) tried))
+  sector_may = (i, (b, refl, record { verdict = s.moves.by_rules; bytes = λ t. same_bytes t; size = λ t. s.size }))
+
+  pub sector_reads : IsTrue told → Reads w held (Of line u id (Sector (next_block (adapter_at w (adapter_of u)).state) tried))
+  sector_reads t = record { mark = s.moves.by_pack t; bytes = λ r. s.moves.read r t }
+
+  pub sector_packs : IsTrue told → held' ≡ packs_after w held (Of line u id (Sector (next_block (adapter_at w (adapter_of u)).state) tried))
+  sector_packs t = s.moves.written t ∙ by_test (was_written (unit_at w u).drive v) refl
+    where
+      by_test : (c : Bool) → was_written (unit_at w u).drive v ≡ c
+          → (if c then with_written held u (next_block (adapter_at w (adapter_of u)).state) (filled 512 (block_in (held_in w (slot_in_hand (unit_at w u))) (next_window (adapter_at w (adapter_of u)).state))) else held)
+          ≡ (if c then with_written held u (next_block (adapter_at w (adapter_of u)).state) (filled 512 tried.bytes) else held)
+      by_test true e = ap (λ (x : List ℕ). with_written held u (next_block (adapter_at w (adapter_of u)).state) (filled 512 x)) (sym (same_bytes e))
+      by_test false e = refl
+
+  slots_by : (c : Bool) (h g : Held) → held_in w (slot_in_hand (unit_at w u)) ≡ h
+      → (if c then slice_set w.slots (slot_in_hand (unit_at w u)) (Some g) else w.slots) ≡ slice_set w.slots (slot_in_hand (unit_at w u)) (Some (if c then g else h))
+  slots_by true h g e = refl
+  slots_by false h g e = sym (same_slot w (slot_in_hand (unit_at w u)) i.held i.slot) ∙ ap (λ (x : Held). slice_set w.slots (slot_in_hand (unit_at w u)) (Some x)) e
+
+  world_by : (units : List UnitView) (adapters : List AdapterView) (slots : List (Option Held)) (book : Book) → now.units ≡ units → now.adapters ≡ adapters
+      → now.slots ≡ slots → now.book ≡ book → now ≡ record w { units = units; adapters = adapters; slots = slots; book = book }
+  world_by units adapters slots book e f g h =
+      ap (λ (x : List UnitView). record now { units = x }) e ∙ ap (λ (x : List AdapterView). record now { units = units; adapters = x }) f
+      ∙ ap (λ (x : List (Option Held)). record now { units = units; adapters = adapters; slots = x }) g
+      ∙ ap (λ (x : Book). record now { units = units; adapters = adapters; slots = slots; book = x }) h
+      ∙ ap (λ (x : ℕ). record now { units = units; adapters = adapters; slots = slots; book = book; frames = x }) s.frames
+      ∙ ap (λ x. record now { units = units; adapters = adapters; slots = slots; book = book; frames = w.frames; answers = x }) s.answers
+
+  pub sector_world : now ≡ after w (Of line u id (Sector (next_block (adapter_at w (adapter_of u)).state) tried))
+  sector_world = world_by _ _ _ _ s.units s.adapters
+      (s.slots ∙ slots_by (was_read (unit_at w u).drive v) (held_in w (slot_in_hand (unit_at w u)))
+      (with_block_in (next_window (adapter_at w (adapter_of u)).state) tried.bytes (held_in w (slot_in_hand (unit_at w u)))) refl) s.moves.book
+
+-- THE PACKS FAILED before the sector was tried.
+pub sector_stopped : {O Q : Type 0} (holds : Q → Bool) (held : Q → ℕ → Pack) (tells : O → Bool) (taken : O → List ℕ) (packs packs' : Q) (trace : O) (old new : State) (line u id : ℕ)
+    → IsBusyFor (adapter_at old.world (adapter_of u)).state (drive_of u) false → new ≡ old
+    → IsOldOrNew u (next_block (adapter_at old.world (adapter_of u)).state) (unit_at old.world u).drive (holds packs')
+    (record { book = old.world.book; held = held packs; window = block_in (held_in old.world (slot_in_hand (unit_at old.world u))) (next_window (adapter_at old.world (adapter_of u)).state) }) (held packs')
+    → TriesSector holds held tells taken packs packs' trace trace old new (Err Store) line u id (next_block (adapter_at old.world (adapter_of u)).state)
+sector_stopped holds held tells taken packs packs' trace old new line u id b same left = record {
+  tried = record { marked = false; verdict = Clean; bytes = [] };
+  outcome = record {
+    done = [];
+    between = site old (held packs) (taken trace);
+    does = nothing_done _ (site old (held packs) (taken trace));
+    world = ap (λ (s : State). s.world) same;
+    text = λ t. ap (λ (s : State). taken trace ++ s.kept) same;
+    packs = λ t. elim (left t) [
+      | inl is ↦ inl is
+      | inr is ↦ inr (record { unit = u; busy = b; writes = is.0; unmarked = is.1; is = is.2 })
+    ];
+  };
+}
+
+-- THE SECTOR was tried, and its line told or not.
+pub sector_told : {O Q : Type 0} (holds : Q → Bool) (held : Q → ℕ → Pack) (tells : O → Bool) (taken : O → List ℕ) (faults : O → ℕ) (packs packs' : Q) (trace trace' : O) (old mid new : State)
+    (result : Result (Unit {0}) Stop) (line u id block : ℕ) (v : Moved) → InHand old.world u id
+    → IsBusyFor (adapter_at old.world (adapter_of u)).state (drive_of u) false → block ≡ next_block (adapter_at old.world (adapter_of u)).state
+    → Stepped old.world mid.world u (holds packs') (held packs) (held packs') v → mid.kept ≡ old.kept
+    → Tells tells taken faults trace trace' mid new result (moment_text (moments.Told line u id (moments.Sector block v)))
+    → TriesSector holds held tells taken packs packs' trace trace' old new result line u id block
+sector_told holds held tells taken faults packs packs' trace trace' old mid new result line u id block v i b at s kept told = record {
+  tried = tried old.world mid.world line u id (holds packs') (held packs) (held packs') v i b s;
+  outcome = subst (λ (n : ℕ). Outcome (record { packs = holds packs'; trace = tells trace' }) (Of line u id (Sector n (tried old.world mid.world line u id (holds packs') (held packs) (held packs') v i b s)) ∷ []) (site old (held packs) (taken trace)) (site new (held packs') (taken trace')) (stop_in result)) (sym at)
+      (outcome_of tells taken faults trace trace' old mid new
+      (Of line u id (Sector (next_block (adapter_at old.world (adapter_of u)).state) (tried old.world mid.world line u id (holds packs') (held packs) (held packs') v i b s)))
+      (moments.Told line u id (moments.Sector (next_block (adapter_at old.world (adapter_of u)).state) v)) (holds packs') (held packs) (held packs') result refl
+      (record {
+        run = (sector_may old.world mid.world line u id (holds packs') (held packs) (held packs') v i b s, tt);
+        world = told.world ∙ sector_world old.world mid.world line u id (holds packs') (held packs) (held packs') v i b s;
+        reads = λ t. (sector_reads old.world mid.world line u id (holds packs') (held packs) (held packs') v i b s t, tt);
+        packs = λ t. sector_packs old.world mid.world line u id (holds packs') (held packs) (held packs') v i b s t;
+      })
+      (subst (λ (k : List ℕ). Gathers tells taken faults trace trace' k new.kept result (moment_text (moments.Told line u id (moments.Sector (next_block (adapter_at old.world (adapter_of u)).state) v)))) kept
+      (subst (λ (n : ℕ). Gathers tells taken faults trace trace' mid.kept new.kept result (moment_text (moments.Told line u id (moments.Sector n v)))) at told.gathers)) told.stop);
+}

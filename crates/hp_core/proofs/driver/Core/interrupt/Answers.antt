@@ -1,0 +1,29 @@
+use Rattle.std.proofs.Common.{refl}
+use Rattle.trace_replay.specs.Requests.{WriteOk}
+use Rattle.hp_core.proofs.Telling.{told_act}
+use Rattle.hp_core.proofs.Deeds.{there, adapter_there, hand_there, ended}
+use Rattle.hp_core.proofs.driver.Core.interrupt.Goals as goal
+
+pub put_interrupt-requires-clause-unit : goal.put_interrupt-requires-clause-unit
+put_interrupt-requires-clause-unit g c = there _ c.args.line _ _ c.requires.sound c.requires.may.0
+
+pub put_interrupt-requires-clause-adapter : goal.put_interrupt-requires-clause-adapter
+put_interrupt-requires-clause-adapter g c = adapter_there _ c.args.line _ _ c.requires.sound c.requires.may.0
+
+pub put_interrupt-requires-clause-some : goal.put_interrupt-requires-clause-some
+put_interrupt-requires-clause-some g c = c.requires.may.0.some
+
+pub put_interrupt-requires-clause-there : goal.put_interrupt-requires-clause-there
+put_interrupt-requires-clause-there g c = hand_there _ c.args.line _ _ c.requires.sound c.requires.may.0
+
+pub put_interrupt-requires-clause-bus : goal.put_interrupt-requires-clause-bus
+put_interrupt-requires-clause-bus g c = (ended _ c.args.line _ _ c.requires.sound _ _ c.requires.may).bus
+
+pub put_interrupt-requires-clause-completion : goal.put_interrupt-requires-clause-completion
+put_interrupt-requires-clause-completion g c = (ended _ c.args.line _ _ c.requires.sound _ _ c.requires.may).completion
+
+pub put_interrupt-requires-clause-loaded : goal.put_interrupt-requires-clause-loaded
+put_interrupt-requires-clause-loaded g c = (ended _ c.args.line _ _ c.requires.sound _ _ c.requires.may).loaded
+
+pub returns : goal.returns
+returns g c = told_act _ _ _ _ _ _ _ _ _ _ _ (record { reads = λ w p. tt; packs = λ w p. refl }) c.requires.may refl c.put_interrupt.ensures (c.tell.ensures WriteOk)

@@ -1,0 +1,26 @@
+use Rattle.std.proofs.Common.{refl}
+use Rattle.hp_core.proofs.Telling.{silent_act}
+use Rattle.hp_core.proofs.Scenes.{by_held}
+use Rattle.hp_core.proofs.Deeds.{there, hand_there, repairs}
+use Rattle.hp_core.proofs.driver.Core.repair.Goals as goal
+
+pub put_repair-requires-clause-unit : goal.put_repair-requires-clause-unit
+put_repair-requires-clause-unit c = there _ c.args.line _ _ c.requires.sound c.requires.may.0
+
+pub put_repair-requires-clause-some : goal.put_repair-requires-clause-some
+put_repair-requires-clause-some c = c.requires.may.0.some
+
+pub put_repair-requires-clause-there : goal.put_repair-requires-clause-there
+put_repair-requires-clause-there c = hand_there _ c.args.line _ _ c.requires.sound c.requires.may.0
+
+pub put_repair-requires-clause-cpu : goal.put_repair-requires-clause-cpu
+put_repair-requires-clause-cpu c = (repairs _ c.args.line _ _ c.requires.sound _ _ _ c.requires.may).cpu
+
+pub put_repair-requires-clause-few : goal.put_repair-requires-clause-few
+put_repair-requires-clause-few c = (repairs _ c.args.line _ _ c.requires.sound _ _ _ c.requires.may).few
+
+pub put_repair-requires-clause-inside : goal.put_repair-requires-clause-inside
+put_repair-requires-clause-inside c = (repairs _ c.args.line _ _ c.requires.sound _ _ _ c.requires.may).inside
+
+pub returns : goal.returns
+returns c = silent_act _ _ _ (record { reads = λ w p. tt; packs = λ w p. refl }) c.requires.may refl (by_held _ _ _ _ _ _ c.put_repair.ensures)

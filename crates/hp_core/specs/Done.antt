@@ -1,0 +1,37 @@
+-- What the method of an act does.
+use Rattle.std.specs.Prelude.{◌≡◌, ℕ, Bool, List, [], ◌∷◌, Result, IsTrue, IfErr}
+use Rattle.pack_model.specs.Pack.{Pack}
+use Rattle.mass_outside.specs.Causes.{HasCause}
+use Rattle.mass_gather.specs.Gathers.{Gathers}
+use Rattle.hp_machine.specs.Acts.{Act, Of, Sector, Tried, after}
+use Rattle.hp_outcome.specs.Outcome.{Does, Outcome, stop_in}
+use Rattle.hp_outcome.specs.declared.Stop.{Stop}
+use Rattle.hp_outcome.specs.declared.Stop.TheVariants.{Sink}
+use Rattle.hp_core.specs.State.{State, site}
+
+-- A line is told: its text is put behind what is kept, and the world stays as it was.
+pub record Tells {O : Type 0} (tells : O → Bool) (taken : O → List ℕ) (faults : O → ℕ) (trace trace' : O) (old new : State) (result : Result (Unit {0}) Stop) (line : List ℕ) : Type 0 where
+  pub world : new.world ≡ old.world
+  pub gathers : Gathers tells taken faults trace trace' old.kept new.kept result line
+  pub stop : IfErr result (λ stop. stop ≡ Sink)
+
+-- AN ACT AND ITS LINE, whatever the packs hold: the call comes to what the act comes to. The act is done where the trace failed,
+-- too. A failure has its cause.
+pub record DoesAct {O : Type 0} (tells : O → Bool) (taken : O → List ℕ) (faults : O → ℕ) (trace trace' : O) (old new : State) (result : Result (Unit {0}) Stop) (act : Act) : Type 0 where
+  pub outcome : (told : Bool) (packs : ℕ → Pack)
+      → Outcome (record { packs = told; trace = tells trace' }) (act ∷ []) (site old packs (taken trace)) (site new packs (taken trace')) (stop_in result)
+  pub world : new.world ≡ after old.world act
+  pub never_again : IsTrue (tells trace') → IsTrue (tells trace)
+  pub cause : HasCause (faults trace) (faults trace') result
+
+-- AN ACT WITHOUT A LINE, whatever the packs hold and the trace took.
+pub record DoesSilently (old new : State) (act : Act) : Type 0 where
+  pub does : (packs told : Bool) (held : ℕ → Pack) (taken : List ℕ)
+      → Does (record { packs = packs; trace = told }) (act ∷ []) (site old held taken) (site new held taken)
+  pub world : new.world ≡ after old.world act
+
+-- ONE SECTOR IS TRIED, and its line told: for some sector the call comes to what trying it comes to.
+pub record TriesSector {O Q : Type 0} (holds : Q → Bool) (held : Q → ℕ → Pack) (tells : O → Bool) (taken : O → List ℕ) (packs packs' : Q) (trace trace' : O) (old new : State) (result : Result (Unit {0}) Stop) (line u id block : ℕ) : Type 0 where
+  pub tried : Tried
+  pub outcome : Outcome (record { packs = holds packs'; trace = tells trace' }) (Of line u id (Sector block tried) ∷ [])
+      (site old (held packs) (taken trace)) (site new (held packs') (taken trace')) (stop_in result)

@@ -1,0 +1,128 @@
+// The deeds that change a drive.
+ghost use Rattle.std.specs.Prelude.{◌≡◌};
+ghost use Rattle.hp_machine.specs.World.{unit_at};
+ghost use Rattle.hp_machine.specs.Acts.{Of, Arrive, Attn, Search, Do, Pack, Dclr, Rtc};
+ghost use Rattle.hp_machine.specs.Guards.{Allowed};
+ghost use Rattle.hp_machine.specs.Sound.{Sound};
+ghost use Rattle.hp_core.specs.Done.{DoesAct};
+
+use crate::driver::{Core, told_step};
+use hardware_table::Moved;
+use hp_machine::RetryStep;
+use hp_outcome::Stop;
+use mass_outside::traits::Sink;
+use pack_geometry::Place;
+use trace_lines::Told;
+
+impl Core {
+    /// The positioning of a drive ends.
+    pub fn arrive<T: Sink>(&mut self, line: u64, u: u8, id: u32, trace: &mut T) -> Result<(), Stop>
+        requires sound { Sound self.old.world }
+        requires may { Allowed self.old.world (Of line u id Arrive) }
+        ensures { DoesAct T.tells T.taken T.faults trace.old trace.new self.old self.new result (Of line u id Arrive) }
+    {
+        self.put_arrive(u);
+        self.tell(line, u, id, Told::Arrive, trace)
+    }
+
+    /// The attention of a drive is taken, behind so many steps of a retry.
+    pub fn attend<T: Sink>(
+        &mut self,
+        line: u64,
+        u: u8,
+        id: u32,
+        taken: u32,
+        trace: &mut T,
+    ) -> Result<(), Stop>
+        requires sound { Sound self.old.world }
+        requires may { Allowed self.old.world (Of line u id (Attn taken)) }
+        ensures { DoesAct T.tells T.taken T.faults trace.old trace.new self.old self.new result (Of line u id (Attn taken)) }
+    {
+        self.put_attend(u, taken);
+        self.tell(line, u, id, Told::Attn, trace)
+    }
+
+    /// PACK is issued.
+    pub fn pack<T: Sink>(&mut self, line: u64, u: u8, id: u32, trace: &mut T) -> Result<(), Stop>
+        requires sound { Sound self.old.world }
+        requires may { Allowed self.old.world (Of line u id Pack) }
+        ensures { DoesAct T.tells T.taken T.faults trace.old trace.new self.old self.new result (Of line u id Pack) }
+    {
+        self.put_pack(u);
+        self.tell(line, u, id, Told::Pack, trace)
+    }
+
+    /// DCLR is issued; the verdict of so many sectors is judged behind it.
+    pub fn clear<T: Sink>(
+        &mut self,
+        line: u64,
+        u: u8,
+        id: u32,
+        moved: u32,
+        verdict: Moved,
+        trace: &mut T,
+    ) -> Result<(), Stop>
+        requires sound { Sound self.old.world }
+        requires may { Allowed self.old.world (Of line u id (Dclr moved verdict)) }
+        ensures { DoesAct T.tells T.taken T.faults trace.old trace.new self.old self.new result (Of line u id (Dclr moved verdict)) }
+    {
+        self.put_clear(u, moved, verdict);
+        self.tell(line, u, id, Told::Clear, trace)
+    }
+
+    /// RTC is issued.
+    pub fn centre<T: Sink>(&mut self, line: u64, u: u8, id: u32, trace: &mut T) -> Result<(), Stop>
+        requires sound { Sound self.old.world }
+        requires may { Allowed self.old.world (Of line u id Rtc) }
+        ensures { DoesAct T.tells T.taken T.faults trace.old trace.new self.old self.new result (Of line u id Rtc) }
+    {
+        self.put_centre(u);
+        self.tell(line, u, id, Told::Centre, trace)
+    }
+
+    /// SEARCH is issued for the first block of the request in hand.
+    pub fn search<T: Sink>(
+        &mut self,
+        line: u64,
+        u: u8,
+        id: u32,
+        target: Place,
+        sector: u32,
+        trace: &mut T,
+    ) -> Result<(), Stop>
+        requires sound { Sound self.old.world }
+        requires may { Allowed self.old.world (Of line u id (Search target sector)) }
+        ensures { DoesAct T.tells T.taken T.faults trace.old trace.new self.old self.new result (Of line u id (Search target sector)) }
+    {
+        let job = self.job(u);
+        self.put_search(u, target, sector, job);
+        self.tell(
+            line,
+            u,
+            id,
+            Told::Search {
+                cylinder: target.cylinder,
+                sector,
+            },
+            trace,
+        )
+    }
+
+    /// RECAL, SEEK or OFFSET is issued, a step of a retry; so many are then taken.
+    pub fn step<T: Sink>(
+        &mut self,
+        line: u64,
+        u: u8,
+        id: u32,
+        step: RetryStep,
+        taken: u32,
+        trace: &mut T,
+    ) -> Result<(), Stop>
+        requires sound { Sound self.old.world }
+        requires may { Allowed self.old.world (Of line u id (Do step taken)) }
+        ensures { DoesAct T.tells T.taken T.faults trace.old trace.new self.old self.new result (Of line u id (Do step taken)) }
+    {
+        self.put_step(u, step, taken);
+        self.tell(line, u, id, told_step(step), trace)
+    }
+}

@@ -1,0 +1,48 @@
+// Conditions that change.
+ghost use Rattle.std.specs.Prelude.{◌≡◌};
+ghost use Rattle.trace_replay.specs.Script as script;
+ghost use Rattle.hp_machine.specs.Acts.{Change};
+ghost use Rattle.hp_machine.specs.Guards.{Allowed};
+ghost use Rattle.hp_machine.specs.Sound.{Sound};
+ghost use Rattle.hp_core.specs.Done.{DoesSilently};
+
+use crate::driver::Core;
+use hardware_table::FaultKind;
+
+impl Core {
+    /// A pack turns until a sector comes under the heads.
+    pub fn turn(&mut self, u: u8, sector: u32)
+        requires sound { Sound self.old.world }
+        requires may { Allowed self.old.world (Change (script.Turn u sector)) }
+        ensures { DoesSilently self.old self.new (Change (script.Turn u sector)) }
+    {
+        self.put_turn(u, sector);
+    }
+
+    /// A fault is armed at a drive for so many more times.
+    pub fn arm(&mut self, u: u8, kind: FaultKind, times: u32)
+        requires sound { Sound self.old.world }
+        requires may { Allowed self.old.world (Change (script.Arm u kind times)) }
+        ensures { DoesSilently self.old self.new (Change (script.Arm u kind times)) }
+    {
+        self.put_arm(u, kind, times);
+    }
+
+    /// A drive goes online, or offline.
+    pub fn set_online(&mut self, u: u8, on: bool)
+        requires sound { Sound self.old.world }
+        requires may { Allowed self.old.world (Change (script.SetOnline u on)) }
+        ensures { DoesSilently self.old self.new (Change (script.SetOnline u on)) }
+    {
+        self.put_online(u, on);
+    }
+
+    /// A drive is write locked, or unlocked.
+    pub fn set_locked(&mut self, u: u8, on: bool)
+        requires sound { Sound self.old.world }
+        requires may { Allowed self.old.world (Change (script.SetLocked u on)) }
+        ensures { DoesSilently self.old self.new (Change (script.SetLocked u on)) }
+    {
+        self.put_locked(u, on);
+    }
+}

@@ -1,0 +1,136 @@
+// The whole driver.
+ghost use Rattle.std.specs.Prelude.{◌≡◌, ◌<◌, ◌≤◌, length, IsSome};
+ghost use Rattle.main_memory.specs.Frames.{frames_needed};
+ghost use Rattle.hp_machine.specs.World.{unit_at, slot_at, held_in, slot_in_hand, job_of};
+ghost use Rattle.hp_machine.specs.Lines.{step_told};
+ghost use Rattle.trace_replay.specs.Moments as moments;
+ghost use Rattle.trace_replay.specs.Requests.{Answer as AnswerTold};
+ghost use Rattle.trace_replay.specs.Text.{moment_text};
+ghost use Rattle.trace_lines.specs.Deeds.{deed_of};
+ghost use Rattle.hp_core.specs.Done.{Tells};
+
+use drive_model::NoiseBook;
+use hp_machine::RetryStep;
+use hp_outcome::Stop;
+use hp_units::{Answers, Channel, DiskUnit};
+use mass_gather::Gather;
+use mass_outside::traits::Sink;
+use request_slots::Slots;
+use std::marker::Model;
+use trace_lines::{Told, idle, line};
+use transfer_engine::Job;
+
+/// 32 units, of which some are set up, four adapters, the slots of requests and the frames that they need, the noise that is armed,
+/// the answers that wait, and the text of the trace that is still kept.
+#[derive(Drop)]
+pub struct Core {
+    pub(crate) units: Vec<DiskUnit>,
+    pub(crate) channels: Vec<Channel>,
+    pub(crate) slots: Slots,
+    pub(crate) frames: u32,
+    pub(crate) book: NoiseBook,
+    pub(crate) answers: Answers,
+    pub(crate) gather: Gather,
+}
+
+impl Model for Core {
+    ghost use Rattle.hp_core.specs.State.{State, HasRoom};
+
+    ghost Value = { State };
+
+    ghost view = { λ d. record {
+      world = record {
+        units = d.units.items;
+        adapters = d.channels.items;
+        slots = d.slots;
+        frames = d.frames;
+        book = d.book;
+        answers = d.answers.made;
+      };
+      kept = d.gather;
+    } };
+
+    ghost invariant = { λ d. HasRoom d.slots d.answers.made d.answers.most };
+}
+
+/// What is told of a step of a retry.
+pub(crate) fn told_step(step: RetryStep) -> Told
+    ensures { (answer : AnswerTold) → deed_of answer result ≡ step_told step }
+{
+    match step {
+        RetryStep::Recalibrate => Told::Recal,
+        RetryStep::Seek { cylinder } => Told::Seek { cylinder },
+        RetryStep::Offset { code } => Told::Offset { code },
+    }
+}
+
+/// How many frames so many blocks need, the last one of so many bytes, which begin at a place of the first frame.
+pub(crate) fn needed(count: u32, offset: u32, last: u32) -> u32
+    requires some { 1 ≤ count }
+    requires few { count ≤ 127 }
+    requires inside { offset < 512 }
+    requires last { last ≤ 512 }
+    ensures { result ≡ frames_needed count offset last }
+{
+    (offset + 512 * (count - 1) + last + 511) / 512
+}
+
+impl Core {
+    /// Tells the line of a deed.
+    pub(crate) fn tell<T: Sink>(
+        &mut self,
+        number: u64,
+        unit: u8,
+        id: u32,
+        told: Told,
+        trace: &mut T,
+    ) -> Result<(), Stop>
+        ensures { (answer : AnswerTold) → Tells T.tells T.taken T.faults trace.old trace.new self.old self.new result (moment_text (moments.Told number unit id (deed_of answer told))) }
+    {
+        let text = line(number, unit, id, told);
+        match self.gather.put(text.as_bytes(), trace) {
+            Ok(()) => Ok(()),
+            Err(_) => Err(Stop::Sink),
+        }
+    }
+
+    /// The slot of the request in hand.
+    pub(crate) fn hand(&self, u: u8) -> u32
+        requires unit { u < length self.now.world.units }
+        requires some { 0 < length (unit_at self.now.world u).queue }
+        ensures { result ≡ slot_in_hand (unit_at self.now.world u) }
+    {
+        match self.units[usize::from(u)].head() {
+            Some(slot) => slot,
+            None => unreachable!(),
+        }
+    }
+
+    /// What the request in hand asks of its drive.
+    pub(crate) fn job(&self, u: u8) -> Job
+        requires unit { u < length self.now.world.units }
+        requires some { 0 < length (unit_at self.now.world u).queue }
+        requires there { IsSome (slot_at self.now.world (slot_in_hand (unit_at self.now.world u))) }
+        ensures { result ≡ job_of (unit_at self.now.world u).drive.kind (held_in self.now.world (slot_in_hand (unit_at self.now.world u))) }
+    {
+        let slot = self.hand(u);
+        let asked = self.slots.asked(slot);
+        Job {
+            kind: self.units[usize::from(u)].kind(),
+            first: asked.first,
+            count: asked.count,
+            write: asked.write,
+        }
+    }
+
+    /// Tells the line of an event that found nothing to do.
+    pub(crate) fn tell_idle<T: Sink>(&mut self, number: u64, trace: &mut T) -> Result<(), Stop>
+        ensures { Tells T.tells T.taken T.faults trace.old trace.new self.old self.new result (moment_text (moments.Idle number)) }
+    {
+        let text = idle(number);
+        match self.gather.put(text.as_bytes(), trace) {
+            Ok(()) => Ok(()),
+            Err(_) => Err(Stop::Sink),
+        }
+    }
+}

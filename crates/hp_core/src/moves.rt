@@ -1,0 +1,89 @@
+// The deeds at the adapter and in the buffer of a request, and the tries that failed.
+ghost use Rattle.std.specs.Prelude.{◌≡◌};
+ghost use Rattle.hp_machine.specs.World.{adapter_at, adapter_of};
+ghost use Rattle.hp_machine.specs.Acts.{Of, Intr, Move, Try};
+ghost use Rattle.hp_machine.specs.Guards.{Allowed};
+ghost use Rattle.hp_machine.specs.Sound.{Sound};
+ghost use Rattle.hp_core.specs.Done.{DoesAct};
+
+use crate::driver::Core;
+use hp_machine::Task;
+use hp_outcome::Stop;
+use mass_outside::traits::Sink;
+use trace_lines::Told;
+use transfer_engine::Segment;
+
+impl Core {
+    /// The data interrupt is taken: the adapter is free, and the request has its buffer back.
+    pub fn interrupt<T: Sink>(
+        &mut self,
+        line: u64,
+        u: u8,
+        id: u32,
+        trace: &mut T,
+    ) -> Result<(), Stop>
+        requires sound { Sound self.old.world }
+        requires may { Allowed self.old.world (Of line u id (Intr (adapter_at self.old.world (adapter_of u)).state.moved (adapter_at self.old.world (adapter_of u)).state.verdict)) }
+        ensures { DoesAct T.tells T.taken T.faults trace.old trace.new self.old self.new result (Of line u id (Intr (adapter_at self.old.world (adapter_of u)).state.moved (adapter_at self.old.world (adapter_of u)).state.verdict)) }
+    {
+        self.put_interrupt(u);
+        self.tell(line, u, id, Told::Intr, trace)
+    }
+
+    /// RCOM or WCOM is issued for a segment, and the adapter is started.
+    pub fn command<T: Sink>(
+        &mut self,
+        line: u64,
+        u: u8,
+        id: u32,
+        write: bool,
+        segment: Segment,
+        trace: &mut T,
+    ) -> Result<(), Stop>
+        requires sound { Sound self.old.world }
+        requires may { Allowed self.old.world (Of line u id (Move write segment)) }
+        ensures { DoesAct T.tells T.taken T.faults trace.old trace.new self.old self.new result (Of line u id (Move write segment)) }
+    {
+        self.put_move(u, write, segment);
+        self.tell(
+            line,
+            u,
+            id,
+            Told::Transfer {
+                write,
+                block: segment.block,
+                count: segment.count,
+            },
+            trace,
+        )
+    }
+
+    /// Behind so many sectors that moved clean a try at a block failed, for so many times; and what comes next.
+    pub fn try_failed<T: Sink>(
+        &mut self,
+        line: u64,
+        u: u8,
+        id: u32,
+        moved: u32,
+        block: u32,
+        number: u32,
+        next: Task,
+        trace: &mut T,
+    ) -> Result<(), Stop>
+        requires sound { Sound self.old.world }
+        requires may { Allowed self.old.world (Of line u id (Try moved block number next)) }
+        ensures { DoesAct T.tells T.taken T.faults trace.old trace.new self.old self.new result (Of line u id (Try moved block number next)) }
+    {
+        let _tried = self.put_retry(u, moved);
+        self.tell(
+            line,
+            u,
+            id,
+            Told::Try {
+                block,
+                failures: number,
+            },
+            trace,
+        )
+    }
+}

@@ -1,0 +1,47 @@
+// What conditions change.
+ghost use Rattle.std.specs.Prelude.{◌≡◌, ◌<◌, ◌≤◌, ◌+◌, ◌^◌, length, slice_set};
+ghost use Rattle.pack_geometry.specs.Geometry.{sectors_of};
+ghost use Rattle.hardware_table.specs.Events.{turned, fault_armed, online_set, locked_set, times_armed};
+ghost use Rattle.hp_machine.specs.World.{unit_at};
+ghost use Rattle.hp_machine.specs.Acts.{with_drive};
+
+use crate::driver::Core;
+use hardware_table::FaultKind;
+
+impl Core {
+    /// A pack turns.
+    pub(crate) fn put_turn(&mut self, u: u8, sector: u32)
+        requires unit { u < length self.old.world.units }
+        requires sector { sector < sectors_of (unit_at self.old.world u).drive.kind }
+        ensures { self.new ≡ record self.old { world = record self.old.world { units = slice_set self.old.world.units u (with_drive (turned sector) (unit_at self.old.world u)) } } }
+    {
+        self.units[usize::from(u)].turn(sector);
+    }
+
+    /// A fault is armed.
+    pub(crate) fn put_arm(&mut self, u: u8, kind: FaultKind, times: u32)
+        requires unit { u < length self.old.world.units }
+        requires some { 1 ≤ times }
+        requires few { times ≤ 1000 }
+        requires room { times_armed kind (unit_at self.old.world u).drive.armed + times < 2 ^ 63 }
+        ensures { self.new ≡ record self.old { world = record self.old.world { units = slice_set self.old.world.units u (with_drive (fault_armed kind times) (unit_at self.old.world u)) } } }
+    {
+        self.units[usize::from(u)].arm(kind, times);
+    }
+
+    /// A drive goes online, or offline.
+    pub(crate) fn put_online(&mut self, u: u8, on: bool)
+        requires unit { u < length self.old.world.units }
+        ensures { self.new ≡ record self.old { world = record self.old.world { units = slice_set self.old.world.units u (with_drive (online_set on) (unit_at self.old.world u)) } } }
+    {
+        self.units[usize::from(u)].set_online(on);
+    }
+
+    /// A drive is locked, or unlocked.
+    pub(crate) fn put_locked(&mut self, u: u8, on: bool)
+        requires unit { u < length self.old.world.units }
+        ensures { self.new ≡ record self.old { world = record self.old.world { units = slice_set self.old.world.units u (with_drive (locked_set on) (unit_at self.old.world u)) } } }
+    {
+        self.units[usize::from(u)].set_locked(on);
+    }
+}

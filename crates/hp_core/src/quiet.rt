@@ -1,0 +1,64 @@
+// The deeds that tell no line.
+ghost use Rattle.std.specs.Prelude.{◌≡◌, ◌<◌, ◌≤◌};
+ghost use Rattle.hp_machine.specs.declared.Phase.TheVariants.{Due};
+ghost use Rattle.hp_machine.specs.declared.Task.TheVariants.{Steps};
+ghost use Rattle.transfer_engine.specs.State.{begun};
+ghost use Rattle.hp_machine.specs.World.{unit_at, held_in, slot_in_hand, transfer_of, job_of};
+ghost use Rattle.hp_machine.specs.Acts.{Of, Ready, Repair, Forward, Continue};
+ghost use Rattle.hp_machine.specs.Guards.{Allowed};
+ghost use Rattle.hp_machine.specs.Sound.{Sound};
+ghost use Rattle.hp_core.specs.Done.{DoesSilently};
+
+use crate::driver::Core;
+
+impl Core {
+    /// Behind the steps of a retry, of which so many are taken, the unit is ready with the transfer that it has.
+    pub fn make_ready(&mut self, line: u64, u: u8, id: u32, taken: u32)
+        requires sound { Sound self.old.world }
+        requires may { Allowed self.old.world (Of line u id (Ready (transfer_of (unit_at self.old.world u)))) }
+        requires taken { (unit_at self.old.world u).phase ≡ Due (Steps taken) }
+        ensures { DoesSilently self.old self.new (Of line u id (Ready (transfer_of (unit_at self.old.world u)))) }
+    {
+        self.put_ready(u);
+    }
+
+    /// The blocks behind so many that moved come next.
+    pub fn go_on(&mut self, line: u64, u: u8, id: u32, moved: u32)
+        requires sound { Sound self.old.world }
+        requires may { Allowed self.old.world (Of line u id (Continue moved)) }
+        ensures { DoesSilently self.old self.new (Of line u id (Continue moved)) }
+    {
+        self.put_go_on(u, moved);
+    }
+
+    /// At its start the unit is ready with a new transfer of the request in hand.
+    pub fn begin(&mut self, line: u64, u: u8, id: u32)
+        requires sound { Sound self.old.world }
+        requires may { Allowed self.old.world (Of line u id (Ready (begun (job_of (unit_at self.old.world u).drive.kind (held_in self.old.world (slot_in_hand (unit_at self.old.world u))))))) }
+        ensures { DoesSilently self.old self.new (Of line u id (Ready (begun (job_of (unit_at self.old.world u).drive.kind (held_in self.old.world (slot_in_hand (unit_at self.old.world u))))))) }
+    {
+        let job = self.job(u);
+        self.put_begin(u, job);
+    }
+
+    /// The replacement of the sector behind so many others comes next, that of this entry of the pack's table.
+    pub fn forward(&mut self, line: u64, u: u8, id: u32, moved: u32, index: u8)
+        requires sound { Sound self.old.world }
+        requires may { Allowed self.old.world (Of line u id (Forward moved index)) }
+        ensures { DoesSilently self.old self.new (Of line u id (Forward moved index)) }
+    {
+        self.put_forward(u, moved, index);
+    }
+
+    /// The block behind so many sectors is repaired in the buffer of the request.
+    pub fn repair(&mut self, line: u64, u: u8, id: u32, moved: u32, at: u16, pattern: u16)
+        requires sound { Sound self.old.world }
+        requires may { Allowed self.old.world (Of line u id (Repair moved at pattern)) }
+        requires first { 1 ≤ at }
+        requires last { at ≤ 4128 }
+        requires pattern { pattern < 2048 }
+        ensures { DoesSilently self.old self.new (Of line u id (Repair moved at pattern)) }
+    {
+        self.put_repair(u, moved, at, pattern);
+    }
+}

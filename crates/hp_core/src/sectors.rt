@@ -1,0 +1,103 @@
+// One sector of a transfer.
+ghost use Rattle.std.specs.Prelude.{◌≡◌, ◌<◌, true, false, IsTrue, IfOk, OnErr, IsSome, Some, length, slice_set, if◌then◌else◌};
+ghost use Rattle.pack_geometry.specs.Geometry.{block_count};
+ghost use Rattle.mass_outside.specs.Causes.{HasCause};
+ghost use Rattle.main_memory.specs.Blocks.{size_at};
+ghost use Rattle.hardware_table.specs.declared.Work.TheVariants.{Transfer};
+ghost use Rattle.hardware_table.specs.Moves.{was_read};
+ghost use Rattle.hardware_table.specs.Adapter.{next_block, next_window, stepped, drive_stepped};
+ghost use Rattle.drive_model.specs.Move.{MovesSector, IsOldOrNew};
+ghost use Rattle.mba_adapter.specs.Loaded.{loaded_buffer};
+ghost use Rattle.hp_machine.specs.World.{unit_at, adapter_at, slot_at, held_in, slot_in_hand, adapter_of, drive_of, block_in, with_block_in};
+ghost use Rattle.hp_machine.specs.Acts.{with_drive, with_state};
+ghost use Rattle.hp_machine.specs.Guards.{InHand, IsBusyFor};
+ghost use Rattle.hp_machine.specs.Sound.{Sound};
+ghost use Rattle.hp_core.specs.Done.{TriesSector};
+
+use crate::driver::Core;
+use hardware_table::Moved;
+use hp_outcome::Stop;
+use mass_outside::traits::{Packs, Sink, StoreFailed};
+use trace_lines::Told;
+
+impl Core {
+    /// Tries the next sector of the transfer under way.
+    pub(crate) fn put_sector<P: Packs>(
+        &mut self,
+        u: u8,
+        packs: &mut P,
+    ) -> Result<Moved, StoreFailed>
+        requires small { u < 32 }
+        requires unit { u < length self.old.world.units }
+        requires adapter { adapter_of u < length self.old.world.adapters }
+        requires some { 0 < length (unit_at self.old.world u).queue }
+        requires there { IsSome (slot_at self.old.world (slot_in_hand (unit_at self.old.world u))) }
+        requires bus { (held_in self.old.world (slot_in_hand (unit_at self.old.world u))).on_bus ≡ true }
+        requires busy { (adapter_at self.old.world (adapter_of u)).state.busy ≡ true }
+        requires under_way { (adapter_at self.old.world (adapter_of u)).state.completion ≡ false }
+        requires loaded { (held_in self.old.world (slot_in_hand (unit_at self.old.world u))).loan ≡ loaded_buffer (adapter_at self.old.world (adapter_of u)).state }
+        requires transfer { (unit_at self.old.world u).drive.work ≡ Transfer (adapter_at self.old.world (adapter_of u)).state.write }
+        requires block { next_block (adapter_at self.old.world (adapter_of u)).state < block_count (unit_at self.old.world u).drive.kind }
+
+        // The verdict, and the bytes that moved.
+        ensures moves { let a = (adapter_at self.old.world (adapter_of u)).state in let p = slot_in_hand (unit_at self.old.world u) in
+            IfOk result (λ v. MovesSector u (next_block a) (unit_at self.old.world u).drive (size_at (held_in self.old.world p).loan (next_window a)) (P.tells packs.new)
+            (record { book = self.old.world.book; held = P.held packs.old; window = block_in (held_in self.old.world p) (next_window a) })
+            (record { book = self.new.world.book; held = P.held packs.new; window = block_in (held_in self.new.world p) (next_window a) }) v) }
+        ensures units { IfOk result (λ v. self.new.world.units ≡ slice_set self.old.world.units u
+            (with_drive (drive_stepped v (adapter_at self.old.world (adapter_of u)).state) (unit_at self.old.world u))) }
+        ensures adapters { IfOk result (λ v. self.new.world.adapters ≡ slice_set self.old.world.adapters (adapter_of u)
+            (with_state (stepped v) (adapter_at self.old.world (adapter_of u)))) }
+        ensures slots { let k = next_window (adapter_at self.old.world (adapter_of u)).state in let p = slot_in_hand (unit_at self.old.world u) in
+            IfOk result (λ v. self.new.world.slots ≡ (if was_read (unit_at self.old.world u).drive v
+            then slice_set self.old.world.slots p (Some (with_block_in k (block_in (held_in self.new.world p) k) (held_in self.old.world p)))
+            else self.old.world.slots)) }
+        ensures size { let k = next_window (adapter_at self.old.world (adapter_of u)).state in let p = slot_in_hand (unit_at self.old.world u) in
+            length (block_in (held_in self.new.world p) k) ≡ size_at (held_in self.old.world p).loan k }
+        ensures frames { self.new.world.frames ≡ self.old.world.frames }
+        ensures answers { self.new.world.answers ≡ self.old.world.answers }
+        ensures kept { self.new.kept ≡ self.old.kept }
+
+        // A failure.
+        ensures unchanged { OnErr result (self.new ≡ self.old) }
+        ensures old_or_new { let a = (adapter_at self.old.world (adapter_of u)).state in let p = slot_in_hand (unit_at self.old.world u) in
+            OnErr result (IsOldOrNew u (next_block a) (unit_at self.old.world u).drive (P.tells packs.new)
+            (record { book = self.old.world.book; held = P.held packs.old; window = block_in (held_in self.old.world p) (next_window a) }) (P.held packs.new)) }
+        ensures never_again { IsTrue (P.tells packs.new) → IsTrue (P.tells packs.old) }
+        ensures cause { HasCause (P.faults packs.old) (P.faults packs.new) result }
+    {
+        let slot = self.hand(u);
+        let unit = &mut self.units[usize::from(u)];
+        let channel = &mut self.channels[usize::from(u / 8)];
+        self.slots.step(
+            slot,
+            &mut channel.adapter,
+            &mut unit.drive,
+            packs,
+            u,
+            &mut self.book,
+        )
+    }
+
+    /// One sector is tried, that of this block, which is the transfer's next one.
+    pub fn sector<P: Packs, T: Sink>(
+        &mut self,
+        line: u64,
+        u: u8,
+        id: u32,
+        block: u32,
+        packs: &mut P,
+        trace: &mut T,
+    ) -> Result<(), Stop>
+        requires sound { Sound self.old.world }
+        requires in_hand { InHand self.old.world u id }
+        requires busy { IsBusyFor (adapter_at self.old.world (adapter_of u)).state (drive_of u) false }
+        requires block { block ≡ next_block (adapter_at self.old.world (adapter_of u)).state }
+        ensures { TriesSector P.tells P.held T.tells T.taken packs.old packs.new trace.old trace.new self.old self.new result line u id block }
+    {
+        match self.put_sector(u, packs) {
+            Ok(verdict) => self.tell(line, u, id, Told::Sector { block, verdict }, trace),
+            Err(_) => Err(Stop::Store),
+        }
+    }
+}
