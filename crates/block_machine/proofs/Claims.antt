@@ -9,7 +9,7 @@ use Rattle.pack_geometry.specs.declared.DriveKind.TheVariants.{Rp06}
 use Rattle.pack_model.specs.Pack as model
 use Rattle.pack_model.specs.TableSpelling.{Table}
 use Rattle.pack_model.specs.Homes.{home_of}
-use Rattle.trace_replay.specs.Requests.{first_block}
+use Rattle.subsystem_spec.specs.Requests.{first_block}
 use Rattle.trace_replay.specs.Script.{Input, Submit, ArriveAt, MoveAt, AttendTo, Drain, Turn, Noise, Arm, SetOnline, SetLocked, Numbered}
 use Rattle.block_machine.specs.Machine.{kind_of}
 use Rattle.block_machine.specs.LegalAnswers.{unaliased, IsNoAlias, AreNoAliases, all_claimed}

@@ -17,7 +17,7 @@ use Rattle.block_machine.specs.Stands.{Setup, home_at, home_in}
 use Rattle.std.specs.Prelude.{unwrap_or}
 use Rattle.std.proofs.lemmas.Bool.{lt-ltb}
 use Rattle.pack_model.specs.Homes.{if_unmarked}
-use Rattle.trace_replay.specs.Requests.{first_block}
+use Rattle.subsystem_spec.specs.Requests.{first_block}
 use Rattle.trace_replay.specs.Script.{IsThere}
 use Rattle.trace_replay.specs.History.{WasMarked}
 use Rattle.trace_replay.specs.Moments.{Deed}

@@ -8,7 +8,7 @@ use Rattle.std.proofs.lemmas.Bool.{ne_eqb}
 use Rattle.pack_geometry.specs.declared.DriveKind.{DriveKind}
 use Rattle.subsystem_spec.specs.ServiceOrder.{Waiting as Waiter, put, is_before}
 use Rattle.subsystem_spec.proofs.ServiceOrderRuns.{each-put, each_weaker}
-use Rattle.trace_replay.specs.Requests.{Request}
+use Rattle.subsystem_spec.specs.Requests.{Request}
 use Rattle.trace_replay.specs.Service.{frames_needed}
 use Rattle.block_machine.specs.Machine.{request_of, without, frames_of}
 use Rattle.block_machine.specs.Stands.{IsOutstanding, AreDistinct, QueueStands}

@@ -7,7 +7,7 @@ use Rattle.pack_model.specs.TableSpelling.{Table}
 use Rattle.pack_model.specs.Homes.{contents_of, IsHome}
 use Rattle.pack_model.specs.PackTable.{AreTablesOf}
 use Rattle.hardware_table.specs.Noise.{LiveNoise}
-use Rattle.trace_replay.specs.Requests.{Request}
+use Rattle.subsystem_spec.specs.Requests.{Request}
 use Rattle.trace_replay.specs.Script.{Input, Script, IsScript, drives_of, inputs_of, ids_of, AreApart, IsInput}
 use Rattle.trace_replay.specs.Moments.{Moment, Played, Answered, played, answers_in}
 use Rattle.trace_replay.specs.Replay.{Replay, MayCome, Follows, after_moment, after_moments}

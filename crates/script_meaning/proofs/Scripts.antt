@@ -19,7 +19,7 @@ use Rattle.script_reader.specs.Known.{Known, Said, Numbered, verb_of, kind_after
 use Rattle.script_reader.specs.Stored.{lines_in}
 use Rattle.script_reader.specs.Words.{all_verbs}
 use Rattle.script_reader.proofs.WellLaws.{spelled_well}
-use Rattle.trace_replay.specs.Requests.{IsRequest}
+use Rattle.subsystem_spec.specs.Requests.{IsRequest}
 use Rattle.trace_replay.specs.Script.{Line, declares, IsPlayed, ArePlays, IsFirst, AreUnitsFirst, with_id, ids_of, AreApart, IsThere, IsSpan, IsStatement, drives_in, drives_of, declared_by}
 use Rattle.script_meaning.specs.Meaning.{size_of, bytes_of, written_of, request_of, statement_of, line_of, meaning}
 use Rattle.script_meaning.specs.Promises.{said_in, MeansScript, ReadMeansScript}

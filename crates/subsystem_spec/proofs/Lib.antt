@@ -1,4 +1,2 @@
-pub mod AnswerLaws
-pub mod MachineLaws
 pub mod ServiceOrderLaws
 pub mod ServiceOrderRuns

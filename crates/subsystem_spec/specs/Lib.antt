@@ -1,6 +1,2 @@
-pub mod AnswerText
-pub mod BlockMachine
-pub mod LegalAnswers
-pub mod Plays
-pub mod Request
+pub mod Requests
 pub mod ServiceOrder

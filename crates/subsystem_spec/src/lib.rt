@@ -1,16 +1,14 @@
-// What the subsystem promises, in words that can be seen from outside: requests, answers and their text.
+//! What is asked of the subsystem and how it is answered, and the order in which a unit serves what waits at it.
 #![tactic(auto)]
 
-ghost use Rattle.std.specs.Prelude.{◌≡◌, ℕ, ◌+◌, ◌≤◌, List};
-ghost use Rattle.subsystem_spec.specs.Request.{Answer, Line};
-ghost use Rattle.subsystem_spec.specs.BlockMachine.{Blocks};
-ghost use Rattle.subsystem_spec.specs.LegalAnswers.{Legal, times_asked, times_answered, times_in_groups};
-ghost use Rattle.subsystem_spec.specs.Plays.{Plays};
+ghost use Rattle.std.specs.Prelude.{ℕ, List, ◌∷◌, drop};
+ghost use Rattle.std.specs.List.Sorted.{IsPermutation};
+ghost use Rattle.subsystem_spec.specs.ServiceOrder.{IsInOrder, queue_with};
 
-/// The law of legal answers: an id that a script asks for at most once is answered exactly as often as it is
-/// asked for. So in a script whose ids differ each request is answered exactly once, and no other id is.
-pub fn answers_law()
-    ensures { (start final : Blocks) → (lines : List Line) → (groups : List (List Answer)) → (drain : List Answer) → (id : ℕ)
-        → Legal start lines groups drain final → times_asked id lines ≤ 1
-        → times_in_groups id groups + times_answered id drain ≡ times_asked id lines }
+/// The law of the service order, said of numbers that wait: a queue that one joins stays in order, and holds those that waited and
+/// the one; and where the head leaves, the rest stays in order.
+pub fn order_law()
+    ensures joins { (cylinder_of : ℕ → ℕ) → (x : ℕ) → (queue : List ℕ) → IsInOrder cylinder_of queue → IsInOrder cylinder_of (queue_with cylinder_of x queue) }
+    ensures holds { (cylinder_of : ℕ → ℕ) → (x : ℕ) → (queue : List ℕ) → IsPermutation (x ∷ queue) (queue_with cylinder_of x queue) }
+    ensures leaves { (cylinder_of : ℕ → ℕ) → (queue : List ℕ) → IsInOrder cylinder_of queue → IsInOrder cylinder_of (drop 1 queue) }
 {}

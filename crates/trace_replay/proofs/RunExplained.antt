@@ -2,7 +2,7 @@
 use Rattle.std.proofs.Common.{ℕ, ◌+◌, List, [], ◌∷◌, ◌++◌, Option, None, Some, sym, subst, All}
 use Rattle.std.proofs.lemmas.List.Elements.{All-head, All-tail}
 use Rattle.pack_geometry.specs.declared.DriveKind.{DriveKind}
-use Rattle.trace_replay.specs.Requests.{Request, IsRequest}
+use Rattle.subsystem_spec.specs.Requests.{Request, IsRequest}
 use Rattle.trace_replay.specs.Script.{Input, Submit, ArriveAt, MoveAt, AttendTo, Drain, Turn, Noise, Arm, SetOnline, SetLocked, Statement, Declares, Plays, Line, Numbered, with_input, inputs_before, drives_of, IsThere, IsInput, IsStatement}
 use Rattle.trace_replay.specs.Moments.{End, Moment, Played, Told, Idle, played}
 use Rattle.trace_replay.specs.Packs.{surface_of}

@@ -1,4 +1,3 @@
-pub mod Requests
 pub mod Script
 pub mod Moments
 pub mod Drives

@@ -16,7 +16,7 @@ use Rattle.pack_model.specs.TableSpelling.{Table}
 use Rattle.hardware_table.specs.Drive.{DriveState, is_positioning}
 use Rattle.hardware_table.specs.Moves.{was_read}
 use Rattle.subsystem_spec.specs.ServiceOrder.{Service, empty_service}
-use Rattle.trace_replay.specs.Requests.{Request, Rejection, AtEnd, Beyond, FramesShort, rejection_answer}
+use Rattle.subsystem_spec.specs.Requests.{Request, Rejection, AtEnd, Beyond, FramesShort, rejection_answer}
 use Rattle.trace_replay.specs.Script.{Input, Submit, ArriveAt, MoveAt, AttendTo, Drain, Turn, Noise, Arm, SetOnline, SetLocked}
 use Rattle.trace_replay.specs.Moments.{Deed, Sector, End, Moment, Played, Told, Idle}
 use Rattle.trace_replay.specs.Drives.{DriveMay, drive_after, drive_played, attached}

@@ -6,7 +6,7 @@ use Rattle.pack_geometry.specs.declared.Place.{Place}
 use Rattle.pack_geometry.specs.Geometry.{place_at}
 use Rattle.subsystem_spec.specs.ServiceOrder.{Waiting, Service, after_join, after_leave}
 use Rattle.partitions.specs.declared.Part.TheVariants as part
-use Rattle.trace_replay.specs.Requests.{Request, first_block}
+use Rattle.subsystem_spec.specs.Requests.{Request, first_block}
 use Rattle.trace_replay.specs.Moments.{Deed, End}
 
 -- the cylinder of a request is that of its first block

@@ -13,7 +13,7 @@ use Rattle.hardware_table.specs.Noise.{LiveNoise, with_noise}
 use Rattle.hardware_table.proofs.NoiseLaws.{among_armed}
 use Rattle.subsystem_spec.specs.ServiceOrder.{Waiting as Waiter}
 use Rattle.subsystem_spec.proofs.ServiceOrderRuns.{newcomer, after_join-waiting, each-put}
-use Rattle.trace_replay.specs.Requests.{Request, Rejection, rejection_answer}
+use Rattle.subsystem_spec.specs.Requests.{Request, Rejection, rejection_answer}
 use Rattle.trace_replay.specs.Script.{Input, Submit, ArriveAt, MoveAt, AttendTo, Drain, Turn, Noise, Arm, SetOnline, SetLocked}
 use Rattle.trace_replay.specs.Moments.{Deed, End, Moment, Played, Told, Idle}
 use Rattle.trace_replay.specs.Drives.{drive_played}
