@@ -1,6 +1,6 @@
 -- What holds of the driver between any two acts is kept by each, and between any two calls nothing is left undone.
 use Rattle.std.specs.Prelude.{◌≡◌, ℕ, ◌<◌, List, [], ◌∷◌, length}
-use Rattle.trace_replay.specs.Requests.{Request}
+use Rattle.subsystem_spec.specs.Requests.{Request}
 use Rattle.trace_replay.specs.Script.{Input}
 use Rattle.hp_machine.specs.World.{World, Held}
 use Rattle.hp_machine.specs.Acts.{Act, Taken, Tried, after, after_all}

@@ -20,7 +20,7 @@ use Rattle.subsystem_spec.specs.ServiceOrder.{queue_with}
 use Rattle.transfer_engine.specs.declared.job.Segment.{Segment}
 use Rattle.transfer_engine.specs.State.{TransferState, begun, moved_on}
 use Rattle.transfer_engine.specs.State as transfer
-use Rattle.trace_replay.specs.Requests.{Request}
+use Rattle.subsystem_spec.specs.Requests.{Request}
 use Rattle.trace_replay.specs.Script as script
 use Rattle.trace_replay.specs.Script.{Input}
 use Rattle.trace_replay.specs.Drives.{addressed, search_place, offset_written, transfer_function, unoffset}

@@ -6,7 +6,7 @@ use Rattle.partitions.specs.declared.Admission.TheVariants.{Inside, Eof, Outside
 use Rattle.hardware_table.specs.Drive.{is_positioning}
 use Rattle.hardware_table.specs.Adapter.{next_block}
 use Rattle.disksort.specs.declared.Waiter.{Waiter}
-use Rattle.trace_replay.specs.Requests.{Request}
+use Rattle.subsystem_spec.specs.Requests.{Request}
 use Rattle.trace_replay.specs.Script as script
 use Rattle.trace_replay.specs.Script.{Input}
 use Rattle.trace_replay.specs.Service.{frames_needed}

@@ -8,7 +8,7 @@ use Rattle.hardware_table.specs.Noise.{strikes}
 use Rattle.hardware_table.specs.Adapter.{AdapterState, next_block, next_window}
 use Rattle.main_memory.specs.Blocks.{Loan, IsLoan, size_at}
 use Rattle.fire_code.specs.Noise.{IsNoise}
-use Rattle.trace_replay.specs.Requests.{Request, first_block}
+use Rattle.subsystem_spec.specs.Requests.{Request, first_block}
 use Rattle.trace_replay.specs.Script as script
 use Rattle.trace_replay.specs.Script.{Input, IsSpan}
 use Rattle.hp_machine.specs.declared.Phase.TheVariants.{Positioning, Queued}
@@ -99,7 +99,7 @@ pub record IsNew (w : World) (p : ℕ) (h : Held) : Type 0 where
   pub inside : h.first + h.loan.count ≤ limit_of (unit_at w h.unit).drive.kind
   pub room : w.frames + frames_of h ≤ 16384
   pub size : length h.blocks ≡ h.loan.count
-  pub whole : h.write ≡ true → (k : ℕ) → k < h.loan.count → length (block_in h k) ≡ size_at h.loan k
+  pub whole : (k : ℕ) → k < h.loan.count → length (block_in h k) ≡ size_at h.loan k
   pub on_bus : h.on_bus ≡ false
   pub going_on : h.ended ≡ false
   pub fresh : IsFresh w h.id

@@ -1,6 +1,6 @@
 -- The lines of the trace that each act tells, with the answers that they make.
 use Rattle.std.specs.Prelude.{ℕ, List, [], ◌∷◌, ◌++◌}
-use Rattle.trace_replay.specs.Requests as told
+use Rattle.subsystem_spec.specs.Requests as told
 use Rattle.trace_replay.specs.Moments as moment
 use Rattle.trace_replay.specs.Moments.{Moment, Told, Idle}
 use Rattle.hp_machine.specs.declared.AnswerKind.{AnswerKind}

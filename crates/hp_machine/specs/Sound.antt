@@ -1,5 +1,5 @@
 -- What holds of the driver between any two acts: of each unit, each adapter, each slot, and of the answers that wait.
-use Rattle.std.specs.Prelude.{◌≡◌, ◌≢◌, ◌⊎◌, ℕ, ◌+◌, ◌*◌, ◌<◌, ◌≤◌, Bool, true, false, if◌then◌else◌, List, [], ◌∷◌, length, map, Option, None, Some, Contains, slice_get}
+use Rattle.std.specs.Prelude.{◌≡◌, ◌≢◌, ◌⊎◌, ℕ, ◌+◌, ◌*◌, ◌<◌, ◌≤◌, Bool, true, false, if◌then◌else◌, List, [], ◌∷◌, length, map, Option, None, Some, Contains, slice_get, IsTrue}
 use Rattle.std.specs.Int.{bit_at}
 use Rattle.pack_geometry.specs.declared.DriveKind.{DriveKind}
 use Rattle.pack_geometry.specs.Geometry.{cylinders_of, sectors_of, limit_of, place_at}
@@ -30,6 +30,7 @@ use Rattle.hp_machine.specs.declared.Phase.{Phase}
 use Rattle.hp_machine.specs.declared.Phase.TheVariants.{Waiting, Positioning, Queued, Transferring, Due}
 use Rattle.hp_machine.specs.World.{World, UnitView, AdapterView, Held, adapter_of, drive_of, unit_on, unit_at, adapter_at, slot_at, held_in, slot_in_hand, transfer_of, job_of, block_in, frames_of}
 use Rattle.hp_machine.specs.Due.{steps_of}
+use Rattle.hp_machine.specs.Refusals.{refuses}
 use Rattle.hp_machine.specs.Guards.{IsApart}
 
 -- WORDS FOR LISTS OF NUMBERS.
@@ -129,9 +130,15 @@ abbrev pub IsEndedAt : Moved → ℕ → ℕ → Type 0
 IsEndedAt verdict.Clean moved count = (1 ≤ moved) × (moved ≤ count)
 IsEndedAt last moved count = moved < count
 
+-- a burst begins at a place of the word, counted from 1, and its pattern has 11 bits
+pub record IsBurstAt (at pattern : ℕ) : Type 0 where
+  pub first : 1 ≤ at
+  pub last : at ≤ 4128
+  pub pattern_bits : pattern < 2048
+
 -- a burst and a hard error are found by reads alone
 abbrev pub IsFor : Bool → Moved → Type 0
-IsFor write (verdict.Burst at pattern) = write ≡ false
+IsFor write (verdict.Burst at pattern) = (write ≡ false) × IsBurstAt at pattern
 IsFor write verdict.Hard = write ≡ false
 IsFor write last = Unit {0}
 
@@ -206,8 +213,8 @@ pub record AdapterOk (w : World) (a : ℕ) (v : AdapterView) : Type 0 where
   pub small : v.state.attentions < 256
   pub raised : (k : ℕ) → k < 8 → bit_at v.state.attentions k ≡ (if (unit_at w (unit_on a k)).drive.attention then 1 else 0)
 
--- THE SLOT. A request that is not ended stands in its unit's queue, and any other has an answer that waits; the adapter has
--- its buffer only in a transfer.
+-- THE SLOT. A request that is not ended stands in its unit's queue, and any other has an answer that waits; each block of its
+-- buffer is whole, whether it reads or writes; the adapter has its buffer only in a transfer.
 abbrev pub slot_made : Option ℕ → List ℕ → List ℕ
 slot_made None slots = slots
 slot_made (Some p) slots = p ∷ slots
@@ -221,14 +228,14 @@ pub record SlotOk (w : World) (p : ℕ) (h : Held) : Type 0 where
   pub loan : IsLoan h.loan
   pub small : (frame : ℕ) → Contains h.loan.frames frame → frame < 16384
   pub size : length h.blocks ≡ h.loan.count
-  pub whole : h.write ≡ true → (k : ℕ) → k < h.loan.count → length (block_in h k) ≡ size_at h.loan k
+  pub whole : (k : ℕ) → k < h.loan.count → length (block_in h k) ≡ size_at h.loan k
   pub inside : h.first + h.loan.count ≤ limit_of (unit_at w h.unit).drive.kind
   pub queued : h.ended ≡ false → Among p (slots_of (unit_at w h.unit).queue)
   pub bus : h.on_bus ≡ true →
       (p ≡ slot_in_hand (unit_at w h.unit)) × ((unit_at w h.unit).phase ≡ Transferring) × (h.ended ≡ false)
   pub made : h.ended ≡ true → Among p (slots_made w.answers)
 
--- an answer that waits for a slot is that of a request that has ended, and gives just its blocks
+-- an answer that waits for a slot is that of a request that has ended, has its id, and gives just its blocks
 abbrev pub IsGiven : Held → AnswerKind → Type 0
 IsGiven h (ReadOk count last) = (h.write ≡ false) × (count ≡ h.loan.count) × (last ≡ h.loan.last)
 IsGiven h WriteOk = h.write ≡ true
@@ -238,6 +245,7 @@ IsGiven h (Error why done) = done < h.loan.count
 pub record IsMade (w : World) (made : Made) (p : ℕ) : Type 0 where
   pub held : Held
   pub slot : slot_at w p ≡ Some held
+  pub id : made.answer.id ≡ held.id
   pub over : held.ended ≡ true
   pub given : IsGiven held made.answer.kind
 
@@ -251,7 +259,8 @@ frames_used [] = 0
 frames_used (None ∷ slots) = frames_used slots
 frames_used (Some h ∷ slots) = frames_by h.ended h + frames_used slots
 
--- WHAT HOLDS OF THE WORLD. No two requests share a frame, and no two that are outstanding an id.
+-- WHAT HOLDS OF THE WORLD. No two requests share a frame, and no two that are outstanding an id. An answer that waits for no slot
+-- is that of a request that was refused.
 pub record Sound (w : World) : Type 0 where
   pub units : length w.units ≡ 32
   pub adapters : length w.adapters ≡ 4
@@ -264,6 +273,7 @@ pub record Sound (w : World) : Type 0 where
   pub frames : w.frames ≡ frames_used w.slots
   pub room : w.frames ≤ 16384
   pub answers : (made : Made) (p : ℕ) → Contains w.answers made → made.slot ≡ Some p → IsMade w made p
+  pub refused : (made : Made) → Contains w.answers made → made.slot ≡ None → IsTrue (refuses made.answer.kind)
   pub once : Once (slots_made w.answers)
 
 -- BETWEEN TWO EVENTS no task is due: a unit that waits has no request, and an adapter that is free has no unit that waits.

@@ -11,12 +11,15 @@ use Rattle.hardware_table.specs.Adapter.{AdapterState, next_block}
 use Rattle.disksort.specs.declared.Waiter.{Waiter}
 use Rattle.pack_model.specs.Homes.{index_in}
 use Rattle.transfer_engine.specs.State.{TransferState, segment_of}
+use Rattle.hp_machine.specs.declared.Answer.{Answer}
+use Rattle.hp_machine.specs.declared.Made.{Made}
 use Rattle.hp_machine.specs.declared.Task.{Task}
 use Rattle.hp_machine.specs.declared.Task.TheVariants.{Clear, Judge, Steps, Command, GiveUp}
 use Rattle.hp_machine.specs.declared.Phase.{Phase}
 use Rattle.hp_machine.specs.declared.Phase.TheVariants.{Waiting, Positioning, Queued, Transferring, Due}
 use Rattle.hp_machine.specs.World.{World, UnitView, AdapterView, Held, adapter_of, drive_of, unit_on, unit_at, adapter_at, slot_at, held_in, slot_in_hand, transfer_of}
 use Rattle.hp_machine.specs.Due.{steps_of}
+use Rattle.hp_machine.specs.Refusals.{refuses}
 use Rattle.hp_machine.specs.Sound.{late_by, frames_used}
 
 abbrev pub all_of : {A : Type 0} → (A → Bool) → List A → Bool
@@ -76,7 +79,7 @@ ended_at verdict.Clean moved count = nat_le 1 moved && nat_le moved count
 ended_at last moved count = nat_lt moved count
 
 abbrev pub is_for : Bool → Moved → Bool
-is_for write (verdict.Burst at pattern) = not write
+is_for write (verdict.Burst at pattern) = not write && (nat_le 1 at && (nat_le at 4128 && nat_lt pattern 2048))
 is_for write verdict.Hard = not write
 is_for write last = true
 
@@ -163,23 +166,38 @@ adapter_ok w a =
 abbrev pub slots_in : List Waiter → List ℕ
 slots_in queue = map (λ (x : Waiter). x.number) queue
 
+-- the blocks of a buffer are whole, but for the last one, which has so many bytes
+abbrev pub are_whole : List (List ℕ) → ℕ → Bool
+are_whole [] last = true
+are_whole (block ∷ []) last = length block == last
+are_whole (block ∷ next ∷ rest) last = length block == 512 && are_whole (next ∷ rest) last
+
 abbrev pub slot_ok_with : World → ℕ → Option Held → Bool
 slot_ok_with w p None = true
 slot_ok_with w p (Some h) =
     implies (not h.ended) (times_in p (slots_in (unit_at w h.unit).queue) == 1)
     && (implies h.on_bus (p == slot_in_hand (unit_at w h.unit) && is_busy_phase (unit_at w h.unit).phase)
-    && (nat_le (h.first + h.loan.count) (limit_of (unit_at w h.unit).drive.kind) && length h.blocks == h.loan.count))
+    && (nat_le (h.first + h.loan.count) (limit_of (unit_at w h.unit).drive.kind)
+    && (length h.blocks == h.loan.count && are_whole h.blocks h.loan.last)))
 
 abbrev pub numbers_below : ℕ → List ℕ
 numbers_below zero = []
 numbers_below (suc n) = n ∷ numbers_below n
+
+-- an answer that waits
+abbrev pub made_ok_at : Option ℕ → World → Answer → Bool
+made_ok_at None w answer = refuses answer.kind
+made_ok_at (Some p) w answer = answer.id == (held_in w p).id && (held_in w p).ended
+
+abbrev pub made_ok : World → Made → Bool
+made_ok w made = made_ok_at made.slot w made.answer
 
 abbrev pub sound_by : World → Bool
 sound_by w =
     all_of (unit_ok w) (numbers_below 32)
     && (all_of (adapter_ok w) (numbers_below 4)
     && (all_of (λ p. slot_ok_with w p (slot_at w p)) (numbers_below (length w.slots))
-    && (w.frames == frames_used w.slots && nat_le w.frames 16384)))
+    && (all_of (made_ok w) w.answers && (w.frames == frames_used w.slots && nat_le w.frames 16384))))
 
 -- between two events
 abbrev pub rests : Phase → ℕ → Bool

@@ -1,5 +1,5 @@
 -- A script played through the machine: the moments of its run, so that worked rows are computed.
-use Rattle.std.specs.Prelude.{◌≡◌, ℕ, zero, suc, ◌+◌, ◌*◌, ◌-◌, ◌^◌, ◌==◌, ◌&&◌, ◌++◌, nat_le, Bool, true, false, if◌then◌else◌, List, [], ◌∷◌, map, take, length, replicate, Option, Some, None, unwrap_or, is_none, is_some}
+use Rattle.std.specs.Prelude.{◌≡◌, ℕ, zero, suc, ◌+◌, ◌*◌, ◌-◌, ◌^◌, ◌&&◌, ◌++◌, nat_le, Bool, true, false, if◌then◌else◌, List, [], ◌∷◌, map, take, length, replicate, Option, Some, None, unwrap_or, is_none, is_some}
 use Rattle.std.specs.List.{position}
 use Rattle.pack_geometry.specs.declared.DriveKind.{DriveKind}
 use Rattle.hardware_table.specs.declared.Moved.{Moved}
@@ -9,7 +9,7 @@ use Rattle.hardware_table.specs.Moves.{stop_of, was_read, was_written}
 use Rattle.hardware_table.specs.Noise.{strikes}
 use Rattle.hardware_table.specs.Adapter.{next_block, next_window}
 use Rattle.main_memory.specs.Blocks.{size_at}
-use Rattle.trace_replay.specs.Requests.{Request, first_block}
+use Rattle.subsystem_spec.specs.Requests.{Request, first_block}
 use Rattle.trace_replay.specs.Script.{Input, Submit, MoveAt, Drain, Script, Numbered, inputs_of}
 use Rattle.trace_replay.specs.Moments.{Moment, Played}
 use Rattle.trace_replay.specs.Packs.{Surface, with_sector, read_as, bytes_of_write}
@@ -132,10 +132,15 @@ abbrev pub drain_or_idle : Option Input → ℕ → State → State
 drain_or_idle None line s = with_acts (Played line Drain ∷ []) (Nothing line ∷ []) s.surface s
 drain_or_idle (Some input) line s = drained 5000 line (Played line Drain ∷ []) s
 
--- SUBMISSION: the lowest free slot, frames by the slot's number, and a write's bytes cut into blocks.
+-- SUBMISSION: the lowest free slot, frames by the slot's number, and a write's bytes cut into blocks; a read's are zeros.
 abbrev pub numbers : ℕ → ℕ → List ℕ
 numbers from zero = []
 numbers from (suc n) = from ∷ numbers (from + 1) n
+
+abbrev pub zeros_for : ℕ → ℕ → List (List ℕ)
+zeros_for zero last = []
+zeros_for (suc zero) last = replicate last 0 ∷ []
+zeros_for (suc (suc n)) last = replicate 512 0 ∷ zeros_for (suc n) last
 
 abbrev pub held_for : Request → ℕ → DriveKind → Held
 held_for r p kind = record {
@@ -144,7 +149,7 @@ held_for r p kind = record {
   first = first_block kind r;
   write = is_some r.written;
   loan = record { frames = numbers (128 * p) (frames_needed r); offset = r.offset; count = r.count; last = r.last };
-  blocks = if is_some r.written then pieces r.count (bytes_of_write r.written) else replicate r.count [];
+  blocks = if is_some r.written then pieces r.count (bytes_of_write r.written) else zeros_for r.count r.last;
   on_bus = false;
   ended = false;
 }

@@ -14,7 +14,8 @@ use Rattle.hp_machine.specs.Sound.{Among, Transfers, AdapterOk, Sound, is_waitin
 use Rattle.hp_phases.proofs.Scene.{HasTransferFor}
 use Rattle.hp_phases.proofs.Frame.{Changed, drive_of-unit_on, unit_on-own, unit_on-small, adapter_of-small, drive_of-small, head_out, held_is, has_transfer, transfers_on, waits_on, raised_on, scene_ok, adapter_here, unit_here, slot_here, deed_changed}
 use Rattle.hp_phases.proofs.Units.{deed_hand}
-use Rattle.hp_phases.proofs.AdapterDeeds.{SceneAdapter, AdapterLeft, deed_left}
+use Rattle.hp_phases.proofs.AdapterLeft.{SceneAdapter, AdapterLeft}
+use Rattle.hp_phases.proofs.EachDeed.{deed_left}
 
 -- a transfer goes on, whatever attentions come
 attentions_on : (w : World) (x n : ℕ) (h : Held) (a : AdapterState) → Transfers w x h a → Transfers w x h (record a { attentions = n })

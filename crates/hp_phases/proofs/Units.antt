@@ -27,8 +27,9 @@ use Rattle.hp_machine.specs.Guards.{InHand, May}
 use Rattle.hp_machine.specs.Sound.{IsDrive, IsBegun, IsPhase, IsTask, IsClear, IsStill, IsGoal, IsMoving, IsUnderWay, IsTableFor, Sound, is_waiting}
 use Rattle.hp_phases.proofs.Drives.{by_if}
 use Rattle.hp_phases.proofs.Scene.{SceneOk, same_ask, begun_as}
-use Rattle.hp_phases.proofs.OwnEvents.{kind_arrived, kind_stepped}
-use Rattle.hp_phases.proofs.Own.{own_phase, own_drive}
+use Rattle.hp_phases.proofs.Arrive.{kind_arrived}
+use Rattle.hp_phases.proofs.Sector.{kind_stepped}
+use Rattle.hp_phases.proofs.EachDeed.{own_phase, own_drive}
 use Rattle.hp_phases.proofs.Others.{LeavesOthers, alone}
 use Rattle.hp_phases.proofs.Frame.{Changed, HasTable, held_is, phase_for, phase_stays, drive_stays, table_stays, scene_ok, adapter_here, unit_here, slot_here}
 

@@ -25,8 +25,9 @@ use Rattle.hp_replay.specs.Moments.{Comes}
 use Rattle.hp_replay.specs.Events.{Begins, IsBrought}
 use Rattle.hp_replay.specs.Speech.{KeepsSound, has_adapter, IsSpoken, HasWord, IsBegunBy, BegunIsSpoken}
 use Rattle.hp_replay.proofs.Frame.{small_adapter, same_unit, other_unit, same_adapter}
-use Rattle.hp_replay.proofs.Busy.{Moves, moves, IsPositioning, positioning_is}
-use Rattle.hp_replay.proofs.Lines.{lines_are_said}
+use Rattle.hp_replay.proofs.Busy.{Moves, moves}
+use Rattle.hp_replay.proofs.Arrive.{IsPositioning, positioning_is}
+use Rattle.hp_replay.proofs.EachDeed.{lines_are_said}
 use Rattle.hp_replay.proofs.Coming.{lines_come, after_by}
 use Rattle.hp_replay.proofs.Brought.{brought_is_wished}
 use Rattle.hp_replay.proofs.Speech.{drained_by, tells, still_free, due_is_spoken}

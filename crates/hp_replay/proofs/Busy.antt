@@ -1,26 +1,18 @@
 -- A unit for which its adapter transfers is the only one of its adapter.
-use Rattle.std.proofs.Common.{◌≡◌, ◌≢◌, ℕ, ◌<◌, Bool, true, false, if◌then◌else◌, sym, ap, subst, arith, ◌∙◌}
-use Rattle.hardware_table.specs.declared.Work.{Work}
-use Rattle.hardware_table.specs.declared.Work.TheVariants as work
-use Rattle.hardware_table.specs.Drive.{is_positioning}
-use Rattle.hardware_table.specs.Adapter.{AdapterState}
-use Rattle.trace_replay.specs.Requests.{Request}
+use Rattle.std.proofs.Common.{◌≡◌, ◌≢◌, ◌<◌, ℕ, Bool, true, sym, ap, subst, arith, ◌∙◌}
 use Rattle.pack_geometry.specs.declared.DriveKind.{DriveKind}
-use Rattle.hp_machine.specs.declared.Phase.{Phase}
+use Rattle.hardware_table.specs.Adapter.{AdapterState}
+use Rattle.subsystem_spec.specs.Requests.{Request}
 use Rattle.hp_machine.specs.declared.Phase.TheVariants as phases
-use Rattle.hp_machine.specs.declared.Task.TheVariants as tasks
-use Rattle.hp_machine.specs.World.{World, UnitView, AdapterView, Held, adapter_of, drive_of, unit_on, unit_at, adapter_at, held_in, slot_in_hand}
+use Rattle.hp_machine.specs.World.{World, Held, slot_in_hand, drive_of, unit_on, adapter_of, unit_at, adapter_at, held_in}
 use Rattle.hp_machine.specs.Guards.{IsHeldFor}
 use Rattle.hp_machine.specs.Sound.{Sound, AdapterOk, IsPhase, Transfers}
-
-no : {b : Bool} → b ≡ false → b ≡ true → {P : Type 0} → P
-no off on = absurd (grind (arith, off, on))
 
 pub own_unit : (u : ℕ) → unit_on (adapter_of u) (drive_of u) ≡ u
 own_unit u = omega arith
 
 -- units of one adapter with one drive are one
-pub one_unit : (x u : ℕ) → adapter_of x ≡ adapter_of u → drive_of x ≡ drive_of u → x ≡ u
+one_unit : (x u : ℕ) → adapter_of x ≡ adapter_of u → drive_of x ≡ drive_of u → x ≡ u
 one_unit x u adapter drive = omega (arith, adapter, drive)
 
 small_too : (x u : ℕ) → adapter_of x ≡ adapter_of u → u < 32 → x < 32
@@ -55,45 +47,9 @@ moves w u ok busy drive =
     let on : unit_on (adapter_of u) (adapter_at w (adapter_of u)).state.drive ≡ u = ap (λ d. unit_on (adapter_of u) d) drive ∙ own_unit u in
     record { held = (ok.busy busy).0; is = subst (λ x. Transfers w x (ok.busy busy).0 (adapter_at w (adapter_of u)).state) on (ok.busy busy).1 }
 
--- A POSITIONING DRIVE is that of a unit that positions.
-pub record IsPositioning (v : UnitView) : Type 0 where
-  pub taken : ℕ
-  pub phase : v.phase ≡ phases.Positioning taken
-
-still : (w : Work) → w ≡ work.Ready → is_positioning w ≡ true → {P : Type 0} → P
-still w is on = no (ap is_positioning is) on
-
-moving_still : (b write : Bool) (w : Work) → w ≡ (if b then work.Ready else work.Transfer write) → is_positioning w ≡ true → {P : Type 0} → P
-moving_still true write w is on = no (ap is_positioning is) on
-moving_still false write w is on = no (ap is_positioning is) on
-
-pub positioning_is : (u : ℕ) (v : UnitView) (a : AdapterView) (h : Held) (phase : Phase) → v.phase ≡ phase → IsPhase u v a h phase
-    → is_positioning v.drive.work ≡ true → IsPositioning v
-positioning_is u v a h (phases.Positioning taken) phase is on = record { taken = taken; phase = phase }
-positioning_is u v a h phases.Waiting phase is on = still v.drive.work is.0.work on
-positioning_is u v a h phases.Queued phase is on = still v.drive.work is.1.work on
-positioning_is u v a h phases.Transferring phase is on = moving_still a.state.completion a.state.write v.drive.work is.1.work on
-positioning_is u v a h (phases.Due (tasks.Clear moved last)) phase is on = still v.drive.work is.1.work on
-positioning_is u v a h (phases.Due (tasks.Judge moved last)) phase is on = still v.drive.work is.1.work on
-positioning_is u v a h (phases.Due (tasks.Steps taken)) phase is on = still v.drive.work is.1.work on
-positioning_is u v a h (phases.Due tasks.Command) phase is on = still v.drive.work is.1.work on
-positioning_is u v a h (phases.Due (tasks.GiveUp done)) phase is on = still v.drive.work is.1.work on
-
 -- the same request
 pub kept_bus : (b : Bool) (kind : DriveKind) (q : Request) (h : Held) → IsHeldFor kind q h → IsHeldFor kind q (record h { on_bus = b })
 kept_bus b kind q h is = record {
-  id = is.id;
-  unit = is.unit;
-  first = is.first;
-  count = is.count;
-  last = is.last;
-  offset = is.offset;
-  write = is.write;
-  content = is.content;
-}
-
-pub kept_end : (b : Bool) (kind : DriveKind) (q : Request) (h : Held) → IsHeldFor kind q h → IsHeldFor kind q (record h { ended = b })
-kept_end b kind q h is = record {
   id = is.id;
   unit = is.unit;
   first = is.first;

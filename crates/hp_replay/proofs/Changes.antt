@@ -11,7 +11,7 @@ use Rattle.hardware_table.specs.Events.{turned, fault_armed, online_set, locked_
 use Rattle.hardware_table.specs.Adapter.{AdapterState}
 use Rattle.disksort.specs.declared.Waiter.{Waiter}
 use Rattle.subsystem_spec.specs.ServiceOrder.{Waiting}
-use Rattle.trace_replay.specs.Requests.{Request}
+use Rattle.subsystem_spec.specs.Requests.{Request}
 use Rattle.trace_replay.specs.Service.{head_of, first_waiting}
 use Rattle.trace_replay.specs.Script as script
 use Rattle.trace_replay.specs.Adapters.{AdapterSeen}

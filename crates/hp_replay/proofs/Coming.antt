@@ -9,7 +9,7 @@ use Rattle.hp_machine.specs.Acts.{Of, after}
 use Rattle.hp_replay.specs.Shows.{Shows}
 use Rattle.hp_replay.specs.Laws.{IsSaid}
 use Rattle.hp_replay.specs.Moments.{LinesCome, InputsShow, IdleShows}
-use Rattle.hp_replay.proofs.Lines.{lines_are_said}
+use Rattle.hp_replay.proofs.EachDeed.{lines_are_said}
 
 -- THE EVENT is not seen.
 pub event_shows : (u : ℕ) (w : World) (s : Replay) (event : Event) → Shows u w s → Shows u w (record s { event = event })

@@ -17,7 +17,7 @@ use Rattle.disksort.specs.declared.Waiter.{Waiter}
 use Rattle.subsystem_spec.specs.ServiceOrder.{Waiting, Service, after_join, queue_with, IsInOrder}
 use Rattle.subsystem_spec.proofs.ServiceOrderRuns.{IsService, after_join-waiting}
 use Rattle.subsystem_spec.proofs.ServiceOrderLaws.{queue_with-head}
-use Rattle.trace_replay.specs.Requests.{Request, Answer}
+use Rattle.subsystem_spec.specs.Requests.{Request, Answer}
 use Rattle.trace_replay.specs.Service.{cylinder_of, service_joined, head_of, first_waiting, frames_needed}
 use Rattle.trace_replay.specs.Adapters as rule
 use Rattle.trace_replay.specs.Adapters.{AdapterSeen}
@@ -37,8 +37,8 @@ use Rattle.hp_replay.specs.Shows.{Match, IsUnitSeen, IsAdapterSeen, Shows, is_co
 use Rattle.std.specs.List.{AllByRecursion}
 use Rattle.hp_replay.proofs.Frame.{small_adapter, progress_stays, same_transfer}
 use Rattle.hp_replay.proofs.Plain.{with_same, with_other}
-use Rattle.hp_replay.proofs.Ready.{ready_goes, ready_stays, coming_is}
-use Rattle.hp_replay.proofs.EndLines.{frames_same}
+use Rattle.hp_replay.proofs.AdapterQueues.{ready_goes, ready_stays, coming_is}
+use Rattle.hp_replay.proofs.End.{frames_same}
 use Rattle.hp_replay.proofs.Queues.{each_of, match_same, match_joined}
 
 -- A UNIT WITH A REQUEST is not seen as one that has none.

@@ -1,16 +1,12 @@
 -- Where a segment begins and how long it is, as the replay and the machine say it.
-use Rattle.std.proofs.Common.{◌≡◌, ℕ, ◌+◌, ◌-◌, Bool, true, false, List, [], take, Option, Some, None, refl, arith}
+use Rattle.std.proofs.Common.{◌≡◌, ℕ, List, [], take, ◌+◌, Option, Some, None, Bool, true, false, refl, arith}
 use Rattle.std.specs.Prelude.{if◌then◌else◌}
-use Rattle.pack_geometry.specs.declared.DriveKind.{DriveKind}
 use Rattle.pack_geometry.specs.Geometry.{replacement_at}
-use Rattle.seek_engine.specs.declared.Position.TheVariants as position
 use Rattle.transfer_engine.specs.declared.job.Job.{Job}
-use Rattle.transfer_engine.specs.State.{TransferState, begun}
 use Rattle.transfer_engine.specs.State as engine
-use Rattle.trace_replay.specs.Requests.{first_block}
+use Rattle.subsystem_spec.specs.Requests.{first_block}
 use Rattle.trace_replay.specs.Conversation.{Hand, start_of, length_of}
 use Rattle.hp_machine.specs.World.{bytes_in}
-use Rattle.hp_machine.specs.Due.{steps_of}
 use Rattle.hp_replay.specs.Stages.{segment_by}
 
 pub segment_start : (index : Option ℕ) (job : Job) (done moved : ℕ) (hand : Hand) → job.first ≡ first_block hand.kind hand.request
@@ -27,24 +23,6 @@ pub segment_length : (index : Option ℕ) (job : Job) (done : ℕ) (hand : Hand)
 segment_length None job done hand count is = rw (count, is) refl
 segment_length (Some i) job done hand count is = refl
 
-pub whole : (n : ℕ) → n ≡ n - 0
-whole n = omega arith
-
--- a first try has no steps of a retry
-pub no_steps : (kind : DriveKind) (first count : ℕ) (write : Bool) → steps_of (begun (record { kind = kind; first = first; count = count; write = write })) ≡ []
-no_steps kind first count true = refl
-no_steps kind first count false = refl
-
 pub no_bytes : (write : Bool) (blocks : List (List ℕ)) → (if write then [] else bytes_in (take 0 blocks)) ≡ []
 no_bytes true blocks = refl
 no_bytes false blocks = refl
-
--- a search is for the sector that is said
-pub record IsSearch (b : Bool) (s sector : ℕ) : Type 0 where
-  pub apart : b ≡ false
-  pub same : s ≡ sector
-
-pub search_is : (b : Bool) (c s cylinder sector : ℕ) → (if b then position.Ready else position.Search c s) ≡ position.Search cylinder sector
-    → IsSearch b s sector
-search_is true c s cylinder sector e = absurd (grind (arith, e))
-search_is false c s cylinder sector e = record { apart = refl; same = grind (arith, e) }

@@ -6,7 +6,7 @@ use Rattle.pack_geometry.specs.declared.DriveKind.{DriveKind}
 use Rattle.hardware_table.specs.Drive.{DriveState}
 use Rattle.disksort.specs.declared.Waiter.{Waiter}
 use Rattle.subsystem_spec.specs.ServiceOrder.{Service}
-use Rattle.trace_replay.specs.Requests.{Request}
+use Rattle.subsystem_spec.specs.Requests.{Request}
 use Rattle.trace_replay.specs.Moments.{Deed}
 use Rattle.trace_replay.specs.Adapters as rule
 use Rattle.trace_replay.specs.Adapters.{AdapterSeen, adapter_after, ready_after}
@@ -23,7 +23,7 @@ use Rattle.hp_replay.specs.Shows.{Match, IsAdapterSeen, is_coming, with_coming, 
 use Rattle.hp_replay.proofs.Core.{Core}
 use Rattle.hp_replay.proofs.Frame.{Step, IsSameTransfer, same_transfer, same_held, slot_there}
 use Rattle.hp_replay.proofs.Facts.{At}
-use Rattle.hp_replay.proofs.Ready.{ready_goes, coming_is}
+use Rattle.hp_replay.proofs.AdapterQueues.{ready_goes, coming_is}
 
 pub with_same : {T : Type 0} (states : ℕ → T) (k : ℕ) (state : T) → with_state states k state k ≡ state
 with_same states k state = elim (eqb_tells k k) [

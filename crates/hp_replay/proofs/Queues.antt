@@ -6,7 +6,7 @@ use Rattle.pack_geometry.specs.declared.DriveKind.{DriveKind}
 use Rattle.disksort.specs.declared.Waiter.{Waiter}
 use Rattle.subsystem_spec.specs.ServiceOrder.{Waiting, Service, after_join, queue_of, queue_with, IsInOrder}
 use Rattle.subsystem_spec.proofs.ServiceOrderRuns.{IsService, put_in, inserted, goes_before, queue_with-inserted, queue_of-after_join}
-use Rattle.trace_replay.specs.Requests.{Request}
+use Rattle.subsystem_spec.specs.Requests.{Request}
 use Rattle.trace_replay.specs.Service.{cylinder_of}
 use Rattle.hp_machine.specs.World.{Held}
 use Rattle.hp_machine.specs.Guards.{IsHeldFor}

@@ -9,7 +9,7 @@ use Rattle.partitions.specs.declared.Admission.{Admission}
 use Rattle.partitions.specs.declared.Admission.TheVariants.{Inside, Eof, Outside}
 use Rattle.hardware_table.specs.Adapter.{new_adapter}
 use Rattle.disksort.specs.declared.Waiter.{Waiter}
-use Rattle.trace_replay.specs.Requests.{Request, AtEnd, Beyond, FramesShort, Rejection, rejection_answer}
+use Rattle.subsystem_spec.specs.Requests.{Request, AtEnd, Beyond, FramesShort, Rejection, rejection_answer}
 use Rattle.trace_replay.specs.Script as script
 use Rattle.trace_replay.specs.Script.{Input}
 use Rattle.trace_replay.specs.Conversation as told

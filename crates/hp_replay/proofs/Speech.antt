@@ -29,7 +29,7 @@ use Rattle.hp_replay.specs.Laws.{IsSaid, told_by}
 use Rattle.hp_replay.specs.Moments.{Comes}
 use Rattle.hp_replay.specs.Speech.{KeepsSound, has_adapter, Speaks, IsSpoken, DueIsSpoken}
 use Rattle.hp_replay.proofs.Frame.{held_at, small_adapter, same_unit, other_unit, same_adapter}
-use Rattle.hp_replay.proofs.Lines.{lines_are_said, silent_deeds_show}
+use Rattle.hp_replay.proofs.EachDeed.{lines_are_said, silent_deeds_show}
 use Rattle.hp_replay.proofs.Coming.{lines_come, after_by}
 use Rattle.hp_replay.proofs.Wishes.{due_is_wished}
 

@@ -27,8 +27,8 @@ use Rattle.hp_replay.specs.Moments.{AllAtWork, ComingIsWished}
 use Rattle.hp_replay.proofs.Facts.{At, at_facts}
 use Rattle.hp_replay.proofs.Frame.{small_adapter}
 use Rattle.hp_replay.proofs.Core.{Core}
-use Rattle.hp_replay.proofs.Silent.{ready_core, taken_core}
-use Rattle.hp_replay.proofs.Lines.{next_due}
+use Rattle.hp_replay.proofs.Ready.{ready_core, taken_core}
+use Rattle.hp_replay.proofs.EachDeed.{next_due}
 use Rattle.hp_replay.proofs.Wishes.{empty_head}
 
 or_left : (a b : Bool) → a ≡ true → a || b ≡ true

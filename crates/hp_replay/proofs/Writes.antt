@@ -9,15 +9,15 @@ use Rattle.hardware_table.specs.Drive.{DriveState, is_writing}
 use Rattle.hardware_table.specs.Moves.{was_written}
 use Rattle.hardware_table.specs.Adapter.{AdapterState, next_window}
 use Rattle.main_memory.specs.Blocks.{size_at}
-use Rattle.trace_replay.specs.Requests.{Request}
+use Rattle.subsystem_spec.specs.Requests.{Request}
 use Rattle.trace_replay.specs.Packs.{size_of_block, sector_of_block}
 use Rattle.trace_replay.specs.Conversation as told
 use Rattle.hp_machine.specs.World.{UnitView, Held, adapter_of, unit_at, adapter_at, held_in, slot_in_hand, transfer_of, block_in, pieces}
 use Rattle.hp_replay.specs.Stages.{progress_with}
 use Rattle.hp_replay.specs.Acts.{WritesShow}
-use Rattle.hp_replay.proofs.Sectors.{sector_progress}
+use Rattle.hp_replay.proofs.Sector.{sector_progress}
 use Rattle.hp_replay.proofs.Facts.{At, at_facts}
-use Rattle.hp_replay.proofs.SectorLines.{IsSector, sector_facts}
+use Rattle.hp_replay.proofs.Sector.{IsSector, sector_facts}
 
 cut_same : (size n : ℕ) (xs : List ℕ) → length (take n xs) ≡ size → take size xs ≡ take n xs
 cut_same size zero [] is = rw (sym is) refl
@@ -78,7 +78,7 @@ writes_show u id block line t w s sound shows allowed written =
     ∙ piece_at at.head.request.count (next_window a) asked.0 (subst (λ n. next_window a < n) count inside) in
     let same : t.bytes ≡ block_in h (next_window a) = allowed.1.2.bytes written in
     let size : size_of_block at.head.request (next_window a) ≡ size_at h.loan (next_window a) = rw (count, at.head.is.last) refl in
-    let counted : length t.bytes ≡ size_at h.loan (next_window a) = ap length same ∙ at.slot.whole writes (next_window a) inside in
+    let counted : length t.bytes ≡ size_at h.loan (next_window a) = ap length same ∙ at.slot.whole (next_window a) inside in
     let progress : (s.units u).progress ≡ progress_with a.moved (transfer_of v) h = sector_progress h v a (s.units u) at.core is.moving.phase is.moving.down in
     let done : (s.units u).progress.done ≡ next_window a = ap (λ (p : told.Progress). p.done) progress ∙ sym is.moving.window in
     rw (at.head.head, done) (sector_same at.head.request asked.0 (next_window a) (size_at h.loan (next_window a)) t.bytes asked.1 size (same ∙ piece) counted)

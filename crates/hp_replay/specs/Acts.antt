@@ -5,7 +5,7 @@ use Rattle.pack_geometry.specs.declared.DriveKind.TheVariants.{Rp06}
 use Rattle.pack_model.specs.TableSpelling.{Table}
 use Rattle.hardware_table.specs.Moves.{was_written}
 use Rattle.subsystem_spec.proofs.ServiceOrderRuns.{IsService}
-use Rattle.trace_replay.specs.Requests.{Request, Rejection, rejection_answer}
+use Rattle.subsystem_spec.specs.Requests.{Request, Rejection, rejection_answer}
 use Rattle.trace_replay.specs.Script as script
 use Rattle.trace_replay.specs.Script.{Input}
 use Rattle.trace_replay.specs.Packs.{Surface, sector_of_block}

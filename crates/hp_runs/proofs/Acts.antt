@@ -8,49 +8,23 @@ use Rattle.pack_model.specs.Pack.{Pack, with_written, written}
 use Rattle.main_memory.specs.Bytes.{filled}
 use Rattle.main_memory.specs.Blocks.{Loan, IsLoan, size_at}
 use Rattle.main_memory.proofs.ByteLaws.{length-filled}
-use Rattle.hardware_table.specs.declared.Moved.{Moved}
-use Rattle.hardware_table.specs.declared.Moved.TheVariants as verdict
-use Rattle.hardware_table.specs.declared.Work.{Work}
-use Rattle.hardware_table.specs.declared.Work.TheVariants as work
-use Rattle.hardware_table.specs.Drive.{DriveState, is_writing}
 use Rattle.hardware_table.specs.Moves.{was_written}
 use Rattle.hardware_table.specs.Adapter.{AdapterState, next_window}
-use Rattle.hp_machine.specs.declared.Phase.TheVariants.{Transferring}
 use Rattle.hp_machine.specs.World.{World, Held, adapter_of, unit_at, adapter_at, held_in, slot_in_hand}
 use Rattle.hp_machine.specs.Acts as deed
 use Rattle.hp_machine.specs.Acts.{Act, Refuse, Submit, Of, Change, Nothing, Taken, Deed, Tried, Scene, scene_of}
 use Rattle.hp_machine.specs.Guards.{InHand, Allowed}
-use Rattle.hp_machine.specs.Sound.{IsPhase, SlotOk, Sound}
-use Rattle.hp_phases.proofs.Scene.{HasTransferFor, SceneOk, phase_is}
+use Rattle.hp_machine.specs.Sound.{SlotOk, Sound}
+use Rattle.hp_phases.proofs.Scene.{HasTransferFor, SceneOk}
 use Rattle.hp_phases.proofs.Frame.{held_is, scene_ok}
-use Rattle.hp_phases.proofs.Own.{moved_less, next_below}
-use Rattle.hp_phases.proofs.OwnEvents.{transfer_at}
+use Rattle.hp_phases.proofs.Sector.{moved_less, next_below}
+use Rattle.hp_phases.proofs.DeedFacts.{transfer_at}
 use Rattle.hp_outcome.specs.Packs.{packs_after}
 use Rattle.hp_trace.proofs.Starting.{set_up}
 use Rattle.hp_runs.specs.Acts.{BeyondStays, OthersStay}
 use Rattle.hp_runs.proofs.Images.{block_beyond}
 
 -- HOW MANY BYTES IT GETS
-moving_work : (completion write : Bool) (w : Work) → completion ≡ false → w ≡ (if completion then work.Ready else work.Transfer write)
-    → w ≡ work.Transfer write
-moving_work true write w down is = absurd (false≢true (sym down))
-moving_work false write w down is = is
-
-written_writes : (d : DriveState) (last : Moved) (write : Bool) → is_writing d.work ≡ write → was_written d last ≡ true → write ≡ true
-written_writes d last true is given = refl
-written_writes d last false is given = absurd (not_both (rw is (none last)) given)
-  where
-    not_both : {b : Bool} → b ≡ false → b ≡ true → ⊥
-    not_both e f = grind (arith, e, f)
-
-    none : (m : Moved) → was_written (record d { work = work.Transfer false }) m ≡ false
-    none verdict.Clean = refl
-    none (verdict.Burst at pattern) = refl
-    none verdict.Hard = refl
-    none verdict.Marked = refl
-    none (verdict.Faulted kind) = refl
-    none verdict.Offline = refl
-
 size_few : (loan : Loan) (k : ℕ) → IsLoan loan → size_at loan k ≤ 512
 size_few loan k is = by_test (k + 1 == loan.count)
   where
@@ -74,16 +48,12 @@ few_bytes w line u id block t sound allowed given =
     let a : AdapterState = (adapter_at w (adapter_of u)).state in
     let ok : SceneOk u s = scene_ok w u id sound allowed.0 in
     let has : HasTransferFor (unit_at w u) h a = transfer_at u false s ok allowed.1.0 in
-    let is : IsPhase u (unit_at w u) (adapter_at w (adapter_of u)) h Transferring = phase_is u s Transferring ok has.phase in
     let same : h ≡ allowed.0.held = held_is w (slot_in_hand (unit_at w u)) allowed.0.held allowed.0.slot in
     let slot : SlotOk w (slot_in_hand (unit_at w u)) h =
     subst (SlotOk w (slot_in_hand (unit_at w u))) (sym same) (sound.each_slot (slot_in_hand (unit_at w u)) allowed.0.held allowed.0.slot) in
-    let moving : (unit_at w u).drive.work ≡ work.Transfer a.write =
-    moving_work a.completion a.write (unit_at w u).drive.work allowed.1.0.completion is.1.work in
-    let writes : h.write ≡ true = written_writes (unit_at w u).drive t.verdict h.write (ap is_writing moving ∙ has.write) given in
     let inside : next_window a < h.loan.count =
     window_inside a.skip a.count a.blocks a.moved h.loan.count ok.adapter.inside (moved_less a ok.adapter allowed.1.0.busy allowed.1.0.completion) (ap (λ (l : Loan). l.count) has.loan) in
-    subst (λ n. n ≤ 512) (sym (ap length (allowed.1.2.bytes given) ∙ slot.whole writes (next_window a) inside)) (size_few h.loan (next_window a) slot.loan)
+    subst (λ n. n ≤ 512) (sym (ap length (allowed.1.2.bytes given) ∙ slot.whole (next_window a) inside)) (size_few h.loan (next_window a) slot.loan)
 
 is_inside : (w : World) (line u id block : ℕ) (t : Tried) → Sound w → Allowed w (Of line u id (deed.Sector block t))
     → was_written (unit_at w u).drive t.verdict ≡ true → IsInside w u block t

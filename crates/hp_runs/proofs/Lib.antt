@@ -1,4 +1,4 @@
 mod Images
 mod Acts
 mod Units
-mod Runs
+pub mod Runs

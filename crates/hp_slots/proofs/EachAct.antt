@@ -1,5 +1,14 @@
 -- Each act keeps what holds of queues, slots, frames and answers.
-use Rattle.std.proofs.Common.{◌≡◌, ℕ, ◌<◌, None, refl, subst}
+use Rattle.std.proofs.Common.{◌≡◌, ℕ, ◌<◌, Bool, true, false, Some, None, refl, subst}
+use Rattle.std.specs.Prelude.{IsTrue}
+use Rattle.std.proofs.lemmas.Option.{none-some, same_Some}
+use Rattle.partitions.specs.Partitions.{admission}
+use Rattle.partitions.specs.declared.Admission.{Admission}
+use Rattle.partitions.specs.declared.Admission.TheVariants.{Inside, Eof, Outside}
+use Rattle.hp_machine.specs.declared.AnswerKind.{AnswerKind}
+use Rattle.hp_machine.specs.declared.AnswerKind.TheVariants.{Error}
+use Rattle.hp_machine.specs.declared.AnswerKind.TheVariants as answer
+use Rattle.hp_machine.specs.declared.Cause.TheVariants as cause
 use Rattle.hp_machine.specs.declared.Phase.TheVariants.{Transferring}
 use Rattle.hardware_table.specs.Events.{turned, fault_armed, online_set, locked_set}
 use Rattle.hardware_table.specs.Noise.{book_armed}
@@ -8,14 +17,16 @@ use Rattle.trace_replay.specs.Script.{Input}
 use Rattle.hp_machine.specs.World.{World, unit_at, slot_in_hand}
 use Rattle.hp_machine.specs.Acts as deed
 use Rattle.hp_machine.specs.Acts.{Act, Deed, Refuse, Submit, Of, Change, Nothing, Taken, after, changed, effect, scene_of, answer_at}
+use Rattle.hp_machine.specs.Events.{refusal_by, is_room}
 use Rattle.hp_machine.specs.Guards.{InHand, May, MayChange, Allowed}
+use Rattle.hp_machine.specs.Refusals.{refuses}
 use Rattle.hp_machine.specs.Sound.{Sound}
 use Rattle.hp_slots.specs.Parts.{IsServed, AreSlots, AreFrames, AreAnswers}
 use Rattle.hp_slots.proofs.Changed.{AreParts}
 use Rattle.hp_slots.proofs.KindStays.{online_kind}
 use Rattle.hp_slots.proofs.Hand.{slot_ok, own, deed_parts}
-use Rattle.hp_slots.proofs.Deeds.{GoesOn, deed_keeps, deed_fits}
-use Rattle.hp_slots.proofs.Ends.{end_parts}
+use Rattle.hp_slots.proofs.EachDeed.{GoesOn, deed_keeps, deed_fits}
+use Rattle.hp_slots.proofs.End.{end_parts}
 use Rattle.hp_slots.proofs.Joins.{join_parts}
 use Rattle.hp_slots.proofs.Quiet.{quiet_parts, drive_parts, refused_parts, taken_parts}
 
@@ -25,7 +36,7 @@ sound_parts w s = record {
   queues = λ u lt. let ok = s.each_unit u lt in record { queue = ok.queue; once = ok.once; order = ok.order; head = ok.head; undeclared = ok.undeclared };
   slots = record { units = s.units; adapters = s.adapters; each = s.each_slot; differ = s.differ; apart = s.apart };
   frames = record { used = s.frames; room = s.room };
-  answers = record { each = s.answers; once = s.once };
+  answers = record { each = s.answers; refused = s.refused; once = s.once };
 }
 
 going_parts : (w : World) (line u id : ℕ) (d : Deed) → Sound w → InHand w u id → May u d (scene_of w u) → GoesOn d → AreParts (after w (Of line u id d))
@@ -54,14 +65,23 @@ done_parts w line u id (deed.End kind) s i may = end_parts w s line u id i kind 
 
 changed_parts : (w : World) (input : Input) → Sound w → MayChange w input → AreParts (changed input w)
 changed_parts w (script.Turn u sector) s may = drive_parts w s u (turned sector) may.0.unit refl
-changed_parts w (script.Noise noise) s may = quiet_parts w s (book_armed noise w.book) w.answers (λ q m. m) s.answers s.once
+changed_parts w (script.Noise noise) s may = quiet_parts w s (book_armed noise w.book) w.answers (λ q m. m) s.answers s.refused s.once
 changed_parts w (script.Arm u kind times) s may = drive_parts w s u (fault_armed kind times) may.0.unit refl
 changed_parts w (script.SetOnline u on) s may = drive_parts w s u (online_set on) may.unit (online_kind on (unit_at w u).drive)
 changed_parts w (script.SetLocked u on) s may = drive_parts w s u (locked_set on) may.unit refl
 changed_parts w input s may = absurd may
 
+-- a request is refused with an answer of a refusal
+refused_by : (admitted : Admission) (room : Bool) (kind : AnswerKind) → refusal_by admitted room ≡ Some kind → IsTrue (refuses kind)
+refused_by Outside room kind e = subst (λ (k : AnswerKind). IsTrue (refuses k)) (same_Some (Error cause.Partition 0) kind e) refl
+refused_by Eof room kind e = subst (λ (k : AnswerKind). IsTrue (refuses k)) (same_Some answer.Eof kind e) refl
+refused_by (Inside first) false kind e = subst (λ (k : AnswerKind). IsTrue (refuses k)) (same_Some (Error cause.Frames 0) kind e) refl
+refused_by (Inside first) true kind e = absurd (none-some kind e)
+
 pub parts_after : (w : World) (act : Act) → Sound w → Allowed w act → AreParts (after w act)
-parts_after w (Refuse line r kind) s may = refused_parts w (answer_at line None r.id kind) s refl
+parts_after w (Refuse line r kind) s may =
+    refused_parts w (answer_at line None r.id kind) s refl
+    (refused_by (admission (unit_at w r.unit).drive.kind r.part r.block r.count) (is_room r w) kind may.2)
 parts_after w (Submit line p h) s may = join_parts w s line p h may
 parts_after w (Of line u id d) s may = done_parts w line u id d s may.0 may.1
 parts_after w (Change input) s may = changed_parts w input s may

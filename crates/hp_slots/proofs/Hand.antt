@@ -166,9 +166,9 @@ module _ (w : World) (s : Sound w) (u id : ℕ) (i : InHand w u id) where
           loan = subst IsLoan (sym k.loan) ok.loan;
           small = subst (λ (loan : Loan). (frame : ℕ) → Contains loan.frames frame → frame < 16384) (sym k.loan) ok.small;
           size = k.blocks ∙ ok.size ∙ ap (λ (loan : Loan). loan.count) (sym k.loan);
-          whole = λ e n lt.
+          whole = λ n lt.
               let less : n < h.loan.count = subst (λ (loan : Loan). n < loan.count) k.loan lt in
-              f.whole n (subst (λ (m : ℕ). n < m) (sym ok.size) less) (ok.whole (sym k.write ∙ e) n less) ∙ ap (λ (loan : Loan). size_at loan n) (sym k.loan);
+              f.whole n (subst (λ (m : ℕ). n < m) (sym ok.size) less) (ok.whole n less) ∙ ap (λ (loan : Loan). size_at loan n) (sym k.loan);
           inside = subst (λ (x : UnitView). new.held.first + new.held.loan.count ≤ limit_of x.drive.kind) (sym here)
               (subst (λ (loan : Loan). new.held.first + loan.count ≤ limit_of new.unit.drive.kind) (sym k.loan)
               (subst (λ (first : ℕ). first + h.loan.count ≤ limit_of new.unit.drive.kind) (sym k.first)
@@ -200,7 +200,8 @@ module _ (w : World) (s : Sound w) (u id : ℕ) (i : InHand w u id) where
     own_answers = record {
       each = λ made q c e.
           let was : IsMade w made q = s.answers made q (subst (λ (answers : List Made). Contains answers made) k.answers c) e in
-          record { held = was.held; slot = change.slots.others q (not_made made q was) ∙ was.slot; over = was.over; given = was.given };
+          record { held = was.held; slot = change.slots.others q (not_made made q was) ∙ was.slot; id = was.id; over = was.over; given = was.given };
+      refused = λ made c e. s.refused made (subst (λ (answers : List Made). Contains answers made) k.answers c) e;
       once = subst (λ (answers : List Made). Once (slots_made answers)) (sym k.answers) s.once;
     }
 

@@ -121,7 +121,8 @@ module _ (w : World) (s : Sound w) (line p : ℕ) (h : Held) (new : IsNew w p h)
   own_answers = record {
     each = λ made q c e.
         let was : IsMade w made q = s.answers made q c e in
-        record { held = was.held; slot = change.slots.others q (elsewhere q was.held was.slot) ∙ was.slot; over = was.over; given = was.given };
+        record { held = was.held; slot = change.slots.others q (elsewhere q was.held was.slot) ∙ was.slot; id = was.id; over = was.over; given = was.given };
+    refused = s.refused;
     once = s.once;
   }
 

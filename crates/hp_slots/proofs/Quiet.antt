@@ -1,6 +1,6 @@
 -- Acts that touch no slot, or free one: conditions, refusals, and the taking of an answer.
 use Rattle.std.proofs.Common.{◌≡◌, ◌≢◌, ◌⊎◌, inl, inr, ℕ, zero, suc, ◌+◌, ◌<◌, Bool, true, false, List, [], ◌∷◌, ◌++◌, drop, length, Option, Some, None, refl, sym, ap, ◌∙◌, subst, arith}
-use Rattle.std.specs.Prelude.{Contains, slice_index_or, slice_set}
+use Rattle.std.specs.Prelude.{Contains, IsTrue, slice_index_or, slice_set}
 use Rattle.std.specs.Option.{option_map_or}
 use Rattle.std.proofs.lemmas.Option.{none-some, same_Some}
 use Rattle.std.proofs.lemmas.List.{get_or_past}
@@ -9,6 +9,7 @@ use Rattle.hardware_table.specs.Drive.{DriveState}
 use Rattle.hardware_table.specs.Noise.{Book}
 use Rattle.hp_machine.specs.declared.Made.{Made}
 use Rattle.hp_machine.specs.World.{World, UnitView, Held, no_unit, unit_at, slot_at}
+use Rattle.hp_machine.specs.Refusals.{refuses}
 use Rattle.hp_machine.specs.Acts.{Taken, after, freed, with_drive, with_unit_drive}
 use Rattle.hp_machine.specs.Sound.{Among, Once, slot_made, slots_made, frames_by, frames_used, IsOutstanding, UnitOk, IsMade, Sound}
 use Rattle.hp_slots.specs.Parts.{IsServed, AreFrames, AreAnswers}
@@ -33,7 +34,8 @@ not_past slots p g e same = past_none slots g (subst (λ (q : ℕ). slice_index_
 -- ANSWERS AND NOISE change, and nothing else.
 module _ (w : World) (s : Sound w) (book : Book) (answers : List Made)
     (same : (q : ℕ) → Among q (slots_made w.answers) → Among q (slots_made answers))
-    (are : (made : Made) (q : ℕ) → Contains answers made → made.slot ≡ Some q → IsMade w made q) (once : Once (slots_made answers)) where
+    (are : (made : Made) (q : ℕ) → Contains answers made → made.slot ≡ Some q → IsMade w made q)
+    (refused : (made : Made) → Contains answers made → made.slot ≡ None → IsTrue (refuses made.answer.kind)) (once : Once (slots_made answers)) where
   abbrev now : World
   now = record w { book = book; answers = answers }
 
@@ -56,7 +58,8 @@ module _ (w : World) (s : Sound w) (book : Book) (answers : List Made)
       (λ g e. absurd (past_none w.slots g e)) (λ g e. absurd (past_none w.slots g e)) (λ g e. absurd (past_none w.slots g e)))
       (record { used = s.frames; room = s.room })
       (record {
-        each = λ made q c e. let was : IsMade w made q = are made q c e in record { held = was.held; slot = was.slot; over = was.over; given = was.given };
+        each = λ made q c e. let was : IsMade w made q = are made q c e in record { held = was.held; slot = was.slot; id = was.id; over = was.over; given = was.given };
+        refused = refused;
         once = once;
       })
 
@@ -105,7 +108,8 @@ module _ (w : World) (s : Sound w) (u : ℕ) (f : DriveState → DriveState) (lt
       (λ g e. absurd (past_none w.slots g e)) (λ g e. absurd (past_none w.slots g e)) (λ g e. absurd (past_none w.slots g e)))
       (record { used = s.frames; room = s.room })
       (record {
-        each = λ made q c e. let was : IsMade w made q = s.answers made q c e in record { held = was.held; slot = was.slot; over = was.over; given = was.given };
+        each = λ made q c e. let was : IsMade w made q = s.answers made q c e in record { held = was.held; slot = was.slot; id = was.id; over = was.over; given = was.given };
+        refused = s.refused;
         once = s.once;
       })
 
@@ -114,12 +118,16 @@ slots_made-none : (answers : List Made) (made : Made) → made.slot ≡ None →
 slots_made-none [] made is = ap (λ (o : Option ℕ). slot_made o []) is
 slots_made-none (first ∷ answers) made is = ap (slot_made first.slot) (slots_made-none answers made is)
 
-pub refused_parts : (w : World) (made : Made) → Sound w → made.slot ≡ None → AreParts (record w { answers = w.answers ++ made ∷ [] })
-refused_parts w made s none =
+pub refused_parts : (w : World) (made : Made) → Sound w → made.slot ≡ None → IsTrue (refuses made.answer.kind) → AreParts (record w { answers = w.answers ++ made ∷ [] })
+refused_parts w made s none is =
     quiet_parts w s w.book (w.answers ++ made ∷ []) (λ q m. subst (Among q) (sym (slots_made-none w.answers made none)) m)
     (λ m q c e. elim (Contains-push_cases w.answers made m c) [
       | inl before ↦ s.answers m q before e
       | inr same ↦ absurd (none-some q (sym none ∙ ap (λ (k : Made). k.slot) same ∙ e))
+    ])
+    (λ m c e. elim (Contains-push_cases w.answers made m c) [
+      | inl before ↦ s.refused m before e
+      | inr same ↦ subst (λ (k : Made). IsTrue (refuses k.answer.kind)) same is
     ])
     (subst Once (sym (slots_made-none w.answers made none)) s.once)
 
@@ -206,7 +214,8 @@ module _ (w : World) (s : Sound w) (made : Made) (rest : List Made) (p : ℕ) (w
     each = λ m q c e.
         let was : IsMade w m q = s.answers m q (subst (λ (answers : List Made). Contains answers m) (sym waits) (Contains-later m made rest c)) e in
         let other : q ≢ p = λ same. once_were.0 (subst (λ (r : ℕ). Among r (slots_made rest)) same (among_made rest m q c e)) in
-        record { held = was.held; slot = freed_change.slots.others q other ∙ was.slot; over = was.over; given = was.given };
+        record { held = was.held; slot = freed_change.slots.others q other ∙ was.slot; id = was.id; over = was.over; given = was.given };
+    refused = λ m c e. s.refused m (subst (λ (answers : List Made). Contains answers m) (sym waits) (Contains-later m made rest c)) e;
     once = once_were.1;
   }
 
@@ -223,6 +232,7 @@ taken_by w made rest None s waits none =
     let made_were : slots_made w.answers ≡ slots_made rest = ap slots_made waits ∙ ap (λ (o : Option ℕ). slot_made o (slots_made rest)) none in
     quiet_parts w s w.book rest (λ q m. subst (Among q) made_were m)
     (λ m q c e. s.answers m q (subst (λ (answers : List Made). Contains answers m) (sym waits) (Contains-later m made rest c)) e)
+    (λ m c e. s.refused m (subst (λ (answers : List Made). Contains answers m) (sym waits) (Contains-later m made rest c)) e)
     (subst Once made_were s.once)
 taken_by w made rest (Some p) s waits some = freed_parts w s made rest p waits some
 

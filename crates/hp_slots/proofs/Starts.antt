@@ -197,6 +197,7 @@ module _ (units : List UnitView) (adapters : List AdapterView) (slots : List (Op
     frames = sym none;
     room = omega arith;
     answers = λ made p c e. absurd (Contains-none made c);
+    refused = λ made c e. absurd (Contains-none made c);
     once = tt;
   }
 

@@ -32,5 +32,6 @@ sound_from w queues slots frames answers drives tables phases adapters = record 
   frames = frames.used;
   room = frames.room;
   answers = answers.each;
+  refused = answers.refused;
   once = answers.once;
 }

@@ -1,11 +1,12 @@
 -- Those parts of what holds of the world that speak of queues, slots, frames and answers; and the setups of a world.
-use Rattle.std.specs.Prelude.{◌≡◌, ◌≢◌, ℕ, ◌<◌, ◌≤◌, false, List, [], length, map, Some, Contains}
+use Rattle.std.specs.Prelude.{◌≡◌, ◌≢◌, ℕ, ◌<◌, ◌≤◌, false, List, [], length, map, Some, None, Contains, IsTrue}
 use Rattle.pack_model.specs.TableSpelling.{Table}
 use Rattle.disksort.specs.declared.Waiter.{Waiter}
 use Rattle.subsystem_spec.specs.ServiceOrder.{IsInOrder}
 use Rattle.hp_machine.specs.declared.Made.{Made}
 use Rattle.hp_machine.specs.World.{World, UnitView, Held, Setup, slot_at}
 use Rattle.hp_machine.specs.Guards.{IsApart}
+use Rattle.hp_machine.specs.Refusals.{refuses}
 use Rattle.hp_machine.specs.Sound.{Once, slots_of, is_waiting, IsOutstanding, IsTableFor, SlotOk, IsMade, slots_made, frames_used}
 
 -- THE QUEUE of a unit: those in it are outstanding, each once, in service order; unless the unit waits there is a head, and a
@@ -32,9 +33,11 @@ pub record AreFrames (w : World) : Type 0 where
   pub used : w.frames ≡ frames_used w.slots
   pub room : w.frames ≤ 16384
 
--- THE ANSWERS that wait: each one for a slot is that of the request there, and no slot has two.
+-- THE ANSWERS that wait: each one for a slot is that of the request there, any other is that of a request that was refused, and
+-- no slot has two.
 pub record AreAnswers (w : World) : Type 0 where
   pub each : (made : Made) (p : ℕ) → Contains w.answers made → made.slot ≡ Some p → IsMade w made p
+  pub refused : (made : Made) → Contains w.answers made → made.slot ≡ None → IsTrue (refuses made.answer.kind)
   pub once : Once (slots_made w.answers)
 
 -- another world has as many units, adapters and slots

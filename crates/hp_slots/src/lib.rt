@@ -15,7 +15,8 @@ pub fn queues_law()
     ensures served { (w : World) (act : Act) (u : ℕ) → Sound w → Allowed w act → u < 32 → IsServed (after w act) u (unit_at (after w act) u) }
 {}
 
-/// Behind each act the slots are as they have to be: no two outstanding requests have an id, no two requests share a frame.
+/// Behind each act the slots are as they have to be: each block of a buffer is whole, no two outstanding requests have an id, no two
+/// requests share a frame.
 pub fn slots_law()
     ensures are { (w : World) (act : Act) → Sound w → Allowed w act → AreSlots (after w act) }
 {}
@@ -25,7 +26,8 @@ pub fn frames_law()
     ensures are { (w : World) (act : Act) → Sound w → Allowed w act → AreFrames (after w act) }
 {}
 
-/// Behind each act an answer that waits for a slot is that of the request there, which has ended, and gives just its blocks.
+/// Behind each act an answer that waits for a slot is that of the request there, which has ended: it has its id, and gives just its
+/// blocks. One that waits for no slot is that of a request that was refused.
 pub fn answers_law()
     ensures are { (w : World) (act : Act) → Sound w → Allowed w act → AreAnswers (after w act) }
 {}

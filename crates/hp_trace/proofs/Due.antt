@@ -10,7 +10,7 @@ use Rattle.seek_engine.specs.declared.Position.{Position}
 use Rattle.seek_engine.specs.declared.Position.TheVariants as position
 use Rattle.disksort.specs.declared.Waiter.{Waiter}
 use Rattle.subsystem_spec.specs.ServiceOrder.{Waiting as Waits}
-use Rattle.trace_replay.specs.Requests.{Request}
+use Rattle.subsystem_spec.specs.Requests.{Request}
 use Rattle.trace_replay.specs.Moments as moment
 use Rattle.trace_replay.specs.Events.{DueLine, wish_of, Act, act_after}
 use Rattle.trace_replay.specs.Service.{head_of, first_waiting}
@@ -34,7 +34,7 @@ use Rattle.hp_due.proofs.DueFacts.{false_true, none_some}
 use Rattle.hp_replay.specs.Stages.{stage_by, task_stage, lines_left, segment_seen, steps_seen}
 use Rattle.hp_replay.specs.Shows.{Match, IsUnitSeen, is_coming}
 use Rattle.hp_replay.proofs.Core.{Core, IsHead, core_of, head_is}
-use Rattle.hp_replay.proofs.Commands.{search_stage}
+use Rattle.hp_replay.proofs.Search.{search_stage}
 
 -- A DEED TELLS one line or none.
 pub told_cases : (h : Held) (d : Deed) → (deed_told h d ≡ []) ⊎ ((line : moment.Deed) × (deed_told h d ≡ line ∷ []))

@@ -9,13 +9,10 @@ use Rattle.pack_model.proofs.PackLaws.{block_at-with_block_same, block_at-with_b
 use Rattle.main_memory.specs.Bytes.{filled}
 use Rattle.main_memory.specs.Blocks.{Loan, IsLoan, size_at}
 use Rattle.main_memory.proofs.ByteLaws.{length-filled}
-use Rattle.hardware_table.specs.declared.Moved.{Moved}
-use Rattle.hardware_table.specs.declared.Moved.TheVariants as verdict
-use Rattle.hardware_table.specs.declared.Work.TheVariants as work
-use Rattle.hardware_table.specs.Drive.{DriveState, is_writing}
+use Rattle.hardware_table.specs.Drive.{DriveState}
 use Rattle.hardware_table.specs.Moves.{was_read, was_written}
 use Rattle.hardware_table.specs.Adapter.{AdapterState, next_block, next_window}
-use Rattle.trace_replay.specs.Requests.{Request}
+use Rattle.subsystem_spec.specs.Requests.{Request}
 use Rattle.trace_replay.specs.Moments as moment
 use Rattle.trace_replay.specs.Moments.{Moment, Played, Told}
 use Rattle.trace_replay.specs.Packs.{Surface, this_sector_or, surface_tried, surface_read, surface_written, sector_of_block}
@@ -42,7 +39,7 @@ use Rattle.hp_outcome.specs.Packs.{packs_after}
 use Rattle.hp_replay.specs.Shows.{Shows, is_coming, IsOnSurface}
 use Rattle.hp_replay.proofs.Writes.{writes_show}
 use Rattle.hp_replay.proofs.Facts.{At, at_facts}
-use Rattle.hp_replay.proofs.SectorLines.{IsSector, sector_facts}
+use Rattle.hp_replay.proofs.Sector.{IsSector, sector_facts}
 use Rattle.hp_trace.specs.Within.{told_within, Rests}
 use Rattle.hp_trace.specs.Calls.{IsSurfaceOf, IsOverWithin, IsTold}
 use Rattle.hp_trace.proofs.Joined.{Followed, lines_follow}
@@ -126,21 +123,6 @@ tried_by false held s t u block r k bytes is sectors marks content = record {
 }
 
 -- WHAT IS WRITTEN is at most a sector.
-was_written_writes : (d : DriveState) (last : Moved) (write : Bool) → is_writing d.work ≡ write → was_written d last ≡ true → write ≡ true
-was_written_writes d last true is given = refl
-was_written_writes d last false is given = absurd (not_both (rw is (none last)) given)
-  where
-    not_both : {b : Bool} → b ≡ false → b ≡ true → ⊥
-    not_both e f = grind (arith, e, f)
-
-    none : (m : Moved) → was_written (record d { work = work.Transfer false }) m ≡ false
-    none verdict.Clean = refl
-    none (verdict.Burst at pattern) = refl
-    none verdict.Hard = refl
-    none verdict.Marked = refl
-    none (verdict.Faulted kind) = refl
-    none verdict.Offline = refl
-
 at_most : (loan : Loan) (k : ℕ) → IsLoan loan → size_at loan k ≤ 512
 at_most loan k is = by_test (k + 1 == loan.count)
   where
@@ -155,10 +137,9 @@ few_bytes u id block line t w s sound shows allowed given =
     let a : AdapterState = (adapter_at w (adapter_of u)).state in
     let at : At u id w s = at_facts u id w s sound shows allowed.0 in
     let is : IsSector u w s t.verdict = sector_facts u id block w s t sound at allowed.1.0 allowed.1.2 in
-    let writes : h.write ≡ true = was_written_writes (unit_at w u).drive t.verdict h.write is.moving.write given in
     let inside : next_window a < h.loan.count =
     subst (λ n. n < h.loan.count) (sym is.moving.window) (subst (λ n. (transfer_of (unit_at w u)).done + a.moved < n) at.slot.size is.moving.inside) in
-    subst (λ n. n ≤ 512) (sym (ap length (allowed.1.2.bytes given) ∙ at.slot.whole writes (next_window a) inside))
+    subst (λ n. n ≤ 512) (sym (ap length (allowed.1.2.bytes given) ∙ at.slot.whole (next_window a) inside))
     (at_most h.loan (next_window a) at.slot.loan)
 
 -- A MOVE

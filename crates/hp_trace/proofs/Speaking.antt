@@ -26,7 +26,7 @@ use Rattle.hp_invariant.proofs.Sound.{sound_after}
 use Rattle.hp_outcome.specs.Packs.{packs_after}
 use Rattle.hp_replay.specs.Shows.{Shows, IsOnSurface}
 use Rattle.hp_replay.specs.Laws.{IsSaid, told_by}
-use Rattle.hp_replay.proofs.Lines.{lines_are_said, silent_deeds_show}
+use Rattle.hp_replay.proofs.EachDeed.{lines_are_said, silent_deeds_show}
 use Rattle.hp_trace.specs.Within.{told_within, within_all, LinesFollow, IsEvent, Speaks, Tells}
 use Rattle.hp_trace.proofs.Joined.{nothing_told, then_tells}
 use Rattle.hp_trace.proofs.Due.{IsOwn, told_cases, due_own, own_line, same_raised, due_goes}

@@ -10,7 +10,7 @@ use Rattle.hardware_table.specs.Drive.{DriveState}
 use Rattle.hardware_table.specs.Events.{turned, fault_armed, online_set, locked_set}
 use Rattle.disksort.specs.declared.Waiter.{Waiter}
 use Rattle.subsystem_spec.proofs.ServiceOrderRuns.{IsService}
-use Rattle.trace_replay.specs.Requests.{Request, Rejection, rejection_answer}
+use Rattle.subsystem_spec.specs.Requests.{Request, Rejection, rejection_answer}
 use Rattle.trace_replay.specs.Moments as moment
 use Rattle.trace_replay.specs.Moments.{Moment, Played, Told}
 use Rattle.trace_replay.specs.Script as script

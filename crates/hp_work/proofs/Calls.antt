@@ -8,7 +8,7 @@ use Rattle.hardware_table.specs.Drive.{DriveState}
 use Rattle.hardware_table.specs.Events.{turned, fault_armed, online_set, locked_set}
 use Rattle.hardware_table.specs.Adapter.{AdapterState, stepped, next_block}
 use Rattle.disksort.specs.declared.Waiter.{Waiter}
-use Rattle.trace_replay.specs.Requests.{Request}
+use Rattle.subsystem_spec.specs.Requests.{Request}
 use Rattle.trace_replay.specs.Script as script
 use Rattle.trace_replay.specs.Script.{Input}
 use Rattle.hp_machine.specs.declared.AnswerKind.{AnswerKind}

@@ -3,7 +3,7 @@
 #![tactic(auto)]
 
 ghost use Rattle.std.specs.Prelude.{◌≡◌, ◌↔◌, ℕ, ◌<◌, List, [], ◌∷◌, length, Some, None};
-ghost use Rattle.trace_replay.specs.Requests.{Request};
+ghost use Rattle.subsystem_spec.specs.Requests.{Request};
 ghost use Rattle.trace_replay.specs.Script.{Input};
 ghost use Rattle.hp_machine.specs.World.{World, Held};
 ghost use Rattle.hp_machine.specs.Acts.{Act, Taken, Tried, after_all};

@@ -1,4 +1,4 @@
-use Rattle.hp_replay.proofs.Lines.{lines_are_said, silent_deeds_show}
+use Rattle.hp_replay.proofs.EachDeed.{lines_are_said, silent_deeds_show}
 use Rattle.hp_replay.proofs.lines_law.Goals as goal
 
 pub returns-clause-said : goal.returns-clause-said
