@@ -1,0 +1,3 @@
+pub mod Ids
+mod Parts
+pub mod Waiting
