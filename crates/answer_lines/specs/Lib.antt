@@ -1,0 +1,5 @@
+pub mod AnswerText
+pub mod Blocks
+pub mod Classes
+pub mod Laws
+pub mod Outcomes

@@ -1,0 +1,28 @@
+//! The answer text: the classes of noise, the answers of requests and the blocks that reads gave, as definitions over the
+//! moments of a run, and its lines as code writes them.
+#![tactic(auto)]
+
+ghost use Rattle.answer_lines.specs.Laws.{TextsJoin, SilentSayNothing, BytesAreCut, OneWayToCut, BlocksAreSaid, BlocksFollow, ClassIsSaid};
+
+mod lines;
+mod outcome;
+mod words;
+
+pub use lines::{answer_line, block_line, noise_line};
+pub use outcome::{Cause, Outcome};
+
+/// The text of moments in a row is that of each in a row, and of a moment that makes no answer and arms no noise it is empty.
+/// The bytes of a read are cut into blocks of 512 bytes, the last one perhaps short, and in one way only: so the text of a read
+/// that gives such blocks is its line and a line for each block, one after another. The class that is said of noise is its own.
+pub fn text_laws()
+    ensures joins { TextsJoin }
+    ensures silent { SilentSayNothing }
+    ensures cut { BytesAreCut }
+    ensures one_way { OneWayToCut }
+    ensures blocks { BlocksAreSaid }
+    ensures follow { BlocksFollow }
+    ensures class { ClassIsSaid }
+{}
+
+#[cfg(test)]
+mod tests;
