@@ -1,9 +1,9 @@
 -- What a deed that may come needs of its drive, its transfer and its adapter.
-use Rattle.std.proofs.Common.{◌≡◌, inl, inr, ℕ, ◌+◌, ◌<◌, ◌≤◌, Bool, true, false, List, [], ◌∷◌, length, Option, Some, None, refl, sym, ap, ◌∙◌, subst, arith}
+use Rattle.std.proofs.Common.{◌≡◌, inl, inr, ℕ, ◌+◌, ◌*◌, ◌/◌, ◌^◌, ◌<◌, ◌≤◌, Bool, true, false, List, [], ◌∷◌, length, Option, Some, None, refl, sym, ap, ◌∙◌, subst, arith}
 use Rattle.std.specs.Prelude.{eqb, IsSome, if◌then◌else◌}
 use Rattle.hardware_table.specs.declared.Work.TheVariants as work
 use Rattle.hardware_table.specs.Adapter.{AdapterState, next_block}
-use Rattle.hp_phases.proofs.Own.{moved_less}
+use Rattle.hp_phases.proofs.Sector.{moved_less}
 use Rattle.std.specs.List.{AllByRecursion, IsDistinct, list_any}
 use Rattle.std.proofs.lemmas.Bool.{false≢true, eqb-true, ne_eqb, or_cases}
 use Rattle.std.proofs.lemmas.Map.Steps.{length-le_from_distinct_below}
@@ -30,13 +30,16 @@ use Rattle.hp_machine.specs.declared.Phase.TheVariants.{Waiting, Queued, Transfe
 use Rattle.hp_machine.specs.World.{World, Held, unit_at, adapter_at, slot_at, held_in, slot_in_hand, adapter_of, drive_of, transfer_of, job_of}
 use Rattle.hp_machine.specs.Acts.{Deed, Of, Intr, Search, Do, Move, Pack, Dclr, Rtc, Ready, Repair, Forward, Continue, Try, scene_of}
 use Rattle.hp_machine.specs.Guards.{InHand, IsBusyFor, Allowed}
-use Rattle.hp_machine.specs.Sound.{Sound, Among, Once, IsPhase, IsTask, IsEndedAt}
+use Rattle.hp_machine.specs.Sound.{Sound, Among, Once, IsPhase, IsTask, IsEndedAt, IsBurstAt}
 use Rattle.hp_due.specs.DueFacts.{IsDue, IsAtCommand, IsFailure, IsStep}
 use Rattle.hp_phases.proofs.Scene.{phase_is, due_of, job_is, block_below, segment_some}
 use Rattle.hp_phases.proofs.Frame.{scene_ok, held_is, own_held, adapter_of-small}
-use Rattle.hp_phases.proofs.OwnEvents.{transfer_at}
-use Rattle.hp_phases.proofs.OwnStarts.{searched_inside, seek_inside, at_command}
-use Rattle.hp_phases.proofs.OwnTasks.{calls_still, continue_phase}
+use Rattle.hp_phases.proofs.DeedFacts.{transfer_at}
+use Rattle.hp_phases.proofs.Search.{searched_inside}
+use Rattle.hp_phases.proofs.Do.{seek_inside}
+use Rattle.hp_phases.proofs.Move.{at_command}
+use Rattle.hp_phases.proofs.End.{calls_still}
+use Rattle.hp_phases.proofs.Continue.{continue_phase}
 
 -- HOW MANY numbers below n differ: at most n.
 apart_each : (x : ℕ) (xs : List ℕ) → (Among x xs → ⊥) → AllByRecursion (λ y. eqb x y ≡ false) xs
@@ -77,6 +80,15 @@ narrow_kind Rm05 = record { cylinders = omega arith; tracks = omega arith; secto
 below : (x n m : ℕ) → x < n → n ≤ m → x < m
 below x n m lt le = omega (arith, lt, le)
 
+-- what comes under the heads next, of a drive's sectors
+pub look_below : (la look n : ℕ) → la ≡ look * 64 → look < n → la / 64 < n
+look_below la look n e lt = omega (arith, e, lt)
+
+few_blocks : (kind : DriveKind) → block_count kind ≤ 2 ^ 32
+few_blocks Rp06 = omega arith
+few_blocks Rm03 = omega arith
+few_blocks Rm05 = omega arith
+
 narrow : (kind : DriveKind) (place : Place) → IsInside kind place → IsNarrow place
 narrow kind place is =
     let k = narrow_kind kind in
@@ -115,10 +127,6 @@ at_command_still phase at f = elim at [
 
     queued_still : (phase : Phase) → phase ≡ Queued → phase ≡ Transferring → ⊥
     queued_still phase e f = absurd (cc)
-
-abbrev next_in : Deed → Task
-next_in (Try moved block number next) = next
-next_in other = Command
 
 plain : (n : ℕ) → n + 0 ≡ n
 plain n = omega arith
@@ -306,12 +314,13 @@ module _ (w : World) (line u id : ℕ) (s : Sound w) where
       record { begun = is.0.some; kind = ap (λ (j : Job). j.kind) is.0.job; less = is.2; entry = due.1 }
 
   -- A REPAIR
-  pub record Repairs (moved : ℕ) : Type 0 where
+  pub record Repairs (moved at pattern : ℕ) : Type 0 where
     pub cpu : (held_in w (slot_in_hand (unit_at w u))).on_bus ≡ false
     pub few : (held_in w (slot_in_hand (unit_at w u))).loan.count ≤ 127
     pub inside : (transfer_of (unit_at w u)).done + moved < (held_in w (slot_in_hand (unit_at w u))).loan.count
+    pub burst : IsBurstAt at pattern
 
-  pub repairs : (moved at pattern : ℕ) → Allowed w (Of line u id (Repair moved at pattern)) → Repairs moved
+  pub repairs : (moved at pattern : ℕ) → Allowed w (Of line u id (Repair moved at pattern)) → Repairs moved at pattern
   repairs moved at pattern may =
       let ok = scene_ok w u id s may.0 in
       let due : IsDue (scene_of w u).unit (scene_of w u).held (Repair moved at pattern) = due_of u (Repair moved at pattern) (scene_of w u) may.1 in
@@ -323,13 +332,8 @@ module _ (w : World) (line u id : ℕ) (s : Sound w) where
         cpu = on_cpu may.0 (λ transferring. judge_still (unit_at w u).phase moved (verdict.Burst at pattern) due.phase transferring);
         few = ok.loan.few;
         inside = subst (λ (j : Job). (transfer_of (unit_at w u)).done + moved < j.count) is.0.job left;
+        burst = is.3.1;
       }
-
-  pub fails_next : (moved block number : ℕ) (next : Task) → Allowed w (Of line u id (Try moved block number next))
-      → next ≡ task_for (step_for moved (transfer_of (unit_at w u))) ((transfer_of (unit_at w u)).done + moved)
-  fails_next moved block number next may =
-      let due : IsDue (scene_of w u).unit (scene_of w u).held (Try moved block number next) = due_of u (Try moved block number next) (scene_of w u) may.1 in
-      ap next_in due.3
 
   -- A SECTOR is moved by a transfer that is under way.
   pub record IsUnderWayFor : Type 0 where
@@ -337,6 +341,8 @@ module _ (w : World) (line u id : ℕ) (s : Sound w) where
     pub loaded : (held_in w (slot_in_hand (unit_at w u))).loan ≡ loaded_buffer (adapter_at w (adapter_of u)).state
     pub transfer : (unit_at w u).drive.work ≡ work.Transfer (adapter_at w (adapter_of u)).state.write
     pub block : next_block (adapter_at w (adapter_of u)).state < block_count (unit_at w u).drive.kind
+    pub segment : (adapter_at w (adapter_of u)).state.block ≡ (segment_of (transfer_of (unit_at w u))).block
+    pub small : next_block (adapter_at w (adapter_of u)).state < 2 ^ 32
 
   pub under_way : InHand w u id → IsBusyFor (adapter_at w (adapter_of u)).state (drive_of u) false → IsUnderWayFor
   under_way i busy =
@@ -347,9 +353,13 @@ module _ (w : World) (line u id : ℕ) (s : Sound w) where
       let count : a.count ≡ (segment_of (transfer_of (unit_at w u))).count = ap (λ (x : Segment). x.count) has.segment in
       let block : a.block ≡ (segment_of (transfer_of (unit_at w u))).block = ap (λ (x : Segment). x.block) has.segment in
       let less : a.moved < (segment_of (transfer_of (unit_at w u))).count = subst (λ n. a.moved < n) count (moved_less a ok.adapter busy.busy busy.completion) in
+      let inside : next_block a < block_count (unit_at w u).drive.kind =
+      subst (λ n. n + a.moved < block_count (unit_at w u).drive.kind) (sym block) (block_below (unit_at w u) (scene_of w u).held a.moved is.0 less) in
       record {
         bus = has.on_bus;
         loaded = sym has.loan;
         transfer = is.1.work ∙ ap (λ (b : Bool). if b then work.Ready else work.Transfer a.write) busy.completion;
-        block = subst (λ n. n + a.moved < block_count (unit_at w u).drive.kind) (sym block) (block_below (unit_at w u) (scene_of w u).held a.moved is.0 less);
+        block = inside;
+        segment = block;
+        small = below (next_block a) (block_count (unit_at w u).drive.kind) (2 ^ 32) inside (few_blocks (unit_at w u).drive.kind);
       }

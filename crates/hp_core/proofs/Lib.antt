@@ -3,3 +3,5 @@ pub mod Scenes
 pub mod Deeds
 pub mod Rooms
 pub mod Tries
+pub mod Joining
+pub mod Starting

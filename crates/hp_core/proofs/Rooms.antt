@@ -8,7 +8,7 @@ use Rattle.hp_machine.specs.declared.Made.{Made}
 use Rattle.hp_machine.specs.World.{World, Held, unit_at, held_in, slot_in_hand, frames_of}
 use Rattle.hp_machine.specs.Guards.{InHand}
 use Rattle.hp_machine.specs.Sound.{Sound, Among, slots_made, slot_made, frames_used, frames_by}
-use Rattle.hp_slots.proofs.Ends.{made_at}
+use Rattle.hp_slots.proofs.End.{made_at}
 use Rattle.hp_slots.proofs.Hand.{slot_there}
 use Rattle.hp_slots.proofs.Frames.{frames_at, frames_put}
 use Rattle.hp_phases.proofs.Frame.{scene_ok, own_held, held_is}

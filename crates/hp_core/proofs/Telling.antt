@@ -100,6 +100,7 @@ module _ {O : Type 0} (tells : O → Bool) (taken : O → List ℕ) (faults : O 
       record {
         outcome = outcome_by result apart may is world g line.stop;
         world = world;
+        stop = line.stop;
         never_again = g.never_again;
         cause = g.cause;
       }

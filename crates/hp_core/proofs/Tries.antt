@@ -1,6 +1,6 @@
 -- What the trying of one sector comes to.
-use Rattle.std.proofs.Common.{◌≡◌, inl, inr, ℕ, Bool, true, false, List, [], ◌∷◌, ◌++◌, length, Option, Some, refl, sym, ap, ◌∙◌, subst}
-use Rattle.std.specs.Prelude.{Result, Err, if◌then◌else◌, IsTrue, slice_set, not, ◌&&◌}
+use Rattle.std.proofs.Common.{◌≡◌, inl, inr, ℕ, ◌≤◌, Bool, true, false, List, [], ◌++◌, length, Option, Some, refl, sym, ap, ◌∙◌, subst, arith}
+use Rattle.std.specs.Prelude.{Result, Ok, Err, IfOk, IfErr, if◌then◌else◌, IsTrue, slice_set, not, ◌&&◌}
 use Rattle.main_memory.specs.Bytes.{filled}
 use Rattle.main_memory.specs.Blocks.{size_at}
 use Rattle.pack_model.specs.Pack.{Pack, with_written}
@@ -18,12 +18,13 @@ use Rattle.hardware_table.specs.declared.Moved.TheVariants.{Clean}
 use Rattle.mass_gather.specs.Gathers.{Gathers}
 use Rattle.trace_replay.specs.Moments as moments
 use Rattle.trace_replay.specs.Text.{moment_text}
-use Rattle.hp_outcome.specs.Outcome.{Outcome, stop_in}
+use Rattle.hp_outcome.specs.Outcome.{stop_in}
 use Rattle.hp_outcome.specs.declared.Stop.{Stop}
-use Rattle.hp_outcome.specs.declared.Stop.TheVariants.{Store}
+use Rattle.hp_outcome.specs.declared.Stop.TheVariants.{Store, Sink}
 use Rattle.hp_outcome.proofs.Joined.{nothing_done}
 use Rattle.hp_core.specs.State.{State, site}
-use Rattle.hp_core.specs.Done.{Tells, TriesSector}
+use Rattle.mass_outside.specs.Causes.{HasCause, Rose}
+use Rattle.hp_core.specs.Done.{Tells, TriesSector, HasCauses}
 use Rattle.hp_core.proofs.Telling.{outcome_of}
 use Rattle.hp_core.proofs.Scenes.{same_slot}
 
@@ -97,13 +98,38 @@ module _ (w now : World) (line u id : ℕ) (told : Bool) (held held' : ℕ → P
       (s.slots ∙ slots_by (was_read (unit_at w u).drive v) (held_in w (slot_in_hand (unit_at w u)))
       (with_block_in (next_window (adapter_at w (adapter_of u)).state) tried.bytes (held_in w (slot_in_hand (unit_at w u)))) refl) s.moves.book
 
+-- a fact, where a call ended well
+if_ok : {A E : Type 0} (result : Result A E) (P : Type 0) → P → IfOk result (λ _. P)
+if_ok (Ok value) P holds = holds
+if_ok (Err stop) P holds = tt
+
+-- THE CAUSES of a call that stopped at the packs, and of one that told its line or did not
+stopped_causes : (packs packs' trace : ℕ) → packs ≤ packs' → Rose packs packs' → HasCauses packs packs' trace trace (Some Store)
+stopped_causes packs packs' trace later rose =
+    record { later_packs = later; later = omega arith; store = λ e. rose; sink = λ e. absurd (cc) }
+
+told_causes : (packs packs' trace trace' : ℕ) (result : Result (Unit {0}) Stop) → packs ≤ packs' → HasCause trace trace' result
+    → IfErr result (λ stop. stop ≡ Sink) → HasCauses packs packs' trace trace' (stop_in result)
+told_causes packs packs' trace trace' (Ok value) later cause stop =
+    record { later_packs = later; later = cause.later; store = λ e. absurd (cc); sink = λ e. absurd (cc) }
+told_causes packs packs' trace trace' (Err Sink) later cause stop =
+    record { later_packs = later; later = cause.later; store = λ e. absurd (cc); sink = λ e. cause.failed }
+told_causes packs packs' trace trace' (Err Store) later cause stop = absurd (cc)
+
+-- the trace's failure is not the packs'
+no_store : (result : Result (Unit {0}) Stop) → IfErr result (λ stop. stop ≡ Sink) → stop_in result ≡ Some Store → ⊥
+no_store (Ok value) stop e = absurd (cc)
+no_store (Err Sink) stop e = absurd (cc)
+no_store (Err Store) stop e = absurd (cc)
+
 -- THE PACKS FAILED before the sector was tried.
-pub sector_stopped : {O Q : Type 0} (holds : Q → Bool) (held : Q → ℕ → Pack) (tells : O → Bool) (taken : O → List ℕ) (packs packs' : Q) (trace : O) (old new : State) (line u id : ℕ)
+pub sector_stopped : {O Q : Type 0} (holds : Q → Bool) (held : Q → ℕ → Pack) (packs_faults : Q → ℕ) (tells : O → Bool) (taken : O → List ℕ) (faults : O → ℕ) (packs packs' : Q) (trace : O) (old new : State) (line u id : ℕ)
     → IsBusyFor (adapter_at old.world (adapter_of u)).state (drive_of u) false → new ≡ old
     → IsOldOrNew u (next_block (adapter_at old.world (adapter_of u)).state) (unit_at old.world u).drive (holds packs')
     (record { book = old.world.book; held = held packs; window = block_in (held_in old.world (slot_in_hand (unit_at old.world u))) (next_window (adapter_at old.world (adapter_of u)).state) }) (held packs')
-    → TriesSector holds held tells taken packs packs' trace trace old new (Err Store) line u id (next_block (adapter_at old.world (adapter_of u)).state)
-sector_stopped holds held tells taken packs packs' trace old new line u id b same left = record {
+    → (IsTrue (holds packs') → IsTrue (holds packs)) → packs_faults packs ≤ packs_faults packs' → Rose (packs_faults packs) (packs_faults packs')
+    → TriesSector holds held packs_faults tells taken faults packs packs' trace trace old new (Err Store) line u id
+sector_stopped holds held packs_faults tells taken faults packs packs' trace old new line u id b same left again later rose = record {
   tried = record { marked = false; verdict = Clean; bytes = [] };
   outcome = record {
     done = [];
@@ -116,27 +142,40 @@ sector_stopped holds held tells taken packs packs' trace old new line u id b sam
       | inr is ↦ inr (record { unit = u; busy = b; writes = is.0; unmarked = is.1; is = is.2 })
     ];
   };
+  world = tt;
+  never_again_packs = again;
+  never_again = λ t. t;
+  causes = stopped_causes (packs_faults packs) (packs_faults packs') (faults trace) later rose;
+  kept = λ e. ap (λ (s : State). s.kept) same;
 }
 
 -- THE SECTOR was tried, and its line told or not.
-pub sector_told : {O Q : Type 0} (holds : Q → Bool) (held : Q → ℕ → Pack) (tells : O → Bool) (taken : O → List ℕ) (faults : O → ℕ) (packs packs' : Q) (trace trace' : O) (old mid new : State)
+pub sector_told : {O Q : Type 0} (holds : Q → Bool) (held : Q → ℕ → Pack) (packs_faults : Q → ℕ) (tells : O → Bool) (taken : O → List ℕ) (faults : O → ℕ) (packs packs' : Q) (trace trace' : O) (old mid new : State)
     (result : Result (Unit {0}) Stop) (line u id block : ℕ) (v : Moved) → InHand old.world u id
     → IsBusyFor (adapter_at old.world (adapter_of u)).state (drive_of u) false → block ≡ next_block (adapter_at old.world (adapter_of u)).state
     → Stepped old.world mid.world u (holds packs') (held packs) (held packs') v → mid.kept ≡ old.kept
     → Tells tells taken faults trace trace' mid new result (moment_text (moments.Told line u id (moments.Sector block v)))
-    → TriesSector holds held tells taken packs packs' trace trace' old new result line u id block
-sector_told holds held tells taken faults packs packs' trace trace' old mid new result line u id block v i b at s kept told = record {
-  tried = tried old.world mid.world line u id (holds packs') (held packs) (held packs') v i b s;
-  outcome = subst (λ (n : ℕ). Outcome (record { packs = holds packs'; trace = tells trace' }) (Of line u id (Sector n (tried old.world mid.world line u id (holds packs') (held packs) (held packs') v i b s)) ∷ []) (site old (held packs) (taken trace)) (site new (held packs') (taken trace')) (stop_in result)) (sym at)
-      (outcome_of tells taken faults trace trace' old mid new
-      (Of line u id (Sector (next_block (adapter_at old.world (adapter_of u)).state) (tried old.world mid.world line u id (holds packs') (held packs) (held packs') v i b s)))
-      (moments.Told line u id (moments.Sector (next_block (adapter_at old.world (adapter_of u)).state) v)) (holds packs') (held packs) (held packs') result refl
-      (record {
-        run = (sector_may old.world mid.world line u id (holds packs') (held packs) (held packs') v i b s, tt);
-        world = told.world ∙ sector_world old.world mid.world line u id (holds packs') (held packs) (held packs') v i b s;
-        reads = λ t. (sector_reads old.world mid.world line u id (holds packs') (held packs) (held packs') v i b s t, tt);
-        packs = λ t. sector_packs old.world mid.world line u id (holds packs') (held packs) (held packs') v i b s t;
-      })
-      (subst (λ (k : List ℕ). Gathers tells taken faults trace trace' k new.kept result (moment_text (moments.Told line u id (moments.Sector (next_block (adapter_at old.world (adapter_of u)).state) v)))) kept
-      (subst (λ (n : ℕ). Gathers tells taken faults trace trace' mid.kept new.kept result (moment_text (moments.Told line u id (moments.Sector n v)))) at told.gathers)) told.stop);
-}
+    → (IsTrue (holds packs') → IsTrue (holds packs)) → packs_faults packs ≤ packs_faults packs'
+    → TriesSector holds held packs_faults tells taken faults packs packs' trace trace' old new result line u id
+sector_told holds held packs_faults tells taken faults packs packs' trace trace' old mid new result line u id block v i b at s kept told again later =
+    let world : new.world ≡ after old.world (Of line u id (Sector (next_block (adapter_at old.world (adapter_of u)).state) (tried old.world mid.world line u id (holds packs') (held packs) (held packs') v i b s))) =
+    told.world ∙ sector_world old.world mid.world line u id (holds packs') (held packs) (held packs') v i b s in
+    record {
+      tried = tried old.world mid.world line u id (holds packs') (held packs) (held packs') v i b s;
+      outcome = outcome_of tells taken faults trace trace' old mid new
+          (Of line u id (Sector (next_block (adapter_at old.world (adapter_of u)).state) (tried old.world mid.world line u id (holds packs') (held packs) (held packs') v i b s)))
+          (moments.Told line u id (moments.Sector (next_block (adapter_at old.world (adapter_of u)).state) v)) (holds packs') (held packs) (held packs') result refl
+          (record {
+            run = (sector_may old.world mid.world line u id (holds packs') (held packs) (held packs') v i b s, tt);
+            world = world;
+            reads = λ t. (sector_reads old.world mid.world line u id (holds packs') (held packs) (held packs') v i b s t, tt);
+            packs = λ t. sector_packs old.world mid.world line u id (holds packs') (held packs) (held packs') v i b s t;
+          })
+          (subst (λ (k : List ℕ). Gathers tells taken faults trace trace' k new.kept result (moment_text (moments.Told line u id (moments.Sector (next_block (adapter_at old.world (adapter_of u)).state) v)))) kept
+          (subst (λ (n : ℕ). Gathers tells taken faults trace trace' mid.kept new.kept result (moment_text (moments.Told line u id (moments.Sector n v)))) at told.gathers)) told.stop;
+      world = if_ok result _ world;
+      never_again_packs = again;
+      never_again = told.gathers.never_again;
+      causes = told_causes (packs_faults packs) (packs_faults packs') (faults trace) (faults trace') result later told.gathers.cause told.stop;
+      kept = λ e. absurd (no_store result told.stop e);
+    }

@@ -1,12 +1,14 @@
 -- What the method of an act does.
-use Rattle.std.specs.Prelude.{◌≡◌, ℕ, Bool, List, [], ◌∷◌, Result, IsTrue, IfErr}
+use Rattle.std.specs.Prelude.{◌≡◌, ℕ, ◌≤◌, Bool, List, [], ◌∷◌, Result, Option, Some, IsTrue, IfOk, IfErr}
 use Rattle.pack_model.specs.Pack.{Pack}
-use Rattle.mass_outside.specs.Causes.{HasCause}
+use Rattle.mass_outside.specs.Causes.{HasCause, Rose}
+use Rattle.hardware_table.specs.Adapter.{next_block}
 use Rattle.mass_gather.specs.Gathers.{Gathers}
+use Rattle.hp_machine.specs.World.{adapter_at, adapter_of}
 use Rattle.hp_machine.specs.Acts.{Act, Of, Sector, Tried, after}
 use Rattle.hp_outcome.specs.Outcome.{Does, Outcome, stop_in}
 use Rattle.hp_outcome.specs.declared.Stop.{Stop}
-use Rattle.hp_outcome.specs.declared.Stop.TheVariants.{Sink}
+use Rattle.hp_outcome.specs.declared.Stop.TheVariants.{Store, Sink}
 use Rattle.hp_core.specs.State.{State, site}
 
 -- A line is told: its text is put behind what is kept, and the world stays as it was.
@@ -21,6 +23,7 @@ pub record DoesAct {O : Type 0} (tells : O → Bool) (taken : O → List ℕ) (f
   pub outcome : (told : Bool) (packs : ℕ → Pack)
       → Outcome (record { packs = told; trace = tells trace' }) (act ∷ []) (site old packs (taken trace)) (site new packs (taken trace')) (stop_in result)
   pub world : new.world ≡ after old.world act
+  pub stop : IfErr result (λ stop. stop ≡ Sink)
   pub never_again : IsTrue (tells trace') → IsTrue (tells trace)
   pub cause : HasCause (faults trace) (faults trace') result
 
@@ -30,8 +33,22 @@ pub record DoesSilently (old new : State) (act : Act) : Type 0 where
       → Does (record { packs = packs; trace = told }) (act ∷ []) (site old held taken) (site new held taken)
   pub world : new.world ≡ after old.world act
 
--- ONE SECTOR IS TRIED, and its line told: for some sector the call comes to what trying it comes to.
-pub record TriesSector {O Q : Type 0} (holds : Q → Bool) (held : Q → ℕ → Pack) (tells : O → Bool) (taken : O → List ℕ) (packs packs' : Q) (trace trace' : O) (old new : State) (result : Result (Unit {0}) Stop) (line u id block : ℕ) : Type 0 where
+-- No count of faults has fallen, and what a call stopped at failed in it: its count rose.
+pub record HasCauses (packs packs' trace trace' : ℕ) (stop : Option Stop) : Type 0 where
+  pub later_packs : packs ≤ packs'
+  pub later : trace ≤ trace'
+  pub store : stop ≡ Some Store → Rose packs packs'
+  pub sink : stop ≡ Some Sink → Rose trace trace'
+
+-- THE NEXT SECTOR of the transfer under way at a unit IS TRIED, and its line told: for some sector the call comes to what trying
+-- it comes to. Each failure has its cause, and where the packs failed no more text is kept.
+pub record TriesSector {O Q : Type 0} (holds : Q → Bool) (held : Q → ℕ → Pack) (packs_faults : Q → ℕ) (tells : O → Bool) (taken : O → List ℕ) (faults : O → ℕ) (packs packs' : Q) (trace trace' : O) (old new : State) (result : Result (Unit {0}) Stop) (line u id : ℕ) : Type 0 where
   pub tried : Tried
-  pub outcome : Outcome (record { packs = holds packs'; trace = tells trace' }) (Of line u id (Sector block tried) ∷ [])
+  pub outcome : Outcome (record { packs = holds packs'; trace = tells trace' })
+      (Of line u id (Sector (next_block (adapter_at old.world (adapter_of u)).state) tried) ∷ [])
       (site old (held packs) (taken trace)) (site new (held packs') (taken trace')) (stop_in result)
+  pub world : IfOk result (λ _. new.world ≡ after old.world (Of line u id (Sector (next_block (adapter_at old.world (adapter_of u)).state) tried)))
+  pub never_again_packs : IsTrue (holds packs') → IsTrue (holds packs)
+  pub never_again : IsTrue (tells trace') → IsTrue (tells trace)
+  pub causes : HasCauses (packs_faults packs) (packs_faults packs') (faults trace) (faults trace') (stop_in result)
+  pub kept : stop_in result ≡ Some Store → new.kept ≡ old.kept

@@ -1,2 +1,4 @@
 pub mod State
 pub mod Done
+pub mod Joins
+pub mod Setups

@@ -7,7 +7,8 @@ ghost use Rattle.hp_machine.specs.Sound.{Sound};
 ghost use Rattle.hp_core.specs.Done.{DoesSilently};
 
 use crate::driver::Core;
-use hardware_table::FaultKind;
+use fire_code::Noise;
+use hardware_table::{FaultKind, NoiseSpan};
 
 impl Core {
     /// A pack turns until a sector comes under the heads.
@@ -44,5 +45,14 @@ impl Core {
         ensures { DoesSilently self.old self.new (Change (script.SetLocked u on)) }
     {
         self.put_locked(u, on);
+    }
+
+    /// Noise is armed at a sector.
+    pub fn arm_noise(&mut self, unit: u8, block: u32, noise: Noise, span: NoiseSpan)
+        requires sound { Sound self.old.world }
+        requires may { Allowed self.old.world (Change (script.Noise (record { unit = unit; block = block; span = span; places = noise }))) }
+        ensures { DoesSilently self.old self.new (Change (script.Noise (record { unit = unit; block = block; span = span; places = noise }))) }
+    {
+        self.put_noise(unit, block, noise, span);
     }
 }

@@ -1,10 +1,10 @@
 // The whole driver.
-ghost use Rattle.std.specs.Prelude.{◌≡◌, ◌<◌, ◌≤◌, length, IsSome};
+ghost use Rattle.std.specs.Prelude.{◌≡◌, ◌<◌, ◌≤◌, [], length, IsSome};
 ghost use Rattle.main_memory.specs.Frames.{frames_needed};
 ghost use Rattle.hp_machine.specs.World.{unit_at, slot_at, held_in, slot_in_hand, job_of};
 ghost use Rattle.hp_machine.specs.Lines.{step_told};
 ghost use Rattle.trace_replay.specs.Moments as moments;
-ghost use Rattle.trace_replay.specs.Requests.{Answer as AnswerTold};
+ghost use Rattle.subsystem_spec.specs.Requests.{Answer as AnswerTold};
 ghost use Rattle.trace_replay.specs.Text.{moment_text};
 ghost use Rattle.trace_lines.specs.Deeds.{deed_of};
 ghost use Rattle.hp_core.specs.Done.{Tells};
@@ -89,6 +89,17 @@ impl Core {
     {
         let text = line(number, unit, id, told);
         match self.gather.put(text.as_bytes(), trace) {
+            Ok(()) => Ok(()),
+            Err(_) => Err(Stop::Sink),
+        }
+    }
+
+    /// Sends the text that is kept. Nothing is kept after it, also where the trace failed.
+    pub fn flush<T: Sink>(&mut self, trace: &mut T) -> Result<(), Stop>
+        ensures sends { Tells T.tells T.taken T.faults trace.old trace.new self.old self.new result [] }
+        ensures empty { self.new.kept ≡ [] }
+    {
+        match self.gather.flush(trace) {
             Ok(()) => Ok(()),
             Err(_) => Err(Stop::Sink),
         }

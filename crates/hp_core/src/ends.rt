@@ -1,6 +1,6 @@
 // Ends, refusals and answers.
 ghost use Rattle.std.specs.Prelude.{◌≡◌, true, ◌<◌, ◌≤◌, ◌+◌, ◌-◌, ◌∷◌, ◌++◌, [], length, drop, None, Some, IsSome, slice_set};
-ghost use Rattle.trace_replay.specs.Requests.{Request};
+ghost use Rattle.subsystem_spec.specs.Requests.{Request};
 ghost use Rattle.hp_machine.specs.declared.Phase.TheVariants.{Waiting};
 ghost use Rattle.hp_machine.specs.World.{unit_at, adapter_at, slot_at, held_in, adapter_of, slot_in_hand, frames_of};
 ghost use Rattle.hp_machine.specs.Acts.{Of, End, Refuse, Nothing, no_more_waits, answer_at};

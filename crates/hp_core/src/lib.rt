@@ -10,6 +10,9 @@ mod puts;
 mod puts_more;
 mod quiet;
 mod sectors;
+mod start;
+mod submission;
 mod views;
 
 pub use driver::Core;
+pub use start::UnitSetup;

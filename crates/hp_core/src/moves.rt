@@ -1,13 +1,13 @@
 // The deeds at the adapter and in the buffer of a request, and the tries that failed.
 ghost use Rattle.std.specs.Prelude.{◌≡◌};
-ghost use Rattle.hp_machine.specs.World.{adapter_at, adapter_of};
-ghost use Rattle.hp_machine.specs.Acts.{Of, Intr, Move, Try};
+ghost use Rattle.hp_machine.specs.World.{unit_at, adapter_at, adapter_of, transfer_of};
+ghost use Rattle.hp_machine.specs.Acts.{Of, Intr, Move};
+ghost use Rattle.hp_machine.specs.Due.{try_of};
 ghost use Rattle.hp_machine.specs.Guards.{Allowed};
 ghost use Rattle.hp_machine.specs.Sound.{Sound};
 ghost use Rattle.hp_core.specs.Done.{DoesAct};
 
 use crate::driver::Core;
-use hp_machine::Task;
 use hp_outcome::Stop;
 use mass_outside::traits::Sink;
 use trace_lines::Told;
@@ -58,32 +58,20 @@ impl Core {
         )
     }
 
-    /// Behind so many sectors that moved clean a try at a block failed, for so many times; and what comes next.
+    /// Behind so many sectors that moved clean a try failed; the next one is due, or the end where it was the last.
     pub fn try_failed<T: Sink>(
         &mut self,
         line: u64,
         u: u8,
         id: u32,
         moved: u32,
-        block: u32,
-        number: u32,
-        next: Task,
         trace: &mut T,
     ) -> Result<(), Stop>
         requires sound { Sound self.old.world }
-        requires may { Allowed self.old.world (Of line u id (Try moved block number next)) }
-        ensures { DoesAct T.tells T.taken T.faults trace.old trace.new self.old self.new result (Of line u id (Try moved block number next)) }
+        requires may { Allowed self.old.world (Of line u id (try_of moved (transfer_of (unit_at self.old.world u)))) }
+        ensures { DoesAct T.tells T.taken T.faults trace.old trace.new self.old self.new result (Of line u id (try_of moved (transfer_of (unit_at self.old.world u)))) }
     {
-        let _tried = self.put_retry(u, moved);
-        self.tell(
-            line,
-            u,
-            id,
-            Told::Try {
-                block,
-                failures: number,
-            },
-            trace,
-        )
+        let (block, failures, _) = self.put_retry(u, moved);
+        self.tell(line, u, id, Told::Try { block, failures }, trace)
     }
 }

@@ -2,11 +2,13 @@
 ghost use Rattle.std.specs.Prelude.{◌≡◌, ◌<◌, ◌≤◌, ◌+◌, ◌^◌, length, slice_set};
 ghost use Rattle.pack_geometry.specs.Geometry.{sectors_of};
 ghost use Rattle.hardware_table.specs.Events.{turned, fault_armed, online_set, locked_set, times_armed};
+ghost use Rattle.hardware_table.specs.Noise.{book_armed};
 ghost use Rattle.hp_machine.specs.World.{unit_at};
 ghost use Rattle.hp_machine.specs.Acts.{with_drive};
 
 use crate::driver::Core;
-use hardware_table::FaultKind;
+use fire_code::Noise;
+use hardware_table::{FaultKind, NoiseSpan};
 
 impl Core {
     /// A pack turns.
@@ -43,5 +45,13 @@ impl Core {
         ensures { self.new ≡ record self.old { world = record self.old.world { units = slice_set self.old.world.units u (with_drive (locked_set on) (unit_at self.old.world u)) } } }
     {
         self.units[usize::from(u)].set_locked(on);
+    }
+
+    /// Noise is armed.
+    pub(crate) fn put_noise(&mut self, unit: u8, block: u32, noise: Noise, span: NoiseSpan)
+        requires { self.old.world.book.armed < self.old.world.book.capacity }
+        ensures { self.new ≡ record self.old { world = record self.old.world { book = book_armed (record { unit = unit; block = block; span = span; places = noise }) self.old.world.book } } }
+    {
+        self.book.arm(unit, block, noise, span);
     }
 }

@@ -1,5 +1,5 @@
 // The deeds that tell no line.
-ghost use Rattle.std.specs.Prelude.{◌≡◌, ◌<◌, ◌≤◌};
+ghost use Rattle.std.specs.Prelude.{◌≡◌};
 ghost use Rattle.hp_machine.specs.declared.Phase.TheVariants.{Due};
 ghost use Rattle.hp_machine.specs.declared.Task.TheVariants.{Steps};
 ghost use Rattle.transfer_engine.specs.State.{begun};
@@ -54,9 +54,6 @@ impl Core {
     pub fn repair(&mut self, line: u64, u: u8, id: u32, moved: u32, at: u16, pattern: u16)
         requires sound { Sound self.old.world }
         requires may { Allowed self.old.world (Of line u id (Repair moved at pattern)) }
-        requires first { 1 ≤ at }
-        requires last { at ≤ 4128 }
-        requires pattern { pattern < 2048 }
         ensures { DoesSilently self.old self.new (Of line u id (Repair moved at pattern)) }
     {
         self.put_repair(u, moved, at, pattern);

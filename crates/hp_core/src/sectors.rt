@@ -1,5 +1,5 @@
 // One sector of a transfer.
-ghost use Rattle.std.specs.Prelude.{◌≡◌, ◌<◌, true, false, IsTrue, IfOk, OnErr, IsSome, Some, length, slice_set, if◌then◌else◌};
+ghost use Rattle.std.specs.Prelude.{◌≡◌, ◌<◌, ◌^◌, true, false, IsTrue, IfOk, OnErr, IsSome, Some, length, slice_set, if◌then◌else◌};
 ghost use Rattle.pack_geometry.specs.Geometry.{block_count};
 ghost use Rattle.mass_outside.specs.Causes.{HasCause};
 ghost use Rattle.main_memory.specs.Blocks.{size_at};
@@ -8,7 +8,8 @@ ghost use Rattle.hardware_table.specs.Moves.{was_read};
 ghost use Rattle.hardware_table.specs.Adapter.{next_block, next_window, stepped, drive_stepped};
 ghost use Rattle.drive_model.specs.Move.{MovesSector, IsOldOrNew};
 ghost use Rattle.mba_adapter.specs.Loaded.{loaded_buffer};
-ghost use Rattle.hp_machine.specs.World.{unit_at, adapter_at, slot_at, held_in, slot_in_hand, adapter_of, drive_of, block_in, with_block_in};
+ghost use Rattle.transfer_engine.specs.State.{segment_of};
+ghost use Rattle.hp_machine.specs.World.{unit_at, adapter_at, slot_at, held_in, slot_in_hand, adapter_of, drive_of, transfer_of, block_in, with_block_in};
 ghost use Rattle.hp_machine.specs.Acts.{with_drive, with_state};
 ghost use Rattle.hp_machine.specs.Guards.{InHand, IsBusyFor};
 ghost use Rattle.hp_machine.specs.Sound.{Sound};
@@ -79,22 +80,34 @@ impl Core {
         )
     }
 
-    /// One sector is tried, that of this block, which is the transfer's next one.
+    /// The block that the next sector of the transfer under way is.
+    pub(crate) fn next_block(&self, u: u8) -> u32
+        requires unit { u < length self.now.world.units }
+        requires adapter { adapter_of u < length self.now.world.adapters }
+        requires segment { (adapter_at self.now.world (adapter_of u)).state.block ≡ (segment_of (transfer_of (unit_at self.now.world u))).block }
+        requires small { next_block (adapter_at self.now.world (adapter_of u)).state < 2 ^ 32 }
+        ensures { result ≡ next_block (adapter_at self.now.world (adapter_of u)).state }
+    {
+        let block = self.segment(u).block;
+        let moved = self.channels[usize::from(u / 8)].adapter.moved();
+        block + moved
+    }
+
+    /// The next sector of the transfer under way is tried.
     pub fn sector<P: Packs, T: Sink>(
         &mut self,
         line: u64,
         u: u8,
         id: u32,
-        block: u32,
         packs: &mut P,
         trace: &mut T,
     ) -> Result<(), Stop>
         requires sound { Sound self.old.world }
         requires in_hand { InHand self.old.world u id }
         requires busy { IsBusyFor (adapter_at self.old.world (adapter_of u)).state (drive_of u) false }
-        requires block { block ≡ next_block (adapter_at self.old.world (adapter_of u)).state }
-        ensures { TriesSector P.tells P.held T.tells T.taken packs.old packs.new trace.old trace.new self.old self.new result line u id block }
+        ensures { TriesSector P.tells P.held P.faults T.tells T.taken T.faults packs.old packs.new trace.old trace.new self.old self.new result line u id }
     {
+        let block = self.next_block(u);
         match self.put_sector(u, packs) {
             Ok(verdict) => self.tell(line, u, id, Told::Sector { block, verdict }, trace),
             Err(_) => Err(Stop::Store),

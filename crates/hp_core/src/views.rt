@@ -1,18 +1,80 @@
 // What can be seen of the driver.
-ghost use Rattle.std.specs.Prelude.{◌≡◌, ◌<◌, ◌+◌, ◌∷◌, ◌==◌, ◌&&◌, [], drop, not, length, Some, IfSome, IfNone, if◌then◌else◌};
+ghost use Rattle.std.specs.Prelude.{◌≡◌, ℕ, ◌<◌, ◌+◌, ◌/◌, ◌∷◌, ◌==◌, ◌&&◌, [], drop, not, length, true, false, None, Some, IsSome, IfSome, IfNone, if◌then◌else◌};
+ghost use Rattle.pack_geometry.specs.Geometry.{cylinders_of, sectors_of, IsInside};
+ghost use Rattle.main_memory.specs.Bytes.{filled};
 ghost use Rattle.drive_registers.specs.Codes.{offset_field};
 ghost use Rattle.hardware_table.specs.Drive.{is_positioning};
 ghost use Rattle.transfer_engine.specs.State.{segment_of};
 ghost use Rattle.transfer_engine.specs.Calls.{entry_for};
-ghost use Rattle.hp_machine.specs.World.{unit_at, slot_in_hand, transfer_of};
+ghost use Rattle.seek_engine.specs.Seek.{position_for};
+ghost use Rattle.hp_machine.specs.World.{unit_at, adapter_at, slot_at, held_in, unit_of, block_in, slot_in_hand, transfer_of};
+ghost use Rattle.hp_machine.specs.Sound.{Sound};
+ghost use Rattle.request_slots.specs.Requests.{asked_of};
 ghost use Rattle.hp_machine.specs.Due.{steps_of};
 
 use crate::driver::Core;
 use hp_interrupts::Sensed;
-use hp_machine::{Phase, RetryStep};
+use hp_machine::{Made, Phase, RetryStep};
+use pack_geometry::{DriveKind, Place};
+use request_slots::Asked;
+use seek_engine::Position;
 use transfer_engine::Segment;
 
+// The units.
 impl Core {
+    /// How many units there are, set up or not.
+    pub fn unit_count(&self) -> u32
+        requires { Sound self.now.world }
+        ensures { result ≡ length self.now.world.units }
+    {
+        self.units.len() as u32
+    }
+
+    /// Whether a unit is set up.
+    pub fn is_declared(&self, u: u8) -> bool
+        requires { u < length self.now.world.units }
+        ensures { result ≡ (unit_at self.now.world u).declared }
+    {
+        self.units[usize::from(u)].is_declared()
+    }
+
+    /// The kind of a unit's drive.
+    pub fn kind(&self, u: u8) -> DriveKind
+        requires { u < length self.now.world.units }
+        ensures { result ≡ (unit_at self.now.world u).drive.kind }
+    {
+        self.units[usize::from(u)].kind()
+    }
+
+    /// How many requests wait at a unit, with the one in hand.
+    pub fn queue_len(&self, u: u8) -> u32
+        requires { u < length self.now.world.units }
+        ensures { result ≡ length (unit_at self.now.world u).queue }
+    {
+        self.units[usize::from(u)].queue_len()
+    }
+
+    /// How a drive that is at a place of its own has to position.
+    fn position_from_here(&self, u: u8, target: Place) -> Position
+        requires unit { u < length self.now.world.units }
+        requires here { (unit_at self.now.world u).drive.cc < cylinders_of (unit_at self.now.world u).drive.kind }
+        requires look { (unit_at self.now.world u).drive.la / 64 < sectors_of (unit_at self.now.world u).drive.kind }
+        requires target { IsInside (unit_at self.now.world u).drive.kind target }
+        ensures { result ≡ position_for (unit_at self.now.world u).drive.kind (unit_at self.now.world u).drive.cc ((unit_at self.now.world u).drive.la / 64) target true }
+    {
+        self.units[usize::from(u)].position(target)
+    }
+
+    /// How a unit has to position for a first try at a place of its drive.
+    pub fn position(&self, u: u8, target: Place) -> Position
+        requires sound { Sound self.now.world }
+        requires unit { u < 32 }
+        requires target { IsInside (unit_at self.now.world u).drive.kind target }
+        ensures { result ≡ position_for (unit_at self.now.world u).drive.kind (unit_at self.now.world u).drive.cc ((unit_at self.now.world u).drive.la / 64) target true }
+    {
+        self.position_from_here(u, target)
+    }
+
     /// The slot of the request in hand of a unit. None where its queue is empty.
     pub fn head(&self, u: u8) -> Option<u32>
         requires { u < length self.now.world.units }
@@ -108,5 +170,121 @@ impl Core {
         ensures { result ≡ entry_for moved (unit_at self.now.world u).table (transfer_of (unit_at self.now.world u)) }
     {
         self.units[usize::from(u)].entry(moved)
+    }
+}
+
+// The adapters.
+impl Core {
+    /// Whether a transfer is started at an adapter that was not completed.
+    pub fn is_busy(&self, a: u8) -> bool
+        requires { a < length self.now.world.adapters }
+        ensures { result ≡ (adapter_at self.now.world a).state.busy }
+    {
+        !self.channels[usize::from(a)].adapter.is_free()
+    }
+
+    /// Whether an adapter's completion is up.
+    pub fn has_completed(&self, a: u8) -> bool
+        requires { a < length self.now.world.adapters }
+        ensures { result ≡ (adapter_at self.now.world a).state.completion }
+    {
+        self.channels[usize::from(a)].adapter.completion()
+    }
+
+    /// Whether the attention of a drive of an adapter is up.
+    pub fn has_attention(&self, a: u8) -> bool
+        requires { a < length self.now.world.adapters }
+        ensures { result ≡ not ((adapter_at self.now.world a).state.attentions == 0) }
+    {
+        self.channels[usize::from(a)].adapter.attentions() != 0
+    }
+
+    /// The unit for which an adapter transfers.
+    pub fn transferring(&self, a: u8) -> u8
+        requires sound { Sound self.now.world }
+        requires adapter { a < 4 }
+        requires busy { (adapter_at self.now.world a).state.busy ≡ true }
+        ensures unit { result ≡ unit_of self.now.world a }
+        ensures drive { (adapter_at self.now.world a).state.drive < 8 }
+    {
+        8 * a + self.channels[usize::from(a)].adapter.drive()
+    }
+
+    /// The unit that waits longest for an adapter. None where none waits.
+    pub fn first_waiting(&self, a: u8) -> Option<u8>
+        requires { a < length self.now.world.adapters }
+        ensures some { IfSome result (λ u. (adapter_at self.now.world a).queue ≡ u ∷ drop 1 (adapter_at self.now.world a).queue) }
+        ensures none { IfNone result ((adapter_at self.now.world a).queue ≡ []) }
+    {
+        self.channels[usize::from(a)].first()
+    }
+}
+
+// The slots, the answers and the text.
+impl Core {
+    /// How many slots there are.
+    pub fn slot_count(&self) -> u32
+        ensures { result ≡ length self.now.world.slots }
+    {
+        self.slots.count()
+    }
+
+    /// A free slot, found at once. None where a request stands in each.
+    pub fn free_slot(&self) -> Option<u32>
+        ensures some { IfSome result (λ p. (p < length self.now.world.slots) × (slot_at self.now.world p ≡ None)) }
+        ensures none { IfNone result ((p : ℕ) → p < length self.now.world.slots → IsSome (slot_at self.now.world p)) }
+    {
+        self.slots.free_slot()
+    }
+
+    /// How many frames all outstanding requests need.
+    pub fn frames(&self) -> u32
+        ensures { result ≡ self.now.world.frames }
+    {
+        self.frames
+    }
+
+    /// What the request in a slot asks.
+    pub fn asked(&self, slot: u32) -> Asked
+        requires { IsSome (slot_at self.now.world slot) }
+        ensures { result ≡ asked_of (held_in self.now.world slot) }
+    {
+        self.slots.asked(slot)
+    }
+
+    /// Whether an answer waits.
+    pub fn waits(&self) -> bool
+        ensures some { result ≡ true → 0 < length self.now.world.answers }
+        ensures none { result ≡ false → self.now.world.answers ≡ [] }
+    {
+        match self.answers.first() {
+            Some(_) => true,
+            None => false,
+        }
+    }
+
+    /// The oldest answer. None where none waits.
+    pub fn first_answer(&self) -> Option<Made>
+        ensures some { IfSome result (λ made. self.now.world.answers ≡ made ∷ drop 1 self.now.world.answers) }
+        ensures none { IfNone result (self.now.world.answers ≡ []) }
+    {
+        self.answers.first()
+    }
+
+    /// Reads block `k` of the request in a slot, counted from 0: its bytes, and then zeros.
+    pub fn answer_block(&self, slot: u32, k: u32, into: &mut [u8; 512])
+        requires there { IsSome (slot_at self.now.world slot) }
+        requires cpu { (held_in self.now.world slot).on_bus ≡ false }
+        requires inside { k < (held_in self.now.world slot).loan.count }
+        ensures { into.new ≡ filled 512 (block_in (held_in self.now.world slot) k) }
+    {
+        self.slots.block(slot, k, into);
+    }
+
+    /// Whether no text of the trace is kept.
+    pub fn kept_is_empty(&self) -> bool
+        ensures { result ≡ (length self.now.kept == 0) }
+    {
+        self.gather.is_empty()
     }
 }

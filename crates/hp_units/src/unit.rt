@@ -31,7 +31,7 @@ use std::marker::Model;
 use transfer_engine::{Segment, Transfer};
 
 /// How many slots there can be, each of which can wait at any unit.
-const SLOTS: u32 = 65_536;
+const SLOTS: u32 = 16_384;
 
 /// How many cylinders the largest drive has.
 const CYLINDERS: u32 = 823;
@@ -65,7 +65,7 @@ impl Model for DiskUnit {
       table = u.table;
     } };
 
-    ghost invariant = { λ u. u.declared ≡ true → (u.queue.capacity ≡ 65536) × (u.queue.cylinders ≡ 823) };
+    ghost invariant = { λ u. u.declared ≡ true → (u.queue.capacity ≡ 16384) × (u.queue.cylinders ≡ 823) };
 }
 
 /// A drive as it is attached: its volume is acknowledged, and its offset register says the format and no offset.
@@ -132,6 +132,13 @@ impl DiskUnit {
             Some(waiter) => Some(waiter.number),
             None => None,
         }
+    }
+
+    /// How many requests wait at the unit, with the one in hand.
+    pub fn queue_len(&self) -> u32
+        ensures { result ≡ length self.now.queue }
+    {
+        self.queue.len()
     }
 
     /// Where the unit is with the head of its queue.

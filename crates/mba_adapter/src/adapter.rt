@@ -111,6 +111,13 @@ impl Adapter {
         self.drive
     }
 
+    /// How many sectors moved clean in the transfer that was started last; 0 before the first.
+    pub fn moved(&self) -> u32
+        ensures { result ≡ self.now.moved }
+    {
+        self.moved
+    }
+
     /// The drives whose attention was raised and not cleared: bit k is drive k.
     pub fn attentions(&self) -> u8
         ensures { result ≡ self.now.attentions }

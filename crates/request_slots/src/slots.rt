@@ -76,6 +76,13 @@ impl Slots {
         let _ = &self.slots;
     }
 
+    /// How many slots there are.
+    pub fn count(&self) -> u32
+        ensures { result ≡ length self.now }
+    {
+        self.slots.len() as u32
+    }
+
     /// A free slot, found at once; none where a request stands in each.
     pub fn free_slot(&self) -> Option<u32>
         ensures some { IfSome result (λ p. (p < length self.now) × (slot_at self.now p ≡ None)) }

@@ -29,8 +29,8 @@ impl DiskUnit {
     /// A request joins, by its slot and its first block.
     pub fn join(&mut self, slot: u32, first: u32)
         requires declared { self.old.declared ≡ true }
-        requires room { length self.old.queue < 65536 }
-        requires slot { slot < 65536 }
+        requires room { length self.old.queue < 16384 }
+        requires slot { slot < 16384 }
         requires absent { All (λ w. w.number ≢ slot) self.old.queue }
         requires inside { first < block_count self.old.drive.kind }
         ensures { self.new ≡ joined slot (record no_held { first = first }) self.old }

@@ -22,5 +22,14 @@ put_repair-requires-clause-few c = (repairs _ c.args.line _ _ c.requires.sound _
 pub put_repair-requires-clause-inside : goal.put_repair-requires-clause-inside
 put_repair-requires-clause-inside c = (repairs _ c.args.line _ _ c.requires.sound _ _ _ c.requires.may).inside
 
+pub put_repair-requires-clause-first : goal.put_repair-requires-clause-first
+put_repair-requires-clause-first c = (repairs _ c.args.line _ _ c.requires.sound _ _ _ c.requires.may).burst.first
+
+pub put_repair-requires-clause-last : goal.put_repair-requires-clause-last
+put_repair-requires-clause-last c = (repairs _ c.args.line _ _ c.requires.sound _ _ _ c.requires.may).burst.last
+
+pub put_repair-requires-clause-pattern : goal.put_repair-requires-clause-pattern
+put_repair-requires-clause-pattern c = (repairs _ c.args.line _ _ c.requires.sound _ _ _ c.requires.may).burst.pattern_bits
+
 pub returns : goal.returns
 returns c = silent_act _ _ _ (record { reads = λ w p. tt; packs = λ w p. refl }) c.requires.may refl (by_held _ _ _ _ _ _ c.put_repair.ensures)

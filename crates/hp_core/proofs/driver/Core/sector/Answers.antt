@@ -1,7 +1,4 @@
-use Rattle.std.proofs.Common.{ℕ, sym, subst, Err}
-use Rattle.trace_replay.specs.Requests.{WriteOk}
-use Rattle.hp_outcome.specs.declared.Stop.TheVariants.{Store}
-use Rattle.hp_core.specs.Done.{TriesSector}
+use Rattle.subsystem_spec.specs.Requests.{WriteOk}
 use Rattle.hp_core.proofs.Tries.{Stepped, sector_told, sector_stopped}
 use Rattle.hp_core.proofs.Deeds.{there, adapter_there, hand_there, under_way}
 use Rattle.hp_core.proofs.driver.Core.sector.Goals as goal
@@ -39,6 +36,18 @@ put_sector-requires-clause-transfer g c = (under_way _ c.args.line _ _ c.require
 pub put_sector-requires-clause-block : goal.put_sector-requires-clause-block
 put_sector-requires-clause-block g c = (under_way _ c.args.line _ _ c.requires.sound c.requires.in_hand c.requires.busy).block
 
+pub next_block-block-requires-clause-unit : goal.next_block-block-requires-clause-unit
+next_block-block-requires-clause-unit g c = there _ c.args.line _ _ c.requires.sound c.requires.in_hand
+
+pub next_block-block-requires-clause-adapter : goal.next_block-block-requires-clause-adapter
+next_block-block-requires-clause-adapter g c = adapter_there _ c.args.line _ _ c.requires.sound c.requires.in_hand
+
+pub next_block-block-requires-clause-segment : goal.next_block-block-requires-clause-segment
+next_block-block-requires-clause-segment g c = (under_way _ c.args.line _ _ c.requires.sound c.requires.in_hand c.requires.busy).segment
+
+pub next_block-block-requires-clause-small : goal.next_block-block-requires-clause-small
+next_block-block-requires-clause-small g c = (under_way _ c.args.line _ _ c.requires.sound c.requires.in_hand c.requires.busy).small
+
 pub returns-in-Ok : goal.returns-in-Ok
 returns-in-Ok g c =
     let s : Stepped c.args.self.now.world c.put_sector.new.self.world c.args.u (g.P.Packs.tells c.put_sector.new.packs) (g.P.Packs.held c.args.packs.now) (g.P.Packs.held c.put_sector.new.packs) c.in-Ok.verdict = record {
@@ -50,10 +59,10 @@ returns-in-Ok g c =
       frames = c.put_sector.ensures.frames;
       answers = c.put_sector.ensures.answers;
     } in
-    sector_told _ _ _ _ g.T.Sink.faults _ _ _ _ _ c.put_sector.new.self _ _ _ _ _ _ c.in-Ok.verdict c.requires.in_hand c.requires.busy c.requires.block s c.put_sector.ensures.kept (c.tell.ensures WriteOk)
+    sector_told _ _ g.P.Packs.faults _ _ g.T.Sink.faults _ _ _ _ _ c.put_sector.new.self _ _ _ _ _ _ c.in-Ok.verdict c.requires.in_hand c.requires.busy c.next_block-block.ensures s c.put_sector.ensures.kept (c.tell.ensures WriteOk)
+    c.put_sector.ensures.never_again c.put_sector.ensures.cause.later
 
 pub returns-in-Err : goal.returns-in-Err
 returns-in-Err g c =
-    subst (λ (n : ℕ). TriesSector g.P.Packs.tells g.P.Packs.held g.T.Sink.tells g.T.Sink.taken c.args.packs.now c.put_sector.new.packs c.args.trace.now c.args.trace.now c.args.self.now c.put_sector.new.self (Err Store) c.args.line c.args.u c.args.id n)
-    (sym c.requires.block)
-    (sector_stopped _ _ _ _ _ _ _ _ _ _ _ _ c.requires.busy c.in-Err.ensures.unchanged c.in-Err.ensures.old_or_new)
+    sector_stopped _ _ g.P.Packs.faults _ _ g.T.Sink.faults _ _ _ _ _ _ _ _ c.requires.busy c.in-Err.ensures.unchanged c.in-Err.ensures.old_or_new
+    c.put_sector.ensures.never_again c.put_sector.ensures.cause.later c.in-Err.ensures.cause.failed

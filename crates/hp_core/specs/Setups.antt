@@ -1,0 +1,11 @@
+-- The units that are set up.
+use Rattle.std.specs.Prelude.{List, map}
+use Rattle.hp_machine.specs.World.{Setup}
+use Rattle.hp_core.specs.declared.start.UnitSetup.{UnitSetup}
+
+-- what the setup of a unit says
+abbrev pub setup_of : UnitSetup → Setup
+setup_of s = record { unit = s.unit; kind = s.kind; table = s.table }
+
+abbrev pub setups_of : List UnitSetup → List Setup
+setups_of setups = map setup_of setups

@@ -1,0 +1,117 @@
+// The driver at its start.
+ghost use Rattle.std.specs.Prelude.{◌≡◌, ◌<◌, ◌≤◌, ◌+◌, [], List, Contains, length, min, replicate, IfOk};
+ghost use Rattle.hp_machine.specs.World.{Setup, no_unit, new_unit, new_adapter_view, set_up, new_world};
+ghost use Rattle.hp_slots.specs.Parts.{AreSetups};
+ghost use Rattle.hp_core.specs.Setups.{setup_of, setups_of};
+
+use crate::driver::Core;
+use bad144_table::BadTable;
+use drive_model::NoiseBook;
+use hp_units::{Answers, Channel, DiskUnit};
+use mass_gather::Gather;
+use mass_outside::traits::NoMemory;
+use pack_geometry::DriveKind;
+use request_slots::Slots;
+use std::alloc::Global;
+
+/// A unit that is set up: its number, from 0 to 31, the kind of its drive, and the table of its pack, where the pack has one.
+/// Unit `u` is drive `u % 8` of adapter `u / 8`.
+#[derive(Drop)]
+pub struct UnitSetup {
+    pub unit: u8,
+    pub kind: DriveKind,
+    pub table: Option<BadTable>,
+}
+
+/// The same table again, where there is one.
+fn copy_of(table: &Option<BadTable>) -> Option<BadTable>
+    ensures { result ≡ table.now }
+{
+    match table {
+        Some(table) => Some(table.copy()),
+        None => None,
+    }
+}
+
+/// A unit as its setup says.
+fn unit_for(alloc: Global, setup: &UnitSetup) -> Result<DiskUnit, NoMemory>
+    ensures { IfOk result (λ v. v ≡ new_unit (setup_of setup.now)) }
+{
+    let table = copy_of(&setup.table);
+    DiskUnit::set_up(alloc, setup.unit, setup.kind, table)
+}
+
+/// 32 units, of which none is set up.
+fn blank_units(alloc: Global) -> Result<Vec<DiskUnit>, NoMemory>
+    ensures { IfOk result (λ v. v.items ≡ replicate 32 no_unit) }
+{
+    let mut units = match Vec::with_capacity(alloc, 32) {
+        Ok(units) => units,
+        Err(_) => return Err(NoMemory),
+    };
+    for _ in 0..32u32 {
+        let unit = DiskUnit::blank(alloc)?;
+        units.push_reserved(unit);
+    }
+    Ok(units)
+}
+
+/// 32 units, of which these are set up.
+fn units_of(alloc: Global, setups: &[UnitSetup]) -> Result<Vec<DiskUnit>, NoMemory>
+    requires small { (s : Setup) → Contains (setups_of setups.now) s → s.unit < 32 }
+    ensures { IfOk result (λ v. v.items ≡ set_up (setups_of setups.now) (replicate 32 no_unit)) }
+{
+    let mut units = blank_units(alloc)?;
+    for setup in setups {
+        let unit = unit_for(alloc, setup)?;
+        units[usize::from(setup.unit)] = unit;
+    }
+    Ok(units)
+}
+
+/// Four adapters, which are free.
+fn free_channels(alloc: Global) -> Result<Vec<Channel>, NoMemory>
+    ensures { IfOk result (λ v. v.items ≡ replicate 4 new_adapter_view) }
+{
+    let mut channels = match Vec::with_capacity(alloc, 4) {
+        Ok(channels) => channels,
+        Err(_) => return Err(NoMemory),
+    };
+    for _ in 0..4u32 {
+        channels.push_reserved(Channel::new());
+    }
+    Ok(channels)
+}
+
+impl Core {
+    /// The driver at its start, with these units set up, with slots for so many requests that are outstanding at a time, of
+    /// which there are at most 16,384, and with room for so many noises in all. `NoMemory` where the memory is not to be had.
+    /// No later call takes any.
+    pub fn new(
+        alloc: Global,
+        setups: &[UnitSetup],
+        outstanding: u32,
+        noises: u32,
+    ) -> Result<Core, NoMemory>
+        requires setups { AreSetups (setups_of setups.now) }
+        requires outstanding { outstanding ≤ 65536 }
+        requires noises { noises ≤ 4096 }
+        ensures { IfOk result (λ s. s ≡ record { world = new_world (setups_of setups.now) (min outstanding 16384) noises; kept = [] }) }
+    {
+        let units = units_of(alloc, setups)?;
+        let channels = free_channels(alloc)?;
+        let slots = Slots::new(alloc, outstanding)?;
+        let book = NoiseBook::new(alloc, noises)?;
+        let answers = Answers::new(alloc, outstanding.min(16384) + 1)?;
+        let gather = Gather::new(alloc)?;
+        Ok(Core {
+            units,
+            channels,
+            slots,
+            frames: 0,
+            book,
+            answers,
+            gather,
+        })
+    }
+}
