@@ -1,0 +1,38 @@
+use Rattle.std.proofs.Common.{ap, sym, subst, ◌∙◌, ℕ}
+use Rattle.hp_machine.specs.World.{unit_on}
+use Rattle.hp_machine.specs.Acts as deed
+use Rattle.hp_machine.specs.Acts.{Of}
+use Rattle.hp_machine.specs.Events.{begun, steps_taken}
+use Rattle.hp_machine.specs.Guards.{Allowed}
+use Rattle.hp_events.proofs.Exits.{as_acts, handed}
+use Rattle.hp_events.proofs.Parts.{unit_less, raised_some, attention_may, attends, deed_then, deed_stopped, sound_then}
+use Rattle.hp_events.proofs.events.attention.Goals as goal
+
+pub returns-in_err-attend : goal.returns-in_err-attend
+returns-in_err-attend g c =
+    let up = sym c.if-not-is_raised.ensures in
+    let less = unit_less c.args.a c.args.drive c.requires.adapter c.requires.drive in
+    handed _ _ _ _ _ _ _ _ _ c.from_residual.ensures.1
+    (as_acts _ _ _ _ _ _ _ _ _ _
+    (ap (λ (n : ℕ). begun c.args.line (unit_on c.args.a c.args.drive) (deed.Attn n) c.args.core.now.world) (c.steps_taken-taken.ensures ∙ ap steps_taken c.phase.ensures)
+    ∙ attends c.args.core.now.world c.args.line c.args.a c.args.drive up)
+    (deed_stopped _ _ _ c.args.line _ _ _ _ _ _ _ _ (raised_some _ _ c.requires.sound less up) c.id_in_hand-id.ensures c.in_err-attend.ensures))
+
+pub due-requires-clause-sound : goal.due-requires-clause-sound
+due-requires-clause-sound g c =
+    let up = sym c.if-not-is_raised.ensures in
+    let less = unit_less c.args.a c.args.drive c.requires.adapter c.requires.drive in
+    sound_then _ _ _ _ _ _ _ _ _ c.requires.sound
+    (subst (λ (n : ℕ). Allowed c.args.core.now.world (Of c.args.line (unit_on c.args.a c.args.drive) c.id_in_hand-id.result (deed.Attn n)))
+    (sym (c.steps_taken-taken.ensures ∙ ap steps_taken c.phase.ensures))
+    (attention_may _ _ c.requires.sound less up c.args.line c.id_in_hand-id.result c.id_in_hand-id.ensures))
+    c.in_ok-attend.ensures
+
+pub returns : goal.returns
+returns g c =
+    let up = sym c.if-not-is_raised.ensures in
+    let less = unit_less c.args.a c.args.drive c.requires.adapter c.requires.drive in
+    as_acts _ _ _ _ _ _ _ _ _ _
+    (ap (λ (n : ℕ). begun c.args.line (unit_on c.args.a c.args.drive) (deed.Attn n) c.args.core.now.world) (c.steps_taken-taken.ensures ∙ ap steps_taken c.phase.ensures)
+    ∙ attends c.args.core.now.world c.args.line c.args.a c.args.drive up)
+    (deed_then _ _ _ c.args.line _ _ _ _ _ _ _ _ _ _ (raised_some _ _ c.requires.sound less up) c.id_in_hand-id.ensures c.in_ok-attend.ensures c.due.ensures)

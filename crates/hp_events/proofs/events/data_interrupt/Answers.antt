@@ -1,0 +1,29 @@
+use Rattle.std.proofs.Common.{sym}
+use Rattle.hp_events.proofs.Exits.{as_acts, handed}
+use Rattle.hp_events.proofs.Parts.{is_busy, served_some, interrupt_may, interrupts, deed_then, deed_stopped, sound_then}
+use Rattle.hp_events.proofs.events.data_interrupt.Goals as goal
+
+pub interrupt-requires-clause-may : goal.interrupt-requires-clause-may
+interrupt-requires-clause-may g c =
+    interrupt_may _ c.args.a _ c.requires.sound (is_busy _ c.args.a c.requires.sound c.requires.adapter (sym c.if-not-has_completed.ensures)) c.transferring-u.ensures.unit
+    c.args.line _ (sym c.if-not-has_completed.ensures) c.id_in_hand-id.ensures
+
+pub returns-in_err-interrupt : goal.returns-in_err-interrupt
+returns-in_err-interrupt g c =
+    let busy = is_busy _ c.args.a c.requires.sound c.requires.adapter (sym c.if-not-has_completed.ensures) in
+    handed _ _ _ _ _ _ _ _ _ c.from_residual.ensures.1
+    (as_acts _ _ _ _ _ _ _ _ _ _ (interrupts _ c.args.a _ c.requires.sound busy c.transferring-u.ensures.unit c.args.line (sym c.if-not-has_completed.ensures))
+    (deed_stopped _ _ _ c.args.line _ _ _ _ _ _ _ _ (served_some _ c.args.a _ c.requires.sound busy c.transferring-u.ensures.unit) c.id_in_hand-id.ensures c.in_err-interrupt.ensures))
+
+pub due-requires-clause-sound : goal.due-requires-clause-sound
+due-requires-clause-sound g c =
+    sound_then _ _ _ _ _ _ _ _ _ c.requires.sound
+    (interrupt_may _ c.args.a _ c.requires.sound (is_busy _ c.args.a c.requires.sound c.requires.adapter (sym c.if-not-has_completed.ensures)) c.transferring-u.ensures.unit
+    c.args.line _ (sym c.if-not-has_completed.ensures) c.id_in_hand-id.ensures)
+    c.in_ok-interrupt.ensures
+
+pub returns : goal.returns
+returns g c =
+    let busy = is_busy _ c.args.a c.requires.sound c.requires.adapter (sym c.if-not-has_completed.ensures) in
+    as_acts _ _ _ _ _ _ _ _ _ _ (interrupts _ c.args.a _ c.requires.sound busy c.transferring-u.ensures.unit c.args.line (sym c.if-not-has_completed.ensures))
+    (deed_then _ _ _ c.args.line _ _ _ _ _ _ _ _ _ _ (served_some _ c.args.a _ c.requires.sound busy c.transferring-u.ensures.unit) c.id_in_hand-id.ensures c.in_ok-interrupt.ensures c.due.ensures)

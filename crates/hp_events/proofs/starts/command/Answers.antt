@@ -1,0 +1,23 @@
+use Rattle.std.proofs.Common.{sym, ap, ◌∙◌}
+use Rattle.transfer_engine.specs.declared.job.Segment.{Segment}
+use Rattle.transfer_engine.specs.State.{segment_of}
+use Rattle.hp_machine.specs.World.{unit_at, transfer_of}
+use Rattle.hp_machine.specs.Acts.{Move}
+use Rattle.hp_events.specs.Hand.{hand_at}
+use Rattle.hp_events.proofs.One.{told, none_moved, command_as}
+use Rattle.hp_events.proofs.starts.command.Goals as goal
+
+pub returns-in-Command : goal.returns-in-Command
+returns-in-Command g c =
+    told _ _ _ _ _ _ _ _ _ _ _ _ _
+    (command_as (unit_at c.args.core.now.world c.args.u) (hand_at c.args.core.now.world c.args.u) c.args.asked _ c.requires.asked (c.in-Command.ensures (Move c.args.asked.write (segment_of (transfer_of (unit_at c.args.core.now.world c.args.u)))) ∙ ap (λ (s : Segment). Move c.args.asked.write s) (sym c.segment-segment.ensures)))
+    c.command.ensures
+
+pub returns-in-Pack : goal.returns-in-Pack
+returns-in-Pack g c = told _ _ _ _ _ _ _ _ _ _ _ _ _ (command_as (unit_at c.args.core.now.world c.args.u) (hand_at c.args.core.now.world c.args.u) c.args.asked _ c.requires.asked (c.in-Pack.ensures (Move c.args.asked.write (segment_of (transfer_of (unit_at c.args.core.now.world c.args.u)))))) c.pack.ensures
+
+pub returns-in-End : goal.returns-in-End
+returns-in-End g c =
+    told _ _ _ _ _ _ _ _ _ _ _ _ _
+    (command_as (unit_at c.args.core.now.world c.args.u) (hand_at c.args.core.now.world c.args.u) c.args.asked _ c.requires.asked (c.in-End.ensures (Move c.args.asked.write (segment_of (transfer_of (unit_at c.args.core.now.world c.args.u)))) ∙ none_moved c.in-End.cause (unit_at c.args.core.now.world c.args.u) _ c.done-done.ensures))
+    c.end.ensures

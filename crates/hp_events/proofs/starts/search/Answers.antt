@@ -1,0 +1,16 @@
+use Rattle.std.proofs.Common.{◌∙◌}
+use Rattle.hp_machine.specs.World.{unit_at}
+use Rattle.hp_machine.specs.Acts.{Search}
+use Rattle.hp_events.proofs.One.{told, none_moved}
+use Rattle.hp_events.proofs.starts.search.Goals as goal
+
+pub returns-in-Command : goal.returns-in-Command
+returns-in-Command g c = told _ _ _ _ _ _ _ _ _ _ _ _ _ (c.in-Command.ensures (Search c.args.target c.args.sector)) c.search.ensures
+
+pub returns-in-Pack : goal.returns-in-Pack
+returns-in-Pack g c = told _ _ _ _ _ _ _ _ _ _ _ _ _ (c.in-Pack.ensures (Search c.args.target c.args.sector)) c.pack.ensures
+
+pub returns-in-End : goal.returns-in-End
+returns-in-End g c =
+    told _ _ _ _ _ _ _ _ _ _ _ _ _
+    (c.in-End.ensures (Search c.args.target c.args.sector) ∙ none_moved c.in-End.cause (unit_at c.args.core.now.world c.args.u) _ c.done-done.ensures) c.end.ensures

@@ -1,0 +1,16 @@
+use Rattle.std.proofs.Common.{sym, ap, ◌∙◌}
+use Rattle.hp_machine.specs.World.{unit_at}
+use Rattle.hp_machine.specs.Acts.{End}
+use Rattle.hp_events.specs.Hand.{hand_at}
+use Rattle.hp_events.proofs.One.{told, silent, finish_all, finish_some}
+use Rattle.hp_events.proofs.verdicts.finish.Goals as goal
+
+pub returns-then-done-asked : goal.returns-then-done-asked
+returns-then-done-asked g c =
+    told _ _ _ _ _ _ _ _ _ _ _ _ _
+    (finish_all c.args.moved c.args.done (unit_at c.args.core.now.world c.args.u) (hand_at c.args.core.now.world c.args.u) c.args.asked c.requires.asked c.requires.done c.if-done-asked.true ∙ ap End (sym (c.answer.ensures (hand_at c.args.core.now.world c.args.u) c.requires.asked)))
+    c.end.ensures
+
+pub returns-else-done-asked : goal.returns-else-done-asked
+returns-else-done-asked g c =
+    silent _ _ _ _ _ _ _ _ _ _ _ _ (finish_some c.args.moved c.args.done (unit_at c.args.core.now.world c.args.u) (hand_at c.args.core.now.world c.args.u) c.args.asked c.requires.asked c.requires.done c.if-done-asked.false) c.go_on.ensures

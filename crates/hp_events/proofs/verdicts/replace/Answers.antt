@@ -1,0 +1,20 @@
+use Rattle.std.proofs.Common.{ℕ, sym, ap, ◌∙◌}
+use Rattle.std.specs.Prelude.{Option}
+use Rattle.hp_machine.specs.declared.Cause.TheVariants.{Unforwarded}
+use Rattle.hp_machine.specs.World.{unit_at}
+use Rattle.hp_machine.specs.Due.{forward_by}
+use Rattle.hp_events.proofs.One.{told, silent, some_moved}
+use Rattle.hp_events.proofs.verdicts.replace.Goals as goal
+
+pub returns-in-Some : goal.returns-in-Some
+returns-in-Some g c =
+    silent _ _ _ _ _ _ _ _ _ _ _ _
+    (ap (λ (o : Option ℕ). forward_by o c.args.moved (unit_at c.args.core.now.world c.args.u)) (sym c.in-Some.ensures))
+    c.forward.ensures
+
+pub returns-in-None : goal.returns-in-None
+returns-in-None g c =
+    told _ _ _ _ _ _ _ _ _ _ _ _ _
+    (ap (λ (o : Option ℕ). forward_by o c.args.moved (unit_at c.args.core.now.world c.args.u)) (sym c.in-None.ensures)
+    ∙ some_moved Unforwarded c.args.moved (unit_at c.args.core.now.world c.args.u) _ c.requires.done)
+    c.end.ensures

@@ -1,0 +1,27 @@
+-- What a call that does acts one after another comes to.
+use Rattle.std.specs.Prelude.{◌≡◌, ℕ, Bool, IsTrue, List, Result, IfErr}
+use Rattle.pack_model.specs.Pack.{Pack}
+use Rattle.mass_outside.specs.Causes.{HasCause}
+use Rattle.hp_machine.specs.World.{World}
+use Rattle.hp_machine.specs.Acts.{Act, after_all}
+use Rattle.hp_machine.specs.Sound.{Sound}
+use Rattle.hp_work.specs.Runs.{Run}
+use Rattle.hp_outcome.specs.Outcome.{Outcome, stop_in}
+use Rattle.hp_outcome.specs.declared.Stop.{Stop}
+use Rattle.hp_outcome.specs.declared.Stop.TheVariants.{Sink}
+use Rattle.hp_core.specs.State.{State, site}
+
+-- ACTS AND THEIR LINES, whatever the packs hold: the call comes to what the acts come to. A failure has its cause, and is the
+-- trace's.
+pub record DoesActs {O A : Type 0} (tells : O → Bool) (taken : O → List ℕ) (faults : O → ℕ) (trace trace' : O) (old new : State) (result : Result A Stop) (acts : List Act) : Type 0 where
+  pub outcome : (told : Bool) (packs : ℕ → Pack)
+      → Outcome (record { packs = told; trace = tells trace' }) acts (site old packs (taken trace)) (site new packs (taken trace')) (stop_in result)
+  pub stop : IfErr result (λ stop. stop ≡ Sink)
+  pub never_again : IsTrue (tells trace') → IsTrue (tells trace)
+  pub cause : HasCause (faults trace) (faults trace') result
+
+-- WHERE NOTHING FAILED all acts ran: the world is as they leave it, and sound.
+pub record AllDone (old new : World) (acts : List Act) : Type 0 where
+  pub run : Run old acts
+  pub world : new ≡ after_all old acts
+  pub sound : Sound new

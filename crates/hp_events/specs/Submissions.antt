@@ -1,0 +1,27 @@
+-- What a submission comes to.
+use Rattle.std.specs.Prelude.{◌≡◌, ℕ, Bool, List, Result}
+use Rattle.subsystem_spec.specs.Requests.{Request}
+use Rattle.hp_machine.specs.declared.AnswerKind.{AnswerKind}
+use Rattle.hp_machine.specs.World.{World, Held}
+use Rattle.hp_machine.specs.Acts.{Refuse}
+use Rattle.hp_machine.specs.Events.{joined_acts}
+use Rattle.hp_machine.specs.Guards.{Allowed, IsNew}
+use Rattle.request_slots.specs.declared.asked.Asked.{Asked}
+use Rattle.request_slots.specs.Requests.{IsHeldFor}
+use Rattle.hp_outcome.specs.declared.Stop.{Stop}
+use Rattle.hp_core.specs.State.{State}
+use Rattle.hp_events.specs.Done.{DoesActs}
+
+-- a request of this unit and id is to be refused so
+pub record MayRefuse (w : World) (line u id : ℕ) (kind : AnswerKind) : Type 0 where
+  pub request : Request
+  pub unit : request.unit ≡ u
+  pub named : request.id ≡ id
+  pub may : Allowed w (Refuse line request kind)
+
+-- A REQUEST JOINS in a slot with these bytes, and then comes what is due at its unit and its adapter.
+pub record Submits {O : Type 0} (tells : O → Bool) (taken : O → List ℕ) (faults : O → ℕ) (trace trace' : O) (old new : State) (result : Result (Unit {0}) Stop) (line p : ℕ) (asked : Asked) (bytes : List ℕ) : Type 0 where
+  pub held : Held
+  pub is : IsHeldFor asked bytes held
+  pub may : IsNew old.world p held
+  pub does : DoesActs tells taken faults trace trace' old new result (joined_acts line p held old.world)
