@@ -1,103 +1,120 @@
--- What the subsystem keeps from call to call.
-use Rattle.std.proofs.Common.{◌≡◌, ℕ, ◌<◌, ◌≤◌, Bool, true, false, List, [], ◌∷◌, drop, map, refl, sym, ap, ◌∙◌, subst, None, Some, Option, inl}
-use Rattle.std.specs.Prelude.{IsSome, IfSome, IfNone, is_some}
-use Rattle.driver_machine.specs.declared.Answer.{Answer}
-use Rattle.driver_machine.specs.declared.Made.{Made}
-use Rattle.pack_model.specs.Pack.{Pack, empty_pack}
-use Rattle.driver_machine.specs.declared.Event.{Event}
-use Rattle.driver_machine.specs.declared.UnitSetup.{UnitSetup}
-use Rattle.driver_machine.specs.Places.{Held, slot_at}
-use Rattle.driver_machine.specs.World.{World, AreSetups, new_world, held_in}
-use Rattle.driver_machine.specs.Acts
-use Rattle.driver_machine.specs.Acts.{Act, Tried, FirstWaits}
-use Rattle.driver_machine.specs.Does.{Does, Quiet, Run, after_all}
-use Rattle.driver_machine.specs.Events.{submit_acts, event_acts, IsThere, next_of, NoneOutstanding}
-use Rattle.driver_machine.specs.Measure.{work_left}
-use Rattle.driver_machine.specs.Sound.{AtWork, Among, IsMade}
-use Rattle.driver_laws.proofs.Next.{next_none, next_there}
-use Rattle.driver_laws.proofs.Drain.{drain_falls}
-use Rattle.driver_laws.proofs.Each.{places_after_all}
-use Rattle.driver_laws.proofs.Sound.{sound_after, sound_all}
-use Rattle.driver_laws.proofs.SoundNew.{sound_new}
-use Rattle.driver_laws.proofs.AtWork.{work_submit, work_event, work_taken, work_new}
-use Rattle.driver_laws.proofs.Given.{given_all, given_new, places_new}
-use Rattle.hp_driver.specs.Subsystem.{IsKept, IsOldest}
-use Rattle.driver_laws.proofs.Lists.{held_is}
+-- What holds of the subsystem between any two calls.
+use Rattle.std.proofs.Common.{◌≡◌, ℕ, ◌<◌, ◌≤◌, Bool, true, false, List, [], ◌∷◌, length, drop, Option, Some, None, refl, sym, ap, ◌∙◌, subst, arith}
+use Rattle.std.specs.Prelude.{min, ◌↔◌, IfSome, IsSome, is_some, Contains, unwrap_or}
+use Rattle.std.specs.Option.{option_map}
+use Rattle.std.proofs.lemmas.Bool.{false≢true}
+use Rattle.std.proofs.lemmas.List.{length-replicate}
+use Rattle.std.proofs.lemmas.Option.{none-some}
+use Rattle.trace_replay.specs.Script as script
+use Rattle.trace_replay.specs.Script.{Input}
+use Rattle.hp_machine.specs.declared.AnswerKind.TheVariants.{ReadOk}
+use Rattle.hp_machine.specs.declared.Made.{Made}
+use Rattle.hp_machine.specs.World.{World, Held, Setup, no_held, new_world, slot_at, held_in}
+use Rattle.hp_machine.specs.Acts.{Taken}
+use Rattle.hp_machine.specs.Events.{next_event}
+use Rattle.hp_machine.specs.Refusals.{refuses}
+use Rattle.hp_machine.specs.Sound.{Sound, AtWork, IsMade, IsGiven}
+use Rattle.hp_slots.specs.Parts.{AreSetups}
+use Rattle.hp_slots.proofs.Lists.{Contains-first}
+use Rattle.hp_slots.proofs.Starts.{sound_new, rests_new}
+use Rattle.hp_work.specs.Runs.{CanCome, NoneOutstanding}
+use Rattle.hp_work.proofs.Calls.{taken_works}
+use Rattle.hp_work.proofs.Next.{next_none, next_can}
+use Rattle.hp_invariant.proofs.Sound.{sound_after}
+use Rattle.hp_trace.proofs.LiveNoises.{none_at_start}
+use Rattle.hp_core.specs.State as core
+use Rattle.hp_core.specs.Done.{DoesSilently}
+use Rattle.hp_events.specs.declared.drain.Event.{Event}
+use Rattle.hp_events.specs.Inputs.{input_of}
+use Rattle.hp_drains.specs.Drains.{DrainsFall}
+use Rattle.hp_driver.specs.Subsystem.{IsKept, IsThere, LeavesFewer, Reads}
+use Rattle.hp_driver.specs.Calls.{Ran}
+use Rattle.hp_driver.proofs.Behind.{ran_sound, ran_noise, ran_slots}
+use Rattle.hp_driver.proofs.Calls.{silent_kept}
 
--- after acts that leave every unit at work
-kept_by : (w now : World) (acts : List Act) → IsKept w → Run w acts → now ≡ after_all w acts → AtWork (after_all w acts) → IsKept now
-kept_by w now acts kept run same work = subst IsKept (sym same) (record {
-  sound = sound_all w acts kept.sound run;
-  work = work;
-  given = given_all w acts kept.sound run kept.given;
-  few = subst (λ (n : ℕ). n ≤ 129) (sym (places_after_all w acts)) kept.few;
-})
-
-pub kept_submit : (w now : World) (line p : ℕ) (h : Held) → IsKept w → Quiet (submit_acts line p h w) w now → IsKept now
-kept_submit w now line p h kept quiet =
-    let does : Does (submit_acts line p h w) w now false (λ u. empty_pack) (λ u. empty_pack) = quiet false (λ u. empty_pack) in
-    kept_by w now (submit_acts line p h w) kept does.run does.world (work_submit sound_after w line p h kept.sound kept.work does.run)
-
-pub kept_event : (w now : World) (line : ℕ) (e : Event) (t : Tried) (tells : Bool) (held held_after : ℕ → Pack) → IsKept w → IsThere w e
-    → Does (event_acts line e t w) w now tells held held_after → IsKept now
-kept_event w now line e t tells held held_after kept there does =
-    kept_by w now (event_acts line e t w) kept does.run does.world (work_event sound_after w line e t kept.sound kept.work there does.run)
-
-pub kept_taken : (w now : World) (p : ℕ) → IsKept w → Quiet (Acts.Taken p ∷ []) w now → IsKept now
-kept_taken w now p kept quiet =
-    let does : Does (Acts.Taken p ∷ []) w now false (λ u. empty_pack) (λ u. empty_pack) = quiet false (λ u. empty_pack) in
-    kept_by w now (Acts.Taken p ∷ []) kept does.run does.world (work_taken w p kept.work)
-
-pub kept_new : (setups : List UnitSetup) (outstanding noises : ℕ) → AreSetups setups → outstanding ≤ 129 → IsKept (new_world setups outstanding noises)
+-- AT THE START,
+pub kept_new : (setups : List Setup) (outstanding noises : ℕ) → AreSetups setups → outstanding ≤ 65536
+    → IsKept (record { world = new_world setups (min outstanding 16384) noises; outstanding = outstanding; failed = false }) []
 kept_new setups outstanding noises are few = record {
-  sound = sound_new setups outstanding noises are;
-  work = work_new setups outstanding noises;
-  given = given_new setups outstanding noises;
-  few = subst (λ (n : ℕ). n ≤ 129) (sym (places_new setups outstanding noises)) few;
+  sound = sound_new setups (min outstanding 16384) noises are;
+  work = λ e. rests_new setups (min outstanding 16384) noises are;
+  noise = none_at_start setups (min outstanding 16384) noises;
+  slots = length-replicate (min outstanding 16384) None;
+  few = few;
+  sent = λ e. refl;
 }
 
--- the oldest answer's place has its request, whose buffer is the driver's
-pub first_made : (w : World) (p : ℕ) → IsKept w → FirstWaits w.answers p → IsSome (slot_at w.places p) × ((held_in w p).on_bus ≡ false)
-first_made w p kept first =
-    let made : IsMade w p = kept.sound.answers p (among w.answers first) in
-    let held : held_in w p ≡ made.held = held_is w p made.held made.slot in
-    (ap is_some made.slot, ap (λ (h : Held). h.on_bus) held ∙ off made.held.on_bus (λ b. both made.held.ended made.over ((kept.sound.each_place p made.held made.slot).bus b).2))
-  where
-    among : (xs : List Made) → FirstWaits xs p → Among p (map (λ (m : Made). m.place) xs)
-    among [] f = absurd f
-    among (made ∷ rest) f = inl (sym f)
+-- and behind the taking of an answer.
+pub kept_taken : (old new : core.State) (outstanding : ℕ) (failed : Bool) → 0 < length old.world.answers → IsKept (record { world = old.world; outstanding = outstanding; failed = failed }) old.kept
+    → DoesSilently old new Taken → IsKept (record { world = new.world; outstanding = outstanding; failed = failed }) new.kept
+kept_taken old new outstanding failed some is does =
+    let ran : Ran old.world new.world = record { acts = Taken ∷ []; run = (some, tt); world = does.world } in
+    record {
+      sound = ran_sound old.world new.world ran is.sound;
+      work = λ e. subst AtWork (sym does.world) (taken_works sound_after old.world is.sound (is.work e) some).work;
+      noise = ran_noise old.world new.world ran is.noise;
+      slots = ran_slots old.world new.world ran ∙ is.slots;
+      few = is.few;
+      sent = λ e. silent_kept old new Taken refl does ∙ is.sent e;
+    }
 
-    both : (b : Bool) → b ≡ true → b ≡ false → ⊥
-    both b x y = cc
+pub some_wait : (made : Made) (answers : List Made) → answers ≡ made ∷ drop 1 answers → 0 < length answers
+some_wait made [] is = absurd (cc)
+some_wait made (x ∷ answers) is = omega arith
 
-    off : (b : Bool) → (b ≡ true → ⊥) → b ≡ false
-    off true f = absurd (f refl)
-    off false f = refl
+-- THE NEXT EVENT is none just where no request is outstanding, and speaks of what is there.
+pub next_over : (w : World) (o : Option Event) → Sound w → AtWork w → option_map input_of o ≡ next_event w → (o ≡ None) ↔ NoneOutstanding w
+next_over w None sound work is = ((λ e. (next_none w sound work).0 (sym is)), (λ n. refl))
+next_over w (Some event) sound work is =
+    ((λ e. absurd (none-some event (sym e))), (λ n. absurd (none-some (input_of event) (sym ((next_none w sound work).1 n) ∙ sym is))))
 
--- THE NEXT EVENT.
-pub next_none_is : (w : World) (o : Option Event) → IsKept w → o ≡ next_of w → (o ≡ None → NoneOutstanding w) × (NoneOutstanding w → o ≡ None)
-next_none_is w o kept is =
-    let both = next_none w kept.sound kept.work in
-    (λ e. both.0 (sym is ∙ e), λ over. is ∙ both.1 over)
+can_there : (w : World) (input : Input) → CanCome w input → IsThere w input
+can_there w (script.ArriveAt u) can = can.0
+can_there w (script.MoveAt a) can = can.0
+can_there w (script.AttendTo a) can = can.0
+can_there w other can = absurd can
 
-pub next_there_is : (w : World) (o : Option Event) → IsKept w → o ≡ next_of w → IfSome o (λ e. IsThere w e)
-next_there_is w None kept is = tt
-next_there_is w (Some e) kept is = next_there w e kept.sound (sym is)
+pub next_there : (w : World) (o : Option Event) → Sound w → option_map input_of o ≡ next_event w → IfSome o (λ event. IsThere w (input_of event))
+next_there w None sound is = tt
+next_there w (Some event) sound is = can_there w (input_of event) (next_can w (input_of event) sound (sym is))
 
-pub next_falls : (w : World) (o : Option Event) → IsKept w → o ≡ next_of w → IfSome o (λ e. (line : ℕ) → (t : Tried) → Run w (event_acts line e t w)
-    → work_left (after_all w (event_acts line e t w)) < work_left w)
-next_falls w None kept is = tt
-next_falls w (Some e) kept is = λ line t run. drain_falls sound_after w line e t kept.sound (sym is) run
+-- A READ that was answered has a slot.
+first_same : {x y : Made} {xs ys answers : List Made} → answers ≡ x ∷ xs → answers ≡ y ∷ ys → x ≡ y
+first_same e f = cc
 
--- ANSWERS. What taking one leaves.
-pub kept_take : (w now : World) (o : Option Answer) → IsKept w
-    → IfSome o (λ answer. (place : ℕ) × (w.answers ≡ record { place = place; answer = answer } ∷ drop 1 w.answers) × Quiet (Acts.Taken place ∷ []) w now)
-    → IfNone o (w.answers ≡ []) → (w.answers ≡ [] → now ≡ w) → IsKept now
-kept_take w now None kept some none same = subst IsKept (sym (same none)) kept
-kept_take w now (Some answer) kept some none same = kept_taken w now some.0 kept some.2
+pub read_slot : (w : World) (k : ℕ) (made : Made) → Sound w → Reads w k → w.answers ≡ made ∷ drop 1 w.answers → made.slot ≡ None → ⊥
+read_slot w k made sound reads first none =
+    let same : reads.made ≡ made = first_same reads.oldest.first first in
+    false≢true (subst (λ kind. refuses kind ≡ true) (ap (λ (m : Made). m.answer.kind) (sym same) ∙ reads.ok)
+    (sound.refused made (subst (λ (l : List Made). Contains l made) (sym first) (Contains-first made (drop 1 w.answers))) none))
 
-pub oldest_is : (w now : World) (o : Option Answer)
-    → IfSome o (λ answer. (place : ℕ) × (w.answers ≡ record { place = place; answer = answer } ∷ drop 1 w.answers) × Quiet (Acts.Taken place ∷ []) w now)
-    → IfSome o (λ answer. (place : ℕ) × IsOldest w.answers place answer × Quiet (Acts.Taken place ∷ []) w now)
-oldest_is w now None some = tt
-oldest_is w now (Some answer) some = (some.0, subst (λ (xs : List Made). IsOldest xs some.0 answer) (sym some.1) (refl, refl), some.2)
+-- THE BLOCKS OF A READ are there, and no adapter has them.
+pub record IsAnswered (w : World) (p k : ℕ) : Type 0 where
+  pub there : IsSome (slot_at w p)
+  pub cpu : (held_in w p).on_bus ≡ false
+  pub inside : k < (held_in w p).loan.count
+
+module _ (w : World) (p k : ℕ) (sound : Sound w) where
+  answered_by : (made : Made) (count last : ℕ) → IsMade w made p → made.answer.kind ≡ ReadOk count last → k < count → IsAnswered w p k
+  answered_by made count last is kind less = record {
+    there = ap (λ (o : Option Held). is_some o) is.slot;
+    cpu = ap (λ (o : Option Held). (unwrap_or o no_held).on_bus) is.slot ∙ by_bus is.held.on_bus refl;
+    inside = subst (λ (o : Option Held). k < (unwrap_or o no_held).loan.count) (sym is.slot)
+        (subst (λ (n : ℕ). k < n) (subst (λ kind. IsGiven is.held kind) kind is.given).1 less);
+  }
+    where
+      by_bus : (b : Bool) → is.held.on_bus ≡ b → is.held.on_bus ≡ false
+      by_bus true on = absurd (false≢true (sym (((sound.each_slot p is.held is.slot).bus on).2) ∙ is.over))
+      by_bus false off = off
+
+  pub answered : (made : Made) → w.answers ≡ made ∷ drop 1 w.answers → made.slot ≡ Some p → Reads w k → IsAnswered w p k
+  answered made first slot reads =
+      let same : reads.made ≡ made = first_same reads.oldest.first first in
+      answered_by made reads.count reads.last (sound.answers made p (subst (λ (l : List Made). Contains l made) (sym first) (Contains-first made (drop 1 w.answers))) slot)
+      (ap (λ (m : Made). m.answer.kind) (sym same) ∙ reads.ok) reads.inside
+
+-- so each event that comes next leaves fewer lines
+pub next_falls : (w : World) (result : Option Event) → DrainsFall → option_map input_of result ≡ next_event w → IfSome result (λ event. LeavesFewer w (input_of event))
+next_falls w None law is = tt
+next_falls w (Some event) law is = λ drives tables surface line tried moments held asked draining may reads.
+    law drives tables surface line (input_of event) tried moments held w asked draining (sym is) may reads

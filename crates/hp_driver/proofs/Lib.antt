@@ -1,2 +1,9 @@
-pub mod Joins
-pub mod Kept
+mod Sent
+mod Behind
+mod Moves
+mod Room
+mod Calls
+mod Moved
+mod Happens
+mod Asking
+mod Kept

@@ -1,1 +1,2 @@
 pub mod Subsystem
+pub mod Calls

@@ -1,32 +1,131 @@
--- The subsystem as its users' contracts see it.
-use Rattle.std.specs.Prelude.{◌≡◌, ℕ, ◌<◌, ◌≤◌, Bool, List, [], ◌∷◌, length}
-use Rattle.driver_machine.specs.declared.Answer.{Answer}
-use Rattle.driver_machine.specs.declared.AnswerKind.{AnswerKind}
-use Rattle.driver_machine.specs.declared.AnswerKind.TheVariants.{ReadOk, WriteOk, Error}
-use Rattle.driver_machine.specs.declared.Made.{Made}
-use Rattle.driver_machine.specs.World.{World}
-use Rattle.driver_machine.specs.Sound.{Sound, AtWork, AllGiven, count_at}
+-- The driver as its users' contracts see it: what may be asked of it, and what each call comes to.
+use Rattle.std.specs.Prelude.{◌≡◌, ◌≢◌, ℕ, ◌<◌, ◌≤◌, min, Bool, true, false, if◌then◌else◌, IsTrue, List, [], ◌∷◌, ◌++◌, length, drop, Option, None, Some, Result, Ok, Err}
+use Rattle.pack_geometry.specs.declared.DriveKind.{DriveKind}
+use Rattle.pack_model.specs.Pack.{Pack}
+use Rattle.pack_model.specs.TableSpelling.{Table}
+use Rattle.mass_outside.specs.declared.traits.SinkFailed.{SinkFailed}
+use Rattle.subsystem_spec.specs.Requests as told
+use Rattle.subsystem_spec.specs.Requests.{IsRequest}
+use Rattle.trace_replay.specs.Moments.{Moment}
+use Rattle.trace_replay.specs.Packs.{Surface}
+use Rattle.trace_replay.specs.Replay.{new_replay, after_moments}
+use Rattle.trace_replay.specs.Script as script
+use Rattle.trace_replay.specs.Script.{Input}
+use Rattle.hp_machine.specs.declared.AnswerKind.TheVariants.{ReadOk}
+use Rattle.hp_machine.specs.declared.Made.{Made}
+use Rattle.hp_machine.specs.World.{World, Held, unit_at, slot_at}
+use Rattle.hp_machine.specs.Acts.{Tried}
+use Rattle.hp_machine.specs.Lines.{lines_of_all}
+use Rattle.hp_machine.specs.Events.{refusal_of, submit_acts, event_acts}
+use Rattle.hp_machine.specs.Guards.{IsSetUp, IsHeldFor, MayChange}
+use Rattle.hp_machine.specs.Sound.{Sound, AtWork}
+use Rattle.hp_work.specs.Runs.{MaySubmit, MayCome}
+use Rattle.hp_outcome.specs.declared.Stop.{Stop}
+use Rattle.hp_outcome.specs.declared.Stop.TheVariants.{Sink}
+use Rattle.hp_outcome.specs.Outcome.{Site, Outcome}
+use Rattle.hp_counts.specs.Counts.{in_use}
+use Rattle.hp_trace.specs.Calls.{IsReadOf}
+use Rattle.hp_trace.specs.Noises.{AllFlip}
+use Rattle.hp_trace.specs.Runs.{IsDraining}
+use Rattle.hp_drains.specs.Drains.{AreAsked, Falls}
+use Rattle.hp_driver.specs.declared.request.Request.{Request}
 
--- its world, and whether one of its calls has failed
+-- its world, how many requests may be outstanding at once, and whether one of its calls has failed
 pub record State : Type 0 where
   pub world : World
+  pub outstanding : ℕ
   pub failed : Bool
 
--- Between two calls the world is sound, every unit is at work, an answer that waits gives what its place has, and the
--- places are few enough for main memory.
-pub record IsKept (w : World) : Type 0 where
-  pub sound : Sound w
-  pub work : AtWork w
-  pub given : AllGiven (count_at w.places) w.answers
-  pub few : length w.places ≤ 129
+-- BETWEEN TWO CALLS the world is sound and, unless a call failed, at work with its trace sent; there are slots for all requests
+-- that can hold frames.
+pub record IsKept (s : State) (kept : List ℕ) : Type 0 where
+  pub sound : Sound s.world
+  pub work : s.failed ≡ false → AtWork s.world
+  pub noise : AllFlip s.world.book.live
+  pub slots : length s.world.slots ≡ min s.outstanding 16384
+  pub few : s.outstanding ≤ 65536
+  pub sent : s.failed ≡ false → kept ≡ []
 
--- the oldest answer that waits, with the place of its request
-abbrev pub IsOldest : List Made → ℕ → Answer → Type 0
-IsOldest [] p a = ⊥
-IsOldest (made ∷ rest) p a = (made.place ≡ p) × (made.answer ≡ a)
+-- what a call works on: the world, what the packs hold, and the text that the trace took
+abbrev pub seen : World → (ℕ → Pack) → List ℕ → Site
+seen w packs text = record { world = w; held = packs; text = text }
 
--- an answer gives block k
-abbrev pub Gives : AnswerKind → ℕ → Type 0
-Gives (ReadOk count) k = k < count
-Gives WriteOk k = ⊥
-Gives (Error cause done) k = ⊥
+-- WHAT IS ASKED, with the bytes of a write
+abbrev pub asked : Request → List ℕ → told.Request
+asked r bytes = record {
+  id = r.id;
+  unit = r.unit;
+  part = r.part;
+  block = r.block;
+  count = r.count;
+  last = r.last;
+  offset = r.offset;
+  written = if r.write then Some bytes else None;
+}
+
+-- What may be asked: a request to a unit that is set up, with just the bytes of a write and none for a read, whose id no request
+-- that is outstanding has; and there is room for one more.
+pub record IsAsked (s : State) (r : Request) (bytes : List ℕ) : Type 0 where
+  pub unit : IsSetUp s.world r.unit
+  pub request : IsRequest (asked r bytes)
+  pub none : r.write ≡ false → bytes ≡ []
+  pub fresh : (q : ℕ) (g : Held) → slot_at s.world q ≡ Some g → g.ended ≡ false → g.id ≢ r.id
+  pub room : in_use s.world.slots < s.outstanding
+
+-- A SUBMISSION comes to its acts: the request is refused, or joins in some slot as it was asked. The packs are not touched.
+pub record Submits {O : Type 0} (tells : O → Bool) (taken : O → List ℕ) (trace trace' : O) (line : ℕ) (r : told.Request) (old new : World) (stop : Option Stop) : Type 0 where
+  pub slot : ℕ
+  pub held : Held
+  pub may : MaySubmit old r slot held
+  pub is : refusal_of r old ≡ None → IsHeldFor (unit_at old held.unit).drive.kind r held
+  pub outcome : (packs : Bool) (packs_held : ℕ → Pack) → Outcome (record { packs = packs; trace = tells trace' }) (submit_acts r line slot held old)
+      (seen old packs_held (taken trace)) (seen new packs_held (taken trace')) stop
+
+-- WHAT AN EVENT SPEAKS OF is there, and a condition may change.
+abbrev pub IsThere : World → Input → Type 0
+IsThere w (script.Submit r) = ⊥
+IsThere w (script.ArriveAt u) = IsSetUp w u
+IsThere w (script.MoveAt a) = a < 4
+IsThere w (script.AttendTo a) = a < 4
+IsThere w script.Drain = ⊥
+IsThere w input = MayChange w input
+
+-- A DRAIN COMES TO ITS END. Behind any run that drains and stands for this world, an event leaves fewer event lines to come, of which
+-- there are at most 200 for each block of the requests that are outstanding.
+abbrev pub LeavesFewer : World → Input → Type 0
+LeavesFewer w input = (drives : ℕ → Option DriveKind) (tables : ℕ → Option Table) (surface : Surface) (line : ℕ) (tried : Tried) (moments : List Moment) (held : ℕ → Pack)
+    → AreAsked (new_replay drives tables surface).there moments → IsDraining (new_replay drives tables surface) line moments held w
+    → MayCome w input tried → IsReadOf w held input tried
+    → Falls (after_moments (new_replay drives tables surface) moments)
+    (after_moments (new_replay drives tables surface) (moments ++ lines_of_all w (event_acts line input tried w)))
+
+-- only a move touches the packs
+abbrev pub is_move : Input → Bool
+is_move (script.MoveAt a) = true
+is_move input = false
+
+-- AN EVENT comes to its acts, with some sector that is tried where one is: one that the rules of the move allow, of what the packs hold.
+pub record Comes {O Q : Type 0} (holds : Q → Bool) (held : Q → ℕ → Pack) (tells : O → Bool) (taken : O → List ℕ) (packs packs' : Q) (trace trace' : O) (line : ℕ) (input : Input) (old new : World) (stop : Option Stop) : Type 0 where
+  pub tried : Tried
+  pub may : stop ≡ None → MayCome old input tried
+  pub reads : stop ≡ None → IsTrue (holds packs') → IsReadOf old (held packs) input tried
+  pub outcome : Outcome (record { packs = holds packs'; trace = tells trace' }) (event_acts line input tried old)
+      (seen old (held packs) (taken trace)) (seen new (held packs') (taken trace')) stop
+
+-- the oldest answer that waits
+pub record IsOldest (w : World) (made : Made) : Type 0 where
+  pub first : w.answers ≡ made ∷ drop 1 w.answers
+
+-- block k of a read, where the oldest answer is of that
+pub record Reads (w : World) (k : ℕ) : Type 0 where
+  pub made : Made
+  pub oldest : IsOldest w made
+  pub count : ℕ
+  pub last : ℕ
+  pub ok : made.answer.kind ≡ ReadOk count last
+  pub inside : k < count
+
+-- what stopped a submission, if something did: the trace
+abbrev pub sink_in : {A : Type 0} → Result A SinkFailed → Option Stop
+sink_in (Ok value) = None
+sink_in (Err failed) = Some Sink

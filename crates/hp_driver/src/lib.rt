@@ -1,16 +1,18 @@
-//! The driver of the disks, after 4.3BSD's `hp.c` and `mba.c`: the queues of the units, positioning, transfers sector by
-//! sector, and interrupts.
+//! The driver of the disks, after 4.3BSD's `hp.c` and `mba.c`: what its users call. A call comes to the acts that the driver's
+//! machine gives for it, with their lines told to a trace.
 #![tactic(auto)]
 
-mod answers;
-mod channel;
-mod driver;
 mod events;
-mod stop;
+mod request;
+mod submission;
 mod subsystem;
-mod unit;
-mod views;
 
-pub use driver_machine::{Answer, AnswerKind, Cause, Event, Request, UnitSetup};
-pub use stop::Stop;
+pub use hp_core::UnitSetup;
+pub use hp_events::Event;
+pub use hp_machine::{Answer, AnswerKind, Cause};
+pub use hp_outcome::Stop;
+pub use request::Request;
 pub use subsystem::Subsystem;
+
+#[cfg(test)]
+mod tests;

@@ -1,25 +1,38 @@
 // The subsystem: what its users call.
-ghost use Rattle.std.specs.Prelude.{◌≡◌, ◌↔◌, ℕ, ◌<◌, ◌≤◌, ◌*◌, List, [], ◌∷◌, length, true, false, None, IsTrue, IsNone, IsOk, IfOk, IfSome, IfNone, OnOk, OnErr, IsErrOf};
+ghost use Rattle.std.specs.Prelude.{◌≡◌, ◌↔◌, ℕ, ◌<◌, ◌≤◌, [], min, true, false, None, Some, IsTrue, IfOk, IfSome, IfNone, OnOk, OnErr, IsErrOf};
 ghost use Rattle.mass_outside.specs.Causes.{Rose, HasCause};
-ghost use Rattle.driver_machine.specs.Places.{Held, IsHeldFor, in_use, block_in};
-ghost use Rattle.driver_machine.specs.World.{AreSetups, new_world, held_in};
-ghost use Rattle.driver_machine.specs.Acts.{Tried, Taken};
-ghost use Rattle.driver_machine.specs.Does.{Does, Quiet, Run, after_all};
-ghost use Rattle.driver_machine.specs.Events.{IsAsked, IsThere, submit_acts, event_acts, next_of, NoneOutstanding};
-ghost use Rattle.driver_machine.specs.Measure.{work_left, blocks_outstanding};
-ghost use Rattle.hp_driver.specs.Subsystem.{IsOldest, Gives};
+ghost use Rattle.main_memory.specs.Bytes.{filled};
+ghost use Rattle.hp_machine.specs.declared.Made.{Made};
+ghost use Rattle.hp_machine.specs.World.{new_world, held_in, block_in};
+ghost use Rattle.hp_machine.specs.Acts.{Taken, after};
+ghost use Rattle.hp_machine.specs.Events.{next_event};
+ghost use Rattle.hp_machine.specs.Sound.{Sound, AtWork};
+ghost use Rattle.hp_slots.specs.Parts.{AreSetups};
+ghost use Rattle.hp_work.specs.Runs.{NoneOutstanding};
+ghost use Rattle.hp_outcome.specs.declared.Stop.TheVariants.{Store, Sink as SinkStop};
+ghost use Rattle.hp_outcome.specs.Outcome.{stop_in};
+ghost use Rattle.hp_core.specs.Setups.{setups_of};
+ghost use Rattle.trace_bounds.specs.Commands.{CommandsAreBounded};
+ghost use Rattle.hp_events.specs.Inputs.{input_of};
+ghost use Rattle.hp_driver.specs.Subsystem.{asked, IsAsked, Submits, IsThere, is_move, Comes, LeavesFewer, IsOldest, Reads, sink_in};
 
-use crate::driver::Driver;
-use crate::stop::Stop;
-use driver_machine::{Answer, Event, Request, UnitSetup};
+use crate::request::Request;
+use crate::{events, submission};
+use hp_core::{Core, UnitSetup};
+use hp_drains::falls_law;
+use hp_events::Event;
+use hp_machine::Answer;
+use hp_outcome::Stop;
 use mass_outside::traits::{NoMemory, Packs, Sink, SinkFailed};
 use std::alloc::Global;
 use std::marker::Model;
+use trace_bounds::commands_law;
 
 /// The disks, their adapters, and the requests that are outstanding. Nothing is allocated once it is made.
 #[derive(Drop)]
 pub struct Subsystem {
-    driver: Driver,
+    core: Core,
+    outstanding: u32,
     failed: bool,
 }
 
@@ -28,127 +41,161 @@ impl Model for Subsystem {
 
     ghost Value = { State };
 
-    ghost view = { λ s. record { world = s.driver; failed = s.failed } };
+    ghost view = { λ s. record { world = s.core.world; outstanding = s.outstanding; failed = s.failed } };
 
-    ghost invariant = { λ s. IsKept s.driver };
+    ghost invariant = { λ s. IsKept (record { world = s.core.world; outstanding = s.outstanding; failed = s.failed }) s.core.kept };
 }
 
 impl Subsystem {
-    /// A subsystem with these units, whose drives are attached: nothing is asked, and no noise is armed. At most
-    /// `outstanding` requests, 129 at the most, are outstanding at once; room for `noises` lines of noise, 4,096 at the
-    /// most, is reserved. `NoMemory` where the memory is not to be had.
+    /// A subsystem with these units, which differ and are below 32, each with a table for its kind or none; their drives are
+    /// attached. Nothing is asked, and no noise is armed. At most `outstanding` requests, 65,536 at the most, are outstanding at
+    /// once; room for `noises` lines of noise, 4,096 at the most, is reserved. `NoMemory` where the memory is not to be had.
     pub fn new(
         alloc: Global,
         units: &[UnitSetup],
         outstanding: u32,
         noises: u32,
     ) -> Result<Subsystem, NoMemory>
-        requires units { AreSetups units.now }
-        requires few { outstanding ≤ 129 }
+        requires units { AreSetups (setups_of units.now) }
+        requires few { outstanding ≤ 65536 }
         requires noises { noises ≤ 4096 }
-        ensures { IfOk result (λ s. s ≡ record { world = new_world units.now outstanding noises; failed = false }) }
+        ensures { IfOk result (λ s. s ≡ record { world = new_world (setups_of units.now) (min outstanding 16384) noises; outstanding = outstanding; failed = false }) }
     {
-        let driver = Driver::new(alloc, units, outstanding, noises)?;
+        let core = Core::new(alloc, units, outstanding, noises)?;
         Ok(Subsystem {
-            driver,
+            core,
+            outstanding,
             failed: false,
         })
     }
 
-    /// Submits a request at a line of the script, with the bytes of a write. It joins its unit's queue; a unit that
-    /// waits is started, and then a free adapter. `trace` is not written yet, so this does not fail.
+    /// The law of the subsystem: between any two calls its world is sound, and no unit with a request stands still.
+    pub fn law(&self)
+        ensures sound { Sound self.now.world }
+        ensures work { self.now.failed ≡ false → AtWork self.now.world }
+    {
+        let _ = &self.core;
+    }
+
+    /// Submits a request at a line of the script, with the bytes of a write. It is refused at once, or joins its unit's queue;
+    /// a unit that waits is started, and then a free adapter. Fails only where the trace's count of faults rose; no further
+    /// submission or event may follow then.
     pub fn submit<T: Sink>(
         &mut self,
         line: u64,
         request: Request,
         bytes: &[u8],
-        _trace: &mut T,
+        trace: &mut T,
     ) -> Result<(), SinkFailed>
         requires going { self.old.failed ≡ false }
         requires none_waits { self.old.world.answers ≡ [] }
-        requires room { in_use self.old.world.places < length self.old.world.places }
-        requires asked { IsAsked self.old.world request (length bytes.now) }
-        ensures does { (p : ℕ) × (h : Held) × IsHeldFor request bytes.now h × Quiet (submit_acts line p h self.old.world) self.old.world self.new.world }
-        ensures ok { IsOk result }
-        ensures going { self.new.failed ≡ false }
-        ensures trace { _trace.new ≡ _trace.old }
-        ensures cause { HasCause (T.faults _trace.old) (T.faults _trace.new) result }
+        requires asked { IsAsked self.old request bytes.now }
+        ensures does { Submits T.tells T.taken trace.old trace.new line (asked request bytes.now) self.old.world self.new.world (sink_in result) }
+        ensures going { OnOk result (self.new.failed ≡ false) }
+        ensures failed { OnErr result (self.new.failed ≡ true) }
+        ensures outstanding { self.new.outstanding ≡ self.old.outstanding }
+        ensures never_again { IsTrue (T.tells trace.new) → IsTrue (T.tells trace.old) }
+        ensures cause { HasCause (T.faults trace.old) (T.faults trace.new) result }
     {
-        self.driver.submit(line, request, bytes);
-        Ok(())
+        match submission::submit(&mut self.core, line, request, bytes, trace) {
+            Ok(()) => Ok(()),
+            Err(_) => {
+                self.failed = true;
+                Err(SinkFailed)
+            }
+        }
     }
 
-    /// An event at a line of the script. Store comes only where the packs' count of faults rose in this call, Sink only
-    /// where that of the trace did; then no further submission or event may follow. `trace` is not written yet.
+    /// An event happens at a line of the script: a positioning ends, a sector is tried, an adapter's interrupt is delivered, or a
+    /// condition changes. Store comes only where the packs' count of faults rose, Sink only where the trace's did; no further
+    /// submission or event may follow then. Only a move touches the packs.
     pub fn event<P: Packs, T: Sink>(
         &mut self,
         line: u64,
         event: Event,
         packs: &mut P,
-        _trace: &mut T,
+        trace: &mut T,
     ) -> Result<(), Stop>
         requires going { self.old.failed ≡ false }
         requires none_waits { self.old.world.answers ≡ [] }
-        requires there { IsThere self.old.world event }
-        ensures does { OnOk result ((t : Tried) × Does (event_acts line event t self.old.world) self.old.world self.new.world
-            (P.tells packs.new) (P.held packs.old) (P.held packs.new)) }
+        requires there { IsThere self.old.world (input_of event) }
+        ensures does { Comes P.tells P.held T.tells T.taken packs.old packs.new trace.old trace.new line (input_of event) self.old.world self.new.world (stop_in result) }
         ensures going { OnOk result (self.new.failed ≡ false) }
-        ensures stopped { OnErr result (self.new ≡ record { world = self.old.world; failed = true }) }
+        ensures failed { OnErr result (self.new.failed ≡ true) }
+        ensures outstanding { self.new.outstanding ≡ self.old.outstanding }
+        ensures still { is_move (input_of event) ≡ false → packs.new ≡ packs.old }
         ensures never_again { IsTrue (P.tells packs.new) → IsTrue (P.tells packs.old) }
+        ensures never_again_trace { IsTrue (T.tells trace.new) → IsTrue (T.tells trace.old) }
         ensures later { P.faults packs.old ≤ P.faults packs.new }
-        ensures store { IsErrOf result Stop.Store → Rose (P.faults packs.old) (P.faults packs.new) }
-        ensures sink { IsErrOf result Stop.Sink → Rose (T.faults _trace.old) (T.faults _trace.new) }
-        ensures untold { IsErrOf result Stop.Sink → ⊥ }
-        ensures trace { _trace.new ≡ _trace.old }
+        ensures later_trace { T.faults trace.old ≤ T.faults trace.new }
+        ensures store { IsErrOf result Store → Rose (P.faults packs.old) (P.faults packs.new) }
+        ensures sink { IsErrOf result SinkStop → Rose (T.faults trace.old) (T.faults trace.new) }
+        ensures commands { CommandsAreBounded }
     {
-        match self.driver.event(line, event, packs) {
+        commands_law();
+        match events::happen(&mut self.core, line, event, packs, trace) {
             Ok(()) => Ok(()),
-            Err(_) => {
+            Err(stop) => {
                 self.failed = true;
-                Err(Stop::Store)
+                Err(stop)
             }
         }
     }
 
-    /// The drain's next event: the lowest unit that can arrive; else the lowest adapter that can move; else the lowest
-    /// adapter that can attend. None exactly where no request is outstanding. What is left to do, at most 200 for each
-    /// block of the requests that are outstanding, falls with each event that it gives: so each drain ends.
+    /// The drain's next event: the lowest unit that can arrive, else the lowest adapter that can move, else the lowest that can
+    /// attend. None exactly where no request is outstanding. With each event fewer lines `arrive`, `sector`, `intr` and `attn` are left to
+    /// come, of which there are at most 200 for each block that is outstanding: so each drain ends.
     pub fn next_event(&self) -> Option<Event>
-        requires { self.now.failed ≡ false }
-        ensures next { result ≡ next_of self.now.world }
+        requires going { self.now.failed ≡ false }
+        ensures next { IfSome result (λ event. next_event self.now.world ≡ Some (input_of event)) }
+        ensures over { IfNone result (next_event self.now.world ≡ None) }
         ensures none { (result ≡ None) ↔ NoneOutstanding self.now.world }
-        ensures there { IfSome result (λ e. IsThere self.now.world e) }
-        ensures falls { IfSome result (λ e. (line : ℕ) → (t : Tried) → Run self.now.world (event_acts line e t self.now.world)
-            → work_left (after_all self.now.world (event_acts line e t self.now.world)) < work_left self.now.world) }
-        ensures bound { work_left self.now.world ≤ 200 * blocks_outstanding self.now.world }
+        ensures there { IfSome result (λ event. IsThere self.now.world (input_of event)) }
+        ensures falls { IfSome result (λ event. LeavesFewer self.now.world (input_of event)) }
     {
-        self.driver.next_event()
+        falls_law();
+        hp_events::next_event(&self.core)
     }
 
     /// The oldest answer that waits. None exactly where none waits.
     pub fn answer(&self) -> Option<Answer>
-        ensures some { IfSome result (λ answer. (p : ℕ) × IsOldest self.now.world.answers p answer) }
+        ensures some { IfSome result (λ answer. (made : Made) × IsOldest self.now.world made × (made.answer ≡ answer)) }
         ensures none { (result ≡ None) ↔ (self.now.world.answers ≡ []) }
     {
-        self.driver.answer()
+        match self.core.first_answer() {
+            Some(made) => Some(made.answer),
+            None => None,
+        }
     }
 
-    /// Takes the oldest answer that waits, and frees the frames of its request. None exactly where none waits; then
-    /// nothing changes.
+    /// Takes the oldest answer that waits, and frees the frames of its request. None exactly where none waits; then nothing
+    /// changes.
     pub fn take_answer(&mut self) -> Option<Answer>
-        ensures some { IfSome result (λ answer. (p : ℕ) × IsOldest self.old.world.answers p answer × Quiet (Taken p ∷ []) self.old.world self.new.world) }
+        ensures some { IfSome result (λ answer. (made : Made) × IsOldest self.old.world made × (made.answer ≡ answer)) }
+        ensures taken { IfSome result (λ _. self.new ≡ record self.old { world = after self.old.world Taken }) }
         ensures none { (result ≡ None) ↔ (self.old.world.answers ≡ []) }
         ensures same { self.old.world.answers ≡ [] → self.new ≡ self.old }
-        ensures going { self.new.failed ≡ self.old.failed }
     {
-        self.driver.take()
+        match self.core.first_answer() {
+            Some(made) => {
+                self.core.take();
+                Some(made.answer)
+            }
+            None => None,
+        }
     }
 
-    /// Gives block `k`, from 0, of the read that the oldest answer is of.
+    /// Gives block `k`, from 0, of the read that the oldest answer is of: its bytes, and zeros behind those of a short last block.
     pub fn answer_block(&self, k: u32, into: &mut [u8; 512])
-        requires { (p : ℕ) × (answer : Answer) × IsOldest self.now.world.answers p answer × Gives answer.kind k }
-        ensures { (p : ℕ) → (answer : Answer) → IsOldest self.now.world.answers p answer → into.new ≡ block_in (held_in self.now.world p) k }
+        requires reads { Reads self.now.world k }
+        ensures { (made : Made) → (p : ℕ) → IsOldest self.now.world made → made.slot ≡ Some p → into.new ≡ filled 512 (block_in (held_in self.now.world p) k) }
     {
-        self.driver.answer_block(k, into);
+        let Some(made) = self.core.first_answer() else {
+            unreachable!()
+        };
+        let Some(slot) = made.slot else {
+            unreachable!()
+        };
+        self.core.answer_block(slot, k, into);
     }
 }

@@ -1,7 +1,11 @@
-use Rattle.std.proofs.Common.{subst, sym}
+use Rattle.std.proofs.Common.{false, sym, subst}
+use Rattle.hp_core.specs.State.{State}
+use Rattle.hp_core.specs.Setups.{setups_of}
 use Rattle.hp_driver.specs.Subsystem.{IsKept}
 use Rattle.hp_driver.proofs.Kept.{kept_new}
 use Rattle.hp_driver.proofs.subsystem.Subsystem.new.Goals as goal
 
 pub invariant_of-result : goal.invariant_of-result
-invariant_of-result c = subst IsKept (sym c.in_ok-driver.ensures) (kept_new c.args.units.now c.args.outstanding c.args.noises c.requires.units c.requires.few)
+invariant_of-result c =
+    subst (λ (s : State). IsKept (record { world = s.world; outstanding = c.args.outstanding; failed = false }) s.kept) (sym c.in_ok-core.ensures)
+    (kept_new (setups_of c.args.units.now) c.args.outstanding c.args.noises c.requires.units c.requires.few)

@@ -1,15 +1,20 @@
-use Rattle.driver_laws.proofs.Drain.{bound}
-use Rattle.hp_driver.proofs.Kept.{next_none_is, next_there_is, next_falls}
+use Rattle.std.proofs.Common.{subst}
+use Rattle.std.specs.Prelude.{IfSome}
+use Rattle.hp_events.specs.Inputs.{input_of}
+use Rattle.hp_driver.specs.Subsystem.{State, LeavesFewer}
+use Rattle.hp_driver.proofs.Kept.{next_over, next_there, next_falls}
 use Rattle.hp_driver.proofs.subsystem.Subsystem.next_event.Goals as goal
 
 pub returns-clause-none : goal.returns-clause-none
-returns-clause-none c = rw (← c.self.view_is) (next_none_is c.self.inside.driver c.next_event.result c.self.invariant c.next_event.ensures)
+returns-clause-none c =
+    rw (← c.self.view_is) (next_over c.self.inside.core.world c.next_event.result c.self.invariant.sound
+    (c.self.invariant.work (rw (← c.self.view_is) at c.requires.going)) c.next_event.ensures)
 
 pub returns-clause-there : goal.returns-clause-there
-returns-clause-there c = rw (← c.self.view_is) (next_there_is c.self.inside.driver c.next_event.result c.self.invariant c.next_event.ensures)
+returns-clause-there c =
+    rw (← c.self.view_is) (next_there c.self.inside.core.world c.next_event.result c.self.invariant.sound c.next_event.ensures)
 
 pub returns-clause-falls : goal.returns-clause-falls
-returns-clause-falls c = rw (← c.self.view_is) (next_falls c.self.inside.driver c.next_event.result c.self.invariant c.next_event.ensures)
-
-pub returns-clause-bound : goal.returns-clause-bound
-returns-clause-bound c = rw (← c.self.view_is) (bound c.self.inside.driver c.self.invariant.sound)
+returns-clause-falls c =
+    subst (λ (s : State). IfSome c.next_event.result (λ event. LeavesFewer s.world (input_of event))) c.self.view_is
+    (next_falls c.self.inside.core.world c.next_event.result c.falls_law.ensures.later c.next_event.ensures)

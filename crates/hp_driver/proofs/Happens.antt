@@ -1,0 +1,51 @@
+-- Each kind of event, from what its call did.
+use Rattle.std.proofs.Common.{◌≡◌, ℕ, Bool, false, List, [], ◌∷◌, refl, sym, subst}
+use Rattle.std.specs.Prelude.{Result, Ok}
+use Rattle.pack_model.specs.Pack.{Pack}
+use Rattle.hardware_table.specs.declared.Moved.TheVariants.{Clean}
+use Rattle.trace_replay.specs.Script as script
+use Rattle.trace_replay.specs.Script.{Input}
+use Rattle.hp_machine.specs.Acts.{Act, Change, Tried}
+use Rattle.hp_machine.specs.Events.{event_acts, arrive_acts, attend_acts}
+use Rattle.hp_work.specs.Runs.{MayCome}
+use Rattle.hp_outcome.specs.declared.Stop.{Stop}
+use Rattle.hp_trace.specs.Calls.{IsReadOf}
+use Rattle.hp_core.specs.State.{State}
+use Rattle.hp_core.specs.Done.{DoesSilently}
+use Rattle.hp_events.specs.declared.drain.Event.{Event}
+use Rattle.hp_events.specs.declared.drain.Event.TheVariants.{Arrive, Attend}
+use Rattle.hp_events.specs.Inputs.{input_of}
+use Rattle.hp_driver.specs.Calls.{Stands, SendsActs, Happens}
+use Rattle.hp_driver.proofs.Calls.{event_sent, silent_sent}
+
+-- no sector is tried
+pub no_try : Tried
+no_try = record { marked = false; verdict = Clean; bytes = [] }
+
+module _ {O Q : Type 0} (holds : Q → Bool) (held : Q → ℕ → Pack) (packs_faults : Q → ℕ) (tells : O → Bool) (taken : O → List ℕ) (faults : O → ℕ) (packs : Q)
+    (old : State) (line : ℕ) (event : Event) (stands : Stands old) where
+  pub arrives : (trace trace' : O) (new : State) (result : Result (Unit {0}) Stop) (u : ℕ) → event ≡ Arrive u
+      → SendsActs tells taken faults trace trace' old new result (arrive_acts line u old.world)
+      → Happens holds held packs_faults tells taken faults packs packs trace trace' old new result line (input_of event)
+  arrives trace trace' new result u is sends =
+      subst (λ (e : Event). Happens holds held packs_faults tells taken faults packs packs trace trace' old new result line (input_of e)) (sym is)
+      (event_sent holds held packs_faults tells taken faults packs trace trace' old new result line (script.ArriveAt u) no_try stands tt tt sends)
+
+  pub attends : (trace trace' : O) (new : State) (result : Result (Unit {0}) Stop) (a : ℕ) → event ≡ Attend a
+      → SendsActs tells taken faults trace trace' old new result (attend_acts line a old.world)
+      → Happens holds held packs_faults tells taken faults packs packs trace trace' old new result line (input_of event)
+  attends trace trace' new result a is sends =
+      subst (λ (e : Event). Happens holds held packs_faults tells taken faults packs packs trace trace' old new result line (input_of e)) (sym is)
+      (event_sent holds held packs_faults tells taken faults packs trace trace' old new result line (script.AttendTo a) no_try stands tt tt sends)
+
+  -- a condition changes, and no line is told
+  pub changes : (trace : O) (new : State) (x : Unit {0}) (input : Input) (its : Event) → event ≡ its → input_of its ≡ input
+      → event_acts line input no_try old.world ≡ Change input ∷ [] → MayCome old.world input no_try → IsReadOf old.world (held packs) input no_try
+      → DoesSilently old new (Change input)
+      → Happens holds held packs_faults tells taken faults packs packs trace trace old new (Ok x) line (input_of event)
+  changes trace new x input its is named acts may reads does =
+      subst (λ (e : Event). Happens holds held packs_faults tells taken faults packs packs trace trace old new (Ok x) line (input_of e)) (sym is)
+      (subst (λ (i : Input). Happens holds held packs_faults tells taken faults packs packs trace trace old new (Ok x) line i) (sym named)
+      (event_sent holds held packs_faults tells taken faults packs trace trace old new (Ok x) line input no_try stands may reads
+      (subst (λ (l : List Act). SendsActs tells taken faults trace trace old new (Ok x) l) (sym acts)
+      (silent_sent tells taken faults trace old new (Change input) x refl stands.sent does))))

@@ -1,0 +1,91 @@
+-- What the parts of a call come to, over the core: each part sends what it tells.
+use Rattle.std.specs.Prelude.{◌≡◌, ℕ, ◌+◌, ◌-◌, ◌*◌, ◌<◌, Bool, false, if◌then◌else◌, IsTrue, min, List, [], length, Result, IfErr, OnOk}
+use Rattle.pack_model.specs.Pack.{Pack}
+use Rattle.mass_outside.specs.Causes.{HasCause}
+use Rattle.subsystem_spec.specs.Requests as told
+use Rattle.subsystem_spec.specs.Requests.{IsRequest}
+use Rattle.trace_replay.specs.Script.{Input}
+use Rattle.hp_machine.specs.World.{World}
+use Rattle.hp_machine.specs.Acts.{Act, after_all}
+use Rattle.hp_machine.specs.Guards.{IsSetUp, IsFresh}
+use Rattle.hp_machine.specs.Sound.{Sound, AtWork}
+use Rattle.hp_work.specs.Runs.{Run}
+use Rattle.hp_outcome.specs.declared.Stop.{Stop}
+use Rattle.hp_outcome.specs.declared.Stop.TheVariants.{Sink}
+use Rattle.hp_outcome.specs.Outcome.{Outcome, stop_in}
+use Rattle.request_slots.specs.declared.asked.Asked.{Asked}
+use Rattle.hp_counts.specs.Counts.{in_use}
+use Rattle.hp_trace.specs.Noises.{AllFlip}
+use Rattle.hp_core.specs.State.{State}
+use Rattle.hp_core.specs.Done.{HasCauses}
+use Rattle.hp_driver.specs.declared.request.Request.{Request}
+use Rattle.hp_driver.specs.Subsystem.{seen, asked, is_move, Submits, Comes}
+
+-- some acts ran, and left this world
+pub record Ran (w now : World) : Type 0 where
+  pub acts : List Act
+  pub run : Run w acts
+  pub world : now ≡ after_all w acts
+
+-- BETWEEN TWO CALLS, none of which failed
+pub record Stands (s : State) : Type 0 where
+  pub sound : Sound s.world
+  pub work : AtWork s.world
+  pub noise : AllFlip s.world.book.live
+  pub sent : s.kept ≡ []
+
+-- WHAT A CALL LEAVES of that: where it failed, work may be undone, and text not sent.
+pub record Leaves (old new : State) (result : Result (Unit {0}) Stop) : Type 0 where
+  pub sound : Sound new.world
+  pub noise : AllFlip new.world.book.live
+  pub slots : length new.world.slots ≡ length old.world.slots
+  pub work : OnOk result (AtWork new.world)
+  pub sent : OnOk result (new.kept ≡ [])
+
+-- ACTS AND THEIR LINES, which are sent
+pub record SendsActs {O : Type 0} (tells : O → Bool) (taken : O → List ℕ) (faults : O → ℕ) (trace trace' : O) (old new : State) (result : Result (Unit {0}) Stop) (acts : List Act) : Type 0 where
+  pub outcome : (packs : Bool) (held : ℕ → Pack)
+      → Outcome (record { packs = packs; trace = tells trace' }) acts (seen old.world held (taken trace)) (seen new.world held (taken trace')) (stop_in result)
+  pub stop : IfErr result (λ stop. stop ≡ Sink)
+  pub never_again : IsTrue (tells trace') → IsTrue (tells trace)
+  pub cause : HasCause (faults trace) (faults trace') result
+  pub sent : OnOk result (new.kept ≡ [])
+
+-- A SUBMISSION
+pub record Asks {O : Type 0} (tells : O → Bool) (taken : O → List ℕ) (faults : O → ℕ) (trace trace' : O) (old new : State) (result : Result (Unit {0}) Stop) (line : ℕ) (r : told.Request) : Type 0 where
+  pub does : Submits tells taken trace trace' line r old.world new.world (stop_in result)
+  pub leaves : Leaves old new result
+  pub stop : IfErr result (λ stop. stop ≡ Sink)
+  pub never_again : IsTrue (tells trace') → IsTrue (tells trace)
+  pub cause : HasCause (faults trace) (faults trace') result
+
+-- what a request asks, with its first block on its pack
+abbrev pub asked_at : Request → ℕ → Asked
+asked_at r first = record {
+  id = r.id;
+  unit = r.unit;
+  first = first;
+  count = r.count;
+  last = r.last;
+  write = r.write;
+  offset = r.offset;
+}
+
+-- where it may come: the unit is set up, the id is fresh, the bytes are just those of a write, and there is room for one more
+pub record MayAsk (w : World) (r : Request) (bytes : List ℕ) : Type 0 where
+  pub unit : IsSetUp w r.unit
+  pub request : IsRequest (asked r bytes)
+  pub fresh : IsFresh w r.id
+  pub size : length bytes ≡ (if r.write then 512 * (r.count - 1) + r.last else 0)
+  pub most : ℕ
+  pub slots : length w.slots ≡ min most 16384
+  pub room : in_use w.slots < most
+
+-- AN EVENT
+pub record Happens {O Q : Type 0} (holds : Q → Bool) (held : Q → ℕ → Pack) (packs_faults : Q → ℕ) (tells : O → Bool) (taken : O → List ℕ) (faults : O → ℕ) (packs packs' : Q) (trace trace' : O) (old new : State) (result : Result (Unit {0}) Stop) (line : ℕ) (input : Input) : Type 0 where
+  pub comes : Comes holds held tells taken packs packs' trace trace' line input old.world new.world (stop_in result)
+  pub leaves : Leaves old new result
+  pub still : is_move input ≡ false → packs' ≡ packs
+  pub never_again_packs : IsTrue (holds packs') → IsTrue (holds packs)
+  pub never_again : IsTrue (tells trace') → IsTrue (tells trace)
+  pub causes : HasCauses (packs_faults packs) (packs_faults packs') (faults trace) (faults trace') (stop_in result)

@@ -1,0 +1,145 @@
+// A submission, over the core.
+ghost use Rattle.std.specs.Prelude.{◌≡◌, ◌<◌, ◌≤◌, ◌+◌, ◌-◌, ◌*◌, ◌∷◌, [], length, None, Some, IfOk, IfErr, if◌then◌else◌, min};
+ghost use Rattle.main_memory.specs.Frames.{frames_needed};
+ghost use Rattle.pack_geometry.specs.Geometry.{limit_of};
+ghost use Rattle.subsystem_spec.specs.Requests as told;
+ghost use Rattle.subsystem_spec.specs.Requests.{first_block};
+ghost use Rattle.hp_machine.specs.World.{unit_at, adapter_of};
+ghost use Rattle.hp_machine.specs.Acts.{Refuse};
+ghost use Rattle.hp_machine.specs.Events.{refusal_of, followed, adapter_start};
+ghost use Rattle.hp_machine.specs.Guards.{Allowed};
+ghost use Rattle.hp_events.specs.Submissions.{MayRefuse};
+ghost use Rattle.hp_driver.specs.Subsystem.{asked};
+ghost use Rattle.hp_driver.specs.Calls.{Stands, SendsActs, MayAsk, asked_at, Asks};
+
+use crate::request::{Request, frames_for};
+use hp_core::Core;
+use hp_machine::{AnswerKind, Cause};
+use hp_outcome::Stop;
+use mass_outside::traits::Sink;
+use partitions::{Admission, admit};
+use request_slots::Asked;
+
+/// How many frames there are.
+const FRAMES: u32 = 16384;
+
+/// The first block of a request on its pack, or how it is refused: outside its partition, at its very end, or for want of frames.
+fn admitted(core: &Core, request: Request) -> Result<u32, AnswerKind>
+    requires unit { request.unit < length core.now.world.units }
+    requires some { 1 ≤ request.count }
+    requires few { request.count ≤ 127 }
+    requires offset { request.offset < 512 }
+    requires last { request.last ≤ 512 }
+    requires used { core.now.world.frames ≤ 16384 }
+    ensures joins { IfOk result (λ first. refusal_of (asked request []) core.now.world ≡ None) }
+    ensures first { IfOk result (λ first. first ≡ first_block (unit_at core.now.world request.unit).drive.kind (asked request [])) }
+    ensures inside { IfOk result (λ first. first + request.count ≤ limit_of (unit_at core.now.world request.unit).drive.kind) }
+    ensures room { IfOk result (λ first. core.now.world.frames + frames_needed request.count request.offset request.last ≤ 16384) }
+    ensures refused { IfErr result (λ kind. refusal_of (asked request []) core.now.world ≡ Some kind) }
+{
+    match admit(
+        core.kind(request.unit),
+        request.part,
+        request.block,
+        request.count,
+    ) {
+        Admission::Outside => Err(AnswerKind::Error {
+            cause: Cause::Partition,
+            done: 0,
+        }),
+        Admission::Eof => Err(AnswerKind::Eof),
+        Admission::Inside { first } => {
+            if core.frames() + frames_for(request) > FRAMES {
+                Err(AnswerKind::Error {
+                    cause: Cause::Frames,
+                    done: 0,
+                })
+            } else {
+                Ok(first)
+            }
+        }
+    }
+}
+
+/// What a request asks, with its first block on its pack.
+fn asked_from(request: Request, first: u32) -> Asked
+    ensures { result ≡ asked_at request first }
+{
+    Asked {
+        id: request.id,
+        unit: request.unit,
+        first,
+        count: request.count,
+        last: request.last,
+        write: request.write,
+        offset: request.offset,
+    }
+}
+
+/// A request is refused, and its adapter is started.
+fn refuse<T: Sink>(
+    core: &mut Core,
+    line: u64,
+    unit: u8,
+    id: u32,
+    kind: AnswerKind,
+    trace: &mut T,
+) -> Result<(), Stop>
+    requires stands { Stands core.old }
+    requires may { MayRefuse core.old.world line unit id kind }
+    ensures { (r : told.Request) → r.unit ≡ unit → r.id ≡ id → Allowed core.old.world (Refuse line r kind)
+        → SendsActs T.tells T.taken T.faults trace.old trace.new core.old core.new result
+        (followed (Refuse line r kind ∷ []) (adapter_start line (adapter_of r.unit)) core.old.world) }
+{
+    match hp_events::refuse(core, line, unit, id, kind, trace) {
+        Ok(()) => core.flush(trace),
+        Err(stop) => Err(stop),
+    }
+}
+
+/// A request joins in a free slot, of which there is one, from this block of its pack on.
+fn join<T: Sink>(
+    core: &mut Core,
+    line: u64,
+    request: Request,
+    first: u32,
+    bytes: &[u8],
+    trace: &mut T,
+) -> Result<(), Stop>
+    requires stands { Stands core.old }
+    requires none_waits { core.old.world.answers ≡ [] }
+    requires may { MayAsk core.old.world request bytes.now }
+    requires joins { refusal_of (asked request []) core.old.world ≡ None }
+    requires first { first ≡ first_block (unit_at core.old.world request.unit).drive.kind (asked request []) }
+    requires inside { first + request.count ≤ limit_of (unit_at core.old.world request.unit).drive.kind }
+    requires room { core.old.world.frames + frames_needed request.count request.offset request.last ≤ 16384 }
+    ensures { Asks T.tells T.taken T.faults trace.old trace.new core.old core.new result line (asked request bytes.now) }
+{
+    let Some(slot) = core.free_slot() else {
+        unreachable!()
+    };
+    let asked = asked_from(request, first);
+    match hp_events::join(core, line, slot, asked, bytes, trace) {
+        Ok(()) => core.flush(trace),
+        Err(stop) => Err(stop),
+    }
+}
+
+/// A request is submitted: it is refused, or joins in a free slot.
+pub(crate) fn submit<T: Sink>(
+    core: &mut Core,
+    line: u64,
+    request: Request,
+    bytes: &[u8],
+    trace: &mut T,
+) -> Result<(), Stop>
+    requires stands { Stands core.old }
+    requires none_waits { core.old.world.answers ≡ [] }
+    requires may { MayAsk core.old.world request bytes.now }
+    ensures { Asks T.tells T.taken T.faults trace.old trace.new core.old core.new result line (asked request bytes.now) }
+{
+    match admitted(core, request) {
+        Ok(first) => join(core, line, request, first, bytes, trace),
+        Err(kind) => refuse(core, line, request.unit, request.id, kind, trace),
+    }
+}

@@ -1,4 +1,0 @@
-pub mod FillLaws
-pub mod SlotLaws
-pub mod StepLaws
-pub mod WholeLaws
