@@ -1,44 +1,42 @@
--- The answers that wait, as they are written and taken.
-use Rattle.std.specs.Prelude.{◌≡◌, ℕ, ◌≤◌, List, [], ◌∷◌, length}
-use Rattle.std.specs.List.{flat_map}
-use Rattle.subsystem_spec.specs.AnswerText.{answer_text}
-use Rattle.driver_machine.specs.declared.Answer.{Answer}
-use Rattle.driver_machine.specs.declared.AnswerKind.TheVariants.{ReadOk}
-use Rattle.driver_machine.specs.Places.{Held, no_held}
-use Rattle.driver_machine.specs.declared.Made.{Made}
-use Rattle.driver_machine.specs.World.{World, held_in}
-use Rattle.driver_machine.specs.Acts.{Act}
-use Rattle.driver_machine.specs.Does.{Quiet}
-use Rattle.driver_machine.specs.Measure.{work_left}
-use Rattle.driver_machine.specs.Stands.{calls_of_all}
-use Rattle.driver_machine.specs.Waiting.{seen_of}
-use Rattle.hp_driver.specs.Subsystem.{IsOldest}
+-- The oldest answer that waits, as it is said.
+use Rattle.std.specs.Prelude.{◌≡◌, ℕ, ◌≤◌, List, [], ◌∷◌, length, Some, slice_index_or}
+use Rattle.hp_machine.specs.declared.Answer.{Answer}
+use Rattle.hp_machine.specs.declared.AnswerKind.{AnswerKind}
+use Rattle.hp_machine.specs.declared.Made.{Made}
+use Rattle.hp_machine.specs.World.{World}
+use Rattle.hp_machine.specs.Lines.{answer_told}
+use Rattle.hp_answers.specs.Waiting.{blocks_for}
+use Rattle.answer_lines.specs.AnswerText.{answer_text, blocks_text}
+use Rattle.hp_driver.specs.Subsystem.{IsOldest, Reads}
 
--- the request whose answer is the oldest
-abbrev pub first_held : List Made → World → Held
-first_held [] w = no_held
-first_held (made ∷ rest) w = held_in w made.place
+-- the blocks that its request has
+abbrev pub first_blocks : World → List Made → List (List ℕ)
+first_blocks w [] = []
+first_blocks w (made ∷ rest) = blocks_for w made.slot
 
--- the oldest answer that waits is that of a read of so many blocks, which its request holds
-pub record ReadsFirst (w : World) (count : ℕ) : Type 0 where
-  pub place : ℕ
-  pub answer : Answer
-  pub oldest : IsOldest w.answers place answer
-  pub kind : answer.kind ≡ ReadOk count
-  pub all : count ≡ length (held_in w place).blocks
-  pub few : count ≤ 127
+-- its text, and what is said behind its line
+abbrev pub first_text : World → Answer → List ℕ
+first_text w answer = answer_text (record { line = answer.at; id = answer.id; answer = answer_told answer.kind (first_blocks w w.answers) })
 
--- the text of an answer that waits, and of all of them
-abbrev pub made_text : World → Made → List ℕ
-made_text w made = answer_text made.answer.at (seen_of w made)
+abbrev pub first_rest : World → AnswerKind → List ℕ
+first_rest w kind = blocks_text (answer_told kind (first_blocks w w.answers))
 
-abbrev pub waiting_text : World → List ℕ
-waiting_text w = flat_map (made_text w) w.answers
+-- THE OLDEST ANSWER is this one, or is of this kind
+pub record IsFirst (w : World) (answer : Answer) : Type 0 where
+  pub made : Made
+  pub oldest : IsOldest w made
+  pub is : made.answer ≡ answer
 
--- All answers that waited were taken: that tells nothing, and leaves as much to do.
-pub record TakesAll (old new : World) : Type 0 where
-  pub acts : List Act
-  pub quiet : Quiet acts old new
-  pub calls : calls_of_all acts ≡ []
-  pub none_waits : new.answers ≡ []
-  pub left : work_left new ≡ work_left old
+pub record IsFirstKind (w : World) (kind : AnswerKind) : Type 0 where
+  pub made : Made
+  pub oldest : IsOldest w made
+  pub is : made.answer.kind ≡ kind
+
+-- ONE BLOCK of the read that the oldest answer is of, with its size
+pub record HasBlock (w : World) (k size : ℕ) : Type 0 where
+  pub reads : Reads w k
+  pub slot : ℕ
+  pub slot_is : reads.made.slot ≡ Some slot
+  pub long : length (slice_index_or (first_blocks w w.answers) k []) ≡ size
+  pub some : 1 ≤ size
+  pub few : size ≤ 512

@@ -1,10 +1,6 @@
-pub mod Answering
-pub mod Faults
-pub mod Fields
-pub mod Grammar
-pub mod Lines
 pub mod Playing
-pub mod Reading
-pub mod Refusals
-pub mod Rules
+pub mod Plays
+pub mod Faults
 pub mod Steps
+pub mod Answering
+pub mod Attaching

@@ -1,38 +1,53 @@
--- The lines of a script as the subsystem sees them.
-use Rattle.std.specs.Prelude.{ℕ, ◌==◌, if◌then◌else◌, List, [], ◌∷◌, replicate, Option, None, Some}
+-- How far a script is played: what stands between two lines of it.
+use Rattle.std.specs.Prelude.{◌≡◌, ℕ, ◌+◌, Bool, false, IsTrue, List, [], ◌∷◌, ◌++◌, Option, Some}
 use Rattle.pack_geometry.specs.declared.DriveKind.{DriveKind}
-use Rattle.pack_geometry.specs.declared.DriveKind.TheVariants.{Rp06}
-use Rattle.subsystem_spec.specs.Request.{Request, Line as SeenLine}
-use Rattle.subsystem_spec.specs.Request.Line.{Silent, Submits}
-use Rattle.event_player.specs.Grammar.{IsRange}
-use Rattle.event_player.specs.declared.script.Line.{Line}
-use Rattle.event_player.specs.declared.script.Line.TheVariants.{Unit as UnitLine, Read, Write}
+use Rattle.pack_model.specs.Pack.{Pack}
+use Rattle.pack_model.specs.TableSpelling.{Table}
+use Rattle.trace_replay.specs.Moments.{Moment, played}
+use Rattle.trace_replay.specs.Script.{Script, Input, Submit, Noise, Arm, Statement, Plays as PlaysInput, Declares, Line, drives_of, inputs_before, ids_of}
+use Rattle.trace_replay.specs.Runs.{start_of}
+use Rattle.trace_replay.specs.Text.{trace_text}
+use Rattle.hp_machine.specs.World.{World, unit_at}
+use Rattle.hp_machine.specs.Guards.{IsSetUp}
+use Rattle.hp_trace.specs.Runs.{IsSoFar}
+use Rattle.hp_runs.specs.Runs.{IsKept}
+use Rattle.hp_drains.specs.Drains.{AreAsked}
+use Rattle.hp_driver.specs.Subsystem.{State}
+use Rattle.answer_lines.specs.AnswerText.{out_text}
 
--- a byte repeated, by the byte and the size
-unfoldable pub filled : ℕ → ℕ → List ℕ
-filled fill size = replicate size fill
+-- HOW MUCH lines bring: so many requests, noises, and lines that arm faults
+abbrev pub one_request : Statement → ℕ
+one_request (PlaysInput (Submit r)) = 1
+one_request statement = 0
 
--- the requests of lines: a write gives each of its blocks one byte repeated
-abbrev pub read_request : ℕ → ℕ → ℕ → Request
-read_request id block count = record { id = id; unit = 0; first = block; count = count; offset = 0; written = None }
+abbrev pub one_noise : Statement → ℕ
+one_noise (PlaysInput (Noise noise)) = 1
+one_noise statement = 0
 
-abbrev pub write_request : ℕ → ℕ → ℕ → ℕ → Request
-write_request id block count fill = record { id = id; unit = 0; first = block; count = count; offset = 0; written = Some (replicate count (filled fill 512)) }
+abbrev pub one_fault : Statement → ℕ
+one_fault (PlaysInput (Arm u kind times)) = 1
+one_fault statement = 0
 
--- a line as the subsystem sees it: only a request asks for something
-abbrev pub seen : Line → SeenLine
-seen (Read id block count) = Submits (read_request id block count)
-seen (Write id block count fill) = Submits (write_request id block count fill)
-seen line = Silent
+abbrev pub counted : (Statement → ℕ) → List Line → ℕ
+counted one [] = 0
+counted one (line ∷ lines) = one line.statement + counted one lines
 
--- the drives that lines declare
-abbrev pub drives_of : List Line → ℕ → Option DriveKind
-drives_of [] number = None
-drives_of (UnitLine ∷ lines) number = if number == 0 then Some Rp06 else drives_of lines number
-drives_of (line ∷ lines) number = drives_of lines number
+-- THE UNITS are set up as the script declares them.
+abbrev pub AreUnits : Script → World → Type 0
+AreUnits script w = (unit : ℕ) (kind : DriveKind) → drives_of script unit ≡ Some kind → IsSetUp w unit × ((unit_at w unit).drive.kind ≡ kind)
 
--- a request's blocks are 1 to 127 data blocks
-abbrev pub IsInside : Line → Type 0
-IsInside (Read id block count) = IsRange block count
-IsInside (Write id block count fill) = IsRange block count
-IsInside line = Unit {0}
+-- THE RUN SO FAR, behind the first lines: its moments play these, the replay behind them stands for the driver, what is no sector
+-- stayed, and each request asks for some blocks of a unit that is there.
+pub record HasRun (script : Script) (tables : ℕ → Option Table) (old held : ℕ → Pack) (line : ℕ) (done : List Line) (w : World) (moments : List Moment) : Type 0 where
+  pub so_far : IsSoFar (start_of script tables old) line moments held w
+  pub kept : IsKept (drives_of script) old held w
+  pub inputs : played moments ≡ inputs_before [] done
+  pub asked : AreAsked (start_of script tables old).there moments
+
+-- and its texts are told.
+pub record HasTold (script : Script) (tables : ℕ → Option Table) (old held : ℕ → Pack) (line : ℕ) (done : List Line) (w : World)
+    (out_tells : Bool) (said said' : List ℕ) (trace_tells : Bool) (taken taken' : List ℕ) : Type 0 where
+  pub moments : List Moment
+  pub run : HasRun script tables old held line done w moments
+  pub out : IsTrue out_tells → said' ≡ said ++ out_text moments
+  pub trace : IsTrue trace_tells → taken' ≡ taken ++ trace_text moments

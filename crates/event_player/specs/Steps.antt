@@ -1,47 +1,212 @@
--- What playing does line by line.
-use Rattle.std.specs.Prelude.{◌≡◌, ◌≢◌, ℕ, ◌<◌, ◌≤◌, ◌++◌, Bool, true, IsTrue, List, [], length, Result, IsErrOf, Some}
-use Rattle.pack_geometry.specs.declared.DriveKind.TheVariants.{Rp06}
+-- What playing does line by line: the acts of a call with the answers behind them, and how a run goes on.
+use Rattle.std.specs.Prelude.{◌≡◌, ◌≢◌, ◌⊎◌, ℕ, ◌+◌, ◌-◌, ◌^◌, ◌<◌, ◌≤◌, Bool, IsTrue, List, [], ◌∷◌, ◌++◌, length, Option, Some, None, Result, IsErrOf}
+use Rattle.std.specs.List.{flat_map}
 use Rattle.pack_model.specs.Pack.{Pack}
+use Rattle.pack_model.specs.TableSpelling.{Table}
 use Rattle.mass_outside.specs.Causes.{Rose}
-use Rattle.subsystem_spec.specs.Request.{Answer, Line as SeenLine}
-use Rattle.subsystem_spec.specs.AnswerText.{line_text}
-use Rattle.driver_machine.specs.Places.{Held, slot_at, in_use}
-use Rattle.driver_machine.specs.World.{World, unit_at}
-use Rattle.driver_machine.specs.Acts.{Act}
-use Rattle.driver_machine.specs.Does.{Does}
-use Rattle.driver_machine.specs.Sound.{Sound}
-use Rattle.driver_machine.specs.Stands.{calls_of_all, calls_at}
-use Rattle.event_player.specs.Grammar.{IsRequest, id_of}
-use Rattle.event_player.specs.Playing.{IsInside}
-use Rattle.event_player.specs.declared.script.Line.{Line}
+use Rattle.script_reader.specs.declared.statement.Statement as Told
+use Rattle.script_reader.specs.declared.statement.Statement.TheVariants as says
+use Rattle.script_reader.specs.Formed.{IsWritten}
+use Rattle.script_reader.specs.Known.{Said}
+use Rattle.subsystem_spec.specs.Requests.{Request, IsRequest}
+use Rattle.trace_replay.specs.Moments.{Moment, played}
+use Rattle.trace_replay.specs.Script.{Script, Input, Submit, Drain, Statement, Declares, Plays, Line, drives_of, inputs_before, with_id}
+use Rattle.trace_replay.specs.Replay.{after_moments}
+use Rattle.trace_replay.specs.Runs.{start_of}
+use Rattle.trace_bounds.specs.Measure.{events_left}
+use Rattle.trace_replay.specs.Text.{trace_text}
+use Rattle.hp_machine.specs.declared.Made.{Made}
+use Rattle.hp_machine.specs.World.{World, Held, unit_at, slot_at}
+use Rattle.hp_machine.specs.Acts.{Act, Taken, Tried, after_all}
+use Rattle.hp_machine.specs.Lines.{lines_of_all}
+use Rattle.hp_machine.specs.Events.{refusal_of, submit_acts, event_acts, next_event}
+use Rattle.hp_machine.specs.Guards.{IsSetUp, IsHeldFor}
+use Rattle.hp_machine.specs.Sound.{Sound, AtWork}
+use Rattle.hp_work.specs.Runs.{Run, MaySubmit, MayCome}
+use Rattle.hp_outcome.specs.Packs.{packs_after_all}
+use Rattle.hp_trace.specs.Calls.{IsReadOf}
+use Rattle.hp_trace.specs.Runs.{IsDraining}
+use Rattle.hp_runs.specs.Runs.{IsKept}
+use Rattle.hp_drains.specs.Drains.{AreAsked}
+use Rattle.hp_counts.specs.Counts.{IsWithin, in_use}
+use Rattle.hp_answers.specs.Ids.{AreOf}
+use Rattle.hp_answers.specs.Waiting.{waiting}
+use Rattle.answer_lines.specs.AnswerText.{answer_text, out_text}
+use Rattle.hp_driver.specs.Subsystem.{State, IsThere}
 use Rattle.event_player.specs.declared.play.PlayFault.{PlayFault}
 use Rattle.event_player.specs.declared.play.PlayFault.TheVariants as faults
+use Rattle.event_player.specs.Playing.{AreUnits, HasRun, counted, one_request, one_noise, one_fault}
 
--- A line may be played: no answer waits, unit 0 is set up as an RP06, and a request has data blocks, an id that no other
--- request in a place has, and a place.
-pub record MayPlay (w : World) (line : Line) : Type 0 where
-  pub sound : Sound w
+-- THE ANSWERS THAT WAIT: each is taken, the oldest first; and their text
+abbrev pub takings : List Made → List Act
+takings [] = []
+takings (made ∷ rest) = Taken ∷ takings rest
+
+abbrev pub all_taken : World → World
+all_taken w = after_all w (takings w.answers)
+
+abbrev pub waiting_text : World → List ℕ
+waiting_text w = flat_map answer_text (waiting w)
+
+-- WHAT IS PLAYED ON: the driver's world, what the packs hold, and what the two sinks took; and whether each of them tells that
+pub record Stage : Type 0 where
+  pub world : World
+  pub packs_tell : Bool
+  pub held : ℕ → Pack
+  pub out_tells : Bool
+  pub said : List ℕ
+  pub trace_tells : Bool
+  pub taken : List ℕ
+
+abbrev pub stage : {P O T : Type 0} → (P → Bool) → (P → ℕ → Pack) → (O → Bool) → (O → List ℕ) → (T → Bool) → (T → List ℕ) → World → P → O → T → Stage
+stage packs_tell held out_tells said trace_tells taken w packs out trace = record {
+  world = w;
+  packs_tell = packs_tell packs;
+  held = held packs;
+  out_tells = out_tells out;
+  said = said out;
+  trace_tells = trace_tells trace;
+  taken = taken trace;
+}
+
+-- ACTS come with their lines to a world that is sound and at work, and behind them the answers that wait are said and taken.
+pub record PlaysActs (acts : List Act) (old new : Stage) : Type 0 where
+  pub sound : Sound old.world
+  pub work : AtWork old.world
+  pub run : Run old.world acts
+  pub world : new.world ≡ all_taken (after_all old.world acts)
+  pub out : IsTrue new.out_tells → new.said ≡ old.said ++ waiting_text (after_all old.world acts)
+  pub trace : IsTrue new.trace_tells → new.taken ≡ old.taken ++ trace_text (lines_of_all old.world acts)
+
+-- those of an event that may come, of what the packs hold,
+pub record PlaysEvent (line : ℕ) (input : Input) (old new : Stage) : Type 0 where
+  pub tried : Tried
+  pub may : MayCome old.world input tried
+  pub reads : IsTrue new.packs_tell → IsReadOf old.world old.held input tried
+  pub packs : IsTrue new.packs_tell → new.held ≡ packs_after_all old.world old.held (event_acts line input tried old.world)
+  pub plays : PlaysActs (event_acts line input tried old.world) old new
+
+-- and those of a submission
+pub record PlaysSubmission (line : ℕ) (r : Request) (old new : Stage) : Type 0 where
+  pub slot : ℕ
+  pub held : Held
+  pub may : MaySubmit old.world r slot held
+  pub is : refusal_of r old.world ≡ None → IsHeldFor (unit_at old.world held.unit).drive.kind r held
+  pub packs : new.held ≡ packs_after_all old.world old.held (submit_acts r line slot held old.world)
+  pub plays : PlaysActs (submit_acts r line slot held old.world) old new
+
+-- WHERE NOTHING IS DONE the stage stays.
+pub record IsStill (old new : Stage) : Type 0 where
+  pub world : new.world ≡ old.world
+  pub held : new.held ≡ old.held
+  pub out : new.said ≡ old.said
+  pub trace : new.taken ≡ old.taken
+
+-- THE RUN GOES ON behind a run so far with a line of the script: its moments come with their texts.
+pub record GoesOn (script : Script) (tables : ℕ → Option Table) (first : ℕ → Pack) (done : List Line) (moments : List Moment) (line : ℕ) (input : Input) (old new : Stage) : Type 0 where
+  pub more : List Moment
+  pub run : HasRun script tables first new.held line (done ++ record { number = line; statement = Plays input } ∷ []) new.world (moments ++ more)
+  pub out : IsTrue new.out_tells → new.said ≡ old.said ++ out_text more
+  pub trace : IsTrue new.trace_tells → new.taken ≡ old.taken ++ trace_text more
+
+-- It does so behind any run so far whose lines are earlier;
+abbrev pub PlaysInput : ℕ → Input → Stage → Stage → Type 0
+PlaysInput line input old new = (script : Script) (tables : ℕ → Option Table) (first : ℕ → Pack) (last : ℕ) (done : List Line) (moments : List Moment)
+    → last < line → HasRun script tables first old.held last done old.world moments → GoesOn script tables first done moments line input old new
+
+-- a line that declares a drive does nothing.
+abbrev pub PlaysLine : ℕ → Statement → Stage → Stage → Type 0
+PlaysLine line (Declares unit kind) old new = IsStill old new
+PlaysLine line (Plays input) old new = PlaysInput line input old new
+
+-- Behind a drain no event can come, where there is a run so far.
+pub record Drains (script : Script) (tables : ℕ → Option Table) (first : ℕ → Pack) (done : List Line) (moments : List Moment) (line : ℕ) (old new : Stage) : Type 0 where
+  pub goes : GoesOn script tables first done moments line Drain old new
+  pub over : next_event new.world ≡ None
+
+abbrev pub PlaysDrain : ℕ → Stage → Stage → Type 0
+PlaysDrain line old new = (script : Script) (tables : ℕ → Option Table) (first : ℕ → Pack) (last : ℕ) (done : List Line) (moments : List Moment)
+    → last < line → HasRun script tables first old.held last done old.world moments → Drains script tables first done moments line old new
+
+-- IN A DRAIN, behind one of its events: the moments follow, what is no sector stayed, and the line of the drain is played.
+pub record HasDrained (script : Script) (tables : ℕ → Option Table) (first held : ℕ → Pack) (line : ℕ) (done : List Line) (w : World) (moments : List Moment) : Type 0 where
+  pub draining : IsDraining (start_of script tables first) line moments held w
+  pub kept : IsKept (drives_of script) first held w
+  pub inputs : played moments ≡ inputs_before [] done
+  pub asked : AreAsked (start_of script tables first).there moments
+
+-- Where few enough events are left, the drain goes on to its end.
+pub record EndsDraining (script : Script) (tables : ℕ → Option Table) (first : ℕ → Pack) (done : List Line) (moments : List Moment) (line : ℕ) (old new : Stage) : Type 0 where
+  pub more : List Moment
+  pub run : HasRun script tables first new.held line done new.world (moments ++ more)
+  pub over : next_event new.world ≡ None
+  pub out : IsTrue new.out_tells → new.said ≡ old.said ++ out_text more
+  pub trace : IsTrue new.trace_tells → new.taken ≡ old.taken ++ trace_text more
+
+abbrev pub GoesOnDraining : ℕ → Stage → Stage → Type 0
+GoesOnDraining line old new = (script : Script) (tables : ℕ → Option Table) (first : ℕ → Pack) (done : List Line) (moments : List Moment)
+    → events_left (after_moments (start_of script tables first) moments) < 2 ^ 64 - 1
+    → HasDrained script tables first old.held line done old.world moments → EndsDraining script tables first done moments line old new
+
+-- THE WHOLE of a script, from a start on
+pub record EndsWith (script : Script) (tables : ℕ → Option Table) (old new : Stage) : Type 0 where
+  pub moments : List Moment
+  pub run : HasRun script tables old.held new.held (script.count + 1) (script.lines ++ record { number = script.count + 1; statement = Plays Drain } ∷ []) new.world moments
+  pub over : next_event new.world ≡ None
+  pub out : IsTrue new.out_tells → new.said ≡ old.said ++ out_text moments
+  pub trace : IsTrue new.trace_tells → new.taken ≡ old.taken ++ trace_text moments
+
+abbrev pub PlaysScript : Script → (ℕ → Option Table) → Stage → Stage → Type 0
+PlaysScript script tables old new = HasRun script tables old.held old.held 0 [] old.world [] → EndsWith script tables old new
+
+-- THERE IS ROOM behind lines that brought so many requests with these ids, so many noises, and so many lines that arm faults.
+pub record Ready (script : Script) (requests noises faults : ℕ) (used : List ℕ) (w : World) : Type 0 where
+  pub units : AreUnits script w
+  pub within : IsWithin requests noises faults w
+  pub ids : AreOf used w
+  pub room : w.book.capacity ≡ counted one_noise script.lines
+  pub slots : length w.slots ≤ 65536
   pub none_waits : w.answers ≡ []
-  pub declared : (unit_at w 0).declared ≡ true
-  pub kind : (unit_at w 0).drive.kind ≡ Rp06
-  pub inside : IsInside line
-  pub room : IsRequest line → in_use w.places < length w.places
-  pub fresh : (id : ℕ) → id_of line ≡ Some id → (p : ℕ) (h : Held) → slot_at w.places p ≡ Some h → h.id ≢ id
 
--- At a line these acts were done, which ask what the line asks and then give its answers; the text of just these answers
--- was taken, and none waits.
-pub record PlaysLine (number : ℕ) (line : SeenLine) (old new : World) (tells : Bool) (held held_after : ℕ → Pack) (out_tells : Bool) (before after : List ℕ) : Type 0 where
-  pub acts : List Act
-  pub group : List Answer
-  pub does : Does acts old new tells held held_after
-  pub calls : calls_of_all acts ≡ calls_at line group
-  pub text : IsTrue out_tells → after ≡ before ++ line_text number line group
-  pub none_waits : new.answers ≡ []
+-- a statement brings what it says
+abbrev pub Brings : Statement → World → World → Type 0
+Brings statement old new = (script : Script) (requests noises faults : ℕ) (ids : List ℕ) → Ready script requests noises faults ids old
+    → Ready script (requests + one_request statement) (noises + one_noise statement) (faults + one_fault statement) (with_id statement ids) new
 
--- Playing stops only where the packs or the sink failed, whose count of faults then rose; no count falls.
-pub record HasCauses {T : Type 0} (packs packs_after out out_after : ℕ) (result : Result T PlayFault) : Type 0 where
+-- WHAT MAY BE PLAYED: a request to a unit that is set up, whose id no request in a slot has, and there is room for one more;
+pub record MayAsk (s : State) (r : Request) : Type 0 where
+  pub unit : IsSetUp s.world r.unit
+  pub request : IsRequest r
+  pub fresh : (q : ℕ) (g : Held) → slot_at s.world q ≡ Some g → g.id ≢ r.id
+  pub room : in_use s.world.slots < s.outstanding
+
+-- and an event of what is there.
+abbrev pub MayPlay : State → Statement → Type 0
+MayPlay s (Declares unit kind) = Unit {0}
+MayPlay s (Plays (Submit r)) = MayAsk s r
+MayPlay s (Plays Drain) = length s.world.slots ≤ 65536
+MayPlay s (Plays input) = IsThere s.world input
+
+-- a line that is no event of its own: a request, noise, a drain, or one that declares a drive
+abbrev pub IsNoEvent : {D N : Type 0} → Told.Statement D N → Type 0
+IsNoEvent (says.Unit unit kind) = Unit {0}
+IsNoEvent (says.Read request) = Unit {0}
+IsNoEvent (says.Write request content) = Unit {0}
+IsNoEvent (says.Noise unit block span places) = Unit {0}
+IsNoEvent says.Drain = Unit {0}
+IsNoEvent statement = ⊥
+
+-- what a write writes is there
+abbrev pub HasData : Said → Type 0
+HasData (says.Write request content) = IsWritten request.count content
+HasData statement = Unit {0}
+
+-- Playing stops only where the packs or a sink failed, whose count of faults then rose; no count falls.
+pub record HasCauses {T : Type 0} (packs packs_after out out_after trace trace_after : ℕ) (result : Result T PlayFault) : Type 0 where
   pub later : packs ≤ packs_after
   pub later_out : out ≤ out_after
+  pub later_trace : trace ≤ trace_after
   pub store : IsErrOf result faults.Store → Rose packs packs_after
-  pub sink : IsErrOf result faults.Sink → Rose out out_after
+  pub sink : IsErrOf result faults.Sink → Rose out out_after ⊎ Rose trace trace_after
   pub memory : IsErrOf result faults.Memory → ⊥
+  pub too_long : (unit long : ℕ) → IsErrOf result (faults.TooLong unit long) → ⊥

@@ -1,68 +1,171 @@
 // The answers that wait are written, and then they are taken.
-ghost use Rattle.std.specs.Prelude.{◌≡◌, ◌++◌, ℕ, take, IsTrue, OnOk};
-ghost use Rattle.mass_outside.specs.Causes.{HasCause};
-ghost use Rattle.subsystem_spec.specs.AnswerText.{answer_text, block_texts};
-ghost use Rattle.driver_machine.specs.World.{held_in};
-ghost use Rattle.driver_machine.specs.Sound.{Sound};
-ghost use Rattle.driver_machine.specs.Stands.{answered};
-ghost use Rattle.driver_machine.specs.Waiting.{GivesAll, AreWhole};
-ghost use Rattle.hp_driver.specs.Subsystem.{IsOldest};
-ghost use Rattle.event_player.specs.Answering.{first_held, ReadsFirst, waiting_text, TakesAll};
+ghost use Rattle.std.specs.Prelude.{◌≡◌, ◌+◌, ◌==◌, ◌<◌, ◌≤◌, ℕ, List, [], if◌then◌else◌, OnOk, take, slice_index_or};
+ghost use Rattle.mass_outside.specs.Puts.{Puts};
+ghost use Rattle.mass_gather.specs.Gathers.{Gathers};
+ghost use Rattle.answer_lines.specs.AnswerText.{block_text};
+ghost use Rattle.answer_lines.specs.Outcomes.{answer_of};
+ghost use Rattle.hp_machine.specs.declared.AnswerKind.TheVariants.{ReadOk};
+ghost use Rattle.hp_machine.specs.World.{bytes_in};
+ghost use Rattle.hp_machine.specs.Lines.{answer_told, error_told};
+ghost use Rattle.event_player.specs.Answering.{first_blocks, first_text, first_rest, IsFirst, IsFirstKind, HasBlock};
+ghost use Rattle.event_player.specs.Steps.{all_taken, waiting_text};
 
-use crate::text::{answer_line, block_line};
-use hp_driver::{Answer, AnswerKind, Subsystem};
+use answer_lines::{Outcome, answer_line, block_line};
+use hp_answers::taken_law;
+use hp_driver::{Answer, AnswerKind, Cause, Subsystem};
+use mass_gather::Gather;
 use mass_outside::traits::{Sink, SinkFailed};
-use mass_outside::whole::write_all;
 
-/// Writes the blocks of the read that the oldest answer is of, each in a line.
-fn write_blocks<O: Sink>(subsystem: &Subsystem, count: u32, out: &mut O) -> Result<(), SinkFailed>
-    requires { ReadsFirst subsystem.now.world count }
-    ensures never_again { IsTrue (O.tells out.new) → IsTrue (O.tells out.old) }
-    ensures text { OnOk result (IsTrue (O.tells out.new) → O.taken out.new
-        ≡ O.taken out.old ++ block_texts 0 (take count (first_held subsystem.now.world.answers subsystem.now.world).blocks)) }
-    ensures cause { HasCause (O.faults out.old) (O.faults out.new) result }
+/// How an error is said; `done` blocks were done.
+fn error_outcome(cause: Cause, done: u32) -> Outcome
+    ensures { (bytes : List ℕ) → answer_of bytes result ≡ error_told cause done }
 {
-    let mut bytes = [0u8; 512];
-    for k in 0..count {
-        subsystem.answer_block(k, &mut bytes);
-        write_all(out, block_line(k, &bytes).as_bytes())?;
+    match cause {
+        Cause::Partition => Outcome::Partition,
+        Cause::Frames => Outcome::Frames,
+        Cause::Offline => Outcome::Failed {
+            cause: answer_lines::Cause::Offline,
+            done,
+        },
+        Cause::Locked => Outcome::Failed {
+            cause: answer_lines::Cause::Locked,
+            done,
+        },
+        Cause::Unforwarded => Outcome::Failed {
+            cause: answer_lines::Cause::Unforwarded,
+            done,
+        },
+        Cause::Fault { .. } => Outcome::Failed {
+            cause: answer_lines::Cause::Fault,
+            done,
+        },
     }
-    Ok(())
 }
 
-/// Writes the oldest answer: its line, and the blocks of a read.
-fn write_answer<O: Sink>(
+/// How an answer is said.
+fn outcome(kind: AnswerKind) -> Outcome
+    ensures { (blocks : List (List ℕ)) → answer_of (bytes_in blocks) result ≡ answer_told kind blocks }
+{
+    match kind {
+        AnswerKind::ReadOk { .. } => Outcome::ReadOk,
+        AnswerKind::WriteOk => Outcome::WriteOk,
+        AnswerKind::Eof => Outcome::Eof,
+        AnswerKind::Error { cause, done } => error_outcome(cause, done),
+    }
+}
+
+/// How many bytes block `k` of `count` has, of which the last one has `last`.
+fn block_size(k: u32, count: u32, last: u32) -> u32
+    requires { k < count }
+    ensures { result ≡ (if k + 1 == count then last else 512) }
+{
+    if k + 1 == count { last } else { 512 }
+}
+
+/// The first bytes of a block.
+fn front(bytes: &[u8; 512], size: u32) -> &[u8]
+    requires { size ≤ 512 }
+    ensures { result.now ≡ take size bytes.now }
+{
+    &bytes.as_slice()[..size as usize]
+}
+
+/// Gathers the line of block `k`, of so many bytes, of the read that the oldest answer is of.
+fn gather_block<O: Sink>(
     subsystem: &Subsystem,
-    answer: Answer,
+    k: u32,
+    size: u32,
+    gather: &mut Gather,
     out: &mut O,
 ) -> Result<(), SinkFailed>
-    requires { (place : ℕ) × IsOldest subsystem.now.world.answers place answer × GivesAll (held_in subsystem.now.world place) answer.kind }
-    ensures never_again { IsTrue (O.tells out.new) → IsTrue (O.tells out.old) }
-    ensures text { OnOk result (IsTrue (O.tells out.new) → O.taken out.new ≡ O.taken out.old
-        ++ answer_text answer.at (record { id = answer.id; kind = answered (first_held subsystem.now.world.answers subsystem.now.world) answer.kind })) }
-    ensures cause { HasCause (O.faults out.old) (O.faults out.new) result }
+    requires block { HasBlock subsystem.now.world k size }
+    ensures { Gathers O.tells O.taken O.faults out.old out.new gather.old gather.new result
+        (block_text k (slice_index_or (first_blocks subsystem.now.world subsystem.now.world.answers) k [])) }
 {
-    let line = answer_line(answer.at, answer.id, answer.kind);
-    write_all(out, line.as_bytes())?;
-    if let AnswerKind::ReadOk { count } = answer.kind {
-        write_blocks(subsystem, count, out)?;
+    let mut bytes = [0u8; 512];
+    subsystem.answer_block(k, &mut bytes);
+    let line = block_line(k, front(&bytes, size));
+    gather.put(line.as_bytes(), out)
+}
+
+/// Gathers the lines of the blocks of the read that the oldest answer is of: `count` of them, the last one with `last` bytes.
+fn gather_blocks<O: Sink>(
+    subsystem: &Subsystem,
+    count: u32,
+    last: u32,
+    gather: &mut Gather,
+    out: &mut O,
+) -> Result<(), SinkFailed>
+    requires reads { IsFirstKind subsystem.now.world (ReadOk count last) }
+    ensures { Gathers O.tells O.taken O.faults out.old out.new gather.old gather.new result (first_rest subsystem.now.world (ReadOk count last)) }
+{
+    subsystem.law();
+    for k in 0..count {
+        gather_block(subsystem, k, block_size(k, count, last), gather, out)?;
     }
     Ok(())
 }
 
-/// Writes the answers that wait, the oldest first, and takes them.
-pub fn write_answers<O: Sink>(subsystem: &mut Subsystem, out: &mut O) -> Result<(), SinkFailed>
-    requires sound { Sound subsystem.old.world }
-    requires whole { AreWhole subsystem.old.world subsystem.old.world.answers }
-    ensures never_again { IsTrue (O.tells out.new) → IsTrue (O.tells out.old) }
-    ensures text { OnOk result (IsTrue (O.tells out.new) → O.taken out.new ≡ O.taken out.old ++ waiting_text subsystem.old.world) }
-    ensures cause { HasCause (O.faults out.old) (O.faults out.new) result }
-    ensures taken { OnOk result (TakesAll subsystem.old.world subsystem.new.world) }
-    ensures going { subsystem.new.failed ≡ subsystem.old.failed }
+/// Gathers what is said behind the line of the oldest answer: the blocks of a read.
+fn gather_rest<O: Sink>(
+    subsystem: &Subsystem,
+    kind: AnswerKind,
+    gather: &mut Gather,
+    out: &mut O,
+) -> Result<(), SinkFailed>
+    requires first { IsFirstKind subsystem.now.world kind }
+    ensures { Gathers O.tells O.taken O.faults out.old out.new gather.old gather.new result (first_rest subsystem.now.world kind) }
 {
+    match kind {
+        AnswerKind::ReadOk { count, last } => gather_blocks(subsystem, count, last, gather, out),
+        _ => Ok(()),
+    }
+}
+
+/// Gathers the text of the oldest answer that waits.
+fn gather_answer<O: Sink>(
+    subsystem: &Subsystem,
+    answer: Answer,
+    gather: &mut Gather,
+    out: &mut O,
+) -> Result<(), SinkFailed>
+    requires first { IsFirst subsystem.now.world answer }
+    ensures { Gathers O.tells O.taken O.faults out.old out.new gather.old gather.new result (first_text subsystem.now.world answer) }
+{
+    let line = answer_line(answer.at, answer.id, outcome(answer.kind));
+    gather.put(line.as_bytes(), out)?;
+    gather_rest(subsystem, answer.kind, gather, out)
+}
+
+/// Gathers the answers that wait, the oldest first, and takes them.
+fn gather_answers<O: Sink>(
+    subsystem: &mut Subsystem,
+    gather: &mut Gather,
+    out: &mut O,
+) -> Result<(), SinkFailed>
+    ensures gathers { Gathers O.tells O.taken O.faults out.old out.new gather.old gather.new result (waiting_text subsystem.old.world) }
+    ensures taken { OnOk result (subsystem.new ≡ record subsystem.old { world = all_taken subsystem.old.world }) }
+{
+    taken_law();
     while let Some(answer) = subsystem.answer() {
-        write_answer(subsystem, answer, out)?;
+        subsystem.law();
+        gather_answer(subsystem, answer, gather, out)?;
         subsystem.take_answer();
     }
     Ok(())
+}
+
+/// Writes the answers that wait to a sink, the oldest first, and takes them. Nothing is kept in `gather` before and behind it.
+pub fn write_answers<O: Sink>(
+    subsystem: &mut Subsystem,
+    gather: &mut Gather,
+    out: &mut O,
+) -> Result<(), SinkFailed>
+    requires kept { gather.old ≡ [] }
+    ensures puts { Puts O.tells O.taken O.faults out.old out.new result (waiting_text subsystem.old.world) }
+    ensures taken { OnOk result (subsystem.new ≡ record subsystem.old { world = all_taken subsystem.old.world }) }
+    ensures kept { OnOk result (gather.new ≡ []) }
+{
+    gather_answers(subsystem, gather, out)?;
+    gather.flush(out)
 }

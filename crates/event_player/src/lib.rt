@@ -1,10 +1,11 @@
-// Scripts: reading one from its bytes, playing it, and the text of answers.
+//! The player of scripts: a script's lines are played over the driver of the disks, one by one, with their answers and their
+//! trace.
 #![tactic(auto)]
 
 mod answers;
-mod fields;
-mod lines;
+mod attaching;
+mod calls;
+mod counting;
+mod drains;
 pub mod play;
 mod player;
-pub mod script;
-mod text;

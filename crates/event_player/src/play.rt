@@ -1,25 +1,28 @@
-ghost use Rattle.std.specs.Prelude.{◌≡◌, ◌≤◌, IsTrue, map, OnOk, IfOk, IsErrOf, vec_len};
+// A script is played to its end.
+ghost use Rattle.std.specs.Prelude.{◌≡◌, ◌⊎◌, ◌≤◌, ℕ, [], false, length, IsTrue, Result, Ok, Err, OnOk, OnErr, IsErrOf, IfOk, IfErr, vec_len, Option};
 ghost use Rattle.mass_outside.specs.Causes.{Rose};
-ghost use Rattle.subsystem_spec.specs.Plays.{Plays};
-ghost use Rattle.event_player.specs.Playing.{seen, drives_of};
-ghost use Rattle.event_player.specs.Rules.{PlaysByRules};
+ghost use Rattle.pack_model.specs.TableSpelling.{Table};
+ghost use Rattle.script_reader.specs.Grammar.{Spells};
+ghost use Rattle.script_reader.specs.Stored.{lines_in};
+ghost use Rattle.script_reader.specs.Words.{all_verbs};
+ghost use Rattle.script_meaning.specs.Meaning.{meaning_of};
+ghost use Rattle.event_player.specs.Plays.{Plays, IsTooLong};
+ghost use Rattle.event_player.specs.Faults.{IsPlaying, IsBefore, IsLongFor};
+ghost use Rattle.event_player.specs.Playing.{counted, one_request};
+ghost use Rattle.event_player.specs.Steps.{stage, Ready, PlaysScript, HasCauses};
 
-use crate::player::{drain, play_line};
-use crate::script::Script;
-use hp_driver::{Stop, Subsystem, UnitSetup};
+use crate::attaching::attach_units;
+use crate::counting::{count_noises, count_requests};
+use crate::drains::drain;
+use crate::player::play_line;
+use hp_driver::Subsystem;
+use hp_outcome::Stop;
+use mass_gather::Gather;
 use mass_outside::traits::{NoMemory, Packs, Sink, SinkFailed};
-use pack_geometry::DriveKind;
+use script_meaning::meaning_law;
+use script_reader::script::{Script, read_back_law};
 use std::alloc::{AllocError, Global};
 use thiserror::Error;
-
-/// The unit that the first line of every script declares.
-const UNITS: [UnitSetup; 1] = [UnitSetup {
-    unit: 0,
-    kind: DriveKind::Rp06,
-}];
-
-/// The largest number of requests in a script.
-const MOST_REQUESTS: u32 = 129;
 
 /// How many bytes the longest write brings: 127 blocks.
 const MOST_BYTES: usize = 65_024;
@@ -30,11 +33,14 @@ pub enum PlayFault {
     /// There was no memory. Nothing was played.
     #[error("there is no memory")]
     Memory,
+    /// The image of a unit is longer than its pack. Nothing was played.
+    #[error("the image of unit {unit} has {length} bytes")]
+    TooLong { unit: u8, length: u64 },
     /// A call on the packs failed.
     #[error("the packs failed")]
     Store,
     /// A call of a sink failed.
-    #[error("the sink failed")]
+    #[error("a sink failed")]
     Sink,
 }
 
@@ -96,11 +102,48 @@ fn bytes(alloc: Global, size: usize) -> Result<Vec<u8>, AllocError>
 #[derive(Clone, Copy, Debug, PartialEq, Eq)]
 pub struct Tally;
 
-/// Plays a script line by line, and behind its last line a drain, whose number is the number of lines plus one. The
-/// answers of each submission and event go out after it.
+/// Plays the lines of a script over units that are set up for it, and behind the last line a drain, whose number is the number of
+/// lines plus one. `room` has a place for each byte of the longest write.
+fn play_lines<P: Packs, O: Sink, T: Sink>(
+    script: &Script,
+    subsystem: &mut Subsystem,
+    room: &mut [u8],
+    gather: &mut Gather,
+    packs: &mut P,
+    out: &mut O,
+    trace: &mut T,
+) -> Result<(), PlayFault>
+    requires good { Spells all_verbs script.now.text (lines_in script.now) script.now.count }
+    requires going { subsystem.old.failed ≡ false }
+    requires ready { Ready (meaning_of script.now) 0 0 0 [] subsystem.old.world }
+    requires outstanding { subsystem.old.outstanding ≡ counted one_request (meaning_of script.now).lines }
+    requires room { length room.old ≡ 65024 }
+    requires kept { gather.old ≡ [] }
+    ensures plays { OnOk result (IsTrue (P.tells packs.new) → (tables : ℕ → Option Table) → PlaysScript (meaning_of script.now) tables
+        (stage P.tells P.held O.tells O.taken T.tells T.taken subsystem.old.world packs.old out.old trace.old)
+        (stage P.tells P.held O.tells O.taken T.tells T.taken subsystem.new.world packs.new out.new trace.new)) }
+    ensures never_again { IsTrue (P.tells packs.new) → IsTrue (P.tells packs.old) }
+    ensures never_again_out { IsTrue (O.tells out.new) → IsTrue (O.tells out.old) }
+    ensures never_again_trace { IsTrue (T.tells trace.new) → IsTrue (T.tells trace.old) }
+    ensures causes { HasCauses (P.faults packs.old) (P.faults packs.new) (O.faults out.old) (O.faults out.new) (T.faults trace.old) (T.faults trace.new) result }
+{
+    meaning_law();
+    read_back_law();
+    let number = u64::from(script.count()) + 1;
+    let lines = script.lines();
+    for (i, line) in lines.iter().enumerate() {
+        play_line(script, subsystem, line, room, gather, packs, out, trace)?;
+    }
+    drain(subsystem, number, gather, packs, out, trace)?;
+    Ok(())
+}
+
+/// Plays a script line by line, and behind its last line a drain, whose number is the number of lines plus one. The answers of
+/// each submission and event go to `out` behind it, and its lines to `trace`.
 ///
-/// Store and Sink come only where the count of faults of the packs, or of `out`, rose in this call; Memory only
-/// before the first line is played, with packs and `out` as they were. `trace` is not written yet.
+/// The units are attached first, in the order of their lines. TooLong tells the first of them whose image has more bytes than
+/// the blocks of its drive. Store comes only where the packs' count of faults rose in this call, and Sink only where that of
+/// `out` or of `trace` rose; Memory only before the first line is played, with the packs, `out` and `trace` as they were.
 pub fn play<P: Packs, O: Sink, T: Sink>(
     alloc: Global,
     script: &Script,
@@ -108,28 +151,31 @@ pub fn play<P: Packs, O: Sink, T: Sink>(
     out: &mut O,
     trace: &mut T,
 ) -> Result<Tally, PlayFault>
-    ensures played { OnOk result (Plays (map seen script.now) (drives_of script.now)
-        (P.tells packs.new) (P.held packs.old) (P.held packs.new) (O.tells out.new) (O.taken out.old) (O.taken out.new)) }
-    ensures obeys { OnOk result (PlaysByRules (map seen script.now) (drives_of script.now)
-        (P.tells packs.new) (P.held packs.old) (P.held packs.new) (O.tells out.new) (O.taken out.old) (O.taken out.new)) }
+    requires good { Spells all_verbs script.now.text (lines_in script.now) script.now.count }
+    ensures played { OnOk result (IsTrue (P.tells packs.new) → Plays (meaning_of script.now) (P.held packs.old) (P.held packs.new)
+        (O.tells out.new) (O.taken out.old) (O.taken out.new) (T.tells trace.new) (T.taken trace.old) (T.taken trace.new)) }
+    ensures fits { IsPlaying result → IsTrue (P.tells packs.new) → (unit n : ℕ) → ¬ (IsTooLong (meaning_of script.now) (P.held packs.old) unit n) }
+    ensures too_long { IfErr result (λ fault. IsTrue (P.tells packs.new) → IsLongFor (meaning_of script.now) (P.held packs.old) fault) }
     ensures never_again { IsTrue (P.tells packs.new) → IsTrue (P.tells packs.old) }
     ensures never_again_out { IsTrue (O.tells out.new) → IsTrue (O.tells out.old) }
+    ensures never_again_trace { IsTrue (T.tells trace.new) → IsTrue (T.tells trace.old) }
     ensures later { P.faults packs.old ≤ P.faults packs.new }
     ensures later_out { O.faults out.old ≤ O.faults out.new }
+    ensures later_trace { T.faults trace.old ≤ T.faults trace.new }
     ensures store { IsErrOf result PlayFault.Store → Rose (P.faults packs.old) (P.faults packs.new) }
-    ensures sink { IsErrOf result PlayFault.Sink → Rose (O.faults out.old) (O.faults out.new) }
-    ensures memory { IsErrOf result PlayFault.Memory → packs.new ≡ packs.old }
-    ensures memory_out { IsErrOf result PlayFault.Memory → out.new ≡ out.old }
-    ensures trace { trace.new ≡ trace.old }
+    ensures sink { IsErrOf result PlayFault.Sink → Rose (O.faults out.old) (O.faults out.new) ⊎ Rose (T.faults trace.old) (T.faults trace.new) }
+    ensures same { IsBefore result → IsTrue (P.tells packs.new) → P.held packs.new ≡ P.held packs.old }
+    ensures silent { IsBefore result → out.new ≡ out.old }
+    ensures untraced { IsBefore result → trace.new ≡ trace.old }
 {
-    let mut subsystem = Subsystem::new(alloc, &UNITS, MOST_REQUESTS, 0)?;
+    meaning_law();
+    let units = attach_units(alloc, script, packs)?;
+    let requests = count_requests(script);
+    let noises = count_noises(script);
+    let mut subsystem = Subsystem::new(alloc, units.as_slice(), requests, noises)?;
     let mut room = bytes(alloc, MOST_BYTES)?;
+    let mut gather = Gather::new(alloc)?;
     let room = room.as_mut_slice();
-    let lines = script.lines();
-    for (i, line) in lines.iter().enumerate() {
-        play_line(&mut subsystem, i as u64 + 1, line, room, packs, out, trace)?;
-    }
-    let number = lines.len() as u64 + 1;
-    drain(&mut subsystem, number, packs, out, trace)?;
+    play_lines(script, &mut subsystem, room, &mut gather, packs, out, trace)?;
     Ok(Tally)
 }

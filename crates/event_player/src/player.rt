@@ -1,174 +1,230 @@
-// What a line of a script does: a request is submitted, or an event happens; then the answers that wait are written.
-ghost use Rattle.std.specs.Prelude.{◌≡◌, ℕ, ◌<◌, ◌≤◌, [], length, take, Bool, false, IsTrue, OnOk};
-ghost use Rattle.pack_model.specs.Pack.{Pack};
-ghost use Rattle.subsystem_spec.specs.Request.Line.{Silent, Submits};
-ghost use Rattle.driver_machine.specs.Places.{Held, IsHeldFor, in_use};
-ghost use Rattle.driver_machine.specs.Acts.{Tried};
-ghost use Rattle.driver_machine.specs.Does.{Run, after_all};
-ghost use Rattle.driver_machine.specs.Events.{IsAsked, IsThere, event_acts};
-ghost use Rattle.driver_machine.specs.Measure.{work_left};
-ghost use Rattle.driver_machine.specs.Sound.{Sound};
-ghost use Rattle.driver_machine.specs.Stands.{asked};
-ghost use Rattle.driver_machine.specs.Events.{NoneOutstanding};
-ghost use Rattle.event_player.specs.Playing.{filled, seen};
-ghost use Rattle.event_player.specs.Steps.{MayPlay, PlaysLine, HasCauses};
+// What a line of a script does.
+ghost use Rattle.std.specs.Prelude.{◌≡◌, ◌*◌, ◌≤◌, ℕ, List, [], ◌++◌, length, take, false, IsTrue, OnOk, IfSome, IfNone};
+ghost use Rattle.std.specs.Box.{box_value};
+ghost use Rattle.hardware_table.specs.Noise.{LiveNoise};
+ghost use Rattle.mass_outside.specs.Causes.{HasCause};
+ghost use Rattle.script_reader.specs.Formed.{IsWritten};
+ghost use Rattle.script_reader.specs.declared.statement.Span.{Span};
+ghost use Rattle.script_reader.specs.Stored.{seen, renamed, content_by, digits_at};
+ghost use Rattle.script_meaning.specs.Meaning.{statement_of, request_of, written_of, bytes_of};
+ghost use Rattle.trace_replay.specs.Moments.{Played};
+ghost use Rattle.trace_replay.specs.Script.{Noise as NoiseInput, Plays};
+ghost use Rattle.answer_lines.specs.AnswerText.{said_text};
+ghost use Rattle.hp_events.specs.Inputs.{input_of};
+ghost use Rattle.event_player.specs.Steps.{stage, IsNoEvent, PlaysLine, Brings, MayPlay, HasData, HasCauses};
 
-use crate::answers::write_answers;
+use crate::calls::{ask, happen};
+use crate::drains::drain;
 use crate::play::PlayFault;
-use crate::script::Line;
+use answer_lines::noise_line;
+use fire_code::{Noise, class_of};
 use hp_driver::{Event, Request, Subsystem};
-use mass_outside::traits::{Packs, Sink};
+use mass_gather::Gather;
+use mass_outside::traits::{Packs, Sink, SinkFailed};
+use mass_outside::whole::write_all;
+use script_meaning::meaning_law;
+use script_reader::script::{Script, Stored};
+use script_reader::statement::{Content, Request as Asked, Span, Statement};
 
-/// `arrive 0`: the event of unit 0.
-const ARRIVE: Event = Event::Arrive { unit: 0 };
-
-/// `move 0` and `attend 0`: those of adapter 0.
-const MOVE: Event = Event::Move { adapter: 0 };
-
-const ATTEND: Event = Event::Attend { adapter: 0 };
-
-/// Submits a request at a line, with the bytes of a write.
-fn ask<O: Sink, T: Sink>(
-    subsystem: &mut Subsystem,
-    number: u64,
-    request: Request,
-    bytes: &[u8],
-    out: &mut O,
-    trace: &mut T,
-) -> Result<(), PlayFault>
-    requires going { subsystem.old.failed ≡ false }
-    requires sound { Sound subsystem.old.world }
-    requires none_waits { subsystem.old.world.answers ≡ [] }
-    requires room { in_use subsystem.old.world.places < length subsystem.old.world.places }
-    requires asked { IsAsked subsystem.old.world request (length bytes.now) }
-    ensures plays { OnOk result ((h : Held) × IsHeldFor request bytes.now h × ((tells : Bool) → (packs : ℕ → Pack)
-        → PlaysLine number (Submits (asked h)) subsystem.old.world subsystem.new.world tells packs packs (O.tells out.new) (O.taken out.old) (O.taken out.new))) }
-    ensures going { OnOk result (subsystem.new.failed ≡ false) }
+/// Says the class of noise that is armed at a line.
+fn say_noise<O: Sink>(number: u64, noise: &Noise, out: &mut O) -> Result<(), SinkFailed>
+    ensures text { (live : LiveNoise) → live.places ≡ noise.now
+        → OnOk result (IsTrue (O.tells out.new) → O.taken out.new ≡ O.taken out.old ++ said_text (Played number (NoiseInput live))) }
     ensures never_again { IsTrue (O.tells out.new) → IsTrue (O.tells out.old) }
-    ensures causes { HasCauses 0 0 (O.faults out.old) (O.faults out.new) result }
-    ensures trace { trace.new ≡ trace.old }
+    ensures cause { HasCause (O.faults out.old) (O.faults out.new) result }
 {
-    subsystem.submit(number, request, bytes, trace)?;
-    write_answers(subsystem, out)?;
-    Ok(())
+    let _ = noise.places();
+    write_all(out, noise_line(number, class_of(noise)).as_bytes())
 }
 
-/// An event happens at a line.
-fn happen<P: Packs, O: Sink, T: Sink>(
-    subsystem: &mut Subsystem,
-    number: u64,
-    event: Event,
-    packs: &mut P,
-    out: &mut O,
-    trace: &mut T,
-) -> Result<(), PlayFault>
-    requires going { subsystem.old.failed ≡ false }
-    requires sound { Sound subsystem.old.world }
-    requires none_waits { subsystem.old.world.answers ≡ [] }
-    requires there { IsThere subsystem.old.world event }
-    ensures plays { OnOk result (PlaysLine number Silent subsystem.old.world subsystem.new.world
-        (P.tells packs.new) (P.held packs.old) (P.held packs.new) (O.tells out.new) (O.taken out.old) (O.taken out.new)) }
-    ensures left { OnOk result ((t : Tried) × Run subsystem.old.world (event_acts number event t subsystem.old.world)
-        × (work_left subsystem.new.world ≡ work_left (after_all subsystem.old.world (event_acts number event t subsystem.old.world)))) }
-    ensures going { OnOk result (subsystem.new.failed ≡ false) }
-    ensures never_again { IsTrue (P.tells packs.new) → IsTrue (P.tells packs.old) }
-    ensures never_again_out { IsTrue (O.tells out.new) → IsTrue (O.tells out.old) }
-    ensures causes { HasCauses (P.faults packs.old) (P.faults packs.new) (O.faults out.old) (O.faults out.new) result }
-    ensures trace { trace.new ≡ trace.old }
-{
-    subsystem.event(number, event, packs, trace)?;
-    write_answers(subsystem, out)?;
-    Ok(())
-}
-
-/// A drain at a line: events happen until no request is outstanding.
-pub fn drain<P: Packs, O: Sink, T: Sink>(
-    subsystem: &mut Subsystem,
-    number: u64,
-    packs: &mut P,
-    out: &mut O,
-    trace: &mut T,
-) -> Result<(), PlayFault>
-    requires going { subsystem.old.failed ≡ false }
-    requires sound { Sound subsystem.old.world }
-    requires none_waits { subsystem.old.world.answers ≡ [] }
-    ensures plays { OnOk result (PlaysLine number Silent subsystem.old.world subsystem.new.world
-        (P.tells packs.new) (P.held packs.old) (P.held packs.new) (O.tells out.new) (O.taken out.old) (O.taken out.new)) }
-    ensures none_left { OnOk result (NoneOutstanding subsystem.new.world) }
-    ensures going { OnOk result (subsystem.new.failed ≡ false) }
-    ensures never_again { IsTrue (P.tells packs.new) → IsTrue (P.tells packs.old) }
-    ensures never_again_out { IsTrue (O.tells out.new) → IsTrue (O.tells out.old) }
-    ensures causes { HasCauses (P.faults packs.old) (P.faults packs.new) (O.faults out.old) (O.faults out.new) result }
-    ensures trace { trace.new ≡ trace.old }
-{
-    while let Some(event) = subsystem.next_event() {
-        happen(subsystem, number, event, packs, out, trace)?;
-    }
-    Ok(())
-}
-
-/// A request to unit 0.
-fn request(id: u32, block: u32, count: u32, write: bool) -> Request
-    ensures { result ≡ record { id = id; unit = 0; block = block; count = count; write = write } }
+/// A request as the driver takes it.
+fn request_for(asked: &Asked, write: bool) -> Request
+    ensures { result ≡ record {
+      id = asked.now.id;
+      unit = asked.now.unit;
+      part = asked.now.part;
+      block = asked.now.block;
+      count = asked.now.count;
+      write = write;
+      offset = asked.now.offset;
+      last = asked.now.last;
+    } }
 {
     Request {
-        id,
-        unit: 0,
-        block,
-        count,
+        id: asked.id,
+        unit: asked.unit,
+        part: asked.part,
+        block: asked.block,
+        count: asked.count,
         write,
+        offset: asked.offset,
+        last: asked.last,
     }
 }
 
-/// Fills the front of a room with one byte.
-fn fill(room: &mut [u8], byte: u8, size: usize)
-    requires { size ≤ length room.old }
-    ensures { take size room.new ≡ filled byte size }
+/// Puts the bytes of a write, in whole blocks, to the front of a room, and answers how many bytes it has.
+fn put_data(script: &Script, asked: &Asked, content: &Content<Span>, room: &mut [u8]) -> usize
+    requires room { length room.old ≡ 65024 }
+    requires some { 1 ≤ asked.now.count }
+    requires few { asked.now.count ≤ 127 }
+    requires last { asked.now.last ≤ 512 }
+    requires written { IsWritten asked.now.count (content_by (digits_at script.now.text) content.now) }
+    ensures bytes { take result room.new ≡ written_of asked.now (content_by (digits_at script.now.text) content.now) }
+    ensures inside { result ≤ length room.new }
+    ensures room { length room.new ≡ 65024 }
 {
-    room[..size].fill(byte);
+    meaning_law();
+    let whole = 512 * asked.count as usize;
+    let _ = script.data(content, &mut room[..whole]);
+    512 * (asked.count as usize - 1) + asked.last as usize
 }
 
-/// A line of a script, where `room` has a place for each byte of a write.
-pub fn play_line<P: Packs, O: Sink, T: Sink>(
+/// The event that a statement is: an arrival, a move, an interrupt, or a condition other than noise. None where it is none of these.
+fn event_of(statement: &Statement<Span, Box<Noise>>) -> Option<Event>
+    ensures some { IfSome result (λ event. (digits : Span → List ℕ) → statement_of (renamed digits box_value statement.now) ≡ Plays (input_of event)) }
+    ensures silent { IfSome result (λ event. (number : ℕ) → said_text (Played number (input_of event)) ≡ []) }
+    ensures none { IfNone result (IsNoEvent statement.now) }
+{
+    match statement {
+        Statement::Arrive { unit } => Some(Event::Arrive { unit: *unit }),
+        Statement::Turn { unit, sector } => Some(Event::Turn {
+            unit: *unit,
+            sector: *sector,
+        }),
+        Statement::Move { adapter } => Some(Event::Move { adapter: *adapter }),
+        Statement::Attend { adapter } => Some(Event::Attend { adapter: *adapter }),
+        Statement::Fault { unit, what, times } => Some(Event::Fault {
+            unit: *unit,
+            kind: *what,
+            times: *times,
+        }),
+        Statement::Offline { unit } => Some(Event::Online {
+            unit: *unit,
+            on: false,
+        }),
+        Statement::Online { unit } => Some(Event::Online {
+            unit: *unit,
+            on: true,
+        }),
+        Statement::Lock { unit } => Some(Event::Lock {
+            unit: *unit,
+            on: true,
+        }),
+        Statement::Unlock { unit } => Some(Event::Lock {
+            unit: *unit,
+            on: false,
+        }),
+        Statement::Unit { .. }
+        | Statement::Read { .. }
+        | Statement::Write { .. }
+        | Statement::Noise { .. }
+        | Statement::Drain => None,
+    }
+}
+
+/// A line that is no such event: a request, noise, a drain, or one that declares a drive, which does nothing.
+fn play_other<P: Packs, O: Sink, T: Sink>(
+    script: &Script,
     subsystem: &mut Subsystem,
-    number: u64,
-    line: &Line,
+    line: &Stored,
     room: &mut [u8],
+    gather: &mut Gather,
+    packs: &mut P,
+    out: &mut O,
+    trace: &mut T,
+) -> Result<(), PlayFault>
+    requires no_event { IsNoEvent line.now.statement }
+    requires going { subsystem.old.failed ≡ false }
+    requires none_waits { subsystem.old.world.answers ≡ [] }
+    requires may { MayPlay subsystem.old (statement_of (seen script.now.text line.now).statement) }
+    requires data { HasData (seen script.now.text line.now).statement }
+    requires room { length room.old ≡ 65024 }
+    requires kept { gather.old ≡ [] }
+    ensures plays { OnOk result (IsTrue (P.tells packs.new) → PlaysLine line.now.number (statement_of (seen script.now.text line.now).statement)
+        (stage P.tells P.held O.tells O.taken T.tells T.taken subsystem.old.world packs.old out.old trace.old)
+        (stage P.tells P.held O.tells O.taken T.tells T.taken subsystem.new.world packs.new out.new trace.new)) }
+    ensures brings { OnOk result (Brings (statement_of (seen script.now.text line.now).statement) subsystem.old.world subsystem.new.world) }
+    ensures going { OnOk result (subsystem.new.failed ≡ false) }
+    ensures outstanding { OnOk result (subsystem.new.outstanding ≡ subsystem.old.outstanding) }
+    ensures kept { OnOk result (gather.new ≡ []) }
+    ensures never_again { IsTrue (P.tells packs.new) → IsTrue (P.tells packs.old) }
+    ensures never_again_out { IsTrue (O.tells out.new) → IsTrue (O.tells out.old) }
+    ensures never_again_trace { IsTrue (T.tells trace.new) → IsTrue (T.tells trace.old) }
+    ensures causes { HasCauses (P.faults packs.old) (P.faults packs.new) (O.faults out.old) (O.faults out.new) (T.faults trace.old) (T.faults trace.new) result }
+{
+    let number = u64::from(line.number);
+    match &line.statement {
+        Statement::Read { request } => {
+            let request = request_for(request, false);
+            ask(subsystem, number, request, &[], gather, out, trace)
+        }
+        Statement::Write { request, content } => {
+            let size = put_data(script, request, content, room);
+            let request = request_for(request, true);
+            ask(
+                subsystem,
+                number,
+                request,
+                &room[..size],
+                gather,
+                out,
+                trace,
+            )
+        }
+        Statement::Noise {
+            unit,
+            block,
+            span,
+            places,
+        } => {
+            say_noise(number, places, out)?;
+            let event = Event::Noise {
+                unit: *unit,
+                block: *block,
+                noise: places.copy(),
+                span: *span,
+            };
+            happen(subsystem, number, event, gather, packs, out, trace)
+        }
+        Statement::Drain => drain(subsystem, number, gather, packs, out, trace),
+        _ => Ok(()),
+    }
+}
+
+/// A line of a script. `room` has a place for each byte of the longest write.
+pub fn play_line<P: Packs, O: Sink, T: Sink>(
+    script: &Script,
+    subsystem: &mut Subsystem,
+    line: &Stored,
+    room: &mut [u8],
+    gather: &mut Gather,
     packs: &mut P,
     out: &mut O,
     trace: &mut T,
 ) -> Result<(), PlayFault>
     requires going { subsystem.old.failed ≡ false }
-    requires may { MayPlay subsystem.old.world line.now }
+    requires none_waits { subsystem.old.world.answers ≡ [] }
+    requires may { MayPlay subsystem.old (statement_of (seen script.now.text line.now).statement) }
+    requires data { HasData (seen script.now.text line.now).statement }
     requires room { length room.old ≡ 65024 }
-    ensures plays { OnOk result (PlaysLine number (seen line.now) subsystem.old.world subsystem.new.world
-        (P.tells packs.new) (P.held packs.old) (P.held packs.new) (O.tells out.new) (O.taken out.old) (O.taken out.new)) }
+    requires kept { gather.old ≡ [] }
+    ensures plays { OnOk result (IsTrue (P.tells packs.new) → PlaysLine line.now.number (statement_of (seen script.now.text line.now).statement)
+        (stage P.tells P.held O.tells O.taken T.tells T.taken subsystem.old.world packs.old out.old trace.old)
+        (stage P.tells P.held O.tells O.taken T.tells T.taken subsystem.new.world packs.new out.new trace.new)) }
+    ensures brings { OnOk result (Brings (statement_of (seen script.now.text line.now).statement) subsystem.old.world subsystem.new.world) }
     ensures going { OnOk result (subsystem.new.failed ≡ false) }
+    ensures outstanding { OnOk result (subsystem.new.outstanding ≡ subsystem.old.outstanding) }
+    ensures kept { OnOk result (gather.new ≡ []) }
     ensures never_again { IsTrue (P.tells packs.new) → IsTrue (P.tells packs.old) }
     ensures never_again_out { IsTrue (O.tells out.new) → IsTrue (O.tells out.old) }
-    ensures causes { HasCauses (P.faults packs.old) (P.faults packs.new) (O.faults out.old) (O.faults out.new) result }
-    ensures trace { trace.new ≡ trace.old }
+    ensures never_again_trace { IsTrue (T.tells trace.new) → IsTrue (T.tells trace.old) }
+    ensures causes { HasCauses (P.faults packs.old) (P.faults packs.new) (O.faults out.old) (O.faults out.new) (T.faults trace.old) (T.faults trace.new) result }
 {
-    match *line {
-        Line::Unit => Ok(()),
-        Line::Read { id, block, count } => {
-            let request = request(id, block, count, false);
-            ask(subsystem, number, request, &[], out, trace)
+    match event_of(&line.statement) {
+        Some(event) => {
+            let number = u64::from(line.number);
+            happen(subsystem, number, event, gather, packs, out, trace)
         }
-        Line::Write {
-            id,
-            block,
-            count,
-            fill: byte,
-        } => {
-            let size = 512 * count as usize;
-            fill(room, byte, size);
-            let request = request(id, block, count, true);
-            ask(subsystem, number, request, &room[..size], out, trace)
-        }
-        Line::Arrive => happen(subsystem, number, ARRIVE, packs, out, trace),
-        Line::Move => happen(subsystem, number, MOVE, packs, out, trace),
-        Line::Attend => happen(subsystem, number, ATTEND, packs, out, trace),
-        Line::Drain => drain(subsystem, number, packs, out, trace),
+        None => play_other(script, subsystem, line, room, gather, packs, out, trace),
     }
 }

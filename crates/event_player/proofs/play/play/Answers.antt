@@ -1,49 +1,27 @@
-use Rattle.std.proofs.Common.{rules, ap, refl, arith}
-use Rattle.driver_laws.proofs.Sound.{sound_does}
-use Rattle.hp_driver.specs.Subsystem.{State}
-use Rattle.event_player.specs.declared.script.Line.TheVariants.{Unit as UnitLine}
-use Rattle.event_player.proofs.PlayLaws.{start_sound, so_far_none, so_far_next, so_far_end, may_play, plays_all}
-use Rattle.event_player.proofs.RuleLaws.{plays_by_rules}
+use Rattle.std.proofs.Common.{ℕ, refl}
+use Rattle.script_meaning.specs.Meaning.{meaning_of}
+use Rattle.event_player.specs.Steps.{Stage, stage}
+use Rattle.event_player.proofs.Whole.{ready_for, whole_for}
 use Rattle.event_player.proofs.play.play.Goals as goal
 
-pub loop-i-init : goal.loop-i-init
-loop-i-init g c = record {
-  never_again = search rules;
-  never_again_out = search rules;
-  later = search rules;
-  later_out = search rules;
-  trace = search rules;
-  going = search rules;
-  so_far = so_far_none c.in_ok-subsystem.subsystem.world (g.P.Packs.tells c.args.packs.now) (g.O.Sink.tells c.args.out.now) (g.P.Packs.held c.args.packs.now) (g.O.Sink.taken c.args.out.now)
-      (ap (λ (s : State). s.world) c.in_ok-subsystem.ensures);
-}
+pub play_lines-requires-clause-ready : goal.play_lines-requires-clause-ready
+play_lines-requires-clause-ready g c =
+    ready_for (meaning_of c.args.script.now) c.in_ok-units.units.items c.as_slice.result.now c.count_requests-requests.result c.count_noises-noises.result c.in_ok-subsystem.subsystem
+    c.as_slice.ensures.value c.in_ok-units.ensures.set c.count_noises-noises.ensures.count c.in_ok-subsystem.ensures
 
-pub play_line-requires-clause-may : goal.play_line-requires-clause-may
-play_line-requires-clause-may g c =
-    may_play UnitLine c.lines-lines.ensures.lines c.lines-lines.ensures.inside c.lines-lines.ensures.good (omega arith) c.loop-i.invariant.so_far
+pub returns-in_err-play_lines-clause-fits : goal.returns-in_err-play_lines-clause-fits
+returns-in_err-play_lines-clause-fits g c = λ playing t. c.in_ok-units.ensures.fits (c.in_err-play_lines.ensures.never_again t)
 
-pub loop-i-preserved : goal.loop-i-preserved
-loop-i-preserved g c = record {
-  never_again = search rules;
-  never_again_out = search rules;
-  later = search rules;
-  later_out = search rules;
-  trace = search rules;
-  going = search rules;
-  so_far = so_far_next c.lines-lines.result.now UnitLine (omega arith) refl c.in_ok-play_line.ensures.never_again c.in_ok-play_line.ensures.never_again_out c.loop-i.invariant.so_far c.in_ok-play_line.ensures.plays;
-}
-
-pub drain-requires-clause-sound : goal.drain-requires-clause-sound
-drain-requires-clause-sound g c = sound_does start_sound c.loop-i.invariant.so_far.does
+pub returns-clause-fits : goal.returns-clause-fits
+returns-clause-fits g c = λ playing t. c.in_ok-units.ensures.fits (c.in_ok-play_lines.ensures.never_again t)
 
 pub returns-clause-played : goal.returns-clause-played
 returns-clause-played g c =
-    let script = c.lines-lines.ensures in
-    let last = c.in_ok-drain.ensures in
-    plays_all script.some script.good (so_far_end script.lines (omega arith) refl last.never_again last.never_again_out c.loop-i.invariant.so_far last.plays last.none_left)
-
-pub returns-clause-obeys : goal.returns-clause-obeys
-returns-clause-obeys g c =
-    let script = c.lines-lines.ensures in
-    let last = c.in_ok-drain.ensures in
-    plays_by_rules script.some script.good (so_far_end script.lines (omega arith) refl last.never_again last.never_again_out c.loop-i.invariant.so_far last.plays last.none_left)
+    let units = c.in_ok-units.ensures in
+    let lines = c.in_ok-play_lines.ensures in
+    let old : Stage = stage g.P.Packs.tells g.P.Packs.held g.O.Sink.tells g.O.Sink.taken g.T.Sink.tells g.T.Sink.taken c.in_ok-subsystem.subsystem.world c.attach_units.new.packs c.args.out.now c.args.trace.now in
+    let new : Stage = stage g.P.Packs.tells g.P.Packs.held g.O.Sink.tells g.O.Sink.taken g.T.Sink.tells g.T.Sink.taken c.play_lines.new.subsystem.world c.play_lines.new.packs c.play_lines.new.out c.play_lines.new.trace in
+    λ t.
+    whole_for (meaning_of c.args.script.now) c.in_ok-units.units.items c.as_slice.result.now c.count_requests-requests.result c.count_noises-noises.result c.in_ok-subsystem.subsystem
+    (g.P.Packs.held c.args.packs.now) old new (c.meaning_law.ensures.read c.args.script.now.text c.args.script.now c.requires.good) c.as_slice.ensures.value units.set
+    (units.tables (lines.never_again t)) (units.same (lines.never_again t)) c.in_ok-subsystem.ensures refl (lines.plays t)

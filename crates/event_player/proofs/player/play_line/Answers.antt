@@ -1,41 +1,31 @@
-use Rattle.std.proofs.Common.{◌*◌, take}
+use Rattle.std.proofs.Common.{ℕ, [], List, take, refl, ap, ◌≡◌, ◌∙◌}
+use Rattle.std.specs.Box.{box_value}
 use Rattle.std.proofs.lemmas.Result.{on_ok_weaker}
-use Rattle.event_player.proofs.StepLaws.{plays_unit, may_read, may_write, plays_read, plays_write}
+use Rattle.hp_events.specs.declared.drain.Event.TheVariants as event
+use Rattle.hp_events.specs.Inputs.{input_of}
+use Rattle.hp_driver.specs.Subsystem.{asked}
+use Rattle.script_meaning.specs.Meaning.{statement_of}
+use Rattle.script_reader.specs.Stored.{seen, digits_at}
+use Rattle.trace_replay.specs.Script.{Statement, Drain}
+use Rattle.event_player.specs.Steps.{Stage, stage}
+use Rattle.event_player.proofs.Statements.{request_plays, request_brings, event_plays, event_line_brings, silent_plays, drain_line, drain_line_brings, read_says, write_says, noise_says, drain_says, renumbered}
 use Rattle.event_player.proofs.player.play_line.Goals as goal
 
-pub ask-requires-clause-asked : goal.ask-requires-clause-asked
-ask-requires-clause-asked g c =
-    let read = c.in-Read in
-    let request = c.request-request in
-    may_read c.args.subsystem.now.world c.args.line.now request.result read.id read.block read.count read.is request.ensures c.requires.may
+pub returns-in-Some-clause-plays : goal.returns-in-Some-clause-plays
+returns-in-Some-clause-plays g c =
+    let old : Stage = stage g.P.Packs.tells g.P.Packs.held g.O.Sink.tells g.O.Sink.taken g.T.Sink.tells g.T.Sink.taken c.args.subsystem.now.world c.args.packs.now c.args.out.now c.args.trace.now in
+    let new : Stage = stage g.P.Packs.tells g.P.Packs.held g.O.Sink.tells g.O.Sink.taken g.T.Sink.tells g.T.Sink.taken c.happen.new.subsystem.world c.happen.new.packs c.happen.new.out c.happen.new.trace in
+    let line : Statement = statement_of (seen c.args.script.now.text c.args.line.now).statement in
+    let at : line ≡ Rattle.trace_replay.specs.Script.Plays (input_of c.in-Some.event) = c.in-Some.ensures.some (digits_at c.args.script.now.text) in
+    on_ok_weaker c.happen.result
+    (λ q t. renumbered line old new c.from-number.result c.args.line.now.number c.from-number.ensures
+    (silent_plays c.from-number.result line c.in-Some.event c.args.subsystem.now old new at refl c.requires.none_waits c.requires.may (c.in-Some.ensures.silent c.from-number.result) q t))
+    c.happen.ensures.plays
 
-pub ask-requires-in-Write-clause-asked : goal.ask-requires-in-Write-clause-asked
-ask-requires-in-Write-clause-asked g c =
-    let write = c.in-Write in
-    let request = c.request-request-in-Write in
-    let bytes = take (512 * write.count) c.fill.new.room in
-    may_write c.args.subsystem.now.world c.args.line.now request.result write.id write.block write.count write.byte bytes write.is request.ensures c.fill.ensures c.requires.may
-
-pub returns-in-Unit-clause-plays : goal.returns-in-Unit-clause-plays
-returns-in-Unit-clause-plays g c =
-    plays_unit c.args.number c.args.line.now c.args.subsystem.now.world (g.P.Packs.tells c.args.packs.now) (g.O.Sink.tells c.args.out.now) (g.P.Packs.held c.args.packs.now) (g.O.Sink.taken c.args.out.now)
-    c.in-Unit.is c.requires.may.none_waits
-
-pub returns-in-Read-clause-plays : goal.returns-in-Read-clause-plays
-returns-in-Read-clause-plays g c =
-    let read = c.in-Read in
-    let request = c.request-request in
-    on_ok_weaker c.ask.result
-    (λ q. plays_read c.args.line.now request.result read.id read.block read.count _ q.0 read.is request.ensures q.1 (q.2 (g.P.Packs.tells c.args.packs.now) (g.P.Packs.held c.args.packs.now)))
-    c.ask.ensures.plays
-
-pub returns-in-Write-clause-plays : goal.returns-in-Write-clause-plays
-returns-in-Write-clause-plays g c =
-    let write = c.in-Write in
-    let request = c.request-request-in-Write in
-    let bytes = take (512 * write.count) c.fill.new.room in
-    on_ok_weaker c.ask-in-Write.result
-    (λ q.
-    plays_write c.args.line.now request.result write.id write.block write.count write.byte bytes q.0 write.is request.ensures c.fill.ensures q.1
-    (q.2 (g.P.Packs.tells c.args.packs.now) (g.P.Packs.held c.args.packs.now)))
-    c.ask-in-Write.ensures.plays
+pub returns-in-Some-clause-brings : goal.returns-in-Some-clause-brings
+returns-in-Some-clause-brings g c =
+    let old : Stage = stage g.P.Packs.tells g.P.Packs.held g.O.Sink.tells g.O.Sink.taken g.T.Sink.tells g.T.Sink.taken c.args.subsystem.now.world c.args.packs.now c.args.out.now c.args.trace.now in
+    let new : Stage = stage g.P.Packs.tells g.P.Packs.held g.O.Sink.tells g.O.Sink.taken g.T.Sink.tells g.T.Sink.taken c.happen.new.subsystem.world c.happen.new.packs c.happen.new.out c.happen.new.trace in
+    let line : Statement = statement_of (seen c.args.script.now.text c.args.line.now).statement in
+    let at : line ≡ Rattle.trace_replay.specs.Script.Plays (input_of c.in-Some.event) = c.in-Some.ensures.some (digits_at c.args.script.now.text) in
+    on_ok_weaker c.happen.result (λ q. event_line_brings c.from-number.result line (input_of c.in-Some.event) old new at q) c.happen.ensures.plays

@@ -1,0 +1,313 @@
+-- Laws of the answers that wait: the blocks of a read, the text of one answer, and of all of them one after another.
+use Rattle.std.proofs.Common.{◌≡◌, ℕ, suc, ◌+◌, ◌-◌, ◌<◌, ◌≤◌, Bool, true, false, IsTrue, List, [], ◌∷◌, ◌++◌, length, map, take, drop, refl, sym, ap, subst, ◌∙◌, arith, append-nil, append_assoc, slice_index_or, replicate, Option, Some, None, Result, Ok, Err}
+use Rattle.std.specs.Prelude.{if◌then◌else◌, ◌==◌, Contains, IfSome, IsErr}
+use Rattle.std.specs.List.{flat_map}
+use Rattle.std.proofs.lemmas.Bool.{eq-eqb}
+use Rattle.std.proofs.lemmas.List.{take-append-drop}
+use Rattle.std.proofs.Math.Seq.{take-append_seam}
+use Rattle.mass_outside.specs.declared.traits.SinkFailed.{SinkFailed}
+use Rattle.mass_outside.specs.Puts.{Puts}
+use Rattle.mass_gather.specs.Gathers.{Gathers}
+use Rattle.mass_gather.proofs.GatherLaws.{gathers_nothing, gathers_join, gathers_stop, gathers_whole}
+use Rattle.trace_replay.specs.Moments.{Answered}
+use Rattle.main_memory.specs.Blocks.{size_at}
+use Rattle.main_memory.specs.Bytes.{filled}
+use Rattle.hp_machine.specs.declared.Answer.{Answer}
+use Rattle.hp_machine.specs.declared.AnswerKind.{AnswerKind}
+use Rattle.hp_machine.specs.declared.AnswerKind.TheVariants.{ReadOk, WriteOk, Eof, Error}
+use Rattle.hp_machine.specs.declared.Cause.TheVariants.{Partition, Frames, Offline, Locked, Unforwarded, Fault}
+use Rattle.hp_machine.specs.declared.Made.{Made}
+use Rattle.hp_machine.specs.World.{World, Held, held_in, slot_at, block_in, bytes_in}
+use Rattle.hp_machine.specs.Acts.{Taken, after, after_all}
+use Rattle.hp_machine.specs.Lines.{answer_told}
+use Rattle.hp_machine.specs.Refusals.{refuses}
+use Rattle.hp_machine.specs.Sound.{Sound, SlotOk, IsGiven, IsMade}
+use Rattle.hp_slots.proofs.Lists.{Contains-first}
+use Rattle.hp_answers.specs.Waiting.{blocks_for, told_by, waiting, TakingDrops}
+use Rattle.answer_lines.specs.AnswerText.{answer_text, block_text, block_texts, blocks_text}
+use Rattle.answer_lines.specs.Blocks.{AreBlocks, blocks_in, joined}
+use Rattle.answer_lines.proofs.BlockLaws.{blocks_in-joined}
+use Rattle.answer_lines.proofs.TextLaws.{one_more}
+use Rattle.hp_driver.specs.Subsystem.{State, IsOldest}
+use Rattle.event_player.specs.Answering.{first_blocks, first_text, first_rest, IsFirst, IsFirstKind, HasBlock}
+use Rattle.event_player.specs.Steps.{takings, all_taken, waiting_text}
+
+-- THE BLOCKS OF A READ: so many, each whole but for the last one
+pub record IsRead (blocks : List (List ℕ)) (count last : ℕ) : Type 0 where
+  pub size : length blocks ≡ count
+  pub each : (k : ℕ) → k < count → length (slice_index_or blocks k []) ≡ (if k + 1 == count then last else 512)
+  pub some : 1 ≤ last
+  pub few : last ≤ 512
+
+abbrev has_slot : Option ℕ → Type 0
+has_slot o = (p : ℕ) × (o ≡ Some p)
+
+first_waits : (w : World) (made : Made) → IsOldest w made → Contains w.answers made
+first_waits w made oldest = subst (λ (answers : List Made). Contains answers made) (sym oldest.first) (Contains-first made (drop 1 w.answers))
+
+no_refusal : (count last : ℕ) → IsTrue (refuses (ReadOk count last)) → ⊥
+no_refusal count last e = cc
+
+-- a read that is answered stands in a slot
+slot_there : (w : World) (made : Made) (count last : ℕ) → Sound w → IsOldest w made → made.answer.kind ≡ ReadOk count last → has_slot made.slot
+slot_there w made count last s oldest kind = at made.slot refl
+  where
+    at : (o : Option ℕ) → made.slot ≡ o → has_slot o
+    at None e =
+        let refused : IsTrue (refuses made.answer.kind) = s.refused made (first_waits w made oldest) e in
+        absurd (no_refusal count last (subst (λ (k : AnswerKind). IsTrue (refuses k)) kind refused))
+    at (Some p) e = (p, refl)
+
+held_is : (w : World) (p : ℕ) (h : Held) → slot_at w p ≡ Some h → held_in w p ≡ h
+held_is w p h e = cc
+
+size_here : (h : Held) (k count last : ℕ) → count ≡ h.loan.count → last ≡ h.loan.last → size_at h.loan k ≡ (if k + 1 == count then last else 512)
+size_here h k count last e f = ap (λ (n : ℕ). if k + 1 == n then h.loan.last else 512) (sym e) ∙ ap (λ (n : ℕ). if k + 1 == count then n else 512) (sym f)
+
+held_read : (w : World) (p : ℕ) (h : Held) (count last : ℕ) → SlotOk w p h → IsGiven h (ReadOk count last) → IsRead h.blocks count last
+held_read w p h count last ok given =
+    let many = given.1 in
+    let short = given.2 in
+    let is = ok.loan in record {
+      size = ok.size ∙ sym many;
+      each = λ k lt. ok.whole k (omega (arith, lt, many)) ∙ size_here h k count last many short;
+      some = omega (arith, short, is.last_some);
+      few = omega (arith, short, is.last_few);
+    }
+
+pub first_blocks_at : (w : World) (made : Made) (p : ℕ) → IsOldest w made → made.slot ≡ Some p → first_blocks w w.answers ≡ (held_in w p).blocks
+first_blocks_at w made p oldest slot = ap (first_blocks w) oldest.first ∙ ap (blocks_for w) slot
+
+read_at : (w : World) (made : Made) (p count last : ℕ) → Sound w → IsOldest w made → made.answer.kind ≡ ReadOk count last → made.slot ≡ Some p → IsRead (first_blocks w w.answers) count last
+read_at w made p count last s oldest kind slot =
+    let m : IsMade w made p = s.answers made p (first_waits w made oldest) slot in
+    let here : first_blocks w w.answers ≡ m.held.blocks = first_blocks_at w made p oldest slot ∙ ap (λ (h : Held). h.blocks) (held_is w p m.held m.slot) in
+    subst (λ (blocks : List (List ℕ)). IsRead blocks count last) (sym here)
+    (held_read w p m.held count last (s.each_slot p m.held m.slot) (subst (λ (k : AnswerKind). IsGiven m.held k) kind m.given))
+
+pub read_is : {w : World} {count last : ℕ} → Sound w → IsFirstKind w (ReadOk count last) → IsRead (first_blocks w w.answers) count last
+read_is {w} {count} {last} s first =
+    let slot = slot_there w first.made count last s first.oldest first.is in
+    read_at w first.made slot.0 count last s first.oldest first.is slot.1
+
+size_bounds : (t : Bool) (last : ℕ) → 1 ≤ last → last ≤ 512 → (1 ≤ (if t then last else 512)) × ((if t then last else 512) ≤ 512)
+size_bounds true last some few = (some, few)
+size_bounds false last some few = (omega arith, omega arith)
+
+pub has_block : {w : World} {count last : ℕ} (k size : ℕ) → Sound w → IsFirstKind w (ReadOk count last) → k < count → size ≡ (if k + 1 == count then last else 512) → HasBlock w k size
+has_block {w} {count} {last} k size s first lt is =
+    let slot = slot_there w first.made count last s first.oldest first.is in
+    let read = read_is s first in
+    let bounds = size_bounds (k + 1 == count) last read.some read.few in record {
+      reads = record { made = first.made; oldest = first.oldest; count = count; last = last; ok = first.is; inside = lt };
+      slot = slot.0;
+      slot_is = slot.1;
+      long = read.each k lt ∙ sym is;
+      some = subst (λ (n : ℕ). 1 ≤ n) (sym is) bounds.0;
+      few = subst (λ (n : ℕ). n ≤ 512) (sym is) bounds.1;
+    }
+
+-- the bytes that were given for a block, as many as it has
+filled_front : (size n : ℕ) (block : List ℕ) → length block ≡ size → take size (filled n block) ≡ block
+unfolding filled
+filled_front size n block e = ap (λ (k : ℕ). take k (block ++ replicate (n - length block) 0)) (sym e) ∙ take-append_seam block (replicate (n - length block) 0)
+
+pub block_given : {w : World} {k size : ℕ} (block : HasBlock w k size) (bytes : List ℕ) → bytes ≡ filled 512 (block_in (held_in w block.slot) k)
+    → take size bytes ≡ slice_index_or (first_blocks w w.answers) k []
+block_given {w} {k} {size} block bytes is =
+    let here : slice_index_or (first_blocks w w.answers) k [] ≡ block_in (held_in w block.slot) k =
+    ap (λ (blocks : List (List ℕ)). slice_index_or blocks k []) (first_blocks_at w block.reads.made block.slot block.reads.oldest block.slot_is) in
+    let long : length (block_in (held_in w block.slot) k) ≡ size = ap (λ (b : List ℕ). length b) (sym here) ∙ block.long in
+    ap (λ (b : List ℕ). take size b) is ∙ filled_front size 512 (block_in (held_in w block.slot) k) long ∙ sym here
+
+-- THE BLOCKS SAID, one after another
+joined_is : (blocks : List (List ℕ)) → bytes_in blocks ≡ joined blocks
+joined_is [] = refl
+joined_is (block ∷ blocks) = ap (λ (rest : List ℕ). block ++ rest) (joined_is blocks)
+
+are_blocks : (blocks : List (List ℕ)) (count last : ℕ) → IsRead blocks count last → AreBlocks 512 blocks
+are_blocks blocks count last read =
+    let size = read.size in
+    let some = read.some in
+    let few = read.few in record {
+      whole = λ k more. read.each k (omega (arith, more, size)) ∙ ap (λ (t : Bool). if t then last else 512) (not_last k (omega (arith, more, size)));
+      some = λ k end. let long = at_last k (omega (arith, end, size)) in omega (arith, long, some);
+      few = λ k end. let long = at_last k (omega (arith, end, size)) in omega (arith, long, few);
+    }
+  where
+    not_last : (k : ℕ) → k + 1 < count → (k + 1 == count) ≡ false
+    not_last k lt = grind arith
+
+    at_last : (k : ℕ) → k + 1 ≡ count → length (slice_index_or blocks k []) ≡ last
+    at_last k e = read.each k (omega (arith, e)) ∙ ap (λ (t : Bool). if t then last else 512) (eq-eqb (k + 1) count e)
+
+pub rest_is : {w : World} {count last : ℕ} → Sound w → IsFirstKind w (ReadOk count last) → first_rest w (ReadOk count last) ≡ block_texts 0 (first_blocks w w.answers)
+rest_is {w} {count} {last} s first =
+    let blocks = first_blocks w w.answers in
+    ap (λ (bytes : List ℕ). block_texts 0 (blocks_in bytes)) (joined_is blocks)
+    ∙ ap (block_texts 0) (blocks_in-joined blocks (are_blocks blocks count last (read_is s first)))
+
+block_texts-append : (k : ℕ) (xs ys : List (List ℕ)) → block_texts k (xs ++ ys) ≡ block_texts k xs ++ block_texts (k + length xs) ys
+block_texts-append k [] ys = let here : k ≡ k + 0 = omega arith in ap (λ (n : ℕ). block_texts n ys) here
+block_texts-append k (x ∷ xs) ys =
+    let here : (k + 1) + length xs ≡ k + length (x ∷ xs) = omega arith in
+    ap (λ (text : List ℕ). block_text k x ++ text) (block_texts-append (k + 1) xs ys ∙ ap (λ (n : ℕ). block_texts (k + 1) xs ++ block_texts n ys) here)
+    ∙ sym (append_assoc (block_text k x) (block_texts (k + 1) xs) (block_texts (k + length (x ∷ xs)) ys))
+
+texts_parted : (blocks : List (List ℕ)) (k : ℕ) → block_texts 0 blocks ≡ block_texts 0 (take k blocks) ++ block_texts (0 + length (take k blocks)) (drop k blocks)
+texts_parted blocks k = ap (block_texts 0) (sym (take-append-drop k blocks)) ∙ block_texts-append 0 (take k blocks) (drop k blocks)
+
+-- the same text by another name
+pub gathers_same : {O T E : Type 0} {tells : O → Bool} {taken : O → List ℕ} {faults : O → ℕ} {old new : O} {kept left : List ℕ} {result : Result T E} {text : List ℕ} (other : List ℕ)
+    → Gathers tells taken faults old new kept left result text → text ≡ other → Gathers tells taken faults old new kept left result other
+gathers_same {O} {T} {E} {tells} {taken} {faults} {old} {new} {kept} {left} {result} {text} other g e = subst (λ (t : List ℕ). Gathers tells taken faults old new kept left result t) e g
+
+-- what comes behind a text that was not gathered makes no difference
+pub stopped : {O : Type 0} {tells : O → Bool} {taken : O → List ℕ} {faults : O → ℕ} {old new : O} {kept left : List ℕ} {failed : SinkFailed} {x : List ℕ} (y : List ℕ) (result : Result (Unit {0}) SinkFailed)
+    → IsErr result → Gathers {T = Unit {0}} tells taken faults old new kept left (Err failed) x → Gathers tells taken faults old new kept left result (x ++ y)
+stopped {O} {tells} {taken} {faults} {old} {new} {kept} {left} {failed} {x} y result e g = gathers_stop tells taken faults old new kept left (Err failed) result x y refl e g
+
+module _ {O : Type 0} (tells : O → Bool) (taken : O → List ℕ) (faults : O → ℕ) (old middle new : O) (kept held left : List ℕ) where
+  -- the blocks below k, and one more
+  pub blocks_more : (blocks : List (List ℕ)) (k : ℕ) (result : Result (Unit {0}) SinkFailed) → k < length blocks
+      → Gathers {T = Unit {0}} {E = SinkFailed} tells taken faults old middle kept held (Ok tt) (block_texts 0 (take k blocks))
+      → Gathers tells taken faults middle new held left result (block_text k (slice_index_or blocks k []))
+      → Gathers tells taken faults old new kept left result (block_texts 0 (take (k + 1) blocks))
+  blocks_more blocks k result lt so_far more =
+      subst (λ (text : List ℕ). Gathers tells taken faults old new kept left result text) (sym (one_more blocks k lt))
+      (gathers_join tells taken faults old middle new kept held left (Ok tt) result (block_texts 0 (take k blocks)) (block_text k (slice_index_or blocks k [])) refl so_far more)
+
+  -- where one is not gathered, those behind it make no difference
+  pub blocks_stop : {failed : SinkFailed} (blocks : List (List ℕ)) (k : ℕ) (result : Result (Unit {0}) SinkFailed) → k < length blocks → IsErr result
+      → Gathers {T = Unit {0}} {E = SinkFailed} tells taken faults old middle kept held (Ok tt) (block_texts 0 (take k blocks))
+      → Gathers {T = Unit {0}} tells taken faults middle new held left (Err failed) (block_text k (slice_index_or blocks k []))
+      → Gathers tells taken faults old new kept left result (block_texts 0 blocks)
+  blocks_stop {failed} blocks k result lt e so_far more =
+      subst (λ (text : List ℕ). Gathers tells taken faults old new kept left result text) (sym (texts_parted blocks (k + 1)))
+      (gathers_stop tells taken faults old new kept left (Err failed) result (block_texts 0 (take (k + 1) blocks))
+      (block_texts (0 + length (take (k + 1) blocks)) (drop (k + 1) blocks)) refl e (blocks_more blocks k (Err failed) lt so_far more))
+
+  -- two texts, the first of which was gathered
+  pub both_gathered : (x y : List ℕ) (result : Result (Unit {0}) SinkFailed)
+      → Gathers {T = Unit {0}} {E = SinkFailed} tells taken faults old middle kept held (Ok tt) x → Gathers tells taken faults middle new held left result y
+      → Gathers tells taken faults old new kept left result (x ++ y)
+  both_gathered x y result a b = gathers_join tells taken faults old middle new kept held left (Ok tt) result x y refl a b
+
+  -- what was gathered where nothing was kept, and is passed on, was put
+  pub written : (text : List ℕ) (result : Result (Unit {0}) SinkFailed) → kept ≡ [] → left ≡ []
+      → Gathers {T = Unit {0}} {E = SinkFailed} tells taken faults old middle kept held (Ok tt) text → Gathers tells taken faults middle new held left result []
+      → Puts tells taken faults old new result text
+  written text result none empty a b =
+      gathers_whole tells taken faults old new result text
+      (subst (λ (l : List ℕ). Gathers tells taken faults old new [] l result text) empty
+      (subst (λ (k : List ℕ). Gathers tells taken faults old new k left result text) none
+      (gathers_same text (both_gathered text [] result a b) (append-nil text))))
+
+-- what is not a read has no blocks to be said
+no_blocks : (kind : AnswerKind) (blocks : List (List ℕ)) → ((count last : ℕ) → kind ≡ ReadOk count last → ⊥) → blocks_text (answer_told kind blocks) ≡ []
+no_blocks (ReadOk count last) blocks other = absurd (other count last refl)
+no_blocks WriteOk blocks other = refl
+no_blocks Eof blocks other = refl
+no_blocks (Error Partition done) blocks other = refl
+no_blocks (Error Frames done) blocks other = refl
+no_blocks (Error Offline done) blocks other = refl
+no_blocks (Error Locked done) blocks other = refl
+no_blocks (Error Unforwarded done) blocks other = refl
+no_blocks (Error (Fault attempts) done) blocks other = refl
+
+pub nothing_behind : (w : World) (kind : AnswerKind) → ((count last : ℕ) → kind ≡ ReadOk count last → ⊥) → first_rest w kind ≡ []
+nothing_behind w kind other = no_blocks kind (first_blocks w w.answers) other
+
+-- THE TEXTS of the answers that wait: that of the oldest, and those of the others
+told_first : (w : World) (answer : Answer) (first : IsFirst w answer) → answer_text (told_by w first.made) ≡ first_text w answer
+told_first w answer first =
+    ap (λ (blocks : List (List ℕ)). answer_text (record { line = first.made.answer.at; id = first.made.answer.id; answer = answer_told first.made.answer.kind blocks }))
+    (sym (ap (first_blocks w) first.oldest.first))
+    ∙ ap (first_text w) first.is
+
+pub text_taken : TakingDrops → (w : World) (answer : Answer) → Sound w → IsFirst w answer → waiting_text w ≡ first_text w answer ++ waiting_text (after w Taken)
+text_taken drops w answer s first =
+    let made : Made = first.made in
+    let rest : List Made = drop 1 w.answers in
+    let all : waiting w ≡ told_by w made ∷ map (told_by w) rest = ap (map (told_by w)) first.oldest.first in
+    let some : 0 < length w.answers = subst (λ (answers : List Made). 0 < length answers) (sym first.oldest.first) (omega arith) in
+    let behind : waiting (after w Taken) ≡ map (told_by w) rest = drops w s some ∙ ap (λ (xs : List Answered). drop 1 xs) all in
+    ap (flat_map answer_text) all
+    ∙ ap (λ (text : List ℕ). text ++ flat_map answer_text (map (told_by w) rest)) (told_first w answer first)
+    ∙ ap (λ (xs : List Answered). first_text w answer ++ flat_map answer_text xs) (sym behind)
+
+taken_first : (w : World) (made : Made) → IsOldest w made → all_taken w ≡ all_taken (after w Taken)
+taken_first w made oldest = ap (λ (answers : List Made). after_all w (takings answers)) oldest.first
+
+none_left : (w : World) → w.answers ≡ [] → all_taken w ≡ w
+none_left w none = ap (λ (answers : List Made). after_all w (takings answers)) none
+
+-- ONE IS TAKEN, since one waits
+oldest_some : (w : World) (made : Made) → IsOldest w made → w.answers ≡ [] → ⊥
+oldest_some w made oldest none =
+    let e : made ∷ drop 1 w.answers ≡ [] = sym oldest.first ∙ none in
+    let n : suc (length (drop 1 w.answers)) ≡ 0 = ap (λ (answers : List Made). length answers) e in
+    omega (arith, n)
+
+pub is_taken : (old new : State) (answer : Answer) (result : Option Answer) → IsFirst old.world answer
+    → IfSome result (λ _. new ≡ record old { world = after old.world Taken }) → (result ≡ None → old.world.answers ≡ []) → new ≡ record old { world = after old.world Taken }
+is_taken old new answer None first taken none = absurd (oldest_some old.world first.made first.oldest (none refl))
+is_taken old new answer (Some other) first taken none = taken
+
+pub one_less : (w : World) (answer : Answer) → IsFirst w answer → length (after w Taken).answers < length w.answers
+one_less w answer first =
+    let e : length w.answers ≡ suc (length (drop 1 w.answers)) = ap (λ (answers : List Made). length answers) first.oldest.first in
+    omega (arith, e)
+
+-- THE ANSWERS SO FAR: those that are taken were gathered, and with those that wait still they are all.
+pub record SoFar {O : Type 0} (tells : O → Bool) (taken : O → List ℕ) (faults : O → ℕ) (old now : O) (kept held : List ℕ) (first s : State) : Type 0 where
+  pub front : List ℕ
+  pub gathers : Gathers {T = Unit {0}} {E = SinkFailed} tells taken faults old now kept held (Ok tt) front
+  pub text : front ++ waiting_text s.world ≡ waiting_text first.world
+  pub all : all_taken s.world ≡ all_taken first.world
+  pub state : s ≡ record first { world = s.world }
+
+module _ {O : Type 0} (tells : O → Bool) (taken : O → List ℕ) (faults : O → ℕ) (drops : TakingDrops) where
+  pub none_so_far : (out : O) (kept : List ℕ) (first : State) → SoFar tells taken faults out out kept kept first first
+  none_so_far out kept first = record {
+    front = [];
+    gathers = gathers_nothing tells taken faults out kept tt;
+    text = refl;
+    all = refl;
+    state = refl;
+  }
+
+  pub one_so_far : {old middle new : O} {kept held left : List ℕ} {first s : State} {answer : Answer} (s' : State) → SoFar tells taken faults old middle kept held first s
+      → Sound s.world → IsFirst s.world answer → Gathers {T = Unit {0}} {E = SinkFailed} tells taken faults middle new held left (Ok tt) (first_text s.world answer)
+      → s' ≡ record s { world = after s.world Taken } → SoFar tells taken faults old new kept left first s'
+  one_so_far {old} {middle} {new} {kept} {held} {left} {first} {s} {answer} s' so sound is gathers taking =
+      subst (λ (x : State). SoFar tells taken faults old new kept left first x) (sym taking) (record {
+        front = so.front ++ first_text s.world answer;
+        gathers = both_gathered tells taken faults old middle new kept held left so.front (first_text s.world answer) (Ok tt) so.gathers gathers;
+        text =
+            append_assoc so.front (first_text s.world answer) (waiting_text (after s.world Taken))
+            ∙ ap (λ (text : List ℕ). so.front ++ text) (sym (text_taken drops s.world answer sound is)) ∙ so.text;
+        all = sym (taken_first s.world is.made is.oldest) ∙ so.all;
+        state = ap (λ (x : State). record x { world = after s.world Taken }) so.state;
+      })
+
+  pub so_far_stops : {old middle new : O} {kept held left : List ℕ} {first s : State} {answer : Answer} {failed : SinkFailed} (result : Result (Unit {0}) SinkFailed)
+      → SoFar tells taken faults old middle kept held first s → Sound s.world → IsFirst s.world answer → IsErr result
+      → Gathers {T = Unit {0}} tells taken faults middle new held left (Err failed) (first_text s.world answer) → Gathers tells taken faults old new kept left result (waiting_text first.world)
+  so_far_stops {old} {middle} {new} {kept} {held} {left} {first} {s} {answer} {failed} result so sound is e gathers =
+      subst (λ (text : List ℕ). Gathers tells taken faults old new kept left result text)
+      (append_assoc so.front (first_text s.world answer) (waiting_text (after s.world Taken))
+      ∙ ap (λ (text : List ℕ). so.front ++ text) (sym (text_taken drops s.world answer sound is)) ∙ so.text)
+      (gathers_stop tells taken faults old new kept left (Err failed) result (so.front ++ first_text s.world answer) (waiting_text (after s.world Taken)) refl e
+      (both_gathered tells taken faults old middle new kept held left so.front (first_text s.world answer) (Err failed) so.gathers gathers))
+
+  pub all_so_far : {old new : O} {kept left : List ℕ} {first s : State} → SoFar tells taken faults old new kept left first s → s.world.answers ≡ []
+      → Gathers {T = Unit {0}} {E = SinkFailed} tells taken faults old new kept left (Ok tt) (waiting_text first.world)
+  all_so_far {old} {new} {kept} {left} {first} {s} so none =
+      subst (λ (text : List ℕ). Gathers {T = Unit {0}} {E = SinkFailed} tells taken faults old new kept left (Ok tt) text)
+      (sym (append-nil so.front) ∙ ap (λ (answers : List Made). so.front ++ flat_map answer_text (map (told_by s.world) answers)) (sym none) ∙ so.text) so.gathers
+
+  pub state_so_far : {old new : O} {kept left : List ℕ} {first s : State} → SoFar tells taken faults old new kept left first s → s.world.answers ≡ []
+      → s ≡ record first { world = all_taken first.world }
+  state_so_far {old} {new} {kept} {left} {first} {s} so none =
+      so.state ∙ ap (λ (w : World). record first { world = w }) (sym (none_left s.world none) ∙ so.all)

@@ -1,0 +1,412 @@
+-- There is room for what the next line brings: each line brings what it says, and so the next one may be played.
+use Rattle.std.proofs.Common.{◌≡◌, ◌≢◌, ◌⊎◌, inl, inr, ℕ, suc, ◌+◌, ◌*◌, ◌^◌, ◌<◌, ◌≤◌, ◌==◌, ◌||◌, Bool, true, false, List, [], ◌∷◌, ◌++◌, length, Option, Some, None, All, refl, sym, ap, subst, arith, ◌∙◌, length-append}
+use Rattle.std.specs.Prelude.{Contains}
+use Rattle.std.specs.List.{list_any}
+use Rattle.std.proofs.lemmas.Bool.Decides.{nat_tests}
+use Rattle.std.proofs.lemmas.List.Elements.{Contains-append_left, Contains-push}
+use Rattle.std.proofs.lemmas.Option.{none-some}
+use Rattle.fire_code.specs.Noise.{IsNoise}
+use Rattle.hardware_table.specs.Noise.{LiveNoise}
+use Rattle.pack_geometry.specs.declared.DriveKind.{DriveKind}
+use Rattle.pack_geometry.specs.Geometry.{block_count, sectors_of}
+use Rattle.hardware_table.specs.declared.FaultKind.{FaultKind}
+use Rattle.hardware_table.specs.Events.{times_armed}
+use Rattle.subsystem_spec.specs.Requests.{Request, IsRequest}
+use Rattle.trace_replay.specs.Script as script
+use Rattle.trace_replay.specs.Script.{Script, Input, Statement, Declares, Plays, Line, IsScript, IsStatement, IsInput, drives_of, ids_of, with_id, AreApart, AreNumbered}
+use Rattle.hp_machine.specs.World.{World, Held, unit_at, slot_at}
+use Rattle.hp_machine.specs.Acts.{Act, Taken, Tried, after, after_all}
+use Rattle.hp_machine.specs.declared.AnswerKind.{AnswerKind}
+use Rattle.hp_machine.specs.Events.{submit_by, submit_acts, event_acts, refusal_of, next_event}
+use Rattle.hp_machine.specs.Guards.{IsSetUp, IsHeldFor, MayChange}
+use Rattle.hp_machine.specs.Sound.{Sound, AtWork}
+use Rattle.hp_slots.proofs.Sizes.{sizes_all}
+use Rattle.hp_slots.proofs.Lists.{Contains-first, Contains-later, Contains-cases}
+use Rattle.hp_work.specs.Runs.{Run, MaySubmit, MayCome, CanCome}
+use Rattle.hp_work.proofs.Next.{next_can}
+use Rattle.hp_counts.specs.Counts.{IsWithin, in_use, noises_of, faults_of}
+use Rattle.hp_counts.proofs.Acts.{takings_add, capacity_stays}
+use Rattle.hp_counts.proofs.Events.{events_add, submissions_add}
+use Rattle.hp_counts.proofs.Units.{setups_stay}
+use Rattle.hp_answers.specs.Ids.{AreOf}
+use Rattle.hp_answers.proofs.Ids.{events_add_none, taking_adds_none, no_others}
+use Rattle.hp_answers.proofs.Ids as ids
+use Rattle.hp_driver.specs.Subsystem.{State, IsThere}
+use Rattle.event_player.specs.Playing.{AreUnits, counted, one_request, one_noise, one_fault}
+use Rattle.event_player.specs.Steps.{Stage, PlaysEvent, PlaysSubmission, Ready, Brings, MayAsk, MayPlay, takings, all_taken}
+use Rattle.event_player.proofs.Taking.{taken_by, none_waits}
+
+-- MORE ROOM is enough.
+within_more : (r r' n n' f f' : ℕ) (w : World) → r ≤ r' → n ≤ n' → f ≤ f' → IsWithin r n f w → IsWithin r' n' f' w
+within_more r r' n n' f f' w requests noises faults within = record {
+  requests = omega (arith, requests, within.requests);
+  noises = omega (arith, noises, within.noises);
+  faults = λ u kind. times (times_armed kind (unit_at w u).drive.armed) f f' (within.faults u kind) faults;
+}
+  where
+    times : (n f f' : ℕ) → n ≤ 1000 * f → f ≤ f' → n ≤ 1000 * f'
+    times n f f' le more = omega (arith, le, more)
+
+pub ready_more : (s : Script) (r r' n n' f f' : ℕ) (xs ys : List ℕ) (w : World) → r ≤ r' → n ≤ n' → f ≤ f' → ((id : ℕ) → Contains xs id → Contains ys id)
+    → Ready s r n f xs w → Ready s r' n' f' ys w
+ready_more s r r' n n' f f' xs ys w requests noises faults more ready = record {
+  units = ready.units;
+  within = within_more r r' n n' f f' w requests noises faults ready.within;
+  ids = λ p h slot. more h.id (ready.ids p h slot);
+  room = ready.room;
+  slots = ready.slots;
+  none_waits = ready.none_waits;
+}
+
+-- THE UNITS that are set up stay so.
+units_stay : (s : Script) (w : World) (acts : List Act) → AreUnits s w → AreUnits s (after_all w acts)
+units_stay s w acts units u kind is =
+    let at = units u kind is in
+    (record { unit = at.0.unit; declared = (setups_stay w acts u).declared ∙ at.0.declared }, (setups_stay w acts u).kind ∙ at.1)
+
+-- WHAT IS LEFT behind acts and the taking of their answers
+within_taken : (r n f : ℕ) (w : World) → IsWithin r n f w → IsWithin r n f (all_taken w)
+within_taken r n f w within = taken_by (IsWithin r n f) (λ x some holds. takings_add r n f x holds) w.answers w refl within
+
+ids_taken : (xs : List ℕ) (w : World) → AreOf xs w → AreOf xs (all_taken w)
+ids_taken xs w are = taken_by (AreOf xs) (λ x some holds. taking_adds_none xs x holds) w.answers w refl are
+
+ready_behind : (s : Script) (r n f : ℕ) (xs : List ℕ) (w : World) (acts : List Act) → AreUnits s w → w.book.capacity ≡ counted one_noise s.lines → length w.slots ≤ 65536
+    → IsWithin r n f (after_all w acts) → AreOf xs (after_all w acts) → Ready s r n f xs (all_taken (after_all w acts))
+ready_behind s r n f xs w acts units room slots within are =
+    let mid : World = after_all w acts in record {
+      units = units_stay s mid (takings mid.answers) (units_stay s w acts units);
+      within = within_taken r n f mid within;
+      ids = ids_taken xs mid are;
+      room = capacity_stays mid (takings mid.answers) ∙ capacity_stays w acts ∙ room;
+      slots = same_few (length w.slots) (length mid.slots) (length (all_taken mid).slots) slots (sizes_all w acts).slots (sizes_all mid (takings mid.answers)).slots;
+      none_waits = none_waits mid;
+    }
+  where
+    same_few : (a b c : ℕ) → a ≤ 65536 → b ≡ a → c ≡ b → c ≤ 65536
+    same_few a b c few is also = omega (arith, few, is, also)
+
+-- AN EVENT brings what its input says,
+same_noises : (input : Input) → noises_of input ≡ one_noise (Plays input)
+same_noises (script.Submit r) = refl
+same_noises (script.ArriveAt u) = refl
+same_noises (script.MoveAt a) = refl
+same_noises (script.AttendTo a) = refl
+same_noises script.Drain = refl
+same_noises (script.Turn u sector) = refl
+same_noises (script.Noise noise) = refl
+same_noises (script.Arm u kind times) = refl
+same_noises (script.SetOnline u on) = refl
+same_noises (script.SetLocked u on) = refl
+
+same_faults : (input : Input) → faults_of input ≡ one_fault (Plays input)
+same_faults (script.Submit r) = refl
+same_faults (script.ArriveAt u) = refl
+same_faults (script.MoveAt a) = refl
+same_faults (script.AttendTo a) = refl
+same_faults script.Drain = refl
+same_faults (script.Turn u sector) = refl
+same_faults (script.Noise noise) = refl
+same_faults (script.Arm u kind times) = refl
+same_faults (script.SetOnline u on) = refl
+same_faults (script.SetLocked u on) = refl
+
+with_more : (input : Input) (xs : List ℕ) (id : ℕ) → Contains xs id → Contains (with_id (Plays input) xs) id
+with_more (script.Submit r) xs id has = Contains-later id r.id xs has
+with_more (script.ArriveAt u) xs id has = has
+with_more (script.MoveAt a) xs id has = has
+with_more (script.AttendTo a) xs id has = has
+with_more script.Drain xs id has = has
+with_more (script.Turn u sector) xs id has = has
+with_more (script.Noise noise) xs id has = has
+with_more (script.Arm u kind times) xs id has = has
+with_more (script.SetOnline u on) xs id has = has
+with_more (script.SetLocked u on) xs id has = has
+
+event_ready : (line : ℕ) (input : Input) (old new : Stage) → PlaysEvent line input old new → (s : Script) (r n f : ℕ) (xs : List ℕ) → Ready s r n f xs old.world
+    → Ready s r (n + noises_of input) (f + faults_of input) xs new.world
+event_ready line input old new plays s r n f xs ready =
+    subst (Ready s r (n + noises_of input) (f + faults_of input) xs) (sym plays.plays.world)
+    (ready_behind s r (n + noises_of input) (f + faults_of input) xs old.world (event_acts line input plays.tried old.world) ready.units ready.room ready.slots
+    (events_add r n f old.world line input plays.tried plays.plays.run ready.within)
+    (events_add_none xs old.world line input plays.tried plays.plays.sound plays.plays.work plays.may ready.ids))
+
+more_noises : (n a b : ℕ) → a ≡ b → n + a ≤ n + b
+more_noises n a b is = omega (arith, is)
+
+pub event_brings : (line : ℕ) (input : Input) (old new : Stage) → PlaysEvent line input old new → Brings (Plays input) old.world new.world
+event_brings line input old new plays s r n f xs ready =
+    ready_more s r (r + one_request (Plays input)) (n + noises_of input) (n + one_noise (Plays input)) (f + faults_of input) (f + one_fault (Plays input)) xs (with_id (Plays input) xs) new.world
+    (omega arith) (more_noises n (noises_of input) (one_noise (Plays input)) (same_noises input)) (more_noises f (faults_of input) (one_fault (Plays input)) (same_faults input))
+    (with_more input xs) (event_ready line input old new plays s r n f xs ready)
+
+-- and one of a drain nothing;
+nothing_armed : (w : World) (input : Input) → CanCome w input → (noises_of input ≡ 0) × (faults_of input ≡ 0)
+nothing_armed w (script.ArriveAt u) can = (refl, refl)
+nothing_armed w (script.MoveAt a) can = (refl, refl)
+nothing_armed w (script.AttendTo a) can = (refl, refl)
+nothing_armed w (script.Submit r) can = (refl, refl)
+nothing_armed w script.Drain can = (refl, refl)
+nothing_armed w (script.Turn u sector) can = (refl, refl)
+nothing_armed w (script.Noise noise) can = absurd can
+nothing_armed w (script.Arm u kind times) can = absurd can
+nothing_armed w (script.SetOnline u on) can = (refl, refl)
+nothing_armed w (script.SetLocked u on) can = (refl, refl)
+
+pub drain_brings : (line : ℕ) (input : Input) (old new : Stage) → next_event old.world ≡ Some input → PlaysEvent line input old new → Brings (Plays script.Drain) old.world new.world
+drain_brings line input old new is plays s r n f xs ready =
+    let can : CanCome old.world input = next_can old.world input plays.plays.sound is in
+    ready_more s r (r + 0) (n + noises_of input) (n + 0) (f + faults_of input) (f + 0) xs xs new.world (omega arith)
+    (nothing_more n (noises_of input) (nothing_armed old.world input can).0) (nothing_more f (faults_of input) (nothing_armed old.world input can).1)
+    (λ id has. has) (event_ready line input old new plays s r n f xs ready)
+  where
+    nothing_more : (n a : ℕ) → a ≡ 0 → n + a ≤ n + 0
+    nothing_more n a is = omega (arith, is)
+
+pub still_brings : (w : World) → Brings (Plays script.Drain) w w
+still_brings w s r n f xs ready = ready_more s r (r + 0) n (n + 0) f (f + 0) xs xs w (omega arith) (omega arith) (omega arith) (λ id has. has) ready
+
+pub brings_both : (old mid new : World) → Brings (Plays script.Drain) old mid → Brings (Plays script.Drain) mid new → Brings (Plays script.Drain) old new
+brings_both old mid new one other s r n f xs ready =
+    ready_more s ((r + 0) + 0) (r + 0) ((n + 0) + 0) (n + 0) ((f + 0) + 0) (f + 0) xs xs new (omega arith) (omega arith) (omega arith) (λ id has. has)
+    (other s (r + 0) (n + 0) (f + 0) xs (one s r n f xs ready))
+
+-- a line that declares a drive brings nothing,
+pub declares_brings : (u : ℕ) (kind : DriveKind) (w : World) → Brings (Declares u kind) w w
+declares_brings u kind w s r n f xs ready = ready_more s r (r + 0) n (n + 0) f (f + 0) xs xs w (omega arith) (omega arith) (omega arith) (λ id has. has) ready
+
+-- and a submission one request.
+pub submission_brings : (line : ℕ) (r : Request) (old new : Stage) → PlaysSubmission line r old new → Brings (Plays (script.Submit r)) old.world new.world
+submission_brings line r old new plays s k n f xs ready =
+    let acts : List Act = submit_acts r line plays.slot plays.held old.world in
+    subst (Ready s (k + 1) (n + 0) (f + 0) (r.id ∷ xs)) (sym plays.plays.world)
+    (ready_behind s (k + 1) (n + 0) (f + 0) (r.id ∷ xs) old.world acts ready.units ready.room ready.slots
+    (within_more (k + 1) (k + 1) n (n + 0) f (f + 0) (after_all old.world acts) (omega arith) (omega arith) (omega arith)
+    (submissions_add k n f old.world line plays.slot r plays.held plays.plays.run ready.within))
+    (behind (refusal_of r old.world) refl))
+  where
+    behind : (refused : Option AnswerKind) → refusal_of r old.world ≡ refused
+        → AreOf (r.id ∷ xs) (after_all old.world (submit_acts r line plays.slot plays.held old.world))
+    behind None is = ids.submissions_add xs old.world line plays.slot r plays.held plays.plays.sound plays.plays.work plays.may (plays.is is).id ready.ids
+    behind (Some kind) is =
+        let other : Held = record plays.held { id = r.id } in
+        let same : submit_acts r line plays.slot other old.world ≡ submit_acts r line plays.slot plays.held old.world =
+        ap (λ (o : Option AnswerKind). submit_by o r line plays.slot other old.world) is ∙ sym (ap (λ (o : Option AnswerKind). submit_by o r line plays.slot plays.held old.world) is) in
+        subst (λ (acts : List Act). AreOf (r.id ∷ xs) (after_all old.world acts)) same
+        (ids.submissions_add xs old.world line plays.slot r other plays.plays.sound plays.plays.work
+        (record { unit = plays.may.unit; fresh = plays.may.fresh; new = λ none. absurd (none-some kind (sym none ∙ is)) }) refl ready.ids)
+
+-- COUNTS AND IDS of lines, one list behind the other
+counted_append : (one : Statement → ℕ) (xs ys : List Line) → counted one (xs ++ ys) ≡ counted one xs + counted one ys
+counted_append one [] ys = omega arith
+counted_append one (x ∷ xs) ys =
+    ap (λ (n : ℕ). one x.statement + n) (counted_append one xs ys) ∙ sums (one x.statement) (counted one xs) (counted one ys)
+  where
+    sums : (a b c : ℕ) → a + (b + c) ≡ (a + b) + c
+    sums a b c = omega arith
+
+counted_next : (one : Statement → ℕ) (xs : List Line) (line : Line) → counted one xs + one line.statement ≤ counted one (xs ++ line ∷ [])
+counted_next one xs line = last (counted one xs) (one line.statement) (counted one (xs ++ line ∷ [])) (counted_append one xs (line ∷ []))
+  where
+    last : (a b c : ℕ) → c ≡ a + (b + 0) → a + b ≤ c
+    last a b c is = omega (arith, is)
+
+with_append : (statement : Statement) (xs ys : List ℕ) → with_id statement (xs ++ ys) ≡ with_id statement xs ++ ys
+with_append (Declares u kind) xs ys = refl
+with_append (Plays (script.Submit r)) xs ys = refl
+with_append (Plays (script.ArriveAt u)) xs ys = refl
+with_append (Plays (script.MoveAt a)) xs ys = refl
+with_append (Plays (script.AttendTo a)) xs ys = refl
+with_append (Plays script.Drain) xs ys = refl
+with_append (Plays (script.Turn u sector)) xs ys = refl
+with_append (Plays (script.Noise noise)) xs ys = refl
+with_append (Plays (script.Arm u kind times)) xs ys = refl
+with_append (Plays (script.SetOnline u on)) xs ys = refl
+with_append (Plays (script.SetLocked u on)) xs ys = refl
+
+ids_append : (xs ys : List Line) → ids_of (xs ++ ys) ≡ ids_of xs ++ ids_of ys
+ids_append [] ys = refl
+ids_append (x ∷ xs) ys = ap (with_id x.statement) (ids_append xs ys) ∙ with_append x.statement (ids_of xs) (ids_of ys)
+
+moved : (statement : Statement) (xs : List ℕ) (id : ℕ) → Contains (with_id statement xs) id → Contains (xs ++ with_id statement []) id
+moved (Declares u kind) xs id has = Contains-append_left xs [] id has
+moved (Plays (script.Submit r)) xs id has = elim (Contains-cases id r.id xs has) [
+  | inl same ↦ subst (λ (n : ℕ). Contains (xs ++ r.id ∷ []) n) same (Contains-push xs r.id)
+  | inr later ↦ Contains-append_left xs (r.id ∷ []) id later
+]
+moved (Plays (script.ArriveAt u)) xs id has = Contains-append_left xs [] id has
+moved (Plays (script.MoveAt a)) xs id has = Contains-append_left xs [] id has
+moved (Plays (script.AttendTo a)) xs id has = Contains-append_left xs [] id has
+moved (Plays script.Drain) xs id has = Contains-append_left xs [] id has
+moved (Plays (script.Turn u sector)) xs id has = Contains-append_left xs [] id has
+moved (Plays (script.Noise noise)) xs id has = Contains-append_left xs [] id has
+moved (Plays (script.Arm u kind times)) xs id has = Contains-append_left xs [] id has
+moved (Plays (script.SetOnline u on)) xs id has = Contains-append_left xs [] id has
+moved (Plays (script.SetLocked u on)) xs id has = Contains-append_left xs [] id has
+
+-- BEHIND SOME LINES of a script there is room for the rest.
+abbrev pub ReadyBehind : Script → List Line → World → Type 0
+ReadyBehind s front w = Ready s (counted one_request front) (counted one_noise front) (counted one_fault front) (ids_of front) w
+
+pub ready_next : (s : Script) (front : List Line) (line : Line) (old new : World) → Brings line.statement old new → ReadyBehind s front old → ReadyBehind s (front ++ line ∷ []) new
+ready_next s front line old new brings ready =
+    ready_more s (counted one_request front + one_request line.statement) (counted one_request (front ++ line ∷ []))
+    (counted one_noise front + one_noise line.statement) (counted one_noise (front ++ line ∷ []))
+    (counted one_fault front + one_fault line.statement) (counted one_fault (front ++ line ∷ []))
+    (with_id line.statement (ids_of front)) (ids_of (front ++ line ∷ [])) new
+    (counted_next one_request front line) (counted_next one_noise front line) (counted_next one_fault front line)
+    (λ id has. subst (λ (xs : List ℕ). Contains xs id) (sym (ids_append front (line ∷ []))) (moved line.statement (ids_of front) id has))
+    (brings s (counted one_request front) (counted one_noise front) (counted one_fault front) (ids_of front) ready)
+
+-- AN ID of a line is none of those before it.
+one_of : (b c : Bool) → b ≡ true → b || c ≡ false → ⊥
+one_of true c on none = absurd (cc none)
+one_of false c on none = absurd (cc on)
+
+later_none : (b c : Bool) → b || c ≡ false → c ≡ false
+later_none true c none = absurd (cc none)
+later_none false c none = none
+
+listed : (x id : ℕ) (xs ys : List ℕ) → x ≡ id → list_any (λ other. other == x) (xs ++ id ∷ ys) ≡ false → ⊥
+listed x id [] ys same none = one_of (id == x) (list_any (λ other. other == x) ys) (is_same id x same) none
+  where
+    is_same : (a b : ℕ) → b ≡ a → (a == b) ≡ true
+    is_same a b e = grind (arith, nat_tests)
+listed x id (y ∷ xs) ys same none = listed x id xs ys same (later_none (y == x) (list_any (λ other. other == x) (xs ++ id ∷ ys)) none)
+
+not_listed : (id : ℕ) (xs ys : List ℕ) → AreApart (xs ++ id ∷ ys) → Contains xs id → ⊥
+not_listed id [] ys apart has = absurd (omega (arith, has.1))
+not_listed id (x ∷ xs) ys apart has = elim (Contains-cases id x xs has) [
+  | inl same ↦ listed x id xs ys same apart.0
+  | inr later ↦ not_listed id xs ys apart.1 later
+]
+
+-- FEW LINES arm faults.
+one_at_most : (statement : Statement) → one_fault statement ≤ 1
+one_at_most (Declares u kind) = omega arith
+one_at_most (Plays (script.Submit r)) = omega arith
+one_at_most (Plays (script.ArriveAt u)) = omega arith
+one_at_most (Plays (script.MoveAt a)) = omega arith
+one_at_most (Plays (script.AttendTo a)) = omega arith
+one_at_most (Plays script.Drain) = omega arith
+one_at_most (Plays (script.Turn u sector)) = omega arith
+one_at_most (Plays (script.Noise noise)) = omega arith
+one_at_most (Plays (script.Arm u kind times)) = omega arith
+one_at_most (Plays (script.SetOnline u on)) = omega arith
+one_at_most (Plays (script.SetLocked u on)) = omega arith
+
+few_faults : (lines : List Line) → counted one_fault lines ≤ length lines
+few_faults [] = omega arith
+few_faults (line ∷ lines) = more (one_fault line.statement) (counted one_fault lines) (length lines) (one_at_most line.statement) (few_faults lines)
+  where
+    more : (a b c : ℕ) → a ≤ 1 → b ≤ c → a + b ≤ suc c
+    more a b c one le = omega (arith, one, le)
+
+few_lines : (before count : ℕ) (lines : List Line) → AreNumbered before count lines → before + length lines ≤ count
+few_lines before count [] are = omega (arith, are)
+few_lines before count (line ∷ lines) are = more before line.number (length lines) count are.0 (few_lines line.number count lines are.1)
+  where
+    more : (a b n c : ℕ) → a < b → b + n ≤ c → a + suc n ≤ c
+    more a b n c less le = omega (arith, less, le)
+
+-- WHAT IS SAID OF A UNIT that is there
+record Found (drive : Option DriveKind) (P : DriveKind → Type 0) : Type 0 where
+  kind : DriveKind
+  is : drive ≡ Some kind
+  holds : P kind
+
+found : (drive : Option DriveKind) (P : DriveKind → Type 0) → script.IsThere drive P → Found drive P
+found None P there = absurd there
+found (Some kind) P there = record { kind = kind; is = refl; holds = there }
+
+below_by : (front one behind all used : ℕ) → all ≡ front + (one + behind) → one ≡ 1 → used ≤ front → used < all
+below_by front one behind all used whole is le = omega (arith, whole, is, le)
+
+faults_fit : (used faults lines count times : ℕ) → used ≤ 1000 * faults → faults ≤ lines → lines ≤ count → count < 2 ^ 32 → times ≤ 1000 → used + times < 2 ^ 63
+faults_fit used faults lines count times few le short small some = omega (arith, few, le, short, small, some)
+
+module _ (s : Script) (state : State) (front : List Line) (line : Line) (behind : List Line) (whole : s.lines ≡ front ++ line ∷ behind) (is : IsScript s)
+    (small : s.count < 2 ^ 32) (most : state.outstanding ≡ counted one_request s.lines) (ready : ReadyBehind s front state.world) where
+  counted_whole : (one : Statement → ℕ) → counted one s.lines ≡ counted one front + (one line.statement + counted one behind)
+  counted_whole one = ap (counted one) whole ∙ counted_append one front (line ∷ behind)
+
+  fresh_id : (r : Request) → line.statement ≡ Plays (script.Submit r) → Contains (ids_of front) r.id → ⊥
+  fresh_id r at has =
+      let whole_ids : ids_of s.lines ≡ ids_of front ++ r.id ∷ ids_of behind =
+      ap ids_of whole ∙ ids_append front (line ∷ behind) ∙ ap (λ (st : Statement). ids_of front ++ with_id st (ids_of behind)) at in
+      not_listed r.id (ids_of front) (ids_of behind) (subst AreApart whole_ids is.ids) has
+
+  may_ask : (r : Request) → line.statement ≡ Plays (script.Submit r) → script.IsThere (drives_of s r.unit) (λ kind. IsRequest r) → MayAsk state r
+  may_ask r at there =
+      let unit : Found (drives_of s r.unit) (λ kind. IsRequest r) = found (drives_of s r.unit) (λ kind. IsRequest r) there in
+      record {
+        unit = (ready.units r.unit unit.kind unit.is).0;
+        request = unit.holds;
+        fresh = no_others (ids_of front) state.world r.id ready.ids (fresh_id r at);
+        room = subst (λ (n : ℕ). in_use state.world.slots < n) (sym most)
+            (below_by (counted one_request front) (one_request line.statement) (counted one_request behind) (counted one_request s.lines) (in_use state.world.slots)
+            (counted_whole one_request) (ap one_request at) ready.within.requests);
+      }
+
+  set_up : (u : ℕ) → script.IsThere (drives_of s u) (λ kind. Unit {0}) → IsSetUp state.world u
+  set_up u there =
+      let unit : Found (drives_of s u) (λ kind. Unit {0}) = found (drives_of s u) (λ kind. Unit {0}) there in
+      (ready.units u unit.kind unit.is).0
+
+  may_turn : (u sector : ℕ) → script.IsThere (drives_of s u) (λ kind. sector < sectors_of kind) → MayChange state.world (script.Turn u sector)
+  may_turn u sector there =
+      let unit : Found (drives_of s u) (λ kind. sector < sectors_of kind) = found (drives_of s u) (λ kind. sector < sectors_of kind) there in
+      let at = ready.units u unit.kind unit.is in
+      (at.0, subst (λ (k : DriveKind). sector < sectors_of k) (sym at.1) unit.holds)
+
+  may_strike : (noise : LiveNoise) → line.statement ≡ Plays (script.Noise noise)
+      → script.IsThere (drives_of s noise.unit) (λ kind. (noise.block < block_count kind) × IsNoise noise.places × script.IsSpan noise.span) → MayChange state.world (script.Noise noise)
+  may_strike noise at there =
+      let unit : Found (drives_of s noise.unit) (λ kind. (noise.block < block_count kind) × IsNoise noise.places × script.IsSpan noise.span) =
+      found (drives_of s noise.unit) (λ kind. (noise.block < block_count kind) × IsNoise noise.places × script.IsSpan noise.span) there in
+      let set = ready.units noise.unit unit.kind unit.is in (
+        set.0,
+        subst (λ (k : DriveKind). noise.block < block_count k) (sym set.1) unit.holds.0,
+        unit.holds.1,
+        unit.holds.2,
+        subst (λ (n : ℕ). state.world.book.armed < n) (sym ready.room)
+            (below_by (counted one_noise front) (one_noise line.statement) (counted one_noise behind) (counted one_noise s.lines) state.world.book.armed
+            (counted_whole one_noise) (ap one_noise at) ready.within.noises),
+      )
+
+  few_so_far : counted one_fault front ≤ s.count
+  few_so_far =
+      fewer (counted one_fault front) (one_fault line.statement + counted one_fault behind) (counted one_fault s.lines) (length s.lines) s.count
+      (counted_whole one_fault) (few_faults s.lines) (few_lines 0 s.count s.lines is.numbers)
+    where
+      fewer : (a b c n k : ℕ) → c ≡ a + b → c ≤ n → 0 + n ≤ k → a ≤ k
+      fewer a b c n k is le few = omega (arith, is, le, few)
+
+  may_arm : (u : ℕ) (kind : FaultKind) (times : ℕ) → script.IsThere (drives_of s u) (λ drive. (1 ≤ times) × (times ≤ 1000)) → MayChange state.world (script.Arm u kind times)
+  may_arm u kind times there =
+      let unit : Found (drives_of s u) (λ drive. (1 ≤ times) × (times ≤ 1000)) = found (drives_of s u) (λ drive. (1 ≤ times) × (times ≤ 1000)) there in (
+        (ready.units u unit.kind unit.is).0,
+        unit.holds.0,
+        unit.holds.1,
+        faults_fit (times_armed kind (unit_at state.world u).drive.armed) (counted one_fault front) s.count s.count times (ready.within.faults u kind) few_so_far (omega arith) small unit.holds.1,
+      )
+
+  -- THE NEXT LINE may be played.
+  may_input : (input : Input) → line.statement ≡ Plays input → IsInput (drives_of s) input → MayPlay state (Plays input)
+  may_input (script.Submit r) at there = may_ask r at there
+  may_input (script.ArriveAt u) at there = set_up u there
+  may_input (script.MoveAt a) at there = there
+  may_input (script.AttendTo a) at there = there
+  may_input script.Drain at there = ready.slots
+  may_input (script.Turn u sector) at there = may_turn u sector there
+  may_input (script.Noise noise) at there = may_strike noise at there
+  may_input (script.Arm u kind times) at there = may_arm u kind times there
+  may_input (script.SetOnline u on) at there = set_up u there
+  may_input (script.SetLocked u on) at there = set_up u there
+
+  may_state : (statement : Statement) → line.statement ≡ statement → IsStatement (drives_of s) statement → MayPlay state statement
+  may_state (Declares u kind) at there = tt
+  may_state (Plays input) at there = may_input input at there
+
+  pub may_play : IsStatement (drives_of s) line.statement → MayPlay state line.statement
+  may_play there = may_state line.statement refl there

@@ -1,0 +1,33 @@
+use Rattle.std.proofs.Common.{refl}
+use Rattle.hp_events.specs.Inputs.{input_of}
+use Rattle.event_player.specs.Steps.{Stage, stage}
+use Rattle.event_player.proofs.Draining.{drain_plays, drain_nothing}
+use Rattle.event_player.proofs.Rooms.{drain_brings, brings_both}
+use Rattle.event_player.proofs.Taking.{plays_none}
+use Rattle.event_player.proofs.drains.drain.Goals as goal
+
+pub returns-in_default-clause-plays : goal.returns-in_default-clause-plays
+returns-in_default-clause-plays g c =
+    let old : Stage = stage g.P.Packs.tells g.P.Packs.held g.O.Sink.tells g.O.Sink.taken g.T.Sink.tells g.T.Sink.taken c.args.subsystem.now.world c.args.packs.now c.args.out.now c.args.trace.now in
+    let new : Stage = stage g.P.Packs.tells g.P.Packs.held g.O.Sink.tells g.O.Sink.taken g.T.Sink.tells g.T.Sink.taken c.args.subsystem.now.world c.args.packs.now c.args.out.now c.say_idle.new.trace in
+    λ t. drain_nothing c.args.number old new c.in_default.ensures.over refl refl refl c.in_ok-say_idle.ensures.bytes
+
+pub go_on-requires-clause-none_waits : goal.go_on-requires-clause-none_waits
+go_on-requires-clause-none_waits g c = plays_none c.in_ok-happen.ensures.plays.plays
+
+pub returns-clause-plays : goal.returns-clause-plays
+returns-clause-plays g c =
+    let happens = c.in_ok-happen.ensures in
+    let goes = c.in_ok-go_on.ensures in
+    let old : Stage = stage g.P.Packs.tells g.P.Packs.held g.O.Sink.tells g.O.Sink.taken g.T.Sink.tells g.T.Sink.taken c.args.subsystem.now.world c.args.packs.now c.args.out.now c.args.trace.now in
+    let mid : Stage = stage g.P.Packs.tells g.P.Packs.held g.O.Sink.tells g.O.Sink.taken g.T.Sink.tells g.T.Sink.taken c.happen.new.subsystem.world c.happen.new.packs c.happen.new.out c.happen.new.trace in
+    let new : Stage = stage g.P.Packs.tells g.P.Packs.held g.O.Sink.tells g.O.Sink.taken g.T.Sink.tells g.T.Sink.taken c.go_on.new.subsystem.world c.go_on.new.packs c.go_on.new.out c.go_on.new.trace in
+    λ t. drain_plays c.args.number (input_of c.in-Some.first) old mid new (goes.never_again t) goes.never_again_out goes.never_again_trace c.in-Some.ensures.next c.requires.none_waits c.requires.few
+    happens.plays (goes.plays t)
+
+pub returns-clause-brings : goal.returns-clause-brings
+returns-clause-brings g c =
+    let old : Stage = stage g.P.Packs.tells g.P.Packs.held g.O.Sink.tells g.O.Sink.taken g.T.Sink.tells g.T.Sink.taken c.args.subsystem.now.world c.args.packs.now c.args.out.now c.args.trace.now in
+    let mid : Stage = stage g.P.Packs.tells g.P.Packs.held g.O.Sink.tells g.O.Sink.taken g.T.Sink.tells g.T.Sink.taken c.happen.new.subsystem.world c.happen.new.packs c.happen.new.out c.happen.new.trace in
+    brings_both c.args.subsystem.now.world c.happen.new.subsystem.world c.go_on.new.subsystem.world
+    (drain_brings c.args.number (input_of c.in-Some.first) old mid c.in-Some.ensures.next c.in_ok-happen.ensures.plays) c.in_ok-go_on.ensures.brings

@@ -1,0 +1,61 @@
+use Rattle.std.proofs.Common.{rules}
+use Rattle.hp_events.specs.Inputs.{input_of}
+use Rattle.event_player.specs.Steps.{Stage, stage}
+use Rattle.event_player.proofs.Draining.{draining_starts, draining_next, draining_over, draining_never}
+use Rattle.event_player.proofs.Rooms.{drain_brings, still_brings, brings_both}
+use Rattle.event_player.proofs.Taking.{plays_none}
+use Rattle.event_player.proofs.drains.go_on.Goals as goal
+
+pub loop-turn-init : goal.loop-turn-init
+loop-turn-init g c =
+    let old : Stage = stage g.P.Packs.tells g.P.Packs.held g.O.Sink.tells g.O.Sink.taken g.T.Sink.tells g.T.Sink.taken c.args.subsystem.now.world c.args.packs.now c.args.out.now c.args.trace.now in
+    record {
+      never_again = search rules;
+      never_again_out = search rules;
+      never_again_trace = search rules;
+      later = search rules;
+      later_out = search rules;
+      later_trace = search rules;
+      going = search rules;
+      outstanding = search rules;
+      none_waits = search rules;
+      kept = search rules;
+      brings = still_brings c.args.subsystem.now.world;
+      plays = λ t. draining_starts c.args.number old;
+    }
+
+pub returns-in_default-clause-plays : goal.returns-in_default-clause-plays
+returns-in_default-clause-plays g c =
+    let old : Stage = stage g.P.Packs.tells g.P.Packs.held g.O.Sink.tells g.O.Sink.taken g.T.Sink.tells g.T.Sink.taken c.args.subsystem.now.world c.args.packs.now c.args.out.now c.args.trace.now in
+    let now : Stage = stage g.P.Packs.tells g.P.Packs.held g.O.Sink.tells g.O.Sink.taken g.T.Sink.tells g.T.Sink.taken c.loop-turn.subsystem.world c.loop-turn.packs c.loop-turn.out c.loop-turn.trace in
+    λ t. draining_over c.args.number c.loop-turn.turn old now c.in_default.ensures.over (c.loop-turn.invariant.plays t)
+
+pub loop-turn-preserved : goal.loop-turn-preserved
+loop-turn-preserved g c =
+    let so = c.loop-turn.invariant in
+    let happens = c.in_ok-happen.ensures in
+    let old : Stage = stage g.P.Packs.tells g.P.Packs.held g.O.Sink.tells g.O.Sink.taken g.T.Sink.tells g.T.Sink.taken c.args.subsystem.now.world c.args.packs.now c.args.out.now c.args.trace.now in
+    let mid : Stage = stage g.P.Packs.tells g.P.Packs.held g.O.Sink.tells g.O.Sink.taken g.T.Sink.tells g.T.Sink.taken c.loop-turn.subsystem.world c.loop-turn.packs c.loop-turn.out c.loop-turn.trace in
+    let new : Stage = stage g.P.Packs.tells g.P.Packs.held g.O.Sink.tells g.O.Sink.taken g.T.Sink.tells g.T.Sink.taken c.happen.new.subsystem.world c.happen.new.packs c.happen.new.out c.happen.new.trace in
+    record {
+      never_again = λ t. so.never_again (happens.never_again t);
+      never_again_out = λ t. so.never_again_out (happens.never_again_out t);
+      never_again_trace = λ t. so.never_again_trace (happens.never_again_trace t);
+      later = search rules;
+      later_out = search rules;
+      later_trace = search rules;
+      going = happens.going;
+      outstanding = search rules;
+      none_waits = plays_none happens.plays.plays;
+      kept = happens.kept;
+      brings = brings_both c.args.subsystem.now.world c.loop-turn.subsystem.world c.happen.new.subsystem.world so.brings
+          (drain_brings c.args.number (input_of c.in-Some.event) mid new c.in-Some.ensures.next happens.plays);
+      plays = λ t. draining_next c.args.number c.loop-turn.turn (input_of c.in-Some.event) old mid new t happens.never_again_out happens.never_again_trace c.in-Some.ensures.next
+          so.none_waits happens.plays (so.plays (happens.never_again t));
+    }
+
+pub returns-clause-plays : goal.returns-clause-plays
+returns-clause-plays g c =
+    let old : Stage = stage g.P.Packs.tells g.P.Packs.held g.O.Sink.tells g.O.Sink.taken g.T.Sink.tells g.T.Sink.taken c.args.subsystem.now.world c.args.packs.now c.args.out.now c.args.trace.now in
+    let now : Stage = stage g.P.Packs.tells g.P.Packs.held g.O.Sink.tells g.O.Sink.taken g.T.Sink.tells g.T.Sink.taken c.loop-turn.subsystem.world c.loop-turn.packs c.loop-turn.out c.loop-turn.trace in
+    λ t. draining_never c.args.number c.loop-turn.turn old now c.loop-turn-test.false (c.loop-turn.invariant.plays t)

@@ -1,0 +1,85 @@
+use Rattle.std.proofs.Common.{rules, ◌≡◌, ◌<◌, ◌≤◌, ℕ, ◌+◌, List, length, get_or, subst, sym, arith, ◌∙◌, ap}
+use Rattle.std.proofs.lemmas.List.{length-map}
+use Rattle.script_reader.specs.Known.{Numbered}
+use Rattle.script_reader.specs.Stored.{Kept, seen, lines_in}
+use Rattle.script_reader.specs.Words.{all_verbs}
+use Rattle.script_meaning.specs.Meaning.{line_of, meaning_of}
+use Rattle.trace_replay.specs.Script.{IsScript}
+use Rattle.event_player.specs.Steps.{Stage, stage, PlaysDrain}
+use Rattle.event_player.proofs.Whole.{plays_none_yet, plays_end, next_may, next_ready, next_plays, next_data}
+use Rattle.event_player.proofs.play.play_lines.Goals as goal
+
+pub loop-i-init : goal.loop-i-init
+loop-i-init g c =
+    let old : Stage = stage g.P.Packs.tells g.P.Packs.held g.O.Sink.tells g.O.Sink.taken g.T.Sink.tells g.T.Sink.taken c.args.subsystem.now.world c.args.packs.now c.args.out.now c.args.trace.now in
+    let script : IsScript (meaning_of c.args.script.now) = c.meaning_law.ensures.read c.args.script.now.text c.args.script.now c.requires.good in
+    record {
+      never_again = search rules;
+      never_again_out = search rules;
+      never_again_trace = search rules;
+      later = search rules;
+      later_out = search rules;
+      later_trace = search rules;
+      going = search rules;
+      outstanding = search rules;
+      kept = search rules;
+      ready = c.requires.ready;
+      plays = λ t. plays_none_yet (meaning_of c.args.script.now) old script;
+    }
+
+pub play_line-requires-clause-may : goal.play_line-requires-clause-may
+play_line-requires-clause-may g c =
+    let stored = c.args.script.now in
+    let item = c.index-lines-i.result in
+    let is : item ≡ get_or stored.lines c.loop-i.i item = subst (λ (xs : List Kept). item ≡ get_or xs c.loop-i.i item) c.lines-lines.ensures c.index-lines-i.is in
+    let lt : c.loop-i.i < length stored.lines = subst (λ (xs : List Kept). c.loop-i.i < length xs) c.lines-lines.ensures c.loop-i-test.true in
+    let script : IsScript (meaning_of stored) = c.meaning_law.ensures.read stored.text stored c.requires.good in
+    let small : stored.count < 4294967296 = omega (arith, c.count.ensures) in
+    next_may stored c.loop-i.i item is lt c.loop-i.subsystem script small (c.loop-i.invariant.outstanding ∙ c.requires.outstanding) c.loop-i.invariant.ready
+
+pub play_line-requires-clause-data : goal.play_line-requires-clause-data
+play_line-requires-clause-data g c =
+    let stored = c.args.script.now in
+    let item = c.index-lines-i.result in
+    let is : item ≡ get_or stored.lines c.loop-i.i item = subst (λ (xs : List Kept). item ≡ get_or xs c.loop-i.i item) c.lines-lines.ensures c.index-lines-i.is in
+    let lt : c.loop-i.i < length stored.lines = subst (λ (xs : List Kept). c.loop-i.i < length xs) c.lines-lines.ensures c.loop-i-test.true in
+    next_data stored c.loop-i.i item is lt (c.read_back_law.ensures.well all_verbs stored.text (lines_in stored) stored.count c.requires.good)
+
+pub loop-i-preserved : goal.loop-i-preserved
+loop-i-preserved g c =
+    let so = c.loop-i.invariant in
+    let plays = c.in_ok-play_line.ensures in
+    let old : Stage = stage g.P.Packs.tells g.P.Packs.held g.O.Sink.tells g.O.Sink.taken g.T.Sink.tells g.T.Sink.taken c.args.subsystem.now.world c.args.packs.now c.args.out.now c.args.trace.now in
+    let mid : Stage = stage g.P.Packs.tells g.P.Packs.held g.O.Sink.tells g.O.Sink.taken g.T.Sink.tells g.T.Sink.taken c.loop-i.subsystem.world c.loop-i.packs c.loop-i.out c.loop-i.trace in
+    let new : Stage = stage g.P.Packs.tells g.P.Packs.held g.O.Sink.tells g.O.Sink.taken g.T.Sink.tells g.T.Sink.taken c.play_line.new.subsystem.world c.play_line.new.packs c.play_line.new.out c.play_line.new.trace in
+    let stored = c.args.script.now in
+    let item = c.index-lines-i.result in
+    let is : item ≡ get_or stored.lines c.loop-i.i item = subst (λ (xs : List Kept). item ≡ get_or xs c.loop-i.i item) c.lines-lines.ensures c.index-lines-i.is in
+    let lt : c.loop-i.i < length stored.lines = subst (λ (xs : List Kept). c.loop-i.i < length xs) c.lines-lines.ensures c.loop-i-test.true in
+    record {
+      never_again = λ t. so.never_again (plays.never_again t);
+      never_again_out = λ t. so.never_again_out (plays.never_again_out t);
+      never_again_trace = λ t. so.never_again_trace (plays.never_again_trace t);
+      later = search rules;
+      later_out = search rules;
+      later_trace = search rules;
+      going = plays.going;
+      outstanding = plays.outstanding ∙ so.outstanding;
+      kept = plays.kept;
+      ready = next_ready stored c.loop-i.i item is lt c.loop-i.subsystem.world c.play_line.new.subsystem.world plays.brings so.ready;
+      plays = λ t. next_plays stored c.loop-i.i item is lt old mid new plays.never_again_out plays.never_again_trace (plays.plays t) (so.plays (plays.never_again t));
+    }
+
+pub returns-clause-plays : goal.returns-clause-plays
+returns-clause-plays g c =
+    let drains = c.in_ok-drain.ensures in
+    let old : Stage = stage g.P.Packs.tells g.P.Packs.held g.O.Sink.tells g.O.Sink.taken g.T.Sink.tells g.T.Sink.taken c.args.subsystem.now.world c.args.packs.now c.args.out.now c.args.trace.now in
+    let mid : Stage = stage g.P.Packs.tells g.P.Packs.held g.O.Sink.tells g.O.Sink.taken g.T.Sink.tells g.T.Sink.taken c.loop-i.subsystem.world c.loop-i.packs c.loop-i.out c.loop-i.trace in
+    let new : Stage = stage g.P.Packs.tells g.P.Packs.held g.O.Sink.tells g.O.Sink.taken g.T.Sink.tells g.T.Sink.taken c.drain.new.subsystem.world c.drain.new.packs c.drain.new.out c.drain.new.trace in
+    let stored = c.args.script.now in
+    let past : length stored.lines ≤ c.loop-i.i = subst (λ (xs : List Kept). length xs ≤ c.loop-i.i) c.lines-lines.ensures c.loop-i-test.false in
+    let all : length (meaning_of stored).lines ≤ c.loop-i.i =
+    subst (λ (n : ℕ). n ≤ c.loop-i.i) (sym (length-map (lines_in stored) line_of ∙ length-map stored.lines (seen stored.text))) past in
+    let number : c.from-number.result + 1 ≡ stored.count + 1 = ap (λ (n : ℕ). n + 1) (c.from-number.ensures ∙ c.count.ensures) in
+    λ t. plays_end (meaning_of stored) c.loop-i.i old mid new all drains.never_again_out drains.never_again_trace
+    (subst (λ (n : ℕ). PlaysDrain n mid new) number (drains.plays t)) (c.loop-i.invariant.plays (drains.never_again t))

@@ -1,0 +1,24 @@
+use Rattle.std.proofs.Common.{◌≡◌, ◌≤◌, [], false, take, IsTrue}
+use Rattle.script_meaning.specs.Meaning.{meaning_of}
+use Rattle.event_player.specs.Steps.{stage}
+use Rattle.event_player.proofs.Rooms.{ReadyBehind}
+use Rattle.event_player.proofs.Whole.{PlaysTo}
+use Rattle.event_player.proofs.play.play_lines.Given as goal
+
+-- the lines below i are played
+abbrev pub invariant-loop-i : goal.invariant-loop-i
+invariant-loop-i g l = record {
+  never_again : IsTrue (g.P.Packs.tells l.packs) → IsTrue (g.P.Packs.tells l.fn.packs);
+  never_again_out : IsTrue (g.O.Sink.tells l.out) → IsTrue (g.O.Sink.tells l.fn.out);
+  never_again_trace : IsTrue (g.T.Sink.tells l.trace) → IsTrue (g.T.Sink.tells l.fn.trace);
+  later : g.P.Packs.faults l.fn.packs ≤ g.P.Packs.faults l.packs;
+  later_out : g.O.Sink.faults l.fn.out ≤ g.O.Sink.faults l.out;
+  later_trace : g.T.Sink.faults l.fn.trace ≤ g.T.Sink.faults l.trace;
+  going : l.subsystem.failed ≡ false;
+  outstanding : l.subsystem.outstanding ≡ l.fn.subsystem.outstanding;
+  kept : l.gather ≡ [];
+  ready : ReadyBehind (meaning_of l.script) (take l.i (meaning_of l.script).lines) l.subsystem.world;
+  plays : IsTrue (g.P.Packs.tells l.packs) → PlaysTo (meaning_of l.script)
+      (stage g.P.Packs.tells g.P.Packs.held g.O.Sink.tells g.O.Sink.taken g.T.Sink.tells g.T.Sink.taken l.fn.subsystem.world l.fn.packs l.fn.out l.fn.trace)
+      (stage g.P.Packs.tells g.P.Packs.held g.O.Sink.tells g.O.Sink.taken g.T.Sink.tells g.T.Sink.taken l.subsystem.world l.packs l.out l.trace) l.i;
+}

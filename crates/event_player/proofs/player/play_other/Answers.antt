@@ -1,0 +1,103 @@
+use Rattle.std.proofs.Common.{ℕ, [], List, take, refl, ap, ◌≡◌, ◌∙◌}
+use Rattle.std.specs.Box.{box_value}
+use Rattle.std.proofs.lemmas.Result.{on_ok_weaker}
+use Rattle.hp_events.specs.declared.drain.Event.TheVariants as event
+use Rattle.hp_events.specs.Inputs.{input_of}
+use Rattle.hp_driver.specs.Subsystem.{asked}
+use Rattle.script_meaning.specs.Meaning.{statement_of}
+use Rattle.script_reader.specs.Stored.{seen, digits_at}
+use Rattle.trace_replay.specs.Script.{Statement, Drain}
+use Rattle.event_player.specs.Steps.{Stage, stage}
+use Rattle.event_player.proofs.Statements.{request_plays, request_brings, event_plays, event_line_brings, silent_plays, drain_line, drain_line_brings, read_says, write_says, noise_says, drain_says, renumbered}
+use Rattle.event_player.proofs.player.play_other.Goals as goal
+
+pub returns-in-Read-clause-plays : goal.returns-in-Read-clause-plays
+returns-in-Read-clause-plays g c =
+    let old : Stage = stage g.P.Packs.tells g.P.Packs.held g.O.Sink.tells g.O.Sink.taken g.T.Sink.tells g.T.Sink.taken c.args.subsystem.now.world c.args.packs.now c.args.out.now c.args.trace.now in
+    let new : Stage = stage g.P.Packs.tells g.P.Packs.held g.O.Sink.tells g.O.Sink.taken g.T.Sink.tells g.T.Sink.taken c.ask.new.subsystem.world c.args.packs.now c.ask.new.out c.ask.new.trace in
+    let line : Statement = statement_of (seen c.args.script.now.text c.args.line.now).statement in
+    let request = c.request_for-request.result in
+    let at = read_says c.args.script.now.text c.args.line.now c.in-Read.request request c.in-Read.is c.request_for-request.ensures in
+    on_ok_weaker c.ask.result
+    (λ q t. renumbered line old new c.from-number.result c.args.line.now.number c.from-number.ensures
+    (request_plays c.from-number.result line (asked request []) c.args.subsystem.now old new at refl c.requires.none_waits c.requires.may (q (g.P.Packs.tells c.args.packs.now) (g.P.Packs.held c.args.packs.now))))
+    c.ask.ensures.plays
+
+pub returns-in-Read-clause-brings : goal.returns-in-Read-clause-brings
+returns-in-Read-clause-brings g c =
+    let old : Stage = stage g.P.Packs.tells g.P.Packs.held g.O.Sink.tells g.O.Sink.taken g.T.Sink.tells g.T.Sink.taken c.args.subsystem.now.world c.args.packs.now c.args.out.now c.args.trace.now in
+    let new : Stage = stage g.P.Packs.tells g.P.Packs.held g.O.Sink.tells g.O.Sink.taken g.T.Sink.tells g.T.Sink.taken c.ask.new.subsystem.world c.args.packs.now c.ask.new.out c.ask.new.trace in
+    let line : Statement = statement_of (seen c.args.script.now.text c.args.line.now).statement in
+    let request = c.request_for-request.result in
+    let at = read_says c.args.script.now.text c.args.line.now c.in-Read.request request c.in-Read.is c.request_for-request.ensures in
+    on_ok_weaker c.ask.result
+    (λ q. request_brings c.from-number.result line (asked request []) old new at (q (g.P.Packs.tells c.args.packs.now) (g.P.Packs.held c.args.packs.now)))
+    c.ask.ensures.plays
+
+pub returns-in-Write-clause-plays : goal.returns-in-Write-clause-plays
+returns-in-Write-clause-plays g c =
+    let old : Stage = stage g.P.Packs.tells g.P.Packs.held g.O.Sink.tells g.O.Sink.taken g.T.Sink.tells g.T.Sink.taken c.args.subsystem.now.world c.args.packs.now c.args.out.now c.args.trace.now in
+    let new : Stage = stage g.P.Packs.tells g.P.Packs.held g.O.Sink.tells g.O.Sink.taken g.T.Sink.tells g.T.Sink.taken c.ask-in-Write.new.subsystem.world c.args.packs.now c.ask-in-Write.new.out c.ask-in-Write.new.trace in
+    let line : Statement = statement_of (seen c.args.script.now.text c.args.line.now).statement in
+    let request = c.request_for-request-in-Write.result in
+    let bytes : List ℕ = take c.put_data-size.result c.put_data-size.new.room in
+    let at = write_says c.args.script.now.text c.args.line.now c.in-Write.request c.in-Write.content request bytes c.in-Write.is c.request_for-request-in-Write.ensures c.put_data-size.ensures.bytes in
+    on_ok_weaker c.ask-in-Write.result
+    (λ q t. renumbered line old new c.from-number.result c.args.line.now.number c.from-number.ensures
+    (request_plays c.from-number.result line (asked request bytes) c.args.subsystem.now old new at refl c.requires.none_waits c.requires.may (q (g.P.Packs.tells c.args.packs.now) (g.P.Packs.held c.args.packs.now))))
+    c.ask-in-Write.ensures.plays
+
+pub returns-in-Write-clause-brings : goal.returns-in-Write-clause-brings
+returns-in-Write-clause-brings g c =
+    let old : Stage = stage g.P.Packs.tells g.P.Packs.held g.O.Sink.tells g.O.Sink.taken g.T.Sink.tells g.T.Sink.taken c.args.subsystem.now.world c.args.packs.now c.args.out.now c.args.trace.now in
+    let new : Stage = stage g.P.Packs.tells g.P.Packs.held g.O.Sink.tells g.O.Sink.taken g.T.Sink.tells g.T.Sink.taken c.ask-in-Write.new.subsystem.world c.args.packs.now c.ask-in-Write.new.out c.ask-in-Write.new.trace in
+    let line : Statement = statement_of (seen c.args.script.now.text c.args.line.now).statement in
+    let request = c.request_for-request-in-Write.result in
+    let bytes : List ℕ = take c.put_data-size.result c.put_data-size.new.room in
+    let at = write_says c.args.script.now.text c.args.line.now c.in-Write.request c.in-Write.content request bytes c.in-Write.is c.request_for-request-in-Write.ensures c.put_data-size.ensures.bytes in
+    on_ok_weaker c.ask-in-Write.result
+    (λ q. request_brings c.from-number.result line (asked request bytes) old new at (q (g.P.Packs.tells c.args.packs.now) (g.P.Packs.held c.args.packs.now)))
+    c.ask-in-Write.ensures.plays
+
+pub returns-in_ok-say_noise-in-Noise-clause-plays : goal.returns-in_ok-say_noise-in-Noise-clause-plays
+returns-in_ok-say_noise-in-Noise-clause-plays g c =
+    let old : Stage = stage g.P.Packs.tells g.P.Packs.held g.O.Sink.tells g.O.Sink.taken g.T.Sink.tells g.T.Sink.taken c.args.subsystem.now.world c.args.packs.now c.args.out.now c.args.trace.now in
+    let new : Stage = stage g.P.Packs.tells g.P.Packs.held g.O.Sink.tells g.O.Sink.taken g.T.Sink.tells g.T.Sink.taken c.happen.new.subsystem.world c.happen.new.packs c.happen.new.out c.happen.new.trace in
+    let line : Statement = statement_of (seen c.args.script.now.text c.args.line.now).statement in
+    let noise = c.in-Noise in
+    let same : c.copy.result ≡ box_value noise.places = cc in
+    let seen_same : c.copy.result ≡ c.deref.result.now = cc in
+    let at = noise_says c.args.script.now.text c.args.line.now noise.unit noise.block noise.span noise.places c.copy.result noise.is same in
+    on_ok_weaker c.happen.result
+    (λ q t. renumbered line old new c.from-number.result c.args.line.now.number c.from-number.ensures
+    (event_plays c.from-number.result line (event.Noise noise.unit noise.block c.copy.result noise.span) c.args.subsystem.now old new (g.O.Sink.tells c.say_noise.new.out) (g.O.Sink.taken c.say_noise.new.out)
+    at refl c.requires.none_waits c.requires.may
+    (λ told. c.in_ok-say_noise-in-Noise.ensures.text (record { unit = noise.unit; block = noise.block; span = noise.span; places = c.copy.result }) seen_same (c.happen.ensures.never_again_out told)) q t))
+    c.happen.ensures.plays
+
+pub returns-in_ok-say_noise-in-Noise-clause-brings : goal.returns-in_ok-say_noise-in-Noise-clause-brings
+returns-in_ok-say_noise-in-Noise-clause-brings g c =
+    let mid : Stage = stage g.P.Packs.tells g.P.Packs.held g.O.Sink.tells g.O.Sink.taken g.T.Sink.tells g.T.Sink.taken c.args.subsystem.now.world c.args.packs.now c.say_noise.new.out c.args.trace.now in
+    let new : Stage = stage g.P.Packs.tells g.P.Packs.held g.O.Sink.tells g.O.Sink.taken g.T.Sink.tells g.T.Sink.taken c.happen.new.subsystem.world c.happen.new.packs c.happen.new.out c.happen.new.trace in
+    let line : Statement = statement_of (seen c.args.script.now.text c.args.line.now).statement in
+    let noise = c.in-Noise in
+    let same : c.copy.result ≡ box_value noise.places = cc in
+    let at = noise_says c.args.script.now.text c.args.line.now noise.unit noise.block noise.span noise.places c.copy.result noise.is same in
+    on_ok_weaker c.happen.result (λ q. event_line_brings c.from-number.result line (input_of (event.Noise noise.unit noise.block c.copy.result noise.span)) mid new at q) c.happen.ensures.plays
+
+pub returns-in-Drain-clause-plays : goal.returns-in-Drain-clause-plays
+returns-in-Drain-clause-plays g c =
+    let old : Stage = stage g.P.Packs.tells g.P.Packs.held g.O.Sink.tells g.O.Sink.taken g.T.Sink.tells g.T.Sink.taken c.args.subsystem.now.world c.args.packs.now c.args.out.now c.args.trace.now in
+    let new : Stage = stage g.P.Packs.tells g.P.Packs.held g.O.Sink.tells g.O.Sink.taken g.T.Sink.tells g.T.Sink.taken c.drain.new.subsystem.world c.drain.new.packs c.drain.new.out c.drain.new.trace in
+    let line : Statement = statement_of (seen c.args.script.now.text c.args.line.now).statement in
+    let at = drain_says c.args.script.now.text c.args.line.now c.in-Drain.is in
+    on_ok_weaker c.drain.result
+    (λ q t. renumbered line old new c.from-number.result c.args.line.now.number c.from-number.ensures (drain_line c.from-number.result line old new at (q t)))
+    c.drain.ensures.plays
+
+pub returns-in-Drain-clause-brings : goal.returns-in-Drain-clause-brings
+returns-in-Drain-clause-brings g c =
+    let line : Statement = statement_of (seen c.args.script.now.text c.args.line.now).statement in
+    on_ok_weaker c.drain.result
+    (λ q. drain_line_brings line c.args.subsystem.now.world c.drain.new.subsystem.world (drain_says c.args.script.now.text c.args.line.now c.in-Drain.is) q)
+    c.drain.ensures.brings

@@ -1,0 +1,55 @@
+-- The units of a script, as they are set up.
+use Rattle.std.specs.Prelude.{◌≡◌, ℕ, ◌*◌, ◌<◌, ◌≤◌, ◌==◌, if◌then◌else◌, Bool, IsTrue, List, [], ◌∷◌, ◌++◌, length, Option, None, Some, is_some}
+use Rattle.pack_geometry.specs.declared.DriveKind.{DriveKind}
+use Rattle.pack_geometry.specs.Geometry.{block_count}
+use Rattle.pack_model.specs.Pack.{Pack}
+use Rattle.pack_model.specs.TableSpelling.{Table}
+use Rattle.pack_model.specs.PackTable.{IsTableOf}
+use Rattle.script_reader.specs.declared.statement.Statement.{Statement}
+use Rattle.script_reader.specs.declared.statement.Statement.TheVariants as says
+use Rattle.trace_replay.specs.Script.{Script, drives_of}
+use Rattle.hp_machine.specs.World.{Setup, new_world, unit_at}
+use Rattle.hp_machine.specs.Sound.{IsTableFor}
+use Rattle.hp_slots.specs.Parts.{AreSetups}
+use Rattle.hp_replay.specs.Acts.{AreSetUp}
+use Rattle.event_player.specs.declared.play.PlayFault.{PlayFault}
+use Rattle.event_player.specs.declared.play.PlayFault.TheVariants as faults
+
+-- the table of a unit that is set up
+abbrev pub tables_in : List Setup → ℕ → Option Table
+tables_in [] unit = None
+tables_in (s ∷ setups) unit = if s.unit == unit then s.table else tables_in setups unit
+
+-- THE SETUPS are those of the drives that a script declares, whatever room there is.
+pub record AreSetFor (script : Script) (setups : List Setup) : Type 0 where
+  pub are : AreSetups setups
+  pub set : (outstanding noises : ℕ) → AreSetUp (drives_of script) (tables_in setups) (new_world setups outstanding noises)
+  pub declared : (outstanding noises x : ℕ) → is_some (drives_of script x) ≡ (unit_at (new_world setups outstanding noises) x).declared
+
+-- A UNIT'S SETUP: its table is for its kind, and where the packs tell, its image fits, and the table is that of its pack.
+pub record IsSet (tells : Bool) (packs : ℕ → Pack) (unit : ℕ) (kind : DriveKind) (s : Setup) : Type 0 where
+  pub unit_is : s.unit ≡ unit
+  pub kind_is : s.kind ≡ kind
+  pub good : (table : Table) → s.table ≡ Some table → IsTableFor kind table
+  pub fits : IsTrue tells → length (packs unit).image ≤ 512 * block_count kind
+  pub table_is : IsTrue tells → IsTableOf kind (packs unit) s.table
+
+-- a pack that is refused at a unit has more bytes than a drive of its kind
+abbrev pub IsFoundLong : Pack → ℕ → DriveKind → PlayFault → Type 0
+IsFoundLong pack unit kind (faults.TooLong other long) = (other ≡ unit) × (long ≡ length pack.image) × (512 * block_count kind < long)
+IsFoundLong pack unit kind fault = Unit {0}
+
+-- ONE LINE. A unit that it declares is one of the 32;
+abbrev pub HasRoom : {D N : Type 0} → Statement D N → Type 0
+HasRoom (says.Unit unit kind) = unit < 32
+HasRoom statement = Unit {0}
+
+-- its setup comes behind those before, and any other line adds none;
+abbrev pub Adds : {D N : Type 0} → Bool → (ℕ → Pack) → Statement D N → List Setup → List Setup → Type 0
+Adds tells packs (says.Unit unit kind) old new = (s : Setup) × (new ≡ old ++ s ∷ []) × IsSet tells packs unit kind s
+Adds tells packs statement old new = new ≡ old
+
+-- and only a unit is refused, whose pack is too long.
+abbrev pub RefusesLine : {D N : Type 0} → (ℕ → Pack) → Statement D N → PlayFault → Type 0
+RefusesLine packs (says.Unit unit kind) fault = IsFoundLong (packs unit) unit kind fault
+RefusesLine packs statement fault = ⊥

@@ -1,0 +1,27 @@
+-- What a script comes to that was played to its end.
+use Rattle.std.specs.Prelude.{◌≡◌, ℕ, ◌<◌, ◌*◌, Bool, IsTrue, List, ◌++◌, length, Option, Some}
+use Rattle.pack_geometry.specs.declared.DriveKind.{DriveKind}
+use Rattle.pack_geometry.specs.Geometry.{block_count}
+use Rattle.pack_model.specs.Pack.{Pack}
+use Rattle.pack_model.specs.TableSpelling.{Table}
+use Rattle.trace_replay.specs.Moments.{Moment}
+use Rattle.trace_replay.specs.Script.{Script, drives_of}
+use Rattle.trace_replay.specs.Runs.{IsLegalRun}
+use Rattle.trace_replay.specs.Text.{trace_text}
+use Rattle.answer_lines.specs.AnswerText.{out_text}
+
+-- A LEGAL RUN of the script over the packs, from what they held first to what they hold now, with the tables of these packs. Where the
+-- sink for the answers tells, it took just the text of the run's answers and noises; where the trace tells, it took just the run's lines.
+pub record Plays (script : Script) (old new : ℕ → Pack) (out_tells : Bool) (said said' : List ℕ) (trace_tells : Bool) (taken taken' : List ℕ) : Type 0 where
+  pub tables : ℕ → Option Table
+  pub moments : List Moment
+  pub run : IsLegalRun script tables old new moments
+  pub out : IsTrue out_tells → said' ≡ said ++ out_text moments
+  pub trace : IsTrue trace_tells → taken' ≡ taken ++ trace_text moments
+
+-- an image has more bytes than the blocks of its unit's drive
+pub record IsTooLong (script : Script) (packs : ℕ → Pack) (unit length_is : ℕ) : Type 0 where
+  pub kind : DriveKind
+  pub declared : drives_of script unit ≡ Some kind
+  pub is : length_is ≡ length (packs unit).image
+  pub more : 512 * block_count kind < length_is

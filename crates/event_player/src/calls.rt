@@ -1,0 +1,73 @@
+// The calls of the driver: a request is submitted, or an event happens; behind them the answers that wait are written.
+ghost use Rattle.std.specs.Prelude.{◌≡◌, ℕ, [], Bool, false, IsTrue, OnOk};
+ghost use Rattle.pack_model.specs.Pack.{Pack};
+ghost use Rattle.hp_events.specs.Inputs.{input_of};
+ghost use Rattle.hp_driver.specs.Subsystem.{IsAsked, IsThere, asked};
+ghost use Rattle.event_player.specs.Steps.{stage, PlaysEvent, PlaysSubmission, HasCauses};
+
+use crate::answers::write_answers;
+use crate::play::PlayFault;
+use hp_driver::{Event, Request, Subsystem};
+use mass_gather::Gather;
+use mass_outside::traits::{Packs, Sink};
+
+/// Submits a request at a line, with the bytes of a write.
+pub fn ask<O: Sink, T: Sink>(
+    subsystem: &mut Subsystem,
+    number: u64,
+    request: Request,
+    bytes: &[u8],
+    gather: &mut Gather,
+    out: &mut O,
+    trace: &mut T,
+) -> Result<(), PlayFault>
+    requires going { subsystem.old.failed ≡ false }
+    requires none_waits { subsystem.old.world.answers ≡ [] }
+    requires asked { IsAsked subsystem.old request bytes.now }
+    requires kept { gather.old ≡ [] }
+    ensures plays { OnOk result ((tells : Bool) → (held : ℕ → Pack) → PlaysSubmission number (asked request bytes.now)
+        (record { world = subsystem.old.world; packs_tell = tells; held = held; out_tells = O.tells out.old; said = O.taken out.old; trace_tells = T.tells trace.old; taken = T.taken trace.old })
+        (record { world = subsystem.new.world; packs_tell = tells; held = held; out_tells = O.tells out.new; said = O.taken out.new; trace_tells = T.tells trace.new; taken = T.taken trace.new })) }
+    ensures going { OnOk result (subsystem.new.failed ≡ false) }
+    ensures outstanding { OnOk result (subsystem.new.outstanding ≡ subsystem.old.outstanding) }
+    ensures kept { OnOk result (gather.new ≡ []) }
+    ensures never_again_out { IsTrue (O.tells out.new) → IsTrue (O.tells out.old) }
+    ensures never_again_trace { IsTrue (T.tells trace.new) → IsTrue (T.tells trace.old) }
+    ensures causes { HasCauses 0 0 (O.faults out.old) (O.faults out.new) (T.faults trace.old) (T.faults trace.new) result }
+{
+    subsystem.law();
+    subsystem.submit(number, request, bytes, trace)?;
+    write_answers(subsystem, gather, out)?;
+    Ok(())
+}
+
+/// An event happens at a line.
+pub fn happen<P: Packs, O: Sink, T: Sink>(
+    subsystem: &mut Subsystem,
+    number: u64,
+    event: Event,
+    gather: &mut Gather,
+    packs: &mut P,
+    out: &mut O,
+    trace: &mut T,
+) -> Result<(), PlayFault>
+    requires going { subsystem.old.failed ≡ false }
+    requires none_waits { subsystem.old.world.answers ≡ [] }
+    requires there { IsThere subsystem.old.world (input_of event) }
+    requires kept { gather.old ≡ [] }
+    ensures plays { OnOk result (PlaysEvent number (input_of event)
+        (stage P.tells P.held O.tells O.taken T.tells T.taken subsystem.old.world packs.old out.old trace.old)
+        (stage P.tells P.held O.tells O.taken T.tells T.taken subsystem.new.world packs.new out.new trace.new)) }
+    ensures going { OnOk result (subsystem.new.failed ≡ false) }
+    ensures outstanding { OnOk result (subsystem.new.outstanding ≡ subsystem.old.outstanding) }
+    ensures kept { OnOk result (gather.new ≡ []) }
+    ensures never_again { IsTrue (P.tells packs.new) → IsTrue (P.tells packs.old) }
+    ensures never_again_out { IsTrue (O.tells out.new) → IsTrue (O.tells out.old) }
+    ensures never_again_trace { IsTrue (T.tells trace.new) → IsTrue (T.tells trace.old) }
+    ensures causes { HasCauses (P.faults packs.old) (P.faults packs.new) (O.faults out.old) (O.faults out.new) (T.faults trace.old) (T.faults trace.new) result }
+{
+    subsystem.law();
+    subsystem.event(number, event, packs, trace)?;
+    write_answers(subsystem, gather, out)?;
+    Ok(())
+}

@@ -1,0 +1,89 @@
+// A drain: events happen until no request is outstanding.
+ghost use Rattle.std.specs.Prelude.{◌≡◌, ℕ, ◌≤◌, [], length, false, IsTrue, OnOk};
+ghost use Rattle.mass_outside.specs.Puts.{Puts};
+ghost use Rattle.trace_replay.specs.Moments.{Idle};
+ghost use Rattle.trace_replay.specs.Script.{Plays, Drain};
+ghost use Rattle.trace_replay.specs.Text.{moment_text};
+ghost use Rattle.event_player.specs.Steps.{stage, GoesOnDraining, PlaysDrain, Brings, HasCauses};
+
+use crate::calls::happen;
+use crate::play::PlayFault;
+use hp_driver::Subsystem;
+use mass_gather::Gather;
+use mass_outside::traits::{Packs, Sink, SinkFailed};
+use mass_outside::whole::write_all;
+use trace_lines::idle;
+
+/// Says that a drain found nothing to do.
+fn say_idle<T: Sink>(number: u64, trace: &mut T) -> Result<(), SinkFailed>
+    ensures { Puts T.tells T.taken T.faults trace.old trace.new result (moment_text (Idle number)) }
+{
+    write_all(trace, idle(number).as_bytes())
+}
+
+/// The events of a drain behind its first one. It comes to its end long before it has turned so often.
+fn go_on<P: Packs, O: Sink, T: Sink>(
+    subsystem: &mut Subsystem,
+    number: u64,
+    gather: &mut Gather,
+    packs: &mut P,
+    out: &mut O,
+    trace: &mut T,
+) -> Result<(), PlayFault>
+    requires going { subsystem.old.failed ≡ false }
+    requires none_waits { subsystem.old.world.answers ≡ [] }
+    requires kept { gather.old ≡ [] }
+    ensures plays { OnOk result (IsTrue (P.tells packs.new) → GoesOnDraining number
+        (stage P.tells P.held O.tells O.taken T.tells T.taken subsystem.old.world packs.old out.old trace.old)
+        (stage P.tells P.held O.tells O.taken T.tells T.taken subsystem.new.world packs.new out.new trace.new)) }
+    ensures brings { OnOk result (Brings (Plays Drain) subsystem.old.world subsystem.new.world) }
+    ensures going { OnOk result (subsystem.new.failed ≡ false) }
+    ensures outstanding { OnOk result (subsystem.new.outstanding ≡ subsystem.old.outstanding) }
+    ensures kept { OnOk result (gather.new ≡ []) }
+    ensures never_again { IsTrue (P.tells packs.new) → IsTrue (P.tells packs.old) }
+    ensures never_again_out { IsTrue (O.tells out.new) → IsTrue (O.tells out.old) }
+    ensures never_again_trace { IsTrue (T.tells trace.new) → IsTrue (T.tells trace.old) }
+    ensures causes { HasCauses (P.faults packs.old) (P.faults packs.new) (O.faults out.old) (O.faults out.new) (T.faults trace.old) (T.faults trace.new) result }
+{
+    for turn in 0..u64::MAX {
+        let Some(event) = subsystem.next_event() else {
+            return Ok(());
+        };
+        happen(subsystem, number, event, gather, packs, out, trace)?;
+    }
+    Ok(())
+}
+
+/// A drain at a line: events happen until no request is outstanding, or it finds nothing to do.
+pub fn drain<P: Packs, O: Sink, T: Sink>(
+    subsystem: &mut Subsystem,
+    number: u64,
+    gather: &mut Gather,
+    packs: &mut P,
+    out: &mut O,
+    trace: &mut T,
+) -> Result<(), PlayFault>
+    requires going { subsystem.old.failed ≡ false }
+    requires none_waits { subsystem.old.world.answers ≡ [] }
+    requires few { length subsystem.old.world.slots ≤ 65536 }
+    requires kept { gather.old ≡ [] }
+    ensures plays { OnOk result (IsTrue (P.tells packs.new) → PlaysDrain number
+        (stage P.tells P.held O.tells O.taken T.tells T.taken subsystem.old.world packs.old out.old trace.old)
+        (stage P.tells P.held O.tells O.taken T.tells T.taken subsystem.new.world packs.new out.new trace.new)) }
+    ensures brings { OnOk result (Brings (Plays Drain) subsystem.old.world subsystem.new.world) }
+    ensures going { OnOk result (subsystem.new.failed ≡ false) }
+    ensures outstanding { OnOk result (subsystem.new.outstanding ≡ subsystem.old.outstanding) }
+    ensures kept { OnOk result (gather.new ≡ []) }
+    ensures never_again { IsTrue (P.tells packs.new) → IsTrue (P.tells packs.old) }
+    ensures never_again_out { IsTrue (O.tells out.new) → IsTrue (O.tells out.old) }
+    ensures never_again_trace { IsTrue (T.tells trace.new) → IsTrue (T.tells trace.old) }
+    ensures causes { HasCauses (P.faults packs.old) (P.faults packs.new) (O.faults out.old) (O.faults out.new) (T.faults trace.old) (T.faults trace.new) result }
+{
+    let Some(first) = subsystem.next_event() else {
+        say_idle(number, trace)?;
+        return Ok(());
+    };
+    happen(subsystem, number, first, gather, packs, out, trace)?;
+    go_on(subsystem, number, gather, packs, out, trace)?;
+    Ok(())
+}
