@@ -1,3 +1,4 @@
 pub mod LoadLaws
+mod PlayLaws
 pub mod ToolLaws
 pub mod WordLaws

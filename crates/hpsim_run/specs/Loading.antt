@@ -2,10 +2,11 @@
 use Rattle.std.specs.Prelude.{◌≡◌, ℕ, List}
 use Rattle.mass_outside.specs.declared.whole.ReadAllFault.{ReadAllFault}
 use Rattle.mass_outside.specs.declared.whole.ReadAllFault.TheVariants.{Memory as AllMemory, Failed as AllFailed}
-use Rattle.event_player.specs.declared.script.ReadFault.{ReadFault}
-use Rattle.event_player.specs.declared.script.ReadFault.TheVariants.{Memory as ReadMemory, Refused as ReadRefused}
-use Rattle.event_player.specs.Grammar.{IsRefused}
-use Rattle.event_player.specs.Refusals.{SpellNone}
+use Rattle.script_reader.specs.declared.fault.ReadFault.{ReadFault}
+use Rattle.script_reader.specs.declared.fault.ReadFault.TheVariants.{Memory as ReadMemory, Refused as ReadRefused}
+use Rattle.script_reader.specs.Grammar.{IsRefused}
+use Rattle.script_reader.specs.Words.{all_verbs}
+use Rattle.hpsim_run.specs.Headline.{SpellNone}
 use Rattle.hpsim_run.specs.declared.load.LoadFault.{LoadFault}
 use Rattle.hpsim_run.specs.declared.load.LoadFault.TheVariants as faults
 
@@ -21,4 +22,4 @@ from_read (ReadRefused line kind) = faults.Refused line kind
 abbrev pub RefusesAll : LoadFault → List ℕ → Type 0
 RefusesAll faults.Memory bytes = Unit {0}
 RefusesAll faults.Failed bytes = Unit {0}
-RefusesAll (faults.Refused line kind) bytes = SpellNone bytes × IsRefused bytes line kind
+RefusesAll (faults.Refused line kind) bytes = SpellNone bytes × IsRefused all_verbs bytes line kind

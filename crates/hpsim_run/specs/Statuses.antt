@@ -28,5 +28,5 @@ IsPlayStatus SinkFailed = Unit {0}
 IsPlayStatus PacksFailed = Unit {0}
 IsPlayStatus OutOfMemory = Unit {0}
 IsPlayStatus Usage = ⊥
-IsPlayStatus TooLong = ⊥
+IsPlayStatus TooLong = Unit {0}
 IsPlayStatus ToolRefused = ⊥

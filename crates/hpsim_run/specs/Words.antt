@@ -6,8 +6,8 @@ use Rattle.mass_outside.specs.Causes.{Rose}
 use Rattle.mass_outside.specs.Puts.{TakesFront}
 use Rattle.hpsim_run.specs.declared.words.Command.{Command}
 use Rattle.hpsim_run.specs.Commands.{command_named}
-use Rattle.event_player.specs.declared.script.ScriptKind.{ScriptKind}
-use Rattle.event_player.specs.declared.script.ScriptKind.TheVariants.{Word, TooMany, IdTwice, ScriptLong}
+use Rattle.script_reader.specs.declared.fault.ScriptKind.{ScriptKind}
+use Rattle.script_reader.specs.declared.fault.ScriptKind.TheVariants as fault
 
 -- the command that the words name
 abbrev pub command_of : List (String Global) → Option Command
@@ -17,10 +17,18 @@ unfoldable pub usage_text : List ℕ
 usage_text = codes "usage: hpsim play or bad144 list/add/fresh or exercise N" ++ 10 ∷ []
 
 unfoldable pub kind_word : ScriptKind → List ℕ
-kind_word Word = codes "word"
-kind_word TooMany = codes "toomany"
-kind_word IdTwice = codes "idtwice"
-kind_word ScriptLong = codes "scriptlong"
+kind_word fault.Word = codes "word"
+kind_word fault.Number = codes "number"
+kind_word fault.UnitUnknown = codes "unitunknown"
+kind_word fault.UnitTwice = codes "unittwice"
+kind_word fault.IdTwice = codes "idtwice"
+kind_word fault.Count = codes "count"
+kind_word fault.Data = codes "data"
+kind_word fault.Bits = codes "bits"
+kind_word fault.LateUnit = codes "lateunit"
+kind_word fault.TooMany = codes "toomany"
+kind_word fault.LineLong = codes "linelong"
+kind_word fault.ScriptLong = codes "scriptlong"
 
 unfoldable pub refused_line : List ℕ
 refused_line = codes "refused line "

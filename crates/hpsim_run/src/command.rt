@@ -1,25 +1,29 @@
 ghost use Rattle.std.specs.Prelude.{◌≡◌, ◌⊎◌, ◌↔◌, ◌+◌, ◌≤◌, ℕ, ◌≢◌, List, IsTrue, length, None, Some};
 ghost use Rattle.mass_outside.specs.Causes.{Rose};
-ghost use Rattle.event_player.specs.declared.script.Line.{Line};
-ghost use Rattle.event_player.specs.Grammar.{longest, Spells};
-ghost use Rattle.event_player.specs.Refusals.{SpellNone};
-ghost use Rattle.hpsim_run.specs.Headline.{Headline, TellsRefusal};
+ghost use Rattle.script_reader.specs.Grammar.{Spells};
+ghost use Rattle.script_reader.specs.Known.{Numbered};
+ghost use Rattle.script_reader.specs.Words.{all_verbs};
+ghost use Rattle.script_meaning.specs.Meaning.{meaning};
+ghost use Rattle.event_player.specs.Plays.{IsTooLong};
+ghost use Rattle.hpsim_run.specs.Headline.{Headline, SpellNone, TellsRefusal, TellsTooLong, longest};
 ghost use Rattle.hpsim_run.specs.Statuses.{status_code, IsPlayStatus, IsStatus};
 ghost use Rattle.hpsim_run.specs.Tools.{RunsAdd, RunsFresh, RunsList};
 ghost use Rattle.hpsim_run.specs.Words.{command_of as the_command, usage_text, Told};
 ghost use Rattle.pack_geometry.specs.declared.DriveKind.{DriveKind};
 ghost use Rattle.bad144_tool.specs.declared.edit.AddWay.{AddWay};
 ghost use Rattle.hpsim_run.specs.declared.words.Command.TheVariants.{Play, ListTable, AddBlock, FreshTable};
-ghost use Rattle.hpsim_run.specs.declared.status.Status.TheVariants.{Done, Usage, Refused, SourceFailed, SinkFailed, PacksFailed, OutOfMemory};
+ghost use Rattle.hpsim_run.specs.declared.status.Status.TheVariants.{Done, Usage, Refused, SourceFailed, SinkFailed, PacksFailed, TooLong, OutOfMemory};
 
+use crate::law::headline_law;
 use crate::load::{LoadFault, load};
 use crate::status::Status;
-use crate::text::{refusal, usage};
+use crate::text::{refusal, too_long, usage};
 use crate::tools::{run_add, run_fresh, run_list};
 use crate::words::{Command, command_of};
 use event_player::play::{PlayFault, play};
 use mass_outside::traits::{Packs, Sink, Source};
 use mass_outside::whole::write_all;
+use script_reader::script::grammar_law;
 use std::alloc::Global;
 
 /// Reads a script from the source and plays it over the packs.
@@ -31,23 +35,32 @@ fn run_play<S: Source, P: Packs, O: Sink, T: Sink>(
     trace: &mut T,
 ) -> Status
     ensures statuses { IsPlayStatus result }
-    ensures done { result ≡ Done → Headline (S.tells script.new) (S.left script.old) (S.left script.new)
-        (P.tells packs.new) (P.held packs.old) (P.held packs.new) (O.tells out.new) (O.taken out.old) (O.taken out.new) }
+    ensures done { result ≡ Done → Headline (S.tells script.new) (S.left script.old) (S.left script.new) (P.tells packs.new) (P.held packs.old) (P.held packs.new)
+        (O.tells out.new) (O.taken out.old) (O.taken out.new) (T.tells trace.new) (T.taken trace.old) (T.taken trace.new) }
     ensures refused { result ≡ Refused → TellsRefusal (S.tells script.new) (S.left script.old)
         (O.tells out.new) (O.taken out.old) (O.taken out.new) (O.faults out.old) (O.faults out.new) }
     ensures only_refused { IsTrue (S.tells script.new) → SpellNone (S.left script.old) →
         (result ≡ Refused) ⊎ (result ≡ SourceFailed) ⊎ (result ≡ OutOfMemory) }
+    ensures too_long { result ≡ TooLong → TellsTooLong (S.tells script.new) (S.left script.old) (P.tells packs.new) (P.held packs.old)
+        (O.tells out.new) (O.taken out.old) (O.taken out.new) (O.faults out.old) (O.faults out.new) }
+    ensures only_too_long { (lines : List Numbered) → (count unit n : ℕ) → IsTrue (S.tells script.new) → Spells all_verbs (S.left script.old) lines count
+        → IsTrue (P.tells packs.new) → IsTooLong (meaning lines count) (P.held packs.old) unit n
+        → (result ≡ TooLong) ⊎ (result ≡ PacksFailed) ⊎ (result ≡ SourceFailed) ⊎ (result ≡ OutOfMemory) }
     ensures source { result ≡ SourceFailed → Rose (S.faults script.old) (S.faults script.new) }
-    ensures sink { result ≡ SinkFailed → Rose (O.faults out.old) (O.faults out.new) }
+    ensures sink { result ≡ SinkFailed → Rose (O.faults out.old) (O.faults out.new) ⊎ Rose (T.faults trace.old) (T.faults trace.new) }
     ensures store { result ≡ PacksFailed → Rose (P.faults packs.old) (P.faults packs.new) }
-    ensures complete { (lines : List Line) → IsTrue (S.tells script.new) → Spells (S.left script.old) lines →
+    ensures complete { (lines : List Numbered) → (count : ℕ) → IsTrue (S.tells script.new) → Spells all_verbs (S.left script.old) lines count →
         ¬ Rose (S.faults script.old) (S.faults script.new) → ¬ Rose (O.faults out.old) (O.faults out.new) →
-        ¬ Rose (P.faults packs.old) (P.faults packs.new) → (result ≡ Done) ⊎ (result ≡ OutOfMemory) }
+        ¬ Rose (T.faults trace.old) (T.faults trace.new) → ¬ Rose (P.faults packs.old) (P.faults packs.new) →
+        (result ≡ Done) ⊎ (result ≡ TooLong) ⊎ (result ≡ OutOfMemory) }
     ensures taken { IsTrue (S.tells script.new) → length (S.left script.old) ≤ length (S.left script.new) + longest + 1 }
     ensures silent { (result ≡ SourceFailed) ⊎ (result ≡ OutOfMemory) → out.new ≡ out.old }
-    ensures untouched { (result ≡ Refused) ⊎ (result ≡ SourceFailed) ⊎ (result ≡ OutOfMemory) → packs.new ≡ packs.old }
-    ensures trace { trace.new ≡ trace.old }
+    ensures untouched { (result ≡ Refused) ⊎ (result ≡ SourceFailed) → packs.new ≡ packs.old }
+    ensures same { (result ≡ TooLong) ⊎ (result ≡ OutOfMemory) → IsTrue (P.tells packs.new) → P.held packs.new ≡ P.held packs.old }
+    ensures untraced { (result ≡ Refused) ⊎ (result ≡ SourceFailed) ⊎ (result ≡ TooLong) ⊎ (result ≡ OutOfMemory) → trace.new ≡ trace.old }
 {
+    headline_law();
+    grammar_law();
     let script = match load(alloc, script) {
         Ok(script) => script,
         Err(LoadFault::Memory) => return Status::OutOfMemory,
@@ -59,6 +72,10 @@ fn run_play<S: Source, P: Packs, O: Sink, T: Sink>(
     };
     match play(alloc, &script, packs, out, trace) {
         Ok(_) => Status::Done,
+        Err(PlayFault::TooLong { unit, length }) => {
+            let _ = write_all(out, too_long(unit, length).as_bytes());
+            Status::TooLong
+        }
         Err(PlayFault::Sink) => Status::SinkFailed,
         Err(PlayFault::Store) => Status::PacksFailed,
         Err(PlayFault::Memory) => Status::OutOfMemory,
@@ -67,8 +84,8 @@ fn run_play<S: Source, P: Packs, O: Sink, T: Sink>(
 
 /// Runs the command that the words name, and answers the code of its `Status`.
 ///
-/// `play` reads a script from the source and plays it over the packs; the answers go to `out`, and the trace will
-/// go to `trace`. `bad144 list U KIND`, `bad144 add U KIND BLOCK [copy] [mark]` and `bad144 fresh U KIND SERIAL` list a
+/// `play` reads a script from the source and plays it over the packs; the answers go to `out`, and the trace to
+/// `trace`. `bad144 list U KIND`, `bad144 add U KIND BLOCK [copy] [mark]` and `bad144 fresh U KIND SERIAL` list a
 /// pack's bad-sector table, add a block to it, and write an empty one; they read no script.
 ///
 /// | code | status | comes | printed on `out` |
@@ -77,9 +94,9 @@ fn run_play<S: Source, P: Packs, O: Sink, T: Sink>(
 /// | 2 | Usage | exactly where the words are no command | the usage |
 /// | 3 | Refused | only where the source's bytes spell no script, and there unless 4 or 9 comes first | `refused line L KIND` |
 /// | 4 | SourceFailed | only where the source's count of faults rose | nothing |
-/// | 5 | SinkFailed | only where the count of `out` rose | nothing further |
+/// | 5 | SinkFailed | only where the count of `out` or of `trace` rose | nothing further |
 /// | 6 | PacksFailed | only where the packs' count rose | nothing further |
-/// | 7 | TooLong | exactly where the image of the unit of a `bad144` command is longer than its pack | `too long unit U length L` |
+/// | 7 | TooLong | exactly where the image of a declared unit, or of the unit of a `bad144` command, is longer than its pack | `too long unit U length L` |
 /// | 8 | ToolRefused | exactly where `bad144 add` is refused | `refused no table`, `refused reserved`, `refused listed I`, `refused full`, `refused spare I` |
 /// | 9 | OutOfMemory | there was no memory, before the first line was played | nothing |
 pub fn run<S: Source, P: Packs, O: Sink, T: Sink>(
@@ -92,8 +109,8 @@ pub fn run<S: Source, P: Packs, O: Sink, T: Sink>(
 ) -> u8
     // The headline.
     ensures done { the_command words.now ≡ Some Play → result ≡ status_code Done →
-        Headline (S.tells script.new) (S.left script.old) (S.left script.new)
-        (P.tells packs.new) (P.held packs.old) (P.held packs.new) (O.tells out.new) (O.taken out.old) (O.taken out.new) }
+        Headline (S.tells script.new) (S.left script.old) (S.left script.new) (P.tells packs.new) (P.held packs.old) (P.held packs.new)
+        (O.tells out.new) (O.taken out.old) (O.taken out.new) (T.tells trace.new) (T.taken trace.old) (T.taken trace.new) }
 
     // Each other status has its cause, and comes exactly there where one can see it.
     ensures statuses { IsStatus result }
@@ -102,14 +119,20 @@ pub fn run<S: Source, P: Packs, O: Sink, T: Sink>(
         (O.tells out.new) (O.taken out.old) (O.taken out.new) (O.faults out.old) (O.faults out.new) }
     ensures only_refused { the_command words.now ≡ Some Play → IsTrue (S.tells script.new) → SpellNone (S.left script.old) →
         (result ≡ status_code Refused) ⊎ (result ≡ status_code SourceFailed) ⊎ (result ≡ status_code OutOfMemory) }
+    ensures too_long { the_command words.now ≡ Some Play → result ≡ status_code TooLong → TellsTooLong (S.tells script.new) (S.left script.old) (P.tells packs.new) (P.held packs.old)
+        (O.tells out.new) (O.taken out.old) (O.taken out.new) (O.faults out.old) (O.faults out.new) }
+    ensures only_too_long { (lines : List Numbered) → (count unit n : ℕ) → the_command words.now ≡ Some Play → IsTrue (S.tells script.new)
+        → Spells all_verbs (S.left script.old) lines count → IsTrue (P.tells packs.new) → IsTooLong (meaning lines count) (P.held packs.old) unit n
+        → (result ≡ status_code TooLong) ⊎ (result ≡ status_code PacksFailed) ⊎ (result ≡ status_code SourceFailed) ⊎ (result ≡ status_code OutOfMemory) }
     ensures source { result ≡ status_code SourceFailed → Rose (S.faults script.old) (S.faults script.new) }
-    ensures sink { result ≡ status_code SinkFailed → Rose (O.faults out.old) (O.faults out.new) }
+    ensures sink { result ≡ status_code SinkFailed → Rose (O.faults out.old) (O.faults out.new) ⊎ Rose (T.faults trace.old) (T.faults trace.new) }
     ensures store { result ≡ status_code PacksFailed → Rose (P.faults packs.old) (P.faults packs.new) }
 
-    // Where the bytes spell a script and nothing fails, it is done, or there is no memory.
-    ensures complete { (lines : List Line) → the_command words.now ≡ Some Play → IsTrue (S.tells script.new) → Spells (S.left script.old) lines →
+    // Where the bytes spell a script and nothing fails, it is done, or an image is too long, or there is no memory.
+    ensures complete { (lines : List Numbered) → (count : ℕ) → the_command words.now ≡ Some Play → IsTrue (S.tells script.new) → Spells all_verbs (S.left script.old) lines count →
         ¬ Rose (S.faults script.old) (S.faults script.new) → ¬ Rose (O.faults out.old) (O.faults out.new) →
-        ¬ Rose (P.faults packs.old) (P.faults packs.new) → (result ≡ status_code Done) ⊎ (result ≡ status_code OutOfMemory) }
+        ¬ Rose (T.faults trace.old) (T.faults trace.new) → ¬ Rose (P.faults packs.old) (P.faults packs.new) →
+        (result ≡ status_code Done) ⊎ (result ≡ status_code TooLong) ⊎ (result ≡ status_code OutOfMemory) }
 
     // The tool for bad-sector tables.
     ensures list { (unit : ℕ) → (kind : DriveKind) → the_command words.now ≡ Some (ListTable unit kind) →
@@ -128,9 +151,11 @@ pub fn run<S: Source, P: Packs, O: Sink, T: Sink>(
     ensures taken { IsTrue (S.tells script.new) → length (S.left script.old) ≤ length (S.left script.new) + longest + 1 }
     ensures unread { the_command words.now ≢ Some Play → script.new ≡ script.old }
     ensures silent { (result ≡ status_code SourceFailed) ⊎ (result ≡ status_code OutOfMemory) → out.new ≡ out.old }
-    ensures untouched { (result ≡ status_code Usage) ⊎ (result ≡ status_code Refused) ⊎ (result ≡ status_code SourceFailed)
-        ⊎ (result ≡ status_code OutOfMemory) → packs.new ≡ packs.old }
-    ensures trace { trace.new ≡ trace.old }
+    ensures untouched { (result ≡ status_code Usage) ⊎ (result ≡ status_code Refused) ⊎ (result ≡ status_code SourceFailed) → packs.new ≡ packs.old }
+    ensures same { (result ≡ status_code TooLong) ⊎ (result ≡ status_code OutOfMemory) → IsTrue (P.tells packs.new) → P.held packs.new ≡ P.held packs.old }
+    ensures untraced { (result ≡ status_code Refused) ⊎ (result ≡ status_code SourceFailed) ⊎ (result ≡ status_code TooLong) ⊎ (result ≡ status_code OutOfMemory)
+        → trace.new ≡ trace.old }
+    ensures untraced_tool { the_command words.now ≢ Some Play → trace.new ≡ trace.old }
 {
     match command_of(words) {
         None => {

@@ -14,4 +14,6 @@ pub use law::headline_law;
 pub use status::Status;
 
 #[cfg(test)]
+mod rows;
+#[cfg(test)]
 mod tests;

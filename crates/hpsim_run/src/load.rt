@@ -1,13 +1,20 @@
 ghost use Rattle.std.specs.Prelude.{◌≡◌, ◌+◌, ◌≤◌, IsTrue, [], length, IfOk, IfErr, IsErrOf};
 ghost use Rattle.mass_outside.specs.Causes.{Rose};
-ghost use Rattle.event_player.specs.Grammar.{longest, Spells};
+ghost use Rattle.script_reader.specs.Grammar.{Spells};
+ghost use Rattle.script_reader.specs.Stored.{lines_in};
+ghost use Rattle.script_reader.specs.Words.{all_verbs};
+ghost use Rattle.hpsim_run.specs.Headline.{longest};
 ghost use Rattle.hpsim_run.specs.Loading.{RefusesAll};
 
-use event_player::script::{LONGEST, ReadFault, Script, ScriptKind, read_script};
 use mass_outside::traits::Source;
 use mass_outside::whole::{ReadAllFault, read_all};
+use script_reader::fault::{ReadFault, ScriptKind};
+use script_reader::script::{Script, grammar_law, read_script};
 use std::alloc::Global;
 use thiserror::Error;
+
+/// The most bytes of a script: 16 MiB.
+const LONGEST: usize = 16_777_216;
 
 /// Why a script was not loaded.
 #[derive(Clone, Copy, Debug, PartialEq, Eq, Error)]
@@ -56,13 +63,15 @@ impl From<ReadFault> for LoadFault {
 /// rose in this call; Memory tells that there was none.
 pub fn load<S: Source>(alloc: Global, source: &mut S) -> Result<Script, LoadFault>
     ensures never_again { IsTrue (S.tells source.new) → IsTrue (S.tells source.old) }
-    ensures ok { IfOk result (λ script. IsTrue (S.tells source.new) → Spells (S.left source.old) script) }
+    ensures spells { IfOk result (λ script. Spells all_verbs script.text (lines_in script) script.count) }
+    ensures ok { IfOk result (λ script. IsTrue (S.tells source.new) → Spells all_verbs (S.left source.old) (lines_in script) script.count) }
     ensures end { IfOk result (λ script. IsTrue (S.tells source.new) → S.left source.new ≡ []) }
     ensures taken { IsTrue (S.tells source.new) → length (S.left source.old) ≤ length (S.left source.new) + longest + 1 }
     ensures refused { IfErr result (λ fault. IsTrue (S.tells source.new) → RefusesAll fault (S.left source.old)) }
     ensures later { S.faults source.old ≤ S.faults source.new }
     ensures failed { IsErrOf result LoadFault.Failed → Rose (S.faults source.old) (S.faults source.new) }
 {
+    grammar_law();
     let bytes = read_all(alloc, source, LONGEST)?;
     match read_script(alloc, bytes) {
         Ok(script) => Ok(script),

@@ -1,3 +1,6 @@
+ghost use Rattle.std.specs.Prelude.{◌<◌};
+
+use crate::rows::ROWS;
 use crate::run;
 use mass_outside::mem_packs::{FailCall, MemPacks, PackOp};
 use mass_outside::mem_streams::{MemSink, MemSource};
@@ -5,106 +8,6 @@ use mass_outside::slots::Image;
 use mass_outside::traits::Packs;
 use std::alloc::Global;
 use std::test::Fail;
-
-/// A script, the status of a run, and what is printed.
-struct Row {
-    name: &'static str,
-    script: &'static [u8],
-    status: u8,
-    text: &'static [u8],
-}
-
-/// Runs over an empty image.
-const ROWS: [Row; 12] = [
-    Row {
-        name: "first_read",
-        script: b"unit 0 rp06\nread 1 0 c 0 1",
-        status: 0,
-        text: b"ans 1 at 3 ok\nblk 0 fill 00\n",
-    },
-    Row {
-        name: "last_data_block",
-        script: b"unit 0 rp06\nwrite 1 0 c 340521 1 fill A5\nread 2 0 c 340521 1\n",
-        status: 0,
-        text: b"ans 1 at 4 ok\nans 2 at 4 ok\nblk 0 fill a5\n",
-    },
-    Row {
-        name: "requests and events",
-        script: b"unit 0 rp06\nwrite 1 0 c 418 2 fill 11\narrive 0\nattend 0\nmove 0\nmove 0\nattend 0\nread 2 0 c 418 2",
-        status: 0,
-        text: b"ans 1 at 7 ok\nans 2 at 9 ok\nblk 0 fill 11\nblk 1 fill 11\n",
-    },
-    Row {
-        name: "a block before which the heads stand",
-        script: b"unit 0 rp06\nread 1 0 c 5 1\nmove 0\nattend 0\n",
-        status: 0,
-        text: b"ans 1 at 4 ok\nblk 0 fill 00\n",
-    },
-    Row {
-        name: "a drain between two requests",
-        script: b"unit 0 rp06\nread 1 0 c 5 1\ndrain\nread 2 0 c 5 1\n",
-        status: 0,
-        text: b"ans 1 at 3 ok\nblk 0 fill 00\nans 2 at 5 ok\nblk 0 fill 00\n",
-    },
-    Row {
-        name: "no line",
-        script: b"",
-        status: 3,
-        text: b"refused line 1 word\n",
-    },
-    Row {
-        name: "a missing field",
-        script: b"unit 0 rp06\nread 1 0 c 0\n",
-        status: 3,
-        text: b"refused line 2 word\n",
-    },
-    Row {
-        name: "an id twice",
-        script: b"unit 0 rp06\nread 1 0 c 0 1\nwrite 01 0 c 0 1 fill 00\n",
-        status: 3,
-        text: b"refused line 3 idtwice\n",
-    },
-    Row {
-        name: "a block beyond the data",
-        script: b"unit 0 rp06\nread 1 0 c 340522 1\n",
-        status: 3,
-        text: b"refused line 2 word\n",
-    },
-    Row {
-        name: "an id too large",
-        script: b"unit 0 rp06\nread 4294967296 0 c 0 1\n",
-        status: 3,
-        text: b"refused line 2 word\n",
-    },
-    Row {
-        name: "three digits",
-        script: b"unit 0 rp06\nwrite 1 0 c 0 1 fill 0a5\n",
-        status: 3,
-        text: b"refused line 2 word\n",
-    },
-    Row {
-        name: "another drive",
-        script: b"unit 0 rm03\n",
-        status: 3,
-        text: b"refused line 1 word\n",
-    },
-];
-
-/// Runs over an empty image, on which block 1000 is marked.
-const MARKED_ROWS: [Row; 2] = [
-    Row {
-        name: "unforwarded",
-        script: b"unit 0 rp06\nread 1 0 c 998 5\n",
-        status: 0,
-        text: b"ans 1 at 3 error unforwarded done 2\n",
-    },
-    Row {
-        name: "an unforwarded write",
-        script: b"unit 0 rp06\nwrite 1 0 c 998 5 fill 77\nread 2 0 c 998 2\n",
-        status: 0,
-        text: b"ans 1 at 4 error unforwarded done 2\nans 2 at 4 ok\nblk 0 fill 77\nblk 1 fill 77\n",
-    },
-];
 
 /// The words of the command that plays.
 const PLAY: &[&str] = &["play"];
@@ -119,25 +22,35 @@ const NO_COMMANDS: [&[&str]; 6] = [
     &["play", "play"],
 ];
 
-/// Which calls fail in a run: of the source, of the sink, and of the packs.
+/// Which calls fail in a run: of the source, of the sinks for answers and trace, and of the packs.
 #[derive(Clone, Copy)]
 struct Faults {
     source: u64,
-    sink: u64,
+    out: u64,
+    trace: u64,
     packs: FailCall,
 }
 
 /// No call that is made has the number 0.
 const NONE: Faults = Faults {
     source: 0,
-    sink: 0,
+    out: 0,
+    trace: 0,
     packs: FailCall {
         op: PackOp::Read,
         number: 0,
     },
 };
 
-/// Unit 0 with an image and its marks.
+/// What a run came to.
+#[derive(Drop)]
+struct Ran {
+    status: u8,
+    out: MemSink,
+    trace: MemSink,
+}
+
+/// Unit 0 with an image and its marks, and three units with empty ones.
 fn packs_of(alloc: Global, image: &[u8], marks: &[u8], fail: FailCall) -> Result<MemPacks, Fail> {
     let mut images = Vec::new(alloc);
     images.push(Image {
@@ -146,17 +59,25 @@ fn packs_of(alloc: Global, image: &[u8], marks: &[u8], fail: FailCall) -> Result
         marks: Vec::from_slice(alloc, marks)?,
         blocks: 340670,
     })?;
+    for unit in [1u8, 2, 8] {
+        images.push(Image {
+            unit,
+            bytes: Vec::new(alloc),
+            marks: Vec::new(alloc),
+            blocks: 60_000,
+        })?;
+    }
     Ok(MemPacks::new(alloc, images, Vec::from_slice(alloc, &[fail])?)?)
 }
 
-/// Runs a command over packs, and answers its status and what was printed.
+/// Runs a command over packs.
 fn run_on(
     alloc: Global,
     line: &[&str],
     script: &[u8],
     packs: &mut MemPacks,
     faults: Faults,
-) -> Result<(u8, MemSink), Fail> {
+) -> Result<Ran, Fail> {
     let mut words = Vec::new(alloc);
     for word in line {
         words.push(String::from_str(alloc, word)?)?;
@@ -165,8 +86,8 @@ fn run_on(
         Vec::from_slice(alloc, script)?,
         Vec::from_slice(alloc, &[faults.source])?,
     );
-    let mut out = MemSink::new(alloc, 9000, Vec::from_slice(alloc, &[faults.sink])?)?;
-    let mut trace = MemSink::new(alloc, 0, Vec::new(alloc))?;
+    let mut out = MemSink::new(alloc, 400_000, Vec::from_slice(alloc, &[faults.out])?)?;
+    let mut trace = MemSink::new(alloc, 90_000, Vec::from_slice(alloc, &[faults.trace])?)?;
     let status = run(
         alloc,
         words.as_slice(),
@@ -175,42 +96,328 @@ fn run_on(
         &mut out,
         &mut trace,
     );
-    Ok((status, out))
+    Ok(Ran { status, out, trace })
 }
 
-/// Runs a command over unit 0 with an image on which no block is marked.
-fn run_over(
-    alloc: Global,
-    line: &[&str],
-    script: &[u8],
-    image: &[u8],
-    faults: Faults,
-) -> Result<(u8, MemSink), Fail> {
+/// Plays a script over unit 0 with an image on which no block is marked.
+fn play_over(alloc: Global, script: &[u8], image: &[u8], faults: Faults) -> Result<Ran, Fail> {
     let mut packs = packs_of(alloc, image, b"", faults.packs)?;
-    run_on(alloc, line, script, &mut packs, faults)
+    run_on(alloc, PLAY, script, &mut packs, faults)
+}
+
+/// Where a line ends, or where the text does.
+fn line_end(text: &[u8]) -> usize {
+    for (i, byte) in text.iter().enumerate() {
+        if *byte == b'\n' {
+            return i;
+        }
+    }
+    text.len()
+}
+
+/// Whether the lines stand in a trace, in this order.
+fn has_lines(trace: &[u8], lines: &[u8]) -> bool {
+    let mut wanted = lines;
+    let mut rest = trace;
+    for _ in 0..trace.len() {
+        let end = line_end(wanted);
+        let here = line_end(rest);
+        if rest.get(..here) == wanted.get(..end) {
+            wanted = wanted.get(end.saturating_add(1)..).unwrap_or(b"");
+        }
+        rest = rest.get(here.saturating_add(1)..).unwrap_or(b"");
+        if wanted.is_empty() || rest.is_empty() {
+            break;
+        }
+    }
+    wanted.is_empty()
 }
 
 #[test]
-fn answers_and_refusals(rt: HostRuntime) -> Result<(), Fail> {
+fn rows(rt: HostRuntime) -> Result<(), Fail> {
     for row in &ROWS {
-        let (status, out) = run_over(rt.alloc(), PLAY, row.script, b"", NONE)?;
-        assert_eq!(rt; status, row.status, "{}", row.name);
-        assert_eq!(rt; out.taken(), row.text, "{}", row.name);
+        let ran = play_over(rt.alloc(), row.script, b"", NONE)?;
+        assert_eq!(rt; ran.status, row.status, "{}", row.name);
+        assert_eq!(rt; ran.out.taken(), row.text, "{}", row.name);
+        assert!(rt; has_lines(ran.trace.taken(), row.trace), "{}", row.name);
     }
     Ok(())
 }
 
+/// Traces that are printed whole.
+const TRACES: [(&[u8], &[u8]); 2] = [
+    (b"", b"idle 1\n"),
+    (
+        b"unit 0 rp06\nread 1 0 c 0 1",
+        b"cmd 2 0 1 search 0 19\narrive 3 0 1\nattn 3 0 1\ncmd 3 0 1 rcom 0 1\nsector 3 0 1 0 clean\nintr 3 0 1\nend 3 0 1\n",
+    ),
+];
+
 #[test]
-fn marked_block(rt: HostRuntime) -> Result<(), Fail> {
-    let mut marks = Vec::new(rt.alloc());
-    marks.resize(1000, 0)?;
-    marks.push(1)?;
-    for row in &MARKED_ROWS {
-        let mut packs = packs_of(rt.alloc(), b"", marks.as_slice(), NONE.packs)?;
-        let (status, out) = run_on(rt.alloc(), PLAY, row.script, &mut packs, NONE)?;
-        assert_eq!(rt; status, row.status, "{}", row.name);
-        assert_eq!(rt; out.taken(), row.text, "{}", row.name);
+fn whole_traces(rt: HostRuntime) -> Result<(), Fail> {
+    for (script, trace) in TRACES {
+        let ran = play_over(rt.alloc(), script, b"", NONE)?;
+        assert_eq!(rt; ran.status, 0);
+        assert_eq!(rt; ran.trace.taken(), trace);
     }
+    Ok(())
+}
+
+/// How often a word stands in a trace behind three numbers, or at the start of a line.
+fn times(trace: &[u8], word: &[u8]) -> u32 {
+    let mut count = 0u32;
+    for i in 0..trace.len() {
+        let there = trace.get(i..).unwrap_or(b"");
+        if there.starts_with(word) {
+            count = count.saturating_add(1);
+        }
+    }
+    count
+}
+
+/// Noise that shows, until an offset helps or the tries run out: how often each command and each failure is told.
+const RETRIES: [(&[u8], [u32; 7]); 2] = [
+    (
+        b"unit 0 rp06\nnoise 0 5 27 0 7 14\nread 1 0 c 5 1\n",
+        [28, 27, 27, 3, 12, 12, 0],
+    ),
+    (
+        b"unit 0 rp06\nnoise 0 5 until -400 0 7 14\nread 1 0 c 5 1\n",
+        [18, 17, 17, 2, 2, 2, 0],
+    ),
+];
+
+const WORDS: [&[u8]; 7] = [
+    b" rcom ",
+    b"try ",
+    b" dclr\n",
+    b" recal\n",
+    b" offset ",
+    b" rtc\n",
+    b" seek ",
+];
+
+#[test]
+fn retries(rt: HostRuntime) -> Result<(), Fail> {
+    for (script, counts) in RETRIES {
+        let ran = play_over(rt.alloc(), script, b"", NONE)?;
+        for i in 0..7usize {
+            assert_eq!(rt; times(ran.trace.taken(), WORDS[i]), counts[i], "{i}");
+        }
+    }
+    Ok(())
+}
+
+/// Unit 0 with a table of serial number 1 that has these entries, if it has any, and with these blocks marked. The first two
+/// replacements hold 5A and 6B.
+fn listed(alloc: Global, entries: &[u8], marks: &[u32]) -> Result<MemPacks, Fail> {
+    let mut packs = packs_of(alloc, b"", b"", NONE.packs)?;
+    if !entries.is_empty() {
+        let mut copy = [0xFFu8; 512];
+        for i in 0..8usize {
+            copy[i] = if i == 0 { 1 } else { 0 };
+        }
+        for (i, byte) in entries.iter().enumerate() {
+            if i < 8 {
+                copy[8 + i] = *byte;
+            }
+        }
+        packs.write(0, 340648, &copy)?;
+    }
+    packs.write(0, 340647, &[0x5A; 512])?;
+    packs.write(0, 340646, &[0x6B; 512])?;
+    for block in marks {
+        packs.set_mark(0, *block, true)?;
+    }
+    Ok(packs)
+}
+
+/// Reads over marked blocks: the table's entries, the marks, the script, what is printed, and lines of the trace.
+const FORWARDED: [(&[u8], &[u32], &[u8], &[u8], &[u8]); 5] = [
+    (
+        &[0x02, 0x00, 0x0A, 0x07],
+        &[1000],
+        b"unit 0 rp06\nread 1 0 c 998 5\n",
+        b"ans 1 at 3 ok\nblk 0 fill 00\nblk 1 fill 00\nblk 2 fill 5a\nblk 3 fill 00\nblk 4 fill 00\n",
+        b"cmd 2 0 1 search 2 5\ncmd 3 0 1 rcom 998 5\nsector 3 0 1 1000 mark\ncmd 3 0 1 dclr\ncmd 3 0 1 rcom 340647 1\ncmd 3 0 1 rcom 1001 2\n",
+    ),
+    (
+        &[0x02, 0x00, 0x0A, 0x07, 0x02, 0x00, 0x0B, 0x07],
+        &[1000, 1001],
+        b"unit 0 rp06\nunit 1 rm03\nnoise 0 340646 1 8\nread 1 0 c 999 4\nread 2 1 c 160 1\narrive 0\nattend 0\nmove 0\nmove 0\narrive 1\nattend 0\nmove 0\nattend 0\n",
+        b"noise 3 short\nans 1 at 14 ok\nblk 0 fill 00\nblk 1 fill 5a\nblk 2 fill 6b\nblk 3 fill 00\nans 2 at 14 ok\nblk 0 fill 00\n",
+        b"",
+    ),
+    (
+        &[],
+        &[1000],
+        b"unit 0 rp06\nread 1 0 c 998 5\n",
+        b"ans 1 at 3 error unforwarded done 2\n",
+        b"",
+    ),
+    (
+        &[0x02, 0x00, 0x0A, 0x07],
+        &[1000, 340647],
+        b"unit 0 rp06\nread 1 0 c 998 5\n",
+        b"ans 1 at 3 error unforwarded done 2\n",
+        b"",
+    ),
+    (
+        &[0x02, 0x00, 0x0A, 0x07],
+        &[],
+        b"unit 0 rp06\nread 1 0 c 998 5\n",
+        b"ans 1 at 3 ok\nblk 0 fill 00\nblk 1 fill 00\nblk 2 fill 00\nblk 3 fill 00\nblk 4 fill 00\n",
+        b"",
+    ),
+];
+
+#[test]
+fn forwarded_reads(rt: HostRuntime) -> Result<(), Fail> {
+    for (entries, marks, script, text, lines) in FORWARDED {
+        let mut packs = listed(rt.alloc(), entries, marks)?;
+        let ran = run_on(rt.alloc(), PLAY, script, &mut packs, NONE)?;
+        assert_eq!(rt; ran.status, 0);
+        assert_eq!(rt; ran.out.taken(), text);
+        assert!(rt; has_lines(ran.trace.taken(), lines));
+    }
+    Ok(())
+}
+
+/// Whether one text stands in another.
+fn holds(text: &[u8], piece: &[u8]) -> bool {
+    for i in 0..text.len() {
+        if text.get(i..).unwrap_or(b"").starts_with(piece) {
+            return true;
+        }
+    }
+    false
+}
+
+/// 20 writes of eight blocks of three units, and a read behind each, with noise and a listed block.
+fn user_script(alloc: Global) -> Result<String, Fail> {
+    let mut script = String::from_str(
+        alloc,
+        "unit 0 rp06\nunit 1 rp06\nunit 2 rm03\nnoise 0 11 1 100 105\nnoise 2 49525 2 8 18\n",
+    )?;
+    for id in 0..40u32 {
+        let k = id % 20;
+        let (unit, part) = match k % 3 {
+            0 => (0, "a"),
+            1 => (1, "b"),
+            _ => (2, "g"),
+        };
+        let block = 37 * k + 10;
+        let line = if id < 20 {
+            format!(in alloc; "write {k} {unit} {part} {block} 8 seq {k}\n")?
+        } else {
+            format!(in alloc; "read {} {unit} {part} {block} 8\n", 100 + k)?
+        };
+        script.push_str(line.as_str())?;
+    }
+    Ok(script)
+}
+
+/// What a read of that script gives: byte t of block j is the sum of k, j and t.
+fn user_read(alloc: Global, k: u32) -> Result<String, Fail>
+    requires { k < 20 }
+{
+    let mut text = format!(in alloc; "ans {} at 46 ok\n", 100 + k)?;
+    for j in 0..8u32 {
+        text.push_str(format!(in alloc; "blk {j} hex ")?.as_str())?;
+        for t in 0..512u32 {
+            text.push_str(format!(in alloc; "{:02x}", (k + j + t) % 256)?.as_str())?;
+        }
+        text.push('\n')?;
+    }
+    Ok(text)
+}
+
+#[test]
+fn mixed_user_run(rt: HostRuntime) -> Result<(), Fail> {
+    let mut packs = listed(rt.alloc(), &[0x00, 0x00, 0x0F, 0x05], &[125])?;
+    let script = user_script(rt.alloc())?;
+    let ran = run_on(rt.alloc(), PLAY, script.as_bytes(), &mut packs, NONE)?;
+    assert!(rt;
+        ran.out
+            .taken()
+            .starts_with(b"noise 4 short\nnoise 5 short\n")
+    );
+    assert_eq!(rt; times(ran.out.taken(), b" ok\n"), 40);
+    for k in 0..20u32 {
+        let wanted = user_read(rt.alloc(), k)?;
+        assert!(rt; holds(ran.out.taken(), wanted.as_bytes()), "{k}");
+    }
+    Ok(())
+}
+
+/// All 32 units, a read of each.
+#[test]
+fn all_units(rt: HostRuntime) -> Result<(), Fail> {
+    let mut script = String::new(rt.alloc());
+    for unit in 0..32u32 {
+        let kind = match unit % 3 {
+            0 => "rp06",
+            1 => "rm03",
+            _ => "rm05",
+        };
+        script.push_str(format!(in rt.alloc(); "unit {unit} {kind}\n")?.as_str())?;
+    }
+    for unit in 0..32u32 {
+        script.push_str(format!(in rt.alloc();
+            "read {unit} {unit} c {} 1\n",
+            700 * unit
+        )?.as_str())?;
+    }
+    let ran = play_over(rt.alloc(), script.as_bytes(), b"", NONE)?;
+    assert_eq!(rt; ran.status, 0);
+    assert_eq!(rt; times(ran.out.taken(), b" ok\n"), 32);
+    Ok(())
+}
+
+/// Each front of a script is a script or is refused.
+#[test]
+fn fronts(rt: HostRuntime) -> Result<(), Fail> {
+    let script =
+        b"unit 0 rp06\nwrite 1 0 c 5 4 fill 77\nmove 0\nmove 0\nfault 0 opi 28\ndrain\nread 2 0 c 5 4\n";
+    for end in 0..script.len() {
+        let front = script.get(..end).unwrap_or(b"");
+        let ran = play_over(rt.alloc(), front, b"", NONE)?;
+        assert!(rt; ran.status == 0 || ran.status == 3, "{end}");
+    }
+    Ok(())
+}
+
+/// A read that is retried 27 times, over packs whose reads fail, one in each run: each number of sectors is told before some failure.
+#[test]
+fn retries_over_failing_packs(rt: HostRuntime) -> Result<(), Fail> {
+    let script = RETRIES[0].0;
+    let mut told = 0u32;
+    for number in 1..60u64 {
+        let faults = failing(Operation::Packs(PackOp::Read), number);
+        let ran = play_over(rt.alloc(), script, b"", faults)?;
+        if ran.status == 0 {
+            break;
+        }
+        assert_eq!(rt; ran.status, 6);
+        let sectors = times(ran.trace.taken(), b"sector ");
+        if sectors == told {
+            told = told.saturating_add(1);
+        }
+    }
+    assert_eq!(rt; told, 28);
+    Ok(())
+}
+
+/// The mark bytes 00 07, and no table.
+#[test]
+fn a_mark_of_seven(rt: HostRuntime) -> Result<(), Fail> {
+    let mut packs = packs_of(rt.alloc(), b"", &[0, 7], NONE.packs)?;
+    let script = b"unit 0 rp06\nread 1 0 c 0 2\n";
+    let ran = run_on(rt.alloc(), PLAY, script, &mut packs, NONE)?;
+    assert_eq!(rt;
+        ran.out.taken(),
+        b"ans 1 at 3 error unforwarded done 1\n".as_slice()
+    );
     Ok(())
 }
 
@@ -223,9 +430,9 @@ fn third_write_fails(rt: HostRuntime) -> Result<(), Fail> {
     };
     let mut packs = packs_of(rt.alloc(), &[0x11; 4608], b"", fail)?;
     let script = b"unit 0 rp06\nwrite 1 0 c 5 4 fill 77\n";
-    let (status, out) = run_on(rt.alloc(), PLAY, script, &mut packs, NONE)?;
-    assert_eq!(rt; status, 6);
-    assert_eq!(rt; out.taken(), b"".as_slice());
+    let ran = run_on(rt.alloc(), PLAY, script, &mut packs, NONE)?;
+    assert_eq!(rt; ran.status, 6);
+    assert_eq!(rt; ran.out.taken(), b"".as_slice());
     let mut bytes = [0u8; 512];
     for (block, byte) in [(5, 0x77), (6, 0x77), (8, 0x11)] {
         packs.read(0, block, &mut bytes)?;
@@ -236,27 +443,49 @@ fn third_write_fails(rt: HostRuntime) -> Result<(), Fail> {
     Ok(())
 }
 
-/// `unit 0 rp06` and so many reads of block 0.
-fn reads(alloc: Global, count: u32) -> Result<String, Fail> {
+/// `unit 0 rp06` and so many reads of so many blocks from block 0 on.
+fn reads(alloc: Global, count: u32, blocks: u32) -> Result<String, Fail> {
     let mut script = String::from_str(alloc, "unit 0 rp06\n")?;
-    for id in 0..count {
-        script.push_str(format!(in alloc; "read {id} 0 c 0 1\n")?.as_str())?;
+    for before in 0..count {
+        script.push_str(format!(in alloc; "read {} 0 c 0 {blocks}\n", before + 1)?.as_str())?;
     }
     Ok(script)
 }
 
+/// 128 reads of 127 blocks, one of 127 with an offset, and one more, for which there is no frame.
+#[test]
+fn frames_run_out(rt: HostRuntime) -> Result<(), Fail> {
+    let mut script = reads(rt.alloc(), 128, 127)?;
+    script.push_str("read 129 0 c 0 127 off 1\nread 130 0 c 0 1\n")?;
+    let ran = play_over(rt.alloc(), script.as_bytes(), b"", NONE)?;
+    let text = b"ans 130 at 131 error frames done 0\n".as_slice();
+    assert!(rt; ran.out.taken().starts_with(text));
+    Ok(())
+}
+
 #[test]
 fn limits(rt: HostRuntime) -> Result<(), Fail> {
-    let script = reads(rt.alloc(), 129)?;
-    let (status, _) = run_over(rt.alloc(), PLAY, script.as_bytes(), b"", NONE)?;
-    assert_eq!(rt; status, 0);
-    let script = reads(rt.alloc(), 130)?;
-    let (_, out) = run_over(rt.alloc(), PLAY, script.as_bytes(), b"", NONE)?;
-    assert_eq!(rt; out.taken(), b"refused line 131 toomany\n".as_slice());
+    let script = reads(rt.alloc(), 65_537, 1)?;
+    let ran = play_over(rt.alloc(), script.as_bytes(), b"", NONE)?;
+    assert_eq!(rt; ran.out.taken(), b"refused line 65538 toomany\n".as_slice());
     let mut long = Vec::new(rt.alloc());
     long.resize(16_777_217, b'\n')?;
-    let (_, out) = run_over(rt.alloc(), PLAY, long.as_slice(), b"", NONE)?;
-    assert_eq!(rt; out.taken(), b"refused line 0 scriptlong\n".as_slice());
+    let ran = play_over(rt.alloc(), long.as_slice(), b"", NONE)?;
+    assert_eq!(rt; ran.out.taken(), b"refused line 0 scriptlong\n".as_slice());
+    Ok(())
+}
+
+/// An image with one byte more than an RP06 has.
+#[test]
+fn too_long(rt: HostRuntime) -> Result<(), Fail> {
+    let mut image = Vec::new(rt.alloc());
+    image.resize(174_423_041, 0)?;
+    let ran = play_over(rt.alloc(), b"unit 0 rp06\n", image.as_slice(), NONE)?;
+    assert_eq!(rt; ran.status, 7);
+    assert_eq!(rt;
+        ran.out.taken(),
+        b"too long unit 0 length 174423041\n".as_slice()
+    );
     Ok(())
 }
 
@@ -269,8 +498,8 @@ fn short_image(rt: HostRuntime) -> Result<(), Fail> {
     }
     text.push('\n')?;
     let script = b"unit 0 rp06\nread 1 0 c 1 1\n";
-    let (_, out) = run_over(rt.alloc(), PLAY, script, &[0xFF; 700], NONE)?;
-    assert_eq!(rt; out.taken(), text.as_bytes());
+    let ran = play_over(rt.alloc(), script, &[0xFF; 700], NONE)?;
+    assert_eq!(rt; ran.out.taken(), text.as_bytes());
     Ok(())
 }
 
@@ -280,41 +509,62 @@ const SCRIPT: &[u8] = b"unit 0 rp06\nwrite 1 0 c 5 1 fill 77\nread 2 0 c 5 1\n";
 
 const TEXT: &[u8] = b"ans 1 at 4 ok\nans 2 at 4 ok\nblk 0 fill 77\n";
 
-/// The numbers of the source's, the sink's and the packs' call that fail (0 for none), the packs' operation, the status,
-/// and how much of the text was taken. Each call fails in turn, until the run ends with 0.
-const FAILING: [(u64, u64, u64, PackOp, u8, usize); 15] = [
-    (1, 0, 0, PackOp::Read, 4, 0),
-    (2, 0, 0, PackOp::Read, 4, 0),
-    (3, 0, 0, PackOp::Read, 0, 42),
-    (0, 1, 0, PackOp::Read, 5, 0),
-    (0, 2, 0, PackOp::Read, 5, 14),
-    (0, 3, 0, PackOp::Read, 5, 28),
-    (0, 4, 0, PackOp::Read, 0, 42),
-    (0, 0, 1, PackOp::Write, 6, 0),
-    (0, 0, 2, PackOp::Write, 0, 42),
-    (0, 0, 1, PackOp::Read, 6, 14),
-    (0, 0, 2, PackOp::Read, 0, 42),
-    (0, 0, 1, PackOp::Marked, 6, 0),
-    (0, 0, 2, PackOp::Marked, 6, 14),
-    (0, 0, 3, PackOp::Marked, 0, 42),
-    (0, 0, 1, PackOp::SetMark, 0, 42),
+/// Each call of an operation fails in turn, until a run ends with 0: the status till then, and a front of the text.
+const FAILING: [(Operation, u8); 6] = [
+    (Operation::Source, 4),
+    (Operation::Out, 5),
+    (Operation::Trace, 5),
+    (Operation::Packs(PackOp::Write), 6),
+    (Operation::Packs(PackOp::Read), 6),
+    (Operation::Packs(PackOp::Marked), 6),
 ];
+
+/// What is made to fail.
+#[derive(Clone, Copy)]
+enum Operation {
+    Source,
+    Out,
+    Trace,
+    Packs(PackOp),
+}
+
+/// The faults that make call `number` of an operation fail.
+fn failing(operation: Operation, number: u64) -> Faults {
+    match operation {
+        Operation::Source => Faults {
+            source: number,
+            ..NONE
+        },
+        Operation::Out => Faults {
+            out: number,
+            ..NONE
+        },
+        Operation::Trace => Faults {
+            trace: number,
+            ..NONE
+        },
+        Operation::Packs(op) => Faults {
+            packs: FailCall { op, number },
+            ..NONE
+        },
+    }
+}
 
 #[test]
 fn failing_calls(rt: HostRuntime) -> Result<(), Fail> {
-    for (source, sink, number, op, wanted, taken) in FAILING {
-        let faults = Faults {
-            source,
-            sink,
-            packs: FailCall { op, number },
-        };
-        let (status, out) = run_over(rt.alloc(), PLAY, SCRIPT, b"", faults)?;
-        assert_eq!(rt; status, wanted, "{source} {sink} {number} {op:?}");
-        assert_eq!(rt;
-            out.taken(),
-            TEXT.get(..taken).unwrap_or(b""),
-            "{source} {sink} {number} {op:?}"
-        );
+    for (operation, wanted) in FAILING {
+        let mut last = wanted;
+        for number in 1..60u64 {
+            let ran = play_over(rt.alloc(), SCRIPT, b"", failing(operation, number))?;
+            assert!(rt; TEXT.starts_with(ran.out.taken()));
+            last = ran.status;
+            if last == 0 {
+                assert_eq!(rt; ran.out.taken(), TEXT);
+                break;
+            }
+            assert_eq!(rt; last, wanted, "{number}");
+        }
+        assert_eq!(rt; last, 0);
     }
     Ok(())
 }
@@ -322,9 +572,10 @@ fn failing_calls(rt: HostRuntime) -> Result<(), Fail> {
 #[test]
 fn usage(rt: HostRuntime) -> Result<(), Fail> {
     for words in NO_COMMANDS {
-        let (status, out) = run_over(rt.alloc(), words, SCRIPT, b"", NONE)?;
-        assert_eq!(rt; status, 2);
-        assert_eq!(rt; out.taken(), USAGE);
+        let mut packs = packs_of(rt.alloc(), b"", b"", NONE.packs)?;
+        let ran = run_on(rt.alloc(), words, SCRIPT, &mut packs, NONE)?;
+        assert_eq!(rt; ran.status, 2);
+        assert_eq!(rt; ran.out.taken(), USAGE);
     }
     Ok(())
 }

@@ -3,20 +3,28 @@ ghost use Rattle.hpsim_run.specs.Tools.{entry_text, fault_text, serial_text, too
 ghost use Rattle.hpsim_run.specs.Words.{refusal_text, usage_text, kind_word, refused_line};
 
 use bad144_tool::ToolFault;
-use event_player::script::ScriptKind;
 use mass_text::{LineBuf, Radix, numeral_law};
+use script_reader::fault::ScriptKind;
 
 /// Puts the word of a fault.
 #[tactic(auto, unfolding(crate::specs::Words::kind_word))]
 fn put_kind(text: &mut LineBuf, kind: ScriptKind)
     requires { length text.old ≤ 100 }
     ensures text { text.new ≡ text.old ++ kind_word kind }
-    ensures room { length text.new ≤ length text.old + 10 }
+    ensures room { length text.new ≤ length text.old + 11 }
 {
     match kind {
         ScriptKind::Word => text.put("word"),
-        ScriptKind::TooMany => text.put("toomany"),
+        ScriptKind::Number => text.put("number"),
+        ScriptKind::UnitUnknown => text.put("unitunknown"),
+        ScriptKind::UnitTwice => text.put("unittwice"),
         ScriptKind::IdTwice => text.put("idtwice"),
+        ScriptKind::Count => text.put("count"),
+        ScriptKind::Data => text.put("data"),
+        ScriptKind::Bits => text.put("bits"),
+        ScriptKind::LateUnit => text.put("lateunit"),
+        ScriptKind::TooMany => text.put("toomany"),
+        ScriptKind::LineLong => text.put("linelong"),
         ScriptKind::ScriptLong => text.put("scriptlong"),
     }
 }
@@ -80,7 +88,7 @@ fn plain(words: &str) -> LineBuf
 }
 
 /// The text of an image that is longer than its pack: `too long unit U length L`.
-fn too_long(unit: u8, length: u64) -> LineBuf
+pub fn too_long(unit: u8, length: u64) -> LineBuf
     ensures { result ≡ too_long_text unit length }
 {
     numeral_law(Radix::Decimal);

@@ -1,13 +1,31 @@
-use Rattle.std.proofs.Common.{map}
-use Rattle.subsystem_spec.specs.BlockMachine.{contents}
-use Rattle.subsystem_spec.proofs.AnswerLaws.{answered_once}
-use Rattle.event_player.specs.Playing.{seen}
-use Rattle.event_player.proofs.AskedLaws.{distinct}
+use Rattle.std.proofs.Common.{◌≡◌, ℕ, List, Option, subst}
+use Rattle.pack_model.specs.Pack.{Pack}
+use Rattle.pack_model.specs.TableSpelling.{Table}
+use Rattle.trace_replay.specs.Moments.{Moment}
+use Rattle.trace_replay.specs.Script.{Script}
+use Rattle.trace_replay.specs.Runs.{IsLegalRun}
 use Rattle.hpsim_run.proofs.law.headline_law.Goals as goal
 
-pub returns-clause-asked : goal.returns-clause-asked
-returns-clause-asked c tells left left_after packs_tell old new out_tells taken taken_after h told id = distinct left h.lines (h.spelled told) id
+-- a legal run, by its parts
+same : {script : Script} {tables : ℕ → Option Table} {old new : ℕ → Pack} {moments parts : List Moment} → IsLegalRun script tables old new moments → moments ≡ parts
+    → IsLegalRun script tables old new parts
+same {script = script} {tables = tables} {old = old} {new = new} run e = subst (λ (ms : List Moment). IsLegalRun script tables old new ms) e run
 
-pub returns-clause-answered : goal.returns-clause-answered
-returns-clause-answered c tells left left_after packs_tell old new out_tells taken taken_after h told packs_told id =
-    answered_once (contents old) h.plays.final (map seen h.lines) h.plays.groups h.plays.drain id (h.plays.legal packs_told) (distinct left h.lines (h.spelled told) id)
+pub returns : goal.returns
+returns c script tables old new moments run = record {
+  once = λ id is. (c.once_law.ensures script tables old new moments id run).0 is;
+  no_other = λ id is. (c.once_law.ensures script tables old new moments id run).1 is;
+  passed_on = c.last_write_law.ensures.passed_on script tables old new moments run;
+  all_passed_on = λ none. c.last_write_law.ensures.all script tables old new moments run none;
+  legal = c.answers_law.ensures.legal script tables old new moments run;
+  explained = λ line unit id answer before after e no. c.cause_law.ensures.run script tables old new before after line unit id answer
+      (same run e) no;
+  offline = λ line unit id done before after e. c.told_causes_law.ensures.offline script tables old new before after line unit id done (same run e);
+  locked = λ line unit id done before after e. c.told_causes_law.ensures.locked script tables old new before after line unit id done (same run e);
+  unforwarded = λ line unit id done kind before after e is. c.told_causes_law.ensures.unforwarded script tables old new before after line unit id done kind (same run e) is;
+  fault = λ line unit id done before after e. c.told_causes_law.ensures.fault script tables old new before after line unit id done (same run e);
+  commands = λ line unit id answer before after e no. (c.commands_law.ensures.run script tables old new before after line unit id answer (same run e) no).0;
+  drains = λ before drained after e none. c.drain_law.ensures.run script tables old new before drained after (same run e) none;
+  rest = c.packs_law.ensures script tables old new moments run;
+  only = λ other others is. c.one_trace_law.ensures.run script tables old other new others moments is run;
+}

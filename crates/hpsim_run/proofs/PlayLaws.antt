@@ -1,0 +1,83 @@
+-- What a run of `play` comes to.
+use Rattle.std.proofs.Common.{◌≡◌, ◌⊎◌, inl, inr, ℕ, ◌++◌, List, [], Bool, IsTrue, Result, Ok, Err, OnOk, OnErr, subst, sym}
+use Rattle.mass_outside.specs.Causes.{HasCause}
+use Rattle.mass_outside.specs.Puts.{TakesFront}
+use Rattle.pack_model.specs.Pack.{Pack}
+use Rattle.script_reader.specs.declared.fault.ScriptKind.{ScriptKind}
+use Rattle.script_reader.specs.Grammar.{IsRefused}
+use Rattle.trace_replay.specs.Script.{Script}
+use Rattle.event_player.specs.declared.play.PlayFault.{PlayFault}
+use Rattle.event_player.specs.declared.play.PlayFault.TheVariants as faults
+use Rattle.event_player.specs.declared.play.Tally.{Tally}
+use Rattle.event_player.specs.Faults.{IsPlaying, IsBefore, IsLongFor}
+use Rattle.hpsim_run.specs.declared.load.LoadFault.{LoadFault}
+use Rattle.hpsim_run.specs.declared.load.LoadFault.TheVariants as loading
+use Rattle.hpsim_run.specs.Headline.{SpellNone}
+use Rattle.hpsim_run.specs.Loading.{RefusesAll}
+use Rattle.hpsim_run.specs.Words.{Told, refusal_text}
+use Rattle.script_reader.specs.Grammar.{Spells}
+use Rattle.script_reader.specs.Known.{Numbered}
+use Rattle.script_reader.specs.Words.{all_verbs}
+use Rattle.script_meaning.specs.Meaning.{meaning}
+use Rattle.event_player.specs.Plays.{IsTooLong}
+use Rattle.hpsim_run.specs.declared.status.Status.{Status}
+use Rattle.hpsim_run.specs.Statuses.{status_code}
+
+-- bytes spell one script
+abbrev pub OneScript : Type 0
+OneScript = (bytes : List ℕ) (lines others : List Numbered) (count other : ℕ) → Spells all_verbs bytes lines count → Spells all_verbs bytes others other
+    → (lines ≡ others) × (count ≡ other)
+
+-- where no image is too long for the script that was read, none is for what the bytes spell
+pub none_long : (bytes : List ℕ) (lines others : List Numbered) (count other unit n : ℕ) (packs : ℕ → Pack) → OneScript
+    → Spells all_verbs bytes lines count → Spells all_verbs bytes others other
+    → ((unit n : ℕ) → ¬ (IsTooLong (meaning others other) packs unit n)) → IsTooLong (meaning lines count) packs unit n → ⊥
+none_long bytes lines others count other unit n packs one spelled read none is =
+    let e = one bytes lines others count other spelled read in
+    none unit n (subst (λ (c : ℕ). IsTooLong (meaning others c) packs unit n) e.1 (subst (λ (ls : List Numbered). IsTooLong (meaning ls count) packs unit n) e.0 is))
+
+-- each status has its number
+pub coded : {status other : Status} (code : ℕ) → code ≡ status_code status → status ≡ other → code ≡ status_code other
+coded code is e = subst (λ (s : Status). code ≡ status_code s) e is
+
+-- a text that was written whole, or whose sink failed
+written : {T E : Type 0} (result : Result T E) (taken after text : List ℕ) (faults faults_after : ℕ) (tells : Bool)
+    → OnOk result (IsTrue tells → after ≡ taken ++ text) → OnErr result (IsTrue tells → TakesFront taken after text) → HasCause faults faults_after result
+    → IsTrue tells → Told taken after text faults faults_after
+written (Ok value) taken after text faults faults_after tells all front cause t = inl (all t)
+written (Err failed) taken after text faults faults_after tells all front cause t = inr (cause.failed, front t)
+
+pub told_of : {T E : Type 0} (result : Result T E) (taken after bytes line text : List ℕ) (faults faults_after : ℕ) (tells : Bool) → bytes ≡ line → line ≡ text
+    → OnOk result (IsTrue tells → after ≡ taken ++ bytes) → OnErr result (IsTrue tells → TakesFront taken after bytes) → HasCause faults faults_after result
+    → IsTrue tells → Told taken after text faults faults_after
+told_of result taken after bytes line text faults faults_after tells same is all front cause t =
+    subst (λ (x : List ℕ). Told taken after x faults faults_after) is
+    (subst (λ (x : List ℕ). Told taken after x faults faults_after) same (written result taken after bytes faults faults_after tells all front cause t))
+
+-- what a refusal says
+pub refused_parts : (left : List ℕ) (fault : LoadFault) (line : ℕ) (kind : ScriptKind) → fault ≡ loading.Refused line kind → RefusesAll fault left
+    → SpellNone left × IsRefused all_verbs left line kind
+refused_parts left fault line kind e is = subst (λ (f : LoadFault). RefusesAll f left) e is
+
+-- an image that is too long
+pub long_parts : (script : Script) (packs : ℕ → Pack) (fault : PlayFault) (unit length_is : ℕ) → fault ≡ faults.TooLong unit length_is
+    → IsLongFor script packs fault → IsTooLong script packs unit length_is
+long_parts script packs fault unit length_is e is = subst (λ (f : PlayFault). IsLongFor script packs f) e is
+
+-- a sink that failed did so in playing
+pub sink_plays : (fault : PlayFault) → fault ≡ faults.Sink → IsPlaying (Err fault)
+sink_plays fault e = subst (λ (f : PlayFault). IsPlaying (Err f)) (sym e) tt
+
+-- nothing was played where an image is too long
+pub long_before : (fault : PlayFault) (unit length_is : ℕ) → fault ≡ faults.TooLong unit length_is → IsBefore (Err fault)
+long_before fault unit length_is e = subst (λ (f : PlayFault). IsBefore (Err f)) (sym e) tt
+
+-- a text that was written to a sink as it was
+pub told_from : {O : Type 0} (taken : O → List ℕ) (count : O → ℕ) (old mid : O) (after text : List ℕ) (faults_after : ℕ) → mid ≡ old
+    → Told (taken mid) after text (count mid) faults_after → Told (taken old) after text (count old) faults_after
+told_from taken count old mid after text faults_after e told = subst (λ o. Told (taken o) after text (count o) faults_after) e told
+
+-- the text of a refusal, by its line and kind
+pub refusal_is : (text : List ℕ) (line other : ℕ) (kind another : ScriptKind) → line ≡ other → kind ≡ another → text ≡ refusal_text other another → text ≡ refusal_text line kind
+refusal_is text line other kind another e f is =
+    subst (λ (k : ScriptKind). text ≡ refusal_text line k) (sym f) (subst (λ (n : ℕ). text ≡ refusal_text n another) (sym e) is)
