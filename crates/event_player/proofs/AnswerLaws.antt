@@ -12,18 +12,18 @@ use Rattle.mass_gather.proofs.GatherLaws.{gathers_nothing, gathers_join, gathers
 use Rattle.trace_replay.specs.Moments.{Answered}
 use Rattle.main_memory.specs.Blocks.{size_at}
 use Rattle.main_memory.specs.Bytes.{filled}
-use Rattle.hp_machine.specs.declared.Answer.{Answer}
-use Rattle.hp_machine.specs.declared.AnswerKind.{AnswerKind}
-use Rattle.hp_machine.specs.declared.AnswerKind.TheVariants.{ReadOk, WriteOk, Eof, Error}
-use Rattle.hp_machine.specs.declared.Cause.TheVariants.{Partition, Frames, Offline, Locked, Unforwarded, Fault}
-use Rattle.hp_machine.specs.declared.Made.{Made}
-use Rattle.hp_machine.specs.World.{World, Held, held_in, slot_at, block_in, bytes_in}
-use Rattle.hp_machine.specs.Acts.{Taken, after, after_all}
-use Rattle.hp_machine.specs.Lines.{answer_told}
-use Rattle.hp_machine.specs.Refusals.{refuses}
-use Rattle.hp_machine.specs.Sound.{Sound, SlotOk, IsGiven, IsMade}
-use Rattle.hp_slots.proofs.Lists.{Contains-first}
-use Rattle.hp_answers.specs.Waiting.{blocks_for, told_by, waiting, TakingDrops}
+use Rattle.driver_machine.specs.declared.Answer.{Answer}
+use Rattle.driver_machine.specs.declared.AnswerKind.{AnswerKind}
+use Rattle.driver_machine.specs.declared.AnswerKind.TheVariants.{ReadOk, WriteOk, Eof, Error}
+use Rattle.driver_machine.specs.declared.Cause.TheVariants.{Partition, Frames, Offline, Locked, Unforwarded, Fault}
+use Rattle.driver_machine.specs.declared.Made.{Made}
+use Rattle.driver_machine.specs.World.{World, Held, held_in, slot_at, block_in, bytes_in}
+use Rattle.driver_machine.specs.Acts.{Taken, after, after_all}
+use Rattle.driver_machine.specs.Lines.{answer_told}
+use Rattle.driver_machine.specs.Refusals.{refuses}
+use Rattle.driver_machine.specs.Sound.{Sound, SlotOk, IsGiven, IsMade}
+use Rattle.driver_slots.proofs.Lists.{Contains-first}
+use Rattle.driver_answers.specs.Waiting.{blocks_for, told_by, waiting, TakingDrops}
 use Rattle.answer_lines.specs.AnswerText.{answer_text, block_text, block_texts, blocks_text}
 use Rattle.answer_lines.specs.Blocks.{AreBlocks, blocks_in, joined}
 use Rattle.answer_lines.proofs.BlockLaws.{blocks_in-joined}

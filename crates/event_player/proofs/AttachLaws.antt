@@ -23,10 +23,10 @@ use Rattle.script_reader.specs.declared.statement.Statement.TheVariants as says
 use Rattle.script_reader.specs.Stored.{Kept, Stored, seen, renamed, digits_at}
 use Rattle.script_meaning.specs.Meaning.{statement_of, line_of, meaning_of}
 use Rattle.trace_replay.specs.Script.{Script, Statement, Declares, Plays, Line, declared_by, drives_in, drives_of, declares, IsPlayed, ArePlays, IsFirst, AreUnitsFirst}
-use Rattle.hp_machine.specs.World.{UnitView, Setup, no_unit, new_unit, set_up}
-use Rattle.hp_machine.specs.Sound.{Among, Once, IsTableFor}
-use Rattle.hp_slots.specs.Parts.{units_of, AreSetups}
-use Rattle.hp_slots.proofs.Lists.{Once-push, Contains-none, Contains-first, Contains-later, Contains-cases}
+use Rattle.driver_machine.specs.World.{UnitView, Setup, no_unit, new_unit, set_up}
+use Rattle.driver_machine.specs.Sound.{Among, Once, IsTableFor}
+use Rattle.driver_slots.specs.Parts.{units_of, AreSetups}
+use Rattle.driver_slots.proofs.Lists.{Once-push, Contains-none, Contains-first, Contains-later, Contains-cases}
 use Rattle.event_player.specs.declared.play.PlayFault.{PlayFault}
 use Rattle.event_player.specs.declared.play.PlayFault.TheVariants as faults
 use Rattle.event_player.specs.Plays.{IsTooLong}

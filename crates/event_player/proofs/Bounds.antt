@@ -10,15 +10,15 @@ use Rattle.subsystem_spec.specs.Requests.{Request}
 use Rattle.trace_replay.specs.Moments.{Moment}
 use Rattle.trace_replay.specs.Replay.{Replay, UnitSeen, all_units, after_moments}
 use Rattle.trace_bounds.specs.Measure.{blocks_waiting, blocks_of_units, blocks_outstanding}
-use Rattle.hp_machine.specs.World.{World, UnitView, Held, no_held, unit_at, slot_at, held_in, adapter_at, adapter_of}
-use Rattle.hp_machine.specs.Guards.{IsSetUp}
-use Rattle.hp_machine.specs.Sound.{Sound, Among, slots_of, IsOutstanding, UnitOk}
-use Rattle.hp_work.proofs.Deeds.{slot_there}
-use Rattle.hp_slots.proofs.Lists.{Contains-first, Contains-later, contained_among}
-use Rattle.hp_replay.specs.Shows.{Match, IsUnitSeen}
-use Rattle.hp_trace.specs.Within.{ShowsAll}
-use Rattle.hp_trace.specs.Calls.{AreThere}
-use Rattle.hp_trace.specs.Runs.{IsSoFar}
+use Rattle.driver_machine.specs.World.{World, UnitView, Held, no_held, unit_at, slot_at, held_in, adapter_at, adapter_of}
+use Rattle.driver_machine.specs.Guards.{IsSetUp}
+use Rattle.driver_machine.specs.Sound.{Sound, Among, slots_of, IsOutstanding, UnitOk}
+use Rattle.driver_work.proofs.Deeds.{slot_there}
+use Rattle.driver_slots.proofs.Lists.{Contains-first, Contains-later, contained_among}
+use Rattle.driver_replay.specs.Shows.{Match, IsUnitSeen}
+use Rattle.driver_trace.specs.Within.{ShowsAll}
+use Rattle.driver_trace.specs.Calls.{AreThere}
+use Rattle.driver_trace.specs.Runs.{IsSoFar}
 use Rattle.hp_core.proofs.Deeds.{pigeons}
 
 -- A QUEUE has at most 127 blocks for each of its requests.

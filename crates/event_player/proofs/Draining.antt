@@ -9,12 +9,12 @@ use Rattle.trace_replay.specs.Text.{trace_text, moment_text}
 use Rattle.trace_replay.specs.Replay.{Replay, after_moments}
 use Rattle.trace_replay.specs.Runs.{start_of}
 use Rattle.trace_bounds.specs.Measure.{events_left, blocks_outstanding}
-use Rattle.hp_machine.specs.World.{World}
-use Rattle.hp_machine.specs.Acts.{Act, Nothing, after_all}
-use Rattle.hp_machine.specs.Lines.{lines_of_all}
-use Rattle.hp_machine.specs.Events.{event_acts, next_event}
-use Rattle.hp_outcome.specs.Packs.{packs_after_all}
-use Rattle.hp_trace.specs.Runs.{with_call}
+use Rattle.driver_machine.specs.World.{World}
+use Rattle.driver_machine.specs.Acts.{Act, Nothing, after_all}
+use Rattle.driver_machine.specs.Lines.{lines_of_all}
+use Rattle.driver_machine.specs.Events.{event_acts, next_event}
+use Rattle.driver_outcome.specs.Packs.{packs_after_all}
+use Rattle.driver_trace.specs.Runs.{with_call}
 use Rattle.answer_lines.specs.AnswerText.{out_text}
 use Rattle.event_player.specs.Playing.{HasRun}
 use Rattle.event_player.specs.Steps.{Stage, PlaysEvent, GoesOn, HasDrained, EndsDraining, GoesOnDraining, Drains, PlaysDrain, all_taken}

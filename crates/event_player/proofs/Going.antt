@@ -15,26 +15,26 @@ use Rattle.trace_replay.specs.Replay.{Replay, all_units, after_moments}
 use Rattle.trace_replay.specs.Runs.{start_of}
 use Rattle.trace_bounds.specs.Measure.{events_left, blocks_outstanding}
 use Rattle.trace_bounds.specs.Drains.{IsOf}
-use Rattle.hp_machine.specs.World.{World, Held, unit_at}
-use Rattle.hp_machine.specs.Acts.{Act, Nothing, Tried, after_all}
-use Rattle.hp_machine.specs.Lines.{lines_of_all}
-use Rattle.hp_machine.specs.Events.{refusal_of, submit_acts, event_acts, next_event}
-use Rattle.hp_machine.specs.Guards.{IsSetUp, IsHeldFor}
-use Rattle.hp_machine.specs.Sound.{Sound, AtWork}
-use Rattle.hp_work.specs.Runs.{Works, MaySubmit, MayCome}
-use Rattle.hp_work.proofs.Calls.{event_works, submit_works}
-use Rattle.hp_invariant.proofs.Sound.{sound_after}
-use Rattle.hp_outcome.specs.Packs.{packs_after_all}
-use Rattle.hp_trace.specs.Calls.{IsReadOf}
-use Rattle.hp_trace.specs.Runs.{IsOfUnits, IsSoFar, IsDraining, with_call}
-use Rattle.hp_trace.proofs.Calls.{events_go, submissions_go, drains_start, drains_go_on}
-use Rattle.hp_trace.proofs.Runs.{drain_finds_nothing, drain_ends}
-use Rattle.hp_trace.proofs.Inputted.{calls_are_played, lines_play_nothing}
-use Rattle.hp_runs.specs.Runs.{IsKept}
-use Rattle.hp_runs.proofs.Runs.{events_keep, submissions_keep}
-use Rattle.hp_drains.specs.Drains.{Falls, AreAsked}
-use Rattle.hp_drains.proofs.Asked.{lines_ask_nothing, calls_ask}
-use Rattle.hp_drains.proofs.Falls.{first_events_fall, drains_fall}
+use Rattle.driver_machine.specs.World.{World, Held, unit_at}
+use Rattle.driver_machine.specs.Acts.{Act, Nothing, Tried, after_all}
+use Rattle.driver_machine.specs.Lines.{lines_of_all}
+use Rattle.driver_machine.specs.Events.{refusal_of, submit_acts, event_acts, next_event}
+use Rattle.driver_machine.specs.Guards.{IsSetUp, IsHeldFor}
+use Rattle.driver_machine.specs.Sound.{Sound, AtWork}
+use Rattle.driver_work.specs.Runs.{Works, MaySubmit, MayCome}
+use Rattle.driver_work.proofs.Calls.{event_works, submit_works}
+use Rattle.driver_invariant.proofs.Sound.{sound_after}
+use Rattle.driver_outcome.specs.Packs.{packs_after_all}
+use Rattle.driver_trace.specs.Calls.{IsReadOf}
+use Rattle.driver_trace.specs.Runs.{IsOfUnits, IsSoFar, IsDraining, with_call}
+use Rattle.driver_trace.proofs.Calls.{events_go, submissions_go, drains_start, drains_go_on}
+use Rattle.driver_trace.proofs.Runs.{drain_finds_nothing, drain_ends}
+use Rattle.driver_trace.proofs.Inputted.{calls_are_played, lines_play_nothing}
+use Rattle.driver_runs.specs.Runs.{IsKept}
+use Rattle.driver_runs.proofs.Runs.{events_keep, submissions_keep}
+use Rattle.driver_drains.specs.Drains.{Falls, AreAsked}
+use Rattle.driver_drains.proofs.Asked.{lines_ask_nothing, calls_ask}
+use Rattle.driver_drains.proofs.Falls.{first_events_fall, drains_fall}
 use Rattle.hp_driver.specs.Subsystem.{IsThere}
 use Rattle.event_player.specs.Playing.{HasRun}
 use Rattle.event_player.specs.Steps.{HasDrained, all_taken}

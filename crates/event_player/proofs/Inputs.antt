@@ -13,15 +13,15 @@ use Rattle.trace_replay.specs.Replay.{Replay, after_moments}
 use Rattle.trace_replay.specs.Runs.{start_of}
 use Rattle.trace_bounds.specs.Measure.{events_left, blocks_outstanding}
 use Rattle.trace_bounds.specs.Drains.{IsOf}
-use Rattle.hp_machine.specs.World.{World}
-use Rattle.hp_machine.specs.Acts.{Act, Nothing, after_all}
-use Rattle.hp_machine.specs.Lines.{lines_of_all}
-use Rattle.hp_machine.specs.Events.{submit_acts, event_acts, next_event}
-use Rattle.hp_outcome.specs.Packs.{packs_after_all}
-use Rattle.hp_trace.specs.Runs.{with_call}
-use Rattle.hp_trace.proofs.Inputted.{lines_play_nothing}
-use Rattle.hp_answers.specs.Waiting.{waiting}
-use Rattle.hp_answers.proofs.Waiting.{events_alone, submissions_alone}
+use Rattle.driver_machine.specs.World.{World}
+use Rattle.driver_machine.specs.Acts.{Act, Nothing, after_all}
+use Rattle.driver_machine.specs.Lines.{lines_of_all}
+use Rattle.driver_machine.specs.Events.{submit_acts, event_acts, next_event}
+use Rattle.driver_outcome.specs.Packs.{packs_after_all}
+use Rattle.driver_trace.specs.Runs.{with_call}
+use Rattle.driver_trace.proofs.Inputted.{lines_play_nothing}
+use Rattle.driver_answers.specs.Waiting.{waiting}
+use Rattle.driver_answers.proofs.Waiting.{events_alone, submissions_alone}
 use Rattle.answer_lines.specs.AnswerText.{answer_text, said_text, out_text}
 use Rattle.hp_driver.specs.Subsystem.{IsThere}
 use Rattle.event_player.specs.Playing.{HasRun}

@@ -14,23 +14,23 @@ use Rattle.hardware_table.specs.Events.{times_armed}
 use Rattle.subsystem_spec.specs.Requests.{Request, IsRequest}
 use Rattle.trace_replay.specs.Script as script
 use Rattle.trace_replay.specs.Script.{Script, Input, Statement, Declares, Plays, Line, IsScript, IsStatement, IsInput, drives_of, ids_of, with_id, AreApart, AreNumbered}
-use Rattle.hp_machine.specs.World.{World, Held, unit_at, slot_at}
-use Rattle.hp_machine.specs.Acts.{Act, Taken, Tried, after, after_all}
-use Rattle.hp_machine.specs.declared.AnswerKind.{AnswerKind}
-use Rattle.hp_machine.specs.Events.{submit_by, submit_acts, event_acts, refusal_of, next_event}
-use Rattle.hp_machine.specs.Guards.{IsSetUp, IsHeldFor, MayChange}
-use Rattle.hp_machine.specs.Sound.{Sound, AtWork}
-use Rattle.hp_slots.proofs.Sizes.{sizes_all}
-use Rattle.hp_slots.proofs.Lists.{Contains-first, Contains-later, Contains-cases}
-use Rattle.hp_work.specs.Runs.{Run, MaySubmit, MayCome, CanCome}
-use Rattle.hp_work.proofs.Next.{next_can}
-use Rattle.hp_counts.specs.Counts.{IsWithin, in_use, noises_of, faults_of}
-use Rattle.hp_counts.proofs.Acts.{takings_add, capacity_stays}
-use Rattle.hp_counts.proofs.Events.{events_add, submissions_add}
-use Rattle.hp_counts.proofs.Units.{setups_stay}
-use Rattle.hp_answers.specs.Ids.{AreOf}
-use Rattle.hp_answers.proofs.Ids.{events_add_none, taking_adds_none, no_others}
-use Rattle.hp_answers.proofs.Ids as ids
+use Rattle.driver_machine.specs.World.{World, Held, unit_at, slot_at}
+use Rattle.driver_machine.specs.Acts.{Act, Taken, Tried, after, after_all}
+use Rattle.driver_machine.specs.declared.AnswerKind.{AnswerKind}
+use Rattle.driver_machine.specs.Events.{submit_by, submit_acts, event_acts, refusal_of, next_event}
+use Rattle.driver_machine.specs.Guards.{IsSetUp, IsHeldFor, MayChange}
+use Rattle.driver_machine.specs.Sound.{Sound, AtWork}
+use Rattle.driver_slots.proofs.Sizes.{sizes_all}
+use Rattle.driver_slots.proofs.Lists.{Contains-first, Contains-later, Contains-cases}
+use Rattle.driver_work.specs.Runs.{Run, MaySubmit, MayCome, CanCome}
+use Rattle.driver_work.proofs.Next.{next_can}
+use Rattle.driver_counts.specs.Counts.{IsWithin, in_use, noises_of, faults_of}
+use Rattle.driver_counts.proofs.Acts.{takings_add, capacity_stays}
+use Rattle.driver_counts.proofs.Events.{events_add, submissions_add}
+use Rattle.driver_counts.proofs.Units.{setups_stay}
+use Rattle.driver_answers.specs.Ids.{AreOf}
+use Rattle.driver_answers.proofs.Ids.{events_add_none, taking_adds_none, no_others}
+use Rattle.driver_answers.proofs.Ids as ids
 use Rattle.hp_driver.specs.Subsystem.{State, IsThere}
 use Rattle.event_player.specs.Playing.{AreUnits, counted, one_request, one_noise, one_fault}
 use Rattle.event_player.specs.Steps.{Stage, PlaysEvent, PlaysSubmission, Ready, Brings, MayAsk, MayPlay, takings, all_taken}

@@ -22,8 +22,8 @@ use Rattle.trace_replay.specs.Script.{Script, Input, Statement, Plays, Line, dri
 use Rattle.trace_replay.specs.Replay.{all_units}
 use Rattle.trace_replay.specs.Runs.{start_of}
 use Rattle.trace_bounds.specs.Drains.{IsOf}
-use Rattle.hp_machine.specs.World.{World}
-use Rattle.hp_machine.specs.Guards.{IsSetUp}
+use Rattle.driver_machine.specs.World.{World}
+use Rattle.driver_machine.specs.Guards.{IsSetUp}
 use Rattle.answer_lines.specs.AnswerText.{said_text}
 use Rattle.hp_events.specs.declared.drain.Event.{Event}
 use Rattle.hp_events.specs.declared.drain.Event.TheVariants as event

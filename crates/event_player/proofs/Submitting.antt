@@ -2,10 +2,10 @@
 use Rattle.std.proofs.Common.{◌≡◌, ℕ, Bool, true, IsTrue, List, ◌++◌, Option, None, refl, ap, ◌∙◌}
 use Rattle.pack_model.specs.Pack.{Pack}
 use Rattle.subsystem_spec.specs.Requests.{Request}
-use Rattle.hp_machine.specs.World.{World}
-use Rattle.hp_machine.specs.Events.{submit_acts}
-use Rattle.hp_machine.specs.Sound.{Sound, AtWork}
-use Rattle.hp_outcome.specs.Outcome.{Does}
+use Rattle.driver_machine.specs.World.{World}
+use Rattle.driver_machine.specs.Events.{submit_acts}
+use Rattle.driver_machine.specs.Sound.{Sound, AtWork}
+use Rattle.driver_outcome.specs.Outcome.{Does}
 use Rattle.hp_driver.specs.Subsystem.{Submits, State, seen}
 use Rattle.event_player.specs.Steps.{PlaysSubmission, all_taken, waiting_text}
 

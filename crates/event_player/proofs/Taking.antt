@@ -6,24 +6,24 @@ use Rattle.trace_replay.specs.Moments.{Moment}
 use Rattle.trace_replay.specs.Script as script
 use Rattle.trace_replay.specs.Script.{Input}
 use Rattle.trace_replay.specs.Replay.{Replay}
-use Rattle.hp_machine.specs.declared.Made.{Made}
-use Rattle.hp_machine.specs.World.{World, UnitView, unit_at}
-use Rattle.hp_machine.specs.Acts.{Act, Refuse, Submit, Of, Change, Nothing, Taken, changed, after, after_all}
-use Rattle.hp_machine.specs.Guards.{Allowed, InHand, IsSetUp}
-use Rattle.hp_machine.specs.Sound.{Sound, AtWork, UnitOk}
-use Rattle.hp_work.specs.Runs.{Run, Works}
-use Rattle.hp_work.proofs.Calls.{taken_works}
-use Rattle.hp_invariant.proofs.Sound.{sound_after}
-use Rattle.hp_replay.specs.Shows.{Shows}
-use Rattle.hp_replay.proofs.Rest.{rest_shows}
-use Rattle.hp_trace.specs.Within.{Rests}
-use Rattle.hp_trace.specs.Runs.{IsSoFar, IsDraining}
-use Rattle.hp_trace.proofs.Resting.{shows_one, shows_all}
-use Rattle.hp_trace.proofs.Submits.{calm}
-use Rattle.hp_trace.proofs.Calls.{answers_go}
-use Rattle.hp_runs.specs.Runs.{IsKept}
-use Rattle.hp_runs.proofs.Runs.{answers_keep}
-use Rattle.hp_counts.proofs.Units.{setups_stay}
+use Rattle.driver_machine.specs.declared.Made.{Made}
+use Rattle.driver_machine.specs.World.{World, UnitView, unit_at}
+use Rattle.driver_machine.specs.Acts.{Act, Refuse, Submit, Of, Change, Nothing, Taken, changed, after, after_all}
+use Rattle.driver_machine.specs.Guards.{Allowed, InHand, IsSetUp}
+use Rattle.driver_machine.specs.Sound.{Sound, AtWork, UnitOk}
+use Rattle.driver_work.specs.Runs.{Run, Works}
+use Rattle.driver_work.proofs.Calls.{taken_works}
+use Rattle.driver_invariant.proofs.Sound.{sound_after}
+use Rattle.driver_replay.specs.Shows.{Shows}
+use Rattle.driver_replay.proofs.Rest.{rest_shows}
+use Rattle.driver_trace.specs.Within.{Rests}
+use Rattle.driver_trace.specs.Runs.{IsSoFar, IsDraining}
+use Rattle.driver_trace.proofs.Resting.{shows_one, shows_all}
+use Rattle.driver_trace.proofs.Submits.{calm}
+use Rattle.driver_trace.proofs.Calls.{answers_go}
+use Rattle.driver_runs.specs.Runs.{IsKept}
+use Rattle.driver_runs.proofs.Runs.{answers_keep}
+use Rattle.driver_counts.proofs.Units.{setups_stay}
 use Rattle.event_player.specs.Steps.{Stage, PlaysActs, takings, all_taken}
 
 some_first : (xs : List Made) (made : Made) (rest : List Made) → xs ≡ made ∷ rest → 0 < length xs

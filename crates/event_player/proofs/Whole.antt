@@ -18,15 +18,15 @@ use Rattle.trace_replay.specs.Script.{Script, Input, Statement, Declares, Plays,
 use Rattle.trace_replay.specs.Text.{trace_text}
 use Rattle.trace_replay.specs.Runs.{start_of}
 use Rattle.pack_geometry.specs.declared.DriveKind.TheVariants.{Rp06}
-use Rattle.hp_machine.specs.World.{World, UnitView, Setup, no_unit, new_world, unit_at}
-use Rattle.hp_machine.specs.Guards.{IsSetUp}
-use Rattle.hp_machine.specs.Sound.{Sound}
-use Rattle.hp_slots.proofs.Starts.{sound_new}
-use Rattle.hp_trace.proofs.Start.{starts}
-use Rattle.hp_runs.proofs.Runs.{starts_kept, runs_are_legal}
-use Rattle.hp_counts.proofs.Starts.{starts_with_none, starts_with_room}
-use Rattle.hp_answers.proofs.Ids.{starts_of_none}
-use Rattle.hp_machine.specs.Events.{next_event}
+use Rattle.driver_machine.specs.World.{World, UnitView, Setup, no_unit, new_world, unit_at}
+use Rattle.driver_machine.specs.Guards.{IsSetUp}
+use Rattle.driver_machine.specs.Sound.{Sound}
+use Rattle.driver_slots.proofs.Starts.{sound_new}
+use Rattle.driver_trace.proofs.Start.{starts}
+use Rattle.driver_runs.proofs.Runs.{starts_kept, runs_are_legal}
+use Rattle.driver_counts.proofs.Starts.{starts_with_none, starts_with_room}
+use Rattle.driver_answers.proofs.Ids.{starts_of_none}
+use Rattle.driver_machine.specs.Events.{next_event}
 use Rattle.answer_lines.specs.AnswerText.{out_text}
 use Rattle.hp_core.specs.declared.start.UnitSetup.{UnitSetup}
 use Rattle.hp_core.specs.Setups.{setups_of}

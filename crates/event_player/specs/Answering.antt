@@ -1,11 +1,11 @@
 -- The oldest answer that waits, as it is said.
 use Rattle.std.specs.Prelude.{◌≡◌, ℕ, ◌≤◌, List, [], ◌∷◌, length, Some, slice_index_or}
-use Rattle.hp_machine.specs.declared.Answer.{Answer}
-use Rattle.hp_machine.specs.declared.AnswerKind.{AnswerKind}
-use Rattle.hp_machine.specs.declared.Made.{Made}
-use Rattle.hp_machine.specs.World.{World}
-use Rattle.hp_machine.specs.Lines.{answer_told}
-use Rattle.hp_answers.specs.Waiting.{blocks_for}
+use Rattle.driver_machine.specs.declared.Answer.{Answer}
+use Rattle.driver_machine.specs.declared.AnswerKind.{AnswerKind}
+use Rattle.driver_machine.specs.declared.Made.{Made}
+use Rattle.driver_machine.specs.World.{World}
+use Rattle.driver_machine.specs.Lines.{answer_told}
+use Rattle.driver_answers.specs.Waiting.{blocks_for}
 use Rattle.answer_lines.specs.AnswerText.{answer_text, blocks_text}
 use Rattle.hp_driver.specs.Subsystem.{IsOldest, Reads}
 

@@ -8,10 +8,10 @@ use Rattle.pack_model.specs.PackTable.{IsTableOf}
 use Rattle.script_reader.specs.declared.statement.Statement.{Statement}
 use Rattle.script_reader.specs.declared.statement.Statement.TheVariants as says
 use Rattle.trace_replay.specs.Script.{Script, drives_of}
-use Rattle.hp_machine.specs.World.{Setup, new_world, unit_at}
-use Rattle.hp_machine.specs.Sound.{IsTableFor}
-use Rattle.hp_slots.specs.Parts.{AreSetups}
-use Rattle.hp_replay.specs.Acts.{AreSetUp}
+use Rattle.driver_machine.specs.World.{Setup, new_world, unit_at}
+use Rattle.driver_machine.specs.Sound.{IsTableFor}
+use Rattle.driver_slots.specs.Parts.{AreSetups}
+use Rattle.driver_replay.specs.Acts.{AreSetUp}
 use Rattle.event_player.specs.declared.play.PlayFault.{PlayFault}
 use Rattle.event_player.specs.declared.play.PlayFault.TheVariants as faults
 

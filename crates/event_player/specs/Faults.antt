@@ -2,8 +2,8 @@
 use Rattle.std.specs.Prelude.{ℕ, Result, Ok, Err}
 use Rattle.pack_model.specs.Pack.{Pack}
 use Rattle.trace_replay.specs.Script.{Script}
-use Rattle.hp_outcome.specs.declared.Stop.{Stop}
-use Rattle.hp_outcome.specs.declared.Stop.TheVariants as stop
+use Rattle.driver_outcome.specs.declared.Stop.{Stop}
+use Rattle.driver_outcome.specs.declared.Stop.TheVariants as stop
 use Rattle.event_player.specs.declared.play.PlayFault.{PlayFault}
 use Rattle.event_player.specs.declared.play.PlayFault.TheVariants as fault
 use Rattle.event_player.specs.declared.play.Tally.{Tally}

@@ -7,11 +7,11 @@ use Rattle.trace_replay.specs.Moments.{Moment, played}
 use Rattle.trace_replay.specs.Script.{Script, Input, Submit, Noise, Arm, Statement, Plays as PlaysInput, Declares, Line, drives_of, inputs_before, ids_of}
 use Rattle.trace_replay.specs.Runs.{start_of}
 use Rattle.trace_replay.specs.Text.{trace_text}
-use Rattle.hp_machine.specs.World.{World, unit_at}
-use Rattle.hp_machine.specs.Guards.{IsSetUp}
-use Rattle.hp_trace.specs.Runs.{IsSoFar}
-use Rattle.hp_runs.specs.Runs.{IsKept}
-use Rattle.hp_drains.specs.Drains.{AreAsked}
+use Rattle.driver_machine.specs.World.{World, unit_at}
+use Rattle.driver_machine.specs.Guards.{IsSetUp}
+use Rattle.driver_trace.specs.Runs.{IsSoFar}
+use Rattle.driver_runs.specs.Runs.{IsKept}
+use Rattle.driver_drains.specs.Drains.{AreAsked}
 use Rattle.hp_driver.specs.Subsystem.{State}
 use Rattle.answer_lines.specs.AnswerText.{out_text}
 

@@ -15,22 +15,22 @@ use Rattle.trace_replay.specs.Replay.{after_moments}
 use Rattle.trace_replay.specs.Runs.{start_of}
 use Rattle.trace_bounds.specs.Measure.{events_left}
 use Rattle.trace_replay.specs.Text.{trace_text}
-use Rattle.hp_machine.specs.declared.Made.{Made}
-use Rattle.hp_machine.specs.World.{World, Held, unit_at, slot_at}
-use Rattle.hp_machine.specs.Acts.{Act, Taken, Tried, after_all}
-use Rattle.hp_machine.specs.Lines.{lines_of_all}
-use Rattle.hp_machine.specs.Events.{refusal_of, submit_acts, event_acts, next_event}
-use Rattle.hp_machine.specs.Guards.{IsSetUp, IsHeldFor}
-use Rattle.hp_machine.specs.Sound.{Sound, AtWork}
-use Rattle.hp_work.specs.Runs.{Run, MaySubmit, MayCome}
-use Rattle.hp_outcome.specs.Packs.{packs_after_all}
-use Rattle.hp_trace.specs.Calls.{IsReadOf}
-use Rattle.hp_trace.specs.Runs.{IsDraining}
-use Rattle.hp_runs.specs.Runs.{IsKept}
-use Rattle.hp_drains.specs.Drains.{AreAsked}
-use Rattle.hp_counts.specs.Counts.{IsWithin, in_use}
-use Rattle.hp_answers.specs.Ids.{AreOf}
-use Rattle.hp_answers.specs.Waiting.{waiting}
+use Rattle.driver_machine.specs.declared.Made.{Made}
+use Rattle.driver_machine.specs.World.{World, Held, unit_at, slot_at}
+use Rattle.driver_machine.specs.Acts.{Act, Taken, Tried, after_all}
+use Rattle.driver_machine.specs.Lines.{lines_of_all}
+use Rattle.driver_machine.specs.Events.{refusal_of, submit_acts, event_acts, next_event}
+use Rattle.driver_machine.specs.Guards.{IsSetUp, IsHeldFor}
+use Rattle.driver_machine.specs.Sound.{Sound, AtWork}
+use Rattle.driver_work.specs.Runs.{Run, MaySubmit, MayCome}
+use Rattle.driver_outcome.specs.Packs.{packs_after_all}
+use Rattle.driver_trace.specs.Calls.{IsReadOf}
+use Rattle.driver_trace.specs.Runs.{IsDraining}
+use Rattle.driver_runs.specs.Runs.{IsKept}
+use Rattle.driver_drains.specs.Drains.{AreAsked}
+use Rattle.driver_counts.specs.Counts.{IsWithin, in_use}
+use Rattle.driver_answers.specs.Ids.{AreOf}
+use Rattle.driver_answers.specs.Waiting.{waiting}
 use Rattle.answer_lines.specs.AnswerText.{answer_text, out_text}
 use Rattle.hp_driver.specs.Subsystem.{State, IsThere}
 use Rattle.event_player.specs.declared.play.PlayFault.{PlayFault}

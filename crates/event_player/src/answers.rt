@@ -4,14 +4,14 @@ ghost use Rattle.mass_outside.specs.Puts.{Puts};
 ghost use Rattle.mass_gather.specs.Gathers.{Gathers};
 ghost use Rattle.answer_lines.specs.AnswerText.{block_text};
 ghost use Rattle.answer_lines.specs.Outcomes.{answer_of};
-ghost use Rattle.hp_machine.specs.declared.AnswerKind.TheVariants.{ReadOk};
-ghost use Rattle.hp_machine.specs.World.{bytes_in};
-ghost use Rattle.hp_machine.specs.Lines.{answer_told, error_told};
+ghost use Rattle.driver_machine.specs.declared.AnswerKind.TheVariants.{ReadOk};
+ghost use Rattle.driver_machine.specs.World.{bytes_in};
+ghost use Rattle.driver_machine.specs.Lines.{answer_told, error_told};
 ghost use Rattle.event_player.specs.Answering.{first_blocks, first_text, first_rest, IsFirst, IsFirstKind, HasBlock};
 ghost use Rattle.event_player.specs.Steps.{all_taken, waiting_text};
 
 use answer_lines::{Outcome, answer_line, block_line};
-use hp_answers::taken_law;
+use driver_answers::taken_law;
 use hp_driver::{Answer, AnswerKind, Cause, Subsystem};
 use mass_gather::Gather;
 use mass_outside::traits::{Sink, SinkFailed};

@@ -3,7 +3,7 @@ use Rattle.std.proofs.Common.{◌≡◌, inl, inr, ℕ, ◌+◌, ◌*◌, ◌/�
 use Rattle.std.specs.Prelude.{eqb, IsSome, if◌then◌else◌}
 use Rattle.hardware_table.specs.declared.Work.TheVariants as work
 use Rattle.hardware_table.specs.Adapter.{AdapterState, next_block}
-use Rattle.hp_phases.proofs.Sector.{moved_less}
+use Rattle.driver_phases.proofs.Sector.{moved_less}
 use Rattle.std.specs.List.{AllByRecursion, IsDistinct, list_any}
 use Rattle.std.proofs.lemmas.Bool.{false≢true, eqb-true, ne_eqb, or_cases}
 use Rattle.std.proofs.lemmas.Map.Steps.{length-le_from_distinct_below}
@@ -19,27 +19,27 @@ use Rattle.transfer_engine.specs.declared.job.Job.{Job}
 use Rattle.transfer_engine.specs.declared.job.Segment.{Segment}
 use Rattle.transfer_engine.specs.State.{TransferState, IsJob, segment_by, segment_of}
 use Rattle.transfer_engine.specs.Calls.{entry_for, step_for}
-use Rattle.hp_machine.specs.Due.{task_for}
+use Rattle.driver_machine.specs.Due.{task_for}
 use Rattle.trace_replay.specs.Drives.{search_place}
-use Rattle.hp_machine.specs.declared.RetryStep.{RetryStep}
-use Rattle.hp_machine.specs.declared.RetryStep.TheVariants.{Seek}
-use Rattle.hp_machine.specs.declared.Task.{Task}
-use Rattle.hp_machine.specs.declared.Task.TheVariants.{Clear, Judge, Steps, Command}
-use Rattle.hp_machine.specs.declared.Phase.{Phase}
-use Rattle.hp_machine.specs.declared.Phase.TheVariants.{Waiting, Queued, Transferring, Due}
-use Rattle.hp_machine.specs.World.{World, Held, unit_at, adapter_at, slot_at, held_in, slot_in_hand, adapter_of, drive_of, transfer_of, job_of}
-use Rattle.hp_machine.specs.Acts.{Deed, Of, Intr, Search, Do, Move, Pack, Dclr, Rtc, Ready, Repair, Forward, Continue, Try, scene_of}
-use Rattle.hp_machine.specs.Guards.{InHand, IsBusyFor, Allowed}
-use Rattle.hp_machine.specs.Sound.{Sound, Among, Once, IsPhase, IsTask, IsEndedAt, IsBurstAt}
-use Rattle.hp_due.specs.DueFacts.{IsDue, IsAtCommand, IsFailure, IsStep}
-use Rattle.hp_phases.proofs.Scene.{phase_is, due_of, job_is, block_below, segment_some}
-use Rattle.hp_phases.proofs.Frame.{scene_ok, held_is, own_held, adapter_of-small}
-use Rattle.hp_phases.proofs.DeedFacts.{transfer_at}
-use Rattle.hp_phases.proofs.Search.{searched_inside}
-use Rattle.hp_phases.proofs.Do.{seek_inside}
-use Rattle.hp_phases.proofs.Move.{at_command}
-use Rattle.hp_phases.proofs.End.{calls_still}
-use Rattle.hp_phases.proofs.Continue.{continue_phase}
+use Rattle.driver_machine.specs.declared.RetryStep.{RetryStep}
+use Rattle.driver_machine.specs.declared.RetryStep.TheVariants.{Seek}
+use Rattle.driver_machine.specs.declared.Task.{Task}
+use Rattle.driver_machine.specs.declared.Task.TheVariants.{Clear, Judge, Steps, Command}
+use Rattle.driver_machine.specs.declared.Phase.{Phase}
+use Rattle.driver_machine.specs.declared.Phase.TheVariants.{Waiting, Queued, Transferring, Due}
+use Rattle.driver_machine.specs.World.{World, Held, unit_at, adapter_at, slot_at, held_in, slot_in_hand, adapter_of, drive_of, transfer_of, job_of}
+use Rattle.driver_machine.specs.Acts.{Deed, Of, Intr, Search, Do, Move, Pack, Dclr, Rtc, Ready, Repair, Forward, Continue, Try, scene_of}
+use Rattle.driver_machine.specs.Guards.{InHand, IsBusyFor, Allowed}
+use Rattle.driver_machine.specs.Sound.{Sound, Among, Once, IsPhase, IsTask, IsEndedAt, IsBurstAt}
+use Rattle.driver_due.specs.DueFacts.{IsDue, IsAtCommand, IsFailure, IsStep}
+use Rattle.driver_phases.proofs.Scene.{phase_is, due_of, job_is, block_below, segment_some}
+use Rattle.driver_phases.proofs.Frame.{scene_ok, held_is, own_held, adapter_of-small}
+use Rattle.driver_phases.proofs.DeedFacts.{transfer_at}
+use Rattle.driver_phases.proofs.Search.{searched_inside}
+use Rattle.driver_phases.proofs.Do.{seek_inside}
+use Rattle.driver_phases.proofs.Move.{at_command}
+use Rattle.driver_phases.proofs.End.{calls_still}
+use Rattle.driver_phases.proofs.Continue.{continue_phase}
 
 -- HOW MANY numbers below n differ: at most n.
 apart_each : (x : ℕ) (xs : List ℕ) → (Among x xs → ⊥) → AllByRecursion (λ y. eqb x y ≡ false) xs

@@ -10,14 +10,14 @@ use Rattle.pack_geometry.specs.declared.DriveKind.TheVariants.{Rp06, Rm03, Rm05}
 use Rattle.pack_geometry.specs.Geometry.{block_count, limit_of}
 use Rattle.main_memory.specs.Frames.{frames_needed}
 use Rattle.disksort.specs.declared.Waiter.{Waiter}
-use Rattle.hp_machine.specs.declared.Made.{Made}
-use Rattle.hp_machine.specs.World.{World, Held, no_held, unit_at, slot_at, held_in, frames_of}
-use Rattle.hp_machine.specs.Acts.{Submit, after, joined}
-use Rattle.hp_machine.specs.Guards.{IsSetUp, IsFresh, IsNew, IsApart}
-use Rattle.hp_machine.specs.Sound.{Sound, Among, slots_of, slots_made, frames_by, frames_used, IsMade}
-use Rattle.hp_slots.proofs.Lists.{put_set, contained_among, Contains-first}
-use Rattle.hp_slots.proofs.Hand.{slot_there}
-use Rattle.hp_phases.proofs.Frame.{held_is}
+use Rattle.driver_machine.specs.declared.Made.{Made}
+use Rattle.driver_machine.specs.World.{World, Held, no_held, unit_at, slot_at, held_in, frames_of}
+use Rattle.driver_machine.specs.Acts.{Submit, after, joined}
+use Rattle.driver_machine.specs.Guards.{IsSetUp, IsFresh, IsNew, IsApart}
+use Rattle.driver_machine.specs.Sound.{Sound, Among, slots_of, slots_made, frames_by, frames_used, IsMade}
+use Rattle.driver_slots.proofs.Lists.{put_set, contained_among, Contains-first}
+use Rattle.driver_slots.proofs.Hand.{slot_there}
+use Rattle.driver_phases.proofs.Frame.{held_is}
 use Rattle.request_slots.specs.declared.asked.Asked.{Asked}
 use Rattle.request_slots.specs.Requests.{frames_lent, IsHeldFor}
 use Rattle.hp_core.specs.State.{State}

@@ -2,9 +2,9 @@
 use Rattle.std.proofs.Common.{◌≡◌, ℕ, List, refl, sym, ap, ◌∙◌, Option, Some, None}
 use Rattle.std.specs.Prelude.{slice_set, unwrap_or}
 use Rattle.std.proofs.lemmas.List.{set-get_or}
-use Rattle.hp_machine.specs.World.{World, UnitView, AdapterView, Held, no_held, unit_at, adapter_at, slot_at, held_in, slot_in_hand, adapter_of, new_adapter_view}
-use Rattle.hp_machine.specs.Acts.{scene_of, with_scene}
-use Rattle.hp_machine.specs.Guards.{InHand}
+use Rattle.driver_machine.specs.World.{World, UnitView, AdapterView, Held, no_held, unit_at, adapter_at, slot_at, held_in, slot_in_hand, adapter_of, new_adapter_view}
+use Rattle.driver_machine.specs.Acts.{scene_of, with_scene}
+use Rattle.driver_machine.specs.Guards.{InHand}
 use Rattle.hp_core.specs.State.{State}
 
 -- the adapter of a unit, and a request in its slot, put where they are

@@ -1,7 +1,7 @@
 -- Units are set up one after another.
 use Rattle.std.proofs.Common.{◌≡◌, ℕ, zero, suc, ◌+◌, ◌<◌, List, [], ◌∷◌, drop, length, get_or, sym, ap, ◌∙◌, arith}
 use Rattle.std.specs.Prelude.{Contains, slice_set}
-use Rattle.hp_machine.specs.World.{UnitView, Setup, new_unit, set_up}
+use Rattle.driver_machine.specs.World.{UnitView, Setup, new_unit, set_up}
 use Rattle.hp_core.specs.declared.start.UnitSetup.{UnitSetup}
 use Rattle.hp_core.specs.Setups.{setup_of, setups_of}
 

@@ -7,15 +7,15 @@ use Rattle.mass_outside.specs.Puts.{TakesFront}
 use Rattle.mass_gather.specs.Gathers.{Gathers}
 use Rattle.trace_replay.specs.Moments.{Moment}
 use Rattle.trace_replay.specs.Text.{trace_text, moment_text}
-use Rattle.hp_machine.specs.World.{World}
-use Rattle.hp_machine.specs.Acts.{Act, after}
-use Rattle.hp_machine.specs.Lines.{lines_of, lines_of_all}
-use Rattle.hp_machine.specs.Guards.{Allowed}
-use Rattle.hp_outcome.specs.Packs.{Reads, packs_after}
-use Rattle.hp_outcome.specs.Outcome.{Site, Acts, Does, IsFront, StopsAtTrace, Outcome, text_after, stop_in}
-use Rattle.hp_outcome.specs.Outcome as outcome
-use Rattle.hp_outcome.specs.declared.Stop.{Stop}
-use Rattle.hp_outcome.specs.declared.Stop.TheVariants.{Store, Sink}
+use Rattle.driver_machine.specs.World.{World}
+use Rattle.driver_machine.specs.Acts.{Act, after}
+use Rattle.driver_machine.specs.Lines.{lines_of, lines_of_all}
+use Rattle.driver_machine.specs.Guards.{Allowed}
+use Rattle.driver_outcome.specs.Packs.{Reads, packs_after}
+use Rattle.driver_outcome.specs.Outcome.{Site, Acts, Does, IsFront, StopsAtTrace, Outcome, text_after, stop_in}
+use Rattle.driver_outcome.specs.Outcome as outcome
+use Rattle.driver_outcome.specs.declared.Stop.{Stop}
+use Rattle.driver_outcome.specs.declared.Stop.TheVariants.{Store, Sink}
 use Rattle.hp_core.specs.State.{State, site}
 use Rattle.hp_core.specs.Done.{Tells, DoesAct, DoesSilently}
 

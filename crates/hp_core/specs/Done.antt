@@ -4,11 +4,11 @@ use Rattle.pack_model.specs.Pack.{Pack}
 use Rattle.mass_outside.specs.Causes.{HasCause, Rose}
 use Rattle.hardware_table.specs.Adapter.{next_block}
 use Rattle.mass_gather.specs.Gathers.{Gathers}
-use Rattle.hp_machine.specs.World.{adapter_at, adapter_of}
-use Rattle.hp_machine.specs.Acts.{Act, Of, Sector, Tried, after}
-use Rattle.hp_outcome.specs.Outcome.{Does, Outcome, stop_in}
-use Rattle.hp_outcome.specs.declared.Stop.{Stop}
-use Rattle.hp_outcome.specs.declared.Stop.TheVariants.{Store, Sink}
+use Rattle.driver_machine.specs.World.{adapter_at, adapter_of}
+use Rattle.driver_machine.specs.Acts.{Act, Of, Sector, Tried, after}
+use Rattle.driver_outcome.specs.Outcome.{Does, Outcome, stop_in}
+use Rattle.driver_outcome.specs.declared.Stop.{Stop}
+use Rattle.driver_outcome.specs.declared.Stop.TheVariants.{Store, Sink}
 use Rattle.hp_core.specs.State.{State, site}
 
 -- A line is told: its text is put behind what is kept, and the world stays as it was.

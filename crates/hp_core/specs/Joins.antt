@@ -1,9 +1,9 @@
 -- What a submission does.
 use Rattle.std.specs.Prelude.{◌≡◌, ℕ, ◌+◌, List, Some, slice_set}
 use Rattle.main_memory.specs.Frames.{frames_needed}
-use Rattle.hp_machine.specs.World.{Held, slot_at}
-use Rattle.hp_machine.specs.Acts.{Submit}
-use Rattle.hp_machine.specs.Guards.{IsApart, IsNew}
+use Rattle.driver_machine.specs.World.{Held, slot_at}
+use Rattle.driver_machine.specs.Acts.{Submit}
+use Rattle.driver_machine.specs.Guards.{IsApart, IsNew}
 use Rattle.request_slots.specs.declared.asked.Asked.{Asked}
 use Rattle.request_slots.specs.Requests.{IsHeldFor}
 use Rattle.hp_core.specs.State.{State}

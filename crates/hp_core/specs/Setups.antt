@@ -1,6 +1,6 @@
 -- The units that are set up.
 use Rattle.std.specs.Prelude.{List, map}
-use Rattle.hp_machine.specs.World.{Setup}
+use Rattle.driver_machine.specs.World.{Setup}
 use Rattle.hp_core.specs.declared.start.UnitSetup.{UnitSetup}
 
 -- what the setup of a unit says

@@ -1,9 +1,9 @@
 -- What the acts of the driver work on.
 use Rattle.std.specs.Prelude.{ℕ, ◌≤◌, ◌+◌, ◌++◌, List, [], ◌∷◌, length, Option, None, Some}
 use Rattle.pack_model.specs.Pack.{Pack}
-use Rattle.hp_machine.specs.declared.Made.{Made}
-use Rattle.hp_machine.specs.World.{World, Held}
-use Rattle.hp_outcome.specs.Outcome.{Site}
+use Rattle.driver_machine.specs.declared.Made.{Made}
+use Rattle.driver_machine.specs.World.{World, Held}
+use Rattle.driver_outcome.specs.Outcome.{Site}
 
 -- the world, and the text of the trace that is still kept
 pub record State : Type 0 where

@@ -1,15 +1,15 @@
 // The deeds that change a drive.
 ghost use Rattle.std.specs.Prelude.{◌≡◌};
-ghost use Rattle.hp_machine.specs.World.{unit_at};
-ghost use Rattle.hp_machine.specs.Acts.{Of, Arrive, Attn, Search, Do, Pack, Dclr, Rtc};
-ghost use Rattle.hp_machine.specs.Guards.{Allowed};
-ghost use Rattle.hp_machine.specs.Sound.{Sound};
+ghost use Rattle.driver_machine.specs.World.{unit_at};
+ghost use Rattle.driver_machine.specs.Acts.{Of, Arrive, Attn, Search, Do, Pack, Dclr, Rtc};
+ghost use Rattle.driver_machine.specs.Guards.{Allowed};
+ghost use Rattle.driver_machine.specs.Sound.{Sound};
 ghost use Rattle.hp_core.specs.Done.{DoesAct};
 
 use crate::driver::{Core, told_step};
+use driver_machine::RetryStep;
+use driver_outcome::Stop;
 use hardware_table::Moved;
-use hp_machine::RetryStep;
-use hp_outcome::Stop;
 use mass_outside::traits::Sink;
 use pack_geometry::Place;
 use trace_lines::Told;

@@ -1,9 +1,9 @@
 // Conditions that change.
 ghost use Rattle.std.specs.Prelude.{◌≡◌};
 ghost use Rattle.trace_replay.specs.Script as script;
-ghost use Rattle.hp_machine.specs.Acts.{Change};
-ghost use Rattle.hp_machine.specs.Guards.{Allowed};
-ghost use Rattle.hp_machine.specs.Sound.{Sound};
+ghost use Rattle.driver_machine.specs.Acts.{Change};
+ghost use Rattle.driver_machine.specs.Guards.{Allowed};
+ghost use Rattle.driver_machine.specs.Sound.{Sound};
 ghost use Rattle.hp_core.specs.Done.{DoesSilently};
 
 use crate::driver::Core;

@@ -1,8 +1,8 @@
 // The whole driver.
 ghost use Rattle.std.specs.Prelude.{◌≡◌, ◌<◌, ◌≤◌, [], length, IsSome};
 ghost use Rattle.main_memory.specs.Frames.{frames_needed};
-ghost use Rattle.hp_machine.specs.World.{unit_at, slot_at, held_in, slot_in_hand, job_of};
-ghost use Rattle.hp_machine.specs.Lines.{step_told};
+ghost use Rattle.driver_machine.specs.World.{unit_at, slot_at, held_in, slot_in_hand, job_of};
+ghost use Rattle.driver_machine.specs.Lines.{step_told};
 ghost use Rattle.trace_replay.specs.Moments as moments;
 ghost use Rattle.subsystem_spec.specs.Requests.{Answer as AnswerTold};
 ghost use Rattle.trace_replay.specs.Text.{moment_text};
@@ -10,8 +10,8 @@ ghost use Rattle.trace_lines.specs.Deeds.{deed_of};
 ghost use Rattle.hp_core.specs.Done.{Tells};
 
 use drive_model::NoiseBook;
-use hp_machine::RetryStep;
-use hp_outcome::Stop;
+use driver_machine::RetryStep;
+use driver_outcome::Stop;
 use hp_units::{Answers, Channel, DiskUnit};
 use mass_gather::Gather;
 use mass_outside::traits::Sink;

@@ -1,17 +1,17 @@
 // Ends, refusals and answers.
 ghost use Rattle.std.specs.Prelude.{◌≡◌, true, ◌<◌, ◌≤◌, ◌+◌, ◌-◌, ◌∷◌, ◌++◌, [], length, drop, None, Some, IsSome, slice_set};
 ghost use Rattle.subsystem_spec.specs.Requests.{Request};
-ghost use Rattle.hp_machine.specs.declared.Phase.TheVariants.{Waiting};
-ghost use Rattle.hp_machine.specs.World.{unit_at, adapter_at, slot_at, held_in, adapter_of, slot_in_hand, frames_of};
-ghost use Rattle.hp_machine.specs.Acts.{Of, End, Refuse, Nothing, no_more_waits, answer_at};
-ghost use Rattle.hp_machine.specs.Guards.{Allowed};
-ghost use Rattle.hp_machine.specs.Sound.{Sound};
+ghost use Rattle.driver_machine.specs.declared.Phase.TheVariants.{Waiting};
+ghost use Rattle.driver_machine.specs.World.{unit_at, adapter_at, slot_at, held_in, adapter_of, slot_in_hand, frames_of};
+ghost use Rattle.driver_machine.specs.Acts.{Of, End, Refuse, Nothing, no_more_waits, answer_at};
+ghost use Rattle.driver_machine.specs.Guards.{Allowed};
+ghost use Rattle.driver_machine.specs.Sound.{Sound};
 ghost use Rattle.hp_core.specs.State.{refused_in};
 ghost use Rattle.hp_core.specs.Done.{DoesAct};
 
 use crate::driver::{Core, needed};
-use hp_machine::{Answer, AnswerKind, Made};
-use hp_outcome::Stop;
+use driver_machine::{Answer, AnswerKind, Made};
+use driver_outcome::Stop;
 use mass_outside::traits::Sink;
 use trace_lines::Told;
 

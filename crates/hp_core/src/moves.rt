@@ -1,14 +1,14 @@
 // The deeds at the adapter and in the buffer of a request, and the tries that failed.
 ghost use Rattle.std.specs.Prelude.{◌≡◌};
-ghost use Rattle.hp_machine.specs.World.{unit_at, adapter_at, adapter_of, transfer_of};
-ghost use Rattle.hp_machine.specs.Acts.{Of, Intr, Move};
-ghost use Rattle.hp_machine.specs.Due.{try_of};
-ghost use Rattle.hp_machine.specs.Guards.{Allowed};
-ghost use Rattle.hp_machine.specs.Sound.{Sound};
+ghost use Rattle.driver_machine.specs.World.{unit_at, adapter_at, adapter_of, transfer_of};
+ghost use Rattle.driver_machine.specs.Acts.{Of, Intr, Move};
+ghost use Rattle.driver_machine.specs.Due.{try_of};
+ghost use Rattle.driver_machine.specs.Guards.{Allowed};
+ghost use Rattle.driver_machine.specs.Sound.{Sound};
 ghost use Rattle.hp_core.specs.Done.{DoesAct};
 
 use crate::driver::Core;
-use hp_outcome::Stop;
+use driver_outcome::Stop;
 use mass_outside::traits::Sink;
 use trace_lines::Told;
 use transfer_engine::Segment;

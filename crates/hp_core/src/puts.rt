@@ -10,16 +10,16 @@ ghost use Rattle.hardware_table.specs.Adapter.{attention_raised, attention_lower
 ghost use Rattle.mba_adapter.specs.Loaded.{loaded_buffer};
 ghost use Rattle.transfer_engine.specs.State.{IsJob, begun, segment_of, moved_on, forwarded, failures_after};
 ghost use Rattle.transfer_engine.specs.Calls.{entry_for, step_for};
-ghost use Rattle.hp_machine.specs.declared.Task.TheVariants as task;
-ghost use Rattle.hp_machine.specs.declared.Phase.TheVariants as phase;
-ghost use Rattle.hp_machine.specs.declared.RetryStep.TheVariants as retry_step;
-ghost use Rattle.hp_machine.specs.World.{unit_at, adapter_at, slot_at, held_in, adapter_of, drive_of, transfer_of, slot_in_hand};
-ghost use Rattle.hp_machine.specs.Acts.{searching, stepping, transferring, centred, commanded, with_drive, with_state, going_to, in_phase, with_transfer, transfer_tried, interrupted, waits_too, no_more_waits, repaired_at};
-ghost use Rattle.hp_machine.specs.Due.{task_for};
+ghost use Rattle.driver_machine.specs.declared.Task.TheVariants as task;
+ghost use Rattle.driver_machine.specs.declared.Phase.TheVariants as phase;
+ghost use Rattle.driver_machine.specs.declared.RetryStep.TheVariants as retry_step;
+ghost use Rattle.driver_machine.specs.World.{unit_at, adapter_at, slot_at, held_in, adapter_of, drive_of, transfer_of, slot_in_hand};
+ghost use Rattle.driver_machine.specs.Acts.{searching, stepping, transferring, centred, commanded, with_drive, with_state, going_to, in_phase, with_transfer, transfer_tried, interrupted, waits_too, no_more_waits, repaired_at};
+ghost use Rattle.driver_machine.specs.Due.{task_for};
 
 use crate::driver::Core;
+use driver_machine::{RetryStep, Task};
 use hardware_table::{Moved, adapter_law};
-use hp_machine::{RetryStep, Task};
 use pack_geometry::Place;
 use transfer_engine::{Job, Segment};
 

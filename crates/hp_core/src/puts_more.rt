@@ -3,8 +3,8 @@ ghost use Rattle.std.specs.Prelude.{◌≡◌, ◌<◌, ◌≤◌, ◌+◌, ◌^
 ghost use Rattle.pack_geometry.specs.Geometry.{sectors_of};
 ghost use Rattle.hardware_table.specs.Events.{turned, fault_armed, online_set, locked_set, times_armed};
 ghost use Rattle.hardware_table.specs.Noise.{book_armed};
-ghost use Rattle.hp_machine.specs.World.{unit_at};
-ghost use Rattle.hp_machine.specs.Acts.{with_drive};
+ghost use Rattle.driver_machine.specs.World.{unit_at};
+ghost use Rattle.driver_machine.specs.Acts.{with_drive};
 
 use crate::driver::Core;
 use fire_code::Noise;

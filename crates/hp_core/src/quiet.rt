@@ -1,12 +1,12 @@
 // The deeds that tell no line.
 ghost use Rattle.std.specs.Prelude.{◌≡◌};
-ghost use Rattle.hp_machine.specs.declared.Phase.TheVariants.{Due};
-ghost use Rattle.hp_machine.specs.declared.Task.TheVariants.{Steps};
+ghost use Rattle.driver_machine.specs.declared.Phase.TheVariants.{Due};
+ghost use Rattle.driver_machine.specs.declared.Task.TheVariants.{Steps};
 ghost use Rattle.transfer_engine.specs.State.{begun};
-ghost use Rattle.hp_machine.specs.World.{unit_at, held_in, slot_in_hand, transfer_of, job_of};
-ghost use Rattle.hp_machine.specs.Acts.{Of, Ready, Repair, Forward, Continue};
-ghost use Rattle.hp_machine.specs.Guards.{Allowed};
-ghost use Rattle.hp_machine.specs.Sound.{Sound};
+ghost use Rattle.driver_machine.specs.World.{unit_at, held_in, slot_in_hand, transfer_of, job_of};
+ghost use Rattle.driver_machine.specs.Acts.{Of, Ready, Repair, Forward, Continue};
+ghost use Rattle.driver_machine.specs.Guards.{Allowed};
+ghost use Rattle.driver_machine.specs.Sound.{Sound};
 ghost use Rattle.hp_core.specs.Done.{DoesSilently};
 
 use crate::driver::Core;

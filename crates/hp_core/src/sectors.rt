@@ -9,15 +9,15 @@ ghost use Rattle.hardware_table.specs.Adapter.{next_block, next_window, stepped,
 ghost use Rattle.drive_model.specs.Move.{MovesSector, IsOldOrNew};
 ghost use Rattle.mba_adapter.specs.Loaded.{loaded_buffer};
 ghost use Rattle.transfer_engine.specs.State.{segment_of};
-ghost use Rattle.hp_machine.specs.World.{unit_at, adapter_at, slot_at, held_in, slot_in_hand, adapter_of, drive_of, transfer_of, block_in, with_block_in};
-ghost use Rattle.hp_machine.specs.Acts.{with_drive, with_state};
-ghost use Rattle.hp_machine.specs.Guards.{InHand, IsBusyFor};
-ghost use Rattle.hp_machine.specs.Sound.{Sound};
+ghost use Rattle.driver_machine.specs.World.{unit_at, adapter_at, slot_at, held_in, slot_in_hand, adapter_of, drive_of, transfer_of, block_in, with_block_in};
+ghost use Rattle.driver_machine.specs.Acts.{with_drive, with_state};
+ghost use Rattle.driver_machine.specs.Guards.{InHand, IsBusyFor};
+ghost use Rattle.driver_machine.specs.Sound.{Sound};
 ghost use Rattle.hp_core.specs.Done.{TriesSector};
 
 use crate::driver::Core;
+use driver_outcome::Stop;
 use hardware_table::Moved;
-use hp_outcome::Stop;
 use mass_outside::traits::{Packs, Sink, StoreFailed};
 use trace_lines::Told;
 

@@ -1,7 +1,7 @@
 // The driver at its start.
 ghost use Rattle.std.specs.Prelude.{◌≡◌, ◌<◌, ◌≤◌, ◌+◌, [], List, Contains, length, min, replicate, IfOk};
-ghost use Rattle.hp_machine.specs.World.{Setup, no_unit, new_unit, new_adapter_view, set_up, new_world};
-ghost use Rattle.hp_slots.specs.Parts.{AreSetups};
+ghost use Rattle.driver_machine.specs.World.{Setup, no_unit, new_unit, new_adapter_view, set_up, new_world};
+ghost use Rattle.driver_slots.specs.Parts.{AreSetups};
 ghost use Rattle.hp_core.specs.Setups.{setup_of, setups_of};
 
 use crate::driver::Core;

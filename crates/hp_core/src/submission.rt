@@ -3,11 +3,11 @@ ghost use Rattle.std.specs.Prelude.{◌≡◌, ◌≢◌, ◌≤◌, ◌<◌, �
 ghost use Rattle.std.specs.Option.{option_map_or};
 ghost use Rattle.pack_geometry.specs.Geometry.{block_count, limit_of};
 ghost use Rattle.main_memory.specs.Frames.{frames_needed};
-ghost use Rattle.hp_machine.specs.declared.Made.{Made};
-ghost use Rattle.hp_machine.specs.World.{no_held, unit_at, slot_at, held_in};
-ghost use Rattle.hp_machine.specs.Acts.{Taken, joined, freed};
-ghost use Rattle.hp_machine.specs.Guards.{IsSetUp, IsFresh};
-ghost use Rattle.hp_machine.specs.Sound.{Sound};
+ghost use Rattle.driver_machine.specs.declared.Made.{Made};
+ghost use Rattle.driver_machine.specs.World.{no_held, unit_at, slot_at, held_in};
+ghost use Rattle.driver_machine.specs.Acts.{Taken, joined, freed};
+ghost use Rattle.driver_machine.specs.Guards.{IsSetUp, IsFresh};
+ghost use Rattle.driver_machine.specs.Sound.{Sound};
 ghost use Rattle.request_slots.specs.Requests.{frames_lent};
 ghost use Rattle.hp_core.specs.Joins.{IsPut, Joins};
 ghost use Rattle.hp_core.specs.Done.{DoesSilently};

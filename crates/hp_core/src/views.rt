@@ -7,14 +7,14 @@ ghost use Rattle.hardware_table.specs.Drive.{is_positioning};
 ghost use Rattle.transfer_engine.specs.State.{segment_of};
 ghost use Rattle.transfer_engine.specs.Calls.{entry_for};
 ghost use Rattle.seek_engine.specs.Seek.{position_for};
-ghost use Rattle.hp_machine.specs.World.{unit_at, adapter_at, slot_at, held_in, unit_of, block_in, slot_in_hand, transfer_of};
-ghost use Rattle.hp_machine.specs.Sound.{Sound};
+ghost use Rattle.driver_machine.specs.World.{unit_at, adapter_at, slot_at, held_in, unit_of, block_in, slot_in_hand, transfer_of};
+ghost use Rattle.driver_machine.specs.Sound.{Sound};
 ghost use Rattle.request_slots.specs.Requests.{asked_of};
-ghost use Rattle.hp_machine.specs.Due.{steps_of};
+ghost use Rattle.driver_machine.specs.Due.{steps_of};
 
 use crate::driver::Core;
+use driver_machine::{Made, Phase, RetryStep};
 use hp_interrupts::Sensed;
-use hp_machine::{Made, Phase, RetryStep};
 use pack_geometry::{DriveKind, Place};
 use request_slots::Asked;
 use seek_engine::Position;

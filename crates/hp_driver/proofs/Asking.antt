@@ -5,15 +5,15 @@ use Rattle.std.proofs.lemmas.Option.{none-some, same_Some}
 use Rattle.pack_geometry.specs.declared.DriveKind.{DriveKind}
 use Rattle.subsystem_spec.specs.Requests as told
 use Rattle.subsystem_spec.specs.Requests.{first_block}
-use Rattle.hp_machine.specs.declared.AnswerKind.{AnswerKind}
-use Rattle.hp_machine.specs.World.{World, Held, no_held, unit_at, pieces, adapter_of}
-use Rattle.hp_machine.specs.Acts.{Act, Refuse}
-use Rattle.hp_machine.specs.Events.{refusal_of, submit_by, submit_acts, joined_acts, followed, adapter_start}
-use Rattle.hp_machine.specs.Guards.{IsSetUp, IsFresh, IsNew, IsHeldFor}
-use Rattle.hp_work.specs.Runs.{MaySubmit}
-use Rattle.hp_work.proofs.Calls.{submit_works}
-use Rattle.hp_invariant.proofs.Sound.{sound_after}
-use Rattle.hp_outcome.specs.declared.Stop.{Stop}
+use Rattle.driver_machine.specs.declared.AnswerKind.{AnswerKind}
+use Rattle.driver_machine.specs.World.{World, Held, no_held, unit_at, pieces, adapter_of}
+use Rattle.driver_machine.specs.Acts.{Act, Refuse}
+use Rattle.driver_machine.specs.Events.{refusal_of, submit_by, submit_acts, joined_acts, followed, adapter_start}
+use Rattle.driver_machine.specs.Guards.{IsSetUp, IsFresh, IsNew, IsHeldFor}
+use Rattle.driver_work.specs.Runs.{MaySubmit}
+use Rattle.driver_work.proofs.Calls.{submit_works}
+use Rattle.driver_invariant.proofs.Sound.{sound_after}
+use Rattle.driver_outcome.specs.declared.Stop.{Stop}
 use Rattle.request_slots.specs.declared.asked.Asked.{Asked}
 use Rattle.request_slots.specs.Requests as slots
 use Rattle.hp_core.specs.State.{State}

@@ -1,16 +1,16 @@
 -- Whatever a call comes to, some acts ran, and they leave what holds between any two acts.
 use Rattle.std.proofs.Common.{◌≡◌, List, length, Option, Some, None, sym, ap, ◌∙◌, subst}
-use Rattle.hp_machine.specs.World.{World}
-use Rattle.hp_machine.specs.Acts.{Act}
-use Rattle.hp_machine.specs.Sound.{Sound}
-use Rattle.hp_slots.proofs.Sizes.{sizes_all}
-use Rattle.hp_work.proofs.Leads.{sound_along}
-use Rattle.hp_invariant.proofs.Sound.{sound_after}
-use Rattle.hp_outcome.specs.Outcome.{Site, Told, Outcome}
-use Rattle.hp_outcome.specs.declared.Stop.{Stop}
-use Rattle.hp_outcome.specs.declared.Stop.TheVariants.{Store, Sink}
-use Rattle.hp_trace.specs.Noises.{AllFlip}
-use Rattle.hp_trace.proofs.LiveNoises.{acts_keep_noise}
+use Rattle.driver_machine.specs.World.{World}
+use Rattle.driver_machine.specs.Acts.{Act}
+use Rattle.driver_machine.specs.Sound.{Sound}
+use Rattle.driver_slots.proofs.Sizes.{sizes_all}
+use Rattle.driver_work.proofs.Leads.{sound_along}
+use Rattle.driver_invariant.proofs.Sound.{sound_after}
+use Rattle.driver_outcome.specs.Outcome.{Site, Told, Outcome}
+use Rattle.driver_outcome.specs.declared.Stop.{Stop}
+use Rattle.driver_outcome.specs.declared.Stop.TheVariants.{Store, Sink}
+use Rattle.driver_trace.specs.Noises.{AllFlip}
+use Rattle.driver_trace.proofs.LiveNoises.{acts_keep_noise}
 use Rattle.hp_driver.specs.Calls.{Ran}
 
 pub ran_by : (told : Told) (acts : List Act) (old new : Site) (stop : Option Stop) → Outcome told acts old new stop → Ran old.world new.world

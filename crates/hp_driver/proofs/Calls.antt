@@ -5,18 +5,18 @@ use Rattle.std.proofs.lemmas.List.{append-nil}
 use Rattle.pack_model.specs.Pack.{Pack, empty_pack}
 use Rattle.mass_outside.specs.Causes.{HasCause, Rose}
 use Rattle.trace_replay.specs.Script.{Input}
-use Rattle.hp_machine.specs.World.{World}
-use Rattle.hp_machine.specs.Acts.{Act, Tried, after_all}
-use Rattle.hp_machine.specs.Lines.{lines_of}
-use Rattle.hp_machine.specs.Events.{event_acts}
-use Rattle.hp_machine.specs.Sound.{AtWork}
-use Rattle.hp_work.specs.Runs.{Works, MayCome}
-use Rattle.hp_work.proofs.Calls.{event_works}
-use Rattle.hp_invariant.proofs.Sound.{sound_after}
-use Rattle.hp_outcome.specs.Outcome.{Outcome, Does, stop_in}
-use Rattle.hp_outcome.specs.declared.Stop.{Stop}
-use Rattle.hp_outcome.specs.declared.Stop.TheVariants.{Store, Sink}
-use Rattle.hp_trace.specs.Calls.{IsReadOf}
+use Rattle.driver_machine.specs.World.{World}
+use Rattle.driver_machine.specs.Acts.{Act, Tried, after_all}
+use Rattle.driver_machine.specs.Lines.{lines_of}
+use Rattle.driver_machine.specs.Events.{event_acts}
+use Rattle.driver_machine.specs.Sound.{AtWork}
+use Rattle.driver_work.specs.Runs.{Works, MayCome}
+use Rattle.driver_work.proofs.Calls.{event_works}
+use Rattle.driver_invariant.proofs.Sound.{sound_after}
+use Rattle.driver_outcome.specs.Outcome.{Outcome, Does, stop_in}
+use Rattle.driver_outcome.specs.declared.Stop.{Stop}
+use Rattle.driver_outcome.specs.declared.Stop.TheVariants.{Store, Sink}
+use Rattle.driver_trace.specs.Calls.{IsReadOf}
 use Rattle.hp_core.specs.State.{State, site}
 use Rattle.hp_core.specs.Done.{Tells, DoesSilently, HasCauses}
 use Rattle.hp_events.specs.Done.{DoesActs}

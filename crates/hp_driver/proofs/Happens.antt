@@ -5,11 +5,11 @@ use Rattle.pack_model.specs.Pack.{Pack}
 use Rattle.hardware_table.specs.declared.Moved.TheVariants.{Clean}
 use Rattle.trace_replay.specs.Script as script
 use Rattle.trace_replay.specs.Script.{Input}
-use Rattle.hp_machine.specs.Acts.{Act, Change, Tried}
-use Rattle.hp_machine.specs.Events.{event_acts, arrive_acts, attend_acts}
-use Rattle.hp_work.specs.Runs.{MayCome}
-use Rattle.hp_outcome.specs.declared.Stop.{Stop}
-use Rattle.hp_trace.specs.Calls.{IsReadOf}
+use Rattle.driver_machine.specs.Acts.{Act, Change, Tried}
+use Rattle.driver_machine.specs.Events.{event_acts, arrive_acts, attend_acts}
+use Rattle.driver_work.specs.Runs.{MayCome}
+use Rattle.driver_outcome.specs.declared.Stop.{Stop}
+use Rattle.driver_trace.specs.Calls.{IsReadOf}
 use Rattle.hp_core.specs.State.{State}
 use Rattle.hp_core.specs.Done.{DoesSilently}
 use Rattle.hp_events.specs.declared.drain.Event.{Event}

@@ -7,26 +7,26 @@ use Rattle.std.proofs.lemmas.List.{length-replicate}
 use Rattle.std.proofs.lemmas.Option.{none-some}
 use Rattle.trace_replay.specs.Script as script
 use Rattle.trace_replay.specs.Script.{Input}
-use Rattle.hp_machine.specs.declared.AnswerKind.TheVariants.{ReadOk}
-use Rattle.hp_machine.specs.declared.Made.{Made}
-use Rattle.hp_machine.specs.World.{World, Held, Setup, no_held, new_world, slot_at, held_in}
-use Rattle.hp_machine.specs.Acts.{Taken}
-use Rattle.hp_machine.specs.Events.{next_event}
-use Rattle.hp_machine.specs.Refusals.{refuses}
-use Rattle.hp_machine.specs.Sound.{Sound, AtWork, IsMade, IsGiven}
-use Rattle.hp_slots.specs.Parts.{AreSetups}
-use Rattle.hp_slots.proofs.Lists.{Contains-first}
-use Rattle.hp_slots.proofs.Starts.{sound_new, rests_new}
-use Rattle.hp_work.specs.Runs.{CanCome, NoneOutstanding}
-use Rattle.hp_work.proofs.Calls.{taken_works}
-use Rattle.hp_work.proofs.Next.{next_none, next_can}
-use Rattle.hp_invariant.proofs.Sound.{sound_after}
-use Rattle.hp_trace.proofs.LiveNoises.{none_at_start}
+use Rattle.driver_machine.specs.declared.AnswerKind.TheVariants.{ReadOk}
+use Rattle.driver_machine.specs.declared.Made.{Made}
+use Rattle.driver_machine.specs.World.{World, Held, Setup, no_held, new_world, slot_at, held_in}
+use Rattle.driver_machine.specs.Acts.{Taken}
+use Rattle.driver_machine.specs.Events.{next_event}
+use Rattle.driver_machine.specs.Refusals.{refuses}
+use Rattle.driver_machine.specs.Sound.{Sound, AtWork, IsMade, IsGiven}
+use Rattle.driver_slots.specs.Parts.{AreSetups}
+use Rattle.driver_slots.proofs.Lists.{Contains-first}
+use Rattle.driver_slots.proofs.Starts.{sound_new, rests_new}
+use Rattle.driver_work.specs.Runs.{CanCome, NoneOutstanding}
+use Rattle.driver_work.proofs.Calls.{taken_works}
+use Rattle.driver_work.proofs.Next.{next_none, next_can}
+use Rattle.driver_invariant.proofs.Sound.{sound_after}
+use Rattle.driver_trace.proofs.LiveNoises.{none_at_start}
 use Rattle.hp_core.specs.State as core
 use Rattle.hp_core.specs.Done.{DoesSilently}
 use Rattle.hp_events.specs.declared.drain.Event.{Event}
 use Rattle.hp_events.specs.Inputs.{input_of}
-use Rattle.hp_drains.specs.Drains.{DrainsFall}
+use Rattle.driver_drains.specs.Drains.{DrainsFall}
 use Rattle.hp_driver.specs.Subsystem.{IsKept, IsThere, LeavesFewer, Reads}
 use Rattle.hp_driver.specs.Calls.{Ran}
 use Rattle.hp_driver.proofs.Behind.{ran_sound, ran_noise, ran_slots}

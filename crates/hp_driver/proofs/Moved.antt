@@ -4,15 +4,15 @@ use Rattle.std.specs.Prelude.{Result, Ok, Err, IfErr, OnOk}
 use Rattle.pack_model.specs.Pack.{Pack}
 use Rattle.mass_outside.specs.Causes.{HasCause}
 use Rattle.trace_replay.specs.Script.{MoveAt}
-use Rattle.hp_machine.specs.Acts.{Tried}
-use Rattle.hp_machine.specs.Events.{move_acts}
-use Rattle.hp_machine.specs.Sound.{AtWork}
-use Rattle.hp_work.specs.Runs.{MayCome}
-use Rattle.hp_work.proofs.Calls.{event_works}
-use Rattle.hp_invariant.proofs.Sound.{sound_after}
-use Rattle.hp_outcome.specs.Outcome.{Outcome, stop_in}
-use Rattle.hp_outcome.specs.declared.Stop.{Stop}
-use Rattle.hp_outcome.specs.declared.Stop.TheVariants.{Store, Sink}
+use Rattle.driver_machine.specs.Acts.{Tried}
+use Rattle.driver_machine.specs.Events.{move_acts}
+use Rattle.driver_machine.specs.Sound.{AtWork}
+use Rattle.driver_work.specs.Runs.{MayCome}
+use Rattle.driver_work.proofs.Calls.{event_works}
+use Rattle.driver_invariant.proofs.Sound.{sound_after}
+use Rattle.driver_outcome.specs.Outcome.{Outcome, stop_in}
+use Rattle.driver_outcome.specs.declared.Stop.{Stop}
+use Rattle.driver_outcome.specs.declared.Stop.TheVariants.{Store, Sink}
 use Rattle.hp_core.specs.State.{State}
 use Rattle.hp_core.specs.Done.{Tells, HasCauses}
 use Rattle.hp_events.specs.Moves.{DoesMove}

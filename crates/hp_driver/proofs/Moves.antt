@@ -2,20 +2,20 @@
 use Rattle.std.proofs.Common.{◌≡◌, ℕ, Bool, true, false, not, ◌&&◌, List, [], ◌∷◌, refl, ap, ◌∙◌, subst}
 use Rattle.pack_model.specs.Pack.{Pack}
 use Rattle.hardware_table.specs.Adapter.{next_block}
-use Rattle.hp_machine.specs.World.{World, unit_of, unit_at, adapter_at}
-use Rattle.hp_machine.specs.Acts.{Act, Tried, Sector, scene_of}
-use Rattle.hp_machine.specs.Events.{can_move, in_hand, move_acts, or_nothing}
-use Rattle.hp_machine.specs.Guards.{IsTried}
-use Rattle.hp_machine.specs.Sound.{Sound}
-use Rattle.hp_due.proofs.DueFacts.{false_true}
-use Rattle.hp_work.specs.Runs.{Run}
-use Rattle.hp_work.proofs.Deeds.{deed_at}
-use Rattle.hp_work.proofs.Due.{in_hand_one}
-use Rattle.hp_work.proofs.Calls.{IsServing, serving}
-use Rattle.hp_outcome.specs.Packs.{ReadAll}
-use Rattle.hp_trace.specs.Calls.{IsReadFrom}
-use Rattle.hp_trace.specs.Noises.{AllFlip}
-use Rattle.hp_trace.proofs.LiveNoises.{strikes_flip}
+use Rattle.driver_machine.specs.World.{World, unit_of, unit_at, adapter_at}
+use Rattle.driver_machine.specs.Acts.{Act, Tried, Sector, scene_of}
+use Rattle.driver_machine.specs.Events.{can_move, in_hand, move_acts, or_nothing}
+use Rattle.driver_machine.specs.Guards.{IsTried}
+use Rattle.driver_machine.specs.Sound.{Sound}
+use Rattle.driver_due.proofs.DueFacts.{false_true}
+use Rattle.driver_work.specs.Runs.{Run}
+use Rattle.driver_work.proofs.Deeds.{deed_at}
+use Rattle.driver_work.proofs.Due.{in_hand_one}
+use Rattle.driver_work.proofs.Calls.{IsServing, serving}
+use Rattle.driver_outcome.specs.Packs.{ReadAll}
+use Rattle.driver_trace.specs.Calls.{IsReadFrom}
+use Rattle.driver_trace.specs.Noises.{AllFlip}
+use Rattle.driver_trace.proofs.LiveNoises.{strikes_flip}
 
 busy_too : (b c : Bool) → b && not c ≡ true → b ≡ true
 busy_too true c e = refl

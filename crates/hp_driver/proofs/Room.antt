@@ -3,11 +3,11 @@ use Rattle.std.proofs.Common.{◌≡◌, ℕ, suc, ◌+◌, ◌-◌, ◌*◌, �
 use Rattle.std.specs.Prelude.{min, slice_index_or, IsSome}
 use Rattle.main_memory.specs.Blocks.{IsLoan}
 use Rattle.main_memory.specs.Frames.{frames_needed}
-use Rattle.hp_machine.specs.World.{World, Held, slot_at}
-use Rattle.hp_machine.specs.Sound.{Sound}
+use Rattle.driver_machine.specs.World.{World, Held, slot_at}
+use Rattle.driver_machine.specs.Sound.{Sound}
 use Rattle.request_slots.specs.Requests.{frames_lent}
-use Rattle.hp_counts.specs.Counts.{in_use}
-use Rattle.hp_counts.proofs.Slots.{full_where_taken, all_lent_are_needed}
+use Rattle.driver_counts.specs.Counts.{in_use}
+use Rattle.driver_counts.proofs.Slots.{full_where_taken, all_lent_are_needed}
 
 -- each request needs a frame at least
 pub some_frames : (count offset last : ℕ) → 1 ≤ last → 1 ≤ frames_needed count offset last

@@ -4,10 +4,10 @@ use Rattle.std.proofs.lemmas.List.{append_assoc, append-nil}
 use Rattle.pack_model.specs.Pack.{Pack}
 use Rattle.mass_outside.specs.Puts.{TakesFront}
 use Rattle.trace_replay.specs.Text.{trace_text}
-use Rattle.hp_machine.specs.World.{World}
-use Rattle.hp_machine.specs.Acts.{Act}
-use Rattle.hp_machine.specs.Lines.{lines_of_all}
-use Rattle.hp_outcome.specs.Outcome.{Acts, Does, IsFront, StopsAtTrace, StopsAtPacks}
+use Rattle.driver_machine.specs.World.{World}
+use Rattle.driver_machine.specs.Acts.{Act}
+use Rattle.driver_machine.specs.Lines.{lines_of_all}
+use Rattle.driver_outcome.specs.Outcome.{Acts, Does, IsFront, StopsAtTrace, StopsAtPacks}
 use Rattle.hp_driver.specs.Subsystem.{seen}
 
 -- TEXTS. Nothing is kept before, and this text is told.

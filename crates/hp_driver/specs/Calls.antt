@@ -5,17 +5,17 @@ use Rattle.mass_outside.specs.Causes.{HasCause}
 use Rattle.subsystem_spec.specs.Requests as told
 use Rattle.subsystem_spec.specs.Requests.{IsRequest}
 use Rattle.trace_replay.specs.Script.{Input}
-use Rattle.hp_machine.specs.World.{World}
-use Rattle.hp_machine.specs.Acts.{Act, after_all}
-use Rattle.hp_machine.specs.Guards.{IsSetUp, IsFresh}
-use Rattle.hp_machine.specs.Sound.{Sound, AtWork}
-use Rattle.hp_work.specs.Runs.{Run}
-use Rattle.hp_outcome.specs.declared.Stop.{Stop}
-use Rattle.hp_outcome.specs.declared.Stop.TheVariants.{Sink}
-use Rattle.hp_outcome.specs.Outcome.{Outcome, stop_in}
+use Rattle.driver_machine.specs.World.{World}
+use Rattle.driver_machine.specs.Acts.{Act, after_all}
+use Rattle.driver_machine.specs.Guards.{IsSetUp, IsFresh}
+use Rattle.driver_machine.specs.Sound.{Sound, AtWork}
+use Rattle.driver_work.specs.Runs.{Run}
+use Rattle.driver_outcome.specs.declared.Stop.{Stop}
+use Rattle.driver_outcome.specs.declared.Stop.TheVariants.{Sink}
+use Rattle.driver_outcome.specs.Outcome.{Outcome, stop_in}
 use Rattle.request_slots.specs.declared.asked.Asked.{Asked}
-use Rattle.hp_counts.specs.Counts.{in_use}
-use Rattle.hp_trace.specs.Noises.{AllFlip}
+use Rattle.driver_counts.specs.Counts.{in_use}
+use Rattle.driver_trace.specs.Noises.{AllFlip}
 use Rattle.hp_core.specs.State.{State}
 use Rattle.hp_core.specs.Done.{HasCauses}
 use Rattle.hp_driver.specs.declared.request.Request.{Request}

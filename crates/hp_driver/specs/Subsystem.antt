@@ -11,23 +11,23 @@ use Rattle.trace_replay.specs.Packs.{Surface}
 use Rattle.trace_replay.specs.Replay.{new_replay, after_moments}
 use Rattle.trace_replay.specs.Script as script
 use Rattle.trace_replay.specs.Script.{Input}
-use Rattle.hp_machine.specs.declared.AnswerKind.TheVariants.{ReadOk}
-use Rattle.hp_machine.specs.declared.Made.{Made}
-use Rattle.hp_machine.specs.World.{World, Held, unit_at, slot_at}
-use Rattle.hp_machine.specs.Acts.{Tried}
-use Rattle.hp_machine.specs.Lines.{lines_of_all}
-use Rattle.hp_machine.specs.Events.{refusal_of, submit_acts, event_acts}
-use Rattle.hp_machine.specs.Guards.{IsSetUp, IsHeldFor, MayChange}
-use Rattle.hp_machine.specs.Sound.{Sound, AtWork}
-use Rattle.hp_work.specs.Runs.{MaySubmit, MayCome}
-use Rattle.hp_outcome.specs.declared.Stop.{Stop}
-use Rattle.hp_outcome.specs.declared.Stop.TheVariants.{Sink}
-use Rattle.hp_outcome.specs.Outcome.{Site, Outcome}
-use Rattle.hp_counts.specs.Counts.{in_use}
-use Rattle.hp_trace.specs.Calls.{IsReadOf}
-use Rattle.hp_trace.specs.Noises.{AllFlip}
-use Rattle.hp_trace.specs.Runs.{IsDraining}
-use Rattle.hp_drains.specs.Drains.{AreAsked, Falls}
+use Rattle.driver_machine.specs.declared.AnswerKind.TheVariants.{ReadOk}
+use Rattle.driver_machine.specs.declared.Made.{Made}
+use Rattle.driver_machine.specs.World.{World, Held, unit_at, slot_at}
+use Rattle.driver_machine.specs.Acts.{Tried}
+use Rattle.driver_machine.specs.Lines.{lines_of_all}
+use Rattle.driver_machine.specs.Events.{refusal_of, submit_acts, event_acts}
+use Rattle.driver_machine.specs.Guards.{IsSetUp, IsHeldFor, MayChange}
+use Rattle.driver_machine.specs.Sound.{Sound, AtWork}
+use Rattle.driver_work.specs.Runs.{MaySubmit, MayCome}
+use Rattle.driver_outcome.specs.declared.Stop.{Stop}
+use Rattle.driver_outcome.specs.declared.Stop.TheVariants.{Sink}
+use Rattle.driver_outcome.specs.Outcome.{Site, Outcome}
+use Rattle.driver_counts.specs.Counts.{in_use}
+use Rattle.driver_trace.specs.Calls.{IsReadOf}
+use Rattle.driver_trace.specs.Noises.{AllFlip}
+use Rattle.driver_trace.specs.Runs.{IsDraining}
+use Rattle.driver_drains.specs.Drains.{AreAsked, Falls}
 use Rattle.hp_driver.specs.declared.request.Request.{Request}
 
 -- its world, how many requests may be outstanding at once, and whether one of its calls has failed

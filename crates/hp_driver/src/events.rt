@@ -1,14 +1,14 @@
 // An event, over the core.
 ghost use Rattle.std.specs.Prelude.{◌≡◌, ◌<◌};
 ghost use Rattle.trace_replay.specs.Script as script;
-ghost use Rattle.hp_machine.specs.Events.{arrive_acts, attend_acts};
+ghost use Rattle.driver_machine.specs.Events.{arrive_acts, attend_acts};
 ghost use Rattle.hp_events.specs.Inputs.{input_of};
 ghost use Rattle.hp_driver.specs.Subsystem.{IsThere};
 ghost use Rattle.hp_driver.specs.Calls.{Stands, SendsActs, Happens};
 
+use driver_outcome::Stop;
 use hp_core::Core;
 use hp_events::Event;
-use hp_outcome::Stop;
 use mass_outside::traits::{Packs, Sink};
 
 /// A positioning ends.

@@ -7,10 +7,10 @@ mod request;
 mod submission;
 mod subsystem;
 
+pub use driver_machine::{Answer, AnswerKind, Cause};
+pub use driver_outcome::Stop;
 pub use hp_core::UnitSetup;
 pub use hp_events::Event;
-pub use hp_machine::{Answer, AnswerKind, Cause};
-pub use hp_outcome::Stop;
 pub use request::Request;
 pub use subsystem::Subsystem;
 

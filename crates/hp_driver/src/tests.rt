@@ -1,7 +1,7 @@
 // A request from its submission to its answer.
 ghost use Rattle.std.specs.Prelude.{◌≡◌, ◌≤◌, ◌∷◌, [], false, None, IfSome};
 ghost use Rattle.pack_geometry.specs.declared.DriveKind.TheVariants.{Rm03};
-ghost use Rattle.hp_machine.specs.World.{new_world};
+ghost use Rattle.driver_machine.specs.World.{new_world};
 
 use super::*;
 use mass_outside::mem_packs::MemPacks;

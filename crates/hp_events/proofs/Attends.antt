@@ -1,11 +1,11 @@
 -- An interrupt is delivered: the data interrupt, the attentions, and the adapter's start, one behind the other.
 use Rattle.std.proofs.Common.{◌≡◌, ℕ, Bool, true, List, subst}
 use Rattle.std.specs.Prelude.{Result, Ok, Err}
-use Rattle.hp_machine.specs.World.{adapter_at}
-use Rattle.hp_machine.specs.Acts.{Act}
-use Rattle.hp_machine.specs.Events.{and_then, each, drives, data_interrupt, attention, adapter_start, can_attend, attend_acts}
-use Rattle.hp_machine.specs.Sound.{Sound}
-use Rattle.hp_outcome.specs.declared.Stop.{Stop}
+use Rattle.driver_machine.specs.World.{adapter_at}
+use Rattle.driver_machine.specs.Acts.{Act}
+use Rattle.driver_machine.specs.Events.{and_then, each, drives, data_interrupt, attention, adapter_start, can_attend, attend_acts}
+use Rattle.driver_machine.specs.Sound.{Sound}
+use Rattle.driver_outcome.specs.declared.Stop.{Stop}
 use Rattle.hp_core.specs.State.{State}
 use Rattle.hp_events.specs.Done.{DoesActs}
 use Rattle.hp_events.proofs.Joined.{then_part, stopped_part, all_done}

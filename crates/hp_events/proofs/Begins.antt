@@ -2,14 +2,14 @@
 use Rattle.std.proofs.Common.{◌≡◌, ℕ, ◌<◌, true, sym, ap, ◌∙◌, subst}
 use Rattle.std.proofs.Common.{get_or-set_same}
 use Rattle.hardware_table.specs.declared.Moved.{Moved}
-use Rattle.hp_machine.specs.declared.Phase.{Phase}
-use Rattle.hp_machine.specs.declared.Phase.TheVariants.{Waiting, Positioning, Queued, Transferring, Due}
-use Rattle.hp_machine.specs.World.{World, UnitView, AdapterView, Held, no_unit, unit_at, slot_in_hand}
-use Rattle.hp_machine.specs.Acts.{Of, Submit, Intr, Attn, effect, joined, scene_of, after}
-use Rattle.hp_machine.specs.Sound.{Sound, AtWork, WorkOf}
-use Rattle.hp_due.proofs.DueFacts.{false_true}
-use Rattle.hp_due.proofs.Until.{own_unit}
-use Rattle.hp_work.proofs.Deeds.{own_adapter}
+use Rattle.driver_machine.specs.declared.Phase.{Phase}
+use Rattle.driver_machine.specs.declared.Phase.TheVariants.{Waiting, Positioning, Queued, Transferring, Due}
+use Rattle.driver_machine.specs.World.{World, UnitView, AdapterView, Held, no_unit, unit_at, slot_in_hand}
+use Rattle.driver_machine.specs.Acts.{Of, Submit, Intr, Attn, effect, joined, scene_of, after}
+use Rattle.driver_machine.specs.Sound.{Sound, AtWork, WorkOf}
+use Rattle.driver_due.proofs.DueFacts.{false_true}
+use Rattle.driver_due.proofs.Until.{own_unit}
+use Rattle.driver_work.proofs.Deeds.{own_adapter}
 use Rattle.hp_events.specs.Free.{needs_free, IsFree}
 
 module _ (w : World) (line u id : ℕ) (sound : Sound w) (lt : u < 32) where

@@ -1,18 +1,18 @@
 -- The first unit of an adapter that is free gets what is due for its transfer command.
 use Rattle.std.proofs.Common.{◌≡◌, inr, ℕ, ◌<◌, true, false, ◌∷◌, length, drop, refl, sym, ap, ◌∙◌, subst}
-use Rattle.hp_machine.specs.declared.Task.{Task}
-use Rattle.hp_machine.specs.declared.Phase.{Phase}
-use Rattle.hp_machine.specs.declared.Phase.TheVariants.{Queued, Due}
-use Rattle.hp_machine.specs.World.{World, UnitView, unit_at, adapter_at, adapter_of, slot_in_hand}
-use Rattle.hp_machine.specs.Acts as deed
-use Rattle.hp_machine.specs.Acts.{Of, Deed, Scene, effect, scene_of, after}
-use Rattle.hp_machine.specs.Due.{command_of}
-use Rattle.hp_machine.specs.Guards.{May, IsChosen, Allowed}
-use Rattle.hp_machine.specs.Sound.{Sound, is_waiting}
-use Rattle.hp_due.specs.DueFacts.{IsDue}
-use Rattle.hp_due.proofs.DueFacts.{chosen_facts, false_true}
-use Rattle.hp_due.proofs.Until.{own_unit}
-use Rattle.hp_work.proofs.Deeds.{in_hand_is}
+use Rattle.driver_machine.specs.declared.Task.{Task}
+use Rattle.driver_machine.specs.declared.Phase.{Phase}
+use Rattle.driver_machine.specs.declared.Phase.TheVariants.{Queued, Due}
+use Rattle.driver_machine.specs.World.{World, UnitView, unit_at, adapter_at, adapter_of, slot_in_hand}
+use Rattle.driver_machine.specs.Acts as deed
+use Rattle.driver_machine.specs.Acts.{Of, Deed, Scene, effect, scene_of, after}
+use Rattle.driver_machine.specs.Due.{command_of}
+use Rattle.driver_machine.specs.Guards.{May, IsChosen, Allowed}
+use Rattle.driver_machine.specs.Sound.{Sound, is_waiting}
+use Rattle.driver_due.specs.DueFacts.{IsDue}
+use Rattle.driver_due.proofs.DueFacts.{chosen_facts, false_true}
+use Rattle.driver_due.proofs.Until.{own_unit}
+use Rattle.driver_work.proofs.Deeds.{in_hand_is}
 use Rattle.hp_events.specs.Free.{needs_free, IsFree}
 use Rattle.hp_events.specs.Hand.{hand_at}
 

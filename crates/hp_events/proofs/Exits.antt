@@ -2,13 +2,13 @@
 use Rattle.std.proofs.Common.{◌≡◌, ℕ, Bool, true, false, List, ◌∷◌, inl, refl, sym, subst, ◌<◌}
 use Rattle.std.specs.Prelude.{Result, Ok, Err}
 use Rattle.std.specs.Result.{IsErrAnd}
-use Rattle.hp_machine.specs.declared.Phase.TheVariants.{Queued}
-use Rattle.hp_machine.specs.World.{World, adapter_of, unit_at, adapter_at, held_in, slot_in_hand}
-use Rattle.hp_machine.specs.Acts.{Act}
-use Rattle.hp_machine.specs.Due.{command_of}
-use Rattle.hp_machine.specs.Events.{in_hand, due_acts, choose_acts}
-use Rattle.hp_machine.specs.Sound.{Sound, Among}
-use Rattle.hp_outcome.specs.declared.Stop.{Stop}
+use Rattle.driver_machine.specs.declared.Phase.TheVariants.{Queued}
+use Rattle.driver_machine.specs.World.{World, adapter_of, unit_at, adapter_at, held_in, slot_in_hand}
+use Rattle.driver_machine.specs.Acts.{Act}
+use Rattle.driver_machine.specs.Due.{command_of}
+use Rattle.driver_machine.specs.Events.{in_hand, due_acts, choose_acts}
+use Rattle.driver_machine.specs.Sound.{Sound, Among}
+use Rattle.driver_outcome.specs.declared.Stop.{Stop}
 use Rattle.hp_core.specs.State.{State}
 use Rattle.hp_events.specs.Done.{DoesActs}
 use Rattle.hp_events.proofs.Joined.{said, failed, then_part, stopped_part}

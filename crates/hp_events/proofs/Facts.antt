@@ -9,18 +9,18 @@ use Rattle.retry_offsets.specs.declared.Step.{Step}
 use Rattle.retry_offsets.specs.declared.Step.TheVariants as retry
 use Rattle.transfer_engine.specs.declared.job.Job.{Job}
 use Rattle.transfer_engine.specs.State.{segment_by, segment_of}
-use Rattle.hp_machine.specs.declared.RetryStep.{RetryStep}
-use Rattle.hp_machine.specs.declared.RetryStep.TheVariants.{Recalibrate, Seek}
-use Rattle.hp_machine.specs.declared.Phase.TheVariants.{Due}
-use Rattle.hp_machine.specs.declared.Task.TheVariants.{Judge, Steps}
-use Rattle.hp_machine.specs.World.{World, unit_at, slot_at, slot_in_hand, transfer_of}
-use Rattle.hp_machine.specs.Acts.{scene_of}
-use Rattle.hp_machine.specs.Due.{steps_for, seek_steps, offset_steps}
-use Rattle.hp_machine.specs.Guards.{InHand}
-use Rattle.hp_machine.specs.Sound.{Sound, IsTask, IsEndedAt}
-use Rattle.hp_phases.proofs.Drives.{below_limit}
-use Rattle.hp_phases.proofs.Frame.{scene_ok}
-use Rattle.hp_phases.proofs.Scene.{SceneOk, phase_is}
+use Rattle.driver_machine.specs.declared.RetryStep.{RetryStep}
+use Rattle.driver_machine.specs.declared.RetryStep.TheVariants.{Recalibrate, Seek}
+use Rattle.driver_machine.specs.declared.Phase.TheVariants.{Due}
+use Rattle.driver_machine.specs.declared.Task.TheVariants.{Judge, Steps}
+use Rattle.driver_machine.specs.World.{World, unit_at, slot_at, slot_in_hand, transfer_of}
+use Rattle.driver_machine.specs.Acts.{scene_of}
+use Rattle.driver_machine.specs.Due.{steps_for, seek_steps, offset_steps}
+use Rattle.driver_machine.specs.Guards.{InHand}
+use Rattle.driver_machine.specs.Sound.{Sound, IsTask, IsEndedAt}
+use Rattle.driver_phases.proofs.Drives.{below_limit}
+use Rattle.driver_phases.proofs.Frame.{scene_ok}
+use Rattle.driver_phases.proofs.Scene.{SceneOk, phase_is}
 use Rattle.hp_events.specs.Hand.{hand_at}
 
 pub unit_there : (w : World) (u : ℕ) → Sound w → u < 32 → u < length w.units

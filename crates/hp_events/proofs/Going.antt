@@ -4,11 +4,11 @@ use Rattle.std.specs.Prelude.{Result, Ok, Err, eqb}
 use Rattle.std.proofs.lemmas.List.{append_assoc}
 use Rattle.std.proofs.lemmas.Bool.{agree_below_at, eqb-true}
 use Rattle.std.proofs.Math.Seq.{drop-cons}
-use Rattle.hp_machine.specs.World.{World}
-use Rattle.hp_machine.specs.Acts.{Act, after_all}
-use Rattle.hp_machine.specs.Events.{Part, followed, each, go_on, until, drives}
-use Rattle.hp_machine.specs.Sound.{Sound}
-use Rattle.hp_outcome.specs.declared.Stop.{Stop}
+use Rattle.driver_machine.specs.World.{World}
+use Rattle.driver_machine.specs.Acts.{Act, after_all}
+use Rattle.driver_machine.specs.Events.{Part, followed, each, go_on, until, drives}
+use Rattle.driver_machine.specs.Sound.{Sound}
+use Rattle.driver_outcome.specs.declared.Stop.{Stop}
 use Rattle.hp_core.specs.State.{State}
 use Rattle.hp_events.specs.Done.{DoesActs, AllDone}
 use Rattle.hp_events.proofs.Joined.{said, done_nothing, then_acts, stopped, all_done}

@@ -3,15 +3,15 @@ use Rattle.std.proofs.Common.{ℕ, ◌≤◌, Bool, false, IsTrue, List, [], ◌
 use Rattle.std.specs.Prelude.{Result, Ok, Err}
 use Rattle.pack_model.specs.Pack.{empty_pack}
 use Rattle.mass_outside.specs.Causes.{HasCause, Rose}
-use Rattle.hp_machine.specs.World.{World}
-use Rattle.hp_machine.specs.Acts.{Act, after_all}
-use Rattle.hp_machine.specs.Events.{Part, followed}
-use Rattle.hp_machine.specs.Sound.{Sound}
-use Rattle.hp_work.proofs.Leads.{sound_along}
-use Rattle.hp_invariant.proofs.Sound.{sound_after}
-use Rattle.hp_outcome.specs.Outcome.{Site, Acts, Does, stop_in}
-use Rattle.hp_outcome.specs.declared.Stop.{Stop}
-use Rattle.hp_outcome.proofs.Joined.{does_then, stopped_before, nothing_done}
+use Rattle.driver_machine.specs.World.{World}
+use Rattle.driver_machine.specs.Acts.{Act, after_all}
+use Rattle.driver_machine.specs.Events.{Part, followed}
+use Rattle.driver_machine.specs.Sound.{Sound}
+use Rattle.driver_work.proofs.Leads.{sound_along}
+use Rattle.driver_invariant.proofs.Sound.{sound_after}
+use Rattle.driver_outcome.specs.Outcome.{Site, Acts, Does, stop_in}
+use Rattle.driver_outcome.specs.declared.Stop.{Stop}
+use Rattle.driver_outcome.proofs.Joined.{does_then, stopped_before, nothing_done}
 use Rattle.hp_core.specs.State.{State, site}
 use Rattle.hp_core.specs.Done.{DoesAct, DoesSilently}
 use Rattle.hp_events.specs.Done.{DoesActs, AllDone}

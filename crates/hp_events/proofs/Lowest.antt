@@ -2,7 +2,7 @@
 use Rattle.std.proofs.Common.{◌≡◌, ℕ, suc, ◌+◌, ◌<◌, Bool, true, false, List, length, drop, None, Some, ap, ◌∙◌, arith, get_or}
 use Rattle.std.specs.Prelude.{if◌then◌else◌}
 use Rattle.std.proofs.Math.Seq.{drop-cons, drop-length}
-use Rattle.hp_machine.specs.Events.{lowest}
+use Rattle.driver_machine.specs.Events.{lowest}
 
 module _ {A : Type 0} (can : A → Bool) (xs : List A) (d : A) (i : ℕ) (less : i < length xs) where
   here : lowest can (drop i xs) i ≡ (if can (get_or xs i d) then Some i else lowest can (drop (i + 1) xs) (i + 1))

@@ -4,13 +4,13 @@ use Rattle.std.specs.Prelude.{Result, Ok, Err, IfErr}
 use Rattle.pack_model.specs.Pack.{Pack}
 use Rattle.mass_outside.specs.Causes.{HasCause}
 use Rattle.hardware_table.specs.declared.Moved.TheVariants.{Clean}
-use Rattle.hp_machine.specs.World.{unit_of, unit_at, adapter_at, held_in, slot_in_hand}
-use Rattle.hp_machine.specs.Acts.{Act, Nothing, Tried}
-use Rattle.hp_machine.specs.Events.{can_move}
-use Rattle.hp_machine.specs.Sound.{Sound}
-use Rattle.hp_outcome.specs.Outcome.{Outcome, stop_in}
-use Rattle.hp_outcome.specs.declared.Stop.{Stop}
-use Rattle.hp_outcome.specs.declared.Stop.TheVariants.{Store, Sink}
+use Rattle.driver_machine.specs.World.{unit_of, unit_at, adapter_at, held_in, slot_in_hand}
+use Rattle.driver_machine.specs.Acts.{Act, Nothing, Tried}
+use Rattle.driver_machine.specs.Events.{can_move}
+use Rattle.driver_machine.specs.Sound.{Sound}
+use Rattle.driver_outcome.specs.Outcome.{Outcome, stop_in}
+use Rattle.driver_outcome.specs.declared.Stop.{Stop}
+use Rattle.driver_outcome.specs.declared.Stop.TheVariants.{Store, Sink}
 use Rattle.hp_core.specs.State.{State, site}
 use Rattle.hp_core.specs.Done.{DoesAct, HasCauses, TriesSector}
 use Rattle.hp_events.specs.Moves.{DoesMove}

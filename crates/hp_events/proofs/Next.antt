@@ -1,19 +1,19 @@
 -- What is due at a unit, and what it leaves.
 use Rattle.std.proofs.Common.{◌≡◌, ℕ, ◌<◌, ◌≤◌, List, [], ◌∷◌, length, Option, Some, None, refl, sym, ap, ◌∙◌, subst, arith}
 use Rattle.disksort.specs.declared.Waiter.{Waiter}
-use Rattle.hp_machine.specs.declared.Task.TheVariants.{Clear, Judge, Steps, Command, GiveUp}
-use Rattle.hp_machine.specs.declared.Phase.{Phase}
-use Rattle.hp_machine.specs.declared.Phase.TheVariants.{Waiting, Positioning, Queued, Transferring, Due}
-use Rattle.hp_machine.specs.World.{World, unit_at, adapter_at, adapter_of}
-use Rattle.hp_machine.specs.Acts.{Act, Of, Deed, scene_of, after}
-use Rattle.hp_machine.specs.Due.{next_of}
-use Rattle.hp_machine.specs.Events.{in_hand, in_hand_by, due_by, next_acts}
-use Rattle.hp_machine.specs.Guards.{Allowed}
-use Rattle.hp_machine.specs.Sound.{Sound}
-use Rattle.hp_invariant.proofs.Sound.{sound_after}
-use Rattle.hp_work.proofs.Deeds as work
-use Rattle.hp_work.proofs.Deeds.{Doing, Done, deed_at, outstanding, in_hand_is, may_come, due_done}
-use Rattle.hp_work.proofs.Due.{in_hand_one}
+use Rattle.driver_machine.specs.declared.Task.TheVariants.{Clear, Judge, Steps, Command, GiveUp}
+use Rattle.driver_machine.specs.declared.Phase.{Phase}
+use Rattle.driver_machine.specs.declared.Phase.TheVariants.{Waiting, Positioning, Queued, Transferring, Due}
+use Rattle.driver_machine.specs.World.{World, unit_at, adapter_at, adapter_of}
+use Rattle.driver_machine.specs.Acts.{Act, Of, Deed, scene_of, after}
+use Rattle.driver_machine.specs.Due.{next_of}
+use Rattle.driver_machine.specs.Events.{in_hand, in_hand_by, due_by, next_acts}
+use Rattle.driver_machine.specs.Guards.{Allowed}
+use Rattle.driver_machine.specs.Sound.{Sound}
+use Rattle.driver_invariant.proofs.Sound.{sound_after}
+use Rattle.driver_work.proofs.Deeds as work
+use Rattle.driver_work.proofs.Deeds.{Doing, Done, deed_at, outstanding, in_hand_is, may_come, due_done}
+use Rattle.driver_work.proofs.Due.{in_hand_one}
 use Rattle.hp_events.specs.Free.{needs_free, IsFree}
 use Rattle.hp_events.specs.Hand.{hand_at}
 

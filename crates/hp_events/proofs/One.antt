@@ -9,13 +9,13 @@ use Rattle.seek_engine.specs.Seek.{position_for}
 use Rattle.transfer_engine.specs.State.{segment_of}
 use Rattle.request_slots.specs.declared.asked.Asked.{Asked}
 use Rattle.request_slots.specs.Requests.{asked_of}
-use Rattle.hp_machine.specs.declared.AnswerKind.TheVariants.{Error}
-use Rattle.hp_machine.specs.declared.Cause.{Cause}
-use Rattle.hp_machine.specs.World.{World, UnitView, Held, transfer_of}
-use Rattle.hp_machine.specs.Acts.{Of, Deed, Move, Continue, End}
-use Rattle.hp_machine.specs.Due.{failed, sensed, command_of, target_of, start_by, start_of, ready_for, finished, done_with}
-use Rattle.hp_machine.specs.Guards.{Allowed}
-use Rattle.hp_outcome.specs.declared.Stop.{Stop}
+use Rattle.driver_machine.specs.declared.AnswerKind.TheVariants.{Error}
+use Rattle.driver_machine.specs.declared.Cause.{Cause}
+use Rattle.driver_machine.specs.World.{World, UnitView, Held, transfer_of}
+use Rattle.driver_machine.specs.Acts.{Of, Deed, Move, Continue, End}
+use Rattle.driver_machine.specs.Due.{failed, sensed, command_of, target_of, start_by, start_of, ready_for, finished, done_with}
+use Rattle.driver_machine.specs.Guards.{Allowed}
+use Rattle.driver_outcome.specs.declared.Stop.{Stop}
 use Rattle.hp_core.specs.State.{State}
 use Rattle.hp_core.specs.Done.{DoesAct, DoesSilently}
 use Rattle.hp_events.specs.Done.{DoesActs}

@@ -2,23 +2,23 @@
 use Rattle.std.proofs.Common.{◌≡◌, ℕ, ◌<◌, Bool, true, false, List, [], ◌∷◌, length, refl, sym, ap, ◌∙◌, subst, arith}
 use Rattle.std.specs.Prelude.{Result, Ok, Err, not, ◌&&◌}
 use Rattle.hardware_table.specs.Adapter.{next_block}
-use Rattle.hp_machine.specs.declared.Task.{Task}
-use Rattle.hp_machine.specs.declared.Task.TheVariants.{Clear, Judge, Steps, Command, GiveUp}
-use Rattle.hp_machine.specs.declared.Phase.{Phase}
-use Rattle.hp_machine.specs.declared.Phase.TheVariants.{Waiting, Positioning, Queued, Transferring, Due}
-use Rattle.hp_machine.specs.World.{World, UnitView, AdapterView, Held, adapter_of, drive_of, unit_on, unit_of, unit_at, adapter_at, held_in, slot_in_hand}
-use Rattle.hp_machine.specs.Acts as deed
-use Rattle.hp_machine.specs.Acts.{Act, Of, Nothing, Deed, Tried, after, after_all, scene_of}
-use Rattle.hp_machine.specs.Events.{when_by, in_hand, due_acts, begun, choose_by, choose_acts, or_nothing, arrive_acts, move_acts, attend_acts, attended, can_arrive, can_move, can_attend, data_interrupt, attention, steps_taken}
-use Rattle.hp_machine.specs.Due.{command_of}
-use Rattle.hp_machine.specs.Guards.{Allowed, InHand, IsBusyFor}
-use Rattle.hp_machine.specs.Sound.{Sound, IsPhase, IsTask, is_waiting}
-use Rattle.hp_due.proofs.DueFacts.{false_true}
-use Rattle.hp_work.proofs.Deeds.{in_hand_is}
-use Rattle.hp_work.proofs.Due.{in_hand_one}
-use Rattle.hp_work.proofs.Calls.{IsServing, serving}
-use Rattle.hp_invariant.proofs.Sound.{sound_after}
-use Rattle.hp_outcome.specs.declared.Stop.{Stop}
+use Rattle.driver_machine.specs.declared.Task.{Task}
+use Rattle.driver_machine.specs.declared.Task.TheVariants.{Clear, Judge, Steps, Command, GiveUp}
+use Rattle.driver_machine.specs.declared.Phase.{Phase}
+use Rattle.driver_machine.specs.declared.Phase.TheVariants.{Waiting, Positioning, Queued, Transferring, Due}
+use Rattle.driver_machine.specs.World.{World, UnitView, AdapterView, Held, adapter_of, drive_of, unit_on, unit_of, unit_at, adapter_at, held_in, slot_in_hand}
+use Rattle.driver_machine.specs.Acts as deed
+use Rattle.driver_machine.specs.Acts.{Act, Of, Nothing, Deed, Tried, after, after_all, scene_of}
+use Rattle.driver_machine.specs.Events.{when_by, in_hand, due_acts, begun, choose_by, choose_acts, or_nothing, arrive_acts, move_acts, attend_acts, attended, can_arrive, can_move, can_attend, data_interrupt, attention, steps_taken}
+use Rattle.driver_machine.specs.Due.{command_of}
+use Rattle.driver_machine.specs.Guards.{Allowed, InHand, IsBusyFor}
+use Rattle.driver_machine.specs.Sound.{Sound, IsPhase, IsTask, is_waiting}
+use Rattle.driver_due.proofs.DueFacts.{false_true}
+use Rattle.driver_work.proofs.Deeds.{in_hand_is}
+use Rattle.driver_work.proofs.Due.{in_hand_one}
+use Rattle.driver_work.proofs.Calls.{IsServing, serving}
+use Rattle.driver_invariant.proofs.Sound.{sound_after}
+use Rattle.driver_outcome.specs.declared.Stop.{Stop}
 use Rattle.hp_core.specs.State.{State}
 use Rattle.hp_core.specs.Done.{DoesAct}
 use Rattle.hp_events.specs.Done.{DoesActs}

@@ -3,16 +3,16 @@ use Rattle.std.proofs.Common.{◌≡◌, ℕ, ◌/◌, ◌<◌, Bool, true, List
 use Rattle.std.specs.Prelude.{Result, Ok, Err}
 use Rattle.std.specs.Result.{IsErrAnd}
 use Rattle.disksort.specs.declared.Waiter.{Waiter}
-use Rattle.hp_machine.specs.declared.Phase.{Phase}
-use Rattle.hp_machine.specs.declared.Phase.TheVariants.{Waiting, Positioning, Queued, Transferring, Due}
-use Rattle.hp_machine.specs.World.{World, UnitView, Held, adapter_of, unit_at, no_unit}
-use Rattle.hp_machine.specs.Acts.{Submit, joined, after}
-use Rattle.hp_machine.specs.Events.{and_then, due_acts, adapter_start}
-use Rattle.hp_machine.specs.Sound.{Sound, AtWork, WorkOf}
-use Rattle.hp_due.proofs.DueFacts.{false_true}
+use Rattle.driver_machine.specs.declared.Phase.{Phase}
+use Rattle.driver_machine.specs.declared.Phase.TheVariants.{Waiting, Positioning, Queued, Transferring, Due}
+use Rattle.driver_machine.specs.World.{World, UnitView, Held, adapter_of, unit_at, no_unit}
+use Rattle.driver_machine.specs.Acts.{Submit, joined, after}
+use Rattle.driver_machine.specs.Events.{and_then, due_acts, adapter_start}
+use Rattle.driver_machine.specs.Sound.{Sound, AtWork, WorkOf}
+use Rattle.driver_due.proofs.DueFacts.{false_true}
 use Rattle.request_slots.specs.declared.asked.Asked.{Asked}
-use Rattle.hp_invariant.proofs.Sound.{sound_after}
-use Rattle.hp_outcome.specs.declared.Stop.{Stop}
+use Rattle.driver_invariant.proofs.Sound.{sound_after}
+use Rattle.driver_outcome.specs.declared.Stop.{Stop}
 use Rattle.hp_core.specs.State.{State}
 use Rattle.hp_core.specs.Joins.{Joins}
 use Rattle.hp_events.specs.Done.{DoesActs}

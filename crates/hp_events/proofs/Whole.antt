@@ -3,16 +3,16 @@ use Rattle.std.proofs.Common.{◌≡◌, ℕ, ◌<◌, Bool, List, [], ◌∷◌
 use Rattle.std.specs.Prelude.{Result, Ok, Err, IfOk}
 use Rattle.request_slots.specs.declared.asked.Asked.{Asked}
 use Rattle.request_slots.specs.Requests.{asked_of}
-use Rattle.hp_machine.specs.declared.Task.{Task}
-use Rattle.hp_machine.specs.declared.Phase.{Phase}
-use Rattle.hp_machine.specs.declared.Phase.TheVariants.{Waiting, Due}
-use Rattle.hp_machine.specs.World.{World, unit_at}
-use Rattle.hp_machine.specs.Acts.{Act, Of, Deed, after}
-use Rattle.hp_machine.specs.Due.{next_of, next_by, start_of, deed_for}
-use Rattle.hp_machine.specs.Events.{next_acts}
-use Rattle.hp_machine.specs.Guards.{Allowed}
-use Rattle.hp_machine.specs.Sound.{Sound}
-use Rattle.hp_outcome.specs.declared.Stop.{Stop}
+use Rattle.driver_machine.specs.declared.Task.{Task}
+use Rattle.driver_machine.specs.declared.Phase.{Phase}
+use Rattle.driver_machine.specs.declared.Phase.TheVariants.{Waiting, Due}
+use Rattle.driver_machine.specs.World.{World, unit_at}
+use Rattle.driver_machine.specs.Acts.{Act, Of, Deed, after}
+use Rattle.driver_machine.specs.Due.{next_of, next_by, start_of, deed_for}
+use Rattle.driver_machine.specs.Events.{next_acts}
+use Rattle.driver_machine.specs.Guards.{Allowed}
+use Rattle.driver_machine.specs.Sound.{Sound}
+use Rattle.driver_outcome.specs.declared.Stop.{Stop}
 use Rattle.hp_core.specs.State.{State}
 use Rattle.hp_events.specs.Done.{DoesActs}
 use Rattle.hp_events.specs.Free.{IsFree}

@@ -1,8 +1,8 @@
 -- What the drive status makes of a command that is due.
-use Rattle.hp_machine.specs.World.{UnitView}
-use Rattle.hp_machine.specs.Acts.{Deed}
-use Rattle.hp_machine.specs.Acts as deed
-use Rattle.hp_machine.specs.Due.{failed}
+use Rattle.driver_machine.specs.World.{UnitView}
+use Rattle.driver_machine.specs.Acts.{Deed}
+use Rattle.driver_machine.specs.Acts as deed
+use Rattle.driver_machine.specs.Due.{failed}
 use Rattle.hp_events.specs.declared.guards.Before.{Before}
 use Rattle.hp_events.specs.declared.guards.Before.TheVariants.{Command, Pack, End}
 

@@ -2,13 +2,13 @@
 use Rattle.std.specs.Prelude.{◌≡◌, ℕ, Bool, IsTrue, List, Result, IfErr}
 use Rattle.pack_model.specs.Pack.{Pack}
 use Rattle.mass_outside.specs.Causes.{HasCause}
-use Rattle.hp_machine.specs.World.{World}
-use Rattle.hp_machine.specs.Acts.{Act, after_all}
-use Rattle.hp_machine.specs.Sound.{Sound}
-use Rattle.hp_work.specs.Runs.{Run}
-use Rattle.hp_outcome.specs.Outcome.{Outcome, stop_in}
-use Rattle.hp_outcome.specs.declared.Stop.{Stop}
-use Rattle.hp_outcome.specs.declared.Stop.TheVariants.{Sink}
+use Rattle.driver_machine.specs.World.{World}
+use Rattle.driver_machine.specs.Acts.{Act, after_all}
+use Rattle.driver_machine.specs.Sound.{Sound}
+use Rattle.driver_work.specs.Runs.{Run}
+use Rattle.driver_outcome.specs.Outcome.{Outcome, stop_in}
+use Rattle.driver_outcome.specs.declared.Stop.{Stop}
+use Rattle.driver_outcome.specs.declared.Stop.TheVariants.{Sink}
 use Rattle.hp_core.specs.State.{State, site}
 
 -- ACTS AND THEIR LINES, whatever the packs hold: the call comes to what the acts come to. A failure has its cause, and is the

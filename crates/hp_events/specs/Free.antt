@@ -1,9 +1,9 @@
 -- Where a transfer command may come at once.
 use Rattle.std.specs.Prelude.{◌≡◌, ℕ, Bool, true, false}
-use Rattle.hp_machine.specs.declared.Task.TheVariants.{Clear, Judge, Command}
-use Rattle.hp_machine.specs.declared.Phase.{Phase}
-use Rattle.hp_machine.specs.declared.Phase.TheVariants.{Due}
-use Rattle.hp_machine.specs.World.{World, unit_at, adapter_at, adapter_of}
+use Rattle.driver_machine.specs.declared.Task.TheVariants.{Clear, Judge, Command}
+use Rattle.driver_machine.specs.declared.Phase.{Phase}
+use Rattle.driver_machine.specs.declared.Phase.TheVariants.{Due}
+use Rattle.driver_machine.specs.World.{World, unit_at, adapter_at, adapter_of}
 
 -- inside an event, behind the verdict of a transfer, the next transfer command comes without a choice of the adapter
 abbrev pub needs_free : Phase → Bool

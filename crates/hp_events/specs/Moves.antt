@@ -1,11 +1,11 @@
 -- What the move of one sector comes to.
 use Rattle.std.specs.Prelude.{◌≡◌, ℕ, Bool, IsTrue, List, Some, Result}
 use Rattle.pack_model.specs.Pack.{Pack}
-use Rattle.hp_machine.specs.Acts.{Tried}
-use Rattle.hp_machine.specs.Events.{move_acts}
-use Rattle.hp_outcome.specs.Outcome.{Outcome, stop_in}
-use Rattle.hp_outcome.specs.declared.Stop.{Stop}
-use Rattle.hp_outcome.specs.declared.Stop.TheVariants.{Store}
+use Rattle.driver_machine.specs.Acts.{Tried}
+use Rattle.driver_machine.specs.Events.{move_acts}
+use Rattle.driver_outcome.specs.Outcome.{Outcome, stop_in}
+use Rattle.driver_outcome.specs.declared.Stop.{Stop}
+use Rattle.driver_outcome.specs.declared.Stop.TheVariants.{Store}
 use Rattle.hp_core.specs.State.{State, site}
 use Rattle.hp_core.specs.Done.{HasCauses}
 

@@ -1,14 +1,14 @@
 -- What a submission comes to.
 use Rattle.std.specs.Prelude.{◌≡◌, ℕ, Bool, List, Result}
 use Rattle.subsystem_spec.specs.Requests.{Request}
-use Rattle.hp_machine.specs.declared.AnswerKind.{AnswerKind}
-use Rattle.hp_machine.specs.World.{World, Held}
-use Rattle.hp_machine.specs.Acts.{Refuse}
-use Rattle.hp_machine.specs.Events.{joined_acts}
-use Rattle.hp_machine.specs.Guards.{Allowed, IsNew}
+use Rattle.driver_machine.specs.declared.AnswerKind.{AnswerKind}
+use Rattle.driver_machine.specs.World.{World, Held}
+use Rattle.driver_machine.specs.Acts.{Refuse}
+use Rattle.driver_machine.specs.Events.{joined_acts}
+use Rattle.driver_machine.specs.Guards.{Allowed, IsNew}
 use Rattle.request_slots.specs.declared.asked.Asked.{Asked}
 use Rattle.request_slots.specs.Requests.{IsHeldFor}
-use Rattle.hp_outcome.specs.declared.Stop.{Stop}
+use Rattle.driver_outcome.specs.declared.Stop.{Stop}
 use Rattle.hp_core.specs.State.{State}
 use Rattle.hp_events.specs.Done.{DoesActs}
 

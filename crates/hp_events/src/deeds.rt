@@ -1,22 +1,22 @@
 // The deed that is due at a unit.
 ghost use Rattle.std.specs.Prelude.{◌≡◌, ◌≢◌, ◌<◌, ◌∷◌, [], true, false, drop, length, IfOk, IfSome, IfNone};
 ghost use Rattle.request_slots.specs.Requests.{asked_of};
-ghost use Rattle.hp_machine.specs.declared.Phase.TheVariants.{Queued, Due};
-ghost use Rattle.hp_machine.specs.World.{unit_at, adapter_at, adapter_of};
-ghost use Rattle.hp_machine.specs.Acts.{Of};
-ghost use Rattle.hp_machine.specs.Due.{deed_for, command_of};
-ghost use Rattle.hp_machine.specs.Events.{in_hand, next_acts};
-ghost use Rattle.hp_machine.specs.Guards.{Allowed};
-ghost use Rattle.hp_machine.specs.Sound.{Sound};
+ghost use Rattle.driver_machine.specs.declared.Phase.TheVariants.{Queued, Due};
+ghost use Rattle.driver_machine.specs.World.{unit_at, adapter_at, adapter_of};
+ghost use Rattle.driver_machine.specs.Acts.{Of};
+ghost use Rattle.driver_machine.specs.Due.{deed_for, command_of};
+ghost use Rattle.driver_machine.specs.Events.{in_hand, next_acts};
+ghost use Rattle.driver_machine.specs.Guards.{Allowed};
+ghost use Rattle.driver_machine.specs.Sound.{Sound};
 ghost use Rattle.hp_events.specs.Done.{DoesActs};
 ghost use Rattle.hp_events.specs.Free.{IsFree};
 ghost use Rattle.hp_events.specs.Hand.{hand_at};
 
 use crate::starts::{command, go_steps, start};
 use crate::verdicts::judge;
+use driver_machine::{AnswerKind, Cause, Phase, Task};
+use driver_outcome::Stop;
 use hp_core::Core;
-use hp_machine::{AnswerKind, Cause, Phase, Task};
-use hp_outcome::Stop;
 use mass_outside::traits::Sink;
 use request_slots::Asked;
 

@@ -1,9 +1,9 @@
 // What can happen to the driver, and what a drain does next.
 ghost use Rattle.std.specs.Prelude.{◌≡◌, ◌<◌, ◌/◌, length, Option};
 ghost use Rattle.std.specs.Option.{option_map};
-ghost use Rattle.hp_machine.specs.Events as events;
-ghost use Rattle.hp_machine.specs.Events.{lowest};
-ghost use Rattle.hp_machine.specs.Sound.{Sound};
+ghost use Rattle.driver_machine.specs.Events as events;
+ghost use Rattle.driver_machine.specs.Events.{lowest};
+ghost use Rattle.driver_machine.specs.Sound.{Sound};
 ghost use Rattle.hp_events.specs.Inputs.{input_of};
 
 use crate::events::{interrupts, moves};

@@ -1,17 +1,17 @@
 // What each event does.
 ghost use Rattle.std.specs.Prelude.{◌≡◌, ◌<◌, ◌/◌, ◌&&◌, not, drop};
-ghost use Rattle.hp_machine.specs.World.{unit_at, adapter_at, adapter_of};
-ghost use Rattle.hp_machine.specs.Events as events;
-ghost use Rattle.hp_machine.specs.Events.{each, drives};
-ghost use Rattle.hp_machine.specs.Sound.{Sound};
+ghost use Rattle.driver_machine.specs.World.{unit_at, adapter_at, adapter_of};
+ghost use Rattle.driver_machine.specs.Events as events;
+ghost use Rattle.driver_machine.specs.Events.{each, drives};
+ghost use Rattle.driver_machine.specs.Sound.{Sound};
 ghost use Rattle.hp_events.specs.Done.{DoesActs};
 ghost use Rattle.hp_events.specs.Moves.{DoesMove};
 
 use crate::hand::id_in_hand;
 use crate::turns::{due, start_adapter};
+use driver_machine::Phase;
+use driver_outcome::Stop;
 use hp_core::Core;
-use hp_machine::Phase;
-use hp_outcome::Stop;
 use mass_outside::traits::{Packs, Sink};
 
 /// The positioning of a unit's drive ends, where one is under way. Stops where the trace fails.

@@ -1,13 +1,13 @@
 // What is due before a command.
 ghost use Rattle.std.specs.Prelude.{◌≡◌, ◌<◌, length};
-ghost use Rattle.hp_machine.specs.World.{unit_at};
-ghost use Rattle.hp_machine.specs.Acts.{Deed};
-ghost use Rattle.hp_machine.specs.Due.{sensed};
+ghost use Rattle.driver_machine.specs.World.{unit_at};
+ghost use Rattle.driver_machine.specs.Acts.{Deed};
+ghost use Rattle.driver_machine.specs.Due.{sensed};
 ghost use Rattle.hp_events.specs.Before.{deed_before};
 
+use driver_machine::Cause;
 use hp_core::Core;
 use hp_interrupts::Sensed;
-use hp_machine::Cause;
 
 /// What is due where a command is, behind a look at the drive status.
 #[derive(Clone, Copy)]

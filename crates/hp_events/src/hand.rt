@@ -1,7 +1,7 @@
 // The request in hand.
 ghost use Rattle.std.specs.Prelude.{◌≡◌, ◌<◌, length};
-ghost use Rattle.hp_machine.specs.World.{unit_at, held_in, slot_in_hand};
-ghost use Rattle.hp_machine.specs.Sound.{Sound};
+ghost use Rattle.driver_machine.specs.World.{unit_at, held_in, slot_in_hand};
+ghost use Rattle.driver_machine.specs.Sound.{Sound};
 
 use hp_core::Core;
 

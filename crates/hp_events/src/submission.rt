@@ -3,18 +3,18 @@ ghost use Rattle.std.specs.Prelude.{◌≡◌, ◌<◌, ◌≤◌, ◌+◌, ◌-
 ghost use Rattle.pack_geometry.specs.Geometry.{limit_of};
 ghost use Rattle.main_memory.specs.Frames.{frames_needed};
 ghost use Rattle.subsystem_spec.specs.Requests.{Request};
-ghost use Rattle.hp_machine.specs.World.{adapter_of, unit_at, slot_at};
-ghost use Rattle.hp_machine.specs.Acts.{Refuse};
-ghost use Rattle.hp_machine.specs.Events.{followed, adapter_start};
-ghost use Rattle.hp_machine.specs.Guards.{Allowed, IsSetUp, IsFresh};
-ghost use Rattle.hp_machine.specs.Sound.{Sound, AtWork};
+ghost use Rattle.driver_machine.specs.World.{adapter_of, unit_at, slot_at};
+ghost use Rattle.driver_machine.specs.Acts.{Refuse};
+ghost use Rattle.driver_machine.specs.Events.{followed, adapter_start};
+ghost use Rattle.driver_machine.specs.Guards.{Allowed, IsSetUp, IsFresh};
+ghost use Rattle.driver_machine.specs.Sound.{Sound, AtWork};
 ghost use Rattle.hp_events.specs.Done.{DoesActs};
 ghost use Rattle.hp_events.specs.Submissions.{MayRefuse, Submits};
 
 use crate::turns::{due, start_adapter};
+use driver_machine::AnswerKind;
+use driver_outcome::Stop;
 use hp_core::Core;
-use hp_machine::AnswerKind;
-use hp_outcome::Stop;
 use mass_outside::traits::Sink;
 use request_slots::Asked;
 

@@ -1,14 +1,14 @@
 // What is due at a unit, and the start of an adapter: one turn behind another, until nothing is left to do.
 ghost use Rattle.std.specs.Prelude.{◌≡◌, ◌<◌, [], false, IfOk};
-ghost use Rattle.hp_machine.specs.World.{unit_at};
-ghost use Rattle.hp_machine.specs.Events.{due_acts, choose_acts, adapter_start};
-ghost use Rattle.hp_machine.specs.Sound.{Sound};
+ghost use Rattle.driver_machine.specs.World.{unit_at};
+ghost use Rattle.driver_machine.specs.Events.{due_acts, choose_acts, adapter_start};
+ghost use Rattle.driver_machine.specs.Sound.{Sound};
 ghost use Rattle.hp_events.specs.Done.{DoesActs};
 ghost use Rattle.hp_events.specs.Free.{IsFree};
 
 use crate::deeds::{choose, next_deed};
+use driver_outcome::Stop;
 use hp_core::Core;
-use hp_outcome::Stop;
 use mass_outside::traits::Sink;
 
 /// Does what is due at a unit, 0 to 31, until nothing is; a transfer command comes only where its adapter is free. Stops where the

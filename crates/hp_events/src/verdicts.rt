@@ -2,20 +2,20 @@
 ghost use Rattle.std.specs.Prelude.{◌≡◌, ◌+◌, ◌==◌, ◌∷◌, [], true, if◌then◌else◌};
 ghost use Rattle.hardware_table.specs.declared.Moved.TheVariants.{Marked};
 ghost use Rattle.request_slots.specs.Requests.{asked_of};
-ghost use Rattle.hp_machine.specs.declared.Phase.TheVariants.{Due};
-ghost use Rattle.hp_machine.specs.declared.Task.TheVariants.{Judge};
-ghost use Rattle.hp_machine.specs.World.{Held, unit_at};
-ghost use Rattle.hp_machine.specs.Acts.{Of, End, Continue};
-ghost use Rattle.hp_machine.specs.Due.{done_with, finished, forward_of, judged, deed_for};
-ghost use Rattle.hp_machine.specs.Guards.{Allowed};
-ghost use Rattle.hp_machine.specs.Sound.{Sound};
+ghost use Rattle.driver_machine.specs.declared.Phase.TheVariants.{Due};
+ghost use Rattle.driver_machine.specs.declared.Task.TheVariants.{Judge};
+ghost use Rattle.driver_machine.specs.World.{Held, unit_at};
+ghost use Rattle.driver_machine.specs.Acts.{Of, End, Continue};
+ghost use Rattle.driver_machine.specs.Due.{done_with, finished, forward_of, judged, deed_for};
+ghost use Rattle.driver_machine.specs.Guards.{Allowed};
+ghost use Rattle.driver_machine.specs.Sound.{Sound};
 ghost use Rattle.hp_events.specs.Done.{DoesActs};
 ghost use Rattle.hp_events.specs.Hand.{hand_at};
 
+use driver_machine::{AnswerKind, Cause};
+use driver_outcome::Stop;
 use hardware_table::Moved;
 use hp_core::Core;
-use hp_machine::{AnswerKind, Cause};
-use hp_outcome::Stop;
 use mass_outside::traits::Sink;
 use request_slots::Asked;
 

@@ -1,6 +1,6 @@
 -- A unit that waits no more: what is left of a queue is what passes the test.
 use Rattle.std.proofs.Common.{◌≡◌, refl, ℕ, Bool, true, false, not, ◌==◌, cond, List, [], ◌∷◌, ap, filter}
-use Rattle.hp_machine.specs.Acts.{without, kept_by}
+use Rattle.driver_machine.specs.Acts.{without, kept_by}
 
 kept-by : (b : Bool) (x : ℕ) (xs ys : List ℕ) → xs ≡ ys → cond (not b) (x ∷ xs) xs ≡ kept_by b x ys
 kept-by true x xs ys same = same

@@ -1,7 +1,7 @@
 // The answers that wait to be taken.
 ghost use Rattle.std.specs.Prelude.{◌≡◌, ◌<◌, ◌≤◌, [], ◌∷◌, ◌++◌, length, drop, IfOk, IfSome, IfNone};
 
-use hp_machine::Made;
+use driver_machine::Made;
 use mass_outside::traits::NoMemory;
 use std::alloc::Global;
 use std::collections::VecDeque;

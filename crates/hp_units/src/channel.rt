@@ -1,7 +1,7 @@
 // One adapter, with the units that wait for it.
 ghost use Rattle.std.specs.Prelude.{◌≡◌, ◌<◌, ◌∷◌, [], length, drop, IfSome, IfNone};
-ghost use Rattle.hp_machine.specs.World.{new_adapter_view};
-ghost use Rattle.hp_machine.specs.Acts.{waits_too, no_more_waits, with_state};
+ghost use Rattle.driver_machine.specs.World.{new_adapter_view};
+ghost use Rattle.driver_machine.specs.Acts.{waits_too, no_more_waits, with_state};
 ghost use Rattle.hardware_table.specs.Adapter.{attention_raised, attention_lowered};
 
 use arrayvec::ArrayVec;
@@ -16,7 +16,7 @@ pub struct Channel {
 }
 
 impl Model for Channel {
-    ghost use Rattle.hp_machine.specs.World.{AdapterView};
+    ghost use Rattle.driver_machine.specs.World.{AdapterView};
 
     ghost Value = { AdapterView };
 

@@ -8,9 +8,9 @@ ghost use Rattle.seek_engine.specs.Seek.{position_for};
 ghost use Rattle.transfer_engine.specs.State.{segment_of};
 ghost use Rattle.transfer_engine.specs.Calls.{entry_for};
 ghost use Rattle.trace_replay.specs.Drives.{attached};
-ghost use Rattle.hp_machine.specs.World.{no_unit, new_unit, transfer_of, slot_in_hand};
-ghost use Rattle.hp_machine.specs.Acts.{with_drive};
-ghost use Rattle.hp_machine.specs.Due.{steps_of};
+ghost use Rattle.driver_machine.specs.World.{no_unit, new_unit, transfer_of, slot_in_hand};
+ghost use Rattle.driver_machine.specs.Acts.{with_drive};
+ghost use Rattle.driver_machine.specs.Due.{steps_of};
 
 mod deeds;
 
@@ -20,9 +20,9 @@ use bitflags::Flags;
 use disksort::SortQueue;
 use drive_model::Drive;
 use drive_registers::{Ds, Function, OFFSET_CODE, Of, RM03_TYPE, RP06_TYPE};
+use driver_machine::{Phase, RetryStep};
 use hardware_table::{FaultKind, Register, status_law};
 use hp_interrupts::{Sensed, needs_pack, sense};
-use hp_machine::{Phase, RetryStep};
 use mass_outside::traits::NoMemory;
 use pack_geometry::{DriveKind, Place};
 use seek_engine::{Position, decide};
@@ -52,7 +52,7 @@ impl Model for DiskUnit {
     ghost use Rattle.std.specs.Prelude.{◌≡◌, true};
     ghost use Rattle.std.specs.Option.{option_map};
     ghost use Rattle.transfer_engine.specs.Calls.{state_of};
-    ghost use Rattle.hp_machine.specs.World.{UnitView};
+    ghost use Rattle.driver_machine.specs.World.{UnitView};
 
     ghost Value = { UnitView };
 

@@ -7,7 +7,7 @@ use Rattle.main_memory.proofs.ByteLaws.{front-filled}
 use Rattle.main_memory.specs.Blocks.{Loan, IsLoan, size_at, size_of}
 use Rattle.main_memory.specs.Memory.{Memory, IsMemory, IsLent, AreApart, with_block, blocks_of}
 use Rattle.main_memory.proofs.BlockLaws.{length-blocks_from, by_size}
-use Rattle.hp_machine.specs.World.{pieces}
+use Rattle.driver_machine.specs.World.{pieces}
 
 pub pieces-more : (n : ℕ) (bytes : List ℕ) → pieces (suc n) bytes ≡ pieces n bytes ++ take 512 (drop (512 * n) bytes) ∷ []
 pieces-more zero bytes =

@@ -8,7 +8,7 @@ use Rattle.std.proofs.lemmas.Option.{none-some, same_Some, get_or_from_slice_get
 use Rattle.main_memory.specs.Blocks.{Loan, IsLoan}
 use Rattle.main_memory.specs.Frames.{frames_needed}
 use Rattle.main_memory.specs.Memory.{Memory, IsMemory, IsLent, AreApart, blocks_of}
-use Rattle.hp_machine.specs.World.{Held, no_held, block_in, pieces}
+use Rattle.driver_machine.specs.World.{Held, no_held, block_in, pieces}
 use Rattle.request_slots.specs.declared.slot.Slot.{Slot}
 use Rattle.request_slots.specs.Lending.{IsLoanFor, HasLent}
 use Rattle.request_slots.specs.declared.asked.Asked.{Asked}

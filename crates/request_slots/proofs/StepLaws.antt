@@ -13,7 +13,7 @@ use Rattle.hardware_table.specs.declared.Moved.{Moved}
 use Rattle.hardware_table.specs.Drive.{DriveState}
 use Rattle.hardware_table.specs.Noise.{Book}
 use Rattle.drive_model.specs.Move.{MovesSector}
-use Rattle.hp_machine.specs.World.{Held, block_in, with_block_in}
+use Rattle.driver_machine.specs.World.{Held, block_in, with_block_in}
 use Rattle.request_slots.specs.Requests.{held_at}
 use Rattle.request_slots.specs.declared.slot.Slot.{Slot}
 use Rattle.request_slots.specs.Stored.{loan_of, slot_in, held_of, as_seen, IsKept}

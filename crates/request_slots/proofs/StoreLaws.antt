@@ -12,8 +12,8 @@ use Rattle.main_memory.specs.Memory.{Memory, IsMemory, AreTaken, AreApart, with_
 use Rattle.main_memory.proofs.BlockLaws.{length-blocks_from}
 use Rattle.ecc_repair.specs.Repaired.{repaired}
 use Rattle.ecc_repair.proofs.Bytes.{length-repaired}
-use Rattle.hp_machine.specs.World.{Held, count_of, block_in, with_block_in}
-use Rattle.hp_machine.specs.Acts.{repaired_at}
+use Rattle.driver_machine.specs.World.{Held, count_of, block_in, with_block_in}
+use Rattle.driver_machine.specs.Acts.{repaired_at}
 use Rattle.request_slots.specs.declared.slot.Slot.{Slot}
 use Rattle.request_slots.specs.Lending.{HasLent}
 use Rattle.request_slots.specs.Requests.{slot_at, held_at, frames_lent, IsWhole}

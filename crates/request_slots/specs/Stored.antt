@@ -3,7 +3,7 @@ use Rattle.std.specs.Prelude.{◌≡◌, ◌≢◌, ℕ, ◌+◌, ◌≤◌, Boo
 use Rattle.std.specs.Option.{option_map}
 use Rattle.main_memory.specs.Blocks.{Loan, IsLoan}
 use Rattle.main_memory.specs.Memory.{Memory, IsMemory, IsLent, AreApart, blocks_of}
-use Rattle.hp_machine.specs.World.{Held}
+use Rattle.driver_machine.specs.World.{Held}
 use Rattle.request_slots.specs.declared.slot.Holder.{Holder}
 use Rattle.request_slots.specs.declared.slot.Holder.TheVariants.{Driver, Adapter}
 use Rattle.request_slots.specs.declared.slot.Slot.{Slot}

@@ -5,7 +5,7 @@ ghost use Rattle.main_memory.specs.Frames.{frames_needed};
 ghost use Rattle.main_memory.specs.Blocks.{Loan, IsLoan, size_of, span_of, bytes_in};
 ghost use Rattle.main_memory.specs.Memory.{IsMemory, IsLent, AreApart, with_block, blocks_of};
 ghost use Rattle.ecc_repair.specs.Repaired.{repaired};
-ghost use Rattle.hp_machine.specs.World.{pieces};
+ghost use Rattle.driver_machine.specs.World.{pieces};
 ghost use Rattle.request_slots.specs.Lending.{HasLent};
 
 use crate::asked::Asked;

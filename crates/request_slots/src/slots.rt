@@ -4,9 +4,9 @@ ghost use Rattle.main_memory.specs.Bytes.{filled};
 ghost use Rattle.main_memory.specs.Frames.{frames_needed};
 ghost use Rattle.hardware_table.specs.Adapter.{loaded, completed};
 ghost use Rattle.mba_adapter.specs.Loaded.{loaded_buffer};
-ghost use Rattle.hp_machine.specs.World.{Held, count_of, block_in};
-ghost use Rattle.hp_machine.specs.Acts.{repaired_at};
-ghost use Rattle.hp_machine.specs.Guards.{IsApart};
+ghost use Rattle.driver_machine.specs.World.{Held, count_of, block_in};
+ghost use Rattle.driver_machine.specs.Acts.{repaired_at};
+ghost use Rattle.driver_machine.specs.Guards.{IsApart};
 ghost use Rattle.request_slots.specs.Requests.{slot_at, held_at, frames_lent, asked_of, IsWhole, IsHeldFor};
 
 mod steps;
@@ -35,7 +35,7 @@ pub struct Slots {
 
 impl Model for Slots {
     ghost use Rattle.std.specs.Prelude.{List, Option};
-    ghost use Rattle.hp_machine.specs.World.{Held};
+    ghost use Rattle.driver_machine.specs.World.{Held};
 
     ghost Value = { List (Option Held) };
 

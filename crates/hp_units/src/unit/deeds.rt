@@ -9,19 +9,19 @@ ghost use Rattle.hardware_table.specs.declared.Moved.TheVariants as verdict;
 ghost use Rattle.transfer_engine.specs.State.{IsJob, begun, segment_of, moved_on, forwarded, failures_after};
 ghost use Rattle.transfer_engine.specs.Calls.{entry_for, step_for};
 ghost use Rattle.trace_replay.specs.Drives.{addressed};
-ghost use Rattle.hp_machine.specs.declared.Task.TheVariants as task;
-ghost use Rattle.hp_machine.specs.declared.Phase.TheVariants as phase;
-ghost use Rattle.hp_machine.specs.declared.RetryStep.TheVariants as retry_step;
-ghost use Rattle.hp_machine.specs.World.{no_held, transfer_of};
-ghost use Rattle.hp_machine.specs.Acts.{joined, searching, stepping, transferring, centred, with_drive, going_to, in_phase, with_transfer, transfer_tried, interrupted};
-ghost use Rattle.hp_machine.specs.Due.{task_for};
+ghost use Rattle.driver_machine.specs.declared.Task.TheVariants as task;
+ghost use Rattle.driver_machine.specs.declared.Phase.TheVariants as phase;
+ghost use Rattle.driver_machine.specs.declared.RetryStep.TheVariants as retry_step;
+ghost use Rattle.driver_machine.specs.World.{no_held, transfer_of};
+ghost use Rattle.driver_machine.specs.Acts.{joined, searching, stepping, transferring, centred, with_drive, going_to, in_phase, with_transfer, transfer_tried, interrupted};
+ghost use Rattle.driver_machine.specs.Due.{task_for};
 
 use super::DiskUnit;
 use crate::tries::{continued, failures_at, forwarded_to, tried};
 use bitflags::Flags;
 use drive_registers::{Function, Of, offset_word};
+use driver_machine::{Phase, RetryStep, Task};
 use hardware_table::{Moved, Register};
-use hp_machine::{Phase, RetryStep, Task};
 use pack_geometry::{Place, place_of, sector_word};
 use transfer_engine::{Job, Transfer, begin};
 

@@ -8,7 +8,7 @@ ghost use Rattle.hardware_table.specs.Moves.{stop_of, was_read};
 ghost use Rattle.hardware_table.specs.Adapter.{next_block, next_window, stepped, drive_stepped};
 ghost use Rattle.drive_model.specs.Move.{MovesSector, IsOldOrNew};
 ghost use Rattle.mba_adapter.specs.Loaded.{loaded_buffer};
-ghost use Rattle.hp_machine.specs.World.{block_in, with_block_in};
+ghost use Rattle.driver_machine.specs.World.{block_in, with_block_in};
 ghost use Rattle.request_slots.specs.Requests.{slot_at, held_at};
 
 use crate::slot::{Holder, slot_at};

@@ -1,8 +1,8 @@
 use Rattle.std.proofs.Common.{◌≡◌, ap, ◌∙◌}
 use Rattle.subsystem_spec.specs.Requests.{Answer as Told}
 use Rattle.answer_lines.specs.AnswerText.{answer_line}
-use Rattle.hp_machine.specs.World.{bytes_in}
-use Rattle.hp_machine.specs.Lines.{answer_told}
+use Rattle.driver_machine.specs.World.{bytes_in}
+use Rattle.driver_machine.specs.Lines.{answer_told}
 use Rattle.event_player.specs.Answering.{first_blocks, first_rest}
 use Rattle.event_player.proofs.AnswerLaws.{gathers_same, both_gathered, stopped}
 use Rattle.event_player.proofs.answers.gather_answer.Goals as goal

@@ -1,6 +1,6 @@
 use Rattle.std.proofs.Common.{◌≡◌, ◌≤◌, replicate}
 use Rattle.std.specs.Vec.{vec_len, vec_capacity}
-use Rattle.hp_machine.specs.World.{no_unit}
+use Rattle.driver_machine.specs.World.{no_unit}
 use Rattle.hp_core.proofs.start.blank_units.Given as goal
 
 abbrev pub invariant-loop : goal.invariant-loop

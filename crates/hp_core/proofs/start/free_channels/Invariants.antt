@@ -1,6 +1,6 @@
 use Rattle.std.proofs.Common.{◌≡◌, ◌≤◌, replicate}
 use Rattle.std.specs.Vec.{vec_len, vec_capacity}
-use Rattle.hp_machine.specs.World.{new_adapter_view}
+use Rattle.driver_machine.specs.World.{new_adapter_view}
 use Rattle.hp_core.proofs.start.free_channels.Given as goal
 
 abbrev pub invariant-loop : goal.invariant-loop

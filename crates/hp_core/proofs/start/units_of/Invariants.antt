@@ -1,5 +1,5 @@
 use Rattle.std.proofs.Common.{◌≡◌, drop, length, replicate}
-use Rattle.hp_machine.specs.World.{no_unit, set_up}
+use Rattle.driver_machine.specs.World.{no_unit, set_up}
 use Rattle.hp_core.specs.Setups.{setups_of}
 use Rattle.hp_core.proofs.start.units_of.Given as goal
 

@@ -1,7 +1,7 @@
 use Rattle.std.proofs.Common.{ap}
-use Rattle.hp_machine.specs.declared.Task.{Task}
-use Rattle.hp_machine.specs.World.{unit_at}
-use Rattle.hp_machine.specs.Due.{deed_for}
+use Rattle.driver_machine.specs.declared.Task.{Task}
+use Rattle.driver_machine.specs.World.{unit_at}
+use Rattle.driver_machine.specs.Due.{deed_for}
 use Rattle.hp_events.specs.Hand.{hand_at}
 use Rattle.hp_events.proofs.One.{told}
 use Rattle.hp_events.proofs.deeds.work.Goals as goal

@@ -1,5 +1,5 @@
 use Rattle.std.proofs.Common.{◌≡◌, drop}
-use Rattle.hp_machine.specs.Events.{lowest, can_arrive}
+use Rattle.driver_machine.specs.Events.{lowest, can_arrive}
 use Rattle.hp_events.proofs.drain.next_arrival.Given as goal
 
 abbrev pub invariant-loop-u : goal.invariant-loop-u

@@ -1,5 +1,5 @@
 use Rattle.std.proofs.Common.{◌≡◌, drop}
-use Rattle.hp_machine.specs.Events.{lowest, can_move}
+use Rattle.driver_machine.specs.Events.{lowest, can_move}
 use Rattle.hp_events.proofs.drain.next_move.Given as goal
 
 abbrev pub invariant-loop-a : goal.invariant-loop-a

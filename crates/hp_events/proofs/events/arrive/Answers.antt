@@ -1,6 +1,6 @@
 use Rattle.std.proofs.Common.{ap, sym, ◌∙◌}
 use Rattle.request_slots.specs.declared.asked.Asked.{Asked}
-use Rattle.hp_machine.specs.World.{held_in}
+use Rattle.driver_machine.specs.World.{held_in}
 use Rattle.hp_events.proofs.Joined.{of_act}
 use Rattle.hp_events.proofs.Exits.{as_acts}
 use Rattle.hp_events.proofs.Parts.{arrives, no_arrival}

@@ -1,9 +1,9 @@
 use Rattle.std.proofs.Common.{ap, sym, subst, ◌∙◌, ℕ}
-use Rattle.hp_machine.specs.World.{unit_on}
-use Rattle.hp_machine.specs.Acts as deed
-use Rattle.hp_machine.specs.Acts.{Of}
-use Rattle.hp_machine.specs.Events.{begun, steps_taken}
-use Rattle.hp_machine.specs.Guards.{Allowed}
+use Rattle.driver_machine.specs.World.{unit_on}
+use Rattle.driver_machine.specs.Acts as deed
+use Rattle.driver_machine.specs.Acts.{Of}
+use Rattle.driver_machine.specs.Events.{begun, steps_taken}
+use Rattle.driver_machine.specs.Guards.{Allowed}
 use Rattle.hp_events.proofs.Exits.{as_acts, handed}
 use Rattle.hp_events.proofs.Parts.{unit_less, raised_some, attention_may, attends, deed_then, deed_stopped, sound_then}
 use Rattle.hp_events.proofs.events.attention.Goals as goal

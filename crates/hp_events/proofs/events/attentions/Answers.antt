@@ -1,5 +1,5 @@
 use Rattle.std.proofs.Common.{arith}
-use Rattle.hp_machine.specs.Events.{attention}
+use Rattle.driver_machine.specs.Events.{attention}
 use Rattle.hp_events.proofs.Going.{none_yet, drive_done, drive_stopped, drives_over}
 use Rattle.hp_events.proofs.Exits.{handed}
 use Rattle.hp_events.proofs.events.attentions.Goals as goal

@@ -1,5 +1,5 @@
 use Rattle.std.proofs.Common.{drop}
-use Rattle.hp_machine.specs.Events.{each, attention, drives}
+use Rattle.driver_machine.specs.Events.{each, attention, drives}
 use Rattle.hp_events.proofs.Going.{Going}
 use Rattle.hp_events.proofs.events.attentions.Given as goal
 

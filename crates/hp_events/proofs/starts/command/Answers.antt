@@ -1,8 +1,8 @@
 use Rattle.std.proofs.Common.{sym, ap, ◌∙◌}
 use Rattle.transfer_engine.specs.declared.job.Segment.{Segment}
 use Rattle.transfer_engine.specs.State.{segment_of}
-use Rattle.hp_machine.specs.World.{unit_at, transfer_of}
-use Rattle.hp_machine.specs.Acts.{Move}
+use Rattle.driver_machine.specs.World.{unit_at, transfer_of}
+use Rattle.driver_machine.specs.Acts.{Move}
 use Rattle.hp_events.specs.Hand.{hand_at}
 use Rattle.hp_events.proofs.One.{told, none_moved, command_as}
 use Rattle.hp_events.proofs.starts.command.Goals as goal

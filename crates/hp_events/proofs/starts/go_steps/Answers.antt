@@ -1,7 +1,7 @@
 use Rattle.std.proofs.Common.{List, ap}
-use Rattle.hp_machine.specs.declared.RetryStep.{RetryStep}
-use Rattle.hp_machine.specs.World.{unit_at}
-use Rattle.hp_machine.specs.Due.{step_of}
+use Rattle.driver_machine.specs.declared.RetryStep.{RetryStep}
+use Rattle.driver_machine.specs.World.{unit_at}
+use Rattle.driver_machine.specs.Due.{step_of}
 use Rattle.hp_events.proofs.One.{silent}
 use Rattle.hp_events.proofs.starts.go_steps.Goals as goal
 

@@ -1,6 +1,6 @@
 use Rattle.std.proofs.Common.{◌∙◌}
-use Rattle.hp_machine.specs.World.{unit_at}
-use Rattle.hp_machine.specs.Acts.{Search}
+use Rattle.driver_machine.specs.World.{unit_at}
+use Rattle.driver_machine.specs.Acts.{Search}
 use Rattle.hp_events.proofs.One.{told, none_moved}
 use Rattle.hp_events.proofs.starts.search.Goals as goal
 

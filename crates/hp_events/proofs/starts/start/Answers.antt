@@ -1,4 +1,4 @@
-use Rattle.hp_machine.specs.World.{unit_at}
+use Rattle.driver_machine.specs.World.{unit_at}
 use Rattle.hp_events.specs.Hand.{hand_at}
 use Rattle.hp_events.proofs.One.{silent, ready_as}
 use Rattle.hp_events.proofs.starts.start.Goals as goal

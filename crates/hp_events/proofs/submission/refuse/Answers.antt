@@ -1,7 +1,7 @@
 use Rattle.std.proofs.Common.{ap, sym, ◌∷◌, [], ℕ}
-use Rattle.hp_machine.specs.World.{adapter_of}
-use Rattle.hp_machine.specs.Acts.{Refuse}
-use Rattle.hp_machine.specs.Events.{adapter_start}
+use Rattle.driver_machine.specs.World.{adapter_of}
+use Rattle.driver_machine.specs.Acts.{Refuse}
+use Rattle.driver_machine.specs.Events.{adapter_start}
 use Rattle.hp_events.proofs.Joined.{of_act, then_part, stopped_part}
 use Rattle.hp_events.proofs.Exits.{as_acts, handed}
 use Rattle.hp_events.proofs.Parts.{sound_then}

@@ -1,6 +1,6 @@
 use Rattle.std.proofs.Common.{◌+◌, ◌*◌, length, arith}
-use Rattle.hp_machine.specs.World.{unit_at}
-use Rattle.hp_machine.specs.Events.{next_acts}
+use Rattle.driver_machine.specs.World.{unit_at}
+use Rattle.driver_machine.specs.Events.{next_acts}
 use Rattle.hp_events.proofs.Going.{at_first, at_last, turned, turn_stopped, turn_empty}
 use Rattle.hp_events.proofs.Exits.{handed}
 use Rattle.hp_events.proofs.turns.due.Goals as goal

@@ -1,6 +1,6 @@
 use Rattle.std.proofs.Common.{◌+◌, ◌-◌, ◌*◌, length}
-use Rattle.hp_machine.specs.World.{unit_at}
-use Rattle.hp_machine.specs.Events.{until, next_acts, due_acts}
+use Rattle.driver_machine.specs.World.{unit_at}
+use Rattle.driver_machine.specs.Events.{until, next_acts, due_acts}
 use Rattle.hp_events.specs.Free.{IsFree}
 use Rattle.hp_events.proofs.Going.{Going}
 use Rattle.hp_events.proofs.turns.due.Given as goal

@@ -1,5 +1,5 @@
 use Rattle.std.proofs.Common.{◌+◌, length, arith}
-use Rattle.hp_machine.specs.Events.{choose_acts}
+use Rattle.driver_machine.specs.Events.{choose_acts}
 use Rattle.hp_events.proofs.Going.{at_last, turned, turn_stopped, turn_empty}
 use Rattle.hp_events.proofs.Exits.{handed}
 use Rattle.hp_events.proofs.turns.start_adapter.Goals as goal

@@ -1,5 +1,5 @@
 use Rattle.std.proofs.Common.{◌+◌, ◌-◌, length}
-use Rattle.hp_machine.specs.Events.{until, choose_acts, adapter_start}
+use Rattle.driver_machine.specs.Events.{until, choose_acts, adapter_start}
 use Rattle.hp_events.proofs.Going.{Going}
 use Rattle.hp_events.proofs.turns.start_adapter.Given as goal
 

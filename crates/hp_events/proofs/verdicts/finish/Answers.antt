@@ -1,6 +1,6 @@
 use Rattle.std.proofs.Common.{sym, ap, ◌∙◌}
-use Rattle.hp_machine.specs.World.{unit_at}
-use Rattle.hp_machine.specs.Acts.{End}
+use Rattle.driver_machine.specs.World.{unit_at}
+use Rattle.driver_machine.specs.Acts.{End}
 use Rattle.hp_events.specs.Hand.{hand_at}
 use Rattle.hp_events.proofs.One.{told, silent, finish_all, finish_some}
 use Rattle.hp_events.proofs.verdicts.finish.Goals as goal

@@ -1,8 +1,8 @@
 use Rattle.std.proofs.Common.{◌+◌, ap, ◌∙◌}
 use Rattle.hardware_table.specs.declared.Moved.{Moved}
-use Rattle.hp_machine.specs.declared.Cause.TheVariants.{Offline}
-use Rattle.hp_machine.specs.World.{unit_at}
-use Rattle.hp_machine.specs.Due.{judged}
+use Rattle.driver_machine.specs.declared.Cause.TheVariants.{Offline}
+use Rattle.driver_machine.specs.World.{unit_at}
+use Rattle.driver_machine.specs.Due.{judged}
 use Rattle.hp_events.specs.Hand.{hand_at}
 use Rattle.hp_events.proofs.One.{told, silent, some_moved}
 use Rattle.hp_events.proofs.verdicts.follow.Goals as goal

@@ -1,8 +1,8 @@
 use Rattle.std.proofs.Common.{Bool, sym, ap, ◌∙◌}
 use Rattle.std.specs.Prelude.{if◌then◌else◌}
-use Rattle.hp_machine.specs.World.{unit_at}
-use Rattle.hp_machine.specs.Acts.{Rtc}
-use Rattle.hp_machine.specs.Due.{judged}
+use Rattle.driver_machine.specs.World.{unit_at}
+use Rattle.driver_machine.specs.Acts.{Rtc}
+use Rattle.driver_machine.specs.Due.{judged}
 use Rattle.hp_events.specs.Hand.{hand_at}
 use Rattle.hp_events.proofs.One.{told}
 use Rattle.hp_events.proofs.verdicts.judge.Goals as goal

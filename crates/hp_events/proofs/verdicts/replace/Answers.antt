@@ -1,8 +1,8 @@
 use Rattle.std.proofs.Common.{ℕ, sym, ap, ◌∙◌}
 use Rattle.std.specs.Prelude.{Option}
-use Rattle.hp_machine.specs.declared.Cause.TheVariants.{Unforwarded}
-use Rattle.hp_machine.specs.World.{unit_at}
-use Rattle.hp_machine.specs.Due.{forward_by}
+use Rattle.driver_machine.specs.declared.Cause.TheVariants.{Unforwarded}
+use Rattle.driver_machine.specs.World.{unit_at}
+use Rattle.driver_machine.specs.Due.{forward_by}
 use Rattle.hp_events.proofs.One.{told, silent, some_moved}
 use Rattle.hp_events.proofs.verdicts.replace.Goals as goal
 

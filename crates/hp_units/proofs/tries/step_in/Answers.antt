@@ -1,8 +1,8 @@
 use Rattle.std.proofs.Common.{rules, ◌≡◌, sym, subst, ◌+◌, ◌∷◌, drop, slice_get, unwrap_or, IfSome}
 use Rattle.std.specs.Option.{option_map}
 use Rattle.transfer_engine.specs.Calls.{state_of}
-use Rattle.hp_machine.specs.World.{no_transfer}
-use Rattle.hp_machine.specs.Due.{steps_of}
+use Rattle.driver_machine.specs.World.{no_transfer}
+use Rattle.driver_machine.specs.Due.{steps_of}
 use Rattle.hp_units.proofs.Heads.{read-in-front}
 use Rattle.hp_units.proofs.tries.step_in.Goals as goal
 

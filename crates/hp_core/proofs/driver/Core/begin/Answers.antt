@@ -2,9 +2,9 @@ use Rattle.std.proofs.Common.{refl, sym, subst, ◌≡◌, Some}
 use Rattle.std.specs.Prelude.{slice_set}
 use Rattle.transfer_engine.specs.declared.job.Job.{Job}
 use Rattle.transfer_engine.specs.State.{IsJob, begun}
-use Rattle.hp_machine.specs.declared.Phase.TheVariants.{Queued}
-use Rattle.hp_machine.specs.World.{unit_at, adapter_at, adapter_of}
-use Rattle.hp_machine.specs.Acts.{waits_too}
+use Rattle.driver_machine.specs.declared.Phase.TheVariants.{Queued}
+use Rattle.driver_machine.specs.World.{unit_at, adapter_at, adapter_of}
+use Rattle.driver_machine.specs.Acts.{waits_too}
 use Rattle.hp_core.proofs.Telling.{silent_act}
 use Rattle.hp_core.proofs.Scenes.{by_adapter}
 use Rattle.hp_core.proofs.Deeds.{there, adapter_there, ready_room, is_job, hand_there}

@@ -1,7 +1,7 @@
 use Rattle.std.proofs.Common.{refl}
 use Rattle.hp_core.proofs.Telling.{told_act}
-use Rattle.hp_machine.specs.Lines.{answer_told}
-use Rattle.hp_machine.specs.World.{unit_at, held_in, slot_in_hand}
+use Rattle.driver_machine.specs.Lines.{answer_told}
+use Rattle.driver_machine.specs.World.{unit_at, held_in, slot_in_hand}
 use Rattle.hp_core.proofs.Deeds.{there, adapter_there, hand_there}
 use Rattle.hp_core.proofs.Rooms.{answers_room, frames_there, loan_there}
 use Rattle.hp_core.proofs.driver.Core.end.Goals as goal

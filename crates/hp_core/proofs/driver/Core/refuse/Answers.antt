@@ -1,8 +1,8 @@
 use Rattle.std.proofs.Common.{refl, sym, ap, ◌∙◌, ℕ, None, [], ◌∷◌, ◌++◌}
 use Rattle.hp_core.proofs.Telling.{told_act}
-use Rattle.hp_machine.specs.Lines.{answer_told}
+use Rattle.driver_machine.specs.Lines.{answer_told}
 use Rattle.trace_replay.specs.Moments as moments
-use Rattle.hp_machine.specs.Acts.{Refuse, answer_at}
+use Rattle.driver_machine.specs.Acts.{Refuse, answer_at}
 use Rattle.hp_core.proofs.driver.Core.refuse.Goals as goal
 
 pub returns : goal.returns

@@ -2,9 +2,9 @@ use Rattle.std.proofs.Common.{refl, sym, subst, ◌≡◌, Some}
 use Rattle.std.specs.Prelude.{slice_set}
 use Rattle.transfer_engine.specs.declared.job.Job.{Job}
 use Rattle.transfer_engine.specs.State.{IsJob, begun}
-use Rattle.hp_machine.specs.declared.Phase.TheVariants.{Positioning}
-use Rattle.hp_machine.specs.World.{unit_at}
-use Rattle.hp_machine.specs.Acts.{going_to, searching}
+use Rattle.driver_machine.specs.declared.Phase.TheVariants.{Positioning}
+use Rattle.driver_machine.specs.World.{unit_at}
+use Rattle.driver_machine.specs.Acts.{going_to, searching}
 use Rattle.subsystem_spec.specs.Requests.{WriteOk}
 use Rattle.hp_core.proofs.Telling.{told_act}
 use Rattle.hp_core.proofs.Scenes.{by_unit}

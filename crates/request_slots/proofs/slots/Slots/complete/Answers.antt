@@ -1,5 +1,5 @@
 use Rattle.std.proofs.Common.{false, refl, ap, sym, ◌∙◌}
-use Rattle.hp_machine.specs.World.{Held}
+use Rattle.driver_machine.specs.World.{Held}
 use Rattle.request_slots.specs.Stored.{loan_of}
 use Rattle.request_slots.proofs.SlotLaws.{replaced, as_seen-replaced, held_of-handed}
 use Rattle.request_slots.proofs.StoreLaws.{stored-replaced}

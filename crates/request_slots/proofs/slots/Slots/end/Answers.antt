@@ -1,5 +1,5 @@
 use Rattle.std.proofs.Common.{true, refl}
-use Rattle.hp_machine.specs.World.{Held}
+use Rattle.driver_machine.specs.World.{Held}
 use Rattle.request_slots.proofs.SlotLaws.{replaced, as_seen-replaced}
 use Rattle.request_slots.proofs.StoreLaws.{stored-replaced}
 use Rattle.request_slots.proofs.slots.Slots.end.Goals as goal

@@ -1,5 +1,5 @@
 use Rattle.std.proofs.Common.{ℕ, Option, None, replicate, ap, ◌∙◌, arith}
-use Rattle.hp_machine.specs.World.{Held}
+use Rattle.driver_machine.specs.World.{Held}
 use Rattle.request_slots.specs.Stored.{as_seen}
 use Rattle.request_slots.proofs.SlotLaws.{as_seen-replicate}
 use Rattle.request_slots.proofs.StoreLaws.{stored-new}

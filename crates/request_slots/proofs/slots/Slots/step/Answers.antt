@@ -4,7 +4,7 @@ use Rattle.hardware_table.specs.Moves.{was_read}
 use Rattle.main_memory.specs.Blocks.{Loan, size_at, span_of, bytes_in}
 use Rattle.main_memory.specs.Memory.{IsMemory}
 use Rattle.mba_adapter.specs.Loaded.{loaded_buffer}
-use Rattle.hp_machine.specs.World.{Held, block_in}
+use Rattle.driver_machine.specs.World.{Held, block_in}
 use Rattle.request_slots.specs.Requests.{held_at}
 use Rattle.request_slots.specs.declared.slot.Slot.{Slot}
 use Rattle.request_slots.specs.Stored.{loan_of, slot_in, as_seen, IsKept}

@@ -1,0 +1,9 @@
+use Rattle.std.proofs.Common.{refl}
+use Rattle.driver_answers.proofs.Waiting.{taking_drops}
+use Rattle.driver_answers.proofs.taken_law.Goals as goal
+
+pub returns-clause-waiting : goal.returns-clause-waiting
+returns-clause-waiting c = taking_drops
+
+pub returns-clause-answers : goal.returns-clause-answers
+returns-clause-answers c = λ w. refl

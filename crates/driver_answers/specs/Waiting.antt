@@ -1,0 +1,80 @@
+-- The answers that wait in the driver, as a trace tells them: they are those of the end lines, until they are taken.
+use Rattle.std.specs.Prelude.{◌≡◌, ℕ, ◌<◌, Bool, true, false, List, [], ◌∷◌, ◌++◌, drop, length, map, Option, None, Some}
+use Rattle.subsystem_spec.specs.Requests.{Request}
+use Rattle.trace_replay.specs.Script.{Input}
+use Rattle.trace_replay.specs.Moments.{Answered, answers_in}
+use Rattle.driver_machine.specs.declared.Made.{Made}
+use Rattle.driver_machine.specs.World.{World, Held, held_in}
+use Rattle.driver_machine.specs.Acts.{Act, Taken, Tried, after, after_all}
+use Rattle.driver_machine.specs.Lines.{answer_told, lines_of, lines_of_all}
+use Rattle.driver_machine.specs.Events.{submit_acts, event_acts}
+use Rattle.driver_machine.specs.Guards.{Allowed}
+use Rattle.driver_machine.specs.Sound.{Sound, AtWork}
+use Rattle.driver_work.specs.Runs.{Run, MaySubmit, MayCome}
+
+-- the blocks of the request in a slot; a request that was refused has none
+abbrev pub blocks_for : World → Option ℕ → List (List ℕ)
+blocks_for w None = []
+blocks_for w (Some p) = (held_in w p).blocks
+
+-- AN ANSWER THAT WAITS, as a trace tells it
+abbrev pub told_by : World → Made → Answered
+told_by w made = record {
+  line = made.answer.at;
+  id = made.answer.id;
+  answer = answer_told made.answer.kind (blocks_for w made.slot);
+}
+
+abbrev pub waiting : World → List Answered
+waiting w = map (told_by w) w.answers
+
+-- acts among which no answer is taken
+abbrev pub is_taking : Act → Bool
+is_taking Taken = true
+is_taking act = false
+
+abbrev pub AreNoTakings : List Act → Type 0
+AreNoTakings [] = Unit {0}
+AreNoTakings (act ∷ acts) = (is_taking act ≡ false) × AreNoTakings acts
+
+-- AN ACT that takes none adds the answers of its lines behind those that wait, and so does a run of such acts.
+abbrev pub ActsAnswer : Type 0
+ActsAnswer = (w : World) (act : Act) → Sound w → Allowed w act → is_taking act ≡ false
+    → waiting (after w act) ≡ waiting w ++ answers_in (lines_of w act)
+
+abbrev pub RunsAnswer : Type 0
+RunsAnswer = (w : World) (acts : List Act) → Sound w → Run w acts → AreNoTakings acts
+    → waiting (after_all w acts) ≡ waiting w ++ answers_in (lines_of_all w acts)
+
+-- Where none waited, just those of the lines wait behind the run.
+abbrev pub RunsAlone : Type 0
+RunsAlone = (w : World) (acts : List Act) → Sound w → Run w acts → AreNoTakings acts → w.answers ≡ []
+    → waiting (after_all w acts) ≡ answers_in (lines_of_all w acts)
+
+-- THE TAKING takes the first one, and the others wait as they did.
+abbrev pub TakingDrops : Type 0
+TakingDrops = (w : World) → Sound w → 0 < length w.answers → waiting (after w Taken) ≡ drop 1 (waiting w)
+
+abbrev pub TakingLeaves : Type 0
+TakingLeaves = (w : World) → (after w Taken).answers ≡ drop 1 w.answers
+
+-- No event and no submission takes an answer,
+abbrev pub EventsTakeNone : Type 0
+EventsTakeNone = (w : World) (line : ℕ) (input : Input) (tried : Tried) → AreNoTakings (event_acts line input tried w)
+
+abbrev pub SubmissionsTakeNone : Type 0
+SubmissionsTakeNone = (w : World) (line p : ℕ) (r : Request) (h : Held) → AreNoTakings (submit_acts r line p h w)
+
+-- so behind an event those that wait are those that waited and those of its lines,
+abbrev pub EventsAnswer : Type 0
+EventsAnswer = (w : World) (line : ℕ) (input : Input) (tried : Tried) → Sound w → AtWork w → MayCome w input tried
+    → waiting (after_all w (event_acts line input tried w)) ≡ waiting w ++ answers_in (lines_of_all w (event_acts line input tried w))
+
+-- and where none waited, as at each submission, they are just those of the lines.
+abbrev pub EventsAlone : Type 0
+EventsAlone = (w : World) (line : ℕ) (input : Input) (tried : Tried) → Sound w → AtWork w → MayCome w input tried → w.answers ≡ []
+    → waiting (after_all w (event_acts line input tried w)) ≡ answers_in (lines_of_all w (event_acts line input tried w))
+
+abbrev pub SubmissionsAlone : Type 0
+SubmissionsAlone = (w : World) (line p : ℕ) (r : Request) (h : Held) → Sound w → AtWork w → MaySubmit w r p h
+    → waiting (after_all w (submit_acts r line p h w)) ≡ answers_in (lines_of_all w (submit_acts r line p h w))

@@ -1,0 +1,42 @@
+//! The answers that wait in the driver are those of the end lines that its acts told, and the ids of the requests that stand in it
+//! are among those that were asked for. The functions here do nothing: each stands for a law.
+#![tactic(auto)]
+
+ghost use Rattle.driver_answers.specs.Ids.{StartsOfNone, ActsAdd, RunsAdd, EventsAddNone, SubmissionsAdd, TakingAddsNone, NoOthers, OthersAreFresh};
+ghost use Rattle.driver_answers.specs.Waiting.{ActsAnswer, RunsAnswer, RunsAlone, TakingDrops, TakingLeaves, EventsTakeNone, SubmissionsTakeNone, EventsAnswer, EventsAlone, SubmissionsAlone};
+
+/// An act that takes no answer adds those of its lines behind those that wait, with their ids and blocks; so do runs.
+pub fn act_law()
+    ensures act { ActsAnswer }
+    ensures acts { RunsAnswer }
+    ensures alone { RunsAlone }
+{}
+
+/// The taking takes the first answer, and the others wait as they did.
+pub fn taken_law()
+    ensures waiting { TakingDrops }
+    ensures answers { TakingLeaves }
+{}
+
+/// No event and no submission takes an answer; so behind an event those of its lines wait behind those that did, and behind a
+/// submission just those of its lines.
+pub fn calls_law()
+    ensures event { EventsTakeNone }
+    ensures submit { SubmissionsTakeNone }
+    ensures behind_event { EventsAnswer }
+    ensures alone { EventsAlone }
+    ensures behind_submission { SubmissionsAlone }
+{}
+
+/// From the start on each request that stands in a slot has one of the ids that were submitted; so any other id is fresh where no
+/// answer waits.
+pub fn ids_law()
+    ensures start { StartsOfNone }
+    ensures act { ActsAdd }
+    ensures acts { RunsAdd }
+    ensures event { EventsAddNone }
+    ensures submit { SubmissionsAdd }
+    ensures taken { TakingAddsNone }
+    ensures others { NoOthers }
+    ensures fresh { OthersAreFresh }
+{}

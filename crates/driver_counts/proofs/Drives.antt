@@ -1,0 +1,159 @@
+-- The faults that are armed at a drive: no deed arms one, and a line of the script arms one for at most 1,000 times.
+use Rattle.std.proofs.Common.{◌≡◌, ℕ, ◌+◌, ◌-◌, ◌≤◌, Bool, true, false, refl, sym, ap, subst, arith}
+use Rattle.std.specs.Prelude.{if◌then◌else◌, ◌==◌}
+use Rattle.pack_geometry.specs.declared.DriveKind.{DriveKind}
+use Rattle.pack_geometry.specs.declared.DriveKind.TheVariants.{Rp06, Rm03, Rm05}
+use Rattle.pack_geometry.specs.Geometry.{place_at}
+use Rattle.drive_registers.specs.declared.Function.{Function}
+use Rattle.drive_registers.specs.declared.Function.TheVariants as function
+use Rattle.drive_registers.specs.Codes.{function_code, offset_code}
+use Rattle.hardware_table.specs.declared.Armed.{Armed}
+use Rattle.hardware_table.specs.declared.FaultKind.{FaultKind}
+use Rattle.hardware_table.specs.declared.FaultKind.TheVariants as fault
+use Rattle.hardware_table.specs.declared.Moved.{Moved}
+use Rattle.hardware_table.specs.declared.Moved.TheVariants as verdict
+use Rattle.hardware_table.specs.declared.Register.TheVariants as register
+use Rattle.hardware_table.specs.declared.Work.{Work}
+use Rattle.hardware_table.specs.declared.Work.TheVariants as work
+use Rattle.hardware_table.specs.Drive.{DriveState, with_register}
+use Rattle.hardware_table.specs.Functions.{effect, refusals, refused, performed}
+use Rattle.hardware_table.specs.Events.{arrived_from, transfer_ended, online_set, fault_armed, times_armed, with_times}
+use Rattle.hardware_table.specs.Moves.{after_move, with_mark_bits, with_fault_bits, fault_used, was_read}
+use Rattle.hardware_table.specs.Noise.{Book, book_struck}
+use Rattle.hardware_table.specs.Adapter.{AdapterState, drive_stepped, stepped, next_block}
+use Rattle.trace_replay.specs.Drives.{addressed, search_place, offset_written, transfer_function}
+use Rattle.driver_machine.specs.declared.RetryStep.{RetryStep}
+use Rattle.driver_machine.specs.declared.RetryStep.TheVariants as step
+use Rattle.driver_machine.specs.Acts as deed
+use Rattle.driver_machine.specs.Acts.{Deed, Scene, stepping}
+
+-- each fault is to strike at most so many times more
+pub record IsArmedBy (more : ℕ) (old new : Armed) : Type 0 where
+  pub times : (kind : FaultKind) → times_armed kind new ≤ times_armed kind old + more
+
+pub no_more : (old new : Armed) → new ≡ old → IsArmedBy 0 old new
+no_more old new is = record { times = λ kind. least (times_armed kind new) (times_armed kind old) (ap (times_armed kind) is) }
+  where
+    least : (n m : ℕ) → n ≡ m → n ≤ m + 0
+    least n m e = omega (arith, e)
+
+-- one fault is put to at most so many times more, and no other
+put_few : (kind other : FaultKind) (n more : ℕ) (a : Armed) → n ≤ times_armed kind a + more
+    → times_armed other (with_times kind n a) ≤ times_armed other a + more
+put_few fault.Seek fault.Seek n more a few = few
+put_few fault.Seek other n more a few = omega arith
+put_few fault.Opi fault.Opi n more a few = few
+put_few fault.Opi other n more a few = omega arith
+put_few fault.Dte fault.Dte n more a few = few
+put_few fault.Dte other n more a few = omega arith
+put_few fault.Hcrc fault.Hcrc n more a few = few
+put_few fault.Hcrc other n more a few = omega arith
+put_few fault.Late fault.Late n more a few = few
+put_few fault.Late other n more a few = omega arith
+
+put_armed : (kind : FaultKind) (n more : ℕ) (a : Armed) → n ≤ times_armed kind a + more → IsArmedBy more a (with_times kind n a)
+put_armed kind n more a few = record { times = λ other. put_few kind other n more a few }
+
+pub armed_more : (kind : FaultKind) (times more : ℕ) (d : DriveState) → times ≤ more → IsArmedBy more d.armed (fault_armed kind times d).armed
+armed_more kind times more d few = put_armed kind (times_armed kind d.armed + times) more d.armed (omega (arith, few))
+
+-- WHAT A DRIVE DOES
+effect_armed : (f : Function) (d : DriveState) → (effect f d).armed ≡ d.armed
+effect_armed function.Nop d = refl
+effect_armed function.Seek d = refl
+effect_armed function.Recal d = refl
+effect_armed function.Clear d = refl
+effect_armed function.Offset d = refl
+effect_armed function.Centre d = refl
+effect_armed function.Preset d = refl
+effect_armed function.Pack d = refl
+effect_armed function.Search d = refl
+effect_armed function.Write d = refl
+effect_armed function.WriteHeader d = refl
+effect_armed function.Read d = refl
+
+either : {A : Type 0} (P : A → Type 0) (b : Bool) (x y : A) → P x → P y → P (if b then x else y)
+either P true x y holds fails = holds
+either P false x y holds fails = fails
+
+performed_armed : (f : Function) (d : DriveState) → (performed f d).armed ≡ d.armed
+performed_armed f d =
+    either (λ (e : DriveState). e.armed ≡ d.armed) (refusals f d == 0) (effect f (record d { cs1 = function_code f }))
+    (refused (refusals f d) (record d { cs1 = function_code f })) (effect_armed f (record d { cs1 = function_code f })) refl
+
+arrived_armed : (w : Work) (d : DriveState) → (arrived_from w d).armed ≡ d.armed
+arrived_armed work.Ready d = refl
+arrived_armed (work.Transfer write) d = refl
+arrived_armed (work.Positioning cylinder sector) d = refl
+
+marked_armed : (kind : DriveKind) (d : DriveState) → (with_mark_bits kind d).armed ≡ d.armed
+marked_armed Rp06 d = refl
+marked_armed Rm03 d = refl
+marked_armed Rm05 d = refl
+
+fault_bits_armed : (kind : FaultKind) (d : DriveState) → (with_fault_bits kind d).armed ≡ d.armed
+fault_bits_armed fault.Seek d = refl
+fault_bits_armed fault.Opi d = refl
+fault_bits_armed fault.Dte d = refl
+fault_bits_armed fault.Hcrc d = refl
+fault_bits_armed fault.Late d = refl
+
+-- a fault that strikes is used
+faulted_armed : (kind : FaultKind) (d : DriveState) → IsArmedBy 0 d.armed (with_fault_bits kind (fault_used kind d)).armed
+faulted_armed kind d =
+    subst (IsArmedBy 0 d.armed) (sym (fault_bits_armed kind (fault_used kind d)))
+    (put_armed kind (times_armed kind d.armed - 1) 0 d.armed (omega arith))
+
+moved_armed : (v : Moved) (block : ℕ) (d : DriveState) → IsArmedBy 0 d.armed (after_move v block d).armed
+moved_armed verdict.Clean block d = no_more _ _ refl
+moved_armed (verdict.Burst at pattern) block d = no_more _ _ refl
+moved_armed verdict.Hard block d = no_more _ _ refl
+moved_armed verdict.Marked block d = no_more _ _ (marked_armed d.kind d)
+moved_armed (verdict.Faulted kind) block d = faulted_armed kind d
+moved_armed verdict.Offline block d = no_more _ _ refl
+
+stepped_armed : (v : Moved) (a : AdapterState) (d : DriveState) → IsArmedBy 0 d.armed (drive_stepped v a d).armed
+stepped_armed v a d =
+    either (λ (e : DriveState). IsArmedBy 0 d.armed e.armed) (stepped v a).completion (transfer_ended (after_move v (next_block a) d))
+    (after_move v (next_block a) d) (moved_armed v (next_block a) d) (moved_armed v (next_block a) d)
+
+stepping_armed : (s : RetryStep) (d : DriveState) → (stepping s d).armed ≡ d.armed
+stepping_armed step.Recalibrate d = performed_armed function.Recal d
+stepping_armed (step.Seek cylinder) d = performed_armed function.Seek (with_register register.Dc cylinder d)
+stepping_armed (step.Offset code) d = performed_armed function.Offset (offset_written (offset_code code) d)
+
+pub online_armed : (on : Bool) (d : DriveState) → (online_set on d).armed ≡ d.armed
+online_armed true d = refl
+online_armed false d = refl
+
+-- WHAT A DEED DOES
+pub record ArmsNone (old new : Scene) : Type 0 where
+  pub faults : IsArmedBy 0 old.unit.drive.armed new.unit.drive.armed
+  pub noises : new.book.armed ≡ old.book.armed
+  pub capacity : new.book.capacity ≡ old.book.capacity
+
+drive_only : (s new : Scene) → new.unit.drive.armed ≡ s.unit.drive.armed → new.book ≡ s.book → ArmsNone s new
+drive_only s new armed book = record {
+  faults = no_more s.unit.drive.armed new.unit.drive.armed armed;
+  noises = ap (λ (b : Book). b.armed) book;
+  capacity = ap (λ (b : Book). b.capacity) book;
+}
+
+pub deed_arms_none : (line u p : ℕ) (d : Deed) (s : Scene) → ArmsNone s (deed.effect line u p d s)
+deed_arms_none line u p deed.Arrive s = drive_only s _ (arrived_armed s.unit.drive.work s.unit.drive) refl
+deed_arms_none line u p (deed.Sector block t) s = record {
+  faults = stepped_armed t.verdict s.adapter.state s.unit.drive;
+  noises = either (λ (b : Book). b.armed ≡ s.book.armed) (was_read s.unit.drive t.verdict) (book_struck u block s.unit.drive.offset s.book) s.book
+      refl refl;
+  capacity = either (λ (b : Book). b.capacity ≡ s.book.capacity) (was_read s.unit.drive t.verdict) (book_struck u block s.unit.drive.offset s.book)
+      s.book refl refl;
+}
+deed_arms_none line u p (deed.Search target sector) s =
+    drive_only s _ (performed_armed function.Search (addressed (search_place target.cylinder sector target) s.unit.drive)) refl
+deed_arms_none line u p (deed.Do next taken) s = drive_only s _ (stepping_armed next s.unit.drive) refl
+deed_arms_none line u p (deed.Move write segment) s =
+    drive_only s _ (performed_armed (transfer_function write) (addressed (place_at s.unit.drive.kind segment.block) s.unit.drive)) refl
+deed_arms_none line u p deed.Pack s = drive_only s _ (performed_armed function.Pack s.unit.drive) refl
+deed_arms_none line u p (deed.Dclr moved last) s = drive_only s _ (performed_armed function.Clear s.unit.drive) refl
+deed_arms_none line u p deed.Rtc s = drive_only s _ (performed_armed function.Centre s.unit.drive) refl
+deed_arms_none line u p other s = drive_only s _ refl refl

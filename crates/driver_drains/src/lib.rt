@@ -1,0 +1,25 @@
+//! What a drain and a call that stops come to in the replay. The functions here do nothing: each stands for a law.
+#![tactic(auto)]
+
+ghost use Rattle.driver_drains.specs.Fronts.{CallFrontsFollow, EventFrontsFollow};
+ghost use Rattle.driver_drains.specs.Drains.{FirstEventsFall, DrainsFall, DrainsKeep, LinesAskNothing, CallsAsk};
+
+/// Where the moments of a call follow, those of its first acts follow too, behind a line of the script and inside a drain.
+pub fn fronts_law()
+    ensures call { CallFrontsFollow }
+    ensures event { EventFrontsFollow }
+{}
+
+/// Each event of a drain leaves fewer event lines to come, which are at most 200 for each block of the requests that are
+/// outstanding; the line of the script that drains leaves as many.
+pub fn falls_law()
+    ensures first { FirstEventsFall }
+    ensures later { DrainsFall }
+    ensures line { DrainsKeep }
+{}
+
+/// The lines of a call ask for nothing, and a call for what its input asks.
+pub fn asks_law()
+    ensures lines { LinesAskNothing }
+    ensures call { CallsAsk }
+{}

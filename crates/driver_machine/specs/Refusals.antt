@@ -1,0 +1,16 @@
+-- The answers to requests that are refused at their submission.
+use Rattle.std.specs.Prelude.{Bool, true, false}
+use Rattle.driver_machine.specs.declared.AnswerKind.{AnswerKind}
+use Rattle.driver_machine.specs.declared.AnswerKind.TheVariants.{Eof, Error}
+use Rattle.driver_machine.specs.declared.Cause.{Cause}
+use Rattle.driver_machine.specs.declared.Cause.TheVariants.{Partition, Frames}
+
+abbrev pub refuses_by : Cause → Bool
+refuses_by Partition = true
+refuses_by Frames = true
+refuses_by why = false
+
+abbrev pub refuses : AnswerKind → Bool
+refuses Eof = true
+refuses (Error why done) = refuses_by why
+refuses kind = false

@@ -1,0 +1,106 @@
+//! What the driver does, act by act: a machine of acts for the whole driver. What comes next at a unit inside an event is one
+//! function, which is also the guard of what may come. The definitions stand in `specs/`; their laws, in crates above.
+#![tactic(auto)]
+
+ghost use Rattle.std.specs.Prelude.{◌≡◌};
+ghost use Rattle.driver_machine.specs.Refusals.{refuses};
+
+use drive_registers::OffsetCode;
+use hardware_table::Moved;
+
+/// Why a request ended with an error.
+#[derive(Clone, Copy, Debug, PartialEq, Eq)]
+pub enum Cause {
+    /// It reaches beyond its partition.
+    Partition,
+    /// The frames that it needs are not there.
+    Frames,
+    /// A command was due, or a sector was tried, while the unit was offline.
+    Offline,
+    /// It writes, and its transfer command was due while the unit was locked.
+    Locked,
+    /// A sector is marked bad, and nothing stands for it.
+    Unforwarded,
+    /// All tries at one sector failed; `attempts` is 28.
+    Fault { attempts: u32 },
+}
+
+/// How a request ended.
+#[derive(Clone, Copy, Debug, PartialEq, Eq)]
+pub enum AnswerKind {
+    /// All its blocks, `count` of them, were read; the last one has `last` bytes.
+    ReadOk { count: u32, last: u32 },
+    /// All its blocks were written.
+    WriteOk,
+    /// It begins at the very end of its partition.
+    Eof,
+    /// It ended with an error when its first `done` blocks were done; `done` is below its count.
+    Error { cause: Cause, done: u32 },
+}
+
+/// The answer to a request: its id, the number of the line at which it ended, and how.
+#[derive(Clone, Copy, Debug, PartialEq, Eq)]
+pub struct Answer {
+    pub id: u32,
+    pub at: u64,
+    pub kind: AnswerKind,
+}
+
+/// An answer that waits to be taken, and the slot of its request; one that was refused at its submission has none.
+#[derive(Clone, Copy, Debug, PartialEq, Eq)]
+pub struct Made {
+    pub slot: Option<u32>,
+    pub answer: Answer,
+}
+
+/// A step of a retry, which comes before its transfer.
+#[derive(Clone, Copy, Debug, PartialEq, Eq)]
+pub enum RetryStep {
+    /// Back to cylinder 0.
+    Recalibrate,
+    /// To the cylinder of the sector that failed.
+    Seek { cylinder: u32 },
+    /// Off the centre of the track.
+    Offset { code: OffsetCode },
+}
+
+/// What comes next for the request in hand, inside an event.
+#[derive(Clone, Copy, Debug, PartialEq, Eq)]
+pub enum Task {
+    /// DCLR, behind an interrupt whose verdict was not clean; `moved` sectors moved clean before it.
+    Clear { moved: u32, verdict: Moved },
+    /// RTC where an offset is set, and then what the verdict asks for.
+    Judge { moved: u32, verdict: Moved },
+    /// The next step of a retry behind the `taken` first ones, or the unit is ready.
+    Steps { taken: u32 },
+    /// The transfer command, at once.
+    Command,
+    /// The end, since all tries failed behind `done` blocks.
+    GiveUp { done: u32 },
+}
+
+/// Where a unit is with the head of its queue.
+#[derive(Clone, Copy, Debug, PartialEq, Eq)]
+pub enum Phase {
+    /// Nothing was begun for the head, or there is none.
+    Waiting,
+    /// Its drive positions, or has its attention up; `taken` steps of a retry were begun.
+    Positioning { taken: u32 },
+    /// It waits for its adapter.
+    Queued,
+    /// Its adapter transfers for it.
+    Transferring,
+    /// Inside an event a task is due.
+    Due { task: Task },
+}
+
+/// An answer to a request that was refused at its submission.
+pub fn is_refusal(kind: AnswerKind) -> bool
+    ensures { result ≡ refuses kind }
+{
+    match kind {
+        AnswerKind::Eof => true,
+        AnswerKind::Error { cause, done: _ } => matches!(cause, Cause::Partition | Cause::Frames),
+        AnswerKind::ReadOk { .. } | AnswerKind::WriteOk => false,
+    }
+}

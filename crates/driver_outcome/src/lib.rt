@@ -1,0 +1,23 @@
+//! What a call of the driver comes to, whether it ends or a call outside fails in it. The functions here do nothing: each stands
+//! for a law.
+#![tactic(auto)]
+
+ghost use Rattle.std.specs.Prelude.{◌≡◌};
+ghost use Rattle.driver_outcome.specs.Outcome.{OneThenOther, StoppedBefore, NothingDone};
+
+/// What stopped a call: the packs failed, or the trace.
+#[derive(Clone, Copy, Debug, PartialEq, Eq)]
+pub enum Stop {
+    /// A call of the packs failed.
+    Store,
+    /// A call of the trace failed.
+    Sink,
+}
+
+/// Outcomes join: what was done, and then what the rest came to, is what all of it came to; and where a call stopped, so did all
+/// that it was a part of.
+pub fn outcome_law()
+    ensures nothing { NothingDone }
+    ensures then { OneThenOther }
+    ensures stopped { StoppedBefore }
+{}

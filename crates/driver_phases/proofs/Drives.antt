@@ -1,0 +1,359 @@
+-- A drive stays one whose registers name places of it, whatever it does.
+use Rattle.std.proofs.Common.{◌≡◌, ℕ, ◌+◌, ◌%◌, ◌<◌, ◌≤◌, Bool, true, false, Some, None, refl, sym, ap, ◌∙◌, subst, arith}
+use Rattle.std.specs.Prelude.{if◌then◌else◌, ◌==◌, ◌&&◌, not, bit_or, nat_lt}
+use Rattle.std.proofs.lemmas.Nat.{div-mul-add, mod-mul-add}
+use Rattle.std.proofs.lemmas.Bool.Decides.{Decides-ltb}
+use Rattle.pack_geometry.specs.declared.DriveKind.{DriveKind}
+use Rattle.pack_geometry.specs.declared.DriveKind.TheVariants.{Rp06, Rm03, Rm05}
+use Rattle.pack_geometry.specs.declared.Place.{Place}
+use Rattle.pack_geometry.specs.Geometry.{cylinders_of, tracks_of, sectors_of, block_count, limit_of, IsInside, place_at, replacement_at, track_and_sector}
+use Rattle.drive_registers.specs.declared.Function.{Function}
+use Rattle.drive_registers.specs.declared.Function.TheVariants as function
+use Rattle.drive_registers.specs.declared.OffsetCode.{OffsetCode}
+use Rattle.drive_registers.specs.declared.OffsetCode.TheVariants as code
+use Rattle.drive_registers.specs.Codes.{function_code, offset_code}
+use Rattle.drive_registers.specs.Bits as bits
+use Rattle.hardware_table.specs.declared.Armed.{Armed}
+use Rattle.hardware_table.specs.declared.FaultKind.{FaultKind}
+use Rattle.hardware_table.specs.declared.FaultKind.TheVariants as fault
+use Rattle.hardware_table.specs.declared.Moved.{Moved}
+use Rattle.hardware_table.specs.declared.Moved.TheVariants as verdict
+use Rattle.hardware_table.specs.declared.Work.{Work}
+use Rattle.hardware_table.specs.declared.Work.TheVariants as work
+use Rattle.hardware_table.specs.declared.Register.TheVariants as register
+use Rattle.hardware_table.specs.Drive.{DriveState, on, track_in, sector_in, with_register}
+use Rattle.hardware_table.specs.Functions.{is_addressed, refusals, effect, refused, performed}
+use Rattle.hardware_table.specs.Events.{arrived_from, transfer_ended, attention_cleared, turned, fault_armed, online_set, locked_set}
+use Rattle.hardware_table.specs.Moves.{passed, after_move, with_mark_bits, with_fault_bits, fault_used}
+use Rattle.hardware_table.specs.Adapter.{AdapterState, stepped, drive_stepped, next_block}
+use Rattle.trace_replay.specs.Drives.{addressed, offset_written, transfer_function}
+use Rattle.driver_machine.specs.Acts.{centred}
+use Rattle.driver_machine.specs.Sound.{IsDrive, IsGoal, code_word}
+
+-- PLACES. A block of the pack lies on the drive.
+pub place_inside : (kind : DriveKind) (block : ℕ) → block < block_count kind → IsInside kind (place_at kind block)
+place_inside Rp06 block lt = record { cylinder = omega arith; track = omega arith; sector = omega arith }
+place_inside Rm03 block lt = record { cylinder = omega arith; track = omega arith; sector = omega arith }
+place_inside Rm05 block lt = record { cylinder = omega arith; track = omega arith; sector = omega arith }
+
+sizes_small : (kind : DriveKind) → (cylinders_of kind ≤ 1024) × (tracks_of kind ≤ 256) × (sectors_of kind ≤ 256)
+sizes_small Rp06 = (omega arith, omega arith, omega arith)
+sizes_small Rm03 = (omega arith, omega arith, omega arith)
+sizes_small Rm05 = (omega arith, omega arith, omega arith)
+
+pub below_limit : (kind : DriveKind) (block : ℕ) → block < limit_of kind → block < block_count kind
+below_limit Rp06 block lt = omega arith
+below_limit Rm03 block lt = omega arith
+below_limit Rm05 block lt = omega arith
+
+pub replacement_below : (kind : DriveKind) (i : ℕ) → i < 126 → replacement_at kind i < block_count kind
+replacement_below Rp06 i lt = omega arith
+replacement_below Rm03 i lt = omega arith
+replacement_below Rm05 i lt = omega arith
+
+pub some_cylinder : (kind : DriveKind) → 0 < cylinders_of kind
+some_cylinder Rp06 = omega arith
+some_cylinder Rm03 = omega arith
+some_cylinder Rm05 = omega arith
+
+pub sector_below : (kind : DriveKind) (n : ℕ) → n % sectors_of kind < sectors_of kind
+sector_below Rp06 n = omega arith
+sector_below Rm03 n = omega arith
+sector_below Rm05 n = omega arith
+
+-- FUNCTIONS that are not refused are done.
+pub performed_as : (f : Function) (d : DriveState) → refusals f d ≡ 0 → performed f d ≡ effect f (record d { cs1 = function_code f })
+performed_as f d e = ap (λ n. if n == 0 then effect f (record d { cs1 = function_code f }) else refused n (record d { cs1 = function_code f })) e
+
+tests_true : (x y z : Bool) → x ≡ true → y ≡ true → z ≡ true → (x && (y && z)) ≡ true
+tests_true x y z e f g = rw (e, f, g) refl
+
+tests_in : (x y : Bool) → x && y ≡ true → y ≡ true
+tests_in true y e = e
+tests_in false y e = absurd (grind (arith, e))
+
+no_bits : (b c : Bool) (x y : ℕ) → b ≡ true → c ≡ false → bit_or (on (not b) x) (on c y) ≡ 0
+no_bits b c x y e f = rw (e, f) refl
+
+small_sector : (kind : DriveKind) (sector : ℕ) → sector < sectors_of kind → sector < 256
+small_sector kind sector lt = let few = (sizes_small kind).2 in omega arith
+
+pub unrefused : (d : DriveState) → is_addressed d ≡ true → on (not (is_addressed d)) bits.invalid_address_error ≡ 0
+unrefused d is = ap (λ b. on (not b) bits.invalid_address_error) is
+
+-- the registers name a sector of the drive
+pub is_addressed-addressed : (d : DriveState) (place : Place) → IsInside d.kind place → is_addressed (addressed place d) ≡ true
+is_addressed-addressed d place inside = tests_true _ _ _
+    ((Decides-ltb place.cylinder (cylinders_of d.kind)).1 inside.cylinder)
+    ((Decides-ltb (track_in (track_and_sector place)) (tracks_of d.kind)).1
+    (subst (λ k. k < tracks_of d.kind) (sym (div-mul-add place.track 256 place.sector (small_sector d.kind place.sector inside.sector))) inside.track))
+    ((Decides-ltb (sector_in (track_and_sector place)) (sectors_of d.kind)).1
+    (subst (λ k. k < sectors_of d.kind) (sym (mod-mul-add place.track 256 place.sector (small_sector d.kind place.sector inside.sector))) inside.sector))
+
+-- a cylinder of the drive is a place of it too, on the track and the sector of before
+pub seeks_address : (d : DriveState) (cylinder : ℕ) → cylinder < cylinders_of d.kind → is_addressed d ≡ true
+    → is_addressed (with_register register.Dc cylinder d) ≡ true
+seeks_address d cylinder lt is =
+    both (nat_lt cylinder (cylinders_of d.kind)) (nat_lt (track_in d.da) (tracks_of d.kind) && nat_lt (sector_in d.da) (sectors_of d.kind))
+    ((Decides-ltb cylinder (cylinders_of d.kind)).1 lt) (tests_in (nat_lt d.dc (cylinders_of d.kind)) _ is)
+  where
+    both : (x y : Bool) → x ≡ true → y ≡ true → x && y ≡ true
+    both x y e f = rw (e, f) refl
+
+pub performed-search : (d : DriveState) (place : Place) → IsInside d.kind place → performed function.Search (addressed place d)
+    ≡ record d { cs1 = function_code function.Search; dc = place.cylinder; da = track_and_sector place; work = work.Positioning place.cylinder (Some place.sector) }
+performed-search d place inside =
+    performed_as function.Search (addressed place d) (unrefused (addressed place d) (is_addressed-addressed d place inside))
+    ∙ ap (λ k. record d {
+      cs1 = function_code function.Search;
+      dc = place.cylinder;
+      da = track_and_sector place;
+      work = work.Positioning place.cylinder (Some k);
+    }) (mod-mul-add place.track 256 place.sector (small_sector d.kind place.sector inside.sector))
+
+pub performed-seek : (d : DriveState) (cylinder : ℕ) → cylinder < cylinders_of d.kind → is_addressed d ≡ true
+    → performed function.Seek (with_register register.Dc cylinder d)
+    ≡ record d { cs1 = function_code function.Seek; dc = cylinder; work = work.Positioning cylinder None }
+performed-seek d cylinder lt is =
+    performed_as function.Seek (with_register register.Dc cylinder d)
+    (unrefused (with_register register.Dc cylinder d) (seeks_address d cylinder lt is))
+
+pub performed-transfer : (write : Bool) (d : DriveState) (place : Place) → IsInside d.kind place → write && d.locked ≡ false
+    → performed (transfer_function write) (addressed place d)
+    ≡ record d { cs1 = function_code (transfer_function write); dc = place.cylinder; da = track_and_sector place; work = work.Transfer write }
+performed-transfer false d place inside free =
+    performed_as function.Read (addressed place d) (unrefused (addressed place d) (is_addressed-addressed d place inside))
+performed-transfer true d place inside free =
+    performed_as function.Write (addressed place d) (no_bits _ _ _ _ (is_addressed-addressed d place inside) free)
+
+-- WHAT STAYS where neither the heads nor the registers of places change
+pub drive_as : (d : DriveState) (cs1 er1 er2 ec1 ec2 : ℕ) (does : Work) (attention : Bool) (armed : Armed) → IsDrive d
+    → IsDrive (record d { cs1 = cs1; er1 = er1; er2 = er2; ec1 = ec1; ec2 = ec2; work = does; attention = attention; armed = armed })
+drive_as d cs1 er1 er2 ec1 ec2 does attention armed is = record {
+  cylinder = is.cylinder;
+  look = is.look;
+  look_ahead = is.look_ahead;
+  sector = is.sector;
+  address = is.address;
+  code = is.code;
+  offset = is.offset;
+  valid = is.valid;
+}
+
+-- its registers of places say another place of it
+pub drive_at : (d : DriveState) (place : Place) (cs1 : ℕ) (does : Work) → IsInside d.kind place → IsDrive d
+    → IsDrive (record d { cs1 = cs1; dc = place.cylinder; da = track_and_sector place; work = does })
+drive_at d place cs1 does inside is = record {
+  cylinder = is.cylinder;
+  look = is.look;
+  look_ahead = is.look_ahead;
+  sector = is.sector;
+  address = is_addressed-addressed d place inside;
+  code = is.code;
+  offset = is.offset;
+  valid = is.valid;
+}
+
+-- FUNCTIONS
+pub drive_search : (d : DriveState) (place : Place) → IsInside d.kind place → IsDrive d → IsDrive (performed function.Search (addressed place d))
+drive_search d place inside is =
+    subst IsDrive (sym (performed-search d place inside))
+    (drive_at d place (function_code function.Search) (work.Positioning place.cylinder (Some place.sector)) inside is)
+
+pub drive_transfer : (write : Bool) (d : DriveState) (place : Place) → IsInside d.kind place → write && d.locked ≡ false → IsDrive d
+    → IsDrive (performed (transfer_function write) (addressed place d))
+drive_transfer write d place inside free is =
+    subst IsDrive (sym (performed-transfer write d place inside free))
+    (drive_at d place (function_code (transfer_function write)) (work.Transfer write) inside is)
+
+pub drive_seek : (d : DriveState) (cylinder : ℕ) → cylinder < cylinders_of d.kind → IsDrive d
+    → IsDrive (performed function.Seek (with_register register.Dc cylinder d))
+drive_seek d cylinder lt is =
+    subst IsDrive (sym (performed-seek d cylinder lt is.address)) (record {
+      cylinder = is.cylinder;
+      look = is.look;
+      look_ahead = is.look_ahead;
+      sector = is.sector;
+      address = seeks_address d cylinder lt is.address;
+      code = is.code;
+      offset = is.offset;
+      valid = is.valid;
+    })
+
+pub drive_recal : (d : DriveState) → IsDrive d → IsDrive (performed function.Recal d)
+drive_recal d is = drive_as d _ _ _ _ _ _ _ _ is
+
+pub drive_clear : (d : DriveState) → IsDrive d → IsDrive (performed function.Clear d)
+drive_clear d is = drive_as d _ _ _ _ _ _ _ _ is
+
+pub drive_pack : (d : DriveState) → d.online ≡ true → IsDrive d → IsDrive (performed function.Pack d)
+drive_pack d online is = record {
+  cylinder = is.cylinder;
+  look = is.look;
+  look_ahead = is.look_ahead;
+  sector = is.sector;
+  address = is.address;
+  code = is.code;
+  offset = is.offset;
+  valid = λ e. online;
+}
+
+pub drive_centred : (d : DriveState) → IsDrive d → IsDrive (centred d)
+drive_centred d is = record {
+  cylinder = is.cylinder;
+  look = is.look;
+  look_ahead = is.look_ahead;
+  sector = is.sector;
+  address = is.address;
+  code = None;
+  offset = refl;
+  valid = is.valid;
+}
+
+word_sum : (c : OffsetCode) → bit_or bits.sixteen_bit_format (offset_code c) ≡ bits.sixteen_bit_format + code_word (Some c)
+word_sum code.Plus400 = refl
+word_sum code.Minus400 = refl
+word_sum code.Plus800 = refl
+word_sum code.Minus800 = refl
+word_sum code.Plus1200 = refl
+word_sum code.Minus1200 = refl
+
+pub drive_offset : (d : DriveState) (c : OffsetCode) → IsDrive d → IsDrive (performed function.Offset (offset_written (offset_code c) d))
+drive_offset d c is = record {
+  cylinder = is.cylinder;
+  look = is.look;
+  look_ahead = is.look_ahead;
+  sector = is.sector;
+  address = is.address;
+  code = Some c;
+  offset = word_sum c;
+  valid = is.valid;
+}
+
+-- EVENTS
+pub drive_arrived : (k : Work) (d : DriveState) → IsGoal d.kind k → IsDrive d → IsDrive (arrived_from k d)
+drive_arrived work.Ready d goal is = absurd goal
+drive_arrived (work.Transfer write) d goal is = absurd goal
+drive_arrived (work.Positioning cylinder None) d goal is = record {
+  cylinder = goal;
+  look = is.look;
+  look_ahead = is.look_ahead;
+  sector = is.sector;
+  address = is.address;
+  code = is.code;
+  offset = is.offset;
+  valid = is.valid;
+}
+drive_arrived (work.Positioning cylinder (Some sector)) d goal is = record {
+  cylinder = goal.0;
+  look = sector;
+  look_ahead = refl;
+  sector = goal.1;
+  address = is.address;
+  code = is.code;
+  offset = is.offset;
+  valid = is.valid;
+}
+
+pub drive_attended : (d : DriveState) → IsDrive d → IsDrive (attention_cleared d)
+drive_attended d is = drive_as d _ _ _ _ _ _ _ _ is
+
+-- a block has passed: the registers name the next one, where there is one
+address_by : (b : Bool) (d : DriveState) (place : Place) → (b ≡ true → IsInside d.kind place) → is_addressed d ≡ true
+    → is_addressed (record d { dc = if b then place.cylinder else d.dc; da = if b then track_and_sector place else d.da }) ≡ true
+address_by true d place inside is = is_addressed-addressed d place (inside refl)
+address_by false d place inside is = is
+
+pub drive_passed : (d : DriveState) (block : ℕ) → block < block_count d.kind → IsDrive d → IsDrive (passed block d)
+drive_passed d block lt is = record {
+  cylinder = (place_inside d.kind block lt).cylinder;
+  look = ((place_at d.kind block).sector + 1) % sectors_of d.kind;
+  look_ahead = refl;
+  sector = sector_below d.kind ((place_at d.kind block).sector + 1);
+  address = address_by (nat_lt (block + 1) (block_count d.kind)) d (place_at d.kind (block + 1))
+      (λ more. place_inside d.kind (block + 1) ((Decides-ltb (block + 1) (block_count d.kind)).0 more)) is.address;
+  code = is.code;
+  offset = is.offset;
+  valid = is.valid;
+}
+
+drive_marked : (kind : DriveKind) (d : DriveState) → IsDrive d → IsDrive (with_mark_bits kind d)
+drive_marked Rp06 d is = drive_as d _ _ _ _ _ _ _ _ is
+drive_marked Rm03 d is = drive_as d _ _ _ _ _ _ _ _ is
+drive_marked Rm05 d is = drive_as d _ _ _ _ _ _ _ _ is
+
+drive_faulted : (kind : FaultKind) (d : DriveState) → IsDrive d → IsDrive (with_fault_bits kind (fault_used kind d))
+drive_faulted fault.Seek d is = drive_as d _ _ _ _ _ _ _ _ is
+drive_faulted fault.Opi d is = drive_as d _ _ _ _ _ _ _ _ is
+drive_faulted fault.Dte d is = drive_as d _ _ _ _ _ _ _ _ is
+drive_faulted fault.Hcrc d is = drive_as d _ _ _ _ _ _ _ _ is
+drive_faulted fault.Late d is = drive_as d _ _ _ _ _ _ _ _ is
+
+drive_moved : (v : Moved) (block : ℕ) (d : DriveState) → block < block_count d.kind → IsDrive d → IsDrive (after_move v block d)
+drive_moved verdict.Clean block d lt is = drive_passed d block lt is
+drive_moved (verdict.Burst at pattern) block d lt is = drive_as (passed block d) _ _ _ _ _ _ _ _ (drive_passed d block lt is)
+drive_moved verdict.Hard block d lt is = drive_as (passed block d) _ _ _ _ _ _ _ _ (drive_passed d block lt is)
+drive_moved verdict.Marked block d lt is = drive_marked d.kind d is
+drive_moved (verdict.Faulted kind) block d lt is = drive_faulted kind d is
+drive_moved verdict.Offline block d lt is = drive_as d _ _ _ _ _ _ _ _ is
+
+-- what holds of both values of a choice holds of it
+pub by_if : {A : Type 0} (b : Bool) (P : A → Type 0) (x y : A) → P x → P y → P (if b then x else y)
+by_if true P x y h g = h
+by_if false P x y h g = g
+
+pub drive_after_step : (v : Moved) (a : AdapterState) (d : DriveState) → next_block a < block_count d.kind → IsDrive d → IsDrive (drive_stepped v a d)
+drive_after_step v a d lt is =
+    let moved : IsDrive (after_move v (next_block a) d) = drive_moved v (next_block a) d lt is in
+    by_if (stepped v a).completion IsDrive (transfer_ended (after_move v (next_block a) d)) (after_move v (next_block a) d)
+    (drive_as (after_move v (next_block a) d) _ _ _ _ _ _ _ _ moved) moved
+
+-- CONDITIONS
+pub drive_turned : (d : DriveState) (sector : ℕ) → sector < sectors_of d.kind → IsDrive d → IsDrive (turned sector d)
+drive_turned d sector lt is = record {
+  cylinder = is.cylinder;
+  look = sector;
+  look_ahead = refl;
+  sector = lt;
+  address = is.address;
+  code = is.code;
+  offset = is.offset;
+  valid = is.valid;
+}
+
+pub drive_armed : (d : DriveState) (kind : FaultKind) (times : ℕ) → IsDrive d → IsDrive (fault_armed kind times d)
+drive_armed d kind times is = drive_as d _ _ _ _ _ _ _ _ is
+
+pub drive_online : (d : DriveState) (is_on : Bool) → IsDrive d → IsDrive (online_set is_on d)
+drive_online d true is = record {
+  cylinder = is.cylinder;
+  look = is.look;
+  look_ahead = is.look_ahead;
+  sector = is.sector;
+  address = is.address;
+  code = is.code;
+  offset = is.offset;
+  valid = λ e. refl;
+}
+drive_online d false is = record {
+  cylinder = is.cylinder;
+  look = is.look;
+  look_ahead = is.look_ahead;
+  sector = is.sector;
+  address = is.address;
+  code = is.code;
+  offset = is.offset;
+  valid = λ e. absurd (grind (arith, e));
+}
+
+pub drive_locked : (d : DriveState) (is_on : Bool) → IsDrive d → IsDrive (locked_set is_on d)
+drive_locked d is_on is = record {
+  cylinder = is.cylinder;
+  look = is.look;
+  look_ahead = is.look_ahead;
+  sector = is.sector;
+  address = is.address;
+  code = is.code;
+  offset = is.offset;
+  valid = is.valid;
+}

@@ -1,9 +1,0 @@
-use Rattle.std.proofs.Common.{refl}
-use Rattle.hp_answers.proofs.Waiting.{taking_drops}
-use Rattle.hp_answers.proofs.taken_law.Goals as goal
-
-pub returns-clause-waiting : goal.returns-clause-waiting
-returns-clause-waiting c = taking_drops
-
-pub returns-clause-answers : goal.returns-clause-answers
-returns-clause-answers c = λ w. refl

@@ -1,5 +1,0 @@
-use Rattle.hp_slots.proofs.EachAct.{answers_after}
-use Rattle.hp_slots.proofs.answers_law.Goals as goal
-
-pub returns : goal.returns
-returns c = record { are = answers_after }

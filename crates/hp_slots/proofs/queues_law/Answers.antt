@@ -1,5 +1,0 @@
-use Rattle.hp_slots.proofs.EachAct.{queues_after}
-use Rattle.hp_slots.proofs.queues_law.Goals as goal
-
-pub returns : goal.returns
-returns c = record { served = queues_after }
