@@ -12,6 +12,7 @@ use Rattle.trace_replay.specs.Conditions.{online_behind, locked_behind}
 use Rattle.trace_replay.specs.Replay.{after_moments}
 use Rattle.trace_replay.specs.History.{is_refusal, lines_of}
 use Rattle.trace_replay.specs.Causes.{IsExplained, IsOk}
+use Rattle.trace_replay.specs.Bounds.{AreClean, transfers_in, searches_in}
 use Rattle.trace_replay.specs.Runs.{IsLegalRun, start_of}
 use Rattle.trace_work.specs.Grounds.{IsAskedAt, WasOffline, WasPlayed, ArmsFault, ArmsShownNoise}
 use Rattle.trace_bounds.specs.Commands.{commands_in}
@@ -60,6 +61,12 @@ pub record Promises (script : Script) (tables : ℕ → Option Table) (old new :
       → is_refusal answer ≡ false → commands_in (lines_of unit before) ≤ 300 * (in_hand ((after_moments (start_of script tables old) before).units unit).service).count
   pub drains : (before drained after : List Moment) → moments ≡ before ++ (drained ++ after) → played drained ≡ []
       → events_in drained ≤ 200 * blocks_outstanding (after_moments (start_of script tables old) before)
+  -- each event of a drain has at least one of these lines: where one event is over and the next has begun, nothing else comes
+  pub events : (moment : Moment) (before after : List Moment) → moments ≡ before ++ moment ∷ after
+      → (after_moments (start_of script tables old) before).event.between ≡ true → events_in (moment ∷ []) ≡ 1
+  -- a request that is answered ok and met nothing but clean sectors took one transfer command, and at most one search
+  pub undisturbed : (line unit id : ℕ) (answer : Answer) (before after : List Moment) → moments ≡ before ++ Told line unit id (End answer) ∷ after
+      → IsOk answer → AreClean (lines_of unit before) → (transfers_in (lines_of unit before) ≡ 1) × (searches_in (lines_of unit before) ≤ 1)
   -- what is no home of a data block, each mark and each other pack stays
   pub rest : RestStays script tables old new
   -- no other trace is a legal run of this script over these packs

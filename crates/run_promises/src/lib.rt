@@ -12,7 +12,7 @@ ghost use Rattle.run_promises.specs.Promises.{Promises};
 
 use block_machine::{answers_law, last_write_law, once_law, packs_law, refusals_law};
 use trace_bounds::{commands_law, drain_law};
-use trace_replay::{cause_law, one_trace_law};
+use trace_replay::{bounds_law, cause_law, one_trace_law};
 use trace_work::told_causes_law;
 
 /// The law of the headline: all that is promised holds of each legal run.
@@ -29,5 +29,6 @@ pub fn promises_law()
     told_causes_law();
     commands_law();
     drain_law();
+    bounds_law();
     one_trace_law();
 }

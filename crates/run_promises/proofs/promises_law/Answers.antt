@@ -1,9 +1,13 @@
-use Rattle.std.proofs.Common.{◌≡◌, ℕ, List, Option, subst}
+use Rattle.std.proofs.Common.{◌≡◌, ℕ, List, [], ◌∷◌, ◌++◌, Option, subst}
 use Rattle.pack_model.specs.Pack.{Pack}
 use Rattle.pack_model.specs.TableSpelling.{Table}
-use Rattle.trace_replay.specs.Moments.{Moment}
-use Rattle.trace_replay.specs.Script.{Script}
-use Rattle.trace_replay.specs.Runs.{IsLegalRun}
+use Rattle.trace_replay.specs.Moments.{Moment, Told, End}
+use Rattle.trace_replay.specs.Script.{Script, drives_of}
+use Rattle.trace_replay.specs.Packs.{surface_of}
+use Rattle.trace_replay.specs.Replay.{Follows, after_moments}
+use Rattle.trace_replay.proofs.Following.{follow_on}
+use Rattle.trace_work.proofs.Asking.{run_asks}
+use Rattle.trace_replay.specs.Runs.{IsLegalRun, start_of}
 use Rattle.run_promises.proofs.Complete.{is_complete}
 use Rattle.run_promises.proofs.promises_law.Goals as goal
 
@@ -11,6 +15,17 @@ use Rattle.run_promises.proofs.promises_law.Goals as goal
 same : {script : Script} {tables : ℕ → Option Table} {old new : ℕ → Pack} {moments parts : List Moment} → IsLegalRun script tables old new moments → moments ≡ parts
     → IsLegalRun script tables old new parts
 same {script = script} {tables = tables} {old = old} {new = new} run e = subst (λ (ms : List Moment). IsLegalRun script tables old new ms) e run
+
+-- what comes behind some moments follows
+fronts : {script : Script} {tables : ℕ → Option Table} {old new : ℕ → Pack} (before rest : List Moment) → IsLegalRun script tables old new (before ++ rest)
+    → Follows (start_of script tables old) before × Follows (after_moments (start_of script tables old) before) rest
+fronts {script = script} {tables = tables} {old = old} before rest run = (follow_on (start_of script tables old) before rest).0 run.trace.follows
+
+-- and so do they with the next one
+first_end : {script : Script} {tables : ℕ → Option Table} {old new : ℕ → Pack} (before after : List Moment) (moment : Moment) → IsLegalRun script tables old new (before ++ moment ∷ after)
+    → Follows (start_of script tables old) (before ++ moment ∷ [])
+first_end {script = script} {tables = tables} {old = old} before after moment run =
+    (follow_on (start_of script tables old) before (moment ∷ [])).1 ((fronts before (moment ∷ after) run).0, ((fronts before (moment ∷ after) run).1.0, tt))
 
 pub returns : goal.returns
 returns c script tables old new moments run = record {
@@ -35,6 +50,10 @@ returns c script tables old new moments run = record {
   }) script tables old new ahead between after at line r kind answer (same run e) there free;
   commands = λ line unit id answer before after e no. (c.commands_law.ensures.run script tables old new before after line unit id answer (same run e) no).0;
   drains = λ before drained after e none. c.drain_law.ensures.run script tables old new before drained after (same run e) none;
+  events = λ moment before after e between. c.drain_law.ensures.tells (drives_of script) tables (surface_of old) before moment (fronts before (moment ∷ after) (same run e)).0 between
+      (fronts before (moment ∷ after) (same run e)).1.0;
+  undisturbed = λ line unit id answer before after e ok clean. c.bounds_law.ensures (drives_of script) tables (surface_of old) before line unit id answer
+      (run_asks script tables old new before (Told line unit id (End answer) ∷ after) (same run e)) (first_end before after (Told line unit id (End answer)) (same run e)) ok clean;
   rest = c.packs_law.ensures script tables old new moments run;
   only = λ other others is. c.one_trace_law.ensures.run script tables old other new others moments is run;
 }
