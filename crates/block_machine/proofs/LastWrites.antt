@@ -22,7 +22,7 @@ use Rattle.block_machine.specs.Laws.{HasLegalAnswers, ArePassedOn, WritesArePass
 use Rattle.block_machine.proofs.Runs.{answers_are_legal, all_answers_are_legal, script_ids}
 
 -- ---- each outstanding request is the one that the inputs ask for under its id
-abbrev AllAsked : List Numbered → List Request → Type 0
+abbrev pub AllAsked : List Numbered → List Request → Type 0
 AllAsked all rs = AllByRecursion (λ (r : Request). asked_in r.id all ≡ Some r) rs
 
 asked_left : (all : List Numbered) (gone : ℕ) (rs : List Request) → AllAsked all rs → AllAsked all (without gone rs)
@@ -33,7 +33,7 @@ asked_left all gone (r ∷ rs) are = at (r.id == gone) (asked_left all gone rs a
     at true later = are.1
     at false later = (are.0, later)
 
-found_asked : (all : List Numbered) (id : ℕ) (rs : List Request) (r : Request) → AllAsked all rs → request_of id rs ≡ Some r → asked_in id all ≡ Some r
+pub found_asked : (all : List Numbered) (id : ℕ) (rs : List Request) (r : Request) → AllAsked all rs → request_of id rs ≡ Some r → asked_in id all ≡ Some r
 found_asked all id [] r are is = absurd (none-some r is)
 found_asked all id (x ∷ rs) r are is = elim (eqb_tells x.id id) [
   | inl same ↦ ap (λ z. asked_in z all) (sym same.1) ∙ are.0 ∙ rw same.0 at is
@@ -60,10 +60,10 @@ gives_it drives claims m r line EndOfPartition may = absurd may
 gives_it drives claims m r line NoFrames may = absurd may
 
 -- ---- answers one after another
-record Left (drives : ℕ → Option DriveKind) (claims : (line : ℕ) → Request → Type 0) (all : List Numbered) (m : Machine) (answers : List Answered) (new : Machine) : Type 0 where
-  reads : EachGives drives claims all m.blocks answers
-  blocks : new.blocks ≡ left_behind drives all m.blocks answers
-  asked : AllAsked all new.outstanding
+pub record Left (drives : ℕ → Option DriveKind) (claims : (line : ℕ) → Request → Type 0) (all : List Numbered) (m : Machine) (answers : List Answered) (new : Machine) : Type 0 where
+  pub reads : EachGives drives claims all m.blocks answers
+  pub blocks : new.blocks ≡ left_behind drives all m.blocks answers
+  pub asked : AllAsked all new.outstanding
 
 steps_left : (drives : ℕ → Option DriveKind) (claims : (line : ℕ) → Request → Type 0) (all : List Numbered) (line : ℕ) (m : Machine) (answers : List Answered) (new : Machine) → AllAsked all m.outstanding
     → Steps drives claims line m answers new → Left drives claims all m answers new
@@ -91,7 +91,7 @@ steps_left drives claims all line m (a ∷ answers) new are steps =
     }
 
 -- ---- a refusal changes nothing
-refusal_left : (drives : ℕ → Option DriveKind) (asked : Option Request) (why : Rejection) (blocks : ℕ → Blocks) → left_by drives asked (rejection_answer why) blocks ≡ blocks
+pub refusal_left : (drives : ℕ → Option DriveKind) (asked : Option Request) (why : Rejection) (blocks : ℕ → Blocks) → left_by drives asked (rejection_answer why) blocks ≡ blocks
 refusal_left drives None why blocks = refl
 refusal_left drives (Some r) AtEnd blocks = refl
 refusal_left drives (Some r) Beyond blocks = refl
@@ -105,7 +105,7 @@ refusal_gives drives claims (Some r) AtEnd blocks line = tt
 refusal_gives drives claims (Some r) Beyond blocks line = tt
 refusal_gives drives claims (Some r) FramesShort blocks line = tt
 
-abbrev IsAskedAs : List Numbered → Input → Type 0
+abbrev pub IsAskedAs : List Numbered → Input → Type 0
 IsAskedAs all (Submit r) = asked_in r.id all ≡ Some r
 IsAskedAs all input = Unit {0}
 
@@ -132,7 +132,7 @@ input_left drives claims all line m (SetOnline u on) are is = record { reads = t
 input_left drives claims all line m (SetLocked u on) are is = record { reads = tt; blocks = refl; asked = are }
 
 -- ---- some answers and then others
-left_join : (drives : ℕ → Option DriveKind) (all : List Numbered) (blocks : ℕ → Blocks) (xs ys : List Answered) → left_behind drives all blocks (xs ++ ys) ≡ left_behind drives all (left_behind drives all blocks xs) ys
+pub left_join : (drives : ℕ → Option DriveKind) (all : List Numbered) (blocks : ℕ → Blocks) (xs ys : List Answered) → left_behind drives all blocks (xs ++ ys) ≡ left_behind drives all (left_behind drives all blocks xs) ys
 left_join drives all blocks [] ys = refl
 left_join drives all blocks (x ∷ xs) ys = left_join drives all (left_by drives (asked_in x.id all) x.answer blocks) xs ys
 
@@ -149,7 +149,7 @@ joined_left drives claims all m xs mid ys new one two = record {
   asked = two.asked;
 }
 
-answers_left : (drives : ℕ → Option DriveKind) (claims : (line : ℕ) → Request → Type 0) (all : List Numbered) (m : Machine) (inputs : List Numbered) (answers : List Answered) (new : Machine) → AllAsked all m.outstanding
+pub answers_left : (drives : ℕ → Option DriveKind) (claims : (line : ℕ) → Request → Type 0) (all : List Numbered) (m : Machine) (inputs : List Numbered) (answers : List Answered) (new : Machine) → AllAsked all m.outstanding
     → AllByRecursion (λ (n : Numbered). IsAskedAs all n.input) inputs → AnswersTo drives claims m inputs answers new → Left drives claims all m answers new
 answers_left drives claims all m [] answers new are asked is =
     subst (λ z. Left drives claims all m z new) (sym is.0) (record { reads = tt; blocks = ap (λ (z : Machine). z.blocks) is.1; asked = subst (λ (z : Machine). AllAsked all z.outstanding) (sym is.1) are })
@@ -201,7 +201,7 @@ itself_asked r line ns = elim (eqb_tells r.id r.id) [
   | inr other ↦ absurd (other.1 refl)
 ]
 
-with_asked_all : (line : ℕ) (input : Input) (ns : List Numbered) → AreApart (with_asked input (ids_asked ns)) → AllByRecursion (λ (n : Numbered). IsAskedAs ns n.input) ns
+pub with_asked_all : (line : ℕ) (input : Input) (ns : List Numbered) → AreApart (with_asked input (ids_asked ns)) → AllByRecursion (λ (n : Numbered). IsAskedAs ns n.input) ns
     → AllByRecursion (λ (n : Numbered). IsAskedAs (record { line = line; input = input } ∷ ns) n.input) (record { line = line; input = input } ∷ ns)
 with_asked_all line (Submit r) ns apart all = (itself_asked r line ns, others_asked r line ns ns apart.0 all)
 with_asked_all line (ArriveAt u) ns apart all = (tt, all)
@@ -214,7 +214,7 @@ with_asked_all line (Arm u k n) ns apart all = (tt, all)
 with_asked_all line (SetOnline u on) ns apart all = (tt, all)
 with_asked_all line (SetLocked u on) ns apart all = (tt, all)
 
-rest_apart : (input : Input) (ids : List ℕ) → AreApart (with_asked input ids) → AreApart ids
+pub rest_apart : (input : Input) (ids : List ℕ) → AreApart (with_asked input ids) → AreApart ids
 rest_apart (Submit r) ids apart = apart.1
 rest_apart (ArriveAt u) ids apart = apart
 rest_apart (MoveAt a) ids apart = apart
@@ -226,7 +226,7 @@ rest_apart (Arm u k n) ids apart = apart
 rest_apart (SetOnline u on) ids apart = apart
 rest_apart (SetLocked u on) ids apart = apart
 
-each_asked : (ns : List Numbered) → AreApart (ids_asked ns) → AllByRecursion (λ (n : Numbered). IsAskedAs ns n.input) ns
+pub each_asked : (ns : List Numbered) → AreApart (ids_asked ns) → AllByRecursion (λ (n : Numbered). IsAskedAs ns n.input) ns
 each_asked [] apart = tt
 each_asked (n ∷ ns) apart = with_asked_all n.line n.input ns apart (each_asked ns (rest_apart n.input (ids_asked ns) apart))
 

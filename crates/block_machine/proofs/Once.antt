@@ -1,5 +1,5 @@
 -- Each id is answered as often as it is asked for.
-use Rattle.std.proofs.Common.{◌≡◌, inl, inr, ℕ, zero, suc, ◌+◌, ◌==◌, ◌||◌, Bool, true, false, List, [], ◌∷◌, ◌++◌, Option, Some, refl, sym, ap, ◌∙◌, subst, arith}
+use Rattle.std.proofs.Common.{◌≡◌, inl, inr, ℕ, zero, suc, ◌≤◌, ◌+◌, ◌==◌, ◌||◌, Bool, true, false, List, [], ◌∷◌, ◌++◌, Option, Some, refl, sym, ap, ◌∙◌, subst, arith}
 use Rattle.std.specs.Prelude.{if◌then◌else◌, Contains}
 use Rattle.std.specs.List.{list_any}
 use Rattle.std.proofs.lemmas.Option.{none-some}
@@ -23,6 +23,10 @@ pub times_out : ℕ → List Request → ℕ
 times_out id [] = 0
 times_out id (r ∷ rs) = (if r.id == id then 1 else 0) + times_out id rs
 
+pub nothing_out : (id : ℕ) → times_out id [] ≡ 0
+unfolding times_out
+nothing_out id = refl
+
 move_out : (a b c d : ℕ) → b ≡ c + d → a + b ≡ c + (a + d)
 move_out a b c d e = omega (arith, e)
 
@@ -36,7 +40,7 @@ left_out id gone (x ∷ rs) r is = elim (eqb_tells x.id gone) [
 ]
 
 -- answers one after another
-answered_append : (id : ℕ) (xs ys : List Answered) → times_answered id (xs ++ ys) ≡ times_answered id xs + times_answered id ys
+pub answered_append : (id : ℕ) (xs ys : List Answered) → times_answered id (xs ++ ys) ≡ times_answered id xs + times_answered id ys
 answered_append id [] ys = none (times_answered id ys)
   where
     none : (n : ℕ) → n ≡ 0 + n
@@ -127,6 +131,31 @@ apart_once id (other ∷ ids) apart (suc k, lt, e) = elim (eqb_tells other id) [
   where
     one_zero : (n : ℕ) → n ≡ 1 → n ≡ 0 → ⊥
     one_zero n a b = omega (arith, a, b)
+
+-- ids that are apart stand once at most
+pub once_among : (id : ℕ) (ids : List ℕ) → AreApart ids → times_among id ids ≤ 1
+unfolding times_among
+once_among id [] apart = omega arith
+once_among id (other ∷ ids) apart = elim (eqb_tells other id) [
+  | inl same ↦ rw same.0 (one (times_among id ids) (none_among id ids (subst (λ z. list_any (λ x. x == z) ids ≡ false) same.1 apart.0)))
+  | inr differ ↦ rw differ.0 (more (times_among id ids) (once_among id ids apart.1))
+]
+  where
+    one : (n : ℕ) → n ≡ 0 → 1 + n ≤ 1
+    one n e = omega (arith, e)
+
+    more : (n : ℕ) → n ≤ 1 → 0 + n ≤ 1
+    more n e = omega (arith, e)
+
+-- what is listed is outstanding once at least
+pub listed_out : (id : ℕ) (rs : List Request) (r : Request) → request_of id rs ≡ Some r → 1 ≤ times_out id rs
+listed_out id rs r is = subst (λ z. 1 ≤ z) (sym (left_out id id rs r is)) (elim (eqb_tells id id) [
+  | inl same ↦ rw same.0 (some (times_out id (without id rs)))
+  | inr differ ↦ absurd (differ.1 refl)
+])
+  where
+    some : (n : ℕ) → 1 ≤ 1 + n
+    some n = omega arith
 
 pub not_among : (id : ℕ) (ids : List ℕ) → ¬ (Contains ids id) → times_among id ids ≡ 0
 unfolding times_among

@@ -17,7 +17,7 @@ use Rattle.pack_model.proofs.PackTableLaws.{table_room, table_same}
 use Rattle.hardware_table.specs.Noise.{LiveNoise}
 use Rattle.subsystem_spec.specs.ServiceOrder.{Waiting as Waiter}
 use Rattle.subsystem_spec.specs.Requests.{Request, first_block}
-use Rattle.trace_replay.specs.Script.{Input, Submit, ArriveAt, MoveAt, AttendTo, Drain, Turn, Noise, Arm, SetOnline, SetLocked, Numbered, Script, Line, Statement, Declares, Plays, with_input, inputs_before, inputs_of, drives_of, with_id, ids_of, IsInput, IsStatement, AreApart}
+use Rattle.trace_replay.specs.Script.{IsScript, Input, Submit, ArriveAt, MoveAt, AttendTo, Drain, Turn, Noise, Arm, SetOnline, SetLocked, Numbered, Script, Line, Statement, Declares, Plays, with_input, inputs_before, inputs_of, drives_of, with_id, ids_of, IsInput, IsStatement, AreApart}
 use Rattle.trace_replay.specs.Moments.{Moment, Played, Told, Idle, Answered, played, answers_in}
 use Rattle.trace_replay.specs.Service.{in_hand, first_waiting, request_or_none}
 use Rattle.trace_replay.specs.Replay.{after_moment, Replay, next_wish, Follows, after_moments}
@@ -149,6 +149,18 @@ each_line setup armed s m line input ms reached h follows none given new = recor
 abbrev SetupOf : Script → (ℕ → Option Table) → (ℕ → model.Pack) → Setup
 SetupOf script tables packs = record { drives = drives_of script; tables = tables; packs = packs }
 
+front_good : (drives : ℕ → Option DriveKind) (front rest : List Numbered) → AllGood drives (front ++ rest) → AllGood drives front
+unfolding AllGood
+front_good drives [] rest all = tt
+front_good drives (n ∷ front) rest all = (all.0, front_good drives front rest all.1)
+
+-- the first inputs of a script speak of what is there
+pub script_given : (script : Script) (ms : List Moment) (later : List Numbered) → IsScript script → inputs_of script ≡ played ms ++ later → AreGiven (drives_of script) ms
+unfolding AllGood
+script_given script ms later good is =
+    moments_good (drives_of script) ms (front_good (drives_of script) (played ms) later
+    (subst (AllGood (drives_of script)) is (lines_good (drives_of script) (record { line = script.count + 1; input = Drain } ∷ []) script.lines good.inputs (tt, tt))))
+
 pub run_given : (script : Script) (tables : ℕ → Option Table) (old new : ℕ → model.Pack) (ms : List Moment) → IsLegalRun script tables old new ms → AreGiven (drives_of script) ms
 unfolding AllGood
 run_given script tables old new ms run =
@@ -183,20 +195,20 @@ idle_is : (m : Machine) → m.outstanding ≡ [] → m ≡ idle m.blocks
 idle_is m none = ap (λ z. record { blocks = m.blocks; outstanding = z }) none
 
 -- the packs hold what the sectors did
-home_marks : (kind : DriveKind) (table : Option Table) (one other : model.Pack) (block : ℕ) → one.marks ≡ other.marks → home_of kind table one block ≡ home_of kind table other block
+pub home_marks : (kind : DriveKind) (table : Option Table) (one other : model.Pack) (block : ℕ) → one.marks ≡ other.marks → home_of kind table one block ≡ home_of kind table other block
 home_marks kind table one other block same = ap (λ ms. home_of kind table (record { image = other.image; marks = ms }) block) same
 
-left_at : (kind : DriveKind) (pack : model.Pack) (sectors : ℕ → List ℕ) (home : Option ℕ) → ((x : ℕ) → home ≡ Some x → model.block_at pack.image x ≡ sectors x) → bytes_at pack home ≡ held_at sectors home
+pub left_at : (kind : DriveKind) (pack : model.Pack) (sectors : ℕ → List ℕ) (home : Option ℕ) → ((x : ℕ) → home ≡ Some x → model.block_at pack.image x ≡ sectors x) → bytes_at pack home ≡ held_at sectors home
 left_at kind pack sectors None same = refl
 left_at kind pack sectors (Some x) same = ap Some (same x refl)
 
-room_at : (drive : Option DriveKind) (pack : model.Pack) (table : Option Table) (kind : DriveKind) → IsTableAt drive pack table → drive ≡ Some kind → length (places_of table) ≤ 126
+pub room_at : (drive : Option DriveKind) (pack : model.Pack) (table : Option Table) (kind : DriveKind) → IsTableAt drive pack table → drive ≡ Some kind → length (places_of table) ≤ 126
 room_at drive pack table kind is declared = at (subst (λ z. IsTableAt z pack table) declared is)
   where
     at : IsTableAt (Some kind) pack table → length (places_of table) ≤ 126
     at there = table_room kind pack table there
 
-below_count : (kind : DriveKind) (x : ℕ) → x < copy_at kind 0 → x < block_count kind
+pub below_count : (kind : DriveKind) (x : ℕ) → x < copy_at kind 0 → x < block_count kind
 below_count kind x below = small x (block_count kind) (sectors_of kind) below
   where
     small : (x all some : ℕ) → x < all - some + 2 * 0 → x < all

@@ -1,5 +1,5 @@
-//! What is promised of a run, in the words of its script, its packs and its answers, and that each legal run keeps it. The function here
-//! does nothing: it stands for the law.
+//! What is promised of a run, in the words of its script, its packs and its answers, and that each legal run keeps it; and what is
+//! promised of a run that was begun. The functions here do nothing: each stands for a law.
 #![tactic(auto)]
 
 ghost use Rattle.std.specs.Prelude.{ℕ, Option, List};
@@ -8,12 +8,13 @@ ghost use Rattle.pack_model.specs.TableSpelling.{Table};
 ghost use Rattle.trace_replay.specs.Moments.{Moment};
 ghost use Rattle.trace_replay.specs.Script.{Script};
 ghost use Rattle.trace_replay.specs.Runs.{IsLegalRun};
+ghost use Rattle.run_promises.specs.Beginnings.{BeginningsKeep};
 ghost use Rattle.run_promises.specs.Promises.{Promises};
 
-use block_machine::{answers_law, last_write_law, once_law, packs_law, refusals_law};
+use block_machine::{answers_law, last_write_law, once_law, packs_law, refusals_law, step_law};
 use trace_bounds::{commands_law, drain_law};
 use trace_replay::{bounds_law, cause_law, one_trace_law};
-use trace_work::told_causes_law;
+use trace_work::{consistent_law, told_causes_law};
 
 /// The law of the headline: all that is promised holds of each legal run.
 pub fn promises_law()
@@ -31,4 +32,14 @@ pub fn promises_law()
     drain_law();
     bounds_law();
     one_trace_law();
+}
+
+/// The law of a run that was begun, however it goes on: its answers so far are legal and have their causes, and where the packs are left
+/// as the replay has them, each data block holds what the answered writes left, but for the first blocks of one request of each unit.
+pub fn beginnings_law()
+    ensures { BeginningsKeep }
+{
+    step_law();
+    consistent_law();
+    cause_law();
 }

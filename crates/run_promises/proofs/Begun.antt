@@ -1,0 +1,286 @@
+-- What is promised of a run that was begun.
+use Rattle.std.proofs.Common.{◌≡◌, inl, inr, ◌⊎◌, ℕ, zero, suc, ◌<◌, ◌≤◌, ◌+◌, ◌==◌, ◌&&◌, ◌||◌, Bool, true, false, List, [], ◌∷◌, ◌++◌, Option, Some, refl, sym, ap, ◌∙◌, subst, arith}
+use Rattle.std.specs.Prelude.{unwrap_or}
+use Rattle.pack_geometry.specs.declared.DriveKind.TheVariants.{Rp06}
+use Rattle.std.specs.List.{list_any}
+use Rattle.pack_geometry.specs.declared.DriveKind.{DriveKind}
+use Rattle.pack_geometry.specs.Geometry.{limit_of}
+use Rattle.pack_model.specs.Pack as model
+use Rattle.pack_model.specs.TableSpelling.{Table}
+use Rattle.pack_model.specs.Homes.{content_at, contents_of, home_of}
+use Rattle.pack_model.specs.Content.{bytes_at}
+use Rattle.pack_model.proofs.HomeLaws.{home_below}
+use Rattle.hardware_table.specs.declared.Moved.{Moved}
+use Rattle.hardware_table.specs.declared.Moved.TheVariants as verdict
+use Rattle.subsystem_spec.specs.Requests.{Request, Answer, ReadOk, WriteOk, OutsidePartition, EndOfPartition, NoFrames, Failed, first_block}
+use Rattle.subsystem_spec.specs.ServiceOrder.{Waiting as Waiter}
+use Rattle.trace_replay.specs.Script.{Input, Submit, ArriveAt, MoveAt, AttendTo, Drain, Turn, Noise, Arm, SetOnline, SetLocked, Script, Numbered, drives_of, AreApart}
+use Rattle.trace_replay.specs.Moments.{Deed, Moment, Played, Told, Idle, End, Answered, played, answers_in}
+use Rattle.trace_replay.specs.Service.{in_hand, first_waiting, request_or_none}
+use Rattle.trace_replay.specs.Conversation.{Hand, Segment, Stage, Waiting, Steps, UnderWay, AtOnce, Moving, Saying, Ending, is_waiting, Progress, not_begun}
+use Rattle.trace_replay.specs.Events.{Wish, NoLine, DueLine, Arrival, SectorLine, Interrupt, Attention, Refusal, IdleLine}
+use Rattle.trace_replay.specs.Replay.{Replay, UnitSeen, hand_of, next_wish, Follows, AreLeft, after_moments}
+use Rattle.trace_replay.specs.Runs.{start_of}
+use Rattle.trace_replay.specs.Causes.{AskSome, IsExplained, AreExplained}
+use Rattle.trace_replay.specs.Packs.{surface_of}
+use Rattle.trace_replay.specs.History.{is_refusal, lines_of}
+use Rattle.trace_replay.proofs.Following.{follow_on}
+use Rattle.trace_replay.proofs.Histories.{Fits, Open, Stopped, said_onto, CleanFits, MoveFits, EndFits}
+use Rattle.trace_replay.proofs.Kept.{IsHeld}
+use Rattle.trace_work.specs.Consistent.{IsAlwaysConsistent, are_behind_interrupt, follows_lines, is_well_said}
+use Rattle.block_machine.specs.Machine.{Blocks, idle, blocks_done, request_of}
+use Rattle.block_machine.specs.LegalAnswers.{with_asked, ids_asked, unaliased, times_answered}
+use Rattle.block_machine.specs.LastWrites.{asked_in, left_behind}
+use Rattle.block_machine.specs.Stands.{Setup, AreGiven, QueueStands, held_at, owed_by, IsOutstanding}
+use Rattle.block_machine.specs.Laws.{EachBeginningStands, HasBegun}
+use Rattle.block_machine.proofs.Homes.{home_is}
+use Rattle.block_machine.proofs.Units.{Keeps}
+use Rattle.block_machine.proofs.Kept.{start_kept, input_asks}
+use Rattle.block_machine.proofs.Steps.{beginning_kept}
+use Rattle.block_machine.proofs.Once.{times_out, times_among, answers_count, answered_append, once_among, listed_out, nothing_out}
+use Rattle.block_machine.proofs.LastWrites.{Left, answers_left, each_asked, refusal_left, left_join, found_asked}
+use Rattle.block_machine.proofs.Runs.{home_marks, left_at, room_at, below_count, script_given, script_ids}
+use Rattle.run_promises.specs.Beginnings.{IsBegun, IsUnanswered, HoldsButOne, PromisesSoFar, BeginningsKeep}
+
+-- ---- what is done of a request in hand is some of it
+no : true ≡ false → ⊥
+no e = grind (arith, e)
+
+clean_few : (h : Hand) (segment : Segment) (left : ℕ) (lines : List Deed) → CleanFits h segment left lines → h.progress.done ≤ h.request.count
+clean_few h segment zero lines f = f.room
+clean_few h segment (suc n) lines f = some h.progress.done n h.request.count f.room
+  where
+    some : (a b c : ℕ) → a + suc b ≤ c → a ≤ c
+    some a b c e = omega (arith, e)
+
+stopped_few : (h : Hand) (segment : Segment) (v : Moved) (lines : List Deed) → Stopped h segment v lines → h.progress.done ≤ h.request.count
+stopped_few h segment v lines f = some h.progress.done f.left h.request.count f.open_before.room
+  where
+    some : (a b c : ℕ) → a + b ≤ c → a ≤ c
+    some a b c e = omega (arith, e)
+
+open_few : (h : Hand) (segment : Segment) (lines : List Deed) → Open h segment 1 lines → h.progress.done ≤ h.request.count
+open_few h segment lines f = some h.progress.done h.request.count f.room
+  where
+    some : (a c : ℕ) → a + 1 ≤ c → a ≤ c
+    some a c e = omega (arith, e)
+
+move_few : (h : Hand) (segment : Segment) (left : ℕ) (last : Moved) (lines : List Deed) → MoveFits h segment left last lines → h.progress.done ≤ h.request.count
+move_few h segment left verdict.Clean lines f = clean_few h segment left lines f
+move_few h segment left (verdict.Burst at pattern) lines f = stopped_few h segment (verdict.Burst at pattern) lines f
+move_few h segment left verdict.Hard lines f = stopped_few h segment verdict.Hard lines f
+move_few h segment left verdict.Marked lines f = stopped_few h segment verdict.Marked lines f
+move_few h segment left (verdict.Faulted kind) lines f = stopped_few h segment (verdict.Faulted kind) lines f
+move_few h segment left verdict.Offline lines f = stopped_few h segment verdict.Offline lines f
+
+end_few : (h : Hand) (answer : Answer) (lines : List Deed) → EndFits h answer lines → h.progress.done ≤ h.request.count
+end_few h (ReadOk bytes) lines f = f.whole.room
+end_few h WriteOk lines f = f.whole.room
+end_few h (Failed cause done) lines f = less h.progress.done h.request.count f.room
+  where
+    less : (a b : ℕ) → a < b → a ≤ b
+    less a b e = omega (arith, e)
+end_few h OutsidePartition lines f = absurd f
+end_few h EndOfPartition lines f = absurd f
+end_few h NoFrames lines f = absurd f
+
+next_few : (h : Hand) (stage : Stage) (lines : List Deed) → follows_lines stage ≡ true → Fits h stage lines → h.progress.done ≤ h.request.count
+next_few h (Steps left segment) lines is f = open_few h segment lines f
+next_few h (AtOnce segment) lines is f = open_few h segment lines f
+next_few h (Ending answer) lines is f = end_few h answer lines f
+next_few h Waiting lines is f = absurd (no (sym is))
+next_few h (UnderWay left segment) lines is f = absurd (no (sym is))
+next_few h (Moving segment left last) lines is f = absurd (no (sym is))
+next_few h (Saying rest next) lines is f = absurd (no (sym is))
+
+second : (a b : Bool) → a && b ≡ true → b ≡ true
+second true b e = e
+second false b e = absurd (no (sym e))
+
+done_few : (h : Hand) (stage : Stage) (lines : List Deed) → is_well_said stage ≡ true → is_waiting stage ≡ false → Fits h stage lines → h.progress.done ≤ h.request.count
+done_few h Waiting lines said held f = absurd (no held)
+done_few h (Steps left segment) lines said held f = open_few h segment lines f
+done_few h (UnderWay left segment) lines said held f = open_few h segment lines f
+done_few h (AtOnce segment) lines said held f = open_few h segment lines f
+done_few h (Moving segment left last) lines said held f = move_few h segment left last lines f
+done_few h (Saying [] next) lines said held f = absurd (no (sym said))
+done_few h (Saying (line ∷ rest) next) lines said held f = next_few h next (said_onto (line ∷ rest) lines) (second (are_behind_interrupt (line ∷ rest)) (follows_lines next) said) f.1
+done_few h (Ending answer) lines said held f = end_few h answer lines f
+
+-- ---- the front of a script's inputs
+given_ask : (drives : ℕ → Option DriveKind) (ms : List Moment) → AreGiven drives ms → AskSome ms
+given_ask drives [] given = tt
+given_ask drives (Played line input ∷ ms) given = (input_asks drives input given.0, given_ask drives ms given.1)
+given_ask drives (Told line unit id deed ∷ ms) given = given_ask drives ms given.1
+given_ask drives (Idle line ∷ ms) given = given_ask drives ms given.1
+
+given_front : (drives : ℕ → Option DriveKind) (ms ns : List Moment) → AreGiven drives (ms ++ ns) → AreGiven drives ms
+given_front drives [] ns given = tt
+given_front drives (m ∷ ms) ns given = (given.0, given_front drives ms ns given.1)
+
+apart_front : (ids more : List ℕ) → AreApart (ids ++ more) → AreApart ids
+apart_front [] more apart = tt
+apart_front (id ∷ ids) more apart = (none ids apart.0, apart_front ids more apart.1)
+  where
+    none : (xs : List ℕ) → list_any (λ other. other == id) (xs ++ more) ≡ false → list_any (λ other. other == id) xs ≡ false
+    none [] e = refl
+    none (x ∷ xs) e = at (x == id) (none xs) e
+      where
+        at : (b : Bool) → (list_any (λ other. other == id) (xs ++ more) ≡ false → list_any (λ other. other == id) xs ≡ false) → b || list_any (λ other. other == id) (xs ++ more) ≡ false → b || list_any (λ other. other == id) xs ≡ false
+        at true rest e = e
+        at false rest e = rest e
+
+ids_join : (xs ys : List Numbered) → ids_asked (xs ++ ys) ≡ ids_asked xs ++ ids_asked ys
+ids_join [] ys = refl
+ids_join (n ∷ xs) ys = one n.input (ids_asked xs) (ids_asked ys) (ids_asked (xs ++ ys)) (ids_join xs ys)
+  where
+    one : (input : Input) (ids more all : List ℕ) → all ≡ ids ++ more → with_asked input all ≡ with_asked input ids ++ more
+    one (Submit r) ids more all e = ap (λ z. r.id ∷ z) e
+    one (ArriveAt u) ids more all e = e
+    one (MoveAt a) ids more all e = e
+    one (AttendTo a) ids more all e = e
+    one Drain ids more all e = e
+    one (Turn u y) ids more all e = e
+    one (Noise n) ids more all e = e
+    one (Arm u k n) ids more all e = e
+    one (SetOnline u on) ids more all e = e
+    one (SetLocked u on) ids more all e = e
+
+-- a refusal that is owed leaves the map
+owed_left : (drives : ℕ → Option DriveKind) (all : List Numbered) (blocks : ℕ → Blocks) (wish : Wish) (line : ℕ) → left_behind drives all blocks (owed_by wish line) ≡ blocks
+owed_left drives all blocks (Refusal unit id why) line = refusal_left drives (asked_in id all) why blocks
+owed_left drives all blocks NoLine line = refl
+owed_left drives all blocks (DueLine u) line = refl
+owed_left drives all blocks (Arrival u) line = refl
+owed_left drives all blocks (SectorLine u) line = refl
+owed_left drives all blocks (Interrupt u) line = refl
+owed_left drives all blocks (Attention u) line = refl
+owed_left drives all blocks IdleLine line = refl
+
+-- ---- the laws that it follows from
+pub record Laws : Type 0 where
+  pub beginning : EachBeginningStands
+  pub consistent : IsAlwaysConsistent
+  pub explained : AreExplained
+
+module _ (laws : Laws) (script : Script) (tables : ℕ → Option Table) (old new : ℕ → model.Pack) (ms : List Moment) (begun : IsBegun script tables old ms)
+    (left : AreLeft (drives_of script) old new (after_moments (start_of script tables old) ms).surface) where
+  abbrev Of : Setup
+  Of = record { drives = drives_of script; tables = tables; packs = old }
+
+  abbrev Then : Replay
+  Then = after_moments (start_of script tables old) ms
+
+  given : AreGiven (drives_of script) ms
+  given = script_given script ms begun.later begun.good begun.inputs
+
+  apart : AreApart (ids_asked (played ms))
+  apart = apart_front (ids_asked (played ms)) (ids_asked begun.later)
+      (subst AreApart (sym (script_ids script) ∙ ap ids_asked begun.inputs ∙ ids_join (played ms) begun.later) begun.good.ids)
+
+  has : HasBegun Of ms
+  has = laws.beginning Of ms begun.tables_read given apart begun.follows
+
+  kept : Keeps Of Then
+  kept = beginning_kept Of (start_of script tables old) ms (start_kept Of) given begun.follows
+
+  abbrev Owed : List Answered
+  Owed = owed_by (next_wish Then) Then.event.line
+
+  answered : Left (drives_of script) (unaliased (drives_of script) tables old (played ms)) (played ms) (idle (contents_of (drives_of script) tables old)) (answers_in ms ++ Owed) has.machine
+  answered = answers_left (drives_of script) (unaliased (drives_of script) tables old (played ms)) (played ms) (idle (contents_of (drives_of script) tables old)) (played ms) (answers_in ms ++ Owed) has.machine tt
+      (each_asked (played ms) apart) has.answered
+
+  map_is : has.machine.blocks ≡ left_behind (drives_of script) (played ms) (contents_of (drives_of script) tables old) (answers_in ms)
+  map_is = answered.blocks ∙ left_join (drives_of script) (played ms) (contents_of (drives_of script) tables old) (answers_in ms) Owed
+      ∙ owed_left (drives_of script) (played ms) (left_behind (drives_of script) (played ms) (contents_of (drives_of script) tables old) (answers_in ms)) (next_wish Then) Then.event.line
+
+  -- a request that is outstanding is not answered
+  never : (r : Request) → request_of r.id has.machine.outstanding ≡ Some r → times_answered r.id (answers_in ms) ≡ 0
+  never r listed = none (times_answered r.id (answers_in ms)) (times_answered r.id Owed) (times_out r.id has.machine.outstanding) (times_among r.id (ids_asked (played ms))) (times_out r.id [])
+      (answers_count (drives_of script) (unaliased (drives_of script) tables old (played ms)) r.id (idle (contents_of (drives_of script) tables old)) (played ms) (answers_in ms ++ Owed) has.machine has.answered
+      ∙ ap (λ z. z + times_out r.id has.machine.outstanding) (answered_append r.id (answers_in ms) Owed))
+      (once_among r.id (ids_asked (played ms)) apart) (listed_out r.id has.machine.outstanding r listed) (nothing_out r.id)
+    where
+      none : (a b c d e : ℕ) → d + e ≡ a + b + c → d ≤ 1 → 1 ≤ c → e ≡ 0 → a ≡ 0
+      none a b c d e f g h i = omega (arith, f, g, h, i)
+
+  unanswered : (unit : ℕ) (r : Request) → IsOutstanding (drives_of script) unit has.machine.outstanding r → IsUnanswered (played ms) (answers_in ms) unit r
+  unanswered unit r is = record {
+    asked = found_asked (played ms) r.id has.machine.outstanding r answered.asked is.listed;
+    unit_is = is.unit_is;
+    never = never r is.listed;
+  }
+
+  -- ---- what a unit's pack holds
+  module _ (unit : ℕ) (kind : DriveKind) (declared : drives_of script unit ≡ Some kind) where
+    abbrev Unit : UnitSeen
+    Unit = Then.units unit
+
+    kind_is : Unit.drive.kind ≡ kind
+    kind_is = kept.kinds unit ∙ ap (λ z. unwrap_or z Rp06) declared
+
+    holds : (block : ℕ) → block < limit_of kind → contents_of (drives_of script) tables new unit block
+        ≡ blocks_done (left_behind (drives_of script) (played ms) (contents_of (drives_of script) tables old) (answers_in ms) unit) (first_block kind (in_hand Unit.service)) (in_hand Unit.service) Unit.progress.done block
+    holds block below =
+        ap (λ z. content_at z (tables unit) (new unit) block) declared
+        ∙ ap (bytes_at (new unit)) (home_marks kind (tables unit) (new unit) (old unit) block (left.marks unit))
+        ∙ left_at kind (new unit) (Then.surface.sector unit) (home_of kind (tables unit) (old unit) block)
+        (λ x home. left.sectors unit kind x declared (below_count kind x (home_below kind (tables unit) (old unit) block x 0 (room_at (drives_of script unit) (old unit) (tables unit) kind (begun.tables_read unit) declared) home)))
+        ∙ ap (held_at (Then.surface.sector unit)) (sym (home_is Of unit kind (tables unit) block declared refl))
+        ∙ (has.stands.units unit).hand.contents block
+        ∙ ap (λ z. blocks_done (has.machine.blocks unit) (first_block z (in_hand Unit.service)) (in_hand Unit.service) Unit.progress.done block) kind_is
+        ∙ ap (λ (z : ℕ → Blocks). blocks_done (z unit) (first_block kind (in_hand Unit.service)) (in_hand Unit.service) Unit.progress.done block) map_is
+
+    none_done : is_waiting Unit.stage ≡ true → Unit.progress.done ≡ 0
+    none_done waits = at (kept.fits unit).fresh
+      where
+        at : (Unit.progress ≡ not_begun) ⊎ (is_waiting Unit.stage ≡ false) → Unit.progress.done ≡ 0
+        at (inl begins) = ap (λ z. Progress.done z) begins
+        at (inr busy) = absurd (no (sym waits ∙ busy))
+
+    few : (waits : Bool) → is_waiting Unit.stage ≡ waits → Unit.progress.done ≤ (in_hand Unit.service).count
+    few true waits = subst (λ z. z ≤ (in_hand Unit.service).count) (sym (none_done waits)) (omega arith)
+    few false busy = done_few (hand_of Unit) Unit.stage (kept.lines unit) (((laws.consistent (drives_of script) tables (surface_of old) ms begun.follows).units unit).said) busy (kept.fits unit).fits
+
+    whose : (waits : Bool) → is_waiting Unit.stage ≡ waits → (Unit.progress.done ≡ 0) ⊎ IsUnanswered (played ms) (answers_in ms) unit (in_hand Unit.service)
+    whose true waits = inl (none_done waits)
+    whose false busy = inr (first Unit.service.waiting ((kept.fits unit).held busy) (has.stands.queues unit))
+      where
+        first : (waiting : List (Waiter Request)) → IsHeld waiting → QueueStands (drives_of script) unit has.machine.outstanding waiting → IsUnanswered (played ms) (answers_in ms) unit (request_or_none (first_waiting waiting))
+        first [] held q = absurd held
+        first (w ∷ rest) held q = unanswered unit w.request q.each.0
+
+    but_one : HoldsButOne (drives_of script) tables new (played ms) (answers_in ms) (left_behind (drives_of script) (played ms) (contents_of (drives_of script) tables old) (answers_in ms)) unit kind
+    but_one = record {
+      request = in_hand Unit.service;
+      done = Unit.progress.done;
+      few = few (is_waiting Unit.stage) refl;
+      whose = whose (is_waiting Unit.stage) refl;
+      holds = holds;
+    }
+
+  promised : PromisesSoFar script tables old new ms
+  promised = record {
+    owed = Owed;
+    machine = has.machine;
+    legal = has.answered;
+    explained = λ line unit id answer before after e no. explained line unit id answer before after e no;
+    held = λ unit kind declared. but_one unit kind declared;
+    sectors = λ unit sector kind declared below none. left.sectors unit kind sector declared below
+        ∙ has.stands.others unit sector (λ block home. none (record { block = block; at = sym (home_is Of unit kind (tables unit) block declared refl) ∙ home }));
+    marks = left.marks;
+    others = left.others;
+  }
+    where
+      explained : (line unit id : ℕ) (answer : Answer) (before after : List Moment) → ms ≡ before ++ Told line unit id (End answer) ∷ after
+          → is_refusal answer ≡ false → IsExplained ((after_moments (start_of script tables old) before).units unit) (lines_of unit before) answer
+      explained line unit id answer before after e no = laws.explained (drives_of script) tables (surface_of old) before line unit id answer
+          (given_ask (drives_of script) before (given_front (drives_of script) before (Told line unit id (End answer) ∷ after) (subst (AreGiven (drives_of script)) e given)))
+          ((follow_on (start_of script tables old) before (Told line unit id (End answer) ∷ [])).1 (parts.0, (parts.1.0, tt))) no
+        where
+          parts : Follows (start_of script tables old) before × Follows (after_moments (start_of script tables old) before) (Told line unit id (End answer) ∷ after)
+          parts = (follow_on (start_of script tables old) before (Told line unit id (End answer) ∷ after)).0 (subst (Follows (start_of script tables old)) e begun.follows)
+
+pub beginnings_keep : Laws → BeginningsKeep
+beginnings_keep laws script tables old new ms begun left = promised laws script tables old new ms begun left
