@@ -1,9 +1,20 @@
-use Rattle.run_promises.proofs.Begun.{beginnings_keep}
+use Rattle.run_promises.proofs.Begun.{beginnings_keep, next_blocks_keep}
+use Rattle.run_promises.proofs.Quiet.{quiet_moments_keep}
 use Rattle.run_promises.proofs.beginnings_law.Goals as goal
 
-pub returns : goal.returns
-returns c = beginnings_keep (record {
+pub returns-clause-begun : goal.returns-clause-begun
+returns-clause-begun c = beginnings_keep (record {
   beginning = c.step_law.ensures.beginning;
   consistent = c.consistent_law.ensures.always;
   explained = c.cause_law.ensures.explained;
 })
+
+pub returns-clause-next : goal.returns-clause-next
+returns-clause-next c = next_blocks_keep (record {
+  beginning = c.step_law.ensures.beginning;
+  consistent = c.consistent_law.ensures.always;
+  explained = c.cause_law.ensures.explained;
+})
+
+pub returns-clause-quiet : goal.returns-clause-quiet
+returns-clause-quiet c = quiet_moments_keep
