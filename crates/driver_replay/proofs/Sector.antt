@@ -368,7 +368,7 @@ segment_skip : (index : Option ℕ) (job : Job) (done : ℕ) → (engine.segment
 segment_skip None job done = refl
 segment_skip (Some i) job done = refl
 
-one_sector : (index : Option ℕ) (job : Job) (done moved count : ℕ) → moved < count → count ≡ (engine.segment_by index job done).count
+pub one_sector : (index : Option ℕ) (job : Job) (done moved count : ℕ) → moved < count → count ≡ (engine.segment_by index job done).count
     → (i : ℕ) → index ≡ Some i → moved ≡ 0
 one_sector None job done moved count less same i is = absurd (grind (arith, is))
 one_sector (Some j) job done moved count less same i is = omega (arith, less, same)

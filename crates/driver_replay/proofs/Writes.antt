@@ -26,7 +26,7 @@ cut_same size (suc n) [] is = rw (sym is) refl
 cut_same zero (suc n) (x ∷ xs) is = absurd (grind (arith, is))
 cut_same (suc size) (suc n) (x ∷ xs) is = ap (λ ys. x ∷ ys) (cut_same size n xs (grind (arith, is)))
 
-piece_at : (n k : ℕ) (bytes : List ℕ) → k < n → slice_index_or (pieces n bytes) k [] ≡ take 512 (drop (512 * k) bytes)
+pub piece_at : (n k : ℕ) (bytes : List ℕ) → k < n → slice_index_or (pieces n bytes) k [] ≡ take 512 (drop (512 * k) bytes)
 piece_at zero k bytes less = absurd (omega (arith, less))
 piece_at (suc n) zero bytes less = refl
 piece_at (suc n) (suc k) bytes less =
@@ -49,12 +49,12 @@ was_written_writes d last false is written = absurd (not_both (rw is (none last)
     none (verdict.Faulted kind) = refl
     none verdict.Offline = refl
 
-written_is : (o : Option (List ℕ)) → is_some o ≡ true → (bytes : List ℕ) × (o ≡ Some bytes)
+pub written_is : (o : Option (List ℕ)) → is_some o ≡ true → (bytes : List ℕ) × (o ≡ Some bytes)
 written_is None is = absurd (grind (arith, is))
 written_is (Some bytes) is = (bytes, refl)
 
 -- block k of the buffer, and what the replay writes for it
-sector_same : (r : Request) (bytes : List ℕ) (k size : ℕ) (block : List ℕ) → r.written ≡ Some bytes → size_of_block r k ≡ size
+pub sector_same : (r : Request) (bytes : List ℕ) (k size : ℕ) (block : List ℕ) → r.written ≡ Some bytes → size_of_block r k ≡ size
     → block ≡ take 512 (drop (512 * k) bytes) → length block ≡ size → sector_of_block r k ≡ take 512 (block ++ replicate 512 0)
 sector_same r bytes k size block written same is counted =
     let cut : take size (drop (512 * k) bytes) ≡ block = cut_same size 512 (drop (512 * k) bytes) (ap length (sym is) ∙ counted) ∙ sym is in

@@ -25,7 +25,7 @@ use Rattle.driver_runs.specs.Acts.{BeyondStays, OthersStay}
 use Rattle.driver_runs.proofs.Images.{block_beyond}
 
 -- HOW MANY BYTES IT GETS
-size_few : (loan : Loan) (k : ℕ) → IsLoan loan → size_at loan k ≤ 512
+pub size_few : (loan : Loan) (k : ℕ) → IsLoan loan → size_at loan k ≤ 512
 size_few loan k is = by_test (k + 1 == loan.count)
   where
     by_test : (b : Bool) → (if b then loan.last else 512) ≤ 512
@@ -64,7 +64,7 @@ is_inside w line u id block t sound allowed given = record {
 }
 
 -- BEHIND A PACK nothing is written.
-written_beyond : (held : ℕ → Pack) (u block : ℕ) (bytes : List ℕ) (unit count : ℕ) → length bytes ≡ 512 → (unit ≡ u → block < count)
+pub written_beyond : (held : ℕ → Pack) (u block : ℕ) (bytes : List ℕ) (unit count : ℕ) → length bytes ≡ 512 → (unit ≡ u → block < count)
     → drop (512 * count) (with_written held u block bytes unit).image ≡ drop (512 * count) (held unit).image
 written_beyond held u block bytes unit count long below = by_unit (eqb_tells unit u)
   where
@@ -101,7 +101,7 @@ beyond_stays w (Nothing line) held unit sound allowed = refl
 beyond_stays w Taken held unit sound allowed = refl
 
 -- A UNIT THAT IS NOT SET UP has no request in hand.
-other_by : (b : Bool) (held : ℕ → Pack) (u block : ℕ) (bytes : List ℕ) (unit : ℕ) → unit ≢ u
+pub other_by : (b : Bool) (held : ℕ → Pack) (u block : ℕ) (bytes : List ℕ) (unit : ℕ) → unit ≢ u
     → (if b then with_written held u block bytes else held) unit ≡ held unit
 other_by false held u block bytes unit other = refl
 other_by true held u block bytes unit other = by_unit (eqb_tells unit u)

@@ -3,6 +3,7 @@
 #![tactic(auto)]
 
 ghost use Rattle.driver_runs.specs.Acts.{BeyondStays, OthersStay};
+ghost use Rattle.driver_runs.specs.NextBlock.{NextBlocksShow};
 ghost use Rattle.driver_runs.specs.Runs.{StartsKept, RunsKeep, EventsKeep, SubmissionsKeep, AnswersKeep, PacksAreLeft, RunsAreLegal};
 
 /// An act that is allowed changes nothing that an image has behind its last sector, and no pack of a unit that is not set up.
@@ -24,4 +25,10 @@ pub fn kept_law()
 pub fn left_law()
     ensures packs { PacksAreLeft }
     ensures legal { RunsAreLegal }
+{}
+
+/// Where the packs failed at a block that was to be written, it is the next block of a write as the replay has it, and the packs are
+/// left as the replay has them with this block.
+pub fn next_block_law()
+    ensures { NextBlocksShow }
 {}

@@ -51,7 +51,7 @@ use Rattle.driver_trace.proofs.Events.{drained_there}
 use Rattle.driver_trace.proofs.Inputs.{rest_over}
 
 -- THE BYTES that a write gives, with zeros behind them
-cut_filled : (size : ℕ) (bytes : List ℕ) → length bytes ≤ size → take size (bytes ++ replicate size 0) ≡ filled size bytes
+pub cut_filled : (size : ℕ) (bytes : List ℕ) → length bytes ≤ size → take size (bytes ++ replicate size 0) ≡ filled size bytes
 unfolding filled
 cut_filled size bytes few =
     let whole : length bytes + (size - length bytes) ≡ size = omega (arith, few) in
