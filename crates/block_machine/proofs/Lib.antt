@@ -20,3 +20,4 @@ pub mod Claims
 pub mod Once
 pub mod Runs
 pub mod LastWrites
+pub mod Refusals

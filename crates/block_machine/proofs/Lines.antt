@@ -220,11 +220,11 @@ pub state_owes : (s : Replay) → IsCalm s.event.act → owed s ≡ []
 state_owes s calm = calm_owes s.adapters s.event (goes_on (s.units s.event.speaker).stage) s.event.line calm
 
 -- ---- the event after a line
-record Eased (line : ℕ) (s : Replay) : Type 0 where
-  calm : IsCalm s.event.act
-  number : s.event.line ≡ line
+pub record Eased (line : ℕ) (s : Replay) : Type 0 where
+  pub calm : IsCalm s.event.act
+  pub number : s.event.line ≡ line
 
-line_eases : (setup : Setup) (s : Replay) (line unit id : ℕ) (deed : Deed) → Keeps setup s → LineMay s line unit id deed → Eased s.event.line (drained (replay_told s unit deed (unit_after s unit deed)))
+pub line_eases : (setup : Setup) (s : Replay) (line unit id : ℕ) (deed : Deed) → Keeps setup s → LineMay s line unit id deed → Eased s.event.line (drained (replay_told s unit deed (unit_after s unit deed)))
 line_eases setup s line unit id deed k may =
     either (Eased s.event.line) (next.event.drains && (is_no_line (next_wish next) && nat_lt 0 next.outstanding)) next (record next { event = record next.event { between = true; act = act_drained next } })
     (record { calm = calm_after deed s.event.act calm; number = refl }) (record { calm = calm_drain next; number = refl })

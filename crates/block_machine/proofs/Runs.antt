@@ -149,12 +149,15 @@ each_line setup armed s m line input ms reached h follows none given new = recor
 abbrev SetupOf : Script → (ℕ → Option Table) → (ℕ → model.Pack) → Setup
 SetupOf script tables packs = record { drives = drives_of script; tables = tables; packs = packs }
 
+pub run_given : (script : Script) (tables : ℕ → Option Table) (old new : ℕ → model.Pack) (ms : List Moment) → IsLegalRun script tables old new ms → AreGiven (drives_of script) ms
+unfolding AllGood
+run_given script tables old new ms run =
+    moments_good (drives_of script) ms (subst (AllGood (drives_of script)) (sym run.inputs) (lines_good (drives_of script) (record { line = script.count + 1; input = Drain } ∷ []) script.lines run.good.inputs (tt, tt)))
+
 run_goes : (claims : (line : ℕ) → Request → Type 0) (script : Script) (tables : ℕ → Option Table) (old new : ℕ → model.Pack) (ms : List Moment) → IsLegalRun script tables old new ms
     → AreCovered (SetupOf script tables old) claims (inputs_of script) → GoesOn (SetupOf script tables old) claims [] (start_of script tables old) (FirstOf (SetupOf script tables old)) ms
-unfolding AllGood
 run_goes claims script tables old new ms run covered =
-    begun (SetupOf script tables old) claims ms run.tables_read
-    (moments_good (drives_of script) ms (subst (AllGood (drives_of script)) (sym run.inputs) (lines_good (drives_of script) (record { line = script.count + 1; input = Drain } ∷ []) script.lines run.good.inputs (tt, tt))))
+    begun (SetupOf script tables old) claims ms run.tables_read (run_given script tables old new ms run)
     (subst AreApart (sym (ap ids_asked run.inputs ∙ script_ids script)) run.good.ids) run.trace.follows (subst (AreCovered (SetupOf script tables old) claims) (sym run.inputs) covered)
 
 -- at the end nothing is outstanding

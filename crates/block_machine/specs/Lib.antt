@@ -3,3 +3,4 @@ pub mod LegalAnswers
 pub mod LastWrites
 pub mod Stands
 pub mod Laws
+pub mod Refusals

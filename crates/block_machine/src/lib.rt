@@ -4,6 +4,7 @@
 #![tactic(auto)]
 
 ghost use Rattle.block_machine.specs.Laws.{StartIsReached, EachMomentReaches, StartStands, EachMomentSteps, EachLineSteps, EachBeginningStands, AnswersAreLegal, AllAnswersAreLegal, LeadsToOneMap, WritesArePassedOn, AllWritesArePassedOn, PacksStay, EachIsAnsweredOnce};
+ghost use Rattle.block_machine.specs.Refusals.{RefusalsAreMet};
 
 /// The state of a replay stands for a machine of blocks: at the start for what the packs hold. In a state that a legal beginning
 /// reaches each moment that may come is a step of that machine, or leaves it, and the state behind it, which is then reached too,
@@ -41,4 +42,10 @@ pub fn packs_law()
 /// In a legal run each id that the script asks for is answered once, and no other id is.
 pub fn once_law()
     ensures { EachIsAnsweredOnce }
+{}
+
+/// In a legal run a request is refused directly behind the line that submits it, where it meets that refusal: by its partition, or
+/// because its frames are not there.
+pub fn refusals_law()
+    ensures { RefusalsAreMet }
 {}

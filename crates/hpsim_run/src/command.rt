@@ -14,7 +14,6 @@ ghost use Rattle.bad144_tool.specs.declared.edit.AddWay.{AddWay};
 ghost use Rattle.hpsim_run.specs.declared.words.Command.TheVariants.{Play, ListTable, AddBlock, FreshTable};
 ghost use Rattle.hpsim_run.specs.declared.status.Status.TheVariants.{Done, Usage, Refused, SourceFailed, SinkFailed, PacksFailed, TooLong, OutOfMemory};
 
-use crate::law::headline_law;
 use crate::load::{LoadFault, load};
 use crate::status::Status;
 use crate::text::{refusal, too_long, usage};
@@ -23,6 +22,7 @@ use crate::words::{Command, command_of};
 use event_player::play::{PlayFault, play};
 use mass_outside::traits::{Packs, Sink, Source};
 use mass_outside::whole::write_all;
+use run_promises::promises_law;
 use script_reader::script::grammar_law;
 use std::alloc::Global;
 
@@ -59,7 +59,7 @@ fn run_play<S: Source, P: Packs, O: Sink, T: Sink>(
     ensures same { (result ≡ TooLong) ⊎ (result ≡ OutOfMemory) → IsTrue (P.tells packs.new) → P.held packs.new ≡ P.held packs.old }
     ensures untraced { (result ≡ Refused) ⊎ (result ≡ SourceFailed) ⊎ (result ≡ TooLong) ⊎ (result ≡ OutOfMemory) → trace.new ≡ trace.old }
 {
-    headline_law();
+    promises_law();
     grammar_law();
     let script = match load(alloc, script) {
         Ok(script) => script,

@@ -2,7 +2,6 @@
 #![tactic(auto)]
 
 mod command;
-mod law;
 mod load;
 mod status;
 mod text;
@@ -10,7 +9,6 @@ mod tools;
 mod words;
 
 pub use command::run;
-pub use law::headline_law;
 pub use status::Status;
 
 #[cfg(test)]

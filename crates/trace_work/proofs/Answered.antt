@@ -140,13 +140,25 @@ offline_is_told script tables old new ms ns line unit id done run = (
 )
 
 pub locked_is_told : LockedIsTold
-locked_is_told script tables old new ms ns line unit id done run =
-    was_locked script tables old new ms ns line unit id done Locked run ((explained script tables old new ms ns line unit id done Locked run).cause Locked done refl)
+locked_is_told script tables old new ms ns line unit id done run = (
+  in_hand ((after_moments (start_of script tables old) ms).units unit).service,
+  is_asked script tables old new ms ns line unit id done Locked run,
+  out.writes,
+  locked.0,
+  locked.1,
+)
+  where
+    out : IsLockedOut ((after_moments (start_of script tables old) ms).units unit)
+    out = (explained script tables old new ms ns line unit id done Locked run).cause Locked done refl
+
+    locked : (online_behind unit true ms ≡ true) × (locked_behind unit false ms ≡ true)
+    locked = was_locked script tables old new ms ns line unit id done Locked run out
 
 pub unforwarded_is_homeless : UnforwardedIsHomeless
 unforwarded_is_homeless script tables old new ms ns line unit id done kind run there = (
   in_hand ((after_moments (start_of script tables old) ms).units unit).service,
   is_asked script tables old new ms ns line unit id done Unforwarded run,
+  ((explained script tables old new ms ns line unit id done Unforwarded run).counted Unforwarded done refl).1,
   homeless script tables old new ms ns line unit id done Unforwarded run refl kind there,
 )
 

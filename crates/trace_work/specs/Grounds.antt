@@ -1,5 +1,5 @@
 -- WHAT IS KNOWN OF A CAUSE from the script and the packs alone.
-use Rattle.std.specs.Prelude.{◌≡◌, ◌⊎◌, ℕ, ◌+◌, true, false, List, [], ◌∷◌, ◌++◌, Option, None, Some}
+use Rattle.std.specs.Prelude.{◌≡◌, ◌⊎◌, ℕ, ◌<◌, ◌+◌, true, false, List, [], ◌∷◌, ◌++◌, Option, None, Some, is_some}
 use Rattle.pack_geometry.specs.declared.DriveKind.{DriveKind}
 use Rattle.pack_model.specs.Pack as model
 use Rattle.pack_model.specs.TableSpelling.{Table}
@@ -52,17 +52,17 @@ OfflineIsTold = (script : Script) (tables : ℕ → Option Table) (old new : ℕ
     → IsLegalRun script tables old new (ms ++ Told line unit id (End (Failed Offline done)) ∷ ns)
     → (r : Request) × IsAskedAt r unit id ms × WasOffline r ms
 
--- It ends locked only where its unit is online and locked at the answer.
+-- It ends locked only where it writes, and its unit is online and locked at the answer.
 abbrev pub LockedIsTold : Type 0
 LockedIsTold = (script : Script) (tables : ℕ → Option Table) (old new : ℕ → model.Pack) (ms ns : List Moment) (line unit id done : ℕ)
     → IsLegalRun script tables old new (ms ++ Told line unit id (End (Failed Locked done)) ∷ ns)
-    → (online_behind unit true ms ≡ true) × (locked_behind unit false ms ≡ true)
+    → (r : Request) × IsAskedAt r unit id ms × (is_some r.written ≡ true) × (online_behind unit true ms ≡ true) × (locked_behind unit false ms ≡ true)
 
--- It ends unforwarded only where its first block not done has no home on its pack.
+-- It ends unforwarded only where its first block not done is one of its blocks, and has no home on its pack.
 abbrev pub UnforwardedIsHomeless : Type 0
 UnforwardedIsHomeless = (script : Script) (tables : ℕ → Option Table) (old new : ℕ → model.Pack) (ms ns : List Moment) (line unit id done : ℕ) (kind : DriveKind)
     → IsLegalRun script tables old new (ms ++ Told line unit id (End (Failed Unforwarded done)) ∷ ns) → drives_of script unit ≡ Some kind
-    → (r : Request) × IsAskedAt r unit id ms × (home_of kind (tables unit) (old unit) (first_block kind r + done) ≡ None)
+    → (r : Request) × IsAskedAt r unit id ms × (done < r.count) × (home_of kind (tables unit) (old unit) (first_block kind r + done) ≡ None)
 
 -- It ends by a fault only where a line before the answer armed a fault at its unit, or noise of its unit that shows.
 abbrev pub FaultIsTold : Type 0

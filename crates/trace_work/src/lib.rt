@@ -28,8 +28,8 @@ pub fn work_law()
 {}
 
 /// What follows of the causes of a legal run's answers from the script and the packs alone: offline only where the script had the unit
-/// offline at some moment from the request's submission on; locked only where it has the unit online and locked at the answer;
-/// unforwarded only where the first block not done has no home; a fault only where a line before it armed a fault at the unit, or
+/// offline at some moment from the request's submission on; locked only where the request writes and it has the unit online and locked
+/// at the answer; unforwarded only where the first block not done has no home; a fault only where a line before it armed a fault at the unit, or
 /// noise of it that shows.
 pub fn told_causes_law()
     ensures offline { OfflineIsTold }

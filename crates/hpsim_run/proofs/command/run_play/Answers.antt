@@ -23,7 +23,7 @@ returns-in-Ok-play-clause-done g c = λ _. record {
   read = λ t. c.in-Ok.ensures.end t;
   spelled = λ t. c.in-Ok.ensures.ok t;
   plays = λ t. c.in-Ok-play.ensures.played t;
-  keeps = λ t. c.headline_law.ensures _ _ _ _ _ (c.in-Ok-play.ensures.played t).run;
+  keeps = λ t. c.promises_law.ensures _ _ _ _ _ (c.in-Ok-play.ensures.played t).run;
   fits = λ t unit n. c.in-Ok-play.ensures.fits tt t unit n;
 }
 

@@ -4,7 +4,8 @@ use Rattle.pack_model.specs.TableSpelling.{Table}
 use Rattle.trace_replay.specs.Moments.{Moment}
 use Rattle.trace_replay.specs.Script.{Script}
 use Rattle.trace_replay.specs.Runs.{IsLegalRun}
-use Rattle.hpsim_run.proofs.law.headline_law.Goals as goal
+use Rattle.run_promises.proofs.Complete.{is_complete}
+use Rattle.run_promises.proofs.promises_law.Goals as goal
 
 -- a legal run, by its parts
 same : {script : Script} {tables : ℕ → Option Table} {old new : ℕ → Pack} {moments parts : List Moment} → IsLegalRun script tables old new moments → moments ≡ parts
@@ -20,10 +21,18 @@ returns c script tables old new moments run = record {
   legal = c.answers_law.ensures.legal script tables old new moments run;
   explained = λ line unit id answer before after e no. c.cause_law.ensures.run script tables old new before after line unit id answer
       (same run e) no;
+  refused = λ line unit id answer before after e is. c.refusals_law.ensures script tables old new before after line unit id answer (same run e) is;
   offline = λ line unit id done before after e. c.told_causes_law.ensures.offline script tables old new before after line unit id done (same run e);
   locked = λ line unit id done before after e. c.told_causes_law.ensures.locked script tables old new before after line unit id done (same run e);
   unforwarded = λ line unit id done kind before after e is. c.told_causes_law.ensures.unforwarded script tables old new before after line unit id done kind (same run e) is;
   fault = λ line unit id done before after e. c.told_causes_law.ensures.fault script tables old new before after line unit id done (same run e);
+  complete = λ ahead between after at line r kind answer e there free. is_complete (record {
+    refused = c.refusals_law.ensures;
+    explained = c.cause_law.ensures.run;
+    offline = c.told_causes_law.ensures.offline;
+    locked = c.told_causes_law.ensures.locked;
+    unforwarded = c.told_causes_law.ensures.unforwarded;
+  }) script tables old new ahead between after at line r kind answer (same run e) there free;
   commands = λ line unit id answer before after e no. (c.commands_law.ensures.run script tables old new before after line unit id answer (same run e) no).0;
   drains = λ before drained after e none. c.drain_law.ensures.run script tables old new before drained after (same run e) none;
   rest = c.packs_law.ensures script tables old new moments run;
