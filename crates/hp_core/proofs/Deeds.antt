@@ -30,7 +30,7 @@ use Rattle.driver_machine.specs.declared.Phase.TheVariants.{Waiting, Queued, Tra
 use Rattle.driver_machine.specs.World.{World, Held, unit_at, adapter_at, slot_at, held_in, slot_in_hand, adapter_of, drive_of, transfer_of, job_of}
 use Rattle.driver_machine.specs.Acts.{Deed, Of, Intr, Search, Do, Move, Pack, Dclr, Rtc, Ready, Repair, Forward, Continue, Try, scene_of}
 use Rattle.driver_machine.specs.Guards.{InHand, IsBusyFor, Allowed}
-use Rattle.driver_machine.specs.Sound.{Sound, Among, Once, IsPhase, IsTask, IsEndedAt, IsBurstAt}
+use Rattle.driver_machine.specs.Sound.{Sound, Among, Once, IsShown, IsPhase, IsTask, IsEndedAt, IsBurstAt}
 use Rattle.driver_due.specs.DueFacts.{IsDue, IsAtCommand, IsFailure, IsStep}
 use Rattle.driver_phases.proofs.Scene.{phase_is, due_of, job_is, block_below, segment_some}
 use Rattle.driver_phases.proofs.Frame.{scene_ok, held_is, own_held, adapter_of-small}
@@ -267,11 +267,14 @@ module _ (w : World) (line u id : ℕ) (s : Sound w) where
     pub bus : (held_in w (slot_in_hand (unit_at w u))).on_bus ≡ true
     pub completion : (adapter_at w (adapter_of u)).state.completion ≡ true
     pub loaded : (held_in w (slot_in_hand (unit_at w u))).loan ≡ loaded_buffer (adapter_at w (adapter_of u)).state
+    pub shown : IsShown (unit_at w u).drive (adapter_at w (adapter_of u)).state
 
   pub ended : (moved : ℕ) (last : Moved) → Allowed w (Of line u id (Intr moved last)) → Ended
   ended moved last may =
-      let has = transfer_at u true (scene_of w u) (scene_ok w u id s may.0) may.1.0 in
-      record { bus = has.on_bus; completion = may.1.0.completion; loaded = sym has.loan }
+      let ok = scene_ok w u id s may.0 in
+      let has = transfer_at u true (scene_of w u) ok may.1.0 in
+      let is : IsPhase u (scene_of w u).unit (scene_of w u).adapter (scene_of w u).held Transferring = phase_is u (scene_of w u) Transferring ok has.phase in
+      record { bus = has.on_bus; completion = may.1.0.completion; loaded = sym has.loan; shown = is.1.shown may.1.0.completion }
 
   -- A TRANSFER COMMAND
   pub record CanMove (write : Bool) (segment : Segment) : Type 0 where

@@ -14,7 +14,8 @@ use trace_lines::Told;
 use transfer_engine::Segment;
 
 impl Core {
-    /// The data interrupt is taken: the adapter is free, and the request has its buffer back.
+    /// The data interrupt is taken: the adapter is free, the request has its buffer back, and what comes next is decided by what
+    /// the drive's registers and the adapter show.
     pub fn interrupt<T: Sink>(
         &mut self,
         line: u64,

@@ -16,10 +16,12 @@ ghost use Rattle.driver_machine.specs.declared.RetryStep.TheVariants as retry_st
 ghost use Rattle.driver_machine.specs.World.{unit_at, adapter_at, slot_at, held_in, adapter_of, drive_of, transfer_of, slot_in_hand};
 ghost use Rattle.driver_machine.specs.Acts.{searching, stepping, transferring, centred, commanded, with_drive, with_state, going_to, in_phase, with_transfer, transfer_tried, interrupted, waits_too, no_more_waits, repaired_at};
 ghost use Rattle.driver_machine.specs.Due.{task_for};
+ghost use Rattle.driver_machine.specs.Sound.{IsShown};
 
 use crate::driver::Core;
 use driver_machine::{RetryStep, Task};
 use hardware_table::{Moved, adapter_law};
+use hp_interrupts::shows_late;
 use pack_geometry::Place;
 use transfer_engine::{Job, Segment};
 
@@ -213,7 +215,7 @@ impl Core {
         }
     }
 
-    /// The data interrupt is taken.
+    /// The data interrupt is taken: the registers show why the transfer ended.
     pub(crate) fn put_interrupt(&mut self, u: u8)
         requires unit { u < length self.old.world.units }
         requires adapter { adapter_of u < length self.old.world.adapters }
@@ -222,6 +224,7 @@ impl Core {
         requires bus { (held_in self.old.world (slot_in_hand (unit_at self.old.world u))).on_bus ≡ true }
         requires completion { (adapter_at self.old.world (adapter_of u)).state.completion ≡ true }
         requires loaded { (held_in self.old.world (slot_in_hand (unit_at self.old.world u))).loan ≡ loaded_buffer (adapter_at self.old.world (adapter_of u)).state }
+        requires shown { IsShown (unit_at self.old.world u).drive (adapter_at self.old.world (adapter_of u)).state }
         ensures { self.new ≡ record self.old {
           world = record self.old.world {
             units = slice_set self.old.world.units u (in_phase (phase.Due (interrupted (adapter_at self.old.world (adapter_of u)).state.moved (adapter_at self.old.world (adapter_of u)).state.verdict)) (unit_at self.old.world u));
@@ -233,7 +236,9 @@ impl Core {
         let slot = self.hand(u);
         let channel = &mut self.channels[usize::from(u / 8)];
         let ended = self.slots.complete(slot, &mut channel.adapter);
-        self.units[usize::from(u)].interrupt(ended.moved, ended.last);
+        let unit = &mut self.units[usize::from(u)];
+        let cause = unit.cause(shows_late(ended.last));
+        unit.interrupt(ended.moved, cause);
     }
 
     /// RCOM or WCOM, and the adapter's start.

@@ -8,11 +8,11 @@ ghost use Rattle.drive_registers.specs.Bits as bits;
 ghost use Rattle.hardware_table.specs.declared.Moved.{Moved};
 ghost use Rattle.hardware_table.specs.Drive.{DriveState, status};
 ghost use Rattle.hp_interrupts.specs.Sense.{IsOn, IsOff, sensed_of};
-ghost use Rattle.hp_interrupts.specs.Verdicts.{IsLeftBy, AreLeft, cause_of};
+ghost use Rattle.hp_interrupts.specs.Verdicts.{IsLeftBy, AreLeft, cause_of, shows_late};
 
 use bitflags::Flags;
 use drive_registers::{Ds, Er1, Er2};
-use hardware_table::FaultKind;
+use hardware_table::{FaultKind, Moved};
 
 /// The registers that are read at a data interrupt: the drive's error registers and its two ECC registers, and
 /// whether the adapter shows data late.
@@ -88,6 +88,28 @@ pub fn data_interrupt(regs: TransferRegs) -> DataCause
     } else {
         DataCause::Complete
     }
+}
+
+/// The verdict that a cause stands for: just that one has it as its cause.
+pub fn verdict_of(cause: DataCause) -> Moved
+    ensures cause { cause_of result ≡ cause }
+    ensures only { (verdict : Moved) → cause_of verdict ≡ cause → verdict ≡ result }
+{
+    match cause {
+        DataCause::Complete => Moved::Clean,
+        DataCause::Corrected { at, pattern } => Moved::Burst { at, pattern },
+        DataCause::BadSector => Moved::Marked,
+        DataCause::Offline => Moved::Offline,
+        DataCause::Drive(kind) => Moved::Faulted(kind),
+        DataCause::Hard => Moved::Hard,
+    }
+}
+
+/// Whether the adapter shows data late behind a last verdict.
+pub fn shows_late(last: Moved) -> bool
+    ensures { result ≡ shows_late last }
+{
+    matches!(last, Moved::Faulted(FaultKind::Late))
 }
 
 /// What the drive status says before a command: `Offline` exactly where the medium is not on line; else `Locked`

@@ -3,7 +3,10 @@ ghost use Rattle.std.specs.Prelude.{◌≡◌, false};
 ghost use Rattle.hardware_table.specs.Drive.{new_drive};
 ghost use Rattle.hp_interrupts.specs.Verdicts.{IsLeftBy};
 
-use super::{DataCause, Sensed, TransferRegs, data_interrupt, lowest_attention, needs_pack, sense};
+use super::{
+    DataCause, Sensed, TransferRegs, data_interrupt, lowest_attention, needs_pack, sense,
+    shows_late, verdict_of,
+};
 use hardware_table::{FaultKind, Moved};
 use pack_geometry::DriveKind;
 use std::process::Abort;
@@ -91,6 +94,38 @@ fn for_each_fault(rt: &impl Abort, kind: DriveKind) {
     };
     let late = cause(kind, Moved::Faulted(FaultKind::Late), regs);
     assert_eq!(rt; late, DataCause::Drive(FaultKind::Late));
+}
+
+#[test]
+fn verdict_of_each_cause(rt: HostRuntime) {
+    let burst = Moved::Burst {
+        at: 17,
+        pattern: 0o2001,
+    };
+    let corrected = DataCause::Corrected {
+        at: 17,
+        pattern: 0o2001,
+    };
+    for (cause, verdict, late) in [
+        (DataCause::Complete, Moved::Clean, false),
+        (corrected, burst, false),
+        (DataCause::Hard, Moved::Hard, false),
+        (DataCause::BadSector, Moved::Marked, false),
+        (DataCause::Offline, Moved::Offline, false),
+        (
+            DataCause::Drive(FaultKind::Seek),
+            Moved::Faulted(FaultKind::Seek),
+            false,
+        ),
+        (
+            DataCause::Drive(FaultKind::Late),
+            Moved::Faulted(FaultKind::Late),
+            true,
+        ),
+    ] {
+        assert_eq!(rt; verdict_of(cause), verdict);
+        assert_eq!(rt; shows_late(verdict), late);
+    }
 }
 
 #[test]

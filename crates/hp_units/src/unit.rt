@@ -1,9 +1,11 @@
 // One unit: its queue, its drive, and where it is with the head of its queue.
-ghost use Rattle.std.specs.Prelude.{◌≡◌, ◌<◌, ◌≤◌, ◌+◌, ◌/◌, ◌==◌, ◌&&◌, ◌∷◌, ◌^◌, [], length, drop, not, true, false, if◌then◌else◌, IfOk, IfSome, IfNone, Option};
+ghost use Rattle.std.specs.Prelude.{ℕ, ◌≡◌, ◌<◌, ◌≤◌, ◌+◌, ◌/◌, ◌==◌, ◌&&◌, ◌∷◌, ◌^◌, [], length, drop, not, true, false, if◌then◌else◌, IfOk, IfSome, IfNone, Option};
 ghost use Rattle.pack_geometry.specs.Geometry.{cylinders_of, sectors_of, IsInside};
 ghost use Rattle.drive_registers.specs.Codes.{offset_field};
-ghost use Rattle.hardware_table.specs.Drive.{is_positioning};
+ghost use Rattle.hardware_table.specs.declared.Moved.{Moved};
+ghost use Rattle.hardware_table.specs.Drive.{DriveState, is_positioning};
 ghost use Rattle.hardware_table.specs.Events.{turned, online_set, locked_set, fault_armed, times_armed};
+ghost use Rattle.hp_interrupts.specs.Verdicts.{IsLeftBy, AreLeft, registers_of, cause_of};
 ghost use Rattle.seek_engine.specs.Seek.{position_for};
 ghost use Rattle.transfer_engine.specs.State.{segment_of};
 ghost use Rattle.transfer_engine.specs.Calls.{entry_for};
@@ -22,7 +24,7 @@ use drive_model::Drive;
 use drive_registers::{Ds, Function, OFFSET_CODE, Of, RM03_TYPE, RP06_TYPE};
 use driver_machine::{Phase, RetryStep};
 use hardware_table::{FaultKind, Register, status_law};
-use hp_interrupts::{Sensed, needs_pack, sense};
+use hp_interrupts::{DataCause, Sensed, TransferRegs, data_interrupt, needs_pack, sense};
 use mass_outside::traits::NoMemory;
 use pack_geometry::{DriveKind, Place};
 use seek_engine::{Position, decide};
@@ -188,6 +190,21 @@ impl DiskUnit {
         ensures { result ≡ not self.now.drive.valid }
     {
         needs_pack(self.drive.read_register(Register::Ds))
+    }
+
+    /// Why the transfer ended, by what the drive's registers show and by whether the adapter shows data late.
+    pub fn cause(&self, late: bool) -> DataCause
+        requires left { AreLeft (registers_of self.now.drive late) }
+        ensures { (verdict : Moved) → (before : DriveState) → (block : ℕ) → IsLeftBy verdict before block (registers_of self.now.drive late)
+            → result ≡ cause_of verdict }
+    {
+        data_interrupt(TransferRegs {
+            er1: self.drive.read_register(Register::Er1),
+            er2: self.drive.read_register(Register::Er2),
+            ec1: self.drive.read_register(Register::Ec1),
+            ec2: self.drive.read_register(Register::Ec2),
+            late,
+        })
     }
 
     /// Whether no offset is set.

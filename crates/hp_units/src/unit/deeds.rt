@@ -5,7 +5,9 @@ ghost use Rattle.drive_registers.specs.declared.Function.TheVariants.{Pack as Pa
 ghost use Rattle.hardware_table.specs.Drive.{is_ready};
 ghost use Rattle.hardware_table.specs.Functions.{performed};
 ghost use Rattle.hardware_table.specs.Events.{arrived, attention_cleared};
+ghost use Rattle.hardware_table.specs.declared.Moved.{Moved};
 ghost use Rattle.hardware_table.specs.declared.Moved.TheVariants as verdict;
+ghost use Rattle.hp_interrupts.specs.Verdicts.{cause_of};
 ghost use Rattle.transfer_engine.specs.State.{IsJob, begun, segment_of, moved_on, forwarded, failures_after};
 ghost use Rattle.transfer_engine.specs.Calls.{entry_for, step_for};
 ghost use Rattle.trace_replay.specs.Drives.{addressed};
@@ -22,6 +24,7 @@ use bitflags::Flags;
 use drive_registers::{Function, Of, offset_word};
 use driver_machine::{Phase, RetryStep, Task};
 use hardware_table::{Moved, Register};
+use hp_interrupts::{DataCause, verdict_of};
 use pack_geometry::{Place, place_of, sector_word};
 use transfer_engine::{Job, Transfer, begin};
 
@@ -146,12 +149,13 @@ impl DiskUnit {
         self.drive.go(Function::Pack);
     }
 
-    /// The data interrupt was taken: so many sectors moved clean, and this is the last verdict.
-    pub fn interrupt(&mut self, moved: u32, verdict: Moved)
-        ensures { self.new ≡ in_phase (phase.Due (interrupted moved verdict)) self.old }
+    /// The data interrupt was taken: so many sectors moved clean, and this is why the transfer ended.
+    pub fn interrupt(&mut self, moved: u32, cause: DataCause)
+        ensures { (verdict : Moved) → cause ≡ cause_of verdict → self.new ≡ in_phase (phase.Due (interrupted moved verdict)) self.old }
     {
-        let task = match verdict {
-            Moved::Clean => Task::Judge { moved, verdict },
+        let verdict = verdict_of(cause);
+        let task = match cause {
+            DataCause::Complete => Task::Judge { moved, verdict },
             _ => Task::Clear { moved, verdict },
         };
         self.phase = Phase::Due { task };

@@ -25,5 +25,8 @@ put_interrupt-requires-clause-completion g c = (ended _ c.args.line _ _ c.requir
 pub put_interrupt-requires-clause-loaded : goal.put_interrupt-requires-clause-loaded
 put_interrupt-requires-clause-loaded g c = (ended _ c.args.line _ _ c.requires.sound _ _ c.requires.may).loaded
 
+pub put_interrupt-requires-clause-shown : goal.put_interrupt-requires-clause-shown
+put_interrupt-requires-clause-shown g c = (ended _ c.args.line _ _ c.requires.sound _ _ c.requires.may).shown
+
 pub returns : goal.returns
 returns g c = told_act _ _ _ _ _ _ _ _ _ _ _ (record { reads = λ w p. tt; packs = λ w p. refl }) c.requires.may refl c.put_interrupt.ensures (c.tell.ensures WriteOk)
