@@ -2,5 +2,6 @@ pub mod BitLaws
 pub mod BlockLaws
 pub mod ByteLaws
 pub mod FrameLaws
+pub mod HeldLaws
 pub mod LendLaws
 pub mod TextLaws

@@ -1,19 +1,139 @@
-// Reads and writes of parts of the memory's bytes.
-ghost use Rattle.std.specs.Prelude.{◌≡◌, ◌≤◌, ◌+◌, length};
-ghost use Rattle.main_memory.specs.Bytes.{part, with_part};
+// The memory's bytes, and reads and writes of parts of them.
+ghost use Rattle.std.specs.Prelude.{◌≡◌, ◌≤◌, ◌<◌, ◌+◌, ◌^◌, length, IfOk, slice_index, slice_set, vec_len, vec_capacity};
+ghost use Rattle.main_memory.specs.Bytes.{part, with_part, filled};
 
-// Writes bytes at a place.
-pub fn put(bytes: &mut [u8], at: usize, from: &[u8])
+use std::alloc::{AllocError, Global};
+use std::marker::Model;
+
+// How many bytes there are.
+const SIZE: usize = 16384 * 512;
+
+// The bytes of all frames. They are zeros until they are written: those up to the last one that was written are held, in
+// room that is reserved at the beginning for all.
+#[derive(Drop)]
+pub struct Bytes {
+    held: Vec<u8>,
+}
+
+impl Model for Bytes {
+    ghost use Rattle.std.specs.Prelude.{ℕ, List, length, vec_capacity};
+    ghost use Rattle.main_memory.specs.Bytes.{filled, IsHeld};
+
+    ghost Value = { List ℕ };
+
+    ghost view = { λ b. filled 8388608 b.held.items };
+
+    ghost invariant = { λ b. IsHeld 8388608 (length b.held.items) (vec_capacity b.held) };
+}
+
+// Extends bytes by zeros up to a size for which there is room.
+#[tactic(auto, unfolding(crate::specs::Bytes::filled))]
+fn grow(held: &mut Vec<u8>, size: usize)
+    requires { size ≤ vec_capacity held.old }
+    ensures items { held.new.items ≡ filled size held.old.items }
+    ensures reaches { size ≤ vec_len held.new }
+    ensures capacity { vec_capacity held.old ≤ vec_capacity held.new }
+{
+    if size > held.len() {
+        // The room is there, so this cannot fail.
+        let _ = held.resize(size, 0);
+    }
+}
+
+// Writes bytes at a place inside.
+fn put_inside(bytes: &mut [u8], at: usize, from: &[u8])
     requires { at + length from.now ≤ length bytes.old }
     ensures { bytes.new ≡ with_part at from.now bytes.old }
 {
     bytes[at..at + from.len()].copy_from_slice(from);
 }
 
-// Reads bytes from a place.
-pub fn get(bytes: &[u8], at: usize, into: &mut [u8])
+// Writes bytes at a place for which there is room, and extends what is held up to their end.
+fn put_held(held: &mut Vec<u8>, at: usize, from: &[u8])
+    requires fits { at + length from.now < 2 ^ 64 }
+    requires room { at + length from.now ≤ vec_capacity held.old }
+    ensures items { held.new.items ≡ with_part at from.now (filled (at + length from.now) held.old.items) }
+    ensures capacity { vec_capacity held.old ≤ vec_capacity held.new }
+{
+    grow(held, at + from.len());
+    put_inside(held.as_mut_slice(), at, from);
+}
+
+// Writes a byte at a place for which there is room, and extends what is held up to it.
+fn set_held(held: &mut Vec<u8>, place: usize, byte: u8)
+    requires fits { place + 1 < 2 ^ 64 }
+    requires room { place + 1 ≤ vec_capacity held.old }
+    ensures items { held.new.items ≡ slice_set (filled (place + 1) held.old.items) place byte }
+    ensures capacity { vec_capacity held.old ≤ vec_capacity held.new }
+{
+    grow(held, place + 1);
+    held[place] = byte;
+}
+
+// Reads bytes from a place on, which has so many before the end.
+fn get_inside(bytes: &[u8], at: usize, into: &mut [u8])
     requires { at + length into.old ≤ length bytes.now }
     ensures { into.new ≡ part (length into.old) at bytes.now }
 {
     into.copy_from_slice(&bytes[at..at + into.len()]);
+}
+
+// Reads bytes from a place on; those behind the end are zeros.
+fn get_filled(bytes: &[u8], at: usize, into: &mut [u8])
+    requires size { length bytes.now ≤ 8388608 }
+    requires inside { at + length into.old ≤ 8388608 }
+    ensures { into.new ≡ part (length into.old) at (filled 8388608 bytes.now) }
+{
+    let first = at.min(bytes.len());
+    let there = into.len().min(bytes.len() - first);
+    let (front, rest) = into.split_at_mut(there);
+    get_inside(bytes, first, front);
+    rest.fill(0);
+}
+
+impl Bytes {
+    // Takes the room. All bytes are zeros.
+    pub fn new(alloc: Global) -> Result<Bytes, AllocError>
+        ensures { IfOk result (λ bytes. length bytes ≡ 8388608) }
+    {
+        Ok(Bytes {
+            held: Vec::with_capacity(alloc, SIZE)?,
+        })
+    }
+
+    // Writes bytes at a place.
+    pub fn put(&mut self, at: usize, from: &[u8])
+        requires { at + length from.now ≤ 8388608 }
+        ensures bytes { self.new ≡ with_part at from.now self.old }
+        ensures size { length self.new ≡ 8388608 }
+    {
+        put_held(&mut self.held, at, from);
+    }
+
+    // Reads bytes from a place.
+    pub fn get(&self, at: usize, into: &mut [u8])
+        requires { at + length into.old ≤ 8388608 }
+        ensures bytes { into.new ≡ part (length into.old) at self.now }
+        ensures size { length self.now ≡ 8388608 }
+    {
+        get_filled(self.held.as_slice(), at, into);
+    }
+
+    // The byte at a place.
+    pub fn byte_at(&self, place: usize) -> u8
+        requires { place < 8388608 }
+        ensures byte { result ≡ slice_index self.now place }
+        ensures size { length self.now ≡ 8388608 }
+    {
+        self.held.get(place).copied().unwrap_or(0)
+    }
+
+    // Writes the byte at a place.
+    pub fn set_byte(&mut self, place: usize, byte: u8)
+        requires { place < 8388608 }
+        ensures bytes { self.new ≡ slice_set self.old place byte }
+        ensures size { length self.old ≡ 8388608 }
+    {
+        set_held(&mut self.held, place, byte);
+    }
 }

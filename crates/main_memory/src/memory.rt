@@ -7,16 +7,15 @@ ghost use Rattle.main_memory.specs.Memory.{IsMemory, IsLent, AreApart, with_bloc
 
 use crate::bits::{all_free, give_frames, take_frames};
 use crate::buffer::{Buffer, Cpu, frames_of};
+use crate::bytes::Bytes;
 use crate::span::{Span, read_filled, write_front};
 use mass_outside::traits::NoMemory;
-use std::alloc::{AllocError, Global};
+use std::alloc::Global;
 use std::marker::Model;
 use thiserror::Error;
 
-// How many frames there are, and how many bytes in all.
+// How many frames there are.
 const FRAMES: u32 = 16384;
-
-const SIZE: usize = 16384 * 512;
 
 /// Fewer frames are free than a buffer needs.
 #[derive(Debug, Drop, Error)]
@@ -29,7 +28,7 @@ pub struct NoFrames {
 /// 16,384 frames of 512 bytes, each of them free or lent.
 #[derive(Drop)]
 pub struct MainMemory {
-    bytes: Vec<u8>,
+    bytes: Bytes,
     free_words: [u64; 256],
     free: u32,
 }
@@ -41,16 +40,9 @@ impl Model for MainMemory {
 
     ghost Value = { Memory };
 
-    ghost view = { λ m. record { bytes = m.bytes.items; free = free_frames m.free_words } };
+    ghost view = { λ m. record { bytes = m.bytes; free = free_frames m.free_words } };
 
-    ghost invariant = { λ m. Keeps m.bytes.items m.free_words m.free };
-}
-
-// So many bytes.
-fn zeros(alloc: Global, size: usize) -> Result<Vec<u8>, AllocError>
-    ensures { IfOk result (λ bytes. length bytes.items ≡ size) }
-{
-    vec![in alloc; 0u8; size]
+    ghost invariant = { λ m. Keeps m.bytes m.free_words m.free };
 }
 
 impl MainMemory {
@@ -60,7 +52,7 @@ impl MainMemory {
         ensures every { IfOk result (λ memory. length memory.free ≡ 16384) }
         ensures sound { IfOk result IsMemory }
     {
-        let bytes = match zeros(alloc, SIZE) {
+        let bytes = match Bytes::new(alloc) {
             Ok(bytes) => bytes,
             Err(_) => return Err(NoMemory),
         };
@@ -149,7 +141,7 @@ impl MainMemory {
         ensures size { length self.old.bytes ≡ 8388608 }
         ensures sound { IsMemory self.new }
     {
-        write_front(self.bytes.as_mut_slice(), span, from);
+        write_front(&mut self.bytes, span, from);
     }
 
     // Reads the bytes of a span, and then zeros.
@@ -158,7 +150,7 @@ impl MainMemory {
         ensures block { into.new ≡ filled 512 (bytes_in span self.now.bytes) }
         ensures size { length self.now.bytes ≡ 8388608 }
     {
-        read_filled(self.bytes.as_slice(), span, into);
+        read_filled(&self.bytes, span, into);
     }
 
     // The byte at a place.
@@ -167,7 +159,7 @@ impl MainMemory {
         ensures byte { result ≡ slice_index self.now.bytes place }
         ensures size { length self.now.bytes ≡ 8388608 }
     {
-        self.bytes[place]
+        self.bytes.byte_at(place)
     }
 
     // Writes the byte at a place.
@@ -176,6 +168,6 @@ impl MainMemory {
         ensures memory { self.new ≡ record self.old { bytes = slice_set self.old.bytes place byte } }
         ensures size { length self.old.bytes ≡ 8388608 }
     {
-        self.bytes[place] = byte;
+        self.bytes.set_byte(place, byte);
     }
 }

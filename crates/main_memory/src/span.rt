@@ -3,7 +3,7 @@ ghost use Rattle.std.specs.Prelude.{◌≡◌, ◌<◌, ◌≤◌, length};
 ghost use Rattle.main_memory.specs.Bytes.{front, filled};
 ghost use Rattle.main_memory.specs.Blocks.{IsSpan, in_frame, place_in, bytes_in, with_bytes_in};
 
-use crate::bytes::{get, put};
+use crate::bytes::Bytes;
 
 // `len` bytes: in a frame from the offset on, and where they don't end there in the next frame from its start on.
 #[derive(Clone, Copy)]
@@ -39,44 +39,44 @@ pub fn place(span: Span, at: usize) -> usize
 }
 
 // Writes the bytes there.
-pub fn write_span(bytes: &mut [u8], span: Span, from: &[u8])
-    requires memory { length bytes.old ≡ 8388608 }
+pub fn write_span(bytes: &mut Bytes, span: Span, from: &[u8])
     requires span { IsSpan span }
     requires whole { length from.now ≡ span.len }
-    ensures { bytes.new ≡ with_bytes_in span from.now bytes.old }
+    ensures bytes { bytes.new ≡ with_bytes_in span from.now bytes.old }
+    ensures size { length bytes.new ≡ 8388608 }
 {
     let (first, second) = from.split_at(len_in_frame(span));
-    put(bytes, 512 * span.frame + span.offset, first);
-    put(bytes, 512 * span.next, second);
+    bytes.put(512 * span.frame + span.offset, first);
+    bytes.put(512 * span.next, second);
 }
 
 // Reads the bytes there.
-pub fn read_span(bytes: &[u8], span: Span, into: &mut [u8])
-    requires memory { length bytes.now ≡ 8388608 }
+pub fn read_span(bytes: &Bytes, span: Span, into: &mut [u8])
     requires span { IsSpan span }
     requires whole { length into.old ≡ span.len }
-    ensures { into.new ≡ bytes_in span bytes.now }
+    ensures bytes { into.new ≡ bytes_in span bytes.now }
+    ensures size { length bytes.now ≡ 8388608 }
 {
     let (first, second) = into.split_at_mut(len_in_frame(span));
-    get(bytes, 512 * span.frame + span.offset, first);
-    get(bytes, 512 * span.next, second);
+    bytes.get(512 * span.frame + span.offset, first);
+    bytes.get(512 * span.next, second);
 }
 
 // Writes there the first bytes of 512.
-pub fn write_front(bytes: &mut [u8], span: Span, from: &[u8; 512])
-    requires memory { length bytes.old ≡ 8388608 }
+pub fn write_front(bytes: &mut Bytes, span: Span, from: &[u8; 512])
     requires span { IsSpan span }
-    ensures { bytes.new ≡ with_bytes_in span (front span.len from.now) bytes.old }
+    ensures bytes { bytes.new ≡ with_bytes_in span (front span.len from.now) bytes.old }
+    ensures size { length bytes.new ≡ 8388608 }
 {
     write_span(bytes, span, &from[..span.len]);
 }
 
 // Reads the bytes there and then zeros.
-pub fn read_filled(bytes: &[u8], span: Span, into: &mut [u8])
-    requires memory { length bytes.now ≡ 8388608 }
+pub fn read_filled(bytes: &Bytes, span: Span, into: &mut [u8])
     requires span { IsSpan span }
     requires room { span.len ≤ length into.old }
-    ensures { into.new ≡ filled (length into.old) (bytes_in span bytes.now) }
+    ensures bytes { into.new ≡ filled (length into.old) (bytes_in span bytes.now) }
+    ensures size { length bytes.now ≡ 8388608 }
 {
     let (window, rest) = into.split_at_mut(span.len);
     read_span(bytes, span, window);

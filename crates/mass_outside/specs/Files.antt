@@ -1,5 +1,5 @@
 -- The files of the packs, and what is read from a file and written to it.
-use Rattle.std.specs.Prelude.{ℕ, ◌==◌, ◌<◌, ◌≤◌, nat_lt, ◌&&◌, Bool, true, List, ◌++◌, length, take, codes, Option, Result, Ok, Err}
+use Rattle.std.specs.Prelude.{ℕ, ◌+◌, ◌%◌, ◌^◌, ◌==◌, ◌<◌, ◌≤◌, nat_lt, ◌&&◌, Bool, true, List, ◌++◌, length, take, codes, Option, Result, Ok, Err}
 use Rattle.std.specs.Fmt.{decimal}
 use Rattle.std.specs.Io.KnownBytes.{Consumes, IsAtEnd}
 use Rattle.mass_outside.specs.declared.files.Part.{Part}
@@ -9,6 +9,10 @@ use Rattle.mass_outside.specs.declared.files.Part.TheVariants.{Image, Marks}
 abbrev pub name_of : ℕ → Part → List ℕ
 name_of unit Image = codes "hp" ++ (decimal unit ++ codes ".dsk")
 name_of unit Marks = codes "hp" ++ (decimal unit ++ codes ".bad")
+
+-- a place of a file, behind so many bytes
+abbrev pub moved_by : ℕ → ℕ → ℕ
+moved_by count at = (at + count) % 2 ^ 64
 
 -- a front of a piece has what a reader had next, and all of the piece where the reader had enough
 pub record FillsFront (old new : Option (List ℕ)) (piece : List ℕ) (count : ℕ) : Type 0 where

@@ -1,23 +1,53 @@
-ghost use Rattle.std.specs.Prelude.{◌≡◌, ◌<◌, ◌≤◌, ◌-◌, ◌*◌, ◌==◌, ◌++◌, ℕ, not, if◌then◌else◌, length, take, replicate, IfOk, OnOk, IfSome, IsSome, vec_len, string_bytes};
-ghost use Rattle.std.specs.Io.KnownBytes.{Appends, WriteAppends};
-ghost use Rattle.std.specs.Io.Seek.{MovesTo};
+ghost use Rattle.std.specs.Prelude.{◌≡◌, ◌<◌, ◌≤◌, ◌-◌, ◌*◌, ◌==◌, ◌++◌, ℕ, not, if◌then◌else◌, length, take, replicate, IfOk, OnOk, IfSome, IsSome, None, MatchResult, vec_len, string_bytes};
+ghost use Rattle.std.specs.Io.{ReadsAtMost, WritesAtMost};
+ghost use Rattle.std.specs.Io.KnownBytes.{Appends, ReadConsumes, WriteAppends};
 ghost use Rattle.mass_outside.specs.Causes.{HasCause, Counts};
-ghost use Rattle.mass_outside.specs.Files.{name_of, FillsFront};
+ghost use Rattle.mass_outside.specs.Files.{name_of, moved_by, FillsFront};
 
 use crate::streams::{counted, some_taken};
 use crate::traits::{Packs, Sink, SinkFailed, StoreFailed};
 use std::alloc::{AllocError, Global};
 use std::fs::{OpenFile, OpenOptions};
 use std::io;
-use std::io::{ErrorKind, Read, Seek, SeekFrom, Write};
+use std::io::{ErrorKind, Read, Write};
+use std::os::unix::fs::FileExt;
 use std::rt::Files;
 
-/// Goes to a place of a file.
-fn go_to<F: Seek>(file: &mut F, at: u64) -> io::Result<()>
-    ensures { MovesTo (F.stream_position file.old) (F.stream_position file.new) at result }
-{
-    file.seek(SeekFrom::Start(at))?;
-    Ok(())
+/// A file from a place on: what is read and written begins there, and the place goes on behind it.
+#[derive(Drop)]
+struct Onward<'a, F> {
+    file: &'a F,
+    at: u64,
+}
+
+impl<'a, F: FileExt> Read for Onward<'a, F> {
+    fn read(&mut self, into: &mut [u8]) -> io::Result<usize>
+        ensures bound { ReadsAtMost result into.new }
+        ensures bytes { ReadConsumes None None result into.new }
+        ensures place { MatchResult result (λ n. self.new.at ≡ moved_by n self.old.at) (λ _. self.new.at ≡ self.old.at) }
+        ensures file { self.new.file.now ≡ self.old.file.now }
+    {
+        let count = self.file.read_at(into, self.at)?;
+        self.at = self.at.wrapping_add(count as u64);
+        Ok(count)
+    }
+}
+
+impl<'a, F: FileExt> Write for Onward<'a, F> {
+    fn write(&mut self, from: &[u8]) -> io::Result<usize>
+        ensures bound { WritesAtMost result from.now }
+        ensures bytes { WriteAppends None None result from.now }
+        ensures place { MatchResult result (λ n. self.new.at ≡ moved_by n self.old.at) (λ _. self.new.at ≡ self.old.at) }
+        ensures file { self.new.file.now ≡ self.old.file.now }
+    {
+        let count = self.file.write_at(from, self.at)?;
+        self.at = self.at.wrapping_add(count as u64);
+        Ok(count)
+    }
+
+    fn flush(&mut self) -> io::Result<()> {
+        Ok(())
+    }
 }
 
 /// Reads as many bytes as there are and as fit, and answers how many they are.
@@ -44,9 +74,8 @@ fn fill_rest(into: &mut [u8], count: usize)
 }
 
 /// Reads as many bytes as a file has from a place on, and as fit, and fills the rest with zeros.
-fn read_at<F: Read + Seek>(file: &mut F, at: u64, into: &mut [u8]) -> io::Result<()> {
-    go_to(file, at)?;
-    let count = read_front(file, into)?;
+fn read_at<F: FileExt>(file: &F, at: u64, into: &mut [u8]) -> io::Result<()> {
+    let count = read_front(&mut Onward { file, at }, into)?;
     fill_rest(into, count);
     Ok(())
 }
@@ -64,9 +93,8 @@ fn write_whole<F: Write>(file: &mut F, from: &[u8]) -> io::Result<()>
 }
 
 /// Writes bytes at a place.
-fn write_at<F: Write + Seek>(file: &mut F, at: u64, from: &[u8]) -> io::Result<()> {
-    go_to(file, at)?;
-    write_whole(file, from)
+fn write_at<F: FileExt>(file: &F, at: u64, from: &[u8]) -> io::Result<()> {
+    write_whole(&mut Onward { file, at }, from)
 }
 
 /// The place of a block in an image, in bytes.
@@ -95,14 +123,6 @@ fn mark_byte(on: bool) -> u8
 enum Part {
     Image,
     Marks,
-}
-
-/// A unit's file that is open, and stays so between calls.
-#[derive(Drop)]
-struct OpenPart<F> {
-    unit: u8,
-    part: Part,
-    file: F,
 }
 
 /// The name of a unit's file.
@@ -136,14 +156,36 @@ fn open_part<R: Files>(rt: &R, name: &str, create: bool) -> io::Result<R::File> 
     }
 }
 
+/// What is known of a unit's file. One that was opened stays open between calls; one that was missing is taken to be
+/// missing until it is made here.
+#[derive(Clone, Copy, Debug, PartialEq, Eq)]
+enum Known {
+    Nothing,
+    Missing,
+    /// It stands at this place among the open ones.
+    Open(usize),
+}
+
+/// The place of a unit's file among those of all units.
+fn place_of(unit: u8, part: Part) -> usize
+    requires { unit < 32 }
+    ensures { result < 64 }
+{
+    match part {
+        Part::Image => 2 * usize::from(unit),
+        Part::Marks => 2 * usize::from(unit) + 1,
+    }
+}
+
 /// The packs in the files `hpU.dsk` (image) and `hpU.bad` (marks) of the working folder, for unit U in decimal: block b
 /// is bytes 512*b to 512*b+511 of the image, and byte b of the marks belongs to block b. A missing file is empty, and is
-/// made at its first write. A file that may only be read is read; a write to it fails. What the files hold is not told;
-/// each error counts as a fault.
+/// made at its first write; that it is missing is asked once, so nobody else may make it meanwhile. A file that may only
+/// be read is read; a write to it fails. What the files hold is not told; each error counts as a fault.
 #[derive(Drop)]
 pub struct FilePacks<R: Files + AllocGlobal> {
     rt: R,
-    files: Vec<OpenPart<R::File>>,
+    files: Vec<R::File>,
+    known: [Known; 64],
     faults: u64,
 }
 
@@ -156,47 +198,67 @@ impl<R: Files + AllocGlobal> FilePacks<R> {
         FilePacks {
             rt,
             files,
+            known: [Known::Nothing; 64],
             faults: 0,
         }
     }
 
-    /// Where a file stands among the open ones, if there is such a file. It is opened where it is not.
+    /// Where a file stands among the open ones, if there is such a file. It is opened where it is not, unless it is known
+    /// to be missing and is not to be made.
     fn find(&mut self, unit: u8, part: Part, create: bool) -> io::Result<Option<usize>>
+        requires small { unit < 32 }
         ensures inside { IfOk result (λ place. IfSome place (λ i. i < vec_len self.new.files)) }
         ensures faults { self.new.faults ≡ self.old.faults }
     {
-        let found = self
-            .files
-            .iter()
-            .position(|file| file.unit == unit && file.part == part);
-        if let Some(i) = found {
-            return Ok(Some(i));
+        let known = self.known[place_of(unit, part)];
+        match known {
+            Known::Open(i) if i < self.files.len() => Ok(Some(i)),
+            Known::Missing if !create => Ok(None),
+            _ => self.open(unit, part, create),
         }
+    }
+
+    /// Opens a file, and says where it stands among the open ones; none where it is missing and is not to be made.
+    fn open(&mut self, unit: u8, part: Part, create: bool) -> io::Result<Option<usize>>
+        requires small { unit < 32 }
+        ensures inside { IfOk result (λ place. IfSome place (λ i. i < vec_len self.new.files)) }
+        ensures faults { self.new.faults ≡ self.old.faults }
+    {
         let name = part_name(self.rt.alloc(), unit, part)?;
         match open_part(&self.rt, name.as_str(), create) {
             Ok(file) => {
-                self.files.push(OpenPart { unit, part, file })?;
-                Ok(Some(self.files.len() - 1))
+                let i = self.files.len();
+                self.files.push(file)?;
+                self.known[place_of(unit, part)] = Known::Open(i);
+                Ok(Some(i))
             }
             Err(error) => {
                 if error.kind() == ErrorKind::NotFound && !create {
+                    self.known[place_of(unit, part)] = Known::Missing;
                     return Ok(None);
                 }
                 Err(error)
             }
         }
     }
+}
 
+impl<R: Files + AllocGlobal> FilePacks<R>
+where
+    R::File: FileExt,
+{
     fn try_length(&mut self, unit: u8) -> io::Result<u64>
+        requires { unit < 32 }
         ensures { self.new.faults ≡ self.old.faults }
     {
         match self.find(unit, Part::Image, false)? {
             None => Ok(0),
-            Some(i) => Ok(self.files[i].file.metadata()?.len()),
+            Some(i) => Ok(self.files[i].metadata()?.len()),
         }
     }
 
     fn try_read(&mut self, unit: u8, part: Part, at: u64, into: &mut [u8]) -> io::Result<()>
+        requires { unit < 32 }
         ensures { self.new.faults ≡ self.old.faults }
     {
         match self.find(unit, part, false)? {
@@ -204,11 +266,12 @@ impl<R: Files + AllocGlobal> FilePacks<R> {
                 fill_rest(into, 0);
                 Ok(())
             }
-            Some(i) => read_at(&mut self.files[i].file, at, into),
+            Some(i) => read_at(&self.files[i], at, into),
         }
     }
 
     fn try_marked(&mut self, unit: u8, block: u32) -> io::Result<bool>
+        requires { unit < 32 }
         ensures { self.new.faults ≡ self.old.faults }
     {
         let mut byte = [0u8; 1];
@@ -217,16 +280,20 @@ impl<R: Files + AllocGlobal> FilePacks<R> {
     }
 
     fn try_write(&mut self, unit: u8, part: Part, at: u64, from: &[u8]) -> io::Result<()>
+        requires { unit < 32 }
         ensures { self.new.faults ≡ self.old.faults }
     {
         match self.find(unit, part, true)? {
             None => Err(io::Error::from(ErrorKind::NotFound)),
-            Some(i) => write_at(&mut self.files[i].file, at, from),
+            Some(i) => write_at(&self.files[i], at, from),
         }
     }
 }
 
-impl<R: Files + AllocGlobal> Packs for FilePacks<R> {
+impl<R: Files + AllocGlobal> Packs for FilePacks<R>
+where
+    R::File: FileExt,
+{
     ghost use Rattle.std.specs.Prelude.{false};
     ghost use Rattle.pack_model.specs.Pack.{empty_pack};
 

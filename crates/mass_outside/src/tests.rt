@@ -425,6 +425,19 @@ fn packs_in_files(rt: HostRuntime) -> Result<(), Fail> {
 }
 
 #[test]
+fn missing_until_written(rt: HostRuntime) -> Result<(), Fail> {
+    let mut packs = FilePacks::new(&rt);
+    assert!(rt; packs.length(25) == Ok(0));
+    fs::write(&rt, "hp25.dsk", &[1; 512])?;
+    assert!(rt; packs.length(25) == Ok(0), "it was missing");
+    assert!(rt; packs.write(25, 1, &[2; 512]).is_ok());
+    assert!(rt; packs.length(25) == Ok(1024), "it is opened to be written");
+    fs::remove_file(&rt, "hp25.dsk")?;
+    assert!(rt; packs.length(25) == Ok(1024), "it stays open");
+    Ok(())
+}
+
+#[test]
 fn file_sink(rt: HostRuntime) -> Result<(), Fail> {
     fs::write(&rt, "hp.trace", b"an older and longer text")?;
     let mut file = FileSink::new(&rt, "hp.trace");

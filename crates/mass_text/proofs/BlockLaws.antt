@@ -1,7 +1,10 @@
 -- The text of a block.
-use Rattle.std.proofs.Common.{◌≡◌, ℕ, zero, suc, ◌+◌, ◌*◌, ◌/◌, ◌%◌, ◌<◌, ◌≤◌, ◌==◌, ◌&&◌, inl, inr, Bool, true, false, List, [], ◌∷◌, length, get_or, slice_index, arith, refl}
+use Rattle.std.proofs.Common.{◌≡◌, ℕ, zero, suc, ◌+◌, take, drop, nat_eq, ap, sym, ◌∙◌, ◌*◌, ◌/◌, ◌%◌, ◌<◌, ◌≤◌, ◌==◌, ◌&&◌, inl, inr, Bool, true, false, List, [], ◌∷◌, length, get_or, slice_index, arith, refl}
 use Rattle.std.specs.List.{flat_map, list_all}
 use Rattle.std.proofs.lemmas.Bool.{and_parts, cases_lt, eqb-true}
+use Rattle.std.proofs.lemmas.Bool.Decides.{nat_tests}
+use Rattle.std.proofs.lemmas.List.{take_all}
+use lib.Pointwise.{pointwise}
 use Rattle.hex.specs.Hex.{encode_with, lower_digits}
 use Rattle.mass_text.specs.BlockText.{hex_digit, hex_byte, content_text}
 
@@ -51,3 +54,27 @@ content_by bytes false e size = omega (arith, length-content_other bytes e)
 -- the text of a block has at most 1,028 bytes
 pub length-content_text-le : (bytes : List ℕ) → length bytes ≤ 512 → length (content_text bytes) ≤ 1028
 length-content_text-le bytes size = content_by bytes (list_all (λ b. b == slice_index bytes 0) bytes) refl size
+
+-- bytes that are each the one before it are all the first
+same_first : (one : Bool) (x y : ℕ) (ys : List ℕ) → (y == x) ≡ one → (one && list_all (λ b. b == y) ys) ≡ (one && list_all (λ b. b == x) ys)
+same_first true x y ys e = ap (λ (z : ℕ). list_all (λ b. b == z) ys) (eqb-true y x e)
+same_first false x y ys e = refl
+
+each_before : (x : ℕ) (xs : List ℕ) (n : ℕ) → length xs ≡ n → pointwise nat_eq xs (take n (x ∷ xs)) ≡ list_all (λ b. b == x) xs
+each_before x [] zero e = refl
+each_before x [] (suc n) e = absurd (omega arith)
+each_before x (y ∷ ys) zero e = absurd (omega arith)
+each_before x (y ∷ ys) (suc n) e =
+    let rest : pointwise nat_eq ys (take n (y ∷ ys)) ≡ list_all (λ b. b == y) ys = each_before y ys n (omega arith) in
+    ap (λ (t : Bool). (y == x) && t) rest ∙ same_first (y == x) x y ys refl
+
+pub repeated-is : (bytes : List ℕ) (n : ℕ) → length bytes ≡ n + 1 → pointwise nat_eq (take n (drop 1 bytes)) (take n bytes) ≡ list_all (λ b. b == slice_index bytes 0) bytes
+repeated-is [] n e = absurd (omega arith)
+repeated-is (x ∷ xs) n e =
+    let whole : take n xs ≡ xs = take_all n xs (omega arith) in
+    let same : (x == x) ≡ true = yes x in
+    ap (λ (ys : List ℕ). pointwise nat_eq ys (take n (x ∷ xs))) whole ∙ each_before x xs n (omega arith)
+    ∙ sym (ap (λ (t : Bool). t && list_all (λ b. b == x) xs) same)
+  where
+    yes : (x : ℕ) → (x == x) ≡ true
+    yes x = grind (arith, nat_tests)

@@ -23,12 +23,12 @@ impl Model for LineBuf {
     ghost view = { λ buf. buf.text.items };
 }
 
+// Whether bytes are one byte repeated: each is the one before it. Slices are compared by words.
 fn is_one_byte(bytes: &[u8]) -> bool
     requires { 1 ≤ length bytes.now }
     ensures { result ≡ list_all (λ b. b == slice_index bytes.now 0) bytes.now }
 {
-    let first = bytes[0];
-    bytes.iter().all(|byte| *byte == first)
+    bytes[1..] == bytes[..bytes.len() - 1]
 }
 
 impl LineBuf {

@@ -1,6 +1,6 @@
 use Rattle.main_memory.specs.Bytes.{front}
 use Rattle.main_memory.proofs.span.write_front.Goals as goal
 
-pub returns : goal.returns
+pub returns-clause-bytes : goal.returns-clause-bytes
 unfolding front
-returns c = c.write_span.ensures
+returns-clause-bytes c = c.write_span.ensures.bytes

@@ -10,4 +10,4 @@ pub returns-clause-every : goal.returns-clause-every
 returns-clause-every c = ap length c.all_free.ensures ∙ length-all_frames
 
 pub returns-clause-sound : goal.returns-clause-sound
-returns-clause-sound c = is_memory c.in-Ok.bytes.items c.all_free.result c.in-Ok.ensures
+returns-clause-sound c = is_memory c.in-Ok.bytes c.all_free.result c.in-Ok.ensures
