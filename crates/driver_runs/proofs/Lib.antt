@@ -2,3 +2,4 @@ mod Images
 mod Acts
 mod Units
 pub mod Runs
+pub mod Sectors
