@@ -43,6 +43,19 @@ text_append [] ns = refl
 text_append (m ∷ ms) ns =
     ap (λ (t : List ℕ). moment_text m ++ t) (text_append ms ns) ∙ sym (append_assoc (moment_text m) (trace_text ms) (trace_text ns))
 
+-- FRONTS of texts
+pub front_same : (text : List ℕ) → IsFront text text
+front_same text = record { rest = []; whole = sym (append-nil text) }
+
+pub front_more : (text more : List ℕ) → IsFront text (text ++ more)
+front_more text more = record { rest = more; whole = refl }
+
+pub front_of_front : (first mid text : List ℕ) → IsFront first mid → IsFront mid text → IsFront first text
+front_of_front first mid text is also = record {
+  rest = is.rest ++ also.rest;
+  whole = also.whole ∙ ap (λ (t : List ℕ). t ++ also.rest) is.whole ∙ append_assoc first is.rest also.rest;
+}
+
 -- WHAT IS DONE, one behind the other
 pub acts_join : (told : Told) (xs ys : List Act) (old mid new : Site) → Acts told xs old mid → Acts told ys mid new → Acts told (xs ++ ys) old new
 acts_join told xs ys old mid new first next = record {
@@ -70,6 +83,7 @@ pub does_join : (told : Told) (xs ys : List Act) (old mid new : Site) → Does t
 does_join told xs ys old mid new first next = record {
   does = acts_join told xs ys old mid new first.does next.does;
   text = λ tells. next.text tells ∙ text_join xs ys old mid first.does.world (first.text tells);
+  sent = λ tells. front_of_front old.sent mid.sent new.sent (first.sent tells) (next.sent tells);
 }
 
 -- OUTCOMES
@@ -82,6 +96,7 @@ does_then told first next old mid new (Some Sink) does is = record {
   all = ap (λ (acts : List Act). first ++ acts) is.all ∙ sym (append_assoc first is.done is.left);
   does = acts_join told first is.done old mid new does.does is.does;
   front = λ tells. subst (IsFront new.text) (text_join first is.done old mid does.does.world (does.text tells)) (is.front tells);
+  sent = λ tells. front_of_front old.sent mid.sent new.sent (does.sent tells) (is.sent tells);
 }
 does_then told first next old mid new (Some Store) does is = record {
   done = first ++ is.done;
@@ -100,6 +115,7 @@ stopped_before told first next old new Sink is = record {
   all = ap (λ (acts : List Act). acts ++ next) is.all ∙ append_assoc is.done is.left next;
   does = is.does;
   front = is.front;
+  sent = is.sent;
 }
 stopped_before told first next old new Store is = is
 
@@ -107,4 +123,5 @@ pub nothing_done : (told : Told) (s : Site) → Does told [] s s
 nothing_done told s = record {
   does = record { run = tt; world = refl; reads = λ tells. tt; packs = λ tells. refl };
   text = λ tells. sym (append-nil s.text);
+  sent = λ tells. front_same s.sent;
 }

@@ -14,11 +14,13 @@ use Rattle.driver_outcome.specs.Packs.{ReadAll, packs_after_all}
 use Rattle.driver_outcome.specs.declared.Stop.{Stop}
 use Rattle.driver_outcome.specs.declared.Stop.TheVariants.{Store, Sink}
 
--- what the driver works on: its world, what the packs hold, and the text that the trace took so far
+-- what the driver works on: its world, what the packs hold, and the text that was told so far, of which the trace took the front that
+-- was sent
 pub record Site : Type 0 where
   pub world : World
   pub held : ℕ → Pack
   pub text : List ℕ
+  pub sent : List ℕ
 
 -- whether the packs tell what they hold, and the trace what it took
 pub record Told : Type 0 where
@@ -36,23 +38,25 @@ pub record Acts (told : Told) (acts : List Act) (old new : Site) : Type 0 where
 abbrev pub text_after : Site → List Act → List ℕ
 text_after old acts = old.text ++ trace_text (lines_of_all old.world acts)
 
--- DONE: all acts, and their whole text
-pub record Does (told : Told) (acts : List Act) (old new : Site) : Type 0 where
-  pub does : Acts told acts old new
-  pub text : IsTrue told.trace → new.text ≡ text_after old acts
-
 -- one text is a front of another
 pub record IsFront (front text : List ℕ) : Type 0 where
   pub rest : List ℕ
   pub whole : text ≡ front ++ rest
 
--- THE TRACE FAILED: the first acts were done, and a front of their text was taken.
+-- DONE: all acts, and their whole text. What was sent before stands.
+pub record Does (told : Told) (acts : List Act) (old new : Site) : Type 0 where
+  pub does : Acts told acts old new
+  pub text : IsTrue told.trace → new.text ≡ text_after old acts
+  pub sent : IsTrue told.trace → IsFront old.sent new.sent
+
+-- THE TRACE FAILED: the first acts were done, and a front of their text was taken, behind what was sent before.
 pub record StopsAtTrace (told : Told) (acts : List Act) (old new : Site) : Type 0 where
   pub done : List Act
   pub left : List Act
   pub all : acts ≡ done ++ left
   pub does : Acts told done old new
   pub front : IsTrue told.trace → IsFront new.text (text_after old done)
+  pub sent : IsTrue told.trace → IsFront old.sent new.sent
 
 -- A block that was to be written: the next one of a transfer that is under way, of a write, at a sector that is not marked.
 pub record IsNextBlock (w : World) (packs packs' : ℕ → Pack) : Type 0 where
@@ -72,6 +76,12 @@ pub record StopsAtPacks (told : Told) (old new : Site) : Type 0 where
   pub world : new.world ≡ between.world
   pub text : IsTrue told.trace → new.text ≡ between.text
   pub packs : IsTrue told.packs → (new.held ≡ between.held) ⊎ IsNextBlock between.world between.held new.held
+
+-- THE PACKS FAILED BEFORE AN ACT: nothing was done or told; the packs are as they were, or the block that was to be written is there.
+pub record StopsBefore (told : Told) (old new : Site) : Type 0 where
+  pub world : new.world ≡ old.world
+  pub text : IsTrue told.trace → new.text ≡ old.text
+  pub packs : IsTrue told.packs → (new.held ≡ old.held) ⊎ IsNextBlock old.world old.held new.held
 
 -- what stopped a call, if something did
 abbrev pub stop_in : {A : Type 0} → Result A Stop → Option Stop

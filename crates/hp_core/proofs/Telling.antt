@@ -14,6 +14,7 @@ use Rattle.driver_machine.specs.Guards.{Allowed}
 use Rattle.driver_outcome.specs.Packs.{Reads, packs_after}
 use Rattle.driver_outcome.specs.Outcome.{Site, Acts, Does, IsFront, StopsAtTrace, Outcome, text_after, stop_in}
 use Rattle.driver_outcome.specs.Outcome as outcome
+use Rattle.driver_outcome.proofs.Joined.{front_same}
 use Rattle.driver_outcome.specs.declared.Stop.{Stop}
 use Rattle.driver_outcome.specs.declared.Stop.TheVariants.{Store, Sink}
 use Rattle.hp_core.specs.State.{State, site}
@@ -63,12 +64,17 @@ module _ {O : Type 0} (tells : O → Bool) (taken : O → List ℕ) (faults : O 
         (sym (append-nil (taken trace')) ∙ ap (λ (t : List ℕ). taken trace' ++ t) (sym none));
   }
 
+  -- what was sent before stands
+  sent_is : TakesFront (taken trace) (taken trace') (old.kept ++ moment_text m) → IsFront (taken trace) (taken trace')
+  sent_is front = record { rest = take front.0 (old.kept ++ moment_text m); whole = front.1 }
+
   outcome_by : (result : Result (Unit {0}) Stop) → IsApart act → Allowed old.world act → lines_of old.world act ≡ m ∷ [] → new.world ≡ after old.world act
       → Gathers tells taken faults trace trace' old.kept new.kept result (moment_text m) → IfErr result (λ stop. stop ≡ Sink) → (told : Bool) (packs : ℕ → Pack)
       → Outcome (record { packs = told; trace = tells trace' }) (act ∷ []) (site old packs (taken trace)) (site new packs (taken trace')) (stop_in result)
   outcome_by (Ok value) apart may is world g stop told packs = record {
     does = acts_one _ act packs _ _ apart may world refl refl;
     text = λ t. text_is is (g.bytes t) packs;
+    sent = λ t. sent_is (g.front t);
   }
   outcome_by (Err Sink) apart may is world g stop told packs = record {
     done = act ∷ [];
@@ -76,6 +82,7 @@ module _ {O : Type 0} (tells : O → Bool) (taken : O → List ℕ) (faults : O 
     all = refl;
     does = acts_one _ act packs _ _ apart may world refl refl;
     front = λ t. front_is is g.none_kept (g.front t) packs;
+    sent = λ t. sent_is (g.front t);
   }
   outcome_by (Err Store) apart may is world g stop told packs = absurd (cc)
 
@@ -84,9 +91,9 @@ module _ {O : Type 0} (tells : O → Bool) (taken : O → List ℕ) (faults : O 
       → Acts (record { packs = told; trace = tells trace' }) (act ∷ []) (site old held (taken trace)) (site new held' (taken trace'))
       → Gathers tells taken faults trace trace' old.kept new.kept result (moment_text m) → IfErr result (λ stop. stop ≡ Sink)
       → Outcome (record { packs = told; trace = tells trace' }) (act ∷ []) (site old held (taken trace)) (site new held' (taken trace')) (stop_in result)
-  outcome_of told held held' (Ok value) is acts g stop = record { does = acts; text = λ t. text_is is (g.bytes t) held }
+  outcome_of told held held' (Ok value) is acts g stop = record { does = acts; text = λ t. text_is is (g.bytes t) held; sent = λ t. sent_is (g.front t) }
   outcome_of told held held' (Err Sink) is acts g stop =
-      record { done = act ∷ []; left = []; all = refl; does = acts; front = λ t. front_is is g.none_kept (g.front t) held }
+      record { done = act ∷ []; left = []; all = refl; does = acts; front = λ t. front_is is g.none_kept (g.front t) held; sent = λ t. sent_is (g.front t) }
   outcome_of told held held' (Err Store) is acts g stop = absurd (cc)
 
   -- AN ACT AND ITS LINE
@@ -113,6 +120,7 @@ silent_act old new act apart may is change = record {
     does = acts_one _ act held _ _ apart may (ap (λ (s : State). s.world) change) refl refl;
     text = λ t. ap (λ (s : State). taken ++ s.kept) change ∙ sym (append-nil (taken ++ old.kept))
         ∙ ap (λ (x : List ℕ). (taken ++ old.kept) ++ x) (sym (no_text old.world act is));
+    sent = λ t. front_same taken;
   };
   world = ap (λ (s : State). s.world) change;
 }

@@ -147,6 +147,14 @@ sector_stopped holds held packs_faults tells taken faults packs packs' trace old
   never_again = λ t. t;
   causes = stopped_causes (packs_faults packs) (packs_faults packs') (faults trace) later rose;
   kept = λ e. ap (λ (s : State). s.kept) same;
+  before = λ e. record {
+    world = ap (λ (s : State). s.world) same;
+    text = λ t. ap (λ (s : State). taken trace ++ s.kept) same;
+    packs = λ t. elim (left t) [
+      | inl is ↦ inl is
+      | inr is ↦ inr (record { unit = u; busy = b; writes = is.0; unmarked = is.1; is = is.2 })
+    ];
+  };
 }
 
 -- THE SECTOR was tried, and its line told or not.
@@ -178,4 +186,5 @@ sector_told holds held packs_faults tells taken faults packs packs' trace trace'
       never_again = told.gathers.never_again;
       causes = told_causes (packs_faults packs) (packs_faults packs') (faults trace) (faults trace') result later told.gathers.cause told.stop;
       kept = λ e. absurd (no_store result told.stop e);
+      before = λ e. absurd (no_store result told.stop e);
     }

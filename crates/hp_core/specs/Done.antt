@@ -6,7 +6,7 @@ use Rattle.hardware_table.specs.Adapter.{next_block}
 use Rattle.mass_gather.specs.Gathers.{Gathers}
 use Rattle.driver_machine.specs.World.{adapter_at, adapter_of}
 use Rattle.driver_machine.specs.Acts.{Act, Of, Sector, Tried, after}
-use Rattle.driver_outcome.specs.Outcome.{Does, Outcome, stop_in}
+use Rattle.driver_outcome.specs.Outcome.{Does, Outcome, StopsBefore, stop_in}
 use Rattle.driver_outcome.specs.declared.Stop.{Stop}
 use Rattle.driver_outcome.specs.declared.Stop.TheVariants.{Store, Sink}
 use Rattle.hp_core.specs.State.{State, site}
@@ -41,7 +41,7 @@ pub record HasCauses (packs packs' trace trace' : ℕ) (stop : Option Stop) : Ty
   pub sink : stop ≡ Some Sink → Rose trace trace'
 
 -- THE NEXT SECTOR of the transfer under way at a unit IS TRIED, and its line told: for some sector the call comes to what trying
--- it comes to. Each failure has its cause, and where the packs failed no more text is kept.
+-- it comes to. Each failure has its cause, and where the packs failed nothing was done, and no more text is kept.
 pub record TriesSector {O Q : Type 0} (holds : Q → Bool) (held : Q → ℕ → Pack) (packs_faults : Q → ℕ) (tells : O → Bool) (taken : O → List ℕ) (faults : O → ℕ) (packs packs' : Q) (trace trace' : O) (old new : State) (result : Result (Unit {0}) Stop) (line u id : ℕ) : Type 0 where
   pub tried : Tried
   pub outcome : Outcome (record { packs = holds packs'; trace = tells trace' })
@@ -52,3 +52,5 @@ pub record TriesSector {O Q : Type 0} (holds : Q → Bool) (held : Q → ℕ →
   pub never_again : IsTrue (tells trace') → IsTrue (tells trace)
   pub causes : HasCauses (packs_faults packs) (packs_faults packs') (faults trace) (faults trace') (stop_in result)
   pub kept : stop_in result ≡ Some Store → new.kept ≡ old.kept
+  pub before : stop_in result ≡ Some Store
+      → StopsBefore (record { packs = holds packs'; trace = tells trace' }) (site old (held packs) (taken trace)) (site new (held packs') (taken trace'))

@@ -10,10 +10,10 @@ pub record State : Type 0 where
   pub world : World
   pub kept : List ℕ
 
--- The site of a call, with what the packs hold and what the trace took: the text that was told is what was taken and what is
--- still kept.
+-- The site of a call, with what the packs hold and what the trace took: the text that was told is what was taken, which is sent, and
+-- what is still kept.
 abbrev pub site : State → (ℕ → Pack) → List ℕ → Site
-site state packs taken = record { world = state.world; held = packs; text = taken ++ state.kept }
+site state packs taken = record { world = state.world; held = packs; text = taken ++ state.kept; sent = taken }
 
 -- how many of the answers that wait are of requests that were refused
 abbrev pub one_refused : Option ℕ → ℕ

@@ -121,6 +121,12 @@ pub works_sent : {O : Type 0} (tells : O → Bool) (taken : O → List ℕ) (fau
 works_sent tells taken faults trace trace' old new (Ok x) acts work is = subst AtWork (sym (is.outcome false (λ u. empty_pack)).does.world) work
 works_sent tells taken faults trace trace' old new (Err stop) acts work is = tt
 
+-- what stopped was the trace
+pub no_store : (result : Result (Unit {0}) Stop) → IfErr result (λ stop. stop ≡ Sink) → stop_in result ≡ Some Store → ⊥
+no_store (Ok x) stop e = absurd (cc)
+no_store (Err Sink) stop e = absurd (cc)
+no_store (Err Store) stop e = absurd (cc)
+
 -- THE CAUSES of an event that has nothing to do with the packs
 trace_causes : (packs trace trace' : ℕ) (result : Result (Unit {0}) Stop) → HasCause trace trace' result → IfErr result (λ stop. stop ≡ Sink)
     → HasCauses packs packs trace trace' (stop_in result)
@@ -140,6 +146,8 @@ event_sent holds held packs_faults tells taken faults packs trace trace' old new
         may = λ e. may;
         reads = λ e t. reads;
         outcome = is.outcome (holds packs) (held packs);
+        moves = λ e. absurd (no_store result is.stop e);
+        before = λ e. absurd (no_store result is.stop e);
       };
       leaves = left_by old new result stands (ran_sent tells taken faults trace trace' old new result (event_acts line input tried old.world) is)
           (works_sent tells taken faults trace trace' old new result (event_acts line input tried old.world) works.work is) is.sent;

@@ -18,10 +18,10 @@ use Rattle.hp_core.specs.Done.{Tells, HasCauses}
 use Rattle.hp_events.specs.Moves.{DoesMove}
 use Rattle.hp_driver.specs.Subsystem.{seen}
 use Rattle.hp_driver.specs.Calls.{Stands, Happens}
-use Rattle.hp_driver.proofs.Sent.{front_taken, packs_stopped}
+use Rattle.hp_driver.proofs.Sent.{front_taken, packs_stopped, before_stopped}
 use Rattle.hp_driver.proofs.Behind.{ran_by}
 use Rattle.hp_driver.proofs.Moves.{tried_by_rules, read_from}
-use Rattle.hp_driver.proofs.Calls.{outcome_sent, ok_empty, left_by, most, rose_later}
+use Rattle.hp_driver.proofs.Calls.{outcome_sent, ok_empty, left_by, most, rose_later, no_store}
 
 -- the causes of a move that ended well, and of the sending behind it
 move_causes : (packs packs' trace mid trace' : ℕ) (x : Unit {0}) (result : Result (Unit {0}) Stop) → HasCauses packs packs' trace mid (stop_in {A = Unit {0}} (Ok x))
@@ -56,6 +56,8 @@ module _ {O Q : Type 0} (holds : Q → Bool) (held : Q → ℕ → Pack) (packs_
           may = λ e. may;
           reads = λ e t can. read_from old.world line a is.tried stands.sound can (held packs) stands.noise (is.outcome.does.reads t);
           outcome = outcome;
+          moves = λ e. refl;
+          before = λ e. absurd (no_store result sends.stop e);
         };
         leaves = left_by old new result stands (ran_by _ (move_acts line a is.tried old.world) _ _ (stop_in result) outcome)
             (at_work trace trace' new result is.tried may outcome)
@@ -78,6 +80,8 @@ module _ {O Q : Type 0} (holds : Q → Bool) (held : Q → ℕ → Pack) (packs_
           may = λ e. absurd (cc);
           reads = λ e. absurd (cc);
           outcome = outcome;
+          moves = λ e. refl;
+          before = λ e. before_stopped (holds packs') (move_acts line a is.tried old.world) old.world new.world (held packs) (held packs') (taken trace) (taken trace') old.kept new.kept stands.sent (tells trace') (is.kept e) (is.before e);
         };
         leaves = left_by old new (Err stop) stands (ran_by _ (move_acts line a is.tried old.world) _ _ (Some stop) outcome) tt tt;
         still = λ e. absurd (cc);
@@ -88,7 +92,7 @@ module _ {O Q : Type 0} (holds : Q → Bool) (held : Q → ℕ → Pack) (packs_
     where
       by_stop : (stop : Stop)
           → Outcome (record { packs = holds packs'; trace = tells trace' }) (move_acts line a is.tried old.world)
-          (record { world = old.world; held = held packs; text = taken trace ++ old.kept }) (record { world = new.world; held = held packs'; text = taken trace' ++ new.kept }) (Some stop)
+          (record { world = old.world; held = held packs; text = taken trace ++ old.kept; sent = taken trace }) (record { world = new.world; held = held packs'; text = taken trace' ++ new.kept; sent = taken trace' }) (Some stop)
           → (Some stop ≡ Some Store → new.kept ≡ old.kept)
           → Outcome (record { packs = holds packs'; trace = tells trace' }) (move_acts line a is.tried old.world) (seen old.world (held packs) (taken trace)) (seen new.world (held packs') (taken trace')) (Some stop)
       by_stop Sink o kept = front_taken (holds packs') (move_acts line a is.tried old.world) old.world new.world (held packs) (held packs') (taken trace) (taken trace') old.kept new.kept stands.sent (tells trace') o

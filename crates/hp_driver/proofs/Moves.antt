@@ -26,7 +26,7 @@ module _ (w : World) (line a : ℕ) (tried : Tried) (sound : Sound w) (can : can
   serves = serving w a sound (busy_too (adapter_at w a).state.busy (adapter_at w a).state.completion can)
 
   -- one act is done
-  one_act : move_acts line a tried w ≡ deed_at line (unit_of w a) (Sector (next_block (adapter_at w a).state) tried) w ∷ []
+  pub one_act : move_acts line a tried w ≡ deed_at line (unit_of w a) (Sector (next_block (adapter_at w a).state) tried) w ∷ []
   one_act =
       ap (λ (b : Bool). or_nothing b line (in_hand line (unit_of w a) (Sector (next_block (adapter_at w a).state) tried)) w) can
       ∙ in_hand_one line (unit_of w a) (Sector (next_block (adapter_at w a).state) tried) w serves.some

@@ -7,7 +7,8 @@ use Rattle.trace_replay.specs.Text.{trace_text}
 use Rattle.driver_machine.specs.World.{World}
 use Rattle.driver_machine.specs.Acts.{Act}
 use Rattle.driver_machine.specs.Lines.{lines_of_all}
-use Rattle.driver_outcome.specs.Outcome.{Acts, Does, IsFront, StopsAtTrace, StopsAtPacks}
+use Rattle.driver_outcome.specs.Outcome.{Acts, Does, IsFront, StopsAtTrace, StopsAtPacks, StopsBefore}
+use Rattle.driver_outcome.proofs.Joined.{front_of_front}
 use Rattle.hp_driver.specs.Subsystem.{seen}
 
 -- TEXTS. Nothing is kept before, and this text is told.
@@ -42,48 +43,54 @@ none_behind : (y left between : List ℕ) → left ≡ [] → y ++ left ≡ betw
 none_behind y left between none told = sym (append-nil y) ∙ ap (λ (l : List ℕ). y ++ l) (sym none) ∙ told
 
 -- ACTS do not go by the text.
-as_taken : (packs before now : Bool) (acts : List Act) (w w' : World) (held held' : ℕ → Pack) (x y z t : List ℕ)
-    → Acts (record { packs = packs; trace = before }) acts (record { world = w; held = held; text = x }) (record { world = w'; held = held'; text = y })
+as_taken : (packs before now : Bool) (acts : List Act) (w w' : World) (held held' : ℕ → Pack) (x y p q z t : List ℕ)
+    → Acts (record { packs = packs; trace = before }) acts (record { world = w; held = held; text = x; sent = p }) (record { world = w'; held = held'; text = y; sent = q })
     → Acts (record { packs = packs; trace = now }) acts (seen w held z) (seen w' held' t)
-as_taken packs before now acts w w' held held' x y z t is = record { run = is.run; world = is.world; reads = is.reads; packs = is.packs }
+as_taken packs before now acts w w' held held' x y p q z t is = record { run = is.run; world = is.world; reads = is.reads; packs = is.packs }
 
 module _ (packs : Bool) (acts : List Act) (w w' : World) (held held' : ℕ → Pack) (x y kept mid : List ℕ) (none : kept ≡ []) where
+  all_sent : (z left : List ℕ) → left ≡ [] → z ++ left ≡ y ++ (mid ++ []) → IsFront y z
+  all_sent z left sent put = record { rest = mid ++ []; whole = sym (append-nil z) ∙ ap (λ (l : List ℕ). z ++ l) (sym sent) ∙ put }
+
   -- ALL IS DONE, and what was kept is sent,
   pub sent_all : (before now : Bool) (z left : List ℕ) → left ≡ [] → (IsTrue now → IsTrue before) → (IsTrue now → z ++ left ≡ y ++ (mid ++ []))
-      → Does (record { packs = packs; trace = before }) acts (record { world = w; held = held; text = x ++ kept }) (record { world = w'; held = held'; text = y ++ mid })
+      → Does (record { packs = packs; trace = before }) acts (record { world = w; held = held; text = x ++ kept; sent = x }) (record { world = w'; held = held'; text = y ++ mid; sent = y })
       → Does (record { packs = packs; trace = now }) acts (seen w held x) (seen w' held' z)
   sent_all before now z left sent too put is = record {
-    does = as_taken packs before now acts w w' held held' (x ++ kept) (y ++ mid) x z is.does;
+    does = as_taken packs before now acts w w' held held' (x ++ kept) (y ++ mid) x y x z is.does;
     text = λ t. whole_text x y z kept mid left (trace_text (lines_of_all w acts)) none sent (is.text (too t)) (put t);
+    sent = λ t. front_of_front x y z (is.sent (too t)) (all_sent z left sent (put t));
   }
 
   -- or a front of it.
   pub sent_front : (before now : Bool) (z : List ℕ) → (IsTrue now → IsTrue before) → (IsTrue now → TakesFront y z (mid ++ []))
-      → Does (record { packs = packs; trace = before }) acts (record { world = w; held = held; text = x ++ kept }) (record { world = w'; held = held'; text = y ++ mid })
+      → Does (record { packs = packs; trace = before }) acts (record { world = w; held = held; text = x ++ kept; sent = x }) (record { world = w'; held = held'; text = y ++ mid; sent = y })
       → StopsAtTrace (record { packs = packs; trace = now }) acts (seen w held x) (seen w' held' z)
   sent_front before now z too put is = record {
     done = acts;
     left = [];
     all = sym (append-nil acts);
-    does = as_taken packs before now acts w w' held held' (x ++ kept) (y ++ mid) x z is.does;
+    does = as_taken packs before now acts w w' held held' (x ++ kept) (y ++ mid) x y x z is.does;
     front = λ t. front_text x y z kept mid (trace_text (lines_of_all w acts)) none (is.text (too t)) (put t);
+    sent = λ t. front_of_front x y z (is.sent (too t)) (record { rest = take (put t).0 (mid ++ []); whole = (put t).1 });
   }
 
   -- THE TRACE FAILED before all was done.
   pub front_taken : (told : Bool)
-      → StopsAtTrace (record { packs = packs; trace = told }) acts (record { world = w; held = held; text = x ++ kept }) (record { world = w'; held = held'; text = y ++ mid })
+      → StopsAtTrace (record { packs = packs; trace = told }) acts (record { world = w; held = held; text = x ++ kept; sent = x }) (record { world = w'; held = held'; text = y ++ mid; sent = y })
       → StopsAtTrace (record { packs = packs; trace = told }) acts (seen w held x) (seen w' held' y)
   front_taken told is = record {
     done = is.done;
     left = is.left;
     all = is.all;
-    does = as_taken packs told told is.done w w' held held' (x ++ kept) (y ++ mid) x y is.does;
+    does = as_taken packs told told is.done w w' held held' (x ++ kept) (y ++ mid) x y x y is.does;
     front = λ t. front_again x y kept mid (trace_text (lines_of_all w is.done)) none (is.front t);
+    sent = λ t. is.sent t;
   }
 
   -- THE PACKS FAILED, and nothing was told that is not sent.
   pub packs_stopped : (told : Bool) → mid ≡ []
-      → StopsAtPacks (record { packs = packs; trace = told }) (record { world = w; held = held; text = x ++ kept }) (record { world = w'; held = held'; text = y ++ mid })
+      → StopsAtPacks (record { packs = packs; trace = told }) (record { world = w; held = held; text = x ++ kept; sent = x }) (record { world = w'; held = held'; text = y ++ mid; sent = y })
       → StopsAtPacks (record { packs = packs; trace = told }) (seen w held x) (seen w' held' y)
   packs_stopped told sent is = record {
     done = is.done;
@@ -91,8 +98,19 @@ module _ (packs : Bool) (acts : List Act) (w w' : World) (held held' : ℕ → P
     does = record {
       does = record { run = is.does.does.run; world = is.does.does.world; reads = is.does.does.reads; packs = is.does.does.packs };
       text = λ t. none_before x kept (trace_text (lines_of_all w is.done)) is.between.text none (is.does.text t);
+      sent = λ t. is.does.sent t;
     };
     world = is.world;
     text = λ t. none_behind y mid is.between.text sent (is.text t);
+    packs = is.packs;
+  }
+
+  -- and nothing was done.
+  pub before_stopped : (told : Bool) → mid ≡ kept
+      → StopsBefore (record { packs = packs; trace = told }) (record { world = w; held = held; text = x ++ kept; sent = x }) (record { world = w'; held = held'; text = y ++ mid; sent = y })
+      → StopsBefore (record { packs = packs; trace = told }) (seen w held x) (seen w' held' y)
+  before_stopped told same is = record {
+    world = is.world;
+    text = λ t. sym (append-nil y) ∙ ap (λ (l : List ℕ). y ++ l) (sym (same ∙ none)) ∙ is.text t ∙ ap (λ (l : List ℕ). x ++ l) none ∙ append-nil x;
     packs = is.packs;
   }

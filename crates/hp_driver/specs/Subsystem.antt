@@ -21,8 +21,8 @@ use Rattle.driver_machine.specs.Guards.{IsSetUp, IsHeldFor, MayChange}
 use Rattle.driver_machine.specs.Sound.{Sound, AtWork}
 use Rattle.driver_work.specs.Runs.{MaySubmit, MayCome}
 use Rattle.driver_outcome.specs.declared.Stop.{Stop}
-use Rattle.driver_outcome.specs.declared.Stop.TheVariants.{Sink}
-use Rattle.driver_outcome.specs.Outcome.{Site, Outcome}
+use Rattle.driver_outcome.specs.declared.Stop.TheVariants.{Store, Sink}
+use Rattle.driver_outcome.specs.Outcome.{Site, Outcome, StopsBefore}
 use Rattle.driver_counts.specs.Counts.{in_use}
 use Rattle.driver_trace.specs.Calls.{IsReadOf}
 use Rattle.driver_trace.specs.Noises.{AllFlip}
@@ -48,7 +48,7 @@ pub record IsKept (s : State) (kept : List ℕ) : Type 0 where
 
 -- what a call works on: the world, what the packs hold, and the text that the trace took
 abbrev pub seen : World → (ℕ → Pack) → List ℕ → Site
-seen w packs text = record { world = w; held = packs; text = text }
+seen w packs text = record { world = w; held = packs; text = text; sent = text }
 
 -- WHAT IS ASKED, with the bytes of a write
 abbrev pub asked : Request → List ℕ → told.Request
@@ -105,12 +105,16 @@ is_move (script.MoveAt a) = true
 is_move input = false
 
 -- AN EVENT comes to its acts, with some sector that is tried where one is: one that the rules of the move allow, of what the packs hold.
+-- The packs stop only a move, and before anything is done in it.
 pub record Comes {O Q : Type 0} (holds : Q → Bool) (held : Q → ℕ → Pack) (tells : O → Bool) (taken : O → List ℕ) (packs packs' : Q) (trace trace' : O) (line : ℕ) (input : Input) (old new : World) (stop : Option Stop) : Type 0 where
   pub tried : Tried
   pub may : stop ≡ None → MayCome old input tried
   pub reads : stop ≡ None → IsTrue (holds packs') → IsReadOf old (held packs) input tried
   pub outcome : Outcome (record { packs = holds packs'; trace = tells trace' }) (event_acts line input tried old)
       (seen old (held packs) (taken trace)) (seen new (held packs') (taken trace')) stop
+  pub moves : stop ≡ Some Store → is_move input ≡ true
+  pub before : stop ≡ Some Store
+      → StopsBefore (record { packs = holds packs'; trace = tells trace' }) (seen old (held packs) (taken trace)) (seen new (held packs') (taken trace'))
 
 -- the oldest answer that waits
 pub record IsOldest (w : World) (made : Made) : Type 0 where

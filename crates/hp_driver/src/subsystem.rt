@@ -9,6 +9,7 @@ ghost use Rattle.driver_machine.specs.Events.{next_event};
 ghost use Rattle.driver_machine.specs.Sound.{Sound, AtWork};
 ghost use Rattle.driver_slots.specs.Parts.{AreSetups};
 ghost use Rattle.driver_work.specs.Runs.{NoneOutstanding};
+ghost use Rattle.driver_trace.specs.Noises.{AllFlip};
 ghost use Rattle.driver_outcome.specs.declared.Stop.TheVariants.{Store, Sink as SinkStop};
 ghost use Rattle.driver_outcome.specs.Outcome.{stop_in};
 ghost use Rattle.hp_core.specs.Setups.{setups_of};
@@ -69,9 +70,11 @@ impl Subsystem {
         })
     }
 
-    /// The law of the subsystem: between any two calls its world is sound, and no unit with a request stands still.
+    /// The law of the subsystem: between any two calls its world is sound, noise that is live flips places of a sector, and no unit
+    /// with a request stands still.
     pub fn law(&self)
         ensures sound { Sound self.now.world }
+        ensures noise { AllFlip self.now.world.book.live }
         ensures work { self.now.failed ≡ false → AtWork self.now.world }
     {
         let _ = &self.core;
@@ -108,7 +111,7 @@ impl Subsystem {
 
     /// An event happens at a line of the script: a positioning ends, a sector is tried, an adapter's interrupt is delivered, or a
     /// condition changes. Store comes only where the packs' count of faults rose, Sink only where the trace's did; no further
-    /// submission or event may follow then. Only a move touches the packs.
+    /// submission or event may follow then. Only a move touches the packs; where they fail nothing of it was done or told.
     pub fn event<P: Packs, T: Sink>(
         &mut self,
         line: u64,

@@ -66,6 +66,7 @@ heard : (packs before now : Bool) (acts : List Act) (old new : Site) → (IsTrue
 heard packs before now acts old new too is = record {
   does = record { run = is.does.run; world = is.does.world; reads = is.does.reads; packs = is.does.packs };
   text = λ t. is.text (too t);
+  sent = λ t. is.sent (too t);
 }
 
 most : (a b c : ℕ) → a ≤ b → b ≤ c → a ≤ c

@@ -54,6 +54,7 @@ module _ {O Q : Type 0} (holds : Q → Bool) (held : Q → ℕ → Pack) (packs_
     never_again = does.never_again;
     causes = trace_causes (packs_faults packs) (faults trace) (faults trace') result does.stop does.cause;
     kept = λ e. absurd (no_store result does.stop e);
+    before = λ e. absurd (no_store result does.stop e);
   }
 
   pub moves_one : (packs packs' : Q) (trace trace' : O) (old new : State) (result : Result (Unit {0}) Stop) (u id : ℕ) → Sound old.world → can_move (adapter_at old.world a) ≡ true
@@ -68,4 +69,5 @@ module _ {O Q : Type 0} (holds : Q → Bool) (held : Q → ℕ → Pack) (packs_
     never_again = tries.never_again;
     causes = tries.causes;
     kept = tries.kept;
+    before = tries.before;
   }
