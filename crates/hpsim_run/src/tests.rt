@@ -210,8 +210,13 @@ fn retries(rt: HostRuntime) -> Result<(), Fail> {
 
 /// Unit 0 with a table of serial number 1 that has these entries, if it has any, and with these blocks marked. The first two
 /// replacements hold 5A and 6B.
-fn listed(alloc: Global, entries: &[u8], marks: &[u32]) -> Result<MemPacks, Fail> {
-    let mut packs = packs_of(alloc, b"", b"", NONE.packs)?;
+fn listed(
+    alloc: Global,
+    entries: &[u8],
+    marks: &[u32],
+    fail: FailCall,
+) -> Result<MemPacks, Fail> {
+    let mut packs = packs_of(alloc, b"", b"", fail)?;
     if !entries.is_empty() {
         let mut copy = [0xFFu8; 512];
         for i in 0..8usize {
@@ -274,7 +279,7 @@ const FORWARDED: [(&[u8], &[u32], &[u8], &[u8], &[u8]); 5] = [
 #[test]
 fn forwarded_reads(rt: HostRuntime) -> Result<(), Fail> {
     for (entries, marks, script, text, lines) in FORWARDED {
-        let mut packs = listed(rt.alloc(), entries, marks)?;
+        let mut packs = listed(rt.alloc(), entries, marks, NONE.packs)?;
         let ran = run_on(rt.alloc(), PLAY, script, &mut packs, NONE)?;
         assert_eq!(rt; ran.status, 0);
         assert_eq!(rt; ran.out.taken(), text);
@@ -510,7 +515,8 @@ const SCRIPT: &[u8] = b"unit 0 rp06\nwrite 1 0 c 5 1 fill 77\nread 2 0 c 5 1\n";
 const TEXT: &[u8] = b"ans 1 at 4 ok\nans 2 at 4 ok\nblk 0 fill 77\n";
 
 /// Each call of an operation fails in turn, until a run ends with 0: the status till then, and a front of the text.
-const FAILING: [(Operation, u8); 6] = [
+const FAILING: [(Operation, u8); 7] = [
+    (Operation::Packs(PackOp::Length), 6),
     (Operation::Source, 4),
     (Operation::Out, 5),
     (Operation::Trace, 5),
@@ -565,6 +571,100 @@ fn failing_calls(rt: HostRuntime) -> Result<(), Fail> {
             assert_eq!(rt; last, wanted, "{number}");
         }
         assert_eq!(rt; last, 0);
+    }
+    Ok(())
+}
+
+/// Scripts that are stopped at each call: the table's entries, the marks, and for four blocks of unit 0 how a line of the trace
+/// ends that tells of their writing. The blocks hold 77 where they are written.
+const STOPPED: [(&[u8], &[u8], &[u32], [(u32, &[u8]); 4]); 3] = [
+    (
+        b"unit 0 rp06\nread 1 0 c 0 1\n",
+        &[],
+        &[],
+        [(0, b"none"), (1, b"none"), (2, b"none"), (3, b"none")],
+    ),
+    (
+        b"unit 0 rp06\nwrite 1 0 c 5 4 fill 77\nmove 0\nmove 0\nfault 0 opi 28\ndrain\nread 2 0 c 5 4\n",
+        &[],
+        &[],
+        [
+            (5, b" 0 1 5 clean\n"),
+            (6, b" 0 1 6 clean\n"),
+            (7, b" 0 1 7 clean\n"),
+            (8, b" 0 1 8 clean\n"),
+        ],
+    ),
+    (
+        b"unit 0 rp06\nunit 1 rm03\nwrite 1 0 c 999 4 fill 77\nread 2 1 c 160 1\narrive 0\nattend 0\nmove 0\nmove 0\narrive 1\nattend 0\nmove 0\nattend 0\n",
+        &[0x02, 0x00, 0x0A, 0x07, 0x02, 0x00, 0x0B, 0x07],
+        &[1000, 1001],
+        [
+            (999, b" 0 1 999 clean\n"),
+            (340647, b" 0 1 340647 clean\n"),
+            (340646, b" 0 1 340646 clean\n"),
+            (1002, b" 0 1 1002 clean\n"),
+        ],
+    ),
+];
+
+/// How many of the blocks are written although no whole line of the trace tells so; 9 where one is not of which a line does.
+fn untold(
+    packs: &mut MemPacks,
+    trace: &[u8],
+    blocks: [(u32, &[u8]); 4],
+) -> Result<u32, Fail> {
+    let mut count = 0u32;
+    let mut bytes = [0u8; 512];
+    for (block, line) in blocks {
+        packs.read(0, block, &mut bytes)?;
+        let is_new = bytes == [0x77; 512];
+        if is_new && !holds(trace, line) {
+            count = count.saturating_add(1);
+        }
+        if !is_new && holds(trace, line) {
+            count = 9;
+        }
+    }
+    Ok(count)
+}
+
+/// So many writes were made before a script is played.
+fn writes_before(operation: Operation, entries: &[u8]) -> u64 {
+    match operation {
+        Operation::Packs(PackOp::Write) => {
+            if entries.is_empty() {
+                2
+            } else {
+                3
+            }
+        }
+        _ => 0,
+    }
+}
+
+/// Each call of each operation fails in turn: texts and traces are fronts of those of the whole run, and at most one block is
+/// written of which no line tells.
+#[test]
+fn stops(rt: HostRuntime) -> Result<(), Fail> {
+    for (script, entries, marks, blocks) in STOPPED {
+        let mut packs = listed(rt.alloc(), entries, marks, NONE.packs)?;
+        let whole = run_on(rt.alloc(), PLAY, script, &mut packs, NONE)?;
+        for (operation, wanted) in FAILING {
+            let before = writes_before(operation, entries);
+            for number in 1..200u64 {
+                let faults = failing(operation, before.saturating_add(number));
+                let mut packs = listed(rt.alloc(), entries, marks, faults.packs)?;
+                let ran = run_on(rt.alloc(), PLAY, script, &mut packs, faults)?;
+                if ran.status == 0 {
+                    break;
+                }
+                assert_eq!(rt; ran.status, wanted, "{number}");
+                assert!(rt; whole.out.taken().starts_with(ran.out.taken()), "{number}");
+                assert!(rt; whole.trace.taken().starts_with(ran.trace.taken()), "{number}");
+                assert!(rt; untold(&mut packs, ran.trace.taken(), blocks)? <= 1, "{number}");
+            }
+        }
     }
     Ok(())
 }
