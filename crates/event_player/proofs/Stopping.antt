@@ -28,7 +28,7 @@ use Rattle.driver_trace.proofs.Inputted.{lines_play_nothing}
 use Rattle.driver_drains.proofs.Fronts.{event_fronts}
 use Rattle.answer_lines.specs.AnswerText.{said_text, out_text}
 use Rattle.hp_driver.specs.Subsystem.{IsThere, is_move}
-use Rattle.hp_driver.proofs.Moves.{tried_by_rules, read_from}
+use Rattle.event_player.proofs.Moves.{tried_by_rules, read_from}
 use Rattle.event_player.specs.declared.play.PlayFault.{PlayFault}
 use Rattle.event_player.specs.declared.play.PlayFault.TheVariants as faults
 use Rattle.event_player.specs.Steps.{Stage, PlaysEvent, waiting_text}
