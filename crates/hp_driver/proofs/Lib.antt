@@ -1,6 +1,6 @@
 mod Sent
 mod Behind
-pub mod Moves
+mod Moves
 mod Room
 mod Calls
 mod Moved

@@ -7,9 +7,9 @@ use Rattle.event_player.proofs.calls.happen.Goals as goal
 
 pub returns-in_err-event-clause-stops : goal.returns-in_err-event-clause-stops
 returns-in_err-event-clause-stops g c =
-    err_is _ c.from_residual.result (from_stop c.in_err-event.field-0) c.from_residual.ensures.1
+    err_is _ c.from_residual.result (from_stop c.in_err-event.field-0.0) c.from_residual.ensures.1
     (event_halted g.P.Packs.tells g.P.Packs.held g.T.Sink.tells g.T.Sink.taken c.args.packs.now c.event.new.packs c.args.trace.now c.event.new.trace c.args.number (input_of c.args.event)
-    c.args.subsystem.now.world (g.O.Sink.tells c.args.out.now) (g.O.Sink.taken c.args.out.now) c.in_err-event.ensures.still c.event.new.self.world c.in_err-event.field-0 c.law.ensures.noise c.in_err-event.ensures.does)
+    c.args.subsystem.now.world (g.O.Sink.tells c.args.out.now) (g.O.Sink.taken c.args.out.now) c.in_err-event.ensures.still c.event.new.self.world c.in_err-event.field-0.0 c.law.ensures.noise c.in_err-event.ensures.does)
 
 pub returns-in_err-write_answers-clause-stops : goal.returns-in_err-write_answers-clause-stops
 returns-in_err-write_answers-clause-stops g c =

@@ -46,8 +46,8 @@ returns-in_err-happen-clause-stops g c =
     let happens = c.in_err-happen.ensures in
     let old : Stage = stage g.P.Packs.tells g.P.Packs.held g.O.Sink.tells g.O.Sink.taken g.T.Sink.tells g.T.Sink.taken c.args.subsystem.now.world c.args.packs.now c.args.out.now c.args.trace.now in
     let new : Stage = stage g.P.Packs.tells g.P.Packs.held g.O.Sink.tells g.O.Sink.taken g.T.Sink.tells g.T.Sink.taken c.happen.new.subsystem.world c.happen.new.packs c.happen.new.out c.happen.new.trace in
-    err_is _ c.from_residual-in_err-happen.result c.in_err-happen.field-0 c.from_residual-in_err-happen.ensures.1
-    (λ t. first_halts c.args.number c.in_err-happen.field-0 (input_of c.in-Some.first) old new happens.never_again_trace happens.never_again_out c.in-Some.ensures.next c.in-Some.ensures.there
+    err_is _ c.from_residual-in_err-happen.result c.in_err-happen.field-0.0 c.from_residual-in_err-happen.ensures.1
+    (λ t. first_halts c.args.number c.in_err-happen.field-0.0 (input_of c.in-Some.first) old new happens.never_again_trace happens.never_again_out c.in-Some.ensures.next c.in-Some.ensures.there
     c.requires.none_waits happens.stops t)
 
 pub returns-in_err-go_on-clause-stops : goal.returns-in_err-go_on-clause-stops
@@ -57,6 +57,6 @@ returns-in_err-go_on-clause-stops g c =
     let old : Stage = stage g.P.Packs.tells g.P.Packs.held g.O.Sink.tells g.O.Sink.taken g.T.Sink.tells g.T.Sink.taken c.args.subsystem.now.world c.args.packs.now c.args.out.now c.args.trace.now in
     let mid : Stage = stage g.P.Packs.tells g.P.Packs.held g.O.Sink.tells g.O.Sink.taken g.T.Sink.tells g.T.Sink.taken c.happen.new.subsystem.world c.happen.new.packs c.happen.new.out c.happen.new.trace in
     let new : Stage = stage g.P.Packs.tells g.P.Packs.held g.O.Sink.tells g.O.Sink.taken g.T.Sink.tells g.T.Sink.taken c.go_on.new.subsystem.world c.go_on.new.packs c.go_on.new.out c.go_on.new.trace in
-    err_is _ c.from_residual-in_err-go_on.result c.in_err-go_on.field-0 c.from_residual-in_err-go_on.ensures.1
-    (λ t. rest_halts c.args.number c.in_err-go_on.field-0 (input_of c.in-Some.first) old mid new (goes.never_again t) happens.never_again_trace happens.never_again_out c.in-Some.ensures.next
+    err_is _ c.from_residual-in_err-go_on.result c.in_err-go_on.field-0.0 c.from_residual-in_err-go_on.ensures.1
+    (λ t. rest_halts c.args.number c.in_err-go_on.field-0.0 (input_of c.in-Some.first) old mid new (goes.never_again t) happens.never_again_trace happens.never_again_out c.in-Some.ensures.next
     c.requires.none_waits happens.plays (goes.stops t))

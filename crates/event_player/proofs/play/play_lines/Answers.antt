@@ -97,8 +97,8 @@ returns-in_err-play_line-clause-stops g c =
     let item = c.index-lines-i.result in
     let is : item ≡ get_or stored.lines c.loop-i.i item = subst (λ (xs : List Kept). item ≡ get_or xs c.loop-i.i item) c.lines-lines.ensures c.index-lines-i.is in
     let lt : c.loop-i.i < length stored.lines = subst (λ (xs : List Kept). c.loop-i.i < length xs) c.lines-lines.ensures c.loop-i-test.true in
-    err_is _ c.from_residual.result c.in_err-play_line.field-0 c.from_residual.ensures.1
-    (λ t. line_halts (meaning_of stored) c.loop-i.i (line_of (seen stored.text item)) c.in_err-play_line.field-0 old mid new (here_is stored c.loop-i.i item is lt)
+    err_is _ c.from_residual.result c.in_err-play_line.field-0.0 c.from_residual.ensures.1
+    (λ t. line_halts (meaning_of stored) c.loop-i.i (line_of (seen stored.text item)) c.in_err-play_line.field-0.0 old mid new (here_is stored c.loop-i.i item is lt)
     (so.plays (plays.never_again t)) (plays.stops t))
 
 pub returns-in_err-drain-clause-stops : goal.returns-in_err-drain-clause-stops
@@ -112,5 +112,5 @@ returns-in_err-drain-clause-stops g c =
     let all : length (meaning_of stored).lines ≤ c.loop-i.i =
     subst (λ (n : ℕ). n ≤ c.loop-i.i) (sym (length-map (lines_in stored) line_of ∙ length-map stored.lines (seen stored.text))) past in
     let number : c.from-number.result + 1 ≡ stored.count + 1 = ap (λ (n : ℕ). n + 1) (c.from-number.ensures ∙ c.count.ensures) in
-    err_is _ c.from_residual-in_err-drain.result c.in_err-drain.field-0 c.from_residual-in_err-drain.ensures.1
-    (λ t. end_halts (meaning_of stored) c.loop-i.i (c.from-number.result + 1) c.in_err-drain.field-0 old mid new all number (drains.stops t) (c.loop-i.invariant.plays (drains.never_again t)))
+    err_is _ c.from_residual-in_err-drain.result c.in_err-drain.field-0.0 c.from_residual-in_err-drain.ensures.1
+    (λ t. end_halts (meaning_of stored) c.loop-i.i (c.from-number.result + 1) c.in_err-drain.field-0.0 old mid new all number (drains.stops t) (c.loop-i.invariant.plays (drains.never_again t)))
