@@ -49,7 +49,7 @@ pub inputs_append : (last : List Numbered) (lines more : List Line) → inputs_b
 inputs_append last [] more = refl
 inputs_append last (line ∷ lines) more = ap (with_input line.number line.statement) (inputs_append last lines more)
 
-inputs_end : (inputs more : List Numbered) (lines : List Line) → inputs_before (inputs ++ more) lines ≡ inputs_before inputs lines ++ more
+pub inputs_end : (inputs more : List Numbered) (lines : List Line) → inputs_before (inputs ++ more) lines ≡ inputs_before inputs lines ++ more
 inputs_end inputs more [] = refl
 inputs_end inputs more (line ∷ lines) =
     ap (with_input line.number line.statement) (inputs_end inputs more lines) ∙ with_more line.number line.statement (inputs_before inputs lines) more

@@ -30,7 +30,7 @@ use Rattle.event_player.proofs.Texts.{said_lines}
 use Rattle.event_player.proofs.Going.{line_for, event_goes, submission_goes, drain_empty, drain_first, drain_first_falls, drain_more, drain_more_falls, drain_over}
 
 -- THE TEXT of the answers that wait behind acts is that of their lines.
-waiting_said : (w : World) (acts : List Act) → waiting (after_all w acts) ≡ answers_in (lines_of_all w acts)
+pub waiting_said : (w : World) (acts : List Act) → waiting (after_all w acts) ≡ answers_in (lines_of_all w acts)
     → waiting_text (after_all w acts) ≡ out_text (lines_of_all w acts)
 waiting_said w acts is =
     ap (λ (answers : List Answered). flat_map answer_text answers) is ∙ sym (said_lines (lines_of_all w acts) (lines_play_nothing [] w acts))

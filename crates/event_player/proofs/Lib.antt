@@ -11,3 +11,7 @@ pub mod CountLaws
 pub mod Submitting
 pub mod Statements
 pub mod Whole
+pub mod Stopping
+pub mod Contexts
+pub mod Halting
+pub mod Calling

@@ -84,7 +84,7 @@ filter_any p k (x ∷ xs) is any = elim (eqb_tells x k) [
     there true rest = or_true (x == k) (list_any (λ y. y == k) (filter p xs)) rest
     there false rest = rest
 
-of_run : (r : Request) (w : World) → IsSetUp w r.unit → (script : Script) (tables : ℕ → Option Table) (first held : ℕ → Pack) (last : ℕ) (done : List Line) (moments : List Moment)
+pub of_run : (r : Request) (w : World) → IsSetUp w r.unit → (script : Script) (tables : ℕ → Option Table) (first held : ℕ → Pack) (last : ℕ) (done : List Line) (moments : List Moment)
     → HasRun script tables first held last done w moments → IsOf (start_of script tables first).there (says.Submit r)
 of_run r w unit script tables first held last done moments run =
     filter_any (λ u. is_some (drives_of script u)) r.unit all_units (is_declared script first held w r.unit run.kept unit)

@@ -264,7 +264,7 @@ starts_ready s setups outstanding noises set count = record {
     few n k is = omega (arith, is)
 
 -- THE WHOLE PLAY, of a world that was made of units that are set up
-new_is : (units slice : List UnitSetup) (requests noises : ℕ) (state : State) → slice ≡ units
+pub new_is : (units slice : List UnitSetup) (requests noises : ℕ) (state : State) → slice ≡ units
     → state ≡ record { world = new_world (setups_of slice) (min requests 16384) noises; outstanding = requests; failed = false }
     → state.world ≡ new_world (setups_of units) (min requests 16384) noises
 new_is units slice requests noises state same is =

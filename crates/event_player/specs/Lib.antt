@@ -4,3 +4,4 @@ pub mod Faults
 pub mod Steps
 pub mod Answering
 pub mod Attaching
+pub mod Stops

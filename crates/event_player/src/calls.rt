@@ -1,9 +1,10 @@
 // The calls of the driver: a request is submitted, or an event happens; behind them the answers that wait are written.
-ghost use Rattle.std.specs.Prelude.{◌≡◌, ℕ, [], Bool, false, IsTrue, OnOk};
+ghost use Rattle.std.specs.Prelude.{◌≡◌, ℕ, [], Bool, false, IsTrue, OnOk, IfErr};
 ghost use Rattle.pack_model.specs.Pack.{Pack};
 ghost use Rattle.hp_events.specs.Inputs.{input_of};
 ghost use Rattle.hp_driver.specs.Subsystem.{IsAsked, IsThere, asked};
 ghost use Rattle.event_player.specs.Steps.{stage, PlaysEvent, PlaysSubmission, HasCauses};
+ghost use Rattle.event_player.specs.Stops.{EventStops, SubmissionStops};
 
 use crate::answers::write_answers;
 use crate::play::PlayFault;
@@ -26,6 +27,9 @@ pub fn ask<O: Sink, T: Sink>(
     requires asked { IsAsked subsystem.old request bytes.now }
     requires kept { gather.old ≡ [] }
     ensures plays { OnOk result ((tells : Bool) → (held : ℕ → Pack) → PlaysSubmission number (asked request bytes.now)
+        (record { world = subsystem.old.world; packs_tell = tells; held = held; out_tells = O.tells out.old; said = O.taken out.old; trace_tells = T.tells trace.old; taken = T.taken trace.old })
+        (record { world = subsystem.new.world; packs_tell = tells; held = held; out_tells = O.tells out.new; said = O.taken out.new; trace_tells = T.tells trace.new; taken = T.taken trace.new })) }
+    ensures stops { IfErr result (λ fault. (tells : Bool) → (held : ℕ → Pack) → SubmissionStops number (asked request bytes.now) fault
         (record { world = subsystem.old.world; packs_tell = tells; held = held; out_tells = O.tells out.old; said = O.taken out.old; trace_tells = T.tells trace.old; taken = T.taken trace.old })
         (record { world = subsystem.new.world; packs_tell = tells; held = held; out_tells = O.tells out.new; said = O.taken out.new; trace_tells = T.tells trace.new; taken = T.taken trace.new })) }
     ensures going { OnOk result (subsystem.new.failed ≡ false) }
@@ -56,6 +60,9 @@ pub fn happen<P: Packs, O: Sink, T: Sink>(
     requires there { IsThere subsystem.old.world (input_of event) }
     requires kept { gather.old ≡ [] }
     ensures plays { OnOk result (PlaysEvent number (input_of event)
+        (stage P.tells P.held O.tells O.taken T.tells T.taken subsystem.old.world packs.old out.old trace.old)
+        (stage P.tells P.held O.tells O.taken T.tells T.taken subsystem.new.world packs.new out.new trace.new)) }
+    ensures stops { IfErr result (λ fault. EventStops number (input_of event) fault
         (stage P.tells P.held O.tells O.taken T.tells T.taken subsystem.old.world packs.old out.old trace.old)
         (stage P.tells P.held O.tells O.taken T.tells T.taken subsystem.new.world packs.new out.new trace.new)) }
     ensures going { OnOk result (subsystem.new.failed ≡ false) }

@@ -1,10 +1,11 @@
 // A drain: events happen until no request is outstanding.
-ghost use Rattle.std.specs.Prelude.{◌≡◌, ℕ, ◌≤◌, [], length, false, IsTrue, OnOk};
+ghost use Rattle.std.specs.Prelude.{◌≡◌, ℕ, ◌≤◌, [], length, false, IsTrue, OnOk, IfErr};
 ghost use Rattle.mass_outside.specs.Puts.{Puts};
 ghost use Rattle.trace_replay.specs.Moments.{Idle};
 ghost use Rattle.trace_replay.specs.Script.{Plays, Drain};
 ghost use Rattle.trace_replay.specs.Text.{moment_text};
 ghost use Rattle.event_player.specs.Steps.{stage, GoesOnDraining, PlaysDrain, Brings, HasCauses};
+ghost use Rattle.event_player.specs.Stops.{StopsDraining, StopsInput};
 
 use crate::calls::happen;
 use crate::play::PlayFault;
@@ -34,6 +35,9 @@ fn go_on<P: Packs, O: Sink, T: Sink>(
     requires none_waits { subsystem.old.world.answers ≡ [] }
     requires kept { gather.old ≡ [] }
     ensures plays { OnOk result (IsTrue (P.tells packs.new) → GoesOnDraining number
+        (stage P.tells P.held O.tells O.taken T.tells T.taken subsystem.old.world packs.old out.old trace.old)
+        (stage P.tells P.held O.tells O.taken T.tells T.taken subsystem.new.world packs.new out.new trace.new)) }
+    ensures stops { IfErr result (λ fault. IsTrue (P.tells packs.new) → StopsDraining number fault
         (stage P.tells P.held O.tells O.taken T.tells T.taken subsystem.old.world packs.old out.old trace.old)
         (stage P.tells P.held O.tells O.taken T.tells T.taken subsystem.new.world packs.new out.new trace.new)) }
     ensures brings { OnOk result (Brings (Plays Drain) subsystem.old.world subsystem.new.world) }
@@ -68,6 +72,9 @@ pub fn drain<P: Packs, O: Sink, T: Sink>(
     requires few { length subsystem.old.world.slots ≤ 65536 }
     requires kept { gather.old ≡ [] }
     ensures plays { OnOk result (IsTrue (P.tells packs.new) → PlaysDrain number
+        (stage P.tells P.held O.tells O.taken T.tells T.taken subsystem.old.world packs.old out.old trace.old)
+        (stage P.tells P.held O.tells O.taken T.tells T.taken subsystem.new.world packs.new out.new trace.new)) }
+    ensures stops { IfErr result (λ fault. IsTrue (P.tells packs.new) → StopsInput number Drain fault
         (stage P.tells P.held O.tells O.taken T.tells T.taken subsystem.old.world packs.old out.old trace.old)
         (stage P.tells P.held O.tells O.taken T.tells T.taken subsystem.new.world packs.new out.new trace.new)) }
     ensures brings { OnOk result (Brings (Plays Drain) subsystem.old.world subsystem.new.world) }

@@ -10,6 +10,7 @@ ghost use Rattle.event_player.specs.Plays.{Plays, IsTooLong};
 ghost use Rattle.event_player.specs.Faults.{IsPlaying, IsBefore, IsLongFor};
 ghost use Rattle.event_player.specs.Playing.{counted, one_request};
 ghost use Rattle.event_player.specs.Steps.{stage, Ready, PlaysScript, HasCauses};
+ghost use Rattle.event_player.specs.Stops.{StopsScript, Leaves};
 
 use crate::attaching::attach_units;
 use crate::counting::{count_noises, count_requests};
@@ -122,6 +123,9 @@ fn play_lines<P: Packs, O: Sink, T: Sink>(
     ensures plays { OnOk result (IsTrue (P.tells packs.new) → (tables : ℕ → Option Table) → PlaysScript (meaning_of script.now) tables
         (stage P.tells P.held O.tells O.taken T.tells T.taken subsystem.old.world packs.old out.old trace.old)
         (stage P.tells P.held O.tells O.taken T.tells T.taken subsystem.new.world packs.new out.new trace.new)) }
+    ensures stops { IfErr result (λ fault. IsTrue (P.tells packs.new) → (tables : ℕ → Option Table) → StopsScript (meaning_of script.now) tables fault
+        (stage P.tells P.held O.tells O.taken T.tells T.taken subsystem.old.world packs.old out.old trace.old)
+        (stage P.tells P.held O.tells O.taken T.tells T.taken subsystem.new.world packs.new out.new trace.new)) }
     ensures never_again { IsTrue (P.tells packs.new) → IsTrue (P.tells packs.old) }
     ensures never_again_out { IsTrue (O.tells out.new) → IsTrue (O.tells out.old) }
     ensures never_again_trace { IsTrue (T.tells trace.new) → IsTrue (T.tells trace.old) }
@@ -144,6 +148,9 @@ fn play_lines<P: Packs, O: Sink, T: Sink>(
 /// The units are attached first, in the order of their lines. TooLong tells the first of them whose image has more bytes than
 /// the blocks of its drive. Store comes only where the packs' count of faults rose in this call, and Sink only where that of
 /// `out` or of `trace` rose; Memory only before the first line is played, with the packs, `out` and `trace` as they were.
+///
+/// Behind Store and Sink it is known how far the script came: `trace` and `out` took fronts of the texts of a run so far, the
+/// packs are as its replay leaves them but for one block at most, and no call was made behind the one that failed.
 pub fn play<P: Packs, O: Sink, T: Sink>(
     alloc: Global,
     script: &Script,
@@ -153,6 +160,8 @@ pub fn play<P: Packs, O: Sink, T: Sink>(
 ) -> Result<Tally, PlayFault>
     requires good { Spells all_verbs script.now.text (lines_in script.now) script.now.count }
     ensures played { OnOk result (IsTrue (P.tells packs.new) → Plays (meaning_of script.now) (P.held packs.old) (P.held packs.new)
+        (O.tells out.new) (O.taken out.old) (O.taken out.new) (T.tells trace.new) (T.taken trace.old) (T.taken trace.new)) }
+    ensures stopped { IfErr result (λ fault. IsTrue (P.tells packs.new) → Leaves fault (meaning_of script.now) (P.held packs.old) (P.held packs.new)
         (O.tells out.new) (O.taken out.old) (O.taken out.new) (T.tells trace.new) (T.taken trace.old) (T.taken trace.new)) }
     ensures fits { IsPlaying result → IsTrue (P.tells packs.new) → (unit n : ℕ) → ¬ (IsTooLong (meaning_of script.now) (P.held packs.old) unit n) }
     ensures too_long { IfErr result (λ fault. IsTrue (P.tells packs.new) → IsLongFor (meaning_of script.now) (P.held packs.old) fault) }

@@ -1,8 +1,9 @@
 // What a line of a script does.
-ghost use Rattle.std.specs.Prelude.{◌≡◌, ◌*◌, ◌≤◌, ℕ, List, [], ◌++◌, length, take, false, IsTrue, OnOk, IfSome, IfNone};
+ghost use Rattle.std.specs.Prelude.{◌≡◌, ◌*◌, ◌≤◌, ℕ, List, [], ◌++◌, length, take, false, IsTrue, OnOk, OnErr, IfSome, IfNone, IfErr};
 ghost use Rattle.std.specs.Box.{box_value};
 ghost use Rattle.hardware_table.specs.Noise.{LiveNoise};
 ghost use Rattle.mass_outside.specs.Causes.{HasCause};
+ghost use Rattle.mass_outside.specs.Puts.{TakesFront};
 ghost use Rattle.script_reader.specs.Formed.{IsWritten};
 ghost use Rattle.script_reader.specs.declared.statement.Span.{Span};
 ghost use Rattle.script_reader.specs.Stored.{seen, renamed, content_by, digits_at};
@@ -12,6 +13,7 @@ ghost use Rattle.trace_replay.specs.Script.{Noise as NoiseInput, Plays};
 ghost use Rattle.answer_lines.specs.AnswerText.{said_text};
 ghost use Rattle.hp_events.specs.Inputs.{input_of};
 ghost use Rattle.event_player.specs.Steps.{stage, IsNoEvent, PlaysLine, Brings, MayPlay, HasData, HasCauses};
+ghost use Rattle.event_player.specs.Stops.{StopsLine};
 
 use crate::calls::{ask, happen};
 use crate::drains::drain;
@@ -30,6 +32,8 @@ use script_reader::statement::{Content, Request as Asked, Span, Statement};
 fn say_noise<O: Sink>(number: u64, noise: &Noise, out: &mut O) -> Result<(), SinkFailed>
     ensures text { (live : LiveNoise) → live.places ≡ noise.now
         → OnOk result (IsTrue (O.tells out.new) → O.taken out.new ≡ O.taken out.old ++ said_text (Played number (NoiseInput live))) }
+    ensures front { (live : LiveNoise) → live.places ≡ noise.now
+        → OnErr result (IsTrue (O.tells out.new) → TakesFront (O.taken out.old) (O.taken out.new) (said_text (Played number (NoiseInput live)))) }
     ensures never_again { IsTrue (O.tells out.new) → IsTrue (O.tells out.old) }
     ensures cause { HasCause (O.faults out.old) (O.faults out.new) result }
 {
@@ -143,6 +147,9 @@ fn play_other<P: Packs, O: Sink, T: Sink>(
     ensures plays { OnOk result (IsTrue (P.tells packs.new) → PlaysLine line.now.number (statement_of (seen script.now.text line.now).statement)
         (stage P.tells P.held O.tells O.taken T.tells T.taken subsystem.old.world packs.old out.old trace.old)
         (stage P.tells P.held O.tells O.taken T.tells T.taken subsystem.new.world packs.new out.new trace.new)) }
+    ensures stops { IfErr result (λ fault. IsTrue (P.tells packs.new) → StopsLine line.now.number (statement_of (seen script.now.text line.now).statement) fault
+        (stage P.tells P.held O.tells O.taken T.tells T.taken subsystem.old.world packs.old out.old trace.old)
+        (stage P.tells P.held O.tells O.taken T.tells T.taken subsystem.new.world packs.new out.new trace.new)) }
     ensures brings { OnOk result (Brings (statement_of (seen script.now.text line.now).statement) subsystem.old.world subsystem.new.world) }
     ensures going { OnOk result (subsystem.new.failed ≡ false) }
     ensures outstanding { OnOk result (subsystem.new.outstanding ≡ subsystem.old.outstanding) }
@@ -209,6 +216,9 @@ pub fn play_line<P: Packs, O: Sink, T: Sink>(
     requires room { length room.old ≡ 65024 }
     requires kept { gather.old ≡ [] }
     ensures plays { OnOk result (IsTrue (P.tells packs.new) → PlaysLine line.now.number (statement_of (seen script.now.text line.now).statement)
+        (stage P.tells P.held O.tells O.taken T.tells T.taken subsystem.old.world packs.old out.old trace.old)
+        (stage P.tells P.held O.tells O.taken T.tells T.taken subsystem.new.world packs.new out.new trace.new)) }
+    ensures stops { IfErr result (λ fault. IsTrue (P.tells packs.new) → StopsLine line.now.number (statement_of (seen script.now.text line.now).statement) fault
         (stage P.tells P.held O.tells O.taken T.tells T.taken subsystem.old.world packs.old out.old trace.old)
         (stage P.tells P.held O.tells O.taken T.tells T.taken subsystem.new.world packs.new out.new trace.new)) }
     ensures brings { OnOk result (Brings (statement_of (seen script.now.text line.now).statement) subsystem.old.world subsystem.new.world) }

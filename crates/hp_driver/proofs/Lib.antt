@@ -1,6 +1,6 @@
 mod Sent
 mod Behind
-mod Moves
+pub mod Moves
 mod Room
 mod Calls
 mod Moved

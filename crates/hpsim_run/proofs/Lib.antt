@@ -2,3 +2,4 @@ pub mod LoadLaws
 mod PlayLaws
 pub mod ToolLaws
 pub mod WordLaws
+pub mod SoFar

@@ -20,6 +20,7 @@ use Rattle.script_reader.specs.Known.{Numbered}
 use Rattle.script_reader.specs.Words.{all_verbs}
 use Rattle.script_meaning.specs.Meaning.{meaning}
 use Rattle.event_player.specs.Plays.{IsTooLong}
+use Rattle.event_player.specs.Stops.{Leaves}
 use Rattle.hpsim_run.specs.declared.status.Status.{Status}
 use Rattle.hpsim_run.specs.Statuses.{status_code}
 
@@ -81,3 +82,9 @@ told_from taken count old mid after text faults_after e told = subst (λ o. Told
 pub refusal_is : (text : List ℕ) (line other : ℕ) (kind another : ScriptKind) → line ≡ other → kind ≡ another → text ≡ refusal_text other another → text ≡ refusal_text line kind
 refusal_is text line other kind another e f is =
     subst (λ (k : ScriptKind). text ≡ refusal_text line k) (sym f) (subst (λ (n : ℕ). text ≡ refusal_text n another) (sym e) is)
+
+-- what a fault leaves
+pub left_by : (fault other : PlayFault) (script : Script) (first left : ℕ → Pack) (out_tells : Bool) (said said' : List ℕ) (trace_tells : Bool) (taken taken' : List ℕ) → fault ≡ other
+    → Leaves fault script first left out_tells said said' trace_tells taken taken' → Leaves other script first left out_tells said said' trace_tells taken taken'
+left_by fault other script first left out_tells said said' trace_tells taken taken' e is =
+    subst (λ (f : PlayFault). Leaves f script first left out_tells said said' trace_tells taken taken') e is

@@ -7,7 +7,10 @@ use Rattle.script_reader.specs.Words.{all_verbs}
 use Rattle.script_reader.specs.declared.fault.ScriptKind.{ScriptKind}
 use Rattle.script_meaning.specs.Meaning.{meaning}
 use Rattle.run_promises.specs.Promises.{Promises}
+use Rattle.event_player.specs.declared.play.PlayFault.{PlayFault}
 use Rattle.event_player.specs.Plays.{Plays, IsTooLong}
+use Rattle.event_player.specs.Stops.{Leaves}
+use Rattle.hpsim_run.specs.SoFar.{Keeps}
 use Rattle.hpsim_run.specs.Words.{refusal_text, Told as TextTold}
 use Rattle.hpsim_run.specs.Tools.{too_long_text}
 
@@ -22,6 +25,17 @@ pub record Headline (source_tells : Bool) (left left_after : List ℕ) (tells : 
   pub plays : IsTrue tells → Plays (meaning lines count) old new out_tells said said' trace_tells taken taken'
   pub keeps : (told : IsTrue tells) → Promises (meaning lines count) (plays told).tables old new (plays told).moments
   pub fits : IsTrue tells → (unit n : ℕ) → ¬ (IsTooLong (meaning lines count) old unit n)
+
+-- WHERE IT STOPPED as a sink or the packs failed. Where the source tells, it was read to its end, and its bytes spell these lines; where the
+-- packs tell, the lines were played so far, this is what is left, and of the moments so far all is promised that can be.
+pub record HasStopped (fault : PlayFault) (source_tells : Bool) (left left_after : List ℕ) (tells : Bool) (old new : ℕ → Pack) (out_tells : Bool) (said said' : List ℕ)
+    (trace_tells : Bool) (taken taken' : List ℕ) : Type 0 where
+  pub lines : List Numbered
+  pub count : ℕ
+  pub read : IsTrue source_tells → left_after ≡ []
+  pub spelled : IsTrue source_tells → Spells all_verbs left lines count
+  pub leaves : IsTrue tells → Leaves fault (meaning lines count) old new out_tells said said' trace_tells taken taken'
+  pub keeps : IsTrue tells → Keeps fault (meaning lines count) old new out_tells said said' trace_tells taken taken'
 
 -- the longest script, in bytes: 16 MiB
 abbrev pub longest : ℕ

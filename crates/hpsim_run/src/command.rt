@@ -5,7 +5,8 @@ ghost use Rattle.script_reader.specs.Known.{Numbered};
 ghost use Rattle.script_reader.specs.Words.{all_verbs};
 ghost use Rattle.script_meaning.specs.Meaning.{meaning};
 ghost use Rattle.event_player.specs.Plays.{IsTooLong};
-ghost use Rattle.hpsim_run.specs.Headline.{Headline, SpellNone, TellsRefusal, TellsTooLong, longest};
+ghost use Rattle.hpsim_run.specs.Headline.{Headline, HasStopped, SpellNone, TellsRefusal, TellsTooLong, longest};
+ghost use Rattle.event_player.specs.declared.play.PlayFault.TheVariants.{Store as StoreFault, Sink as SinkFault};
 ghost use Rattle.hpsim_run.specs.Statuses.{status_code, IsPlayStatus, IsStatus};
 ghost use Rattle.hpsim_run.specs.Tools.{RunsAdd, RunsFresh, RunsList};
 ghost use Rattle.hpsim_run.specs.Words.{command_of as the_command, usage_text, Told};
@@ -22,7 +23,8 @@ use crate::words::{Command, command_of};
 use event_player::play::{PlayFault, play};
 use mass_outside::traits::{Packs, Sink, Source};
 use mass_outside::whole::write_all;
-use run_promises::promises_law;
+use run_promises::{beginnings_law, promises_law};
+use script_meaning::meaning_law;
 use script_reader::script::grammar_law;
 use std::alloc::Global;
 
@@ -36,6 +38,10 @@ fn run_play<S: Source, P: Packs, O: Sink, T: Sink>(
 ) -> Status
     ensures statuses { IsPlayStatus result }
     ensures done { result ≡ Done → Headline (S.tells script.new) (S.left script.old) (S.left script.new) (P.tells packs.new) (P.held packs.old) (P.held packs.new)
+        (O.tells out.new) (O.taken out.old) (O.taken out.new) (T.tells trace.new) (T.taken trace.old) (T.taken trace.new) }
+    ensures stopped { result ≡ SinkFailed → HasStopped SinkFault (S.tells script.new) (S.left script.old) (S.left script.new) (P.tells packs.new) (P.held packs.old) (P.held packs.new)
+        (O.tells out.new) (O.taken out.old) (O.taken out.new) (T.tells trace.new) (T.taken trace.old) (T.taken trace.new) }
+    ensures stopped_packs { result ≡ PacksFailed → HasStopped StoreFault (S.tells script.new) (S.left script.old) (S.left script.new) (P.tells packs.new) (P.held packs.old) (P.held packs.new)
         (O.tells out.new) (O.taken out.old) (O.taken out.new) (T.tells trace.new) (T.taken trace.old) (T.taken trace.new) }
     ensures refused { result ≡ Refused → TellsRefusal (S.tells script.new) (S.left script.old)
         (O.tells out.new) (O.taken out.old) (O.taken out.new) (O.faults out.old) (O.faults out.new) }
@@ -60,6 +66,8 @@ fn run_play<S: Source, P: Packs, O: Sink, T: Sink>(
     ensures untraced { (result ≡ Refused) ⊎ (result ≡ SourceFailed) ⊎ (result ≡ TooLong) ⊎ (result ≡ OutOfMemory) → trace.new ≡ trace.old }
 {
     promises_law();
+    beginnings_law();
+    meaning_law();
     grammar_law();
     let script = match load(alloc, script) {
         Ok(script) => script,
@@ -110,6 +118,12 @@ pub fn run<S: Source, P: Packs, O: Sink, T: Sink>(
     // The headline.
     ensures done { the_command words.now ≡ Some Play → result ≡ status_code Done →
         Headline (S.tells script.new) (S.left script.old) (S.left script.new) (P.tells packs.new) (P.held packs.old) (P.held packs.new)
+        (O.tells out.new) (O.taken out.old) (O.taken out.new) (T.tells trace.new) (T.taken trace.old) (T.taken trace.new) }
+
+    // What stands after a stop.
+    ensures stopped { the_command words.now ≡ Some Play → result ≡ status_code SinkFailed → HasStopped SinkFault (S.tells script.new) (S.left script.old) (S.left script.new) (P.tells packs.new) (P.held packs.old) (P.held packs.new)
+        (O.tells out.new) (O.taken out.old) (O.taken out.new) (T.tells trace.new) (T.taken trace.old) (T.taken trace.new) }
+    ensures stopped_packs { the_command words.now ≡ Some Play → result ≡ status_code PacksFailed → HasStopped StoreFault (S.tells script.new) (S.left script.old) (S.left script.new) (P.tells packs.new) (P.held packs.old) (P.held packs.new)
         (O.tells out.new) (O.taken out.old) (O.taken out.new) (T.tells trace.new) (T.taken trace.old) (T.taken trace.new) }
 
     // Each other status has its cause, and comes exactly there where one can see it.

@@ -5,6 +5,7 @@ use Rattle.event_player.proofs.Draining.{draining_starts, draining_next, drainin
 use Rattle.event_player.proofs.Rooms.{drain_brings, still_brings, brings_both}
 use Rattle.event_player.proofs.Taking.{plays_none}
 use Rattle.event_player.proofs.drains.go_on.Goals as goal
+use Rattle.event_player.proofs.Halting.{if_err, err_is, draining_halts}
 
 pub loop-turn-init : goal.loop-turn-init
 loop-turn-init g c =
@@ -59,3 +60,14 @@ returns-clause-plays g c =
     let old : Stage = stage g.P.Packs.tells g.P.Packs.held g.O.Sink.tells g.O.Sink.taken g.T.Sink.tells g.T.Sink.taken c.args.subsystem.now.world c.args.packs.now c.args.out.now c.args.trace.now in
     let now : Stage = stage g.P.Packs.tells g.P.Packs.held g.O.Sink.tells g.O.Sink.taken g.T.Sink.tells g.T.Sink.taken c.loop-turn.subsystem.world c.loop-turn.packs c.loop-turn.out c.loop-turn.trace in
     λ t. draining_never c.args.number c.loop-turn.turn old now c.loop-turn-test.false (c.loop-turn.invariant.plays t)
+
+pub returns-in_err-happen-clause-stops : goal.returns-in_err-happen-clause-stops
+returns-in_err-happen-clause-stops g c =
+    let so = c.loop-turn.invariant in
+    let happens = c.in_err-happen.ensures in
+    let old : Stage = stage g.P.Packs.tells g.P.Packs.held g.O.Sink.tells g.O.Sink.taken g.T.Sink.tells g.T.Sink.taken c.args.subsystem.now.world c.args.packs.now c.args.out.now c.args.trace.now in
+    let mid : Stage = stage g.P.Packs.tells g.P.Packs.held g.O.Sink.tells g.O.Sink.taken g.T.Sink.tells g.T.Sink.taken c.loop-turn.subsystem.world c.loop-turn.packs c.loop-turn.out c.loop-turn.trace in
+    let new : Stage = stage g.P.Packs.tells g.P.Packs.held g.O.Sink.tells g.O.Sink.taken g.T.Sink.tells g.T.Sink.taken c.happen.new.subsystem.world c.happen.new.packs c.happen.new.out c.happen.new.trace in
+    err_is _ c.from_residual.result c.in_err-happen.field-0.0 c.from_residual.ensures.1
+    (λ t. draining_halts c.args.number c.loop-turn.turn c.in_err-happen.field-0.0 (input_of c.in-Some.event) old mid new so.never_again_trace so.never_again_out happens.never_again_trace happens.never_again_out
+    c.in-Some.ensures.next c.in-Some.ensures.there so.none_waits (so.plays (happens.never_again t)) happens.stops t)

@@ -8,6 +8,8 @@ use Rattle.trace_replay.specs.Script.{IsScript}
 use Rattle.event_player.specs.Steps.{Stage, stage, PlaysDrain}
 use Rattle.event_player.proofs.Whole.{plays_none_yet, plays_end, next_may, next_ready, next_plays, next_data}
 use Rattle.event_player.proofs.play.play_lines.Goals as goal
+use Rattle.event_player.proofs.Halting.{if_err, err_is, line_halts, end_halts}
+use Rattle.event_player.proofs.Whole.{here_is}
 
 pub loop-i-init : goal.loop-i-init
 loop-i-init g c =
@@ -83,3 +85,32 @@ returns-clause-plays g c =
     let number : c.from-number.result + 1 ≡ stored.count + 1 = ap (λ (n : ℕ). n + 1) (c.from-number.ensures ∙ c.count.ensures) in
     λ t. plays_end (meaning_of stored) c.loop-i.i old mid new all drains.never_again_out drains.never_again_trace
     (subst (λ (n : ℕ). PlaysDrain n mid new) number (drains.plays t)) (c.loop-i.invariant.plays (drains.never_again t))
+
+pub returns-in_err-play_line-clause-stops : goal.returns-in_err-play_line-clause-stops
+returns-in_err-play_line-clause-stops g c =
+    let so = c.loop-i.invariant in
+    let plays = c.in_err-play_line.ensures in
+    let old : Stage = stage g.P.Packs.tells g.P.Packs.held g.O.Sink.tells g.O.Sink.taken g.T.Sink.tells g.T.Sink.taken c.args.subsystem.now.world c.args.packs.now c.args.out.now c.args.trace.now in
+    let mid : Stage = stage g.P.Packs.tells g.P.Packs.held g.O.Sink.tells g.O.Sink.taken g.T.Sink.tells g.T.Sink.taken c.loop-i.subsystem.world c.loop-i.packs c.loop-i.out c.loop-i.trace in
+    let new : Stage = stage g.P.Packs.tells g.P.Packs.held g.O.Sink.tells g.O.Sink.taken g.T.Sink.tells g.T.Sink.taken c.play_line.new.subsystem.world c.play_line.new.packs c.play_line.new.out c.play_line.new.trace in
+    let stored = c.args.script.now in
+    let item = c.index-lines-i.result in
+    let is : item ≡ get_or stored.lines c.loop-i.i item = subst (λ (xs : List Kept). item ≡ get_or xs c.loop-i.i item) c.lines-lines.ensures c.index-lines-i.is in
+    let lt : c.loop-i.i < length stored.lines = subst (λ (xs : List Kept). c.loop-i.i < length xs) c.lines-lines.ensures c.loop-i-test.true in
+    err_is _ c.from_residual.result c.in_err-play_line.field-0.0 c.from_residual.ensures.1
+    (λ t. line_halts (meaning_of stored) c.loop-i.i (line_of (seen stored.text item)) c.in_err-play_line.field-0.0 old mid new (here_is stored c.loop-i.i item is lt)
+    (so.plays (plays.never_again t)) (plays.stops t))
+
+pub returns-in_err-drain-clause-stops : goal.returns-in_err-drain-clause-stops
+returns-in_err-drain-clause-stops g c =
+    let drains = c.in_err-drain.ensures in
+    let old : Stage = stage g.P.Packs.tells g.P.Packs.held g.O.Sink.tells g.O.Sink.taken g.T.Sink.tells g.T.Sink.taken c.args.subsystem.now.world c.args.packs.now c.args.out.now c.args.trace.now in
+    let mid : Stage = stage g.P.Packs.tells g.P.Packs.held g.O.Sink.tells g.O.Sink.taken g.T.Sink.tells g.T.Sink.taken c.loop-i.subsystem.world c.loop-i.packs c.loop-i.out c.loop-i.trace in
+    let new : Stage = stage g.P.Packs.tells g.P.Packs.held g.O.Sink.tells g.O.Sink.taken g.T.Sink.tells g.T.Sink.taken c.drain.new.subsystem.world c.drain.new.packs c.drain.new.out c.drain.new.trace in
+    let stored = c.args.script.now in
+    let past : length stored.lines ≤ c.loop-i.i = subst (λ (xs : List Kept). length xs ≤ c.loop-i.i) c.lines-lines.ensures c.loop-i-test.false in
+    let all : length (meaning_of stored).lines ≤ c.loop-i.i =
+    subst (λ (n : ℕ). n ≤ c.loop-i.i) (sym (length-map (lines_in stored) line_of ∙ length-map stored.lines (seen stored.text))) past in
+    let number : c.from-number.result + 1 ≡ stored.count + 1 = ap (λ (n : ℕ). n + 1) (c.from-number.ensures ∙ c.count.ensures) in
+    err_is _ c.from_residual-in_err-drain.result c.in_err-drain.field-0.0 c.from_residual-in_err-drain.ensures.1
+    (λ t. end_halts (meaning_of stored) c.loop-i.i (c.from-number.result + 1) c.in_err-drain.field-0.0 old mid new all number (drains.stops t) (c.loop-i.invariant.plays (drains.never_again t)))

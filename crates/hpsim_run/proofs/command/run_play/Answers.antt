@@ -1,7 +1,9 @@
 use Rattle.std.proofs.Common.{inl, inr, sym, ◌≡◌}
 use Rattle.script_reader.specs.Stored.{lines_in}
 use Rattle.script_reader.specs.Words.{all_verbs}
-use Rattle.hpsim_run.proofs.PlayLaws.{none_long, told_of, told_from, refused_parts, refusal_is, long_parts, long_before, sink_plays}
+use Rattle.hpsim_run.proofs.PlayLaws.{none_long, told_of, told_from, refused_parts, refusal_is, long_parts, long_before, sink_plays, left_by}
+use Rattle.event_player.specs.declared.play.PlayFault.TheVariants as faults
+use Rattle.hpsim_run.proofs.SoFar.{keeps}
 use Rattle.hpsim_run.proofs.command.run_play.Goals as goal
 
 pub returns-in-Err-Refused-clause-refused : goal.returns-in-Err-Refused-clause-refused
@@ -58,3 +60,23 @@ returns-in-Err-Sink-clause-only_too_long g c = λ lines count unit n t spelled t
 
 pub returns-in-Err-Store-clause-only_refused : goal.returns-in-Err-Store-clause-only_refused
 returns-in-Err-Store-clause-only_refused g c = λ t none. absurd (none _ _ (c.in-Ok.ensures.ok t))
+
+pub returns-in-Err-Sink-clause-stopped : goal.returns-in-Err-Sink-clause-stopped
+returns-in-Err-Sink-clause-stopped g c = λ _. record {
+  lines = lines_in c.in-Ok.script;
+  count = c.in-Ok.script.count;
+  read = λ t. c.in-Ok.ensures.end t;
+  spelled = λ t. c.in-Ok.ensures.ok t;
+  leaves = λ t. left_by _ _ _ _ _ _ _ _ _ _ _ c.in-Err-Sink.field-0-is (c.in-Err-Sink.ensures.stopped t);
+  keeps = λ t. keeps c.beginnings_law.ensures.begun faults.Sink _ _ _ _ _ _ _ _ _ (c.meaning_law.ensures.read c.in-Ok.script.text c.in-Ok.script c.in-Ok.ensures.spells);
+}
+
+pub returns-in-Err-Store-clause-stopped_packs : goal.returns-in-Err-Store-clause-stopped_packs
+returns-in-Err-Store-clause-stopped_packs g c = λ _. record {
+  lines = lines_in c.in-Ok.script;
+  count = c.in-Ok.script.count;
+  read = λ t. c.in-Ok.ensures.end t;
+  spelled = λ t. c.in-Ok.ensures.ok t;
+  leaves = λ t. left_by _ _ _ _ _ _ _ _ _ _ _ c.in-Err-Store.field-0-is (c.in-Err-Store.ensures.stopped t);
+  keeps = λ t. keeps c.beginnings_law.ensures.begun faults.Store _ _ _ _ _ _ _ _ _ (c.meaning_law.ensures.read c.in-Ok.script.text c.in-Ok.script c.in-Ok.ensures.spells);
+}
