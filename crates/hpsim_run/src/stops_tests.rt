@@ -62,7 +62,7 @@ struct Stopped {
 
 const UNWRITTEN: [(u32, &[u8]); 4] = [(5, b"never"), (6, b"never"), (7, b"never"), (8, b"never")];
 
-const STOPPED: [Stopped; 5] = [
+const STOPPED: [Stopped; 4] = [
     Stopped {
         name: "last_data_block",
         script: b"unit 0 rp06\nwrite 1 0 c 340521 1 fill A5\nread 2 0 c 340521 1\n",
@@ -105,20 +105,22 @@ const STOPPED: [Stopped; 5] = [
             (8, b" 0 1 8 clean\n"),
         ],
     },
-    Stopped {
-        name: "two_blocks_forwarded, and written behind that",
-        script: b"unit 0 rp06\nunit 1 rm03\nnoise 0 340646 1 8\nread 1 0 c 999 4\nread 2 1 c 160 1\narrive 0\nattend 0\nmove 0\nmove 0\narrive 1\nattend 0\nmove 0\nattend 0\ndrain\nwrite 3 0 c 999 4 fill 77\n",
-        entries: &[0x02, 0x00, 0x0A, 0x07, 0x02, 0x00, 0x0B, 0x07],
-        marks: &[1000, 1001],
-        fill: 0x77,
-        blocks: [
-            (999, b" 0 3 999 clean\n"),
-            (340647, b" 0 3 340647 clean\n"),
-            (340646, b" 0 3 340646 clean\n"),
-            (1002, b" 0 3 1002 clean\n"),
-        ],
-    },
 ];
+
+/// Blocks that are forwarded, read and then written.
+const FORWARDED: Stopped = Stopped {
+    name: "two_blocks_forwarded, and written behind that",
+    script: b"unit 0 rp06\nunit 1 rm03\nnoise 0 340646 1 8\nread 1 0 c 999 4\nread 2 1 c 160 1\narrive 0\nattend 0\nmove 0\nmove 0\narrive 1\nattend 0\nmove 0\nattend 0\ndrain\nwrite 3 0 c 999 4 fill 77\n",
+    entries: &[0x02, 0x00, 0x0A, 0x07, 0x02, 0x00, 0x0B, 0x07],
+    marks: &[1000, 1001],
+    fill: 0x77,
+    blocks: [
+        (999, b" 0 3 999 clean\n"),
+        (340647, b" 0 3 340647 clean\n"),
+        (340646, b" 0 3 340646 clean\n"),
+        (1002, b" 0 3 1002 clean\n"),
+    ],
+};
 
 /// Whether block of unit 0 holds this byte, and no other.
 fn is_filled(packs: &mut MemPacks, block: u32, fill: u8) -> Result<bool, Fail>
@@ -227,16 +229,35 @@ fn each_call(
     Ok("it does not end")
 }
 
+/// The first thing that does not hold where each call of each operation fails in turn; "done" if there is none.
+fn first_amiss(alloc: Global, row: &Stopped) -> Result<&'static str, Fail> {
+    let mut packs = packs_for(alloc, row, NONE.packs)?;
+    let whole = run_on(alloc, PLAY, row.script, &mut packs, NONE)?;
+    for (operation, wanted) in FAILING {
+        let word = each_call(alloc, row, &whole, operation, wanted)?;
+        if word != "done" {
+            return Ok(word);
+        }
+    }
+    Ok("done")
+}
+
 #[test]
 fn each_call_fails(rt: HostRuntime) -> Result<(), Fail> {
     for row in &STOPPED {
-        let mut packs = packs_for(rt.alloc(), row, NONE.packs)?;
-        let whole = run_on(rt.alloc(), PLAY, row.script, &mut packs, NONE)?;
-        for (operation, wanted) in FAILING {
-            let word = each_call(rt.alloc(), row, &whole, operation, wanted)?;
-            assert_eq!(rt; word, "done", "{} {wanted}", row.name);
-        }
+        assert_eq!(rt; first_amiss(rt.alloc(), row)?, "done", "{}", row.name);
     }
+    Ok(())
+}
+
+#[test]
+fn each_call_fails_over_a_table(rt: HostRuntime) -> Result<(), Fail> {
+    assert_eq!(rt;
+        first_amiss(rt.alloc(), &FORWARDED)?,
+        "done",
+        "{}",
+        FORWARDED.name
+    );
     Ok(())
 }
 
