@@ -1,5 +1,5 @@
 -- Which answers of an event stand in the text that was taken.
-use Rattle.std.proofs.Common.{◌≡◌, ◌≢◌, ◌⊎◌, inl, inr, ℕ, Bool, true, false, List, [], ◌∷◌, ◌++◌, refl, sym, ap, subst, ◌∙◌, append-nil, append_assoc}
+use Rattle.std.proofs.Common.{◌≡◌, ◌≢◌, ◌⊎◌, inl, inr, ℕ, Bool, true, false, List, [], ◌∷◌, ◌++◌, arith, refl, sym, ap, subst, ◌∙◌, append-nil, append_assoc}
 use Rattle.std.proofs.lemmas.Bool.{false≢true}
 use Rattle.std.proofs.lemmas.Bool.Decides.{eqb_tells}
 use Rattle.std.proofs.lemmas.Grind.{flat_map-append}
@@ -87,6 +87,27 @@ stands_on said said' done more line unit id other_line other_id answer other sta
         parts : (a b c d e f : List ℕ) → a ++ ((b ++ ((c ++ d) ++ e)) ++ f) ≡ (a ++ (b ++ c)) ++ (d ++ (e ++ f))
         parts a b c d e f = grind (arith, append_assoc)
 
+-- where no answer is, none is found
+nowhere : (before after : List Moment) (line unit id : ℕ) (answer : Answer) → [] ≡ before ++ Told line unit id (End answer) ∷ after → ⊥
+nowhere [] after line unit id answer is = absurd (cc is)
+nowhere (n ∷ ns) after line unit id answer is = absurd (cc is)
+
+skipped : (m : Moment) (ms : List Moment) → IsNoEnd m → answers_in (m ∷ ms) ≡ answers_in ms
+skipped (Told line unit id (End answer)) ms none = absurd (none line unit id answer refl)
+skipped other ms none = refl
+
+some_more : (m : Moment) (ms : List Moment) → IsEnd m ⊎ IsNoEnd m → (answers_in ms ≡ [] → ⊥) → answers_in (m ∷ ms) ≡ [] → ⊥
+some_more m ms (inr none) some is = some (sym (skipped m ms none) ∙ is)
+some_more m ms (inl end) some is = ended (ap (λ (z : Moment). answers_in (z ∷ ms)) (sym end.is) ∙ is)
+  where
+    ended : answers_in (Told end.line end.unit end.id (End end.answer) ∷ ms) ≡ [] → ⊥
+    ended e = absurd (cc e)
+
+some_answer : (before after : List Moment) (line unit id : ℕ) (answer : Answer) → answers_in (before ++ Told line unit id (End answer) ∷ after) ≡ [] → ⊥
+some_answer [] after line unit id answer is = absurd (cc is)
+some_answer (n ∷ before) after line unit id answer is =
+    some_more n (before ++ Told line unit id (End answer) ∷ after) (end_or_none n) (some_answer before after line unit id answer) is
+
 -- THE ANSWERS THAT STAND
 pub record Found (said said' : List ℕ) (done under : List Moment) : Type 0 where
   pub front : List Moment
@@ -101,14 +122,10 @@ module _ (said said' : List ℕ) where
     rest = [];
     cut = refl;
     stand = record {
-      each = λ line unit id answer before after is. nowhere before after line unit id answer is;
-      no_more = λ line unit id answer before after is stands. nowhere before after line unit id answer is;
+      each = λ line unit id answer before after is. absurd (nowhere before after line unit id answer is);
+      no_more = λ line unit id answer before after is stands. absurd (nowhere before after line unit id answer is);
     };
   }
-    where
-      nowhere : {P : Type 0} (before after : List Moment) (line unit id : ℕ) (answer : Answer) → [] ≡ before ++ Told line unit id (End answer) ∷ after → P
-      nowhere [] after line unit id answer is = absurd (cc is)
-      nowhere (m ∷ ms) after line unit id answer is = absurd (cc is)
 
   module _ (done : List Moment) (m : Moment) (ms : List Moment) (f : Found said said' (done ++ m ∷ []) ms) where
     later : (before : List Moment) → (done ++ m ∷ []) ++ before ≡ done ++ m ∷ before
@@ -142,15 +159,11 @@ module _ (said said' : List ℕ) where
       rest = m ∷ ms;
       cut = refl;
       stand = record {
-        each = λ line unit id answer before after is. nowhere before after line unit id answer is;
+        each = λ line unit id answer before after is. absurd (nowhere before after line unit id answer is);
         no_more = λ line unit id answer before after is stands. no_more line unit id answer before after is stands;
       };
     }
       where
-        nowhere : {P : Type 0} (before after : List Moment) (line unit id : ℕ) (answer : Answer) → [] ≡ before ++ Told line unit id (End answer) ∷ after → P
-        nowhere [] after line unit id answer is = absurd (cc is)
-        nowhere (n ∷ ns) after line unit id answer is = absurd (cc is)
-
         at_once : (line unit id : ℕ) (answer : Answer) → m ≡ Told line unit id (End answer) → Stands said said' done line id answer → ⊥
         at_once line unit id answer is stands = none (same (sym end.is ∙ is) stands)
           where
@@ -184,22 +197,6 @@ module _ (said said' : List ℕ) where
   -- where none is an answer, none stands
   pub stand_silent : (done under : List Moment) → answers_in under ≡ [] → StandIn said said' done under []
   stand_silent done under silent = record {
-    each = λ line unit id answer before after is. absurd (some before after line unit id answer (ap answers_in (sym is) ∙ silent));
+    each = λ line unit id answer before after is. absurd (some_answer before after line unit id answer (ap answers_in (sym is) ∙ silent));
     no_more = λ line unit id answer before after is stands. absurd (nowhere before after line unit id answer is);
   }
-    where
-      nowhere : (before after : List Moment) (line unit id : ℕ) (answer : Answer) → [] ≡ before ++ Told line unit id (End answer) ∷ after → ⊥
-      nowhere [] after line unit id answer is = cc is
-      nowhere (n ∷ ns) after line unit id answer is = cc is
-
-      some : (before after : List Moment) (line unit id : ℕ) (answer : Answer) → answers_in (before ++ Told line unit id (End answer) ∷ after) ≡ [] → ⊥
-      some [] after line unit id answer is = cc is
-      some (n ∷ before) after line unit id answer is = by (end_or_none n)
-        where
-          by : IsEnd n ⊎ IsNoEnd n → ⊥
-          by (inl end) = absurd (let e : answers_in (Told end.line end.unit end.id (End end.answer) ∷ (before ++ Told line unit id (End answer) ∷ after)) ≡ [] = ap (λ (z : Moment). answers_in (z ∷ (before ++ Told line unit id (End answer) ∷ after))) (sym end.is) ∙ is in cc e)
-          by (inr none) = some before after line unit id answer (skipped n none ∙ is)
-
-          skipped : (z : Moment) → IsNoEnd z → answers_in (before ++ Told line unit id (End answer) ∷ after) ≡ answers_in (z ∷ (before ++ Told line unit id (End answer) ∷ after))
-          skipped (Told l u i (End a)) none = absurd (none l u i a refl)
-          skipped other none = refl
