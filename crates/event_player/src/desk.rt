@@ -1,0 +1,38 @@
+// Where answers are written: what is gathered for their sink, and what is counted of them.
+ghost use Rattle.std.specs.Prelude.{◌≡◌, [], IfOk};
+ghost use Rattle.mass_gather.specs.Gathers.{Gathers};
+ghost use Rattle.answer_tally.specs.Counting.{Counts, tally_by};
+
+use answer_tally::Tally;
+use mass_gather::Gather;
+use mass_outside::traits::{NoMemory, Sink, SinkFailed};
+use std::alloc::Global;
+
+/// Text that is gathered for a sink, and the tally of the run so far.
+#[derive(Drop)]
+pub struct Desk {
+    pub gather: Gather,
+    pub tally: Tally,
+}
+
+impl Desk {
+    /// A desk at which nothing is gathered yet, and none of so many requests is answered.
+    pub fn new(alloc: Global, requests: u64) -> Result<Desk, NoMemory>
+        ensures gather { IfOk result (λ desk. desk.gather ≡ []) }
+        ensures tally { IfOk result (λ desk. desk.tally ≡ tally_by requests [] []) }
+    {
+        let gather = Gather::new(alloc)?;
+        let tally = Tally::new(requests);
+        Ok(Desk { gather, tally })
+    }
+
+    /// Counts a text, and gathers it.
+    pub fn put<O: Sink>(&mut self, text: &[u8], out: &mut O) -> Result<(), SinkFailed>
+        ensures gathers { Gathers O.tells O.taken O.faults out.old out.new self.old.gather self.new.gather result text.now }
+        ensures counts { Counts [] text.now self.old.tally self.new.tally }
+        ensures requests { self.new.tally.requests ≡ self.old.tally.requests }
+    {
+        self.tally.count_text(text);
+        self.gather.put(text, out)
+    }
+}
