@@ -1,5 +1,5 @@
 -- The drives of an exercise, and the packs in memory on which it is played.
-use Rattle.std.specs.Prelude.{◌≡◌, ℕ, ◌<◌, ◌≤◌, ◌-◌, ◌^◌, ◌==◌, ◌||◌, Bool, if◌then◌else◌, List, [], ◌∷◌, length, Option, None, Some, slice_get}
+use Rattle.std.specs.Prelude.{◌≡◌, ℕ, ◌<◌, ◌≤◌, ◌-◌, ◌^◌, ◌==◌, if◌then◌else◌, List, [], ◌∷◌, length, Option, None, Some, slice_get}
 use Rattle.pack_geometry.specs.declared.DriveKind.{DriveKind}
 use Rattle.pack_geometry.specs.declared.DriveKind.TheVariants.{Rp06, Rm03}
 use Rattle.pack_geometry.specs.Geometry.{block_count}
@@ -13,7 +13,7 @@ use Rattle.exercise_run.specs.declared.packs.Outside.TheVariants.{Block, Mark}
 
 -- THE DRIVES: one of the units 0, 1 and 8
 abbrev pub drive_at : ℕ → Option DriveKind
-drive_at unit = if unit == 0 then Some Rp06 else if (unit == 1) || (unit == 8) then Some Rm03 else None
+drive_at unit = if unit == 0 then Some Rp06 else if unit == 1 then Some Rm03 else if unit == 8 then Some Rm03 else None
 
 abbrev pub blocks_on : Option DriveKind → ℕ
 blocks_on None = 0
