@@ -56,7 +56,8 @@ impl Tally {
 
     /// Counts an answer.
     pub fn count_answer(&mut self, outcome: Outcome)
-        ensures { (line id : ℕ) → (bytes : List ℕ) → Counts (record { line = line; id = id; answer = answer_of bytes outcome } ∷ []) [] self.old self.new }
+        ensures counts { (line id : ℕ) → (bytes : List ℕ) → Counts (record { line = line; id = id; answer = answer_of bytes outcome } ∷ []) [] self.old self.new }
+        ensures requests { self.new.requests ≡ self.old.requests }
     {
         self.answers = self.answers.saturating_add(1);
         self.ok = self.ok.saturating_add(u64::from(is_ok(outcome)));
@@ -64,7 +65,8 @@ impl Tally {
 
     /// Counts a piece of the answer text.
     pub fn count_text(&mut self, text: &[u8])
-        ensures { Counts [] text.now self.old self.new }
+        ensures counts { Counts [] text.now self.old self.new }
+        ensures requests { self.new.requests ≡ self.old.requests }
     {
         self.text = self.text.saturating_add(text.len() as u64);
         self.sum = self.sum.wrapping_add(sum_of(text));

@@ -29,7 +29,7 @@ use Rattle.answer_lines.specs.Blocks.{AreBlocks, blocks_in, joined}
 use Rattle.answer_lines.proofs.BlockLaws.{blocks_in-joined}
 use Rattle.answer_lines.proofs.TextLaws.{one_more}
 use Rattle.hp_driver.specs.Subsystem.{State, IsOldest}
-use Rattle.event_player.specs.Answering.{first_blocks, first_text, first_rest, IsFirst, IsFirstKind, HasBlock}
+use Rattle.event_player.specs.Answering.{first_blocks, first_told, first_text, first_rest, IsFirst, IsFirstKind, HasBlock}
 use Rattle.event_player.specs.Steps.{takings, all_taken, waiting_text}
 
 -- THE BLOCKS OF A READ: so many, each whole but for the last one
@@ -218,23 +218,24 @@ no_blocks (Error (Fault attempts) done) blocks other = refl
 pub nothing_behind : (w : World) (kind : AnswerKind) → ((count last : ℕ) → kind ≡ ReadOk count last → ⊥) → first_rest w kind ≡ []
 nothing_behind w kind other = no_blocks kind (first_blocks w w.answers) other
 
--- THE TEXTS of the answers that wait: that of the oldest, and those of the others
-told_first : (w : World) (answer : Answer) (first : IsFirst w answer) → answer_text (told_by w first.made) ≡ first_text w answer
+-- THE ANSWERS that wait: the oldest, and the others; and their texts
+told_first : (w : World) (answer : Answer) (first : IsFirst w answer) → told_by w first.made ≡ first_told w answer
 told_first w answer first =
-    ap (λ (blocks : List (List ℕ)). answer_text (record { line = first.made.answer.at; id = first.made.answer.id; answer = answer_told first.made.answer.kind blocks }))
+    ap (λ (blocks : List (List ℕ)). record { line = first.made.answer.at; id = first.made.answer.id; answer = answer_told first.made.answer.kind blocks })
     (sym (ap (first_blocks w) first.oldest.first))
-    ∙ ap (first_text w) first.is
+    ∙ ap (first_told w) first.is
 
-pub text_taken : TakingDrops → (w : World) (answer : Answer) → Sound w → IsFirst w answer → waiting_text w ≡ first_text w answer ++ waiting_text (after w Taken)
-text_taken drops w answer s first =
+pub told_taken : TakingDrops → (w : World) (answer : Answer) → Sound w → IsFirst w answer → waiting w ≡ first_told w answer ∷ waiting (after w Taken)
+told_taken drops w answer s first =
     let made : Made = first.made in
     let rest : List Made = drop 1 w.answers in
     let all : waiting w ≡ told_by w made ∷ map (told_by w) rest = ap (map (told_by w)) first.oldest.first in
     let some : 0 < length w.answers = subst (λ (answers : List Made). 0 < length answers) (sym first.oldest.first) (omega arith) in
     let behind : waiting (after w Taken) ≡ map (told_by w) rest = drops w s some ∙ ap (λ (xs : List Answered). drop 1 xs) all in
-    ap (flat_map answer_text) all
-    ∙ ap (λ (text : List ℕ). text ++ flat_map answer_text (map (told_by w) rest)) (told_first w answer first)
-    ∙ ap (λ (xs : List Answered). first_text w answer ++ flat_map answer_text xs) (sym behind)
+    all ∙ ap (λ (told : Answered). told ∷ map (told_by w) rest) (told_first w answer first) ∙ ap (λ (xs : List Answered). first_told w answer ∷ xs) (sym behind)
+
+pub text_taken : TakingDrops → (w : World) (answer : Answer) → Sound w → IsFirst w answer → waiting_text w ≡ first_text w answer ++ waiting_text (after w Taken)
+text_taken drops w answer s first = ap (flat_map answer_text) (told_taken drops w answer s first)
 
 taken_first : (w : World) (made : Made) → IsOldest w made → all_taken w ≡ all_taken (after w Taken)
 taken_first w made oldest = ap (λ (answers : List Made). after_all w (takings answers)) oldest.first

@@ -27,6 +27,7 @@ use Rattle.driver_answers.proofs.Waiting.{submissions_alone}
 use Rattle.driver_runs.proofs.Runs.{packs_are_left}
 use Rattle.driver_trace.specs.Within.{ShowsAll}
 use Rattle.answer_lines.specs.AnswerText.{said_text, out_text}
+use Rattle.answer_tally.specs.declared.tally.Tally.{Tally}
 use Rattle.hp_driver.specs.Subsystem.{IsThere, is_move}
 use Rattle.event_player.specs.declared.play.PlayFault.{PlayFault}
 use Rattle.event_player.specs.declared.play.PlayFault.TheVariants as faults
@@ -115,9 +116,9 @@ module _ (script : Script) (tables : ℕ → Option Table) (first : ℕ → Pack
       ∙ sym (flat_map-append said_text told.moments (Played line input ∷ [])))
 
   -- with what is said as the line is played
-  abbrev pub line_context : (tells : Bool) (text : List ℕ) → (IsTrue tells → IsTrue old.out_tells) → (IsTrue tells → text ≡ old.said ++ said_text (Played line input))
-      → Context script tables first said taken (with_said old tells text) (Played line input ∷ [])
-  line_context tells text too before = record {
+  abbrev pub line_context : (tells : Bool) (text : List ℕ) (tally : Tally) → (IsTrue tells → IsTrue old.out_tells) → (IsTrue tells → text ≡ old.said ++ said_text (Played line input))
+      → Context script tables first said taken (with_said old tells text tally) (Played line input ∷ [])
+  line_context tells text tally too before = record {
     done = told.moments;
     later = record { line = line; input = input } ∷ next.later;
     rest = next.later;
@@ -135,10 +136,10 @@ module _ (script : Script) (tables : ℕ → Option Table) (first : ℕ → Pack
   silent_move : is_move input ≡ true → out_text (Played line input ∷ []) ≡ []
   silent_move moves = ap (λ (i : Input). out_text (Played line i ∷ [])) (move_is input moves).1
 
-  pub line_event : (tells : Bool) (text : List ℕ) → (IsTrue tells → IsTrue old.out_tells) → (IsTrue tells → text ≡ old.said ++ said_text (Played line input))
-      → IsThere old.world input → old.world.answers ≡ [] → EventContext script tables first said taken (with_said old tells text) (Played line input ∷ []) line input
-  line_event tells text too before there none = record {
-    ctx = line_context tells text too before;
+  pub line_event : (tells : Bool) (text : List ℕ) (tally : Tally) → (IsTrue tells → IsTrue old.out_tells) → (IsTrue tells → text ≡ old.said ++ said_text (Played line input))
+      → IsThere old.world input → old.world.answers ≡ [] → EventContext script tables first said taken (with_said old tells text tally) (Played line input ∷ []) line input
+  line_event tells text tally too before there none = record {
+    ctx = line_context tells text tally too before;
     sound = told.run.so_far.left.stands.sound;
     goes = λ tried may reads. whole_run script tables first (packs_after_all old.world old.held (event_acts line input tried old.world)) line _ _ _
         (event_goes script tables first last line input tried old.held done old.world told.moments less there none may reads told.run);
@@ -147,12 +148,12 @@ module _ (script : Script) (tables : ℕ → Option Table) (first : ℕ → Pack
   }
 
   -- an event at the line
-  pub line_stops : (fault : PlayFault) (tells : Bool) (text : List ℕ) (new : Stage) → IsTrue new.packs_tell → (IsTrue tells → IsTrue old.out_tells)
+  pub line_stops : (fault : PlayFault) (tells : Bool) (text : List ℕ) (tally : Tally) (new : Stage) → IsTrue new.packs_tell → (IsTrue tells → IsTrue old.out_tells)
       → (IsTrue new.trace_tells → IsTrue old.trace_tells) → (IsTrue new.out_tells → IsTrue tells) → (IsTrue tells → text ≡ old.said ++ said_text (Played line input))
-      → IsThere old.world input → old.world.answers ≡ [] → EventStops line input fault (with_said old tells text) new
+      → IsThere old.world input → old.world.answers ≡ [] → EventStops line input fault (with_said old tells text tally) new
       → Stopped fault script tables first new.held new.out_tells said new.said new.trace_tells taken new.taken
-  line_stops fault tells text new packs too still_traced still before there none stops =
-      event_stops (line_event tells text too before there none) new packs still_traced still fault there none stops
+  line_stops fault tells text tally new packs too still_traced still before there none stops =
+      event_stops (line_event tells text tally too before there none) new packs still_traced still fault there none stops
 
   -- where the sink of the answers failed before the event: a front of what is said as the line is played was taken
   pub opening_stops : (new : Stage) → Follows (start_of script tables first) (told.moments ++ Played line input ∷ [])
@@ -160,7 +161,7 @@ module _ (script : Script) (tables : ℕ → Option Table) (first : ℕ → Pack
       → new.taken ≡ old.taken → (IsTrue new.out_tells → IsBetween old.said (old.said ++ said_text (Played line input)) new.said)
       → StopsAtSink script tables first new.held new.out_tells said new.said new.trace_tells taken new.taken
   opening_stops new follows same still_traced still untold between =
-      stops_by (line_context old.out_tells (old.said ++ said_text (Played line input)) (λ t. t) (λ t. refl)) [] new refl follows
+      stops_by (line_context old.out_tells (old.said ++ said_text (Played line input)) old.tally (λ t. t) (λ t. refl)) [] new refl follows
       (inl (subst (λ (held : ℕ → Pack). AreBehind script tables first held told.moments) (sym same) whole.behind)) still_traced
       (λ t. subst (IsBetween old.taken (old.taken ++ [])) (sym untold) (record { least = front_same old.taken; most = front_more old.taken [] }))
       (λ t. record {
@@ -175,8 +176,8 @@ module _ (script : Script) (tables : ℕ → Option Table) (first : ℕ → Pack
     (told : HasTold script tables first old.held last done old.world old.out_tells said old.said old.trace_tells taken old.taken)
     (still_traced : IsTrue new.trace_tells → IsTrue old.trace_tells) (still : IsTrue new.out_tells → IsTrue old.out_tells)
     (none : old.world.answers ≡ []) (is : IsRequest r) (of : IsOf (start_of script tables first).there (says.Submit r)) where
-  abbrev context : Context script tables first said taken (with_said old old.out_tells old.said) (Played line (says.Submit r) ∷ [])
-  context = line_context script tables first last done said taken line (says.Submit r) old less next told old.out_tells old.said (λ t. t) (λ t. sym (append-nil old.said))
+  abbrev context : Context script tables first said taken (with_said old old.out_tells old.said old.tally) (Played line (says.Submit r) ∷ [])
+  context = line_context script tables first last done said taken line (says.Submit r) old less next told old.out_tells old.said old.tally (λ t. t) (λ t. sym (append-nil old.said))
 
   same_behind : new.held ≡ old.held → AreBehind script tables first new.held told.moments
   same_behind same =
@@ -210,15 +211,15 @@ module _ (script : Script) (tables : ℕ → Option Table) (first : ℕ → Pack
 module _ (script : Script) (tables : ℕ → Option Table) (first : ℕ → Pack) (last : ℕ) (done : List Line) (said taken : List ℕ) (line : ℕ) (old : Stage)
     (less : last < line) (next : IsNext script done line says.Drain)
     (told : HasTold script tables first old.held last done old.world old.out_tells said old.said old.trace_tells taken old.taken) where
-  abbrev drain_context : Context script tables first said taken (with_said old old.out_tells old.said) (Played line says.Drain ∷ [])
-  drain_context = line_context script tables first last done said taken line says.Drain old less next told old.out_tells old.said (λ t. t) (λ t. sym (append-nil old.said))
+  abbrev drain_context : Context script tables first said taken (with_said old old.out_tells old.said old.tally) (Played line says.Drain ∷ [])
+  drain_context = line_context script tables first last done said taken line says.Drain old less next told old.out_tells old.said old.tally (λ t. t) (λ t. sym (append-nil old.said))
 
   pub first_stops : (fault : PlayFault) (input : Input) (new : Stage) → IsTrue new.packs_tell → (IsTrue new.trace_tells → IsTrue old.trace_tells)
       → (IsTrue new.out_tells → IsTrue old.out_tells) → next_event old.world ≡ Some input → IsThere old.world input → old.world.answers ≡ [] → EventStops line input fault old new
       → Stopped fault script tables first new.held new.out_tells said new.said new.trace_tells taken new.taken
   first_stops fault input new packs still_traced still is there none stops = event_stops {line = line} {input = input} at new packs still_traced still fault there none stops
     where
-      at : EventContext script tables first said taken (with_said old old.out_tells old.said) (Played line says.Drain ∷ []) line input
+      at : EventContext script tables first said taken (with_said old old.out_tells old.said old.tally) (Played line says.Drain ∷ []) line input
       at = record {
         ctx = drain_context;
         sound = told.run.so_far.left.stands.sound;

@@ -16,11 +16,13 @@ use Rattle.driver_machine.specs.Events.{event_acts, next_event}
 use Rattle.driver_outcome.specs.Packs.{packs_after_all}
 use Rattle.driver_trace.specs.Runs.{with_call}
 use Rattle.answer_lines.specs.AnswerText.{out_text}
+use Rattle.answer_tally.specs.Counting.{CountsAll}
+use Rattle.answer_tally.proofs.CountLaws.{counts_none, counts_more}
 use Rattle.event_player.specs.Playing.{HasRun}
 use Rattle.event_player.specs.Steps.{Stage, PlaysEvent, GoesOn, HasDrained, EndsDraining, GoesOnDraining, Drains, PlaysDrain, all_taken}
 use Rattle.event_player.proofs.Bounds.{blocks_few}
 use Rattle.event_player.proofs.Going.{line_for, drain_empty, drain_first, drain_first_falls, drain_more, drain_more_falls, drain_over}
-use Rattle.event_player.proofs.Inputs.{event_said, said_more, told_more}
+use Rattle.event_player.proofs.Inputs.{event_said, event_counted, said_more, told_more}
 
 -- HOW FAR A DRAIN IS, so many turns behind its first event: fewer event lines are left with each.
 pub record SoDrained (script : Script) (tables : ℕ → Option Table) (first : ℕ → Pack) (done : List Line) (moments : List Moment) (line turn : ℕ) (old now : Stage) : Type 0 where
@@ -29,6 +31,7 @@ pub record SoDrained (script : Script) (tables : ℕ → Option Table) (first : 
   pub left : turn + events_left (after_moments (start_of script tables first) (moments ++ more)) ≤ events_left (after_moments (start_of script tables first) moments)
   pub out : IsTrue now.out_tells → now.said ≡ old.said ++ out_text more
   pub trace : IsTrue now.trace_tells → now.taken ≡ old.taken ++ trace_text more
+  pub tally : CountsAll more old.tally now.tally
 
 abbrev pub Draining : ℕ → ℕ → Stage → Stage → Type 0
 Draining line turn old now = (script : Script) (tables : ℕ → Option Table) (first : ℕ → Pack) (done : List Line) (moments : List Moment)
@@ -45,6 +48,7 @@ draining_starts line old script tables first done moments run =
       left = begins (events_left (after_moments (start_of script tables first) (moments ++ []))) (events_left (after_moments (start_of script tables first) moments)) same;
       out = λ t. sym (append-nil old.said);
       trace = λ t. sym (append-nil old.taken);
+      tally = counts_none old.tally old.tally refl;
     }
   where
     begins : (a b : ℕ) → a ≡ b → 0 + a ≤ b
@@ -73,6 +77,7 @@ draining_next line turn input old mid new told still still_traced is none plays 
           (events_left (after_moments (start_of script tables first) (moments ++ so.more))) (events_left (after_moments (start_of script tables first) moments)) falls so.left);
       out = λ t. said_more old.said mid.said new.said so.more (lines_of_all w acts) (so.out (still t)) (plays.plays.out t ∙ ap (λ (xs : List ℕ). mid.said ++ xs) (event_said line input mid new none plays));
       trace = λ t. told_more old.taken mid.taken new.taken so.more (lines_of_all w acts) (so.trace (still_traced t)) (plays.plays.trace t);
+      tally = counts_more old.tally mid.tally new.tally so.more (lines_of_all w acts) so.tally (event_counted line input mid new none plays);
     }
   where
     one_more : (turn after before all : ℕ) → after < before → turn + before ≤ all → (turn + 1) + after ≤ all
@@ -88,6 +93,7 @@ draining_over line turn old now over before script tables first done moments few
       over = over;
       out = so.out;
       trace = so.trace;
+      tally = so.tally;
     }
 
 pub draining_never : (line turn : ℕ) (old now : Stage) → 2 ^ 64 - 1 ≤ turn → Draining line turn old now → GoesOnDraining line old now
@@ -124,6 +130,7 @@ drain_plays line input old mid new told still still_traced is none few plays res
         out = λ t. said_more old.said mid.said new.said (Played line says.Drain ∷ lines_of_all w acts) rest.more
             (plays.plays.out (still t) ∙ ap (λ (xs : List ℕ). old.said ++ xs) (event_said line input old mid none plays)) (rest.out t);
         trace = λ t. told_more old.taken mid.taken new.taken (Played line says.Drain ∷ lines_of_all w acts) rest.more (plays.plays.trace (still_traced t)) (rest.trace t);
+        tally = counts_more old.tally mid.tally new.tally (Played line says.Drain ∷ lines_of_all w acts) rest.more (event_counted line input old mid none plays) rest.tally;
       };
       over = rest.over;
     }
@@ -133,8 +140,8 @@ drain_plays line input old mid new told still still_traced is none few plays res
 
 -- A DRAIN that finds nothing
 pub drain_nothing : (line : ℕ) (old new : Stage) → next_event old.world ≡ None → new.world ≡ old.world → new.held ≡ old.held → new.said ≡ old.said
-    → (IsTrue new.trace_tells → new.taken ≡ old.taken ++ moment_text (Idle line)) → PlaysDrain line old new
-drain_nothing line old new over same same_held same_said idle script tables first last done moments less run =
+    → new.tally ≡ old.tally → (IsTrue new.trace_tells → new.taken ≡ old.taken ++ moment_text (Idle line)) → PlaysDrain line old new
+drain_nothing line old new over same same_held same_said same_tally idle script tables first last done moments less run =
     let goes : HasRun script tables first old.held line (done ++ line_for line says.Drain ∷ []) old.world (with_call moments line says.Drain old.world (Nothing line ∷ [])) =
     drain_empty script tables first last line old.held done old.world moments less over run in
     record {
@@ -144,6 +151,7 @@ drain_nothing line old new over same same_held same_said idle script tables firs
             (subst (λ (x : World). HasRun script tables first old.held line (done ++ line_for line says.Drain ∷ []) x (with_call moments line says.Drain old.world (Nothing line ∷ []))) (sym same) goes);
         out = λ t. same_said ∙ sym (append-nil old.said);
         trace = λ t. idle t ∙ ap (λ (xs : List ℕ). old.taken ++ xs) (sym (append-nil (moment_text (Idle line))));
+        tally = counts_none old.tally new.tally same_tally;
       };
       over = ap next_event same ∙ over;
     }

@@ -20,6 +20,7 @@ use Rattle.driver_machine.specs.Guards.{IsSetUp}
 use Rattle.driver_outcome.specs.Packs.{packs_after_all}
 use Rattle.driver_trace.specs.Runs.{with_call}
 use Rattle.answer_lines.specs.AnswerText.{said_text}
+use Rattle.answer_tally.specs.declared.tally.Tally.{Tally}
 use Rattle.hp_core.specs.declared.start.UnitSetup.{UnitSetup}
 use Rattle.hp_core.specs.Setups.{setups_of}
 use Rattle.hp_events.specs.declared.drain.Event.{Event}
@@ -60,18 +61,18 @@ module _ (line n : ℕ) (is : line ≡ n) (statement : Statement) (state : State
   there e at = subst (λ (w : World). IsThere w (input_of e)) same (may_event e state statement at may)
 
   -- A LINE that is an event, before which perhaps something is said
-  pub event_halts : (fault : PlayFault) (e : Event) (tells : Bool) (text : List ℕ) → statement ≡ Plays (input_of e) → (IsTrue tells → IsTrue old.out_tells) → (IsTrue new.out_tells → IsTrue tells)
-      → (IsTrue tells → text ≡ old.said ++ said_text (Played line (input_of e))) → IsTrue new.packs_tell → EventStops line (input_of e) fault (with_said old tells text) new
+  pub event_halts : (fault : PlayFault) (e : Event) (tells : Bool) (text : List ℕ) (tally : Tally) → statement ≡ Plays (input_of e) → (IsTrue tells → IsTrue old.out_tells) → (IsTrue new.out_tells → IsTrue tells)
+      → (IsTrue tells → text ≡ old.said ++ said_text (Played line (input_of e))) → IsTrue new.packs_tell → EventStops line (input_of e) fault (with_said old tells text tally) new
       → StopsLine n statement fault old new
-  event_halts fault e tells text at too goes before packs stops =
+  event_halts fault e tells text tally at too goes before packs stops =
       at_line line n statement (input_of e) fault old new is at
       (λ script tables first last done said taken less next told.
-      line_stops script tables first last done said taken line (input_of e) old less next told fault tells text new packs too still_traced goes before (there e at) none stops)
+      line_stops script tables first last done said taken line (input_of e) old less next told fault tells text tally new packs too still_traced goes before (there e at) none stops)
 
   pub silent_halts : (fault : PlayFault) (e : Event) → statement ≡ Plays (input_of e) → said_text (Played line (input_of e)) ≡ []
       → IsTrue new.packs_tell → EventStops line (input_of e) fault old new → StopsLine n statement fault old new
   silent_halts fault e at silent packs stops =
-      event_halts fault e old.out_tells old.said at (λ t. t) still (λ t. sym (append-nil old.said) ∙ ap (λ (xs : List ℕ). old.said ++ xs) (sym silent)) packs stops
+      event_halts fault e old.out_tells old.said old.tally at (λ t. t) still (λ t. sym (append-nil old.said) ∙ ap (λ (xs : List ℕ). old.said ++ xs) (sym silent)) packs stops
 
   -- noise, where its class was not said
   pub noise_halts : (u block : ℕ) (noise : List ℕ) (span : NoiseSpan)

@@ -25,6 +25,8 @@ use Rattle.trace_bounds.specs.Drains.{IsOf}
 use Rattle.driver_machine.specs.World.{World}
 use Rattle.driver_machine.specs.Guards.{IsSetUp}
 use Rattle.answer_lines.specs.AnswerText.{said_text}
+use Rattle.answer_tally.specs.declared.tally.Tally.{Tally}
+use Rattle.answer_tally.specs.Counting.{Counts}
 use Rattle.hp_events.specs.declared.drain.Event.{Event}
 use Rattle.hp_events.specs.declared.drain.Event.TheVariants as event
 use Rattle.hp_driver.specs.declared.request.Request as driver
@@ -126,13 +128,14 @@ may_event e state statement at may = by e (subst (MayPlay state) at may)
     by (event.Online u on) m = m
     by (event.Lock u on) m = m
 
-pub event_plays : (number : ℕ) (statement : Statement) (e : Event) (state : State) (old new : Stage) (tells : Bool) (said : List ℕ) → statement ≡ Plays (input_of e)
+pub event_plays : (number : ℕ) (statement : Statement) (e : Event) (state : State) (old new : Stage) (tells : Bool) (said : List ℕ) (tally : Tally) → statement ≡ Plays (input_of e)
     → state.world ≡ old.world → old.world.answers ≡ [] → MayPlay state statement
-    → (IsTrue new.out_tells → said ≡ old.said ++ said_text (Played number (input_of e))) → PlaysEvent number (input_of e) (with_said old tells said) new
+    → (IsTrue new.out_tells → said ≡ old.said ++ said_text (Played number (input_of e))) → Counts [] (said_text (Played number (input_of e))) old.tally tally
+    → PlaysEvent number (input_of e) (with_said old tells said tally) new
     → IsTrue new.packs_tell → PlaysLine number statement old new
-event_plays number statement e state old new tells said at same none may before plays told =
+event_plays number statement e state old new tells said tally at same none may before counts plays told =
     subst (λ (s : Statement). PlaysLine number s old new) (sym at)
-    (plays_event number (input_of e) old new tells said told (subst (λ (w : World). IsThere w (input_of e)) same (may_event e state statement at may)) none before plays)
+    (plays_event number (input_of e) old new tells said tally told (subst (λ (w : World). IsThere w (input_of e)) same (may_event e state statement at may)) none before counts plays)
 
 pub silent_plays : (number : ℕ) (statement : Statement) (e : Event) (state : State) (old new : Stage) → statement ≡ Plays (input_of e)
     → state.world ≡ old.world → old.world.answers ≡ [] → MayPlay state statement → said_text (Played number (input_of e)) ≡ []

@@ -350,7 +350,7 @@ module _ {script : Script} {tables : ℕ → Option Table} {first : ℕ → Pack
       let whole : Whole script tables first (packs_after_all now.world now.held acts) (at.ctx.done ++ (opening ++ lines_of_all now.world acts)) =
       at.goes e.plays.tried e.plays.may (e.plays.reads told) in
       let text : IsTrue new.out_tells → e.text ≡ now.said ++ out_text (lines_of_all now.world acts) =
-      λ t. e.plays.plays.out t ∙ ap (λ (xs : List ℕ). now.said ++ xs) (event_said line input now (record new { world = e.world; said = e.text }) none e.plays) in
+      λ t. e.plays.plays.out t ∙ ap (λ (xs : List ℕ). now.said ++ xs) (event_said line input now (record new { world = e.world; said = e.text; tally = e.tally }) none e.plays) in
       says_stop at.ctx acts new e.text whole.follows (packs_by packs) still_traced still e.plays.plays.trace text e.said
     where
       packs_by : AreBehind script tables first new.held at.ctx.done ⊎ (is_move input ≡ true)

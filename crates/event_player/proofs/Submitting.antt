@@ -1,20 +1,24 @@
 -- What a call of the driver and the taking of its answers come to.
-use Rattle.std.proofs.Common.{◌≡◌, ℕ, Bool, true, IsTrue, List, ◌++◌, Option, None, refl, ap, ◌∙◌}
+use Rattle.std.proofs.Common.{◌≡◌, ℕ, Bool, true, IsTrue, List, ◌++◌, Option, None, refl, ap, subst, ◌∙◌}
 use Rattle.pack_model.specs.Pack.{Pack}
 use Rattle.subsystem_spec.specs.Requests.{Request}
 use Rattle.driver_machine.specs.World.{World}
 use Rattle.driver_machine.specs.Events.{submit_acts}
 use Rattle.driver_machine.specs.Sound.{Sound, AtWork}
 use Rattle.driver_outcome.specs.Outcome.{Does}
+use Rattle.driver_answers.specs.Waiting.{waiting}
+use Rattle.answer_tally.specs.declared.tally.Tally.{Tally}
+use Rattle.answer_tally.specs.Counting.{Counts}
 use Rattle.hp_driver.specs.Subsystem.{Submits, State, seen}
 use Rattle.event_player.specs.Steps.{PlaysSubmission, all_taken, waiting_text}
 
 pub submits_plays : {O : Type 0} (tells : O → Bool) (taken : O → List ℕ) (trace trace' : O) (line : ℕ) (r : Request) (old mid new : State) (out_tells out_tells' : Bool) (said said' : List ℕ)
     → Sound old.world → AtWork old.world → Submits tells taken trace trace' line r old.world mid.world None → new ≡ record mid { world = all_taken mid.world }
-    → (IsTrue out_tells' → said' ≡ said ++ waiting_text mid.world) → (packs : Bool) (held : ℕ → Pack)
-    → PlaysSubmission line r (record { world = old.world; packs_tell = packs; held = held; out_tells = out_tells; said = said; trace_tells = tells trace; taken = taken trace })
-    (record { world = new.world; packs_tell = packs; held = held; out_tells = out_tells'; said = said'; trace_tells = tells trace'; taken = taken trace' })
-submits_plays tells taken trace trace' line r old mid new out_tells out_tells' said said' sound work submits is out packs held =
+    → (IsTrue out_tells' → said' ≡ said ++ waiting_text mid.world) → (tally tally' : Tally) → Counts (waiting mid.world) (waiting_text mid.world) tally tally'
+    → (packs : Bool) (held : ℕ → Pack)
+    → PlaysSubmission line r (record { world = old.world; packs_tell = packs; held = held; out_tells = out_tells; said = said; trace_tells = tells trace; taken = taken trace; tally = tally })
+    (record { world = new.world; packs_tell = packs; held = held; out_tells = out_tells'; said = said'; trace_tells = tells trace'; taken = taken trace'; tally = tally' })
+submits_plays tells taken trace trace' line r old mid new out_tells out_tells' said said' sound work submits is out tally tally' counts packs held =
     let does : Does (record { packs = true; trace = tells trace' }) (submit_acts r line submits.slot submits.held old.world) (seen old.world held (taken trace)) (seen mid.world held (taken trace')) =
     submits.outcome true held in
     record {
@@ -30,5 +34,6 @@ submits_plays tells taken trace trace' line r old mid new out_tells out_tells' s
         world = ap (λ (s : State). s.world) is ∙ ap all_taken does.does.world;
         out = λ t. out t ∙ ap (λ (w : World). said ++ waiting_text w) does.does.world;
         trace = does.text;
+        tally = subst (λ (w : World). Counts (waiting w) (waiting_text w) tally tally') does.does.world counts;
       };
     }

@@ -28,11 +28,13 @@ use Rattle.driver_counts.proofs.Starts.{starts_with_none, starts_with_room}
 use Rattle.driver_answers.proofs.Ids.{starts_of_none}
 use Rattle.driver_machine.specs.Events.{next_event}
 use Rattle.answer_lines.specs.AnswerText.{out_text}
+use Rattle.answer_tally.specs.Counting.{CountsAll, tally_by}
+use Rattle.answer_tally.proofs.CountLaws.{counts_none, counts_more}
 use Rattle.hp_core.specs.declared.start.UnitSetup.{UnitSetup}
 use Rattle.hp_core.specs.Setups.{setups_of}
 use Rattle.hp_driver.specs.Subsystem.{State}
 use Rattle.event_player.specs.Attaching.{tables_in, AreSetFor}
-use Rattle.event_player.specs.Plays.{Plays as IsPlayed}
+use Rattle.event_player.specs.Plays.{Plays as IsPlayed, Tallied}
 use Rattle.event_player.specs.Playing.{HasRun, AreUnits, counted, one_request, one_noise}
 use Rattle.event_player.specs.Steps.{Stage, IsStill, GoesOn, PlaysLine, PlaysDrain, Drains, EndsWith, PlaysScript, Ready, Brings, MayPlay, HasData}
 use Rattle.event_player.proofs.Going.{line_for, inputs_append}
@@ -47,6 +49,7 @@ pub record PlayedTo (s : Script) (tables : ℕ → Option Table) (old now : Stag
   pub run : HasRun s tables old.held now.held last (take i s.lines) now.world moments
   pub out : IsTrue now.out_tells → now.said ≡ old.said ++ out_text moments
   pub trace : IsTrue now.trace_tells → now.taken ≡ old.taken ++ trace_text moments
+  pub tally : CountsAll moments old.tally now.tally
 
 abbrev pub PlaysTo : Script → Stage → Stage → ℕ → Type 0
 PlaysTo s old now i = (tables : ℕ → Option Table) → HasRun s tables old.held old.held 0 [] old.world [] → PlayedTo s tables old now i
@@ -59,6 +62,7 @@ plays_none_yet s old is tables run = record {
   run = run;
   out = λ t. sym (append-nil old.said);
   trace = λ t. sym (append-nil old.taken);
+  tally = counts_none old.tally old.tally refl;
 }
 
 earlier : (last number count : ℕ) (lines : List Line) → last < number → AreNumbered number count lines → AreNumbered last count lines
@@ -93,6 +97,7 @@ module _ (s : Script) (tables : ℕ → Option Table) (i : ℕ) (line : Line) (o
             (declared_run s tables old.held mid.held so.last (take i s.lines) mid.world so.moments line u kind at so.run)));
         out = λ t. plays.out ∙ so.out (still t);
         trace = λ t. plays.trace ∙ so.trace (still_traced t);
+        tally = subst (CountsAll so.moments old.tally) (sym plays.tally) so.tally;
       }
   line_next (Plays input) at plays so =
       let ahead : AreNumbered so.last s.count (line ∷ drop (i + 1) s.lines) = subst (AreNumbered so.last s.count) here so.ahead in
@@ -107,6 +112,7 @@ module _ (s : Script) (tables : ℕ → Option Table) (i : ℕ) (line : Line) (o
             (sym (more ∙ ap (λ (l : Line). take i s.lines ++ l ∷ []) is)) goes.run;
         out = λ t. said_more old.said mid.said new.said so.moments goes.more (so.out (still t)) (goes.out t);
         trace = λ t. told_more old.taken mid.taken new.taken so.moments goes.more (so.trace (still_traced t)) (goes.trace t);
+        tally = counts_more old.tally mid.tally new.tally so.moments goes.more so.tally goes.tally;
       }
 
 pub plays_next : (s : Script) (i : ℕ) (line : Line) (old mid new : Stage) → drop i s.lines ≡ line ∷ drop (i + 1) s.lines → take (i + 1) s.lines ≡ take i s.lines ++ line ∷ []
@@ -131,6 +137,7 @@ plays_end s i old mid new all still still_traced drains before tables run =
       over = ends.over;
       out = λ t. said_more old.said mid.said new.said so.moments ends.goes.more (so.out (still t)) (ends.goes.out t);
       trace = λ t. told_more old.taken mid.taken new.taken so.moments ends.goes.more (so.trace (still_traced t)) (ends.goes.trace t);
+      tally = counts_more old.tally mid.tally new.tally so.moments ends.goes.more so.tally ends.goes.tally;
     }
   where
     behind : (a b : ℕ) → a ≤ b → a < b + 1
@@ -226,6 +233,15 @@ plays_whole s tables old new is read ends = record {
   trace = ends.trace;
 }
 
+-- and its tally is that of the run.
+pub tally_whole : (s : Script) (tables : ℕ → Option Table) (old new : Stage) → IsScript s → AreTablesOf (drives_of s) old.held tables
+    → old.tally ≡ tally_by (counted one_request s.lines) [] [] → EndsWith s tables old new
+    → Tallied s old.held new.held new.out_tells old.said new.said new.trace_tells old.taken new.taken new.tally
+tally_whole s tables old new is read starts ends = record {
+  plays = plays_whole s tables old new is read ends;
+  is = ends.tally (counted one_request s.lines) [] [] starts;
+}
+
 -- AT THE START
 pub starts_run : (s : Script) (setups : List Setup) (outstanding noises : ℕ) (held : ℕ → Pack) → AreSetFor s setups
     → HasRun s (tables_in setups) held held 0 [] (new_world setups outstanding noises) []
@@ -279,12 +295,12 @@ ready_for s units slice requests noises state same set count is =
 pub whole_for : (s : Script) (units slice : List UnitSetup) (requests noises : ℕ) (state : State) (held : ℕ → Pack) (old new : Stage) → IsScript s → slice ≡ units
     → AreSetFor s (setups_of units) → AreTablesOf (drives_of s) held (tables_in (setups_of units)) → old.held ≡ held
     → state ≡ record { world = new_world (setups_of slice) (min requests 16384) noises; outstanding = requests; failed = false } → old.world ≡ state.world
-    → ((tables : ℕ → Option Table) → PlaysScript s tables old new)
-    → IsPlayed s held new.held new.out_tells old.said new.said new.trace_tells old.taken new.taken
-whole_for s units slice requests noises state held old new script same set read same_held is world goes =
+    → old.tally ≡ tally_by (counted one_request s.lines) [] [] → ((tables : ℕ → Option Table) → PlaysScript s tables old new)
+    → Tallied s held new.held new.out_tells old.said new.said new.trace_tells old.taken new.taken new.tally
+whole_for s units slice requests noises state held old new script same set read same_held is world starts goes =
     let tables : ℕ → Option Table = tables_in (setups_of units) in
     let run : HasRun s tables old.held old.held 0 [] old.world [] =
     subst (λ (w : World). HasRun s tables old.held old.held 0 [] w []) (sym (world ∙ new_is units slice requests noises state same is))
     (starts_run s (setups_of units) (min requests 16384) noises old.held set) in
-    subst (λ (h : ℕ → Pack). IsPlayed s h new.held new.out_tells old.said new.said new.trace_tells old.taken new.taken) same_held
-    (plays_whole s tables old new script (subst (λ (h : ℕ → Pack). AreTablesOf (drives_of s) h tables) (sym same_held) read) (goes tables run))
+    subst (λ (h : ℕ → Pack). Tallied s h new.held new.out_tells old.said new.said new.trace_tells old.taken new.taken new.tally) same_held
+    (tally_whole s tables old new script (subst (λ (h : ℕ → Pack). AreTablesOf (drives_of s) h tables) (sym same_held) read) starts (goes tables run))

@@ -1,5 +1,6 @@
 -- The oldest answer that waits, as it is said.
 use Rattle.std.specs.Prelude.{◌≡◌, ℕ, ◌≤◌, List, [], ◌∷◌, length, Some, slice_index_or}
+use Rattle.trace_replay.specs.Moments.{Answered}
 use Rattle.driver_machine.specs.declared.Answer.{Answer}
 use Rattle.driver_machine.specs.declared.AnswerKind.{AnswerKind}
 use Rattle.driver_machine.specs.declared.Made.{Made}
@@ -14,9 +15,12 @@ abbrev pub first_blocks : World → List Made → List (List ℕ)
 first_blocks w [] = []
 first_blocks w (made ∷ rest) = blocks_for w made.slot
 
--- its text, and what is said behind its line
+-- the answer as it is told, its text, and what is said behind its line
+abbrev pub first_told : World → Answer → Answered
+first_told w answer = record { line = answer.at; id = answer.id; answer = answer_told answer.kind (first_blocks w w.answers) }
+
 abbrev pub first_text : World → Answer → List ℕ
-first_text w answer = answer_text (record { line = answer.at; id = answer.id; answer = answer_told answer.kind (first_blocks w w.answers) })
+first_text w answer = answer_text (first_told w answer)
 
 abbrev pub first_rest : World → AnswerKind → List ℕ
 first_rest w kind = blocks_text (answer_told kind (first_blocks w w.answers))

@@ -9,6 +9,9 @@ use Rattle.trace_replay.specs.Script.{Script, drives_of}
 use Rattle.trace_replay.specs.Runs.{IsLegalRun}
 use Rattle.trace_replay.specs.Text.{trace_text}
 use Rattle.answer_lines.specs.AnswerText.{out_text}
+use Rattle.answer_tally.specs.declared.tally.Tally.{Tally}
+use Rattle.answer_tally.specs.Counting.{tally_of}
+use Rattle.event_player.specs.Playing.{counted, one_request}
 
 -- A LEGAL RUN of the script over the packs, from what they held first to what they hold now, with the tables of these packs. Where the
 -- sink for the answers tells, it took just the text of the run's answers and noises; where the trace tells, it took just the run's lines.
@@ -18,6 +21,11 @@ pub record Plays (script : Script) (old new : ℕ → Pack) (out_tells : Bool) (
   pub run : IsLegalRun script tables old new moments
   pub out : IsTrue out_tells → said' ≡ said ++ out_text moments
   pub trace : IsTrue trace_tells → taken' ≡ taken ++ trace_text moments
+
+-- and the tally is that of the run
+pub record Tallied (script : Script) (old new : ℕ → Pack) (out_tells : Bool) (said said' : List ℕ) (trace_tells : Bool) (taken taken' : List ℕ) (tally : Tally) : Type 0 where
+  pub plays : Plays script old new out_tells said said' trace_tells taken taken'
+  pub is : tally ≡ tally_of (counted one_request script.lines) plays.moments
 
 -- an image has more bytes than the blocks of its unit's drive
 pub record IsTooLong (script : Script) (packs : ℕ → Pack) (unit length_is : ℕ) : Type 0 where

@@ -32,6 +32,8 @@ use Rattle.driver_counts.specs.Counts.{IsWithin, in_use}
 use Rattle.driver_answers.specs.Ids.{AreOf}
 use Rattle.driver_answers.specs.Waiting.{waiting}
 use Rattle.answer_lines.specs.AnswerText.{answer_text, out_text}
+use Rattle.answer_tally.specs.declared.tally.Tally.{Tally}
+use Rattle.answer_tally.specs.Counting.{Counts, CountsAll}
 use Rattle.hp_driver.specs.Subsystem.{State, IsThere}
 use Rattle.event_player.specs.declared.play.PlayFault.{PlayFault}
 use Rattle.event_player.specs.declared.play.PlayFault.TheVariants as faults
@@ -48,7 +50,7 @@ all_taken w = after_all w (takings w.answers)
 abbrev pub waiting_text : World → List ℕ
 waiting_text w = flat_map answer_text (waiting w)
 
--- WHAT IS PLAYED ON: the driver's world, what the packs hold, and what the two sinks took; and whether each of them tells that
+-- WHAT IS PLAYED ON: the driver's world, what the packs hold, and what the two sinks took; whether each of them tells that; and the tally
 pub record Stage : Type 0 where
   pub world : World
   pub packs_tell : Bool
@@ -57,9 +59,10 @@ pub record Stage : Type 0 where
   pub said : List ℕ
   pub trace_tells : Bool
   pub taken : List ℕ
+  pub tally : Tally
 
-abbrev pub stage : {P O T : Type 0} → (P → Bool) → (P → ℕ → Pack) → (O → Bool) → (O → List ℕ) → (T → Bool) → (T → List ℕ) → World → P → O → T → Stage
-stage packs_tell held out_tells said trace_tells taken w packs out trace = record {
+abbrev pub stage : {P O T : Type 0} → (P → Bool) → (P → ℕ → Pack) → (O → Bool) → (O → List ℕ) → (T → Bool) → (T → List ℕ) → World → P → O → T → Tally → Stage
+stage packs_tell held out_tells said trace_tells taken w packs out trace tally = record {
   world = w;
   packs_tell = packs_tell packs;
   held = held packs;
@@ -67,9 +70,10 @@ stage packs_tell held out_tells said trace_tells taken w packs out trace = recor
   said = said out;
   trace_tells = trace_tells trace;
   taken = taken trace;
+  tally = tally;
 }
 
--- ACTS come with their lines to a world that is sound and at work, and behind them the answers that wait are said and taken.
+-- ACTS come with their lines to a world that is sound and at work, and behind them the answers that wait are said, counted and taken.
 pub record PlaysActs (acts : List Act) (old new : Stage) : Type 0 where
   pub sound : Sound old.world
   pub work : AtWork old.world
@@ -77,6 +81,7 @@ pub record PlaysActs (acts : List Act) (old new : Stage) : Type 0 where
   pub world : new.world ≡ all_taken (after_all old.world acts)
   pub out : IsTrue new.out_tells → new.said ≡ old.said ++ waiting_text (after_all old.world acts)
   pub trace : IsTrue new.trace_tells → new.taken ≡ old.taken ++ trace_text (lines_of_all old.world acts)
+  pub tally : Counts (waiting (after_all old.world acts)) (waiting_text (after_all old.world acts)) old.tally new.tally
 
 -- those of an event that may come, of what the packs hold,
 pub record PlaysEvent (line : ℕ) (input : Input) (old new : Stage) : Type 0 where
@@ -101,13 +106,15 @@ pub record IsStill (old new : Stage) : Type 0 where
   pub held : new.held ≡ old.held
   pub out : new.said ≡ old.said
   pub trace : new.taken ≡ old.taken
+  pub tally : new.tally ≡ old.tally
 
--- THE RUN GOES ON behind a run so far with a line of the script: its moments come with their texts.
+-- THE RUN GOES ON behind a run so far with a line of the script: its moments come with their texts, and are counted.
 pub record GoesOn (script : Script) (tables : ℕ → Option Table) (first : ℕ → Pack) (done : List Line) (moments : List Moment) (line : ℕ) (input : Input) (old new : Stage) : Type 0 where
   pub more : List Moment
   pub run : HasRun script tables first new.held line (done ++ record { number = line; statement = Plays input } ∷ []) new.world (moments ++ more)
   pub out : IsTrue new.out_tells → new.said ≡ old.said ++ out_text more
   pub trace : IsTrue new.trace_tells → new.taken ≡ old.taken ++ trace_text more
+  pub tally : CountsAll more old.tally new.tally
 
 -- It does so behind any run so far whose lines are earlier;
 abbrev pub PlaysInput : ℕ → Input → Stage → Stage → Type 0
@@ -142,6 +149,7 @@ pub record EndsDraining (script : Script) (tables : ℕ → Option Table) (first
   pub over : next_event new.world ≡ None
   pub out : IsTrue new.out_tells → new.said ≡ old.said ++ out_text more
   pub trace : IsTrue new.trace_tells → new.taken ≡ old.taken ++ trace_text more
+  pub tally : CountsAll more old.tally new.tally
 
 abbrev pub GoesOnDraining : ℕ → Stage → Stage → Type 0
 GoesOnDraining line old new = (script : Script) (tables : ℕ → Option Table) (first : ℕ → Pack) (done : List Line) (moments : List Moment)
@@ -155,6 +163,7 @@ pub record EndsWith (script : Script) (tables : ℕ → Option Table) (old new :
   pub over : next_event new.world ≡ None
   pub out : IsTrue new.out_tells → new.said ≡ old.said ++ out_text moments
   pub trace : IsTrue new.trace_tells → new.taken ≡ old.taken ++ trace_text moments
+  pub tally : CountsAll moments old.tally new.tally
 
 abbrev pub PlaysScript : Script → (ℕ → Option Table) → Stage → Stage → Type 0
 PlaysScript script tables old new = HasRun script tables old.held old.held 0 [] old.world [] → EndsWith script tables old new

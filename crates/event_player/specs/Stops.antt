@@ -22,6 +22,7 @@ use Rattle.driver_runs.specs.Runs.{AreDeclared}
 use Rattle.driver_trace.specs.Noises.{AllFlip}
 use Rattle.driver_trace.specs.Within.{ShowsAll}
 use Rattle.answer_lines.specs.AnswerText.{out_text}
+use Rattle.answer_tally.specs.declared.tally.Tally.{Tally}
 use Rattle.hp_driver.specs.Subsystem.{is_move}
 use Rattle.event_player.specs.declared.play.PlayFault.{PlayFault}
 use Rattle.event_player.specs.declared.play.PlayFault.TheVariants as faults
@@ -132,13 +133,15 @@ pub record SubmissionTellsFront (line : ℕ) (r : Request) (old new : Stage) : T
 pub record EventSaysFront (line : ℕ) (input : Input) (old new : Stage) : Type 0 where
   pub world : World
   pub text : List ℕ
-  pub plays : PlaysEvent line input old (record new { world = world; said = text })
+  pub tally : Tally
+  pub plays : PlaysEvent line input old (record new { world = world; said = text; tally = tally })
   pub said : IsTrue new.out_tells → IsBetween old.said text new.said
 
 pub record SubmissionSaysFront (line : ℕ) (r : Request) (old new : Stage) : Type 0 where
   pub world : World
   pub text : List ℕ
-  pub plays : PlaysSubmission line r old (record new { world = world; said = text })
+  pub tally : Tally
+  pub plays : PlaysSubmission line r old (record new { world = world; said = text; tally = tally })
   pub said : IsTrue new.out_tells → IsBetween old.said text new.said
 
 -- the packs failed: nothing was done, but perhaps the block was written.

@@ -1,19 +1,21 @@
-// The answers that wait are written, and then they are taken.
-ghost use Rattle.std.specs.Prelude.{◌≡◌, ◌+◌, ◌==◌, ◌<◌, ◌≤◌, ℕ, List, [], if◌then◌else◌, OnOk, take, slice_index_or};
+// The answers that wait are counted and written, and then they are taken.
+ghost use Rattle.std.specs.Prelude.{◌≡◌, ◌+◌, ◌==◌, ◌<◌, ◌≤◌, ℕ, List, [], ◌∷◌, if◌then◌else◌, OnOk, take, slice_index_or};
 ghost use Rattle.mass_outside.specs.Puts.{Puts};
 ghost use Rattle.mass_gather.specs.Gathers.{Gathers};
 ghost use Rattle.answer_lines.specs.AnswerText.{block_text};
 ghost use Rattle.answer_lines.specs.Outcomes.{answer_of};
+ghost use Rattle.answer_tally.specs.Counting.{Counts};
+ghost use Rattle.driver_answers.specs.Waiting.{waiting};
 ghost use Rattle.driver_machine.specs.declared.AnswerKind.TheVariants.{ReadOk};
 ghost use Rattle.driver_machine.specs.World.{bytes_in};
 ghost use Rattle.driver_machine.specs.Lines.{answer_told, error_told};
-ghost use Rattle.event_player.specs.Answering.{first_blocks, first_text, first_rest, IsFirst, IsFirstKind, HasBlock};
+ghost use Rattle.event_player.specs.Answering.{first_blocks, first_told, first_text, first_rest, IsFirst, IsFirstKind, HasBlock};
 ghost use Rattle.event_player.specs.Steps.{all_taken, waiting_text};
 
 use answer_lines::{Outcome, answer_line, block_line};
+use crate::desk::Desk;
 use driver_answers::taken_law;
 use hp_driver::{Answer, AnswerKind, Cause, Subsystem};
-use mass_gather::Gather;
 use mass_outside::traits::{Sink, SinkFailed};
 
 /// How an error is said; `done` blocks were done.
@@ -75,17 +77,19 @@ fn gather_block<O: Sink>(
     subsystem: &Subsystem,
     k: u32,
     size: u32,
-    gather: &mut Gather,
+    desk: &mut Desk,
     out: &mut O,
 ) -> Result<(), SinkFailed>
     requires block { HasBlock subsystem.now.world k size }
-    ensures { Gathers O.tells O.taken O.faults out.old out.new gather.old gather.new result
+    ensures gathers { Gathers O.tells O.taken O.faults out.old out.new desk.old.gather desk.new.gather result
         (block_text k (slice_index_or (first_blocks subsystem.now.world subsystem.now.world.answers) k [])) }
+    ensures counts { Counts [] (block_text k (slice_index_or (first_blocks subsystem.now.world subsystem.now.world.answers) k [])) desk.old.tally desk.new.tally }
+    ensures requests { desk.new.tally.requests ≡ desk.old.tally.requests }
 {
     let mut bytes = [0u8; 512];
     subsystem.answer_block(k, &mut bytes);
     let line = block_line(k, front(&bytes, size));
-    gather.put(line.as_bytes(), out)
+    desk.put(line.as_bytes(), out)
 }
 
 /// Gathers the lines of the blocks of the read that the oldest answer is of: `count` of them, the last one with `last` bytes.
@@ -93,15 +97,17 @@ fn gather_blocks<O: Sink>(
     subsystem: &Subsystem,
     count: u32,
     last: u32,
-    gather: &mut Gather,
+    desk: &mut Desk,
     out: &mut O,
 ) -> Result<(), SinkFailed>
     requires reads { IsFirstKind subsystem.now.world (ReadOk count last) }
-    ensures { Gathers O.tells O.taken O.faults out.old out.new gather.old gather.new result (first_rest subsystem.now.world (ReadOk count last)) }
+    ensures gathers { Gathers O.tells O.taken O.faults out.old out.new desk.old.gather desk.new.gather result (first_rest subsystem.now.world (ReadOk count last)) }
+    ensures counts { OnOk result (Counts [] (first_rest subsystem.now.world (ReadOk count last)) desk.old.tally desk.new.tally) }
+    ensures requests { desk.new.tally.requests ≡ desk.old.tally.requests }
 {
     subsystem.law();
     for k in 0..count {
-        gather_block(subsystem, k, block_size(k, count, last), gather, out)?;
+        gather_block(subsystem, k, block_size(k, count, last), desk, out)?;
     }
     Ok(())
 }
@@ -110,62 +116,71 @@ fn gather_blocks<O: Sink>(
 fn gather_rest<O: Sink>(
     subsystem: &Subsystem,
     kind: AnswerKind,
-    gather: &mut Gather,
+    desk: &mut Desk,
     out: &mut O,
 ) -> Result<(), SinkFailed>
     requires first { IsFirstKind subsystem.now.world kind }
-    ensures { Gathers O.tells O.taken O.faults out.old out.new gather.old gather.new result (first_rest subsystem.now.world kind) }
+    ensures gathers { Gathers O.tells O.taken O.faults out.old out.new desk.old.gather desk.new.gather result (first_rest subsystem.now.world kind) }
+    ensures counts { OnOk result (Counts [] (first_rest subsystem.now.world kind) desk.old.tally desk.new.tally) }
+    ensures requests { desk.new.tally.requests ≡ desk.old.tally.requests }
 {
     match kind {
-        AnswerKind::ReadOk { count, last } => gather_blocks(subsystem, count, last, gather, out),
+        AnswerKind::ReadOk { count, last } => gather_blocks(subsystem, count, last, desk, out),
         _ => Ok(()),
     }
 }
 
-/// Gathers the text of the oldest answer that waits.
+/// Counts the oldest answer that waits, and gathers its text.
 fn gather_answer<O: Sink>(
     subsystem: &Subsystem,
     answer: Answer,
-    gather: &mut Gather,
+    desk: &mut Desk,
     out: &mut O,
 ) -> Result<(), SinkFailed>
     requires first { IsFirst subsystem.now.world answer }
-    ensures { Gathers O.tells O.taken O.faults out.old out.new gather.old gather.new result (first_text subsystem.now.world answer) }
+    ensures gathers { Gathers O.tells O.taken O.faults out.old out.new desk.old.gather desk.new.gather result (first_text subsystem.now.world answer) }
+    ensures counts { OnOk result (Counts (first_told subsystem.now.world answer ∷ []) (first_text subsystem.now.world answer) desk.old.tally desk.new.tally) }
+    ensures requests { desk.new.tally.requests ≡ desk.old.tally.requests }
 {
     let line = answer_line(answer.at, answer.id, outcome(answer.kind));
-    gather.put(line.as_bytes(), out)?;
-    gather_rest(subsystem, answer.kind, gather, out)
+    desk.tally.count_answer(outcome(answer.kind));
+    desk.put(line.as_bytes(), out)?;
+    gather_rest(subsystem, answer.kind, desk, out)
 }
 
-/// Gathers the answers that wait, the oldest first, and takes them.
+/// Counts and gathers the answers that wait, the oldest first, and takes them.
 fn gather_answers<O: Sink>(
     subsystem: &mut Subsystem,
-    gather: &mut Gather,
+    desk: &mut Desk,
     out: &mut O,
 ) -> Result<(), SinkFailed>
-    ensures gathers { Gathers O.tells O.taken O.faults out.old out.new gather.old gather.new result (waiting_text subsystem.old.world) }
+    ensures gathers { Gathers O.tells O.taken O.faults out.old out.new desk.old.gather desk.new.gather result (waiting_text subsystem.old.world) }
+    ensures counts { OnOk result (Counts (waiting subsystem.old.world) (waiting_text subsystem.old.world) desk.old.tally desk.new.tally) }
+    ensures requests { desk.new.tally.requests ≡ desk.old.tally.requests }
     ensures taken { OnOk result (subsystem.new ≡ record subsystem.old { world = all_taken subsystem.old.world }) }
 {
     taken_law();
     while let Some(answer) = subsystem.answer() {
         subsystem.law();
-        gather_answer(subsystem, answer, gather, out)?;
+        gather_answer(subsystem, answer, desk, out)?;
         subsystem.take_answer();
     }
     Ok(())
 }
 
-/// Writes the answers that wait to a sink, the oldest first, and takes them. Nothing is kept in `gather` before and behind it.
+/// Writes the answers that wait to a sink, the oldest first, and takes them. Nothing is gathered at the desk before and behind it.
 pub fn write_answers<O: Sink>(
     subsystem: &mut Subsystem,
-    gather: &mut Gather,
+    desk: &mut Desk,
     out: &mut O,
 ) -> Result<(), SinkFailed>
-    requires kept { gather.old ≡ [] }
+    requires kept { desk.old.gather ≡ [] }
     ensures puts { Puts O.tells O.taken O.faults out.old out.new result (waiting_text subsystem.old.world) }
+    ensures counts { OnOk result (Counts (waiting subsystem.old.world) (waiting_text subsystem.old.world) desk.old.tally desk.new.tally) }
+    ensures requests { desk.new.tally.requests ≡ desk.old.tally.requests }
     ensures taken { OnOk result (subsystem.new ≡ record subsystem.old { world = all_taken subsystem.old.world }) }
-    ensures kept { OnOk result (gather.new ≡ []) }
+    ensures kept { OnOk result (desk.new.gather ≡ []) }
 {
-    gather_answers(subsystem, gather, out)?;
-    gather.flush(out)
+    gather_answers(subsystem, desk, out)?;
+    desk.gather.flush(out)
 }

@@ -7,9 +7,9 @@ ghost use Rattle.event_player.specs.Steps.{stage, PlaysEvent, PlaysSubmission, H
 ghost use Rattle.event_player.specs.Stops.{EventStops, SubmissionStops};
 
 use crate::answers::write_answers;
+use crate::desk::Desk;
 use crate::play::PlayFault;
 use hp_driver::{Event, Request, Subsystem};
-use mass_gather::Gather;
 use mass_outside::traits::{Packs, Sink};
 
 /// Submits a request at a line, with the bytes of a write.
@@ -18,30 +18,31 @@ pub fn ask<O: Sink, T: Sink>(
     number: u64,
     request: Request,
     bytes: &[u8],
-    gather: &mut Gather,
+    desk: &mut Desk,
     out: &mut O,
     trace: &mut T,
 ) -> Result<(), PlayFault>
     requires going { subsystem.old.failed ≡ false }
     requires none_waits { subsystem.old.world.answers ≡ [] }
     requires asked { IsAsked subsystem.old request bytes.now }
-    requires kept { gather.old ≡ [] }
+    requires kept { desk.old.gather ≡ [] }
     ensures plays { OnOk result ((tells : Bool) → (held : ℕ → Pack) → PlaysSubmission number (asked request bytes.now)
-        (record { world = subsystem.old.world; packs_tell = tells; held = held; out_tells = O.tells out.old; said = O.taken out.old; trace_tells = T.tells trace.old; taken = T.taken trace.old })
-        (record { world = subsystem.new.world; packs_tell = tells; held = held; out_tells = O.tells out.new; said = O.taken out.new; trace_tells = T.tells trace.new; taken = T.taken trace.new })) }
+        (record { world = subsystem.old.world; packs_tell = tells; held = held; out_tells = O.tells out.old; said = O.taken out.old; trace_tells = T.tells trace.old; taken = T.taken trace.old; tally = desk.old.tally })
+        (record { world = subsystem.new.world; packs_tell = tells; held = held; out_tells = O.tells out.new; said = O.taken out.new; trace_tells = T.tells trace.new; taken = T.taken trace.new; tally = desk.new.tally })) }
     ensures stops { IfErr result (λ fault. (tells : Bool) → (held : ℕ → Pack) → SubmissionStops number (asked request bytes.now) fault
-        (record { world = subsystem.old.world; packs_tell = tells; held = held; out_tells = O.tells out.old; said = O.taken out.old; trace_tells = T.tells trace.old; taken = T.taken trace.old })
-        (record { world = subsystem.new.world; packs_tell = tells; held = held; out_tells = O.tells out.new; said = O.taken out.new; trace_tells = T.tells trace.new; taken = T.taken trace.new })) }
+        (record { world = subsystem.old.world; packs_tell = tells; held = held; out_tells = O.tells out.old; said = O.taken out.old; trace_tells = T.tells trace.old; taken = T.taken trace.old; tally = desk.old.tally })
+        (record { world = subsystem.new.world; packs_tell = tells; held = held; out_tells = O.tells out.new; said = O.taken out.new; trace_tells = T.tells trace.new; taken = T.taken trace.new; tally = desk.new.tally })) }
     ensures going { OnOk result (subsystem.new.failed ≡ false) }
     ensures outstanding { OnOk result (subsystem.new.outstanding ≡ subsystem.old.outstanding) }
-    ensures kept { OnOk result (gather.new ≡ []) }
+    ensures kept { OnOk result (desk.new.gather ≡ []) }
+    ensures requests { desk.new.tally.requests ≡ desk.old.tally.requests }
     ensures never_again_out { IsTrue (O.tells out.new) → IsTrue (O.tells out.old) }
     ensures never_again_trace { IsTrue (T.tells trace.new) → IsTrue (T.tells trace.old) }
     ensures causes { HasCauses 0 0 (O.faults out.old) (O.faults out.new) (T.faults trace.old) (T.faults trace.new) result }
 {
     subsystem.law();
     subsystem.submit(number, request, bytes, trace)?;
-    write_answers(subsystem, gather, out)?;
+    write_answers(subsystem, desk, out)?;
     Ok(())
 }
 
@@ -50,7 +51,7 @@ pub fn happen<P: Packs, O: Sink, T: Sink>(
     subsystem: &mut Subsystem,
     number: u64,
     event: Event,
-    gather: &mut Gather,
+    desk: &mut Desk,
     packs: &mut P,
     out: &mut O,
     trace: &mut T,
@@ -58,16 +59,17 @@ pub fn happen<P: Packs, O: Sink, T: Sink>(
     requires going { subsystem.old.failed ≡ false }
     requires none_waits { subsystem.old.world.answers ≡ [] }
     requires there { IsThere subsystem.old.world (input_of event) }
-    requires kept { gather.old ≡ [] }
+    requires kept { desk.old.gather ≡ [] }
     ensures plays { OnOk result (PlaysEvent number (input_of event)
-        (stage P.tells P.held O.tells O.taken T.tells T.taken subsystem.old.world packs.old out.old trace.old)
-        (stage P.tells P.held O.tells O.taken T.tells T.taken subsystem.new.world packs.new out.new trace.new)) }
+        (stage P.tells P.held O.tells O.taken T.tells T.taken subsystem.old.world packs.old out.old trace.old desk.old.tally)
+        (stage P.tells P.held O.tells O.taken T.tells T.taken subsystem.new.world packs.new out.new trace.new desk.new.tally)) }
     ensures stops { IfErr result (λ fault. EventStops number (input_of event) fault
-        (stage P.tells P.held O.tells O.taken T.tells T.taken subsystem.old.world packs.old out.old trace.old)
-        (stage P.tells P.held O.tells O.taken T.tells T.taken subsystem.new.world packs.new out.new trace.new)) }
+        (stage P.tells P.held O.tells O.taken T.tells T.taken subsystem.old.world packs.old out.old trace.old desk.old.tally)
+        (stage P.tells P.held O.tells O.taken T.tells T.taken subsystem.new.world packs.new out.new trace.new desk.new.tally)) }
     ensures going { OnOk result (subsystem.new.failed ≡ false) }
     ensures outstanding { OnOk result (subsystem.new.outstanding ≡ subsystem.old.outstanding) }
-    ensures kept { OnOk result (gather.new ≡ []) }
+    ensures kept { OnOk result (desk.new.gather ≡ []) }
+    ensures requests { desk.new.tally.requests ≡ desk.old.tally.requests }
     ensures never_again { IsTrue (P.tells packs.new) → IsTrue (P.tells packs.old) }
     ensures never_again_out { IsTrue (O.tells out.new) → IsTrue (O.tells out.old) }
     ensures never_again_trace { IsTrue (T.tells trace.new) → IsTrue (T.tells trace.old) }
@@ -75,6 +77,6 @@ pub fn happen<P: Packs, O: Sink, T: Sink>(
 {
     subsystem.law();
     subsystem.event(number, event, packs, trace)?;
-    write_answers(subsystem, gather, out)?;
+    write_answers(subsystem, desk, out)?;
     Ok(())
 }

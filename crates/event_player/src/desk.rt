@@ -30,6 +30,7 @@ impl Desk {
     pub fn put<O: Sink>(&mut self, text: &[u8], out: &mut O) -> Result<(), SinkFailed>
         ensures gathers { Gathers O.tells O.taken O.faults out.old out.new self.old.gather self.new.gather result text.now }
         ensures counts { Counts [] text.now self.old.tally self.new.tally }
+        ensures requests { self.new.tally.requests ≡ self.old.tally.requests }
     {
         self.tally.count_text(text);
         self.gather.put(text, out)

@@ -8,9 +8,9 @@ ghost use Rattle.event_player.specs.Steps.{stage, GoesOnDraining, PlaysDrain, Br
 ghost use Rattle.event_player.specs.Stops.{StopsDraining, StopsInput};
 
 use crate::calls::happen;
+use crate::desk::Desk;
 use crate::play::PlayFault;
 use hp_driver::Subsystem;
-use mass_gather::Gather;
 use mass_outside::traits::{Packs, Sink, SinkFailed};
 use mass_outside::whole::write_all;
 use trace_lines::idle;
@@ -26,24 +26,25 @@ fn say_idle<T: Sink>(number: u64, trace: &mut T) -> Result<(), SinkFailed>
 fn go_on<P: Packs, O: Sink, T: Sink>(
     subsystem: &mut Subsystem,
     number: u64,
-    gather: &mut Gather,
+    desk: &mut Desk,
     packs: &mut P,
     out: &mut O,
     trace: &mut T,
 ) -> Result<(), PlayFault>
     requires going { subsystem.old.failed ≡ false }
     requires none_waits { subsystem.old.world.answers ≡ [] }
-    requires kept { gather.old ≡ [] }
+    requires kept { desk.old.gather ≡ [] }
     ensures plays { OnOk result (IsTrue (P.tells packs.new) → GoesOnDraining number
-        (stage P.tells P.held O.tells O.taken T.tells T.taken subsystem.old.world packs.old out.old trace.old)
-        (stage P.tells P.held O.tells O.taken T.tells T.taken subsystem.new.world packs.new out.new trace.new)) }
+        (stage P.tells P.held O.tells O.taken T.tells T.taken subsystem.old.world packs.old out.old trace.old desk.old.tally)
+        (stage P.tells P.held O.tells O.taken T.tells T.taken subsystem.new.world packs.new out.new trace.new desk.new.tally)) }
     ensures stops { IfErr result (λ fault. IsTrue (P.tells packs.new) → StopsDraining number fault
-        (stage P.tells P.held O.tells O.taken T.tells T.taken subsystem.old.world packs.old out.old trace.old)
-        (stage P.tells P.held O.tells O.taken T.tells T.taken subsystem.new.world packs.new out.new trace.new)) }
+        (stage P.tells P.held O.tells O.taken T.tells T.taken subsystem.old.world packs.old out.old trace.old desk.old.tally)
+        (stage P.tells P.held O.tells O.taken T.tells T.taken subsystem.new.world packs.new out.new trace.new desk.new.tally)) }
     ensures brings { OnOk result (Brings (Plays Drain) subsystem.old.world subsystem.new.world) }
     ensures going { OnOk result (subsystem.new.failed ≡ false) }
     ensures outstanding { OnOk result (subsystem.new.outstanding ≡ subsystem.old.outstanding) }
-    ensures kept { OnOk result (gather.new ≡ []) }
+    ensures kept { OnOk result (desk.new.gather ≡ []) }
+    ensures requests { desk.new.tally.requests ≡ desk.old.tally.requests }
     ensures never_again { IsTrue (P.tells packs.new) → IsTrue (P.tells packs.old) }
     ensures never_again_out { IsTrue (O.tells out.new) → IsTrue (O.tells out.old) }
     ensures never_again_trace { IsTrue (T.tells trace.new) → IsTrue (T.tells trace.old) }
@@ -53,7 +54,7 @@ fn go_on<P: Packs, O: Sink, T: Sink>(
         let Some(event) = subsystem.next_event() else {
             return Ok(());
         };
-        happen(subsystem, number, event, gather, packs, out, trace)?;
+        happen(subsystem, number, event, desk, packs, out, trace)?;
     }
     Ok(())
 }
@@ -62,7 +63,7 @@ fn go_on<P: Packs, O: Sink, T: Sink>(
 pub fn drain<P: Packs, O: Sink, T: Sink>(
     subsystem: &mut Subsystem,
     number: u64,
-    gather: &mut Gather,
+    desk: &mut Desk,
     packs: &mut P,
     out: &mut O,
     trace: &mut T,
@@ -70,17 +71,18 @@ pub fn drain<P: Packs, O: Sink, T: Sink>(
     requires going { subsystem.old.failed ≡ false }
     requires none_waits { subsystem.old.world.answers ≡ [] }
     requires few { length subsystem.old.world.slots ≤ 65536 }
-    requires kept { gather.old ≡ [] }
+    requires kept { desk.old.gather ≡ [] }
     ensures plays { OnOk result (IsTrue (P.tells packs.new) → PlaysDrain number
-        (stage P.tells P.held O.tells O.taken T.tells T.taken subsystem.old.world packs.old out.old trace.old)
-        (stage P.tells P.held O.tells O.taken T.tells T.taken subsystem.new.world packs.new out.new trace.new)) }
+        (stage P.tells P.held O.tells O.taken T.tells T.taken subsystem.old.world packs.old out.old trace.old desk.old.tally)
+        (stage P.tells P.held O.tells O.taken T.tells T.taken subsystem.new.world packs.new out.new trace.new desk.new.tally)) }
     ensures stops { IfErr result (λ fault. IsTrue (P.tells packs.new) → StopsInput number Drain fault
-        (stage P.tells P.held O.tells O.taken T.tells T.taken subsystem.old.world packs.old out.old trace.old)
-        (stage P.tells P.held O.tells O.taken T.tells T.taken subsystem.new.world packs.new out.new trace.new)) }
+        (stage P.tells P.held O.tells O.taken T.tells T.taken subsystem.old.world packs.old out.old trace.old desk.old.tally)
+        (stage P.tells P.held O.tells O.taken T.tells T.taken subsystem.new.world packs.new out.new trace.new desk.new.tally)) }
     ensures brings { OnOk result (Brings (Plays Drain) subsystem.old.world subsystem.new.world) }
     ensures going { OnOk result (subsystem.new.failed ≡ false) }
     ensures outstanding { OnOk result (subsystem.new.outstanding ≡ subsystem.old.outstanding) }
-    ensures kept { OnOk result (gather.new ≡ []) }
+    ensures kept { OnOk result (desk.new.gather ≡ []) }
+    ensures requests { desk.new.tally.requests ≡ desk.old.tally.requests }
     ensures never_again { IsTrue (P.tells packs.new) → IsTrue (P.tells packs.old) }
     ensures never_again_out { IsTrue (O.tells out.new) → IsTrue (O.tells out.old) }
     ensures never_again_trace { IsTrue (T.tells trace.new) → IsTrue (T.tells trace.old) }
@@ -90,7 +92,7 @@ pub fn drain<P: Packs, O: Sink, T: Sink>(
         say_idle(number, trace)?;
         return Ok(());
     };
-    happen(subsystem, number, first, gather, packs, out, trace)?;
-    go_on(subsystem, number, gather, packs, out, trace)?;
+    happen(subsystem, number, first, desk, packs, out, trace)?;
+    go_on(subsystem, number, desk, packs, out, trace)?;
     Ok(())
 }

@@ -6,6 +6,7 @@ mod answers;
 mod attaching;
 mod calls;
 mod counting;
+mod desk;
 mod drains;
 pub mod play;
 mod player;

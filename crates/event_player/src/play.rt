@@ -6,7 +6,7 @@ ghost use Rattle.script_reader.specs.Grammar.{Spells};
 ghost use Rattle.script_reader.specs.Stored.{lines_in};
 ghost use Rattle.script_reader.specs.Words.{all_verbs};
 ghost use Rattle.script_meaning.specs.Meaning.{meaning_of};
-ghost use Rattle.event_player.specs.Plays.{Plays, IsTooLong};
+ghost use Rattle.event_player.specs.Plays.{Plays, Tallied, IsTooLong};
 ghost use Rattle.event_player.specs.Faults.{IsPlaying, IsBefore, IsLongFor};
 ghost use Rattle.event_player.specs.Playing.{counted, one_request};
 ghost use Rattle.event_player.specs.Steps.{stage, Ready, PlaysScript, HasCauses};
@@ -14,11 +14,12 @@ ghost use Rattle.event_player.specs.Stops.{StopsScript, Leaves};
 
 use crate::attaching::attach_units;
 use crate::counting::{count_noises, count_requests};
+use crate::desk::Desk;
 use crate::drains::drain;
 use crate::player::play_line;
+pub use answer_tally::Tally;
 use driver_outcome::Stop;
 use hp_driver::Subsystem;
-use mass_gather::Gather;
 use mass_outside::traits::{NoMemory, Packs, Sink, SinkFailed};
 use script_meaning::meaning_law;
 use script_reader::script::{Script, read_back_law};
@@ -99,17 +100,13 @@ fn bytes(alloc: Global, size: usize) -> Result<Vec<u8>, AllocError>
     vec![in alloc; 0; size]
 }
 
-/// The counts of a run. It has none yet.
-#[derive(Clone, Copy, Debug, PartialEq, Eq)]
-pub struct Tally;
-
 /// Plays the lines of a script over units that are set up for it, and behind the last line a drain, whose number is the number of
 /// lines plus one. `room` has a place for each byte of the longest write.
 fn play_lines<P: Packs, O: Sink, T: Sink>(
     script: &Script,
     subsystem: &mut Subsystem,
     room: &mut [u8],
-    gather: &mut Gather,
+    desk: &mut Desk,
     packs: &mut P,
     out: &mut O,
     trace: &mut T,
@@ -119,13 +116,14 @@ fn play_lines<P: Packs, O: Sink, T: Sink>(
     requires ready { Ready (meaning_of script.now) 0 0 0 [] subsystem.old.world }
     requires outstanding { subsystem.old.outstanding ≡ counted one_request (meaning_of script.now).lines }
     requires room { length room.old ≡ 65024 }
-    requires kept { gather.old ≡ [] }
+    requires kept { desk.old.gather ≡ [] }
     ensures plays { OnOk result (IsTrue (P.tells packs.new) → (tables : ℕ → Option Table) → PlaysScript (meaning_of script.now) tables
-        (stage P.tells P.held O.tells O.taken T.tells T.taken subsystem.old.world packs.old out.old trace.old)
-        (stage P.tells P.held O.tells O.taken T.tells T.taken subsystem.new.world packs.new out.new trace.new)) }
+        (stage P.tells P.held O.tells O.taken T.tells T.taken subsystem.old.world packs.old out.old trace.old desk.old.tally)
+        (stage P.tells P.held O.tells O.taken T.tells T.taken subsystem.new.world packs.new out.new trace.new desk.new.tally)) }
     ensures stops { IfErr result (λ fault. IsTrue (P.tells packs.new) → (tables : ℕ → Option Table) → StopsScript (meaning_of script.now) tables fault
-        (stage P.tells P.held O.tells O.taken T.tells T.taken subsystem.old.world packs.old out.old trace.old)
-        (stage P.tells P.held O.tells O.taken T.tells T.taken subsystem.new.world packs.new out.new trace.new)) }
+        (stage P.tells P.held O.tells O.taken T.tells T.taken subsystem.old.world packs.old out.old trace.old desk.old.tally)
+        (stage P.tells P.held O.tells O.taken T.tells T.taken subsystem.new.world packs.new out.new trace.new desk.new.tally)) }
+    ensures requests { desk.new.tally.requests ≡ desk.old.tally.requests }
     ensures never_again { IsTrue (P.tells packs.new) → IsTrue (P.tells packs.old) }
     ensures never_again_out { IsTrue (O.tells out.new) → IsTrue (O.tells out.old) }
     ensures never_again_trace { IsTrue (T.tells trace.new) → IsTrue (T.tells trace.old) }
@@ -136,9 +134,9 @@ fn play_lines<P: Packs, O: Sink, T: Sink>(
     let number = u64::from(script.count()) + 1;
     let lines = script.lines();
     for (i, line) in lines.iter().enumerate() {
-        play_line(script, subsystem, line, room, gather, packs, out, trace)?;
+        play_line(script, subsystem, line, room, desk, packs, out, trace)?;
     }
-    drain(subsystem, number, gather, packs, out, trace)?;
+    drain(subsystem, number, desk, packs, out, trace)?;
     Ok(())
 }
 
@@ -148,6 +146,8 @@ fn play_lines<P: Packs, O: Sink, T: Sink>(
 /// The units are attached first, in the order of their lines. TooLong tells the first of them whose image has more bytes than
 /// the blocks of its drive. Store comes only where the packs' count of faults rose in this call, and Sink only where that of
 /// `out` or of `trace` rose; Memory only before the first line is played, with the packs, `out` and `trace` as they were.
+///
+/// The tally counts the script's requests and the answers of the run with their text, also where `out` does not tell what it took.
 ///
 /// Behind Store and Sink it is known how far the script came: `trace` and `out` took fronts of the texts of a run so far, the
 /// packs are as its replay leaves them but for one block at most, and no call was made behind the one that failed.
@@ -161,6 +161,9 @@ pub fn play<P: Packs, O: Sink, T: Sink>(
     requires good { Spells all_verbs script.now.text (lines_in script.now) script.now.count }
     ensures played { OnOk result (IsTrue (P.tells packs.new) → Plays (meaning_of script.now) (P.held packs.old) (P.held packs.new)
         (O.tells out.new) (O.taken out.old) (O.taken out.new) (T.tells trace.new) (T.taken trace.old) (T.taken trace.new)) }
+    ensures tallied { IfOk result (λ tally. IsTrue (P.tells packs.new) → Tallied (meaning_of script.now) (P.held packs.old) (P.held packs.new)
+        (O.tells out.new) (O.taken out.old) (O.taken out.new) (T.tells trace.new) (T.taken trace.old) (T.taken trace.new) tally) }
+    ensures requests { IfOk result (λ tally. tally.requests ≡ counted one_request (meaning_of script.now).lines) }
     ensures stopped { IfErr result (λ fault. IsTrue (P.tells packs.new) → Leaves fault (meaning_of script.now) (P.held packs.old) (P.held packs.new)
         (O.tells out.new) (O.taken out.old) (O.taken out.new) (T.tells trace.new) (T.taken trace.old) (T.taken trace.new)) }
     ensures fits { IsPlaying result → IsTrue (P.tells packs.new) → (unit n : ℕ) → ¬ (IsTooLong (meaning_of script.now) (P.held packs.old) unit n) }
@@ -183,8 +186,8 @@ pub fn play<P: Packs, O: Sink, T: Sink>(
     let noises = count_noises(script);
     let mut subsystem = Subsystem::new(alloc, units.as_slice(), requests, noises)?;
     let mut room = bytes(alloc, MOST_BYTES)?;
-    let mut gather = Gather::new(alloc)?;
+    let mut desk = Desk::new(alloc, u64::from(requests))?;
     let room = room.as_mut_slice();
-    play_lines(script, &mut subsystem, room, &mut gather, packs, out, trace)?;
-    Ok(Tally)
+    play_lines(script, &mut subsystem, room, &mut desk, packs, out, trace)?;
+    Ok(desk.tally)
 }

@@ -11,25 +11,34 @@ ghost use Rattle.script_meaning.specs.Meaning.{statement_of, request_of, written
 ghost use Rattle.trace_replay.specs.Moments.{Played};
 ghost use Rattle.trace_replay.specs.Script.{Noise as NoiseInput, Plays};
 ghost use Rattle.answer_lines.specs.AnswerText.{said_text};
+ghost use Rattle.answer_tally.specs.Counting.{Counts};
 ghost use Rattle.hp_events.specs.Inputs.{input_of};
 ghost use Rattle.event_player.specs.Steps.{stage, IsNoEvent, PlaysLine, Brings, MayPlay, HasData, HasCauses};
 ghost use Rattle.event_player.specs.Stops.{StopsLine};
 
 use crate::calls::{ask, happen};
 use crate::drains::drain;
+use crate::desk::Desk;
 use crate::play::PlayFault;
 use answer_lines::noise_line;
+use answer_tally::Tally;
 use fire_code::{Noise, class_of};
 use hp_driver::{Event, Request, Subsystem};
-use mass_gather::Gather;
 use mass_outside::traits::{Packs, Sink, SinkFailed};
 use mass_outside::whole::write_all;
 use script_meaning::meaning_law;
 use script_reader::script::{Script, Stored};
 use script_reader::statement::{Content, Request as Asked, Span, Statement};
 
-/// Says the class of noise that is armed at a line.
-fn say_noise<O: Sink>(number: u64, noise: &Noise, out: &mut O) -> Result<(), SinkFailed>
+/// Says the class of noise that is armed at a line, and counts what it says.
+fn say_noise<O: Sink>(
+    number: u64,
+    noise: &Noise,
+    tally: &mut Tally,
+    out: &mut O,
+) -> Result<(), SinkFailed>
+    ensures counts { (live : LiveNoise) → live.places ≡ noise.now → Counts [] (said_text (Played number (NoiseInput live))) tally.old tally.new }
+    ensures requests { tally.new.requests ≡ tally.old.requests }
     ensures text { (live : LiveNoise) → live.places ≡ noise.now
         → OnOk result (IsTrue (O.tells out.new) → O.taken out.new ≡ O.taken out.old ++ said_text (Played number (NoiseInput live))) }
     ensures front { (live : LiveNoise) → live.places ≡ noise.now
@@ -38,7 +47,9 @@ fn say_noise<O: Sink>(number: u64, noise: &Noise, out: &mut O) -> Result<(), Sin
     ensures cause { HasCause (O.faults out.old) (O.faults out.new) result }
 {
     let _ = noise.places();
-    write_all(out, noise_line(number, class_of(noise)).as_bytes())
+    let line = noise_line(number, class_of(noise));
+    tally.count_text(line.as_bytes());
+    write_all(out, line.as_bytes())
 }
 
 /// A request as the driver takes it.
@@ -132,7 +143,7 @@ fn play_other<P: Packs, O: Sink, T: Sink>(
     subsystem: &mut Subsystem,
     line: &Stored,
     room: &mut [u8],
-    gather: &mut Gather,
+    desk: &mut Desk,
     packs: &mut P,
     out: &mut O,
     trace: &mut T,
@@ -143,17 +154,18 @@ fn play_other<P: Packs, O: Sink, T: Sink>(
     requires may { MayPlay subsystem.old (statement_of (seen script.now.text line.now).statement) }
     requires data { HasData (seen script.now.text line.now).statement }
     requires room { length room.old ≡ 65024 }
-    requires kept { gather.old ≡ [] }
+    requires kept { desk.old.gather ≡ [] }
     ensures plays { OnOk result (IsTrue (P.tells packs.new) → PlaysLine line.now.number (statement_of (seen script.now.text line.now).statement)
-        (stage P.tells P.held O.tells O.taken T.tells T.taken subsystem.old.world packs.old out.old trace.old)
-        (stage P.tells P.held O.tells O.taken T.tells T.taken subsystem.new.world packs.new out.new trace.new)) }
+        (stage P.tells P.held O.tells O.taken T.tells T.taken subsystem.old.world packs.old out.old trace.old desk.old.tally)
+        (stage P.tells P.held O.tells O.taken T.tells T.taken subsystem.new.world packs.new out.new trace.new desk.new.tally)) }
     ensures stops { IfErr result (λ fault. IsTrue (P.tells packs.new) → StopsLine line.now.number (statement_of (seen script.now.text line.now).statement) fault
-        (stage P.tells P.held O.tells O.taken T.tells T.taken subsystem.old.world packs.old out.old trace.old)
-        (stage P.tells P.held O.tells O.taken T.tells T.taken subsystem.new.world packs.new out.new trace.new)) }
+        (stage P.tells P.held O.tells O.taken T.tells T.taken subsystem.old.world packs.old out.old trace.old desk.old.tally)
+        (stage P.tells P.held O.tells O.taken T.tells T.taken subsystem.new.world packs.new out.new trace.new desk.new.tally)) }
     ensures brings { OnOk result (Brings (statement_of (seen script.now.text line.now).statement) subsystem.old.world subsystem.new.world) }
     ensures going { OnOk result (subsystem.new.failed ≡ false) }
     ensures outstanding { OnOk result (subsystem.new.outstanding ≡ subsystem.old.outstanding) }
-    ensures kept { OnOk result (gather.new ≡ []) }
+    ensures kept { OnOk result (desk.new.gather ≡ []) }
+    ensures requests { desk.new.tally.requests ≡ desk.old.tally.requests }
     ensures never_again { IsTrue (P.tells packs.new) → IsTrue (P.tells packs.old) }
     ensures never_again_out { IsTrue (O.tells out.new) → IsTrue (O.tells out.old) }
     ensures never_again_trace { IsTrue (T.tells trace.new) → IsTrue (T.tells trace.old) }
@@ -163,7 +175,7 @@ fn play_other<P: Packs, O: Sink, T: Sink>(
     match &line.statement {
         Statement::Read { request } => {
             let request = request_for(request, false);
-            ask(subsystem, number, request, &[], gather, out, trace)
+            ask(subsystem, number, request, &[], desk, out, trace)
         }
         Statement::Write { request, content } => {
             let size = put_data(script, request, content, room);
@@ -173,7 +185,7 @@ fn play_other<P: Packs, O: Sink, T: Sink>(
                 number,
                 request,
                 &room[..size],
-                gather,
+                desk,
                 out,
                 trace,
             )
@@ -184,16 +196,16 @@ fn play_other<P: Packs, O: Sink, T: Sink>(
             span,
             places,
         } => {
-            say_noise(number, places, out)?;
+            say_noise(number, places, &mut desk.tally, out)?;
             let event = Event::Noise {
                 unit: *unit,
                 block: *block,
                 noise: places.copy(),
                 span: *span,
             };
-            happen(subsystem, number, event, gather, packs, out, trace)
+            happen(subsystem, number, event, desk, packs, out, trace)
         }
-        Statement::Drain => drain(subsystem, number, gather, packs, out, trace),
+        Statement::Drain => drain(subsystem, number, desk, packs, out, trace),
         _ => Ok(()),
     }
 }
@@ -204,7 +216,7 @@ pub fn play_line<P: Packs, O: Sink, T: Sink>(
     subsystem: &mut Subsystem,
     line: &Stored,
     room: &mut [u8],
-    gather: &mut Gather,
+    desk: &mut Desk,
     packs: &mut P,
     out: &mut O,
     trace: &mut T,
@@ -214,17 +226,18 @@ pub fn play_line<P: Packs, O: Sink, T: Sink>(
     requires may { MayPlay subsystem.old (statement_of (seen script.now.text line.now).statement) }
     requires data { HasData (seen script.now.text line.now).statement }
     requires room { length room.old ≡ 65024 }
-    requires kept { gather.old ≡ [] }
+    requires kept { desk.old.gather ≡ [] }
     ensures plays { OnOk result (IsTrue (P.tells packs.new) → PlaysLine line.now.number (statement_of (seen script.now.text line.now).statement)
-        (stage P.tells P.held O.tells O.taken T.tells T.taken subsystem.old.world packs.old out.old trace.old)
-        (stage P.tells P.held O.tells O.taken T.tells T.taken subsystem.new.world packs.new out.new trace.new)) }
+        (stage P.tells P.held O.tells O.taken T.tells T.taken subsystem.old.world packs.old out.old trace.old desk.old.tally)
+        (stage P.tells P.held O.tells O.taken T.tells T.taken subsystem.new.world packs.new out.new trace.new desk.new.tally)) }
     ensures stops { IfErr result (λ fault. IsTrue (P.tells packs.new) → StopsLine line.now.number (statement_of (seen script.now.text line.now).statement) fault
-        (stage P.tells P.held O.tells O.taken T.tells T.taken subsystem.old.world packs.old out.old trace.old)
-        (stage P.tells P.held O.tells O.taken T.tells T.taken subsystem.new.world packs.new out.new trace.new)) }
+        (stage P.tells P.held O.tells O.taken T.tells T.taken subsystem.old.world packs.old out.old trace.old desk.old.tally)
+        (stage P.tells P.held O.tells O.taken T.tells T.taken subsystem.new.world packs.new out.new trace.new desk.new.tally)) }
     ensures brings { OnOk result (Brings (statement_of (seen script.now.text line.now).statement) subsystem.old.world subsystem.new.world) }
     ensures going { OnOk result (subsystem.new.failed ≡ false) }
     ensures outstanding { OnOk result (subsystem.new.outstanding ≡ subsystem.old.outstanding) }
-    ensures kept { OnOk result (gather.new ≡ []) }
+    ensures kept { OnOk result (desk.new.gather ≡ []) }
+    ensures requests { desk.new.tally.requests ≡ desk.old.tally.requests }
     ensures never_again { IsTrue (P.tells packs.new) → IsTrue (P.tells packs.old) }
     ensures never_again_out { IsTrue (O.tells out.new) → IsTrue (O.tells out.old) }
     ensures never_again_trace { IsTrue (T.tells trace.new) → IsTrue (T.tells trace.old) }
@@ -233,8 +246,8 @@ pub fn play_line<P: Packs, O: Sink, T: Sink>(
     match event_of(&line.statement) {
         Some(event) => {
             let number = u64::from(line.number);
-            happen(subsystem, number, event, gather, packs, out, trace)
+            happen(subsystem, number, event, desk, packs, out, trace)
         }
-        None => play_other(script, subsystem, line, room, gather, packs, out, trace),
+        None => play_other(script, subsystem, line, room, desk, packs, out, trace),
     }
 }

@@ -1,13 +1,22 @@
-use Rattle.std.proofs.Common.{ℕ, List, [], ap, ◌∙◌, slice_index_or}
+use Rattle.std.proofs.Common.{ℕ, List, [], refl, ap, ◌∙◌, slice_index_or}
 use Rattle.answer_lines.specs.AnswerText.{block_text}
+use Rattle.answer_tally.proofs.CountLaws.{counts_same}
 use Rattle.event_player.specs.Answering.{first_blocks}
 use Rattle.event_player.proofs.AnswerLaws.{gathers_same, block_given}
 use Rattle.event_player.proofs.answers.gather_block.Goals as goal
 
-pub returns : goal.returns
-returns g c =
+pub returns-clause-gathers : goal.returns-clause-gathers
+returns-clause-gathers g c =
     let w = c.args.subsystem.now.world in
     let block = c.requires.block in
     let given = block_given block c.answer_block.new.into (c.answer_block.ensures block.reads.made block.slot block.reads.oldest block.slot_is) in
-    gathers_same (block_text c.args.k (slice_index_or (first_blocks w w.answers) c.args.k [])) c.put.ensures
+    gathers_same (block_text c.args.k (slice_index_or (first_blocks w w.answers) c.args.k [])) c.put.ensures.gathers
+    (c.as_bytes.ensures.text ∙ c.block_line-line.ensures ∙ ap (λ (bytes : List ℕ). block_text c.args.k bytes) (c.front.ensures ∙ given))
+
+pub returns-clause-counts : goal.returns-clause-counts
+returns-clause-counts g c =
+    let w = c.args.subsystem.now.world in
+    let block = c.requires.block in
+    let given = block_given block c.answer_block.new.into (c.answer_block.ensures block.reads.made block.slot block.reads.oldest block.slot_is) in
+    counts_same c.args.desk.now.tally c.put.new.self.tally [] [] c.as_bytes.result.now (block_text c.args.k (slice_index_or (first_blocks w w.answers) c.args.k [])) c.put.ensures.counts refl
     (c.as_bytes.ensures.text ∙ c.block_line-line.ensures ∙ ap (λ (bytes : List ℕ). block_text c.args.k bytes) (c.front.ensures ∙ given))

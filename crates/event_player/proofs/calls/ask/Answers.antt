@@ -9,16 +9,18 @@ returns-clause-plays g c =
     submits_plays g.T.Sink.tells g.T.Sink.taken c.args.trace.now c.submit.new.trace c.args.number _ c.args.subsystem.now c.submit.new.self c.write_answers.new.subsystem
     (g.O.Sink.tells c.args.out.now) (g.O.Sink.tells c.write_answers.new.out) (g.O.Sink.taken c.args.out.now) (g.O.Sink.taken c.write_answers.new.out)
     c.law.ensures.sound (c.law.ensures.work c.requires.going) c.in_ok-submit.ensures.does c.in_ok-write_answers.ensures.taken c.in_ok-write_answers.ensures.puts.bytes
+    c.args.desk.now.tally c.write_answers.new.desk.tally c.in_ok-write_answers.ensures.counts
 
 pub returns-in_err-submit-clause-stops : goal.returns-in_err-submit-clause-stops
 returns-in_err-submit-clause-stops g c =
     err_is _ c.from_residual.result faults.Sink c.from_residual.ensures.1
     (λ tells held. submission_halted g.T.Sink.tells g.T.Sink.taken c.args.trace.now c.submit.new.trace c.args.number _ c.args.subsystem.now.world (g.O.Sink.tells c.args.out.now)
-    (g.O.Sink.taken c.args.out.now) tells held c.submit.new.self.world c.in_err-submit.ensures.does)
+    (g.O.Sink.taken c.args.out.now) c.args.desk.now.tally tells held c.submit.new.self.world c.args.desk.now.tally c.in_err-submit.ensures.does)
 
 pub returns-in_err-write_answers-clause-stops : goal.returns-in_err-write_answers-clause-stops
 returns-in_err-write_answers-clause-stops g c =
     err_is _ c.from_residual-in_err-write_answers.result faults.Sink c.from_residual-in_err-write_answers.ensures.1
     (λ tells held. submission_unsaid g.T.Sink.tells g.T.Sink.taken c.args.trace.now c.submit.new.trace c.args.number _ c.args.subsystem.now.world (g.O.Sink.tells c.args.out.now)
-    (g.O.Sink.taken c.args.out.now) tells held c.submit.new.self.world c.write_answers.new.subsystem.world (g.O.Sink.tells c.write_answers.new.out) (g.O.Sink.taken c.write_answers.new.out)
+    (g.O.Sink.taken c.args.out.now) c.args.desk.now.tally tells held c.submit.new.self.world c.write_answers.new.subsystem.world (g.O.Sink.tells c.write_answers.new.out)
+    (g.O.Sink.taken c.write_answers.new.out) c.write_answers.new.desk.tally
     c.law.ensures.sound (c.law.ensures.work c.requires.going) c.in_ok-submit.ensures.does c.in_err-write_answers.ensures.puts.front)

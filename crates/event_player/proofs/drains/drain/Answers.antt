@@ -10,9 +10,9 @@ use Rattle.event_player.proofs.Halting.{if_err, err_is, idle_halts, first_halts,
 
 pub returns-in_default-clause-plays : goal.returns-in_default-clause-plays
 returns-in_default-clause-plays g c =
-    let old : Stage = stage g.P.Packs.tells g.P.Packs.held g.O.Sink.tells g.O.Sink.taken g.T.Sink.tells g.T.Sink.taken c.args.subsystem.now.world c.args.packs.now c.args.out.now c.args.trace.now in
-    let new : Stage = stage g.P.Packs.tells g.P.Packs.held g.O.Sink.tells g.O.Sink.taken g.T.Sink.tells g.T.Sink.taken c.args.subsystem.now.world c.args.packs.now c.args.out.now c.say_idle.new.trace in
-    λ t. drain_nothing c.args.number old new c.in_default.ensures.over refl refl refl c.in_ok-say_idle.ensures.bytes
+    let old : Stage = stage g.P.Packs.tells g.P.Packs.held g.O.Sink.tells g.O.Sink.taken g.T.Sink.tells g.T.Sink.taken c.args.subsystem.now.world c.args.packs.now c.args.out.now c.args.trace.now c.args.desk.now.tally in
+    let new : Stage = stage g.P.Packs.tells g.P.Packs.held g.O.Sink.tells g.O.Sink.taken g.T.Sink.tells g.T.Sink.taken c.args.subsystem.now.world c.args.packs.now c.args.out.now c.say_idle.new.trace c.args.desk.now.tally in
+    λ t. drain_nothing c.args.number old new c.in_default.ensures.over refl refl refl refl c.in_ok-say_idle.ensures.bytes
 
 pub go_on-requires-clause-none_waits : goal.go_on-requires-clause-none_waits
 go_on-requires-clause-none_waits g c = plays_none c.in_ok-happen.ensures.plays.plays
@@ -21,31 +21,31 @@ pub returns-clause-plays : goal.returns-clause-plays
 returns-clause-plays g c =
     let happens = c.in_ok-happen.ensures in
     let goes = c.in_ok-go_on.ensures in
-    let old : Stage = stage g.P.Packs.tells g.P.Packs.held g.O.Sink.tells g.O.Sink.taken g.T.Sink.tells g.T.Sink.taken c.args.subsystem.now.world c.args.packs.now c.args.out.now c.args.trace.now in
-    let mid : Stage = stage g.P.Packs.tells g.P.Packs.held g.O.Sink.tells g.O.Sink.taken g.T.Sink.tells g.T.Sink.taken c.happen.new.subsystem.world c.happen.new.packs c.happen.new.out c.happen.new.trace in
-    let new : Stage = stage g.P.Packs.tells g.P.Packs.held g.O.Sink.tells g.O.Sink.taken g.T.Sink.tells g.T.Sink.taken c.go_on.new.subsystem.world c.go_on.new.packs c.go_on.new.out c.go_on.new.trace in
+    let old : Stage = stage g.P.Packs.tells g.P.Packs.held g.O.Sink.tells g.O.Sink.taken g.T.Sink.tells g.T.Sink.taken c.args.subsystem.now.world c.args.packs.now c.args.out.now c.args.trace.now c.args.desk.now.tally in
+    let mid : Stage = stage g.P.Packs.tells g.P.Packs.held g.O.Sink.tells g.O.Sink.taken g.T.Sink.tells g.T.Sink.taken c.happen.new.subsystem.world c.happen.new.packs c.happen.new.out c.happen.new.trace c.happen.new.desk.tally in
+    let new : Stage = stage g.P.Packs.tells g.P.Packs.held g.O.Sink.tells g.O.Sink.taken g.T.Sink.tells g.T.Sink.taken c.go_on.new.subsystem.world c.go_on.new.packs c.go_on.new.out c.go_on.new.trace c.go_on.new.desk.tally in
     λ t. drain_plays c.args.number (input_of c.in-Some.first) old mid new (goes.never_again t) goes.never_again_out goes.never_again_trace c.in-Some.ensures.next c.requires.none_waits c.requires.few
     happens.plays (goes.plays t)
 
 pub returns-clause-brings : goal.returns-clause-brings
 returns-clause-brings g c =
-    let old : Stage = stage g.P.Packs.tells g.P.Packs.held g.O.Sink.tells g.O.Sink.taken g.T.Sink.tells g.T.Sink.taken c.args.subsystem.now.world c.args.packs.now c.args.out.now c.args.trace.now in
-    let mid : Stage = stage g.P.Packs.tells g.P.Packs.held g.O.Sink.tells g.O.Sink.taken g.T.Sink.tells g.T.Sink.taken c.happen.new.subsystem.world c.happen.new.packs c.happen.new.out c.happen.new.trace in
+    let old : Stage = stage g.P.Packs.tells g.P.Packs.held g.O.Sink.tells g.O.Sink.taken g.T.Sink.tells g.T.Sink.taken c.args.subsystem.now.world c.args.packs.now c.args.out.now c.args.trace.now c.args.desk.now.tally in
+    let mid : Stage = stage g.P.Packs.tells g.P.Packs.held g.O.Sink.tells g.O.Sink.taken g.T.Sink.tells g.T.Sink.taken c.happen.new.subsystem.world c.happen.new.packs c.happen.new.out c.happen.new.trace c.happen.new.desk.tally in
     brings_both c.args.subsystem.now.world c.happen.new.subsystem.world c.go_on.new.subsystem.world
     (drain_brings c.args.number (input_of c.in-Some.first) old mid c.in-Some.ensures.next c.in_ok-happen.ensures.plays) c.in_ok-go_on.ensures.brings
 
 pub returns-in_err-say_idle-clause-stops : goal.returns-in_err-say_idle-clause-stops
 returns-in_err-say_idle-clause-stops g c =
-    let old : Stage = stage g.P.Packs.tells g.P.Packs.held g.O.Sink.tells g.O.Sink.taken g.T.Sink.tells g.T.Sink.taken c.args.subsystem.now.world c.args.packs.now c.args.out.now c.args.trace.now in
-    let new : Stage = stage g.P.Packs.tells g.P.Packs.held g.O.Sink.tells g.O.Sink.taken g.T.Sink.tells g.T.Sink.taken c.args.subsystem.now.world c.args.packs.now c.args.out.now c.say_idle.new.trace in
+    let old : Stage = stage g.P.Packs.tells g.P.Packs.held g.O.Sink.tells g.O.Sink.taken g.T.Sink.tells g.T.Sink.taken c.args.subsystem.now.world c.args.packs.now c.args.out.now c.args.trace.now c.args.desk.now.tally in
+    let new : Stage = stage g.P.Packs.tells g.P.Packs.held g.O.Sink.tells g.O.Sink.taken g.T.Sink.tells g.T.Sink.taken c.args.subsystem.now.world c.args.packs.now c.args.out.now c.say_idle.new.trace c.args.desk.now.tally in
     err_is _ c.from_residual.result faults.Sink c.from_residual.ensures.1
     (λ t. idle_halts c.args.number old new c.in_default.ensures.over refl c.in_err-say_idle.ensures.never_again (λ s. s) refl c.in_err-say_idle.ensures.front)
 
 pub returns-in_err-happen-clause-stops : goal.returns-in_err-happen-clause-stops
 returns-in_err-happen-clause-stops g c =
     let happens = c.in_err-happen.ensures in
-    let old : Stage = stage g.P.Packs.tells g.P.Packs.held g.O.Sink.tells g.O.Sink.taken g.T.Sink.tells g.T.Sink.taken c.args.subsystem.now.world c.args.packs.now c.args.out.now c.args.trace.now in
-    let new : Stage = stage g.P.Packs.tells g.P.Packs.held g.O.Sink.tells g.O.Sink.taken g.T.Sink.tells g.T.Sink.taken c.happen.new.subsystem.world c.happen.new.packs c.happen.new.out c.happen.new.trace in
+    let old : Stage = stage g.P.Packs.tells g.P.Packs.held g.O.Sink.tells g.O.Sink.taken g.T.Sink.tells g.T.Sink.taken c.args.subsystem.now.world c.args.packs.now c.args.out.now c.args.trace.now c.args.desk.now.tally in
+    let new : Stage = stage g.P.Packs.tells g.P.Packs.held g.O.Sink.tells g.O.Sink.taken g.T.Sink.tells g.T.Sink.taken c.happen.new.subsystem.world c.happen.new.packs c.happen.new.out c.happen.new.trace c.happen.new.desk.tally in
     err_is _ c.from_residual-in_err-happen.result c.in_err-happen.field-0.0 c.from_residual-in_err-happen.ensures.1
     (λ t. first_halts c.args.number c.in_err-happen.field-0.0 (input_of c.in-Some.first) old new happens.never_again_trace happens.never_again_out c.in-Some.ensures.next c.in-Some.ensures.there
     c.requires.none_waits happens.stops t)
@@ -54,9 +54,9 @@ pub returns-in_err-go_on-clause-stops : goal.returns-in_err-go_on-clause-stops
 returns-in_err-go_on-clause-stops g c =
     let happens = c.in_ok-happen.ensures in
     let goes = c.in_err-go_on.ensures in
-    let old : Stage = stage g.P.Packs.tells g.P.Packs.held g.O.Sink.tells g.O.Sink.taken g.T.Sink.tells g.T.Sink.taken c.args.subsystem.now.world c.args.packs.now c.args.out.now c.args.trace.now in
-    let mid : Stage = stage g.P.Packs.tells g.P.Packs.held g.O.Sink.tells g.O.Sink.taken g.T.Sink.tells g.T.Sink.taken c.happen.new.subsystem.world c.happen.new.packs c.happen.new.out c.happen.new.trace in
-    let new : Stage = stage g.P.Packs.tells g.P.Packs.held g.O.Sink.tells g.O.Sink.taken g.T.Sink.tells g.T.Sink.taken c.go_on.new.subsystem.world c.go_on.new.packs c.go_on.new.out c.go_on.new.trace in
+    let old : Stage = stage g.P.Packs.tells g.P.Packs.held g.O.Sink.tells g.O.Sink.taken g.T.Sink.tells g.T.Sink.taken c.args.subsystem.now.world c.args.packs.now c.args.out.now c.args.trace.now c.args.desk.now.tally in
+    let mid : Stage = stage g.P.Packs.tells g.P.Packs.held g.O.Sink.tells g.O.Sink.taken g.T.Sink.tells g.T.Sink.taken c.happen.new.subsystem.world c.happen.new.packs c.happen.new.out c.happen.new.trace c.happen.new.desk.tally in
+    let new : Stage = stage g.P.Packs.tells g.P.Packs.held g.O.Sink.tells g.O.Sink.taken g.T.Sink.tells g.T.Sink.taken c.go_on.new.subsystem.world c.go_on.new.packs c.go_on.new.out c.go_on.new.trace c.go_on.new.desk.tally in
     err_is _ c.from_residual-in_err-go_on.result c.in_err-go_on.field-0.0 c.from_residual-in_err-go_on.ensures.1
     (λ t. rest_halts c.args.number c.in_err-go_on.field-0.0 (input_of c.in-Some.first) old mid new (goes.never_again t) happens.never_again_trace happens.never_again_out c.in-Some.ensures.next
     c.requires.none_waits happens.plays (goes.stops t))

@@ -1,4 +1,4 @@
-use Rattle.std.proofs.Common.{rules}
+use Rattle.std.proofs.Common.{rules, ◌∙◌}
 use Rattle.hp_events.specs.Inputs.{input_of}
 use Rattle.event_player.specs.Steps.{Stage, stage}
 use Rattle.event_player.proofs.Draining.{draining_starts, draining_next, draining_over, draining_never}
@@ -9,7 +9,7 @@ use Rattle.event_player.proofs.Halting.{if_err, err_is, draining_halts}
 
 pub loop-turn-init : goal.loop-turn-init
 loop-turn-init g c =
-    let old : Stage = stage g.P.Packs.tells g.P.Packs.held g.O.Sink.tells g.O.Sink.taken g.T.Sink.tells g.T.Sink.taken c.args.subsystem.now.world c.args.packs.now c.args.out.now c.args.trace.now in
+    let old : Stage = stage g.P.Packs.tells g.P.Packs.held g.O.Sink.tells g.O.Sink.taken g.T.Sink.tells g.T.Sink.taken c.args.subsystem.now.world c.args.packs.now c.args.out.now c.args.trace.now c.args.desk.now.tally in
     record {
       never_again = search rules;
       never_again_out = search rules;
@@ -21,23 +21,24 @@ loop-turn-init g c =
       outstanding = search rules;
       none_waits = search rules;
       kept = search rules;
+      requests = search rules;
       brings = still_brings c.args.subsystem.now.world;
       plays = λ t. draining_starts c.args.number old;
     }
 
 pub returns-in_default-clause-plays : goal.returns-in_default-clause-plays
 returns-in_default-clause-plays g c =
-    let old : Stage = stage g.P.Packs.tells g.P.Packs.held g.O.Sink.tells g.O.Sink.taken g.T.Sink.tells g.T.Sink.taken c.args.subsystem.now.world c.args.packs.now c.args.out.now c.args.trace.now in
-    let now : Stage = stage g.P.Packs.tells g.P.Packs.held g.O.Sink.tells g.O.Sink.taken g.T.Sink.tells g.T.Sink.taken c.loop-turn.subsystem.world c.loop-turn.packs c.loop-turn.out c.loop-turn.trace in
+    let old : Stage = stage g.P.Packs.tells g.P.Packs.held g.O.Sink.tells g.O.Sink.taken g.T.Sink.tells g.T.Sink.taken c.args.subsystem.now.world c.args.packs.now c.args.out.now c.args.trace.now c.args.desk.now.tally in
+    let now : Stage = stage g.P.Packs.tells g.P.Packs.held g.O.Sink.tells g.O.Sink.taken g.T.Sink.tells g.T.Sink.taken c.loop-turn.subsystem.world c.loop-turn.packs c.loop-turn.out c.loop-turn.trace c.loop-turn.desk.tally in
     λ t. draining_over c.args.number c.loop-turn.turn old now c.in_default.ensures.over (c.loop-turn.invariant.plays t)
 
 pub loop-turn-preserved : goal.loop-turn-preserved
 loop-turn-preserved g c =
     let so = c.loop-turn.invariant in
     let happens = c.in_ok-happen.ensures in
-    let old : Stage = stage g.P.Packs.tells g.P.Packs.held g.O.Sink.tells g.O.Sink.taken g.T.Sink.tells g.T.Sink.taken c.args.subsystem.now.world c.args.packs.now c.args.out.now c.args.trace.now in
-    let mid : Stage = stage g.P.Packs.tells g.P.Packs.held g.O.Sink.tells g.O.Sink.taken g.T.Sink.tells g.T.Sink.taken c.loop-turn.subsystem.world c.loop-turn.packs c.loop-turn.out c.loop-turn.trace in
-    let new : Stage = stage g.P.Packs.tells g.P.Packs.held g.O.Sink.tells g.O.Sink.taken g.T.Sink.tells g.T.Sink.taken c.happen.new.subsystem.world c.happen.new.packs c.happen.new.out c.happen.new.trace in
+    let old : Stage = stage g.P.Packs.tells g.P.Packs.held g.O.Sink.tells g.O.Sink.taken g.T.Sink.tells g.T.Sink.taken c.args.subsystem.now.world c.args.packs.now c.args.out.now c.args.trace.now c.args.desk.now.tally in
+    let mid : Stage = stage g.P.Packs.tells g.P.Packs.held g.O.Sink.tells g.O.Sink.taken g.T.Sink.tells g.T.Sink.taken c.loop-turn.subsystem.world c.loop-turn.packs c.loop-turn.out c.loop-turn.trace c.loop-turn.desk.tally in
+    let new : Stage = stage g.P.Packs.tells g.P.Packs.held g.O.Sink.tells g.O.Sink.taken g.T.Sink.tells g.T.Sink.taken c.happen.new.subsystem.world c.happen.new.packs c.happen.new.out c.happen.new.trace c.happen.new.desk.tally in
     record {
       never_again = λ t. so.never_again (happens.never_again t);
       never_again_out = λ t. so.never_again_out (happens.never_again_out t);
@@ -49,6 +50,7 @@ loop-turn-preserved g c =
       outstanding = search rules;
       none_waits = plays_none happens.plays.plays;
       kept = happens.kept;
+      requests = happens.requests ∙ so.requests;
       brings = brings_both c.args.subsystem.now.world c.loop-turn.subsystem.world c.happen.new.subsystem.world so.brings
           (drain_brings c.args.number (input_of c.in-Some.event) mid new c.in-Some.ensures.next happens.plays);
       plays = λ t. draining_next c.args.number c.loop-turn.turn (input_of c.in-Some.event) old mid new t happens.never_again_out happens.never_again_trace c.in-Some.ensures.next
@@ -57,17 +59,17 @@ loop-turn-preserved g c =
 
 pub returns-clause-plays : goal.returns-clause-plays
 returns-clause-plays g c =
-    let old : Stage = stage g.P.Packs.tells g.P.Packs.held g.O.Sink.tells g.O.Sink.taken g.T.Sink.tells g.T.Sink.taken c.args.subsystem.now.world c.args.packs.now c.args.out.now c.args.trace.now in
-    let now : Stage = stage g.P.Packs.tells g.P.Packs.held g.O.Sink.tells g.O.Sink.taken g.T.Sink.tells g.T.Sink.taken c.loop-turn.subsystem.world c.loop-turn.packs c.loop-turn.out c.loop-turn.trace in
+    let old : Stage = stage g.P.Packs.tells g.P.Packs.held g.O.Sink.tells g.O.Sink.taken g.T.Sink.tells g.T.Sink.taken c.args.subsystem.now.world c.args.packs.now c.args.out.now c.args.trace.now c.args.desk.now.tally in
+    let now : Stage = stage g.P.Packs.tells g.P.Packs.held g.O.Sink.tells g.O.Sink.taken g.T.Sink.tells g.T.Sink.taken c.loop-turn.subsystem.world c.loop-turn.packs c.loop-turn.out c.loop-turn.trace c.loop-turn.desk.tally in
     λ t. draining_never c.args.number c.loop-turn.turn old now c.loop-turn-test.false (c.loop-turn.invariant.plays t)
 
 pub returns-in_err-happen-clause-stops : goal.returns-in_err-happen-clause-stops
 returns-in_err-happen-clause-stops g c =
     let so = c.loop-turn.invariant in
     let happens = c.in_err-happen.ensures in
-    let old : Stage = stage g.P.Packs.tells g.P.Packs.held g.O.Sink.tells g.O.Sink.taken g.T.Sink.tells g.T.Sink.taken c.args.subsystem.now.world c.args.packs.now c.args.out.now c.args.trace.now in
-    let mid : Stage = stage g.P.Packs.tells g.P.Packs.held g.O.Sink.tells g.O.Sink.taken g.T.Sink.tells g.T.Sink.taken c.loop-turn.subsystem.world c.loop-turn.packs c.loop-turn.out c.loop-turn.trace in
-    let new : Stage = stage g.P.Packs.tells g.P.Packs.held g.O.Sink.tells g.O.Sink.taken g.T.Sink.tells g.T.Sink.taken c.happen.new.subsystem.world c.happen.new.packs c.happen.new.out c.happen.new.trace in
+    let old : Stage = stage g.P.Packs.tells g.P.Packs.held g.O.Sink.tells g.O.Sink.taken g.T.Sink.tells g.T.Sink.taken c.args.subsystem.now.world c.args.packs.now c.args.out.now c.args.trace.now c.args.desk.now.tally in
+    let mid : Stage = stage g.P.Packs.tells g.P.Packs.held g.O.Sink.tells g.O.Sink.taken g.T.Sink.tells g.T.Sink.taken c.loop-turn.subsystem.world c.loop-turn.packs c.loop-turn.out c.loop-turn.trace c.loop-turn.desk.tally in
+    let new : Stage = stage g.P.Packs.tells g.P.Packs.held g.O.Sink.tells g.O.Sink.taken g.T.Sink.tells g.T.Sink.taken c.happen.new.subsystem.world c.happen.new.packs c.happen.new.out c.happen.new.trace c.happen.new.desk.tally in
     err_is _ c.from_residual.result c.in_err-happen.field-0.0 c.from_residual.ensures.1
     (λ t. draining_halts c.args.number c.loop-turn.turn c.in_err-happen.field-0.0 (input_of c.in-Some.event) old mid new so.never_again_trace so.never_again_out happens.never_again_trace happens.never_again_out
     c.in-Some.ensures.next c.in-Some.ensures.there so.none_waits (so.plays (happens.never_again t)) happens.stops t)

@@ -16,9 +16,10 @@ invariant-loop-turn g l = record {
   going : l.subsystem.failed ≡ false;
   outstanding : l.subsystem.outstanding ≡ l.fn.subsystem.outstanding;
   none_waits : l.subsystem.world.answers ≡ [];
-  kept : l.gather ≡ [];
+  kept : l.desk.gather ≡ [];
+  requests : l.desk.tally.requests ≡ l.fn.desk.tally.requests;
   brings : Brings (Plays Drain) l.fn.subsystem.world l.subsystem.world;
   plays : IsTrue (g.P.Packs.tells l.packs) → Draining l.number l.turn
-      (stage g.P.Packs.tells g.P.Packs.held g.O.Sink.tells g.O.Sink.taken g.T.Sink.tells g.T.Sink.taken l.fn.subsystem.world l.fn.packs l.fn.out l.fn.trace)
-      (stage g.P.Packs.tells g.P.Packs.held g.O.Sink.tells g.O.Sink.taken g.T.Sink.tells g.T.Sink.taken l.subsystem.world l.packs l.out l.trace);
+      (stage g.P.Packs.tells g.P.Packs.held g.O.Sink.tells g.O.Sink.taken g.T.Sink.tells g.T.Sink.taken l.fn.subsystem.world l.fn.packs l.fn.out l.fn.trace l.fn.desk.tally)
+      (stage g.P.Packs.tells g.P.Packs.held g.O.Sink.tells g.O.Sink.taken g.T.Sink.tells g.T.Sink.taken l.subsystem.world l.packs l.out l.trace l.desk.tally);
 }

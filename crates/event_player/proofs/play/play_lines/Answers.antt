@@ -13,7 +13,7 @@ use Rattle.event_player.proofs.Whole.{here_is}
 
 pub loop-i-init : goal.loop-i-init
 loop-i-init g c =
-    let old : Stage = stage g.P.Packs.tells g.P.Packs.held g.O.Sink.tells g.O.Sink.taken g.T.Sink.tells g.T.Sink.taken c.args.subsystem.now.world c.args.packs.now c.args.out.now c.args.trace.now in
+    let old : Stage = stage g.P.Packs.tells g.P.Packs.held g.O.Sink.tells g.O.Sink.taken g.T.Sink.tells g.T.Sink.taken c.args.subsystem.now.world c.args.packs.now c.args.out.now c.args.trace.now c.args.desk.now.tally in
     let script : IsScript (meaning_of c.args.script.now) = c.meaning_law.ensures.read c.args.script.now.text c.args.script.now c.requires.good in
     record {
       never_again = search rules;
@@ -25,6 +25,7 @@ loop-i-init g c =
       going = search rules;
       outstanding = search rules;
       kept = search rules;
+      requests = search rules;
       ready = c.requires.ready;
       plays = λ t. plays_none_yet (meaning_of c.args.script.now) old script;
     }
@@ -51,9 +52,9 @@ pub loop-i-preserved : goal.loop-i-preserved
 loop-i-preserved g c =
     let so = c.loop-i.invariant in
     let plays = c.in_ok-play_line.ensures in
-    let old : Stage = stage g.P.Packs.tells g.P.Packs.held g.O.Sink.tells g.O.Sink.taken g.T.Sink.tells g.T.Sink.taken c.args.subsystem.now.world c.args.packs.now c.args.out.now c.args.trace.now in
-    let mid : Stage = stage g.P.Packs.tells g.P.Packs.held g.O.Sink.tells g.O.Sink.taken g.T.Sink.tells g.T.Sink.taken c.loop-i.subsystem.world c.loop-i.packs c.loop-i.out c.loop-i.trace in
-    let new : Stage = stage g.P.Packs.tells g.P.Packs.held g.O.Sink.tells g.O.Sink.taken g.T.Sink.tells g.T.Sink.taken c.play_line.new.subsystem.world c.play_line.new.packs c.play_line.new.out c.play_line.new.trace in
+    let old : Stage = stage g.P.Packs.tells g.P.Packs.held g.O.Sink.tells g.O.Sink.taken g.T.Sink.tells g.T.Sink.taken c.args.subsystem.now.world c.args.packs.now c.args.out.now c.args.trace.now c.args.desk.now.tally in
+    let mid : Stage = stage g.P.Packs.tells g.P.Packs.held g.O.Sink.tells g.O.Sink.taken g.T.Sink.tells g.T.Sink.taken c.loop-i.subsystem.world c.loop-i.packs c.loop-i.out c.loop-i.trace c.loop-i.desk.tally in
+    let new : Stage = stage g.P.Packs.tells g.P.Packs.held g.O.Sink.tells g.O.Sink.taken g.T.Sink.tells g.T.Sink.taken c.play_line.new.subsystem.world c.play_line.new.packs c.play_line.new.out c.play_line.new.trace c.play_line.new.desk.tally in
     let stored = c.args.script.now in
     let item = c.index-lines-i.result in
     let is : item ≡ get_or stored.lines c.loop-i.i item = subst (λ (xs : List Kept). item ≡ get_or xs c.loop-i.i item) c.lines-lines.ensures c.index-lines-i.is in
@@ -68,6 +69,7 @@ loop-i-preserved g c =
       going = plays.going;
       outstanding = plays.outstanding ∙ so.outstanding;
       kept = plays.kept;
+      requests = plays.requests ∙ so.requests;
       ready = next_ready stored c.loop-i.i item is lt c.loop-i.subsystem.world c.play_line.new.subsystem.world plays.brings so.ready;
       plays = λ t. next_plays stored c.loop-i.i item is lt old mid new plays.never_again_out plays.never_again_trace (plays.plays t) (so.plays (plays.never_again t));
     }
@@ -75,9 +77,9 @@ loop-i-preserved g c =
 pub returns-clause-plays : goal.returns-clause-plays
 returns-clause-plays g c =
     let drains = c.in_ok-drain.ensures in
-    let old : Stage = stage g.P.Packs.tells g.P.Packs.held g.O.Sink.tells g.O.Sink.taken g.T.Sink.tells g.T.Sink.taken c.args.subsystem.now.world c.args.packs.now c.args.out.now c.args.trace.now in
-    let mid : Stage = stage g.P.Packs.tells g.P.Packs.held g.O.Sink.tells g.O.Sink.taken g.T.Sink.tells g.T.Sink.taken c.loop-i.subsystem.world c.loop-i.packs c.loop-i.out c.loop-i.trace in
-    let new : Stage = stage g.P.Packs.tells g.P.Packs.held g.O.Sink.tells g.O.Sink.taken g.T.Sink.tells g.T.Sink.taken c.drain.new.subsystem.world c.drain.new.packs c.drain.new.out c.drain.new.trace in
+    let old : Stage = stage g.P.Packs.tells g.P.Packs.held g.O.Sink.tells g.O.Sink.taken g.T.Sink.tells g.T.Sink.taken c.args.subsystem.now.world c.args.packs.now c.args.out.now c.args.trace.now c.args.desk.now.tally in
+    let mid : Stage = stage g.P.Packs.tells g.P.Packs.held g.O.Sink.tells g.O.Sink.taken g.T.Sink.tells g.T.Sink.taken c.loop-i.subsystem.world c.loop-i.packs c.loop-i.out c.loop-i.trace c.loop-i.desk.tally in
+    let new : Stage = stage g.P.Packs.tells g.P.Packs.held g.O.Sink.tells g.O.Sink.taken g.T.Sink.tells g.T.Sink.taken c.drain.new.subsystem.world c.drain.new.packs c.drain.new.out c.drain.new.trace c.drain.new.desk.tally in
     let stored = c.args.script.now in
     let past : length stored.lines ≤ c.loop-i.i = subst (λ (xs : List Kept). length xs ≤ c.loop-i.i) c.lines-lines.ensures c.loop-i-test.false in
     let all : length (meaning_of stored).lines ≤ c.loop-i.i =
@@ -90,9 +92,9 @@ pub returns-in_err-play_line-clause-stops : goal.returns-in_err-play_line-clause
 returns-in_err-play_line-clause-stops g c =
     let so = c.loop-i.invariant in
     let plays = c.in_err-play_line.ensures in
-    let old : Stage = stage g.P.Packs.tells g.P.Packs.held g.O.Sink.tells g.O.Sink.taken g.T.Sink.tells g.T.Sink.taken c.args.subsystem.now.world c.args.packs.now c.args.out.now c.args.trace.now in
-    let mid : Stage = stage g.P.Packs.tells g.P.Packs.held g.O.Sink.tells g.O.Sink.taken g.T.Sink.tells g.T.Sink.taken c.loop-i.subsystem.world c.loop-i.packs c.loop-i.out c.loop-i.trace in
-    let new : Stage = stage g.P.Packs.tells g.P.Packs.held g.O.Sink.tells g.O.Sink.taken g.T.Sink.tells g.T.Sink.taken c.play_line.new.subsystem.world c.play_line.new.packs c.play_line.new.out c.play_line.new.trace in
+    let old : Stage = stage g.P.Packs.tells g.P.Packs.held g.O.Sink.tells g.O.Sink.taken g.T.Sink.tells g.T.Sink.taken c.args.subsystem.now.world c.args.packs.now c.args.out.now c.args.trace.now c.args.desk.now.tally in
+    let mid : Stage = stage g.P.Packs.tells g.P.Packs.held g.O.Sink.tells g.O.Sink.taken g.T.Sink.tells g.T.Sink.taken c.loop-i.subsystem.world c.loop-i.packs c.loop-i.out c.loop-i.trace c.loop-i.desk.tally in
+    let new : Stage = stage g.P.Packs.tells g.P.Packs.held g.O.Sink.tells g.O.Sink.taken g.T.Sink.tells g.T.Sink.taken c.play_line.new.subsystem.world c.play_line.new.packs c.play_line.new.out c.play_line.new.trace c.play_line.new.desk.tally in
     let stored = c.args.script.now in
     let item = c.index-lines-i.result in
     let is : item ≡ get_or stored.lines c.loop-i.i item = subst (λ (xs : List Kept). item ≡ get_or xs c.loop-i.i item) c.lines-lines.ensures c.index-lines-i.is in
@@ -104,9 +106,9 @@ returns-in_err-play_line-clause-stops g c =
 pub returns-in_err-drain-clause-stops : goal.returns-in_err-drain-clause-stops
 returns-in_err-drain-clause-stops g c =
     let drains = c.in_err-drain.ensures in
-    let old : Stage = stage g.P.Packs.tells g.P.Packs.held g.O.Sink.tells g.O.Sink.taken g.T.Sink.tells g.T.Sink.taken c.args.subsystem.now.world c.args.packs.now c.args.out.now c.args.trace.now in
-    let mid : Stage = stage g.P.Packs.tells g.P.Packs.held g.O.Sink.tells g.O.Sink.taken g.T.Sink.tells g.T.Sink.taken c.loop-i.subsystem.world c.loop-i.packs c.loop-i.out c.loop-i.trace in
-    let new : Stage = stage g.P.Packs.tells g.P.Packs.held g.O.Sink.tells g.O.Sink.taken g.T.Sink.tells g.T.Sink.taken c.drain.new.subsystem.world c.drain.new.packs c.drain.new.out c.drain.new.trace in
+    let old : Stage = stage g.P.Packs.tells g.P.Packs.held g.O.Sink.tells g.O.Sink.taken g.T.Sink.tells g.T.Sink.taken c.args.subsystem.now.world c.args.packs.now c.args.out.now c.args.trace.now c.args.desk.now.tally in
+    let mid : Stage = stage g.P.Packs.tells g.P.Packs.held g.O.Sink.tells g.O.Sink.taken g.T.Sink.tells g.T.Sink.taken c.loop-i.subsystem.world c.loop-i.packs c.loop-i.out c.loop-i.trace c.loop-i.desk.tally in
+    let new : Stage = stage g.P.Packs.tells g.P.Packs.held g.O.Sink.tells g.O.Sink.taken g.T.Sink.tells g.T.Sink.taken c.drain.new.subsystem.world c.drain.new.packs c.drain.new.out c.drain.new.trace c.drain.new.desk.tally in
     let stored = c.args.script.now in
     let past : length stored.lines ≤ c.loop-i.i = subst (λ (xs : List Kept). length xs ≤ c.loop-i.i) c.lines-lines.ensures c.loop-i-test.false in
     let all : length (meaning_of stored).lines ≤ c.loop-i.i =

@@ -16,9 +16,10 @@ invariant-loop-i g l = record {
   later_trace : g.T.Sink.faults l.fn.trace ≤ g.T.Sink.faults l.trace;
   going : l.subsystem.failed ≡ false;
   outstanding : l.subsystem.outstanding ≡ l.fn.subsystem.outstanding;
-  kept : l.gather ≡ [];
+  kept : l.desk.gather ≡ [];
+  requests : l.desk.tally.requests ≡ l.fn.desk.tally.requests;
   ready : ReadyBehind (meaning_of l.script) (take l.i (meaning_of l.script).lines) l.subsystem.world;
   plays : IsTrue (g.P.Packs.tells l.packs) → PlaysTo (meaning_of l.script)
-      (stage g.P.Packs.tells g.P.Packs.held g.O.Sink.tells g.O.Sink.taken g.T.Sink.tells g.T.Sink.taken l.fn.subsystem.world l.fn.packs l.fn.out l.fn.trace)
-      (stage g.P.Packs.tells g.P.Packs.held g.O.Sink.tells g.O.Sink.taken g.T.Sink.tells g.T.Sink.taken l.subsystem.world l.packs l.out l.trace) l.i;
+      (stage g.P.Packs.tells g.P.Packs.held g.O.Sink.tells g.O.Sink.taken g.T.Sink.tells g.T.Sink.taken l.fn.subsystem.world l.fn.packs l.fn.out l.fn.trace l.fn.desk.tally)
+      (stage g.P.Packs.tells g.P.Packs.held g.O.Sink.tells g.O.Sink.taken g.T.Sink.tells g.T.Sink.taken l.subsystem.world l.packs l.out l.trace l.desk.tally) l.i;
 }

@@ -15,8 +15,8 @@ use Rattle.event_player.proofs.Halting.{if_err, err_is, event_halts, noise_halts
 
 pub returns-in-Read-clause-plays : goal.returns-in-Read-clause-plays
 returns-in-Read-clause-plays g c =
-    let old : Stage = stage g.P.Packs.tells g.P.Packs.held g.O.Sink.tells g.O.Sink.taken g.T.Sink.tells g.T.Sink.taken c.args.subsystem.now.world c.args.packs.now c.args.out.now c.args.trace.now in
-    let new : Stage = stage g.P.Packs.tells g.P.Packs.held g.O.Sink.tells g.O.Sink.taken g.T.Sink.tells g.T.Sink.taken c.ask.new.subsystem.world c.args.packs.now c.ask.new.out c.ask.new.trace in
+    let old : Stage = stage g.P.Packs.tells g.P.Packs.held g.O.Sink.tells g.O.Sink.taken g.T.Sink.tells g.T.Sink.taken c.args.subsystem.now.world c.args.packs.now c.args.out.now c.args.trace.now c.args.desk.now.tally in
+    let new : Stage = stage g.P.Packs.tells g.P.Packs.held g.O.Sink.tells g.O.Sink.taken g.T.Sink.tells g.T.Sink.taken c.ask.new.subsystem.world c.args.packs.now c.ask.new.out c.ask.new.trace c.ask.new.desk.tally in
     let line : Statement = statement_of (seen c.args.script.now.text c.args.line.now).statement in
     let request = c.request_for-request.result in
     let at = read_says c.args.script.now.text c.args.line.now c.in-Read.request request c.in-Read.is c.request_for-request.ensures in
@@ -27,8 +27,8 @@ returns-in-Read-clause-plays g c =
 
 pub returns-in-Read-clause-brings : goal.returns-in-Read-clause-brings
 returns-in-Read-clause-brings g c =
-    let old : Stage = stage g.P.Packs.tells g.P.Packs.held g.O.Sink.tells g.O.Sink.taken g.T.Sink.tells g.T.Sink.taken c.args.subsystem.now.world c.args.packs.now c.args.out.now c.args.trace.now in
-    let new : Stage = stage g.P.Packs.tells g.P.Packs.held g.O.Sink.tells g.O.Sink.taken g.T.Sink.tells g.T.Sink.taken c.ask.new.subsystem.world c.args.packs.now c.ask.new.out c.ask.new.trace in
+    let old : Stage = stage g.P.Packs.tells g.P.Packs.held g.O.Sink.tells g.O.Sink.taken g.T.Sink.tells g.T.Sink.taken c.args.subsystem.now.world c.args.packs.now c.args.out.now c.args.trace.now c.args.desk.now.tally in
+    let new : Stage = stage g.P.Packs.tells g.P.Packs.held g.O.Sink.tells g.O.Sink.taken g.T.Sink.tells g.T.Sink.taken c.ask.new.subsystem.world c.args.packs.now c.ask.new.out c.ask.new.trace c.ask.new.desk.tally in
     let line : Statement = statement_of (seen c.args.script.now.text c.args.line.now).statement in
     let request = c.request_for-request.result in
     let at = read_says c.args.script.now.text c.args.line.now c.in-Read.request request c.in-Read.is c.request_for-request.ensures in
@@ -38,8 +38,8 @@ returns-in-Read-clause-brings g c =
 
 pub returns-in-Write-clause-plays : goal.returns-in-Write-clause-plays
 returns-in-Write-clause-plays g c =
-    let old : Stage = stage g.P.Packs.tells g.P.Packs.held g.O.Sink.tells g.O.Sink.taken g.T.Sink.tells g.T.Sink.taken c.args.subsystem.now.world c.args.packs.now c.args.out.now c.args.trace.now in
-    let new : Stage = stage g.P.Packs.tells g.P.Packs.held g.O.Sink.tells g.O.Sink.taken g.T.Sink.tells g.T.Sink.taken c.ask-in-Write.new.subsystem.world c.args.packs.now c.ask-in-Write.new.out c.ask-in-Write.new.trace in
+    let old : Stage = stage g.P.Packs.tells g.P.Packs.held g.O.Sink.tells g.O.Sink.taken g.T.Sink.tells g.T.Sink.taken c.args.subsystem.now.world c.args.packs.now c.args.out.now c.args.trace.now c.args.desk.now.tally in
+    let new : Stage = stage g.P.Packs.tells g.P.Packs.held g.O.Sink.tells g.O.Sink.taken g.T.Sink.tells g.T.Sink.taken c.ask-in-Write.new.subsystem.world c.args.packs.now c.ask-in-Write.new.out c.ask-in-Write.new.trace c.ask-in-Write.new.desk.tally in
     let line : Statement = statement_of (seen c.args.script.now.text c.args.line.now).statement in
     let request = c.request_for-request-in-Write.result in
     let bytes : List ℕ = take c.put_data-size.result c.put_data-size.new.room in
@@ -51,8 +51,8 @@ returns-in-Write-clause-plays g c =
 
 pub returns-in-Write-clause-brings : goal.returns-in-Write-clause-brings
 returns-in-Write-clause-brings g c =
-    let old : Stage = stage g.P.Packs.tells g.P.Packs.held g.O.Sink.tells g.O.Sink.taken g.T.Sink.tells g.T.Sink.taken c.args.subsystem.now.world c.args.packs.now c.args.out.now c.args.trace.now in
-    let new : Stage = stage g.P.Packs.tells g.P.Packs.held g.O.Sink.tells g.O.Sink.taken g.T.Sink.tells g.T.Sink.taken c.ask-in-Write.new.subsystem.world c.args.packs.now c.ask-in-Write.new.out c.ask-in-Write.new.trace in
+    let old : Stage = stage g.P.Packs.tells g.P.Packs.held g.O.Sink.tells g.O.Sink.taken g.T.Sink.tells g.T.Sink.taken c.args.subsystem.now.world c.args.packs.now c.args.out.now c.args.trace.now c.args.desk.now.tally in
+    let new : Stage = stage g.P.Packs.tells g.P.Packs.held g.O.Sink.tells g.O.Sink.taken g.T.Sink.tells g.T.Sink.taken c.ask-in-Write.new.subsystem.world c.args.packs.now c.ask-in-Write.new.out c.ask-in-Write.new.trace c.ask-in-Write.new.desk.tally in
     let line : Statement = statement_of (seen c.args.script.now.text c.args.line.now).statement in
     let request = c.request_for-request-in-Write.result in
     let bytes : List ℕ = take c.put_data-size.result c.put_data-size.new.room in
@@ -63,8 +63,8 @@ returns-in-Write-clause-brings g c =
 
 pub returns-in_ok-say_noise-in-Noise-clause-plays : goal.returns-in_ok-say_noise-in-Noise-clause-plays
 returns-in_ok-say_noise-in-Noise-clause-plays g c =
-    let old : Stage = stage g.P.Packs.tells g.P.Packs.held g.O.Sink.tells g.O.Sink.taken g.T.Sink.tells g.T.Sink.taken c.args.subsystem.now.world c.args.packs.now c.args.out.now c.args.trace.now in
-    let new : Stage = stage g.P.Packs.tells g.P.Packs.held g.O.Sink.tells g.O.Sink.taken g.T.Sink.tells g.T.Sink.taken c.happen.new.subsystem.world c.happen.new.packs c.happen.new.out c.happen.new.trace in
+    let old : Stage = stage g.P.Packs.tells g.P.Packs.held g.O.Sink.tells g.O.Sink.taken g.T.Sink.tells g.T.Sink.taken c.args.subsystem.now.world c.args.packs.now c.args.out.now c.args.trace.now c.args.desk.now.tally in
+    let new : Stage = stage g.P.Packs.tells g.P.Packs.held g.O.Sink.tells g.O.Sink.taken g.T.Sink.tells g.T.Sink.taken c.happen.new.subsystem.world c.happen.new.packs c.happen.new.out c.happen.new.trace c.happen.new.desk.tally in
     let line : Statement = statement_of (seen c.args.script.now.text c.args.line.now).statement in
     let noise = c.in-Noise in
     let same : c.copy.result ≡ box_value noise.places = cc in
@@ -73,14 +73,15 @@ returns-in_ok-say_noise-in-Noise-clause-plays g c =
     on_ok_weaker c.happen.result
     (λ q t. renumbered line old new c.from-number.result c.args.line.now.number c.from-number.ensures
     (event_plays c.from-number.result line (event.Noise noise.unit noise.block c.copy.result noise.span) c.args.subsystem.now old new (g.O.Sink.tells c.say_noise.new.out) (g.O.Sink.taken c.say_noise.new.out)
-    at refl c.requires.none_waits c.requires.may
-    (λ told. c.in_ok-say_noise-in-Noise.ensures.text (record { unit = noise.unit; block = noise.block; span = noise.span; places = c.copy.result }) seen_same (c.happen.ensures.never_again_out told)) q t))
+    c.say_noise.new.tally at refl c.requires.none_waits c.requires.may
+    (λ told. c.in_ok-say_noise-in-Noise.ensures.text (record { unit = noise.unit; block = noise.block; span = noise.span; places = c.copy.result }) seen_same (c.happen.ensures.never_again_out told))
+    (c.in_ok-say_noise-in-Noise.ensures.counts (record { unit = noise.unit; block = noise.block; span = noise.span; places = c.copy.result }) seen_same) q t))
     c.happen.ensures.plays
 
 pub returns-in_ok-say_noise-in-Noise-clause-brings : goal.returns-in_ok-say_noise-in-Noise-clause-brings
 returns-in_ok-say_noise-in-Noise-clause-brings g c =
-    let mid : Stage = stage g.P.Packs.tells g.P.Packs.held g.O.Sink.tells g.O.Sink.taken g.T.Sink.tells g.T.Sink.taken c.args.subsystem.now.world c.args.packs.now c.say_noise.new.out c.args.trace.now in
-    let new : Stage = stage g.P.Packs.tells g.P.Packs.held g.O.Sink.tells g.O.Sink.taken g.T.Sink.tells g.T.Sink.taken c.happen.new.subsystem.world c.happen.new.packs c.happen.new.out c.happen.new.trace in
+    let mid : Stage = stage g.P.Packs.tells g.P.Packs.held g.O.Sink.tells g.O.Sink.taken g.T.Sink.tells g.T.Sink.taken c.args.subsystem.now.world c.args.packs.now c.say_noise.new.out c.args.trace.now c.say_noise.new.tally in
+    let new : Stage = stage g.P.Packs.tells g.P.Packs.held g.O.Sink.tells g.O.Sink.taken g.T.Sink.tells g.T.Sink.taken c.happen.new.subsystem.world c.happen.new.packs c.happen.new.out c.happen.new.trace c.happen.new.desk.tally in
     let line : Statement = statement_of (seen c.args.script.now.text c.args.line.now).statement in
     let noise = c.in-Noise in
     let same : c.copy.result ≡ box_value noise.places = cc in
@@ -89,8 +90,8 @@ returns-in_ok-say_noise-in-Noise-clause-brings g c =
 
 pub returns-in-Drain-clause-plays : goal.returns-in-Drain-clause-plays
 returns-in-Drain-clause-plays g c =
-    let old : Stage = stage g.P.Packs.tells g.P.Packs.held g.O.Sink.tells g.O.Sink.taken g.T.Sink.tells g.T.Sink.taken c.args.subsystem.now.world c.args.packs.now c.args.out.now c.args.trace.now in
-    let new : Stage = stage g.P.Packs.tells g.P.Packs.held g.O.Sink.tells g.O.Sink.taken g.T.Sink.tells g.T.Sink.taken c.drain.new.subsystem.world c.drain.new.packs c.drain.new.out c.drain.new.trace in
+    let old : Stage = stage g.P.Packs.tells g.P.Packs.held g.O.Sink.tells g.O.Sink.taken g.T.Sink.tells g.T.Sink.taken c.args.subsystem.now.world c.args.packs.now c.args.out.now c.args.trace.now c.args.desk.now.tally in
+    let new : Stage = stage g.P.Packs.tells g.P.Packs.held g.O.Sink.tells g.O.Sink.taken g.T.Sink.tells g.T.Sink.taken c.drain.new.subsystem.world c.drain.new.packs c.drain.new.out c.drain.new.trace c.drain.new.desk.tally in
     let line : Statement = statement_of (seen c.args.script.now.text c.args.line.now).statement in
     let at = drain_says c.args.script.now.text c.args.line.now c.in-Drain.is in
     on_ok_weaker c.drain.result
@@ -107,8 +108,8 @@ returns-in-Drain-clause-brings g c =
 pub returns-in-Read-clause-stops : goal.returns-in-Read-clause-stops
 returns-in-Read-clause-stops g c =
     let asks = c.ask.ensures in
-    let old : Stage = stage g.P.Packs.tells g.P.Packs.held g.O.Sink.tells g.O.Sink.taken g.T.Sink.tells g.T.Sink.taken c.args.subsystem.now.world c.args.packs.now c.args.out.now c.args.trace.now in
-    let new : Stage = stage g.P.Packs.tells g.P.Packs.held g.O.Sink.tells g.O.Sink.taken g.T.Sink.tells g.T.Sink.taken c.ask.new.subsystem.world c.args.packs.now c.ask.new.out c.ask.new.trace in
+    let old : Stage = stage g.P.Packs.tells g.P.Packs.held g.O.Sink.tells g.O.Sink.taken g.T.Sink.tells g.T.Sink.taken c.args.subsystem.now.world c.args.packs.now c.args.out.now c.args.trace.now c.args.desk.now.tally in
+    let new : Stage = stage g.P.Packs.tells g.P.Packs.held g.O.Sink.tells g.O.Sink.taken g.T.Sink.tells g.T.Sink.taken c.ask.new.subsystem.world c.args.packs.now c.ask.new.out c.ask.new.trace c.ask.new.desk.tally in
     let line : Statement = statement_of (seen c.args.script.now.text c.args.line.now).statement in
     let request = c.request_for-request.result in
     let at = read_says c.args.script.now.text c.args.line.now c.in-Read.request request c.in-Read.is c.request_for-request.ensures in
@@ -120,8 +121,8 @@ returns-in-Read-clause-stops g c =
 pub returns-in-Write-clause-stops : goal.returns-in-Write-clause-stops
 returns-in-Write-clause-stops g c =
     let asks = c.ask-in-Write.ensures in
-    let old : Stage = stage g.P.Packs.tells g.P.Packs.held g.O.Sink.tells g.O.Sink.taken g.T.Sink.tells g.T.Sink.taken c.args.subsystem.now.world c.args.packs.now c.args.out.now c.args.trace.now in
-    let new : Stage = stage g.P.Packs.tells g.P.Packs.held g.O.Sink.tells g.O.Sink.taken g.T.Sink.tells g.T.Sink.taken c.ask-in-Write.new.subsystem.world c.args.packs.now c.ask-in-Write.new.out c.ask-in-Write.new.trace in
+    let old : Stage = stage g.P.Packs.tells g.P.Packs.held g.O.Sink.tells g.O.Sink.taken g.T.Sink.tells g.T.Sink.taken c.args.subsystem.now.world c.args.packs.now c.args.out.now c.args.trace.now c.args.desk.now.tally in
+    let new : Stage = stage g.P.Packs.tells g.P.Packs.held g.O.Sink.tells g.O.Sink.taken g.T.Sink.tells g.T.Sink.taken c.ask-in-Write.new.subsystem.world c.args.packs.now c.ask-in-Write.new.out c.ask-in-Write.new.trace c.ask-in-Write.new.desk.tally in
     let line : Statement = statement_of (seen c.args.script.now.text c.args.line.now).statement in
     let request = c.request_for-request-in-Write.result in
     let bytes : List ℕ = take c.put_data-size.result c.put_data-size.new.room in
@@ -134,8 +135,8 @@ returns-in-Write-clause-stops g c =
 pub returns-in_err-say_noise-in-Noise-clause-stops : goal.returns-in_err-say_noise-in-Noise-clause-stops
 returns-in_err-say_noise-in-Noise-clause-stops g c =
     let says_it = c.in_err-say_noise-in-Noise.ensures in
-    let old : Stage = stage g.P.Packs.tells g.P.Packs.held g.O.Sink.tells g.O.Sink.taken g.T.Sink.tells g.T.Sink.taken c.args.subsystem.now.world c.args.packs.now c.args.out.now c.args.trace.now in
-    let new : Stage = stage g.P.Packs.tells g.P.Packs.held g.O.Sink.tells g.O.Sink.taken g.T.Sink.tells g.T.Sink.taken c.args.subsystem.now.world c.args.packs.now c.say_noise.new.out c.args.trace.now in
+    let old : Stage = stage g.P.Packs.tells g.P.Packs.held g.O.Sink.tells g.O.Sink.taken g.T.Sink.tells g.T.Sink.taken c.args.subsystem.now.world c.args.packs.now c.args.out.now c.args.trace.now c.args.desk.now.tally in
+    let new : Stage = stage g.P.Packs.tells g.P.Packs.held g.O.Sink.tells g.O.Sink.taken g.T.Sink.tells g.T.Sink.taken c.args.subsystem.now.world c.args.packs.now c.say_noise.new.out c.args.trace.now c.say_noise.new.tally in
     let line : Statement = statement_of (seen c.args.script.now.text c.args.line.now).statement in
     let noise = c.in-Noise in
     let at = noise_says c.args.script.now.text c.args.line.now noise.unit noise.block noise.span noise.places (box_value noise.places) noise.is refl in
@@ -147,8 +148,8 @@ returns-in_err-say_noise-in-Noise-clause-stops g c =
 pub returns-in_ok-say_noise-in-Noise-clause-stops : goal.returns-in_ok-say_noise-in-Noise-clause-stops
 returns-in_ok-say_noise-in-Noise-clause-stops g c =
     let happens = c.happen.ensures in
-    let old : Stage = stage g.P.Packs.tells g.P.Packs.held g.O.Sink.tells g.O.Sink.taken g.T.Sink.tells g.T.Sink.taken c.args.subsystem.now.world c.args.packs.now c.args.out.now c.args.trace.now in
-    let new : Stage = stage g.P.Packs.tells g.P.Packs.held g.O.Sink.tells g.O.Sink.taken g.T.Sink.tells g.T.Sink.taken c.happen.new.subsystem.world c.happen.new.packs c.happen.new.out c.happen.new.trace in
+    let old : Stage = stage g.P.Packs.tells g.P.Packs.held g.O.Sink.tells g.O.Sink.taken g.T.Sink.tells g.T.Sink.taken c.args.subsystem.now.world c.args.packs.now c.args.out.now c.args.trace.now c.args.desk.now.tally in
+    let new : Stage = stage g.P.Packs.tells g.P.Packs.held g.O.Sink.tells g.O.Sink.taken g.T.Sink.tells g.T.Sink.taken c.happen.new.subsystem.world c.happen.new.packs c.happen.new.out c.happen.new.trace c.happen.new.desk.tally in
     let line : Statement = statement_of (seen c.args.script.now.text c.args.line.now).statement in
     let noise = c.in-Noise in
     let same : c.copy.result ≡ box_value noise.places = cc in
@@ -157,14 +158,14 @@ returns-in_ok-say_noise-in-Noise-clause-stops g c =
     if_err _ _ c.happen.result
     (λ fault stops t. event_halts c.from-number.result c.args.line.now.number c.from-number.ensures line c.args.subsystem.now old new refl c.requires.none_waits c.requires.may
     (λ s. c.in_ok-say_noise-in-Noise.ensures.never_again (happens.never_again_out s)) happens.never_again_trace fault (event.Noise noise.unit noise.block c.copy.result noise.span)
-    (g.O.Sink.tells c.say_noise.new.out) (g.O.Sink.taken c.say_noise.new.out) at c.in_ok-say_noise-in-Noise.ensures.never_again happens.never_again_out
+    (g.O.Sink.tells c.say_noise.new.out) (g.O.Sink.taken c.say_noise.new.out) c.say_noise.new.tally at c.in_ok-say_noise-in-Noise.ensures.never_again happens.never_again_out
     (λ told. c.in_ok-say_noise-in-Noise.ensures.text (record { unit = noise.unit; block = noise.block; span = noise.span; places = c.copy.result }) seen_same told) t stops)
     happens.stops
 
 pub returns-in-Drain-clause-stops : goal.returns-in-Drain-clause-stops
 returns-in-Drain-clause-stops g c =
-    let old : Stage = stage g.P.Packs.tells g.P.Packs.held g.O.Sink.tells g.O.Sink.taken g.T.Sink.tells g.T.Sink.taken c.args.subsystem.now.world c.args.packs.now c.args.out.now c.args.trace.now in
-    let new : Stage = stage g.P.Packs.tells g.P.Packs.held g.O.Sink.tells g.O.Sink.taken g.T.Sink.tells g.T.Sink.taken c.drain.new.subsystem.world c.drain.new.packs c.drain.new.out c.drain.new.trace in
+    let old : Stage = stage g.P.Packs.tells g.P.Packs.held g.O.Sink.tells g.O.Sink.taken g.T.Sink.tells g.T.Sink.taken c.args.subsystem.now.world c.args.packs.now c.args.out.now c.args.trace.now c.args.desk.now.tally in
+    let new : Stage = stage g.P.Packs.tells g.P.Packs.held g.O.Sink.tells g.O.Sink.taken g.T.Sink.tells g.T.Sink.taken c.drain.new.subsystem.world c.drain.new.packs c.drain.new.out c.drain.new.trace c.drain.new.desk.tally in
     let line : Statement = statement_of (seen c.args.script.now.text c.args.line.now).statement in
     let at = drain_says c.args.script.now.text c.args.line.now c.in-Drain.is in
     if_err _ _ c.drain.result
