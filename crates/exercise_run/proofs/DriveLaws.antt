@@ -18,8 +18,7 @@ use Rattle.trace_replay.specs.Replay.{AreLeft, after_moments}
 use Rattle.trace_replay.specs.Runs.{start_of}
 use Rattle.trace_replay.specs.Script.{Script, Statement, Declares, Plays, IsPlayed, declared_by, drives_in, drives_of}
 use Rattle.driver_outcome.specs.Outcome.{IsNextBlock}
-use Rattle.driver_runs.specs.NextBlock.{HasNext}
-use Rattle.driver_runs.proofs.NextBlock.{next_blocks_show}
+use Rattle.driver_runs.specs.NextBlock.{HasNext, NextBlocksShow}
 use Rattle.event_player.specs.declared.play.PlayFault.{PlayFault}
 use Rattle.event_player.specs.declared.play.PlayFault.TheVariants as faults
 use Rattle.event_player.specs.Stops.{Leaves, StopsAtStore}
@@ -78,7 +77,7 @@ left_within drives first left s empty are = record {
 }
 
 -- So they are left where the packs failed,
-module _ (script : Script) (first left : ℕ → Pack) (said said' : List ℕ) (tells trace_tells : Bool) (taken taken' : List ℕ) (empty : AreEmpty first) where
+module _ (show : NextBlocksShow) (script : Script) (first left : ℕ → Pack) (said said' : List ℕ) (tells trace_tells : Bool) (taken taken' : List ℕ) (empty : AreEmpty first) where
   pub store_within : Leaves faults.Store script first left tells said said' trace_tells taken taken' → IsWithin (drives_of script) left
   store_within (inl unplayed) = subst (IsWithin (drives_of script)) (sym unplayed.packs) (empty_within (drives_of script) first empty)
   store_within (inr is) = by_block is.stopped.packs
@@ -89,7 +88,7 @@ module _ (script : Script) (first left : ℕ → Pack) (said said' : List ℕ) (
           (left_within (drives_of script) first is.stopped.held (after_moments (start_of script is.tables first) is.stopped.done).surface empty is.stopped.behind)
       by_block (inr next) =
           let found : HasNext (drives_of script) first left (after_moments (start_of script is.tables first) is.stopped.done) =
-          next_blocks_show (drives_of script) first is.stopped.held left (after_moments (start_of script is.tables first) is.stopped.done) is.stopped.world
+          show (drives_of script) first is.stopped.held left (after_moments (start_of script is.tables first) is.stopped.done) is.stopped.world
           is.stopped.sound is.stopped.shows is.stopped.declared is.stopped.behind next in
           left_within (drives_of script) first left _ empty found.packs
 
@@ -155,10 +154,10 @@ inside_only (Some (Mark unit block on)) packs left lies within is rose =
     no_mark packs left unit block (if on then 1 else 0) (packs unit).image within is
 
 -- THE PACKS DO NOT FAIL.
-pub never_fails : (number : ℕ) (fault : PlayFault) (script : Script) (first left packs : ℕ → Pack) (said said' : List ℕ) (tells trace_tells : Bool) (taken taken' : List ℕ)
+pub never_fails : NextBlocksShow → (number : ℕ) (fault : PlayFault) (script : Script) (first left packs : ℕ → Pack) (said said' : List ℕ) (tells trace_tells : Bool) (taken taken' : List ℕ)
     (outside : Option Outside) → fault ≡ faults.Store → script ≡ exercise_script number → AreEmpty first
     → Leaves fault script first left tells said said' trace_tells taken taken' → IsOutside outside → left ≡ with_outside outside packs → Rose 0 (faults_of outside) → ⊥
-never_fails number fault script first left packs said said' tells trace_tells taken taken' outside store same empty leaves lies is rose =
+never_fails show number fault script first left packs said said' tells trace_tells taken taken' outside store same empty leaves lies is rose =
     inside_only outside packs left lies (record {
       beyond = λ unit kind there. within.beyond unit kind (drives_are number unit ∙ there);
       marks = within.marks;
@@ -167,6 +166,6 @@ never_fails number fault script first left packs said said' tells trace_tells ta
   where
     within : IsWithin (drives_of (exercise_script number)) left
     within =
-        store_within (exercise_script number) first left said said' tells trace_tells taken taken' empty
+        store_within show (exercise_script number) first left said said' tells trace_tells taken taken' empty
         (subst (λ (s : Script). Leaves faults.Store s first left tells said said' trace_tells taken taken') same
         (subst (λ (f : PlayFault). Leaves f script first left tells said said' trace_tells taken taken') store leaves))

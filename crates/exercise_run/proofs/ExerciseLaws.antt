@@ -3,7 +3,11 @@ use Rattle.std.proofs.Common.{◌≡◌, ℕ, suc, ◌+◌, ◌-◌, ◌^◌, �
 use Rattle.pack_model.specs.Pack.{Pack}
 use Rattle.pack_model.specs.TableSpelling.{Table}
 use Rattle.script_reader.specs.declared.statement.Statement.TheVariants as says
-use Rattle.script_reader.specs.Grammar.{Spells}
+use Rattle.script_reader.specs.declared.fault.ReadFault.{ReadFault}
+use Rattle.script_reader.specs.declared.fault.ReadFault.TheVariants as reading
+use Rattle.script_reader.specs.declared.fault.ScriptKind.{ScriptKind}
+use Rattle.script_reader.specs.Grammar.{Spells, IsRefused}
+use Rattle.script_reader.specs.Reading.{Refuses}
 use Rattle.script_reader.specs.Known.{Said, Numbered as NumberedLine}
 use Rattle.script_reader.specs.Printing.{numbered}
 use Rattle.script_reader.specs.Stored.{Stored, lines_in}
@@ -15,10 +19,11 @@ use Rattle.trace_replay.specs.Runs.{IsLegalRun}
 use Rattle.block_machine.specs.LegalAnswers.{AreNoAliases}
 use Rattle.run_promises.specs.Promises.{Promises}
 use Rattle.answer_tally.specs.declared.tally.Tally.{Tally}
+use Rattle.event_player.specs.declared.play.PlayFault.{PlayFault}
 use Rattle.event_player.specs.declared.play.PlayFault.TheVariants as faults
 use Rattle.event_player.specs.Playing.{counted, one_request}
 use Rattle.event_player.specs.Plays.{Tallied}
-use Rattle.event_player.specs.Stops.{StopsPlaying}
+use Rattle.event_player.specs.Stops.{Leaves}
 use Rattle.hp_exercise.specs.Bounds.{HasShortNoise}
 use Rattle.hp_exercise.specs.Exercise.{script_text}
 use Rattle.hp_exercise.specs.Statements.{script_statements}
@@ -85,6 +90,16 @@ one_meaning number stored spelled read one =
     let same = one (script_text number) (exercise_lines number) (lines_in stored) 2051 stored.count spelled read in
     ap (λ (count : ℕ). meaning (lines_in stored) count) (sym same.1) ∙ ap (λ (lines : List NumberedLine). meaning lines 2051) (sym same.0)
 
+-- and the reader does not refuse it.
+abbrev pub NoFault : Type 0
+NoFault = (bytes : List ℕ) (lines : List NumberedLine) (count : ℕ) → Spells all_verbs bytes lines count → (number : ℕ) (kind : ScriptKind) → ¬ IsRefused all_verbs bytes number kind
+
+pub never_refused : (number : ℕ) (bytes : List ℕ) (fault : ReadFault) (line : ℕ) (kind : ScriptKind) → NoFault → Spells all_verbs (script_text number) (exercise_lines number) 2051
+    → bytes ≡ script_text number → fault ≡ reading.Refused line kind → Refuses all_verbs fault bytes → ⊥
+never_refused number bytes fault line kind none spelled text is refuses =
+    none (script_text number) (exercise_lines number) 2051 spelled line kind
+    (subst (λ (b : List ℕ). IsRefused all_verbs b line kind) text (subst (λ (f : ReadFault). Refuses all_verbs f bytes) is refuses))
+
 -- WHAT WAS PLAYED
 pub exercised_for : (number : ℕ) (script : Script) (first last : ℕ → Pack) (tells : Bool) (taken taken' : List ℕ) (tally : Tally)
     → script ≡ exercise_script number → IsExercise number → IsScript (exercise_script number) → AreEmpty first → tally.requests < 2 ^ 64 → KeepsAll
@@ -102,12 +117,13 @@ exercised_for number script first last tells taken taken' tally same exercise go
       answered = all_counted (exercise_script number) first last tells taken taken' tally good keeps small played;
     }
 
-pub cut_short_for : (number : ℕ) (script : Script) (first left : ℕ → Pack) (tells : Bool) (taken taken' : List ℕ) → script ≡ exercise_script number → IsExercise number
-    → AreEmpty first → StopsPlaying faults.Sink script first left false [] [] tells taken taken' → IsCutShort number tells taken taken'
-cut_short_for number script first left tells taken taken' same exercise empty stops = record {
+pub cut_short_for : (number : ℕ) (script : Script) (fault : PlayFault) (first left : ℕ → Pack) (tells : Bool) (taken taken' : List ℕ) → script ≡ exercise_script number
+    → IsExercise number → AreEmpty first → fault ≡ faults.Sink → Leaves fault script first left false [] [] tells taken taken' → IsCutShort number tells taken taken'
+cut_short_for number script fault first left tells taken taken' same exercise empty sink leaves = record {
   exercise = exercise;
   first = first;
   left = left;
   empty = empty;
-  stops = subst (λ (s : Script). StopsPlaying faults.Sink s first left false [] [] tells taken taken') same stops;
+  stops = subst (λ (s : Script). Leaves faults.Sink s first left false [] [] tells taken taken') same
+      (subst (λ (f : PlayFault). Leaves f script first left false [] [] tells taken taken') sink leaves);
 }

@@ -6,6 +6,7 @@ ghost use Rattle.exercise_run.specs.Exercises.{Exercised, IsCutShort, IsDone, Is
 use crate::packs::DrivePacks;
 use crate::text::exercise_lines;
 use answer_tally::Tally;
+use driver_runs::next_block_law;
 use event_player::play::{PlayFault, play};
 use hp_exercise::{bounds_law, script_of, spelling_law};
 use mass_outside::mem_streams::SureSink;
@@ -13,6 +14,7 @@ use mass_outside::traits::Sink;
 use mass_outside::whole::write_all;
 use run_promises::promises_law;
 use script_meaning::meaning_law;
+use script_reader::fault::ReadFault;
 use script_reader::script::{grammar_law, read_script};
 use std::alloc::Global;
 use thiserror::Error;
@@ -40,26 +42,30 @@ fn play_exercise<T: Sink>(alloc: Global, number: u64, trace: &mut T) -> Result<T
     grammar_law();
     spelling_law();
     bounds_law();
+    next_block_law();
     let Ok(text) = script_of(alloc, number) else {
         return Err(ExerciseFault::Memory);
     };
-    let Ok(script) = read_script(alloc, text) else {
-        return Err(ExerciseFault::Memory);
+    let script = match read_script(alloc, text) {
+        Ok(script) => script,
+        Err(ReadFault::Memory) => return Err(ExerciseFault::Memory),
+        Err(ReadFault::Refused { .. }) => unreachable!(),
     };
     let Ok(mut packs) = DrivePacks::new(alloc) else {
         return Err(ExerciseFault::Memory);
     };
     let mut answers = SureSink::new();
-    let played = play(alloc, &script, &mut packs, &mut answers, trace);
-    packs.outside_law();
-    match played {
+    match play(alloc, &script, &mut packs, &mut answers, trace) {
         Ok(tally) => Ok(tally),
-        Err(PlayFault::Sink) => Err(ExerciseFault::Sink),
         Err(PlayFault::Memory) => Err(ExerciseFault::Memory),
+        Err(PlayFault::Sink) => Err(ExerciseFault::Sink),
         // An empty image is not too long.
-        Err(PlayFault::TooLong { .. }) => Err(ExerciseFault::Memory),
-        // Nothing is written outside the drives, so the packs do not fail.
-        Err(PlayFault::Store) => Err(ExerciseFault::Memory),
+        Err(PlayFault::TooLong { .. }) => unreachable!(),
+        // Nothing is written outside the drives.
+        Err(PlayFault::Store) => {
+            packs.outside_law();
+            unreachable!()
+        }
     }
 }
 
@@ -68,7 +74,7 @@ fn play_exercise<T: Sink>(alloc: Global, number: u64, trace: &mut T) -> Result<T
 ///
 /// Memory comes only before the first line is played, with both sinks as they were. Sink comes only where the count of faults of `out`
 /// or of `trace` rose.
-pub fn exercise<O: Sink, T: Sink>(alloc: Global, number: u64, out: &mut O, trace: &mut T) -> Result<(), ExerciseFault>
+pub fn run_exercise<O: Sink, T: Sink>(alloc: Global, number: u64, out: &mut O, trace: &mut T) -> Result<(), ExerciseFault>
     ensures done { OnOk result (IsDone number (O.tells out.new) (O.taken out.old) (O.taken out.new) (T.tells trace.new) (T.taken trace.old) (T.taken trace.new)) }
     ensures stopped { IsErrOf result ExerciseFault.Sink → IsStopped number (O.tells out.new) (O.taken out.old) (O.taken out.new) (T.tells trace.new) (T.taken trace.old) (T.taken trace.new) }
     ensures sink { IsErrOf result ExerciseFault.Sink → Rose (O.faults out.old) (O.faults out.new) ⊎ Rose (T.faults trace.old) (T.faults trace.new) }

@@ -5,4 +5,4 @@ mod exercise;
 mod packs;
 mod text;
 
-pub use exercise::{ExerciseFault, exercise as play_and_print};
+pub use exercise::{ExerciseFault, run_exercise};
