@@ -237,9 +237,10 @@ plays_whole s tables old new is read ends = record {
 pub tally_whole : (s : Script) (tables : ℕ → Option Table) (old new : Stage) → IsScript s → AreTablesOf (drives_of s) old.held tables
     → old.tally ≡ tally_by (counted one_request s.lines) [] [] → EndsWith s tables old new
     → Tallied s old.held new.held new.out_tells old.said new.said new.trace_tells old.taken new.taken new.tally
-tally_whole s tables old new is read starts ends = record {
+unfolding plays_whole
+tally_whole s tables old new is read none_yet ends = record {
   plays = plays_whole s tables old new is read ends;
-  is = ends.tally (counted one_request s.lines) [] [] starts;
+  is = ends.tally (counted one_request s.lines) [] [] none_yet;
 }
 
 -- AT THE START
@@ -297,10 +298,10 @@ pub whole_for : (s : Script) (units slice : List UnitSetup) (requests noises : �
     → state ≡ record { world = new_world (setups_of slice) (min requests 16384) noises; outstanding = requests; failed = false } → old.world ≡ state.world
     → old.tally ≡ tally_by (counted one_request s.lines) [] [] → ((tables : ℕ → Option Table) → PlaysScript s tables old new)
     → Tallied s held new.held new.out_tells old.said new.said new.trace_tells old.taken new.taken new.tally
-whole_for s units slice requests noises state held old new script same set read same_held is world starts goes =
+whole_for s units slice requests noises state held old new script same set read same_held is world none_yet goes =
     let tables : ℕ → Option Table = tables_in (setups_of units) in
     let run : HasRun s tables old.held old.held 0 [] old.world [] =
     subst (λ (w : World). HasRun s tables old.held old.held 0 [] w []) (sym (world ∙ new_is units slice requests noises state same is))
     (starts_run s (setups_of units) (min requests 16384) noises old.held set) in
     subst (λ (h : ℕ → Pack). Tallied s h new.held new.out_tells old.said new.said new.trace_tells old.taken new.taken new.tally) same_held
-    (tally_whole s tables old new script (subst (λ (h : ℕ → Pack). AreTablesOf (drives_of s) h tables) (sym same_held) read) starts (goes tables run))
+    (tally_whole s tables old new script (subst (λ (h : ℕ → Pack). AreTablesOf (drives_of s) h tables) (sym same_held) read) none_yet (goes tables run))

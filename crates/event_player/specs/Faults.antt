@@ -6,7 +6,7 @@ use Rattle.driver_outcome.specs.declared.Stop.{Stop}
 use Rattle.driver_outcome.specs.declared.Stop.TheVariants as stop
 use Rattle.event_player.specs.declared.play.PlayFault.{PlayFault}
 use Rattle.event_player.specs.declared.play.PlayFault.TheVariants as fault
-use Rattle.event_player.specs.declared.play.Tally.{Tally}
+use Rattle.answer_tally.specs.declared.tally.Tally.{Tally}
 use Rattle.event_player.specs.Plays.{IsTooLong}
 
 -- nothing was played: there was no memory, or an image is too long

@@ -35,3 +35,6 @@ returns-in_err-gather_answer-clause-gathers g c =
     let first : IsFirst c.loop-answer.subsystem.world c.in-Some.answer = record { made = some.0; oldest = some.1; is = some.2 } in
     so_far_stops g.O.Sink.tells g.O.Sink.taken g.O.Sink.faults c.taken_law.ensures.waiting c.from_residual.result c.loop-answer.invariant.gathers c.law.ensures.sound first
     c.from_residual.ensures.0 c.in_err-gather_answer.ensures.gathers
+
+pub returns-clause-counts : goal.returns-clause-counts
+returns-clause-counts g c = all_counted c.loop-answer.invariant.counts (c.in_default.ensures.none.0 refl)
