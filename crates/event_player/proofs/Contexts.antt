@@ -128,6 +128,7 @@ module _ (script : Script) (tables : ℕ → Option Table) (first : ℕ → Pack
     inputs = next.inputs ∙ ap (λ (ns : List Numbered). ns ++ record { line = line; input = input } ∷ next.later) (sym told.run.inputs);
     opened = refl;
     opens = opens_line line input;
+    declared = told.run.kept.units;
     shows = told.run.so_far.left.stands.shows;
     trace = told.trace;
     out = λ t. text_next old.said text (before t) (told.out (too t));
@@ -267,6 +268,7 @@ later_stops script tables first line done later said taken now new fault input t
         inputs = told.inputs ∙ ap (λ (ns : List Numbered). ns ++ later) (sym told.drained.inputs);
         opened = refl;
         opens = opens_none;
+        declared = told.drained.kept.units;
         shows = subst (ShowsAll now.world) (sym told.drained.draining.ends.is) (drained_shows now.world told.drained.draining.ends.last told.drained.draining.ends.over.rests.shows);
         trace = told.trace;
         out = λ t. told.out t ∙ ap (λ (ms : List Moment). said ++ out_text ms) (sym (append-nil told.moments));

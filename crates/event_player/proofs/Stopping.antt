@@ -21,6 +21,7 @@ use Rattle.driver_work.specs.Runs.{Run, MayCome}
 use Rattle.driver_outcome.specs.Outcome.{IsFront, IsNextBlock}
 use Rattle.driver_outcome.specs.Packs.{ReadAll, packs_after_all}
 use Rattle.driver_outcome.proofs.Joined.{front_same, front_more, front_of_front}
+use Rattle.driver_runs.specs.Runs.{AreDeclared}
 use Rattle.driver_trace.specs.Calls.{IsReadOf}
 use Rattle.driver_trace.specs.Noises.{AllFlip}
 use Rattle.driver_trace.specs.Within.{ShowsAll}
@@ -77,6 +78,7 @@ pub record Context (script : Script) (tables : ℕ → Option Table) (first : �
   pub inputs : inputs_of script ≡ played done ++ later
   pub opened : later ≡ played opening ++ rest
   pub opens : IsOpening opening
+  pub declared : AreDeclared (drives_of script) now.world
   pub shows : ShowsAll now.world (after_moments (start_of script tables first) done)
   pub trace : IsTrue now.trace_tells → now.taken ≡ taken ++ trace_text done
   pub out : IsTrue now.out_tells → now.said ≡ said ++ out_text (done ++ opening)
@@ -93,6 +95,7 @@ unopened {said = said} {now = now} {opening = opening} ctx silent = record {
   inputs = ctx.inputs;
   opened = refl;
   opens = opens_none;
+  declared = ctx.declared;
   shows = ctx.shows;
   trace = ctx.trace;
   out = λ t. ctx.out t ∙ ap (λ (text : List ℕ). said ++ text)
@@ -433,6 +436,8 @@ module _ {script : Script} {tables : ℕ → Option Table} {first : ℕ → Pack
           inputs = at.ctx.inputs ∙ ap (λ (ms : List Moment). played ms ++ at.ctx.later) (sym (append-nil at.ctx.done));
         };
         world = now.world;
+        sound = at.sound;
+        declared = at.ctx.declared;
         shows = at.ctx.shows;
         adapter = moved.0;
         move = at.move moved.0 moved.1;

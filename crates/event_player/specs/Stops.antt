@@ -18,6 +18,7 @@ use Rattle.driver_machine.specs.Sound.{Sound, AtWork}
 use Rattle.driver_work.specs.Runs.{Run, MaySubmit}
 use Rattle.driver_outcome.specs.Outcome.{IsFront, IsNextBlock}
 use Rattle.driver_outcome.specs.Packs.{ReadAll, packs_after_all}
+use Rattle.driver_runs.specs.Runs.{AreDeclared}
 use Rattle.driver_trace.specs.Noises.{AllFlip}
 use Rattle.driver_trace.specs.Within.{ShowsAll}
 use Rattle.answer_lines.specs.AnswerText.{out_text}
@@ -85,12 +86,15 @@ abbrev pub IsAtMove : World → Replay → List Numbered → ℕ → Type 0
 IsAtMove w s later a = IsMoveLine a later ⊎ ((IsDrainLine later ⊎ IsTrue s.event.drains) × (next_event w ≡ Some (MoveAt a)))
 
 -- THE PACKS FAILED, at a move, which did nothing else: all that was said before is taken. The packs are as before, but for one block
--- at most, the next one of a write whose transfer is under way; the driver's world is that which the replay shows.
+-- at most, the next one of a write whose transfer is under way; the driver's world is that which the replay shows, of the units that are
+-- declared.
 pub record StopsAtStore (script : Script) (tables : ℕ → Option Table) (first left : ℕ → Pack) (out_tells : Bool) (said said' : List ℕ) (trace_tells : Bool) (taken taken' : List ℕ) : Type 0 where
   pub done : List Moment
   pub later : List Numbered
   pub came : CameTo script tables first done [] later
   pub world : World
+  pub sound : Sound world
+  pub declared : AreDeclared (drives_of script) world
   pub shows : ShowsAll world (after_moments (start_of script tables first) done)
   pub adapter : ℕ
   pub move : IsAtMove world (after_moments (start_of script tables first) done) later adapter

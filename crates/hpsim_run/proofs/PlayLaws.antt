@@ -8,7 +8,6 @@ use Rattle.script_reader.specs.Grammar.{IsRefused}
 use Rattle.trace_replay.specs.Script.{Script}
 use Rattle.event_player.specs.declared.play.PlayFault.{PlayFault}
 use Rattle.event_player.specs.declared.play.PlayFault.TheVariants as faults
-use Rattle.event_player.specs.declared.play.Tally.{Tally}
 use Rattle.event_player.specs.Faults.{IsPlaying, IsBefore, IsLongFor}
 use Rattle.hpsim_run.specs.declared.load.LoadFault.{LoadFault}
 use Rattle.hpsim_run.specs.declared.load.LoadFault.TheVariants as loading

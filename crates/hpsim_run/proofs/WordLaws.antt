@@ -32,13 +32,7 @@ a_kind text kind e = ap kind_named e ∙ kind_of_word kind
 pub no_kind : (text : List ℕ) → ((kind : DriveKind) → text ≢ kind_word kind) → kind_named text ≡ None
 no_kind text none = none_named kinds text none
 
--- two or three words are no command
-pub two_words : {X : Type 0} (text : X → List ℕ) (words : List X) → length words ≡ 2 → None ≡ command_named (map text words)
-two_words text [] e = absurd (omega (arith, e))
-two_words text (a ∷ []) e = absurd (omega (arith, e))
-two_words text (a ∷ b ∷ []) e = refl
-two_words text (a ∷ b ∷ c ∷ words) e = absurd (omega (arith, e))
-
+-- three words are no command
 pub three_words : {X : Type 0} (text : X → List ℕ) (words : List X) → length words ≡ 3 → None ≡ command_named (map text words)
 three_words text [] e = absurd (omega (arith, e))
 three_words text (a ∷ []) e = absurd (omega (arith, e))

@@ -10,9 +10,9 @@ use Rattle.mass_text.specs.Numbers.{number_of}
 use Rattle.mass_text.specs.declared.numbers.Radix.TheVariants.{Decimal}
 use Rattle.bad144_tool.specs.declared.edit.AddWay.{AddWay}
 use Rattle.hpsim_run.specs.declared.words.Command.{Command}
-use Rattle.hpsim_run.specs.declared.words.Command.TheVariants.{Play, ListTable, AddBlock, FreshTable}
+use Rattle.hpsim_run.specs.declared.words.Command.TheVariants.{Play, ListTable, AddBlock, FreshTable, Exercise}
 
--- a unit is 0 to 31, a block one of the drive's, and a serial number is below 2^32; all are decimal
+-- a unit is 0 to 31, a block one of the drive's, a serial number is below 2^32, and the number of an exercise below 2^64; all are decimal
 abbrev pub unit_named : List ℕ → Option ℕ
 unit_named word = result_ok (number_of Decimal 31 word)
 
@@ -21,6 +21,9 @@ block_named kind word = result_ok (number_of Decimal (block_count kind - 1) word
 
 abbrev pub serial_named : List ℕ → Option ℕ
 serial_named word = result_ok (number_of Decimal (2 ^ 32 - 1) word)
+
+abbrev pub number_named : List ℕ → Option ℕ
+number_named word = result_ok (number_of Decimal (2 ^ 64 - 1) word)
 
 -- `rp06`, `rm03` or `rm05`
 abbrev pub kinds : List DriveKind
@@ -82,11 +85,16 @@ abbrev pub tool_named : List ℕ → List ℕ → List ℕ → List (List ℕ) �
 tool_named verb unit kind [] = if bytes_eq verb (codes "list") then list_named (unit_named unit) (kind_named kind) else None
 tool_named verb unit kind (word ∷ words) = one_more_named verb unit kind word words
 
--- THE COMMAND of the words: `play`, or one of `bad144`
+-- `exercise N`
+abbrev pub exercise_named : Option ℕ → Option Command
+exercise_named None = None
+exercise_named (Some number) = Some (Exercise number)
+
+-- THE COMMAND of the words: `play`, one of `bad144`, or `exercise`
 abbrev pub command_named : List (List ℕ) → Option Command
 command_named [] = None
 command_named (word ∷ []) = if bytes_eq word (codes "play") then Some Play else None
-command_named (tool ∷ verb ∷ []) = None
+command_named (word ∷ number ∷ []) = if bytes_eq word (codes "exercise") then exercise_named (number_named number) else None
 command_named (tool ∷ verb ∷ unit ∷ []) = None
 command_named (tool ∷ verb ∷ unit ∷ kind ∷ words) = if bytes_eq tool (codes "bad144") then tool_named verb unit kind words else None
 
@@ -96,3 +104,4 @@ IsValid Play = Unit {0}
 IsValid (ListTable unit kind) = unit < 32
 IsValid (AddBlock unit kind block way) = (unit < 32) × (block < block_count kind)
 IsValid (FreshTable unit kind serial) = unit < 32
+IsValid (Exercise number) = number < 2 ^ 64

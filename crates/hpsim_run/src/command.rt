@@ -5,6 +5,7 @@ ghost use Rattle.script_reader.specs.Known.{Numbered};
 ghost use Rattle.script_reader.specs.Words.{all_verbs};
 ghost use Rattle.script_meaning.specs.Meaning.{meaning};
 ghost use Rattle.event_player.specs.Plays.{IsTooLong};
+ghost use Rattle.hpsim_run.specs.Exercises.{RunsExercise};
 ghost use Rattle.hpsim_run.specs.Headline.{Headline, HasStopped, SpellNone, TellsRefusal, TellsTooLong, longest};
 ghost use Rattle.event_player.specs.declared.play.PlayFault.TheVariants.{Store as StoreFault, Sink as SinkFault};
 ghost use Rattle.hpsim_run.specs.Statuses.{status_code, IsPlayStatus, IsStatus};
@@ -12,9 +13,10 @@ ghost use Rattle.hpsim_run.specs.Tools.{RunsAdd, RunsFresh, RunsList};
 ghost use Rattle.hpsim_run.specs.Words.{command_of as the_command, usage_text, Told};
 ghost use Rattle.pack_geometry.specs.declared.DriveKind.{DriveKind};
 ghost use Rattle.bad144_tool.specs.declared.edit.AddWay.{AddWay};
-ghost use Rattle.hpsim_run.specs.declared.words.Command.TheVariants.{Play, ListTable, AddBlock, FreshTable};
+ghost use Rattle.hpsim_run.specs.declared.words.Command.TheVariants.{Play, ListTable, AddBlock, FreshTable, Exercise};
 ghost use Rattle.hpsim_run.specs.declared.status.Status.TheVariants.{Done, Usage, Refused, SourceFailed, SinkFailed, PacksFailed, TooLong, OutOfMemory};
 
+use crate::exercise::run_exercise;
 use crate::load::{LoadFault, load};
 use crate::status::Status;
 use crate::text::{refusal, too_long, usage};
@@ -95,10 +97,11 @@ fn run_play<S: Source, P: Packs, O: Sink, T: Sink>(
 /// `play` reads a script from the source and plays it over the packs; the answers go to `out`, and the trace to
 /// `trace`. `bad144 list U KIND`, `bad144 add U KIND BLOCK [copy] [mark]` and `bad144 fresh U KIND SERIAL` list a
 /// pack's bad-sector table, add a block to it, and write an empty one; they read no script.
+/// `exercise N` plays the script of a number over empty packs of its own, and prints its tally; its trace goes to `trace`.
 ///
 /// | code | status | comes | printed on `out` |
 /// |---|---|---|---|
-/// | 0 | Done | done | the answers' text |
+/// | 0 | Done | done | the answers' text, the tool's, or the exercise's four lines |
 /// | 2 | Usage | exactly where the words are no command | the usage |
 /// | 3 | Refused | only where the source's bytes spell no script, and there unless 4 or 9 comes first | `refused line L KIND` |
 /// | 4 | SourceFailed | only where the source's count of faults rose | nothing |
@@ -106,7 +109,7 @@ fn run_play<S: Source, P: Packs, O: Sink, T: Sink>(
 /// | 6 | PacksFailed | only where the packs' count rose | nothing further |
 /// | 7 | TooLong | exactly where the image of a declared unit, or of the unit of a `bad144` command, is longer than its pack | `too long unit U length L` |
 /// | 8 | ToolRefused | exactly where `bad144 add` is refused | `refused no table`, `refused reserved`, `refused listed I`, `refused full`, `refused spare I` |
-/// | 9 | OutOfMemory | there was no memory, before the first line was played | nothing |
+/// | 9 | OutOfMemory | there was no memory, before the first line was played; only of `play` and `exercise` | nothing |
 pub fn run<S: Source, P: Packs, O: Sink, T: Sink>(
     alloc: Global,
     words: &[String],
@@ -159,6 +162,13 @@ pub fn run<S: Source, P: Packs, O: Sink, T: Sink>(
         RunsFresh kind unit serial result (P.tells packs.new) (P.held packs.old) (P.held packs.new)
         (O.tells out.new) (O.taken out.old) (O.taken out.new) (O.faults out.old) (O.faults out.new) }
 
+    // The exercise, which leaves the packs that are handed in alone.
+    ensures exercise { (number : ℕ) → the_command words.now ≡ Some (Exercise number) →
+        RunsExercise number result (O.tells out.new) (O.taken out.old) (O.taken out.new) (T.tells trace.new) (T.taken trace.old) (T.taken trace.new) }
+    ensures exercise_ends { (number : ℕ) → the_command words.now ≡ Some (Exercise number) →
+        ¬ Rose (O.faults out.old) (O.faults out.new) → ¬ Rose (T.faults trace.old) (T.faults trace.new) → (result ≡ status_code Done) ⊎ (result ≡ status_code OutOfMemory) }
+    ensures exercise_packs { (number : ℕ) → the_command words.now ≡ Some (Exercise number) → packs.new ≡ packs.old }
+
     // What a refusal prints and leaves.
     ensures usage_told { result ≡ status_code Usage → IsTrue (O.tells out.new) →
         Told (O.taken out.old) (O.taken out.new) usage_text (O.faults out.old) (O.faults out.new) }
@@ -169,7 +179,7 @@ pub fn run<S: Source, P: Packs, O: Sink, T: Sink>(
     ensures same { (result ≡ status_code TooLong) ⊎ (result ≡ status_code OutOfMemory) → IsTrue (P.tells packs.new) → P.held packs.new ≡ P.held packs.old }
     ensures untraced { (result ≡ status_code Refused) ⊎ (result ≡ status_code SourceFailed) ⊎ (result ≡ status_code TooLong) ⊎ (result ≡ status_code OutOfMemory)
         → trace.new ≡ trace.old }
-    ensures untraced_tool { the_command words.now ≢ Some Play → trace.new ≡ trace.old }
+    ensures untraced_tool { the_command words.now ≢ Some Play → ((number : ℕ) → the_command words.now ≢ Some (Exercise number)) → trace.new ≡ trace.old }
 {
     match command_of(words) {
         None => {
@@ -189,5 +199,6 @@ pub fn run<S: Source, P: Packs, O: Sink, T: Sink>(
         Some(Command::FreshTable { unit, kind, serial }) => {
             run_fresh(packs, out, unit, kind, serial).code()
         }
+        Some(Command::Exercise { number }) => run_exercise(alloc, number, out, trace).code(),
     }
 }

@@ -2,6 +2,7 @@
 #![tactic(auto)]
 
 mod command;
+mod exercise;
 mod load;
 mod status;
 mod text;
@@ -11,6 +12,8 @@ mod words;
 pub use command::run;
 pub use status::Status;
 
+#[cfg(test)]
+mod exercise_tests;
 #[cfg(test)]
 mod rows;
 #[cfg(test)]

@@ -1,7 +1,7 @@
 ghost use Rattle.std.specs.Prelude.{◌≡◌, ◌<◌, ◌-◌, ◌+◌, ◌^◌, map, IfSome, IfOk, Some, None};
 ghost use Rattle.std.specs.String.{string_bytes};
 ghost use Rattle.pack_geometry.specs.Geometry.{block_count};
-ghost use Rattle.hpsim_run.specs.Commands.{IsValid, add_named, block_named, both_named, one_named, command_named, fresh_named, kind_named, list_named, serial_named, tool_named, unit_named, way_named};
+ghost use Rattle.hpsim_run.specs.Commands.{IsValid, add_named, block_named, both_named, one_named, command_named, exercise_named, fresh_named, kind_named, list_named, number_named, serial_named, tool_named, unit_named, way_named};
 
 use bad144_tool::AddWay;
 use mass_text::{Radix, number};
@@ -29,6 +29,10 @@ pub enum Command {
         unit: u8,
         kind: DriveKind,
         serial: u32,
+    },
+    /// The script of a number is played, and its tally is printed.
+    Exercise {
+        number: u64,
     },
 }
 
@@ -60,6 +64,16 @@ fn serial_in(word: &str) -> Option<u32>
 {
     match number(word.as_bytes(), Radix::Decimal, u64::from(u32::MAX)) {
         Ok(serial) => Some(serial as u32),
+        Err(_) => None,
+    }
+}
+
+/// The number of an exercise in decimal, below 2^64.
+fn number_in(word: &str) -> Option<u64>
+    ensures { result ≡ number_named word.now }
+{
+    match number(word.as_bytes(), Radix::Decimal, u64::MAX) {
+        Ok(value) => Some(value),
         Err(_) => None,
     }
 }
@@ -174,6 +188,16 @@ fn fresh_command(unit: &str, kind: &str, serial: &str) -> Option<Command>
     Some(Command::FreshTable { unit, kind, serial })
 }
 
+fn exercise_command(number: &str) -> Option<Command>
+    ensures named { result ≡ exercise_named (number_named number.now) }
+    ensures valid { IfSome result IsValid }
+{
+    let Some(number) = number_in(number) else {
+        return None;
+    };
+    Some(Command::Exercise { number })
+}
+
 /// A command of `bad144`, by its verb, a unit, a kind, and the words behind them.
 fn tool_command(verb: &str, unit: &str, kind: &str, rest: &[String]) -> Option<Command>
     ensures named { result ≡ tool_named verb.now unit.now kind.now (map string_bytes rest.now) }
@@ -216,8 +240,13 @@ pub fn command_of(words: &[String]) -> Option<Command>
             }
             None
         }
+        [word, number] => {
+            if word.as_str() == "exercise" {
+                return exercise_command(number.as_str());
+            }
+            None
+        }
         [] => None,
-        [_, _] => None,
         [_, _, _] => None,
     }
 }

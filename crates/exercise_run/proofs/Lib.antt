@@ -1,0 +1,4 @@
+mod TextLaws
+mod AnsweredLaws
+mod DriveLaws
+mod ExerciseLaws

@@ -1,0 +1,66 @@
+-- What an exercise has done.
+use Rattle.std.specs.Prelude.{◌≡◌, ◌⊎◌, ℕ, false, Bool, IsTrue, List, [], ◌++◌}
+use Rattle.pack_model.specs.Pack.{Pack}
+use Rattle.mass_outside.specs.Puts.{TakesFront}
+use Rattle.script_reader.specs.Grammar.{Spells}
+use Rattle.script_reader.specs.Known.{Numbered}
+use Rattle.script_reader.specs.Printing.{numbered}
+use Rattle.script_reader.specs.Words.{all_verbs}
+use Rattle.script_meaning.specs.Meaning.{meaning}
+use Rattle.trace_replay.specs.Script.{Script, inputs_of}
+use Rattle.block_machine.specs.LegalAnswers.{AreNoAliases}
+use Rattle.answer_tally.specs.declared.tally.Tally.{Tally}
+use Rattle.event_player.specs.declared.play.PlayFault.TheVariants as faults
+use Rattle.event_player.specs.Plays.{Tallied}
+use Rattle.event_player.specs.Stops.{StopsPlaying}
+use Rattle.hp_exercise.specs.Exercise.{script_text}
+use Rattle.hp_exercise.specs.Statements.{script_statements}
+use Rattle.run_promises.specs.Promises.{Promises}
+use Rattle.exercise_run.specs.Drives.{AreEmpty}
+use Rattle.exercise_run.specs.ExerciseText.{exercise_text}
+
+-- THE SCRIPT of a number, in 2,051 lines
+abbrev pub exercise_lines : ℕ → List Numbered
+exercise_lines number = numbered 1 (script_statements number)
+
+abbrev pub exercise_script : ℕ → Script
+exercise_script number = meaning (exercise_lines number) 2051
+
+-- The text of the number spells its script, which arms no alias noise.
+pub record IsExercise (number : ℕ) : Type 0 where
+  pub spelled : Spells all_verbs (script_text number) (exercise_lines number) 2051
+  pub no_alias : AreNoAliases (inputs_of (exercise_script number))
+
+-- IT WAS PLAYED in a legal run over empty packs, of which all is promised that is promised of a run of `play`. Where the trace tells, it
+-- took just the run's lines. The tally is that of the run, and each request was answered.
+pub record Exercised (number : ℕ) (trace_tells : Bool) (taken taken' : List ℕ) (tally : Tally) : Type 0 where
+  pub exercise : IsExercise number
+  pub first : ℕ → Pack
+  pub last : ℕ → Pack
+  pub empty : AreEmpty first
+  pub played : Tallied (exercise_script number) first last false [] [] trace_tells taken taken' tally
+  pub keeps : Promises (exercise_script number) played.plays.tables first last played.plays.moments
+  pub answered : tally.answers ≡ tally.requests
+
+-- and where the sink tells, it took the four lines of that tally.
+pub record IsDone (number : ℕ) (out_tells : Bool) (said said' : List ℕ) (trace_tells : Bool) (taken taken' : List ℕ) : Type 0 where
+  pub tally : Tally
+  pub exercised : Exercised number trace_tells taken taken' tally
+  pub told : IsTrue out_tells → said' ≡ said ++ exercise_text number tally
+
+-- A SINK FAILED: the trace, and the script was played so far; or the other sink, and it took a front of the four lines.
+pub record IsCutShort (number : ℕ) (trace_tells : Bool) (taken taken' : List ℕ) : Type 0 where
+  pub exercise : IsExercise number
+  pub first : ℕ → Pack
+  pub left : ℕ → Pack
+  pub empty : AreEmpty first
+  pub stops : StopsPlaying faults.Sink (exercise_script number) first left false [] [] trace_tells taken taken'
+
+pub record IsUntold (number : ℕ) (out_tells : Bool) (said said' : List ℕ) (trace_tells : Bool) (taken taken' : List ℕ) : Type 0 where
+  pub tally : Tally
+  pub exercised : Exercised number trace_tells taken taken' tally
+  pub front : IsTrue out_tells → TakesFront said said' (exercise_text number tally)
+
+abbrev pub IsStopped : (number : ℕ) (out_tells : Bool) (said said' : List ℕ) (trace_tells : Bool) (taken taken' : List ℕ) → Type 0
+IsStopped number out_tells said said' trace_tells taken taken' =
+    ((said' ≡ said) × IsCutShort number trace_tells taken taken') ⊎ IsUntold number out_tells said said' trace_tells taken taken'
