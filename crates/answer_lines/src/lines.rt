@@ -10,17 +10,18 @@ use crate::outcome::Outcome;
 use crate::words::{class_word, put_outcome};
 use fire_code::NoiseClass;
 use mass_text::{LineBuf, Radix, content_law, numeral_law};
+use short_line::ShortLine;
 
 /// The line of the answer to the request of an id, which came at a line of the script.
-pub fn answer_line(line: u64, id: u32, outcome: Outcome) -> LineBuf
+pub fn answer_line(line: u64, id: u32, outcome: Outcome) -> ShortLine
     ensures { (bytes : List ℕ) → result ≡ answer_line line id (answer_of bytes outcome) }
 {
     numeral_law(Radix::Decimal);
-    let mut text = LineBuf::new();
+    let mut text = ShortLine::new();
     text.put("ans ");
-    text.put_number(u64::from(id), Radix::Decimal);
+    text.put_number(u64::from(id));
     text.put(" at ");
-    text.put_number(line, Radix::Decimal);
+    text.put_number(line);
     text.put(" ");
     put_outcome(&mut text, outcome);
     text.put("\n");
@@ -45,15 +46,15 @@ pub fn block_line(k: u32, bytes: &[u8]) -> LineBuf
 }
 
 /// The line of noise of a class that is armed at a line of the script.
-pub fn noise_line(line: u64, class: NoiseClass) -> LineBuf
+pub fn noise_line(line: u64, class: NoiseClass) -> ShortLine
     ensures text { result ≡ noise_text line class }
     ensures said { (noise : LiveNoise) → IsNoise noise.places → Classes class noise.places
         → result ≡ said_text (Played line (Noise noise)) }
 {
     numeral_law(Radix::Decimal);
-    let mut text = LineBuf::new();
+    let mut text = ShortLine::new();
     text.put("noise ");
-    text.put_number(line, Radix::Decimal);
+    text.put_number(line);
     text.put(" ");
     text.put(class_word(class));
     text.put("\n");
