@@ -4,7 +4,8 @@ ghost use Rattle.answer_lines.specs.Outcomes.{answer_of, cause_of};
 
 use crate::outcome::{Cause, Outcome};
 use fire_code::NoiseClass;
-use mass_text::{LineBuf, Radix, numeral_law};
+use mass_text::{Radix, numeral_law};
+use short_line::ShortLine;
 
 /// The word of a class of noise.
 pub(crate) fn class_word(class: NoiseClass) -> &'static str
@@ -32,7 +33,7 @@ fn cause_word(cause: Cause) -> &'static str
 }
 
 /// Puts an error, and how many blocks were done.
-fn put_error(text: &mut LineBuf, cause: &str, done: u32)
+fn put_error(text: &mut ShortLine, cause: &str, done: u32)
     requires room { length text.old ≤ 100 }
     requires short { length cause.now ≤ 11 }
     ensures text { text.new ≡ text.old ++ error_words cause.now done }
@@ -42,11 +43,11 @@ fn put_error(text: &mut LineBuf, cause: &str, done: u32)
     text.put("error ");
     text.put(cause);
     text.put(" done ");
-    text.put_number(u64::from(done), Radix::Decimal);
+    text.put_number(u64::from(done));
 }
 
 /// Puts how a request was answered. Which bytes a read gives makes no difference.
-pub(crate) fn put_outcome(text: &mut LineBuf, outcome: Outcome)
+pub(crate) fn put_outcome(text: &mut ShortLine, outcome: Outcome)
     requires room { length text.old ≤ 100 }
     ensures text { (bytes : List ℕ) → text.new ≡ text.old ++ answer_words (answer_of bytes outcome) }
     ensures room { length text.new ≤ length text.old + 60 }

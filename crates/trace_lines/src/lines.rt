@@ -6,14 +6,14 @@ ghost use Rattle.trace_lines.specs.Deeds.{deed_of};
 
 use crate::telling::Told;
 use crate::words::{first_word, put_last, put_number};
-use mass_text::LineBuf;
+use short_line::ShortLine;
 
 /// The line of a deed at a unit for the request of an id, with the number of the script's line. An end's line says nothing
 /// of its answer.
-pub fn line(number: u64, unit: u8, id: u32, told: Told) -> LineBuf
+pub fn line(number: u64, unit: u8, id: u32, told: Told) -> ShortLine
     ensures { (answer : Answer) → result ≡ moment_text (moments.Told number unit id (deed_of answer told)) }
 {
-    let mut text = LineBuf::new();
+    let mut text = ShortLine::new();
     text.put(first_word(&told));
     put_number(&mut text, number);
     put_number(&mut text, u64::from(unit));
@@ -24,10 +24,10 @@ pub fn line(number: u64, unit: u8, id: u32, told: Told) -> LineBuf
 }
 
 /// The line of an event that found nothing to do.
-pub fn idle(number: u64) -> LineBuf
+pub fn idle(number: u64) -> ShortLine
     ensures { result ≡ moment_text (moments.Idle number) }
 {
-    let mut text = LineBuf::new();
+    let mut text = ShortLine::new();
     text.put("idle");
     put_number(&mut text, number);
     text.put("\n");

@@ -9,6 +9,7 @@ use crate::telling::Told;
 use drive_registers::OffsetCode;
 use hardware_table::{FaultKind, Moved};
 use mass_text::{LineBuf, Radix, numeral_law};
+use short_line::ShortLine;
 
 /// The first word of a line.
 pub(crate) fn first_word(told: &Told) -> &'static str
@@ -65,7 +66,7 @@ fn transfer_word(write: bool) -> &'static str
 
 /// Puts a space and a word.
 #[tactic(auto, unfolding(crate::specs::Deeds::with_words))]
-fn put_word(text: &mut LineBuf, word: &str)
+fn put_word(text: &mut ShortLine, word: &str)
     requires room { length text.old ≤ 200 }
     requires short { length word.now ≤ 7 }
     ensures text { text.new ≡ with_words text.old (word.now ∷ []) }
@@ -77,31 +78,33 @@ fn put_word(text: &mut LineBuf, word: &str)
 
 /// Puts a space and a number.
 #[tactic(auto, unfolding(crate::specs::Deeds::with_words))]
-pub(crate) fn put_number(text: &mut LineBuf, value: u64)
+pub(crate) fn put_number(text: &mut ShortLine, value: u64)
     requires room { length text.old ≤ 200 }
     ensures text { text.new ≡ with_words text.old (decimal value ∷ []) }
     ensures room { length text.new ≤ length text.old + 23 }
 {
     numeral_law(Radix::Decimal);
     text.put(" ");
-    text.put_number(value, Radix::Decimal);
+    text.put_number(value);
 }
 
 /// Puts a space and a pattern, which is octal.
 #[tactic(auto, unfolding(crate::specs::Deeds::with_words))]
-fn put_pattern(text: &mut LineBuf, value: u64)
+fn put_pattern(text: &mut ShortLine, value: u64)
     requires room { length text.old ≤ 200 }
     ensures text { text.new ≡ with_words text.old (numeral Octal value ∷ []) }
     ensures room { length text.new ≤ length text.old + 23 }
 {
     numeral_law(Radix::Octal);
+    let mut digits = LineBuf::new();
+    digits.put_number(value, Radix::Octal);
     text.put(" ");
-    text.put_number(value, Radix::Octal);
+    text.put_bytes(digits.as_bytes());
 }
 
 /// Puts two numbers.
 #[tactic(auto, using(crate::proofs::WordLaws::two_words))]
-fn put_pair(text: &mut LineBuf, first: u32, second: u32)
+fn put_pair(text: &mut ShortLine, first: u32, second: u32)
     requires room { length text.old ≤ 150 }
     ensures text { text.new ≡ with_words text.old (decimal first ∷ decimal second ∷ []) }
     ensures room { length text.new ≤ length text.old + 46 }
@@ -112,7 +115,7 @@ fn put_pair(text: &mut LineBuf, first: u32, second: u32)
 
 /// Puts two words.
 #[tactic(auto, using(crate::proofs::WordLaws::two_words))]
-fn put_words(text: &mut LineBuf, first: &str, second: &str)
+fn put_words(text: &mut ShortLine, first: &str, second: &str)
     requires room { length text.old ≤ 150 }
     requires first { length first.now ≤ 7 }
     requires second { length second.now ≤ 7 }
@@ -125,7 +128,7 @@ fn put_words(text: &mut LineBuf, first: &str, second: &str)
 
 /// Puts a word and a number.
 #[tactic(auto, using(crate::proofs::WordLaws::two_words))]
-fn put_named(text: &mut LineBuf, word: &str, value: u32)
+fn put_named(text: &mut ShortLine, word: &str, value: u32)
     requires room { length text.old ≤ 150 }
     requires short { length word.now ≤ 7 }
     ensures text { text.new ≡ with_words text.old (word.now ∷ decimal value ∷ []) }
@@ -137,7 +140,7 @@ fn put_named(text: &mut LineBuf, word: &str, value: u32)
 
 /// Puts a word and two numbers.
 #[tactic(auto, using(crate::proofs::WordLaws::more_words))]
-fn put_named_pair(text: &mut LineBuf, word: &str, first: u32, second: u32)
+fn put_named_pair(text: &mut ShortLine, word: &str, first: u32, second: u32)
     requires room { length text.old ≤ 100 }
     requires short { length word.now ≤ 7 }
     ensures text { text.new ≡ with_words text.old (word.now ∷ decimal first ∷ decimal second ∷ []) }
@@ -149,7 +152,7 @@ fn put_named_pair(text: &mut LineBuf, word: &str, first: u32, second: u32)
 
 /// Puts a burst: its first place and its pattern.
 #[tactic(auto, using(crate::proofs::WordLaws::two_words, crate::proofs::WordLaws::more_words))]
-fn put_burst(text: &mut LineBuf, at: u16, pattern: u16)
+fn put_burst(text: &mut ShortLine, at: u16, pattern: u16)
     requires room { length text.old ≤ 130 }
     ensures text { text.new ≡ with_words text.old (verdict_words (Moved.Burst at pattern)) }
     ensures room { length text.new ≤ length text.old + 54 }
@@ -159,7 +162,7 @@ fn put_burst(text: &mut LineBuf, at: u16, pattern: u16)
 }
 
 /// Puts a verdict.
-fn put_verdict(text: &mut LineBuf, verdict: Moved)
+fn put_verdict(text: &mut ShortLine, verdict: Moved)
     requires room { length text.old ≤ 130 }
     ensures text { text.new ≡ with_words text.old (verdict_words verdict) }
     ensures room { length text.new ≤ length text.old + 54 }
@@ -176,7 +179,7 @@ fn put_verdict(text: &mut LineBuf, verdict: Moved)
 
 /// Puts a block and a verdict.
 #[tactic(auto, using(crate::proofs::WordLaws::more_words))]
-fn put_sector(text: &mut LineBuf, block: u32, verdict: Moved)
+fn put_sector(text: &mut ShortLine, block: u32, verdict: Moved)
     requires room { length text.old ≤ 100 }
     ensures text { text.new ≡ with_words text.old (decimal block ∷ verdict_words verdict) }
     ensures room { length text.new ≤ length text.old + 77 }
@@ -187,7 +190,7 @@ fn put_sector(text: &mut LineBuf, block: u32, verdict: Moved)
 
 /// Puts nothing.
 #[tactic(auto, using(crate::proofs::WordLaws::no_words))]
-fn put_nothing(text: &mut LineBuf)
+fn put_nothing(text: &mut ShortLine)
     ensures text { text.new ≡ with_words text.old [] }
     ensures room { length text.new ≤ length text.old }
 {
@@ -195,7 +198,7 @@ fn put_nothing(text: &mut LineBuf)
 }
 
 /// Puts the words that a line is told with, behind its numbers.
-pub(crate) fn put_last(text: &mut LineBuf, told: &Told)
+pub(crate) fn put_last(text: &mut ShortLine, told: &Told)
     requires room { length text.old ≤ 100 }
     ensures text { (answer : Answer) → text.new ≡ with_words text.old (last_words (deed_of answer told.now)) }
     ensures room { length text.new ≤ length text.old + 77 }
