@@ -1,5 +1,5 @@
 // The answers that wait are counted and written, and then they are taken.
-ghost use Rattle.std.specs.Prelude.{◌≡◌, ◌+◌, ◌==◌, ◌<◌, ◌≤◌, ℕ, List, [], ◌∷◌, if◌then◌else◌, OnOk, take, slice_index_or};
+ghost use Rattle.std.specs.Prelude.{◌≡◌, ◌+◌, ◌==◌, ◌<◌, ◌≤◌, ℕ, List, [], ◌∷◌, if◌then◌else◌, OnOk, length, take, slice_index_or};
 ghost use Rattle.mass_outside.specs.Puts.{Puts};
 ghost use Rattle.mass_gather.specs.Gathers.{Gathers};
 ghost use Rattle.answer_lines.specs.AnswerText.{block_text};
@@ -13,7 +13,7 @@ ghost use Rattle.event_player.specs.Answering.{first_blocks, first_told, first_t
 ghost use Rattle.event_player.specs.Steps.{all_taken, waiting_text};
 
 use crate::desk::Desk;
-use answer_lines::{Outcome, answer_line, block_line};
+use answer_lines::{Outcome, answer_line, block_line, fill_line, is_fill};
 use driver_answers::taken_law;
 use hp_driver::{Answer, AnswerKind, Cause, Subsystem};
 use mass_outside::traits::{Sink, SinkFailed};
@@ -72,6 +72,23 @@ fn front(bytes: &[u8; 512], size: u32) -> &[u8]
     &bytes.as_slice()[..size as usize]
 }
 
+/// Gathers the line of block `k`, which has these bytes. Where they are one byte repeated, it is a short one.
+fn put_block<O: Sink>(k: u32, bytes: &[u8], desk: &mut Desk, out: &mut O) -> Result<(), SinkFailed>
+    requires some { 1 ≤ length bytes.now }
+    requires few { length bytes.now ≤ 512 }
+    ensures gathers { Gathers O.tells O.taken O.faults out.old out.new desk.old.gather desk.new.gather result (block_text k bytes.now) }
+    ensures counts { Counts [] (block_text k bytes.now) desk.old.tally desk.new.tally }
+    ensures requests { desk.new.tally.requests ≡ desk.old.tally.requests }
+{
+    if is_fill(bytes) {
+        let fill = fill_line(k, bytes[0]);
+        desk.put(fill.as_bytes(), out)
+    } else {
+        let line = block_line(k, bytes);
+        desk.put(line.as_bytes(), out)
+    }
+}
+
 /// Gathers the line of block `k`, of so many bytes, of the read that the oldest answer is of.
 fn gather_block<O: Sink>(
     subsystem: &Subsystem,
@@ -88,8 +105,7 @@ fn gather_block<O: Sink>(
 {
     let mut bytes = [0u8; 512];
     subsystem.answer_block(k, &mut bytes);
-    let line = block_line(k, front(&bytes, size));
-    desk.put(line.as_bytes(), out)
+    put_block(k, front(&bytes, size), desk, out)
 }
 
 /// Gathers the lines of the blocks of the read that the oldest answer is of: `count` of them, the last one with `last` bytes.

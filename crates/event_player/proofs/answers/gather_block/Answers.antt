@@ -10,13 +10,13 @@ returns-clause-gathers g c =
     let w = c.args.subsystem.now.world in
     let block = c.requires.block in
     let given = block_given block c.answer_block.new.into (c.answer_block.ensures block.reads.made block.slot block.reads.oldest block.slot_is) in
-    gathers_same (block_text c.args.k (slice_index_or (first_blocks w w.answers) c.args.k [])) c.put.ensures.gathers
-    (c.as_bytes.ensures.text ∙ c.block_line-line.ensures ∙ ap (λ (bytes : List ℕ). block_text c.args.k bytes) (c.front.ensures ∙ given))
+    gathers_same (block_text c.args.k (slice_index_or (first_blocks w w.answers) c.args.k [])) c.put_block.ensures.gathers
+    (ap (λ (bytes : List ℕ). block_text c.args.k bytes) (c.front.ensures ∙ given))
 
 pub returns-clause-counts : goal.returns-clause-counts
 returns-clause-counts g c =
     let w = c.args.subsystem.now.world in
     let block = c.requires.block in
     let given = block_given block c.answer_block.new.into (c.answer_block.ensures block.reads.made block.slot block.reads.oldest block.slot_is) in
-    counts_same c.args.desk.now.tally c.put.new.self.tally [] [] c.as_bytes.result.now (block_text c.args.k (slice_index_or (first_blocks w w.answers) c.args.k [])) c.put.ensures.counts refl
-    (c.as_bytes.ensures.text ∙ c.block_line-line.ensures ∙ ap (λ (bytes : List ℕ). block_text c.args.k bytes) (c.front.ensures ∙ given))
+    counts_same c.args.desk.now.tally c.put_block.new.desk.tally [] [] (block_text c.args.k c.front.result.now) (block_text c.args.k (slice_index_or (first_blocks w w.answers) c.args.k [])) c.put_block.ensures.counts refl
+    (ap (λ (bytes : List ℕ). block_text c.args.k bytes) (c.front.ensures ∙ given))
