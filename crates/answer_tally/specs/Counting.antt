@@ -1,5 +1,5 @@
 -- THE TALLY of a run: its answers, how many of them are ok, and the length and the sum of the answer text.
-use Rattle.std.specs.Prelude.{◌≡◌, ℕ, ◌-◌, ◌%◌, ◌^◌, min, Bool, true, false, List, [], ◌∷◌, ◌++◌, length, sum, count_by}
+use Rattle.std.specs.Prelude.{◌≡◌, ℕ, ◌-◌, ◌%◌, ◌^◌, min, Bool, true, false, List, ◌++◌, length, sum, count_by}
 use Rattle.subsystem_spec.specs.Requests.{Answer, ReadOk, WriteOk}
 use Rattle.trace_replay.specs.Moments.{Moment, Answered, answers_in}
 use Rattle.answer_lines.specs.AnswerText.{out_text}

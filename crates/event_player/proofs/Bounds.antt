@@ -1,5 +1,5 @@
 -- The blocks that are outstanding are few: at most 127 for each slot of the driver, at each of 32 units.
-use Rattle.std.proofs.Common.{◌≡◌, ◌⊎◌, inl, inr, ℕ, zero, suc, ◌+◌, ◌-◌, ◌*◌, ◌^◌, ◌<◌, ◌≤◌, Bool, true, false, List, [], ◌∷◌, length, map, filter, Option, Some, None, refl, sym, ap, subst, arith, ◌∙◌}
+use Rattle.std.proofs.Common.{◌≡◌, ℕ, zero, suc, ◌+◌, ◌-◌, ◌*◌, ◌^◌, ◌<◌, ◌≤◌, Bool, true, false, List, [], ◌∷◌, length, filter, Option, Some, refl, sym, ap, subst, arith}
 use Rattle.std.specs.Prelude.{if◌then◌else◌, unwrap_or, Contains}
 use Rattle.std.proofs.lemmas.List.{length-map}
 use Rattle.pack_geometry.specs.declared.DriveKind.{DriveKind}
@@ -10,14 +10,13 @@ use Rattle.subsystem_spec.specs.Requests.{Request}
 use Rattle.trace_replay.specs.Moments.{Moment}
 use Rattle.trace_replay.specs.Replay.{Replay, UnitSeen, all_units, after_moments}
 use Rattle.trace_bounds.specs.Measure.{blocks_waiting, blocks_of_units, blocks_outstanding}
-use Rattle.driver_machine.specs.World.{World, UnitView, Held, no_held, unit_at, slot_at, held_in, adapter_at, adapter_of}
+use Rattle.driver_machine.specs.World.{World, Held, no_held, unit_at, slot_at, held_in, adapter_at, adapter_of}
 use Rattle.driver_machine.specs.Guards.{IsSetUp}
-use Rattle.driver_machine.specs.Sound.{Sound, Among, slots_of, IsOutstanding, UnitOk}
+use Rattle.driver_machine.specs.Sound.{Sound, slots_of, IsOutstanding, UnitOk}
 use Rattle.driver_work.proofs.Deeds.{slot_there}
 use Rattle.driver_slots.proofs.Lists.{Contains-first, Contains-later, contained_among}
 use Rattle.driver_replay.specs.Shows.{Match, IsUnitSeen}
 use Rattle.driver_trace.specs.Within.{ShowsAll}
-use Rattle.driver_trace.specs.Calls.{AreThere}
 use Rattle.driver_trace.specs.Runs.{IsSoFar}
 use Rattle.hp_core.proofs.Deeds.{pigeons}
 

@@ -1,11 +1,9 @@
 -- A call of the driver that stopped, and one behind which the sink of the answers failed.
-use Rattle.std.proofs.Common.{◌≡◌, ◌⊎◌, inl, inr, ℕ, Bool, true, false, IsTrue, List, [], ◌++◌, Option, Some, None, refl, sym, ap, subst, ◌∙◌}
-use Rattle.std.specs.Prelude.{Result, Ok, Err}
+use Rattle.std.proofs.Common.{◌≡◌, inl, inr, ℕ, Bool, true, false, IsTrue, List, ◌++◌, Some, None, refl, sym, ap, subst, ◌∙◌}
 use Rattle.pack_model.specs.Pack.{Pack}
 use Rattle.mass_outside.specs.Puts.{TakesFront}
 use Rattle.subsystem_spec.specs.Requests.{Request}
 use Rattle.trace_replay.specs.Script.{Input}
-use Rattle.trace_replay.specs.Text.{trace_text}
 use Rattle.driver_machine.specs.World.{World}
 use Rattle.driver_machine.specs.Acts.{Act}
 use Rattle.driver_machine.specs.Events.{submit_acts, event_acts}
@@ -21,10 +19,9 @@ use Rattle.answer_tally.proofs.CountLaws.{more_counted, counts_on}
 use Rattle.hp_driver.specs.Subsystem.{Submits, Comes, State, seen, is_move}
 use Rattle.event_player.specs.declared.play.PlayFault.TheVariants as faults
 use Rattle.event_player.specs.Faults.{from_stop}
-use Rattle.event_player.specs.Steps.{Stage, PlaysEvent, PlaysSubmission, all_taken, waiting_text}
+use Rattle.event_player.specs.Steps.{Stage, PlaysEvent, all_taken, waiting_text}
 use Rattle.event_player.specs.Stops.{TellsFront, EventStops, SubmissionStops}
 use Rattle.event_player.proofs.Contexts.{between_by}
-use Rattle.event_player.proofs.Submitting.{submits_plays}
 
 -- what a stage is
 abbrev pub stage_of : World → Bool → (ℕ → Pack) → Bool → List ℕ → Bool → List ℕ → Tally → Stage

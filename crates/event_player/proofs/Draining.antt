@@ -1,12 +1,12 @@
 -- A drain, event by event.
-use Rattle.std.proofs.Common.{◌≡◌, ℕ, ◌+◌, ◌-◌, ◌*◌, ◌^◌, ◌<◌, ◌≤◌, Bool, IsTrue, List, [], ◌∷◌, ◌++◌, length, Option, Some, None, refl, sym, ap, subst, arith, ◌∙◌, append-nil, append_assoc}
+use Rattle.std.proofs.Common.{◌≡◌, ℕ, ◌+◌, ◌-◌, ◌*◌, ◌^◌, ◌<◌, ◌≤◌, IsTrue, List, [], ◌∷◌, ◌++◌, length, Option, Some, None, refl, sym, ap, subst, arith, ◌∙◌, append-nil, append_assoc}
 use Rattle.pack_model.specs.Pack.{Pack}
 use Rattle.pack_model.specs.TableSpelling.{Table}
 use Rattle.trace_replay.specs.Moments.{Moment, Played, Idle}
 use Rattle.trace_replay.specs.Script as says
 use Rattle.trace_replay.specs.Script.{Script, Input, Line}
 use Rattle.trace_replay.specs.Text.{trace_text, moment_text}
-use Rattle.trace_replay.specs.Replay.{Replay, after_moments}
+use Rattle.trace_replay.specs.Replay.{after_moments}
 use Rattle.trace_replay.specs.Runs.{start_of}
 use Rattle.trace_bounds.specs.Measure.{events_left, blocks_outstanding}
 use Rattle.driver_machine.specs.World.{World}
@@ -19,7 +19,7 @@ use Rattle.answer_lines.specs.AnswerText.{out_text}
 use Rattle.answer_tally.specs.Counting.{CountsAll}
 use Rattle.answer_tally.proofs.CountLaws.{counts_none, counts_more}
 use Rattle.event_player.specs.Playing.{HasRun}
-use Rattle.event_player.specs.Steps.{Stage, PlaysEvent, GoesOn, HasDrained, EndsDraining, GoesOnDraining, Drains, PlaysDrain, all_taken}
+use Rattle.event_player.specs.Steps.{Stage, PlaysEvent, HasDrained, EndsDraining, GoesOnDraining, PlaysDrain, all_taken}
 use Rattle.event_player.proofs.Bounds.{blocks_few}
 use Rattle.event_player.proofs.Going.{line_for, drain_empty, drain_first, drain_first_falls, drain_more, drain_more_falls, drain_over}
 use Rattle.event_player.proofs.Inputs.{event_said, event_counted, said_more, told_more}

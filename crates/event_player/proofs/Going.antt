@@ -1,17 +1,16 @@
 -- A run goes on call by call, with the answers that are taken behind each call.
-use Rattle.std.proofs.Common.{◌≡◌, ◌⊎◌, inl, inr, ℕ, ◌+◌, ◌*◌, ◌<◌, ◌≤◌, ◌==◌, Bool, true, false, List, [], ◌∷◌, ◌++◌, filter, Option, Some, None, refl, sym, ap, subst, arith, ◌∙◌, append-nil, append_assoc}
+use Rattle.std.proofs.Common.{◌≡◌, inl, ℕ, ◌*◌, ◌<◌, ◌≤◌, Bool, true, false, List, [], ◌∷◌, ◌++◌, Option, Some, None, refl, sym, ap, arith, ◌∙◌}
 use Rattle.std.specs.Prelude.{is_some}
-use Rattle.std.specs.List.{list_any}
 use Rattle.pack_geometry.specs.declared.DriveKind.{DriveKind}
 use Rattle.pack_model.specs.Pack.{Pack}
 use Rattle.pack_model.specs.TableSpelling.{Table}
-use Rattle.subsystem_spec.specs.Requests.{Request, IsRequest}
-use Rattle.trace_replay.specs.Moments.{Moment, Played, played}
+use Rattle.subsystem_spec.specs.Requests.{Request}
+use Rattle.trace_replay.specs.Moments.{Moment}
 use Rattle.trace_replay.specs.Causes.{AsksSome}
 use Rattle.trace_replay.specs.Script as says
 use Rattle.trace_replay.specs.Script.{Script, Input, Statement, Declares, Plays, Line, Numbered, with_input, drives_of, inputs_before, inputs_of}
 use Rattle.trace_replay.specs.Packs.{surface_of}
-use Rattle.trace_replay.specs.Replay.{Replay, all_units, after_moments}
+use Rattle.trace_replay.specs.Replay.{Replay, after_moments}
 use Rattle.trace_replay.specs.Runs.{start_of}
 use Rattle.trace_bounds.specs.Measure.{events_left, blocks_outstanding}
 use Rattle.trace_bounds.specs.Drains.{IsOf}
@@ -26,19 +25,19 @@ use Rattle.driver_work.proofs.Calls.{event_works, submit_works}
 use Rattle.driver_invariant.proofs.Sound.{sound_after}
 use Rattle.driver_outcome.specs.Packs.{packs_after_all}
 use Rattle.driver_trace.specs.Calls.{IsReadOf}
-use Rattle.driver_trace.specs.Runs.{IsOfUnits, IsSoFar, IsDraining, with_call}
+use Rattle.driver_trace.specs.Runs.{IsOfUnits, with_call}
 use Rattle.driver_trace.proofs.Calls.{events_go, submissions_go, drains_start, drains_go_on}
 use Rattle.driver_trace.proofs.Runs.{drain_finds_nothing, drain_ends}
 use Rattle.driver_trace.proofs.Inputted.{calls_are_played, lines_play_nothing}
 use Rattle.driver_runs.specs.Runs.{IsKept}
 use Rattle.driver_runs.proofs.Runs.{events_keep, submissions_keep}
-use Rattle.driver_drains.specs.Drains.{Falls, AreAsked}
+use Rattle.driver_drains.specs.Drains.{Falls}
 use Rattle.driver_drains.proofs.Asked.{lines_ask_nothing, calls_ask}
 use Rattle.driver_drains.proofs.Falls.{first_events_fall, drains_fall}
 use Rattle.hp_driver.specs.Subsystem.{IsThere}
 use Rattle.event_player.specs.Playing.{HasRun}
 use Rattle.event_player.specs.Steps.{HasDrained, all_taken}
-use Rattle.event_player.proofs.Taking.{Waits, runs_wait, so_far_taken, draining_taken, kept_taken}
+use Rattle.event_player.proofs.Taking.{runs_wait, so_far_taken, draining_taken, kept_taken}
 
 -- THE INPUTS of lines, with those of one more
 with_more : (number : ℕ) (statement : Statement) (inputs more : List Numbered) → with_input number statement (inputs ++ more) ≡ with_input number statement inputs ++ more

@@ -1,22 +1,20 @@
 -- What a line of the script does is that its input is played, behind any run so far.
-use Rattle.std.proofs.Common.{◌≡◌, inl, inr, ℕ, ◌+◌, ◌-◌, ◌*◌, ◌^◌, ◌<◌, ◌≤◌, Bool, IsTrue, List, [], ◌∷◌, ◌++◌, length, Option, Some, None, refl, sym, ap, subst, arith, ◌∙◌, append-nil, append_assoc}
+use Rattle.std.proofs.Common.{◌≡◌, ℕ, Bool, IsTrue, List, [], ◌∷◌, ◌++◌, Option, refl, sym, ap, subst, ◌∙◌, append-nil, append_assoc}
 use Rattle.std.specs.List.{flat_map}
 use Rattle.std.proofs.lemmas.Grind.{flat_map-append}
 use Rattle.pack_model.specs.Pack.{Pack}
 use Rattle.pack_model.specs.TableSpelling.{Table}
 use Rattle.subsystem_spec.specs.Requests.{Request, IsRequest}
-use Rattle.trace_replay.specs.Moments.{Moment, Answered, Played, Idle, played, answers_in}
+use Rattle.trace_replay.specs.Moments.{Moment, Answered, Played, answers_in}
 use Rattle.trace_replay.specs.Script as says
 use Rattle.trace_replay.specs.Script.{Script, Input, Line, AreUnitsFirst}
 use Rattle.trace_replay.specs.Text.{trace_text, moment_text}
-use Rattle.trace_replay.specs.Replay.{Replay, after_moments}
 use Rattle.trace_replay.specs.Runs.{start_of}
-use Rattle.trace_bounds.specs.Measure.{events_left, blocks_outstanding}
 use Rattle.trace_bounds.specs.Drains.{IsOf}
 use Rattle.driver_machine.specs.World.{World}
-use Rattle.driver_machine.specs.Acts.{Act, Nothing, after_all}
+use Rattle.driver_machine.specs.Acts.{Act, after_all}
 use Rattle.driver_machine.specs.Lines.{lines_of_all}
-use Rattle.driver_machine.specs.Events.{submit_acts, event_acts, next_event}
+use Rattle.driver_machine.specs.Events.{submit_acts, event_acts}
 use Rattle.driver_outcome.specs.Packs.{packs_after_all}
 use Rattle.driver_trace.specs.Runs.{with_call}
 use Rattle.driver_trace.proofs.Inputted.{lines_play_nothing}
@@ -28,9 +26,9 @@ use Rattle.answer_tally.specs.Counting.{Counts, CountsAll}
 use Rattle.answer_tally.proofs.CountLaws.{counts_none, counts_both, counts_same}
 use Rattle.hp_driver.specs.Subsystem.{IsThere}
 use Rattle.event_player.specs.Playing.{HasRun}
-use Rattle.event_player.specs.Steps.{Stage, PlaysActs, PlaysEvent, PlaysSubmission, GoesOn, PlaysInput, HasDrained, EndsDraining, GoesOnDraining, Drains, PlaysDrain, all_taken, waiting_text}
+use Rattle.event_player.specs.Steps.{Stage, PlaysEvent, PlaysSubmission, PlaysInput, all_taken, waiting_text}
 use Rattle.event_player.proofs.Texts.{said_lines}
-use Rattle.event_player.proofs.Going.{line_for, event_goes, submission_goes, drain_empty, drain_first, drain_first_falls, drain_more, drain_more_falls, drain_over}
+use Rattle.event_player.proofs.Going.{line_for, event_goes, submission_goes}
 
 -- THE TEXT of the answers that wait behind acts is that of their lines.
 pub waiting_said : (w : World) (acts : List Act) → waiting (after_all w acts) ≡ answers_in (lines_of_all w acts)

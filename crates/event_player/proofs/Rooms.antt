@@ -1,5 +1,5 @@
 -- There is room for what the next line brings: each line brings what it says, and so the next one may be played.
-use Rattle.std.proofs.Common.{◌≡◌, ◌≢◌, ◌⊎◌, inl, inr, ℕ, suc, ◌+◌, ◌*◌, ◌^◌, ◌<◌, ◌≤◌, ◌==◌, ◌||◌, Bool, true, false, List, [], ◌∷◌, ◌++◌, length, Option, Some, None, All, refl, sym, ap, subst, arith, ◌∙◌, length-append}
+use Rattle.std.proofs.Common.{◌≡◌, inl, inr, ℕ, suc, ◌+◌, ◌*◌, ◌^◌, ◌<◌, ◌≤◌, ◌==◌, ◌||◌, Bool, true, false, List, [], ◌∷◌, ◌++◌, length, Option, Some, None, refl, sym, ap, subst, arith, ◌∙◌}
 use Rattle.std.specs.Prelude.{Contains}
 use Rattle.std.specs.List.{list_any}
 use Rattle.std.proofs.lemmas.Bool.Decides.{nat_tests}
@@ -14,15 +14,14 @@ use Rattle.hardware_table.specs.Events.{times_armed}
 use Rattle.subsystem_spec.specs.Requests.{Request, IsRequest}
 use Rattle.trace_replay.specs.Script as script
 use Rattle.trace_replay.specs.Script.{Script, Input, Statement, Declares, Plays, Line, IsScript, IsStatement, IsInput, drives_of, ids_of, with_id, AreApart, AreNumbered}
-use Rattle.driver_machine.specs.World.{World, Held, unit_at, slot_at}
-use Rattle.driver_machine.specs.Acts.{Act, Taken, Tried, after, after_all}
+use Rattle.driver_machine.specs.World.{World, Held, unit_at}
+use Rattle.driver_machine.specs.Acts.{Act, after_all}
 use Rattle.driver_machine.specs.declared.AnswerKind.{AnswerKind}
 use Rattle.driver_machine.specs.Events.{submit_by, submit_acts, event_acts, refusal_of, next_event}
-use Rattle.driver_machine.specs.Guards.{IsSetUp, IsHeldFor, MayChange}
-use Rattle.driver_machine.specs.Sound.{Sound, AtWork}
+use Rattle.driver_machine.specs.Guards.{IsSetUp, MayChange}
 use Rattle.driver_slots.proofs.Sizes.{sizes_all}
-use Rattle.driver_slots.proofs.Lists.{Contains-first, Contains-later, Contains-cases}
-use Rattle.driver_work.specs.Runs.{Run, MaySubmit, MayCome, CanCome}
+use Rattle.driver_slots.proofs.Lists.{Contains-later, Contains-cases}
+use Rattle.driver_work.specs.Runs.{CanCome}
 use Rattle.driver_work.proofs.Next.{next_can}
 use Rattle.driver_counts.specs.Counts.{IsWithin, in_use, noises_of, faults_of}
 use Rattle.driver_counts.proofs.Acts.{takings_add, capacity_stays}
@@ -31,7 +30,7 @@ use Rattle.driver_counts.proofs.Units.{setups_stay}
 use Rattle.driver_answers.specs.Ids.{AreOf}
 use Rattle.driver_answers.proofs.Ids.{events_add_none, taking_adds_none, no_others}
 use Rattle.driver_answers.proofs.Ids as ids
-use Rattle.hp_driver.specs.Subsystem.{State, IsThere}
+use Rattle.hp_driver.specs.Subsystem.{State}
 use Rattle.event_player.specs.Playing.{AreUnits, counted, one_request, one_noise, one_fault}
 use Rattle.event_player.specs.Steps.{Stage, PlaysEvent, PlaysSubmission, Ready, Brings, MayAsk, MayPlay, takings, all_taken}
 use Rattle.event_player.proofs.Taking.{taken_by, none_waits}

@@ -1,5 +1,5 @@
 -- What a call of the driver and the taking of its answers come to.
-use Rattle.std.proofs.Common.{◌≡◌, ℕ, Bool, true, IsTrue, List, ◌++◌, Option, None, refl, ap, subst, ◌∙◌}
+use Rattle.std.proofs.Common.{◌≡◌, ℕ, Bool, true, IsTrue, List, ◌++◌, None, refl, ap, subst, ◌∙◌}
 use Rattle.pack_model.specs.Pack.{Pack}
 use Rattle.subsystem_spec.specs.Requests.{Request}
 use Rattle.driver_machine.specs.World.{World}

@@ -7,10 +7,10 @@ use Rattle.trace_replay.specs.Script as script
 use Rattle.trace_replay.specs.Script.{Input}
 use Rattle.trace_replay.specs.Replay.{Replay}
 use Rattle.driver_machine.specs.declared.Made.{Made}
-use Rattle.driver_machine.specs.World.{World, UnitView, unit_at}
+use Rattle.driver_machine.specs.World.{World, unit_at}
 use Rattle.driver_machine.specs.Acts.{Act, Refuse, Submit, Of, Change, Nothing, Taken, changed, after, after_all}
 use Rattle.driver_machine.specs.Guards.{Allowed, InHand, IsSetUp}
-use Rattle.driver_machine.specs.Sound.{Sound, AtWork, UnitOk}
+use Rattle.driver_machine.specs.Sound.{Sound, UnitOk}
 use Rattle.driver_work.specs.Runs.{Run, Works}
 use Rattle.driver_work.proofs.Calls.{taken_works}
 use Rattle.driver_invariant.proofs.Sound.{sound_after}

@@ -1,5 +1,5 @@
 -- A script from its first line to its end.
-use Rattle.std.proofs.Common.{◌≡◌, ◌⊎◌, inl, inr, ℕ, zero, suc, ◌+◌, ◌^◌, ◌<◌, ◌≤◌, Bool, true, false, IsTrue, List, [], ◌∷◌, ◌++◌, length, map, take, drop, get_or, replicate, Option, Some, None, All, refl, sym, ap, subst, arith, ◌∙◌, append-nil, add-one, drop-cons}
+use Rattle.std.proofs.Common.{◌≡◌, inl, inr, ℕ, zero, suc, ◌+◌, ◌^◌, ◌<◌, ◌≤◌, true, false, IsTrue, List, [], ◌∷◌, ◌++◌, length, map, take, drop, get_or, Option, None, refl, sym, ap, subst, arith, ◌∙◌, append-nil, add-one, drop-cons}
 use Rattle.std.specs.Prelude.{is_some, min, unwrap_or}
 use Rattle.std.proofs.lemmas.List.{take_more, take_all, drop_all, take-append-drop, length-map, length-replicate, get_or-map, get_or_past}
 use Rattle.std.proofs.lemmas.Bool.{cases_lt, false≢true}
@@ -12,11 +12,10 @@ use Rattle.script_reader.specs.Formed.{IsInRange, AreWell, learned}
 use Rattle.script_reader.specs.Known.{Known, Said, Numbered, known_of}
 use Rattle.script_reader.specs.Stored.{Stored, Kept, seen, lines_in}
 use Rattle.script_meaning.specs.Meaning.{line_of, meaning_of}
-use Rattle.trace_replay.specs.Moments.{Moment, played}
+use Rattle.trace_replay.specs.Moments.{Moment}
 use Rattle.trace_replay.specs.Script as says
 use Rattle.trace_replay.specs.Script.{Script, Input, Statement, Declares, Plays, Line, IsScript, IsStatement, AreNumbered, drives_of, ids_of, inputs_before}
 use Rattle.trace_replay.specs.Text.{trace_text}
-use Rattle.trace_replay.specs.Runs.{start_of}
 use Rattle.pack_geometry.specs.declared.DriveKind.TheVariants.{Rp06}
 use Rattle.driver_machine.specs.World.{World, UnitView, Setup, no_unit, new_world, unit_at}
 use Rattle.driver_machine.specs.Guards.{IsSetUp}
@@ -26,7 +25,6 @@ use Rattle.driver_trace.proofs.Start.{starts}
 use Rattle.driver_runs.proofs.Runs.{starts_kept, runs_are_legal}
 use Rattle.driver_counts.proofs.Starts.{starts_with_none, starts_with_room}
 use Rattle.driver_answers.proofs.Ids.{starts_of_none}
-use Rattle.driver_machine.specs.Events.{next_event}
 use Rattle.answer_lines.specs.AnswerText.{out_text}
 use Rattle.answer_tally.specs.Counting.{CountsAll, tally_by}
 use Rattle.answer_tally.proofs.CountLaws.{counts_none, counts_more}
@@ -36,7 +34,7 @@ use Rattle.hp_driver.specs.Subsystem.{State}
 use Rattle.event_player.specs.Attaching.{tables_in, AreSetFor}
 use Rattle.event_player.specs.Plays.{Plays as IsPlayed, Tallied}
 use Rattle.event_player.specs.Playing.{HasRun, AreUnits, counted, one_request, one_noise}
-use Rattle.event_player.specs.Steps.{Stage, IsStill, GoesOn, PlaysLine, PlaysDrain, Drains, EndsWith, PlaysScript, Ready, Brings, MayPlay, HasData}
+use Rattle.event_player.specs.Steps.{Stage, GoesOn, PlaysLine, PlaysDrain, Drains, EndsWith, PlaysScript, Ready, Brings, MayPlay, HasData}
 use Rattle.event_player.proofs.Going.{line_for, inputs_append}
 use Rattle.event_player.proofs.Inputs.{said_more, told_more}
 use Rattle.event_player.proofs.Rooms.{ReadyBehind, ready_next, may_play}

@@ -1,10 +1,10 @@
 -- How far a script is played: what stands between two lines of it.
-use Rattle.std.specs.Prelude.{◌≡◌, ℕ, ◌+◌, Bool, false, IsTrue, List, [], ◌∷◌, ◌++◌, Option, Some}
+use Rattle.std.specs.Prelude.{◌≡◌, ℕ, ◌+◌, Bool, IsTrue, List, [], ◌∷◌, ◌++◌, Option, Some}
 use Rattle.pack_geometry.specs.declared.DriveKind.{DriveKind}
 use Rattle.pack_model.specs.Pack.{Pack}
 use Rattle.pack_model.specs.TableSpelling.{Table}
 use Rattle.trace_replay.specs.Moments.{Moment, played}
-use Rattle.trace_replay.specs.Script.{Script, Input, Submit, Noise, Arm, Statement, Plays as PlaysInput, Declares, Line, drives_of, inputs_before, ids_of}
+use Rattle.trace_replay.specs.Script.{Script, Submit, Noise, Arm, Statement, Plays as PlaysInput, Line, drives_of, inputs_before}
 use Rattle.trace_replay.specs.Runs.{start_of}
 use Rattle.trace_replay.specs.Text.{trace_text}
 use Rattle.driver_machine.specs.World.{World, unit_at}
@@ -12,7 +12,6 @@ use Rattle.driver_machine.specs.Guards.{IsSetUp}
 use Rattle.driver_trace.specs.Runs.{IsSoFar}
 use Rattle.driver_runs.specs.Runs.{IsKept}
 use Rattle.driver_drains.specs.Drains.{AreAsked}
-use Rattle.hp_driver.specs.Subsystem.{State}
 use Rattle.answer_lines.specs.AnswerText.{out_text}
 
 -- HOW MUCH lines bring: so many requests, noises, and lines that arm faults

@@ -12,8 +12,8 @@ ghost use Rattle.driver_machine.specs.Lines.{answer_told, error_told};
 ghost use Rattle.event_player.specs.Answering.{first_blocks, first_told, first_text, first_rest, IsFirst, IsFirstKind, HasBlock};
 ghost use Rattle.event_player.specs.Steps.{all_taken, waiting_text};
 
-use answer_lines::{Outcome, answer_line, block_line};
 use crate::desk::Desk;
+use answer_lines::{Outcome, answer_line, block_line};
 use driver_answers::taken_law;
 use hp_driver::{Answer, AnswerKind, Cause, Subsystem};
 use mass_outside::traits::{Sink, SinkFailed};

@@ -17,8 +17,8 @@ ghost use Rattle.event_player.specs.Steps.{stage, IsNoEvent, PlaysLine, Brings, 
 ghost use Rattle.event_player.specs.Stops.{StopsLine};
 
 use crate::calls::{ask, happen};
-use crate::drains::drain;
 use crate::desk::Desk;
+use crate::drains::drain;
 use crate::play::PlayFault;
 use answer_lines::noise_line;
 use answer_tally::Tally;
@@ -180,15 +180,7 @@ fn play_other<P: Packs, O: Sink, T: Sink>(
         Statement::Write { request, content } => {
             let size = put_data(script, request, content, room);
             let request = request_for(request, true);
-            ask(
-                subsystem,
-                number,
-                request,
-                &room[..size],
-                desk,
-                out,
-                trace,
-            )
+            ask(subsystem, number, request, &room[..size], desk, out, trace)
         }
         Statement::Noise {
             unit,

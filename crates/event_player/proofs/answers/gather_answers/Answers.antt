@@ -1,9 +1,8 @@
-use Rattle.std.proofs.Common.{◌≡◌, refl, sym, ap, subst, ◌∙◌}
-use Rattle.driver_machine.specs.World.{World}
+use Rattle.std.proofs.Common.{◌≡◌, refl, sym, subst, ◌∙◌}
 use Rattle.driver_machine.specs.Acts.{Taken, after}
 use Rattle.hp_driver.specs.Subsystem.{State}
 use Rattle.event_player.specs.Answering.{IsFirst}
-use Rattle.event_player.proofs.AnswerLaws.{none_so_far, one_so_far, so_far_stops, all_so_far, state_so_far, is_taken, one_less}
+use Rattle.event_player.proofs.AnswerLaws.{none_so_far, one_so_far, so_far_stops, is_taken}
 use Rattle.event_player.proofs.TallyLaws.{CountedSoFar, none_counted, one_counted, all_counted}
 use Rattle.event_player.proofs.answers.gather_answers.Goals as goal
 

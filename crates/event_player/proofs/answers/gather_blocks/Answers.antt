@@ -1,4 +1,4 @@
-use Rattle.std.proofs.Common.{◌≡◌, [], arith, refl, sym, ap, ◌∙◌, ◌<◌, length, take}
+use Rattle.std.proofs.Common.{[], arith, refl, sym, ap, ◌∙◌, ◌<◌, length, take}
 use Rattle.std.specs.Prelude.{Ok}
 use Rattle.std.proofs.lemmas.List.{take_all}
 use Rattle.driver_machine.specs.declared.AnswerKind.TheVariants.{ReadOk}

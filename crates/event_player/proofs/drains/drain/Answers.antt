@@ -6,7 +6,7 @@ use Rattle.event_player.proofs.Rooms.{drain_brings, brings_both}
 use Rattle.event_player.proofs.Taking.{plays_none}
 use Rattle.event_player.proofs.drains.drain.Goals as goal
 use Rattle.event_player.specs.declared.play.PlayFault.TheVariants as faults
-use Rattle.event_player.proofs.Halting.{if_err, err_is, idle_halts, first_halts, rest_halts}
+use Rattle.event_player.proofs.Halting.{err_is, idle_halts, first_halts, rest_halts}
 
 pub returns-in_default-clause-plays : goal.returns-in_default-clause-plays
 returns-in_default-clause-plays g c =

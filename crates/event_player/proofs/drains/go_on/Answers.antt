@@ -5,7 +5,7 @@ use Rattle.event_player.proofs.Draining.{draining_starts, draining_next, drainin
 use Rattle.event_player.proofs.Rooms.{drain_brings, still_brings, brings_both}
 use Rattle.event_player.proofs.Taking.{plays_none}
 use Rattle.event_player.proofs.drains.go_on.Goals as goal
-use Rattle.event_player.proofs.Halting.{if_err, err_is, draining_halts}
+use Rattle.event_player.proofs.Halting.{err_is, draining_halts}
 
 pub loop-turn-init : goal.loop-turn-init
 loop-turn-init g c =

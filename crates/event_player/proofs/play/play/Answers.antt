@@ -4,7 +4,7 @@ use Rattle.answer_tally.specs.Counting.{tally_by}
 use Rattle.event_player.specs.Steps.{Stage, stage}
 use Rattle.event_player.proofs.Whole.{ready_for, whole_for}
 use Rattle.event_player.proofs.play.play.Goals as goal
-use Rattle.event_player.proofs.Halting.{if_err, err_is, play_halts, attach_halts}
+use Rattle.event_player.proofs.Halting.{err_is, play_halts}
 
 pub play_lines-requires-clause-ready : goal.play_lines-requires-clause-ready
 play_lines-requires-clause-ready g c =

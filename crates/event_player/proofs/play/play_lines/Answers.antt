@@ -1,6 +1,5 @@
 use Rattle.std.proofs.Common.{rules, ◌≡◌, ◌<◌, ◌≤◌, ℕ, ◌+◌, List, length, get_or, subst, sym, arith, ◌∙◌, ap}
 use Rattle.std.proofs.lemmas.List.{length-map}
-use Rattle.script_reader.specs.Known.{Numbered}
 use Rattle.script_reader.specs.Stored.{Kept, seen, lines_in}
 use Rattle.script_reader.specs.Words.{all_verbs}
 use Rattle.script_meaning.specs.Meaning.{line_of, meaning_of}
@@ -8,7 +7,7 @@ use Rattle.trace_replay.specs.Script.{IsScript}
 use Rattle.event_player.specs.Steps.{Stage, stage, PlaysDrain}
 use Rattle.event_player.proofs.Whole.{plays_none_yet, plays_end, next_may, next_ready, next_plays, next_data}
 use Rattle.event_player.proofs.play.play_lines.Goals as goal
-use Rattle.event_player.proofs.Halting.{if_err, err_is, line_halts, end_halts}
+use Rattle.event_player.proofs.Halting.{err_is, line_halts, end_halts}
 use Rattle.event_player.proofs.Whole.{here_is}
 
 pub loop-i-init : goal.loop-i-init

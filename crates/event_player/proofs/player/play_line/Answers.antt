@@ -1,14 +1,11 @@
-use Rattle.std.proofs.Common.{ℕ, [], List, take, refl, ap, ◌≡◌, ◌∙◌}
-use Rattle.std.specs.Box.{box_value}
+use Rattle.std.proofs.Common.{refl, ◌≡◌}
 use Rattle.std.proofs.lemmas.Result.{on_ok_weaker}
-use Rattle.hp_events.specs.declared.drain.Event.TheVariants as event
 use Rattle.hp_events.specs.Inputs.{input_of}
-use Rattle.hp_driver.specs.Subsystem.{asked}
 use Rattle.script_meaning.specs.Meaning.{statement_of}
 use Rattle.script_reader.specs.Stored.{seen, digits_at}
 use Rattle.trace_replay.specs.Script.{Statement, Drain}
 use Rattle.event_player.specs.Steps.{Stage, stage}
-use Rattle.event_player.proofs.Statements.{request_plays, request_brings, event_plays, event_line_brings, silent_plays, drain_line, drain_line_brings, read_says, write_says, noise_says, drain_says, renumbered}
+use Rattle.event_player.proofs.Statements.{event_line_brings, silent_plays, renumbered}
 use Rattle.event_player.proofs.player.play_line.Goals as goal
 use Rattle.event_player.proofs.Halting.{if_err, silent_halts}
 
