@@ -14,4 +14,6 @@ pub use status::Status;
 #[cfg(test)]
 mod rows;
 #[cfg(test)]
+mod stops_tests;
+#[cfg(test)]
 mod tests;
