@@ -3,3 +3,4 @@ mod Acts
 mod Units
 pub mod Runs
 mod NextBlock
+pub mod Sectors

@@ -25,6 +25,7 @@ use Rattle.driver_outcome.specs.Packs.{packs_after_all}
 use Rattle.driver_outcome.proofs.Joined.{front_same, front_more}
 use Rattle.driver_answers.proofs.Waiting.{submissions_alone}
 use Rattle.driver_runs.proofs.Runs.{packs_are_left}
+use Rattle.driver_runs.proofs.Sectors.{submission_quiet}
 use Rattle.driver_trace.specs.Within.{ShowsAll}
 use Rattle.answer_lines.specs.AnswerText.{said_text, out_text}
 use Rattle.answer_tally.specs.declared.tally.Tally.{Tally}
@@ -162,7 +163,7 @@ module _ (script : Script) (tables : ℕ → Option Table) (first : ℕ → Pack
       → StopsAtSink script tables first new.held new.out_tells said new.said new.trace_tells taken new.taken
   opening_stops new follows same still_traced still untold between =
       stops_by (line_context old.out_tells (old.said ++ said_text (Played line input)) old.tally (λ t. t) (λ t. refl)) [] new refl follows
-      (inl (subst (λ (held : ℕ → Pack). AreBehind script tables first held told.moments) (sym same) whole.behind)) still_traced
+      (inl (tt, subst (λ (held : ℕ → Pack). AreBehind script tables first held told.moments) (sym same) whole.behind)) still_traced
       (λ t. subst (IsBetween old.taken (old.taken ++ [])) (sym untold) (record { least = front_same old.taken; most = front_more old.taken [] }))
       (λ t. record {
         least = subst (λ (text : List ℕ). IsFront text new.said) (told.out (still t)) (between t).least;
@@ -190,12 +191,15 @@ module _ (script : Script) (tables : ℕ → Option Table) (first : ℕ → Pack
       tells_stop context (submit_acts r line e.slot e.held old.world) new e.tells
       (whole_run script tables first _ line _ _ _
       (submission_goes script tables first last line e.slot r e.held old.held done old.world told.moments less none e.may e.is is.some of told.run)).follows
-      (inl (same_behind same)) still_traced still
+      (inl (submission_quiet r line e.slot e.held old.world e.tells.done e.tells.left e.tells.all, same_behind same)) still_traced still
   submission_sink same (inr e) =
       says_stop context (submit_acts r line e.plays.slot e.plays.held old.world) new e.text
       (whole_run script tables first _ line _ _ _
       (submission_goes script tables first last line e.plays.slot r e.plays.held old.held done old.world told.moments less none e.plays.may e.plays.is is.some of told.run)).follows
-      (inl (same_behind same)) still_traced still e.plays.plays.trace
+      (inl (
+        submission_quiet r line e.plays.slot e.plays.held old.world (submit_acts r line e.plays.slot e.plays.held old.world) [] (sym (append-nil (submit_acts r line e.plays.slot e.plays.held old.world))),
+        same_behind same,
+      )) still_traced still e.plays.plays.trace
       (λ t. e.plays.plays.out t ∙ ap (λ (xs : List ℕ). old.said ++ xs) (waiting_said old.world (submit_acts r line e.plays.slot e.plays.held old.world)
       (submissions_alone old.world line e.plays.slot r e.plays.held e.plays.plays.sound e.plays.plays.work e.plays.may)))
       e.said
@@ -236,7 +240,7 @@ module _ (script : Script) (tables : ℕ → Option Table) (first : ℕ → Pack
   idle_stops new over same still_traced still unsaid front =
       stops_at_sink drain_context (Idle line ∷ []) new refl
       (whole_run script tables first old.held line _ _ _ (drain_empty script tables first last line old.held done old.world told.moments less over told.run)).follows
-      (inl (subst (λ (held : ℕ → Pack). AreBehind script tables first held told.moments) (sym same) (whole_run script tables first old.held last done old.world told.moments told.run).behind))
+      (inl ((tt, tt), subst (λ (held : ℕ → Pack). AreBehind script tables first held told.moments) (sym same) (whole_run script tables first old.held last done old.world told.moments told.run).behind))
       still_traced still
       (λ t. subst (λ (text : List ℕ). IsBetween old.taken (old.taken ++ text) new.taken) (sym (append-nil (moment_text (Idle line)))) (between_by old.taken new.taken (moment_text (Idle line)) (front t)))
       (λ t. subst (IsBetween old.said (old.said ++ [])) (sym unsaid) (record { least = front_same old.said; most = front_more old.said [] }))

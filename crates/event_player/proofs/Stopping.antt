@@ -6,7 +6,7 @@ use Rattle.disksort.specs.declared.Waiter.{Waiter}
 use Rattle.hardware_table.specs.Adapter.{next_block}
 use Rattle.pack_model.specs.Pack.{Pack}
 use Rattle.pack_model.specs.TableSpelling.{Table}
-use Rattle.trace_replay.specs.Moments.{Moment, Played, Told, Idle, played}
+use Rattle.trace_replay.specs.Moments.{Moment, Played, Told, Idle, played, answers_in}
 use Rattle.trace_replay.specs.Script as says
 use Rattle.trace_replay.specs.Script.{Script, Input, Line, Numbered, drives_of, inputs_of, inputs_before}
 use Rattle.trace_replay.specs.Replay.{Replay, Follows, AreLeft, after_moments}
@@ -27,14 +27,17 @@ use Rattle.driver_trace.specs.Noises.{AllFlip}
 use Rattle.driver_trace.specs.Within.{ShowsAll}
 use Rattle.driver_trace.proofs.Inputted.{lines_play_nothing}
 use Rattle.driver_drains.proofs.Fronts.{event_fronts}
+use Rattle.driver_runs.proofs.Sectors.{IsNoMove, event_quiet}
 use Rattle.answer_lines.specs.AnswerText.{said_text, out_text}
 use Rattle.hp_driver.specs.Subsystem.{IsThere, is_move}
 use Rattle.hp_driver.proofs.Moves.{tried_by_rules, read_from}
 use Rattle.event_player.specs.declared.play.PlayFault.{PlayFault}
 use Rattle.event_player.specs.declared.play.PlayFault.TheVariants as faults
 use Rattle.event_player.specs.Steps.{Stage, PlaysEvent, waiting_text}
-use Rattle.event_player.specs.Stops.{IsBetween, lines_told, only_played, AreBehind, CameTo, StopsAtSink, StopsAtStore, IsAtMove, TellsFront, EventTellsFront, EventSaysFront, MoveFails, EventStops, Stopped}
+use Rattle.run_promises.specs.Beginnings.{AreNoSectors}
+use Rattle.event_player.specs.Stops.{IsBetween, lines_told, only_played, SaysOneSector, AreBehind, CameTo, StopsAtSink, StopsAtStore, IsAtMove, TellsFront, EventTellsFront, EventSaysFront, MoveFails, EventStops, Stopped}
 use Rattle.event_player.proofs.Inputs.{event_said}
+
 
 -- MOMENTS one behind the other
 played_append : (xs ys : List Moment) → played (xs ++ ys) ≡ played xs ++ played ys
@@ -55,12 +58,14 @@ pub record IsOpening (opening : List Moment) : Type 0 where
   pub told : (ms : List Moment) → lines_told (opening ++ ms) ≡ lines_told ms
   pub text : (ms : List Moment) → trace_text (opening ++ ms) ≡ trace_text ms
   pub only : (ms : List Moment) → only_played (opening ++ ms) ≡ opening ++ only_played ms
+  pub answers : (ms : List Moment) → answers_in (opening ++ ms) ≡ answers_in ms
+  pub quiet : (ms : List Moment) → AreNoSectors ms → AreNoSectors (opening ++ ms)
 
 pub opens_none : IsOpening []
-opens_none = record { plays = λ ms. refl; told = λ ms. refl; text = λ ms. refl; only = λ ms. refl }
+opens_none = record { plays = λ ms. refl; told = λ ms. refl; text = λ ms. refl; only = λ ms. refl; answers = λ ms. refl; quiet = λ ms none. none }
 
 pub opens_line : (line : ℕ) (input : Input) → IsOpening (Played line input ∷ [])
-opens_line line input = record { plays = λ ms. refl; told = λ ms. refl; text = λ ms. refl; only = λ ms. refl }
+opens_line line input = record { plays = λ ms. refl; told = λ ms. refl; text = λ ms. refl; only = λ ms. refl; answers = λ ms. refl; quiet = λ ms none. (tt, none) }
 
 -- WHERE A CALL BEGINS: behind moments that follow, with the packs and the texts that they leave; what is said as the line is played
 -- is said.
@@ -135,7 +140,7 @@ module _ {script : Script} {tables : ℕ → Option Table} {first : ℕ → Pack
 
   -- A SINK FAILED in a call that told these lines, or was to.
   pub stops_by : (lines : List Moment) (new : Stage) → played lines ≡ [] → Follows (start_of script tables first) (ctx.done ++ (opening ++ lines))
-      → AreBehind script tables first new.held ctx.done ⊎ ((lines_told lines ≤ 1) × AreBehind script tables first new.held (ctx.done ++ (opening ++ lines)))
+      → (AreNoSectors lines × AreBehind script tables first new.held ctx.done) ⊎ (SaysOneSector lines × AreBehind script tables first new.held (ctx.done ++ (opening ++ lines)))
       → (IsTrue new.trace_tells → IsTrue now.trace_tells)
       → (IsTrue new.trace_tells → IsBetween now.taken (now.taken ++ trace_text lines) new.taken)
       → (IsTrue new.out_tells → IsBetween (said ++ out_text ctx.done) (said ++ out_text (ctx.done ++ (opening ++ lines))) new.said)
@@ -155,10 +160,13 @@ module _ {script : Script} {tables : ℕ → Option Table} {first : ℕ → Pack
     lines_first = order_by order;
   }
     where
-      packs_by : AreBehind script tables first new.held ctx.done ⊎ ((lines_told lines ≤ 1) × AreBehind script tables first new.held (ctx.done ++ (opening ++ lines)))
-          → AreBehind script tables first new.held ctx.done ⊎ ((lines_told (opening ++ lines) ≤ 1) × AreBehind script tables first new.held (ctx.done ++ (opening ++ lines)))
-      packs_by (inl same) = inl same
-      packs_by (inr moved) = inr (subst (λ (n : ℕ). n ≤ 1) (sym (ctx.opens.told lines)) moved.0, moved.1)
+      packs_by : (AreNoSectors lines × AreBehind script tables first new.held ctx.done) ⊎ (SaysOneSector lines × AreBehind script tables first new.held (ctx.done ++ (opening ++ lines)))
+          → (AreNoSectors (opening ++ lines) × AreBehind script tables first new.held ctx.done) ⊎ (SaysOneSector (opening ++ lines) × AreBehind script tables first new.held (ctx.done ++ (opening ++ lines)))
+      packs_by (inl same) = inl (ctx.opens.quiet lines same.0, same.1)
+      packs_by (inr moved) = inr (
+        record { few = subst (λ (n : ℕ). n ≤ 1) (sym (ctx.opens.told lines)) moved.0.few; silent = ctx.opens.answers lines ∙ moved.0.silent },
+        moved.1,
+      )
 
       order_by : (IsTrue new.trace_tells → new.taken ≡ now.taken ++ trace_text lines) ⊎ (IsTrue new.out_tells → new.said ≡ said ++ out_text (ctx.done ++ opening))
           → (IsTrue new.trace_tells → new.taken ≡ taken ++ trace_text (ctx.done ++ (opening ++ lines)))
@@ -167,7 +175,7 @@ module _ {script : Script} {tables : ℕ → Option Table} {first : ℕ → Pack
       order_by (inr same) = inr (λ t. same t ∙ ap (λ (ms : List Moment). said ++ out_text (ctx.done ++ ms)) (sym (only_is lines none)))
 
   pub stops_at_sink : (lines : List Moment) (new : Stage) → played lines ≡ [] → Follows (start_of script tables first) (ctx.done ++ (opening ++ lines))
-      → AreBehind script tables first new.held ctx.done ⊎ ((lines_told lines ≤ 1) × AreBehind script tables first new.held (ctx.done ++ (opening ++ lines)))
+      → (AreNoSectors lines × AreBehind script tables first new.held ctx.done) ⊎ (SaysOneSector lines × AreBehind script tables first new.held (ctx.done ++ (opening ++ lines)))
       → (IsTrue new.trace_tells → IsTrue now.trace_tells) → (IsTrue new.out_tells → IsTrue now.out_tells)
       → (IsTrue new.trace_tells → IsBetween now.taken (now.taken ++ trace_text lines) new.taken)
       → (IsTrue new.out_tells → IsBetween now.said (now.said ++ out_text lines) new.said)
@@ -196,8 +204,8 @@ module _ {script : Script} {tables : ℕ → Option Table} {first : ℕ → Pack
   -- THE TRACE FAILED,
   pub tells_stop : (acts : List Act) (new : Stage) (tells : TellsFront acts now new)
       → Follows (start_of script tables first) (ctx.done ++ (opening ++ lines_of_all now.world acts))
-      → AreBehind script tables first new.held ctx.done
-      ⊎ ((lines_told (lines_of_all now.world tells.done) ≤ 1) × AreBehind script tables first new.held (ctx.done ++ (opening ++ lines_of_all now.world tells.done)))
+      → (AreNoSectors (lines_of_all now.world tells.done) × AreBehind script tables first new.held ctx.done)
+      ⊎ (SaysOneSector (lines_of_all now.world tells.done) × AreBehind script tables first new.held (ctx.done ++ (opening ++ lines_of_all now.world tells.done)))
       → (IsTrue new.trace_tells → IsTrue now.trace_tells) → (IsTrue new.out_tells → IsTrue now.out_tells)
       → StopsAtSink script tables first new.held new.out_tells said new.said new.trace_tells taken new.taken
   tells_stop acts new tells follows packs still_traced still =
@@ -209,8 +217,8 @@ module _ {script : Script} {tables : ℕ → Option Table} {first : ℕ → Pack
 
   -- and the sink of the answers, behind all acts.
   pub says_stop : (acts : List Act) (new : Stage) (text : List ℕ) → Follows (start_of script tables first) (ctx.done ++ (opening ++ lines_of_all now.world acts))
-      → AreBehind script tables first new.held ctx.done
-      ⊎ ((lines_told (lines_of_all now.world acts) ≤ 1) × AreBehind script tables first new.held (ctx.done ++ (opening ++ lines_of_all now.world acts)))
+      → (AreNoSectors (lines_of_all now.world acts) × AreBehind script tables first new.held ctx.done)
+      ⊎ (SaysOneSector (lines_of_all now.world acts) × AreBehind script tables first new.held (ctx.done ++ (opening ++ lines_of_all now.world acts)))
       → (IsTrue new.trace_tells → IsTrue now.trace_tells) → (IsTrue new.out_tells → IsTrue now.out_tells)
       → (IsTrue new.trace_tells → new.taken ≡ now.taken ++ trace_text (lines_of_all now.world acts))
       → (IsTrue new.out_tells → text ≡ now.said ++ out_text (lines_of_all now.world acts)) → (IsTrue new.out_tells → IsBetween now.said text new.said)
@@ -244,31 +252,31 @@ short_or : (b : Bool) (line u : ℕ) (d : Deed) (w : World) → IsShort (or_noth
 short_or true line u d w = short_in_hand (unit_at w u).queue line u d w
 short_or false line u d w = tt
 
-zero_few : 0 ≤ 1
-zero_few = omega arith
+says_none : SaysOneSector []
+says_none = record { few = omega arith; silent = refl }
 
-one_few : 0 + 1 ≤ 1
-one_few = omega arith
+says_idle : (line : ℕ) → SaysOneSector (Idle line ∷ [])
+says_idle line = record { few = omega arith; silent = refl }
 
-told_in_hand : (queue : List Waiter) (line u block : ℕ) (t : Tried) (w : World) → lines_told (lines_of_all w (in_hand_by queue line u (Sector block t) w)) ≤ 1
-told_in_hand [] line u block t w = zero_few
-told_in_hand (x ∷ rest) line u block t w = one_few
+one_in_hand : (queue : List Waiter) (line u block : ℕ) (t : Tried) (w : World) → SaysOneSector (lines_of_all w (in_hand_by queue line u (Sector block t) w))
+one_in_hand [] line u block t w = says_none
+one_in_hand (x ∷ rest) line u block t w = record { few = omega arith; silent = refl }
 
-told_or : (b : Bool) (line u block : ℕ) (t : Tried) (w : World) → lines_told (lines_of_all w (or_nothing b line (in_hand line u (Sector block t)) w)) ≤ 1
-told_or true line u block t w = told_in_hand (unit_at w u).queue line u block t w
-told_or false line u block t w = one_few
+one_or : (b : Bool) (line u block : ℕ) (t : Tried) (w : World) → SaysOneSector (lines_of_all w (or_nothing b line (in_hand line u (Sector block t)) w))
+one_or true line u block t w = one_in_hand (unit_at w u).queue line u block t w
+one_or false line u block t w = says_idle line
 
-few_of : (line : ℕ) (input : Input) (tried : Tried) (w : World) → is_move input ≡ true → lines_told (lines_of_all w (event_acts line input tried w)) ≤ 1
-few_of line (says.MoveAt a) tried w is = told_or (can_move (adapter_at w a)) line (unit_of w a) (next_block (adapter_at w a).state) tried w
-few_of line (says.Submit r) tried w is = absurd (false≢true is)
-few_of line (says.ArriveAt u) tried w is = absurd (false≢true is)
-few_of line (says.AttendTo a) tried w is = absurd (false≢true is)
-few_of line says.Drain tried w is = absurd (false≢true is)
-few_of line (says.Turn u sector) tried w is = absurd (false≢true is)
-few_of line (says.Noise n) tried w is = absurd (false≢true is)
-few_of line (says.Arm u kind times) tried w is = absurd (false≢true is)
-few_of line (says.SetOnline u on) tried w is = absurd (false≢true is)
-few_of line (says.SetLocked u on) tried w is = absurd (false≢true is)
+one_of : (line : ℕ) (input : Input) (tried : Tried) (w : World) → is_move input ≡ true → SaysOneSector (lines_of_all w (event_acts line input tried w))
+one_of line (says.MoveAt a) tried w is = one_or (can_move (adapter_at w a)) line (unit_of w a) (next_block (adapter_at w a).state) tried w
+one_of line (says.Submit r) tried w is = absurd (false≢true is)
+one_of line (says.ArriveAt u) tried w is = absurd (false≢true is)
+one_of line (says.AttendTo a) tried w is = absurd (false≢true is)
+one_of line says.Drain tried w is = absurd (false≢true is)
+one_of line (says.Turn u sector) tried w is = absurd (false≢true is)
+one_of line (says.Noise n) tried w is = absurd (false≢true is)
+one_of line (says.Arm u kind times) tried w is = absurd (false≢true is)
+one_of line (says.SetOnline u on) tried w is = absurd (false≢true is)
+one_of line (says.SetLocked u on) tried w is = absurd (false≢true is)
 
 pub record IsMoveOf (line : ℕ) (input : Input) (tried : Tried) (w : World) (held : ℕ → Pack) : Type 0 where
   pub short : IsShort (event_acts line input tried w)
@@ -316,6 +324,10 @@ move_is (says.Arm u kind times) is = absurd (false≢true is)
 move_is (says.SetOnline u on) is = absurd (false≢true is)
 move_is (says.SetLocked u on) is = absurd (false≢true is)
 
+no_move : (input : Input) → is_move input ≡ false → IsNoMove input
+no_move (says.MoveAt a) is = absurd (false≢true (sym is))
+no_move input is = tt
+
 -- WHERE AN EVENT BEGINS: done whole it would follow, and the packs would be as it leaves them.
 pub record Whole (script : Script) (tables : ℕ → Option Table) (first held : ℕ → Pack) (moments : List Moment) : Type 0 where
   pub follows : Follows (start_of script tables first) moments
@@ -342,9 +354,10 @@ module _ {script : Script} {tables : ℕ → Option Table} {first : ℕ → Pack
   still_tells : is_move input ≡ false → IsThere now.world input → new.held ≡ now.held → EventTellsFront line input now new → Sink
   still_tells is there same e =
       let may : MayCome now.world input e.tried × IsReadOf now.world now.held input e.tried = still_may input e.tried now.world now.held is there in
-      tells_stop at.ctx (event_acts line input e.tried now.world) new e.tells (at.goes e.tried may.0 may.1).follows (inl (same_behind same)) still_traced still
+      tells_stop at.ctx (event_acts line input e.tried now.world) new e.tells (at.goes e.tried may.0 may.1).follows
+      (inl (event_quiet line input e.tried now.world e.tells.done e.tells.left (no_move input is) e.tells.all, same_behind same)) still_traced still
 
-  says_by : AreBehind script tables first new.held at.ctx.done ⊎ (is_move input ≡ true) → now.world.answers ≡ [] → EventSaysFront line input now new → Sink
+  says_by : ((is_move input ≡ false) × AreBehind script tables first new.held at.ctx.done) ⊎ (is_move input ≡ true) → now.world.answers ≡ [] → EventSaysFront line input now new → Sink
   says_by packs none e =
       let acts : List Act = event_acts line input e.plays.tried now.world in
       let whole : Whole script tables first (packs_after_all now.world now.held acts) (at.ctx.done ++ (opening ++ lines_of_all now.world acts)) =
@@ -353,13 +366,16 @@ module _ {script : Script} {tables : ℕ → Option Table} {first : ℕ → Pack
       λ t. e.plays.plays.out t ∙ ap (λ (xs : List ℕ). now.said ++ xs) (event_said line input now (record new { world = e.world; said = e.text; tally = e.tally }) none e.plays) in
       says_stop at.ctx acts new e.text whole.follows (packs_by packs) still_traced still e.plays.plays.trace text e.said
     where
-      packs_by : AreBehind script tables first new.held at.ctx.done ⊎ (is_move input ≡ true)
-          → AreBehind script tables first new.held at.ctx.done
-          ⊎ ((lines_told (lines_of_all now.world (event_acts line input e.plays.tried now.world)) ≤ 1)
+      packs_by : ((is_move input ≡ false) × AreBehind script tables first new.held at.ctx.done) ⊎ (is_move input ≡ true)
+          → (AreNoSectors (lines_of_all now.world (event_acts line input e.plays.tried now.world)) × AreBehind script tables first new.held at.ctx.done)
+          ⊎ (SaysOneSector (lines_of_all now.world (event_acts line input e.plays.tried now.world))
           × AreBehind script tables first new.held (at.ctx.done ++ (opening ++ lines_of_all now.world (event_acts line input e.plays.tried now.world))))
-      packs_by (inl same) = inl same
+      packs_by (inl same) = inl (
+        event_quiet line input e.plays.tried now.world (event_acts line input e.plays.tried now.world) [] (no_move input same.0) (sym (append-nil (event_acts line input e.plays.tried now.world))),
+        same.1,
+      )
       packs_by (inr moves) = inr (
-        few_of line input e.plays.tried now.world moves,
+        one_of line input e.plays.tried now.world moves,
         subst (λ (held : ℕ → Pack). AreBehind script tables first held (at.ctx.done ++ (opening ++ lines_of_all now.world (event_acts line input e.plays.tried now.world))))
             (sym (e.plays.packs told)) (at.goes e.plays.tried e.plays.may (e.plays.reads told)).behind,
       )
@@ -378,7 +394,7 @@ module _ {script : Script} {tables : ℕ → Option Table} {first : ℕ → Pack
       none_done none =
           stops_at_sink (unopened at.ctx (at.silent moves)) [] new refl
           (subst (Follows (start_of script tables first)) (sym (append-nil at.ctx.done)) at.ctx.follows)
-          (inl (same_behind (e.tells.packs told ∙ ap (λ (done : List Act). packs_after_all now.world now.held done) none))) still_traced still
+          (inl (tt, same_behind (e.tells.packs told ∙ ap (λ (done : List Act). packs_after_all now.world now.held done) none))) still_traced still
           (λ t. subst (λ (done : List Act). IsBetween now.taken (now.taken ++ trace_text (lines_of_all now.world done)) new.taken) none (e.tells.trace t))
           (λ t. subst (IsBetween now.said (now.said ++ [])) (sym e.tells.out) (record { least = front_same now.said; most = front_more now.said [] }))
           (inr e.tells.out)
@@ -389,7 +405,7 @@ module _ {script : Script} {tables : ℕ → Option Table} {first : ℕ → Pack
           at.goes e.tried (is.may (subst (Run now.world) all e.tells.run)) (is.reads (subst (ReadAll now.world now.held) all (e.tells.reads told))) in
           tells_stop at.ctx acts new e.tells whole.follows
           (inr (
-            subst (λ (done : List Act). lines_told (lines_of_all now.world done) ≤ 1) (sym all) (few_of line input e.tried now.world moves),
+            subst (λ (done : List Act). SaysOneSector (lines_of_all now.world done)) (sym all) (one_of line input e.tried now.world moves),
             subst (λ (held : ℕ → Pack). AreBehind script tables first held (at.ctx.done ++ (opening ++ lines_of_all now.world e.tells.done))) (sym (e.tells.packs told))
                 (subst (λ (done : List Act). AreBehind script tables first (packs_after_all now.world now.held done) (at.ctx.done ++ (opening ++ lines_of_all now.world done))) (sym all) whole.behind),
           ))
@@ -404,7 +420,7 @@ module _ {script : Script} {tables : ℕ → Option Table} {first : ℕ → Pack
     where
       by_kind : (b : Bool) → is_move input ≡ b → EventTellsFront line input now new ⊎ EventSaysFront line input now new → Sink
       by_kind false is (inl tells) = still_tells is there (e.0 is) tells
-      by_kind false is (inr says) = says_by (inl (same_behind (e.0 is))) none says
+      by_kind false is (inr says) = says_by (inl (is, same_behind (e.0 is))) none says
       by_kind true is (inl tells) = move_tells is tells
       by_kind true is (inr says) = says_by (inr is) none says
 

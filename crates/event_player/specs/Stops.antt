@@ -4,7 +4,7 @@ use Rattle.pack_model.specs.Pack.{Pack}
 use Rattle.pack_model.specs.PackTable.{AreTablesOf}
 use Rattle.pack_model.specs.TableSpelling.{Table}
 use Rattle.subsystem_spec.specs.Requests.{Request}
-use Rattle.trace_replay.specs.Moments.{Moment, Played, Told, Idle, played}
+use Rattle.trace_replay.specs.Moments.{Moment, Played, Told, Idle, played, answers_in}
 use Rattle.trace_replay.specs.Script.{Script, Input, MoveAt, Drain, Line, Numbered, Statement, Declares, Plays, drives_of, inputs_of, inputs_before}
 use Rattle.trace_replay.specs.Replay.{Replay, Follows, AreLeft, after_moments}
 use Rattle.trace_replay.specs.Runs.{start_of}
@@ -24,6 +24,7 @@ use Rattle.driver_trace.specs.Within.{ShowsAll}
 use Rattle.answer_lines.specs.AnswerText.{out_text}
 use Rattle.answer_tally.specs.declared.tally.Tally.{Tally}
 use Rattle.hp_driver.specs.Subsystem.{is_move}
+use Rattle.run_promises.specs.Beginnings.{AreNoSectors}
 use Rattle.event_player.specs.declared.play.PlayFault.{PlayFault}
 use Rattle.event_player.specs.declared.play.PlayFault.TheVariants as faults
 use Rattle.event_player.specs.Playing.{HasRun, HasTold}
@@ -45,6 +46,11 @@ only_played [] = []
 only_played (Played line input ∷ ms) = Played line input ∷ only_played ms
 only_played (m ∷ ms) = only_played ms
 
+-- what a move says: one line at most, and no answer
+pub record SaysOneSector (moments : List Moment) : Type 0 where
+  pub few : lines_told moments ≤ 1
+  pub silent : answers_in moments ≡ []
+
 -- THE PACKS are as the replay has them behind some moments.
 abbrev pub AreBehind : Script → (ℕ → Option Table) → (first left : ℕ → Pack) → List Moment → Type 0
 AreBehind script tables first left moments = AreLeft (drives_of script) first left (after_moments (start_of script tables first) moments).surface
@@ -55,14 +61,14 @@ pub record CameTo (script : Script) (tables : ℕ → Option Table) (first : ℕ
   pub follows : Follows (start_of script tables first) (done ++ under)
   pub inputs : inputs_of script ≡ played (done ++ under) ++ later
 
--- A SINK FAILED. The packs are as before the event, or behind it, which then told one line at most. Each sink took all that was said
--- before the event, and a front of what the event said; no answer of it was written before all its lines were.
+-- A SINK FAILED. The packs are as before the event, which told of no sector; or behind it, which was a move. Each sink took all that was
+-- said before the event, and a front of what the event said; no answer of it was written before all its lines were.
 pub record StopsAtSink (script : Script) (tables : ℕ → Option Table) (first left : ℕ → Pack) (out_tells : Bool) (said said' : List ℕ) (trace_tells : Bool) (taken taken' : List ℕ) : Type 0 where
   pub done : List Moment
   pub under : List Moment
   pub later : List Numbered
   pub came : CameTo script tables first done under later
-  pub packs : AreBehind script tables first left done ⊎ ((lines_told under ≤ 1) × AreBehind script tables first left (done ++ under))
+  pub packs : (AreNoSectors under × AreBehind script tables first left done) ⊎ (SaysOneSector under × AreBehind script tables first left (done ++ under))
   pub trace : IsTrue trace_tells → IsBetween (taken ++ trace_text done) (taken ++ trace_text (done ++ under)) taken'
   pub out : IsTrue out_tells → IsBetween (said ++ out_text done) (said ++ out_text (done ++ under)) said'
   pub lines_first : (IsTrue trace_tells → taken' ≡ taken ++ trace_text (done ++ under)) ⊎ (IsTrue out_tells → said' ≡ said ++ out_text (done ++ only_played under))

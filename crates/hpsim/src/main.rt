@@ -1,6 +1,9 @@
 // The program: it makes the real source, sinks and packs, and ends with the status of the command.
 #![tactic(auto)]
 
+#[cfg(test)]
+mod tests;
+
 use hpsim_run::{Status, run};
 use mass_outside::files::{FilePacks, FileSink};
 use mass_outside::streams::{StdSink, StdSource};

@@ -3,3 +3,4 @@ mod PlayLaws
 pub mod ToolLaws
 pub mod WordLaws
 pub mod SoFar
+mod Standing

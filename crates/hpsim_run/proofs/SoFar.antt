@@ -1,5 +1,5 @@
 -- The laws of legal beginnings, of the moments that a script came to before it stopped.
-use Rattle.std.proofs.Common.{◌≡◌, ◌⊎◌, inl, inr, ℕ, ◌+◌, ◌==◌, ◌||◌, ◌≤◌, Bool, true, false, All, List, [], ◌∷◌, ◌++◌, Option, Some, None, refl, sym, ap, subst, ◌∙◌, append_assoc}
+use Rattle.std.proofs.Common.{◌≡◌, ◌⊎◌, inl, inr, ℕ, ◌+◌, ◌==◌, ◌||◌, Bool, true, false, All, List, [], ◌∷◌, ◌++◌, Option, Some, None, refl, sym, ap, subst, ◌∙◌, append-nil}
 use Rattle.std.specs.List.{list_any}
 use Rattle.std.proofs.lemmas.List.Elements.{All-head, All-tail}
 use Rattle.pack_geometry.specs.declared.DriveKind.{DriveKind}
@@ -22,15 +22,15 @@ use Rattle.block_machine.specs.Stands.{AreGiven}
 use Rattle.block_machine.proofs.Runs.{each_beginning, script_ids}
 use Rattle.event_player.specs.declared.play.PlayFault.{PlayFault}
 use Rattle.event_player.specs.declared.play.PlayFault.TheVariants as faults
-use Rattle.event_player.specs.Stops.{AreBehind, CameTo, lines_told}
-use Rattle.run_promises.specs.Beginnings.{BeginningsKeep, PromisesSoFar}
-use Rattle.hpsim_run.specs.SoFar.{KeepsSoFar, HoldSoFar, Keeps}
+use Rattle.event_player.specs.Stops.{AreBehind, CameTo, SaysOneSector}
+use Rattle.run_promises.specs.Beginnings.{IsBegun, AreNoSectors, BeginningsKeep, FrontsKeep, PromisesSoFar}
+use Rattle.hpsim_run.specs.SoFar.{KeepsSoFar, HoldSoFar, HoldTaken, Keeps}
+use Rattle.hpsim_run.proofs.Standing.{Found, found, stand_silent}
 
-played_append : (xs ys : List Moment) → played (xs ++ ys) ≡ played xs ++ played ys
-played_append [] ys = refl
-played_append (Played line input ∷ xs) ys = ap (λ (ns : List Numbered). record { line = line; input = input } ∷ ns) (played_append xs ys)
-played_append (Told line unit id deed ∷ xs) ys = played_append xs ys
-played_append (Idle line ∷ xs) ys = played_append xs ys
+-- moments without a sector
+none_front : (ms more : List Moment) → AreNoSectors (ms ++ more) → AreNoSectors ms
+none_front [] more none = tt
+none_front (m ∷ ms) more none = (none.0, none_front ms more none.1)
 
 -- THE INPUTS of a script are good, and so are the first of them.
 abbrev AllGood : (ℕ → Option DriveKind) → List Numbered → Type 0
@@ -143,36 +143,52 @@ module _ (script : Script) (good : IsScript script) (tables : ℕ → Option Tab
   }
 
 -- WITH THE PACKS behind them
-module _ (keep : BeginningsKeep) (script : Script) (good : IsScript script) (tables : ℕ → Option Table) (first left : ℕ → Pack) (read : AreTablesOf (drives_of script) first tables)
-    (done under : List Moment) (later : List Numbered) (came : CameTo script tables first done under later) where
-  hold_all : AreBehind script tables first left (done ++ under) → PromisesSoFar script tables first left (done ++ under)
-  hold_all behind =
-      keep script tables first left (done ++ under) (record { good = good; later = later; inputs = came.inputs; tables_read = read; follows = came.follows }) behind
+module _ (keep : BeginningsKeep) (fronts : FrontsKeep) (script : Script) (good : IsScript script) (tables : ℕ → Option Table) (first left : ℕ → Pack)
+    (read : AreTablesOf (drives_of script) first tables) (done under : List Moment) (later : List Numbered) (came : CameTo script tables first done under later) where
+  begun : IsBegun script tables first (done ++ under)
+  begun = record { good = good; later = later; inputs = came.inputs; tables_read = read; follows = came.follows }
 
   hold_done : AreBehind script tables first left done → PromisesSoFar script tables first left done
   hold_done behind =
-      keep script tables first left done
-      (record {
-        good = good;
-        later = played under ++ later;
-        inputs = came.inputs ∙ ap (λ (ns : List Numbered). ns ++ later) (played_append done under) ∙ append_assoc (played done) (played under) later;
-        tables_read = read;
-        follows = ((follow_on (start_of script tables first) done under).0 came.follows).0;
-      }) behind
+      subst (PromisesSoFar script tables first left) (append-nil done)
+      (fronts script tables first left done [] under begun tt behind)
 
-  hold_so_far : AreBehind script tables first left done ⊎ ((lines_told under ≤ 1) × AreBehind script tables first left (done ++ under)) → HoldSoFar script tables first left done under
-  hold_so_far (inl behind) = inl (hold_done behind)
-  hold_so_far (inr behind) = inr (behind.0, hold_all behind.1)
+  hold_each : AreNoSectors under → AreBehind script tables first left done → (front rest : List Moment) → under ≡ front ++ rest → PromisesSoFar script tables first left (done ++ front)
+  hold_each none behind front rest cut =
+      fronts script tables first left done front rest (subst (λ (ms : List Moment). IsBegun script tables first (done ++ ms)) cut begun)
+      (none_front front rest (subst AreNoSectors cut none)) behind
 
-pub keeps : BeginningsKeep → (fault : PlayFault) (script : Script) (first left : ℕ → Pack) (out_tells : Bool) (said said' : List ℕ) (trace_tells : Bool) (taken taken' : List ℕ) → IsScript script
-    → Keeps fault script first left out_tells said said' trace_tells taken taken'
-keeps keep faults.Memory script first left out_tells said said' trace_tells taken taken' good = tt
-keeps keep (faults.TooLong u n) script first left out_tells said said' trace_tells taken taken' good = tt
-keeps keep faults.Store script first left out_tells said said' trace_tells taken taken' good = λ is. (
+  hold_so_far : (AreNoSectors under × AreBehind script tables first left done) ⊎ (SaysOneSector under × AreBehind script tables first left (done ++ under))
+      → HoldSoFar script tables first left done under
+  hold_so_far (inl still) = inl (hold_each still.0 still.1)
+  hold_so_far (inr moved) = inr (moved.0, keep script tables first left (done ++ under) begun moved.1)
+
+hold_taken : (script : Script) (tables : ℕ → Option Table) (first left : ℕ → Pack) (said said' : List ℕ) (done under : List Moment) → HoldSoFar script tables first left done under
+    → HoldTaken script tables first left said said' done under
+hold_taken script tables first left said said' done under (inl each) =
+    let f : Found said said' done under = found said said' done under in
+    record { front = f.front; rest = f.rest; cut = f.cut; stand = f.stand; hold = each f.front f.rest f.cut }
+hold_taken script tables first left said said' done under (inr moved) = record {
+  front = under;
+  rest = [];
+  cut = sym (append-nil under);
+  stand = stand_silent said said' done under moved.0.silent;
+  hold = moved.1;
+}
+
+pub keeps : BeginningsKeep → FrontsKeep → (fault : PlayFault) (script : Script) (first left : ℕ → Pack) (out_tells : Bool) (said said' : List ℕ) (trace_tells : Bool) (taken taken' : List ℕ)
+    → IsScript script → Keeps fault script first left out_tells said said' trace_tells taken taken'
+keeps keep fronts faults.Memory script first left out_tells said said' trace_tells taken taken' good = tt
+keeps keep fronts (faults.TooLong u n) script first left out_tells said said' trace_tells taken taken' good = tt
+keeps keep fronts faults.Store script first left out_tells said said' trace_tells taken taken' good = λ is. (
   keeps_so_far script good is.tables first is.read is.stopped.done [] is.stopped.later is.stopped.came,
-  hold_done keep script good is.tables first is.stopped.held is.read is.stopped.done [] is.stopped.later is.stopped.came is.stopped.behind,
+  hold_done keep fronts script good is.tables first is.stopped.held is.read is.stopped.done [] is.stopped.later is.stopped.came is.stopped.behind,
 )
-keeps keep faults.Sink script first left out_tells said said' trace_tells taken taken' good = λ is. (
-  keeps_so_far script good is.tables first is.read is.stopped.done is.stopped.under is.stopped.later is.stopped.came,
-  hold_so_far keep script good is.tables first left is.read is.stopped.done is.stopped.under is.stopped.later is.stopped.came is.stopped.packs,
-)
+keeps keep fronts faults.Sink script first left out_tells said said' trace_tells taken taken' good = λ is.
+    let hold : HoldSoFar script is.tables first left is.stopped.done is.stopped.under =
+    hold_so_far keep fronts script good is.tables first left is.read is.stopped.done is.stopped.under is.stopped.later is.stopped.came is.stopped.packs in
+    (
+      keeps_so_far script good is.tables first is.read is.stopped.done is.stopped.under is.stopped.later is.stopped.came,
+      hold,
+      hold_taken script is.tables first left said said' is.stopped.done is.stopped.under hold,
+    )

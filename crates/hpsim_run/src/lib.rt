@@ -17,4 +17,6 @@ mod exercise_tests;
 #[cfg(test)]
 mod rows;
 #[cfg(test)]
+mod stops_tests;
+#[cfg(test)]
 mod tests;

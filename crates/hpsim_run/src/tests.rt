@@ -10,7 +10,7 @@ use std::alloc::Global;
 use std::test::Fail;
 
 /// The words of the command that plays.
-const PLAY: &[&str] = &["play"];
+pub(crate) const PLAY: &[&str] = &["play"];
 
 /// Words that are no command.
 const NO_COMMANDS: [&[&str]; 6] = [
@@ -22,17 +22,19 @@ const NO_COMMANDS: [&[&str]; 6] = [
     &["play", "play"],
 ];
 
-/// Which calls fail in a run: of the source, of the sinks for answers and trace, and of the packs.
+/// Which calls fail in a run: of the source, of the sinks for answers and trace, and of the packs; and the rooms of the sinks.
 #[derive(Clone, Copy)]
-struct Faults {
-    source: u64,
-    out: u64,
-    trace: u64,
-    packs: FailCall,
+pub(crate) struct Faults {
+    pub(crate) source: u64,
+    pub(crate) out: u64,
+    pub(crate) trace: u64,
+    pub(crate) packs: FailCall,
+    pub(crate) out_room: usize,
+    pub(crate) trace_room: usize,
 }
 
 /// No call that is made has the number 0.
-const NONE: Faults = Faults {
+pub(crate) const NONE: Faults = Faults {
     source: 0,
     out: 0,
     trace: 0,
@@ -40,18 +42,25 @@ const NONE: Faults = Faults {
         op: PackOp::Read,
         number: 0,
     },
+    out_room: 400_000,
+    trace_room: 90_000,
 };
 
 /// What a run came to.
 #[derive(Drop)]
-struct Ran {
-    status: u8,
-    out: MemSink,
-    trace: MemSink,
+pub(crate) struct Ran {
+    pub(crate) status: u8,
+    pub(crate) out: MemSink,
+    pub(crate) trace: MemSink,
 }
 
 /// Unit 0 with an image and its marks, and three units with empty ones.
-fn packs_of(alloc: Global, image: &[u8], marks: &[u8], fail: FailCall) -> Result<MemPacks, Fail> {
+pub(crate) fn packs_of(
+    alloc: Global,
+    image: &[u8],
+    marks: &[u8],
+    fail: FailCall,
+) -> Result<MemPacks, Fail> {
     let mut images = Vec::new(alloc);
     images.push(Image {
         unit: 0,
@@ -71,7 +80,7 @@ fn packs_of(alloc: Global, image: &[u8], marks: &[u8], fail: FailCall) -> Result
 }
 
 /// Runs a command over packs.
-fn run_on(
+pub(crate) fn run_on(
     alloc: Global,
     line: &[&str],
     script: &[u8],
@@ -86,8 +95,16 @@ fn run_on(
         Vec::from_slice(alloc, script)?,
         Vec::from_slice(alloc, &[faults.source])?,
     );
-    let mut out = MemSink::new(alloc, 400_000, Vec::from_slice(alloc, &[faults.out])?)?;
-    let mut trace = MemSink::new(alloc, 90_000, Vec::from_slice(alloc, &[faults.trace])?)?;
+    let mut out = MemSink::new(
+        alloc,
+        faults.out_room,
+        Vec::from_slice(alloc, &[faults.out])?,
+    )?;
+    let mut trace = MemSink::new(
+        alloc,
+        faults.trace_room,
+        Vec::from_slice(alloc, &[faults.trace])?,
+    )?;
     let status = run(
         alloc,
         words.as_slice(),
@@ -100,7 +117,12 @@ fn run_on(
 }
 
 /// Plays a script over unit 0 with an image on which no block is marked.
-fn play_over(alloc: Global, script: &[u8], image: &[u8], faults: Faults) -> Result<Ran, Fail> {
+pub(crate) fn play_over(
+    alloc: Global,
+    script: &[u8],
+    image: &[u8],
+    faults: Faults,
+) -> Result<Ran, Fail> {
     let mut packs = packs_of(alloc, image, b"", faults.packs)?;
     run_on(alloc, PLAY, script, &mut packs, faults)
 }
@@ -164,7 +186,7 @@ fn whole_traces(rt: HostRuntime) -> Result<(), Fail> {
 }
 
 /// How often a word stands in a trace behind three numbers, or at the start of a line.
-fn times(trace: &[u8], word: &[u8]) -> u32 {
+pub(crate) fn times(trace: &[u8], word: &[u8]) -> u32 {
     let mut count = 0u32;
     for i in 0..trace.len() {
         let there = trace.get(i..).unwrap_or(b"");
@@ -176,7 +198,7 @@ fn times(trace: &[u8], word: &[u8]) -> u32 {
 }
 
 /// Noise that shows, until an offset helps or the tries run out: how often each command and each failure is told.
-const RETRIES: [(&[u8], [u32; 7]); 2] = [
+pub(crate) const RETRIES: [(&[u8], [u32; 7]); 2] = [
     (
         b"unit 0 rp06\nnoise 0 5 27 0 7 14\nread 1 0 c 5 1\n",
         [28, 27, 27, 3, 12, 12, 0],
@@ -210,8 +232,13 @@ fn retries(rt: HostRuntime) -> Result<(), Fail> {
 
 /// Unit 0 with a table of serial number 1 that has these entries, if it has any, and with these blocks marked. The first two
 /// replacements hold 5A and 6B.
-fn listed(alloc: Global, entries: &[u8], marks: &[u32]) -> Result<MemPacks, Fail> {
-    let mut packs = packs_of(alloc, b"", b"", NONE.packs)?;
+pub(crate) fn listed(
+    alloc: Global,
+    entries: &[u8],
+    marks: &[u32],
+    fail: FailCall,
+) -> Result<MemPacks, Fail> {
+    let mut packs = packs_of(alloc, b"", b"", fail)?;
     if !entries.is_empty() {
         let mut copy = [0xFFu8; 512];
         for i in 0..8usize {
@@ -274,7 +301,7 @@ const FORWARDED: [(&[u8], &[u32], &[u8], &[u8], &[u8]); 5] = [
 #[test]
 fn forwarded_reads(rt: HostRuntime) -> Result<(), Fail> {
     for (entries, marks, script, text, lines) in FORWARDED {
-        let mut packs = listed(rt.alloc(), entries, marks)?;
+        let mut packs = listed(rt.alloc(), entries, marks, NONE.packs)?;
         let ran = run_on(rt.alloc(), PLAY, script, &mut packs, NONE)?;
         assert_eq!(rt; ran.status, 0);
         assert_eq!(rt; ran.out.taken(), text);
@@ -284,7 +311,7 @@ fn forwarded_reads(rt: HostRuntime) -> Result<(), Fail> {
 }
 
 /// Whether one text stands in another.
-fn holds(text: &[u8], piece: &[u8]) -> bool {
+pub(crate) fn holds(text: &[u8], piece: &[u8]) -> bool {
     for i in 0..text.len() {
         if text.get(i..).unwrap_or(b"").starts_with(piece) {
             return true;
@@ -334,7 +361,7 @@ fn user_read(alloc: Global, k: u32) -> Result<String, Fail>
 
 #[test]
 fn mixed_user_run(rt: HostRuntime) -> Result<(), Fail> {
-    let mut packs = listed(rt.alloc(), &[0x00, 0x00, 0x0F, 0x05], &[125])?;
+    let mut packs = listed(rt.alloc(), &[0x00, 0x00, 0x0F, 0x05], &[125], NONE.packs)?;
     let script = user_script(rt.alloc())?;
     let ran = run_on(rt.alloc(), PLAY, script.as_bytes(), &mut packs, NONE)?;
     assert!(rt;
@@ -387,27 +414,6 @@ fn fronts(rt: HostRuntime) -> Result<(), Fail> {
     Ok(())
 }
 
-/// A read that is retried 27 times, over packs whose reads fail, one in each run: each number of sectors is told before some failure.
-#[test]
-fn retries_over_failing_packs(rt: HostRuntime) -> Result<(), Fail> {
-    let script = RETRIES[0].0;
-    let mut told = 0u32;
-    for number in 1..60u64 {
-        let faults = failing(Operation::Packs(PackOp::Read), number);
-        let ran = play_over(rt.alloc(), script, b"", faults)?;
-        if ran.status == 0 {
-            break;
-        }
-        assert_eq!(rt; ran.status, 6);
-        let sectors = times(ran.trace.taken(), b"sector ");
-        if sectors == told {
-            told = told.saturating_add(1);
-        }
-    }
-    assert_eq!(rt; told, 28);
-    Ok(())
-}
-
 /// The mark bytes 00 07, and no table.
 #[test]
 fn a_mark_of_seven(rt: HostRuntime) -> Result<(), Fail> {
@@ -418,28 +424,6 @@ fn a_mark_of_seven(rt: HostRuntime) -> Result<(), Fail> {
         ran.out.taken(),
         b"ans 1 at 3 error unforwarded done 1\n".as_slice()
     );
-    Ok(())
-}
-
-/// The third block of a write fails: the two before it are written, and the one behind it is as it was.
-#[test]
-fn third_write_fails(rt: HostRuntime) -> Result<(), Fail> {
-    let fail = FailCall {
-        op: PackOp::Write,
-        number: 3,
-    };
-    let mut packs = packs_of(rt.alloc(), &[0x11; 4608], b"", fail)?;
-    let script = b"unit 0 rp06\nwrite 1 0 c 5 4 fill 77\n";
-    let ran = run_on(rt.alloc(), PLAY, script, &mut packs, NONE)?;
-    assert_eq!(rt; ran.status, 6);
-    assert_eq!(rt; ran.out.taken(), b"".as_slice());
-    let mut bytes = [0u8; 512];
-    for (block, byte) in [(5, 0x77), (6, 0x77), (8, 0x11)] {
-        packs.read(0, block, &mut bytes)?;
-        for i in 0..512usize {
-            assert_eq!(rt; bytes[i], byte, "byte {i} of block {block}");
-        }
-    }
     Ok(())
 }
 
@@ -505,75 +489,11 @@ fn short_image(rt: HostRuntime) -> Result<(), Fail> {
 
 const USAGE: &[u8] = b"usage: hpsim play or bad144 list/add/fresh or exercise N\n";
 
-const SCRIPT: &[u8] = b"unit 0 rp06\nwrite 1 0 c 5 1 fill 77\nread 2 0 c 5 1\n";
-
-const TEXT: &[u8] = b"ans 1 at 4 ok\nans 2 at 4 ok\nblk 0 fill 77\n";
-
-/// Each call of an operation fails in turn, until a run ends with 0: the status till then, and a front of the text.
-const FAILING: [(Operation, u8); 6] = [
-    (Operation::Source, 4),
-    (Operation::Out, 5),
-    (Operation::Trace, 5),
-    (Operation::Packs(PackOp::Write), 6),
-    (Operation::Packs(PackOp::Read), 6),
-    (Operation::Packs(PackOp::Marked), 6),
-];
-
-/// What is made to fail.
-#[derive(Clone, Copy)]
-enum Operation {
-    Source,
-    Out,
-    Trace,
-    Packs(PackOp),
-}
-
-/// The faults that make call `number` of an operation fail.
-fn failing(operation: Operation, number: u64) -> Faults {
-    match operation {
-        Operation::Source => Faults {
-            source: number,
-            ..NONE
-        },
-        Operation::Out => Faults {
-            out: number,
-            ..NONE
-        },
-        Operation::Trace => Faults {
-            trace: number,
-            ..NONE
-        },
-        Operation::Packs(op) => Faults {
-            packs: FailCall { op, number },
-            ..NONE
-        },
-    }
-}
-
-#[test]
-fn failing_calls(rt: HostRuntime) -> Result<(), Fail> {
-    for (operation, wanted) in FAILING {
-        let mut last = wanted;
-        for number in 1..60u64 {
-            let ran = play_over(rt.alloc(), SCRIPT, b"", failing(operation, number))?;
-            assert!(rt; TEXT.starts_with(ran.out.taken()));
-            last = ran.status;
-            if last == 0 {
-                assert_eq!(rt; ran.out.taken(), TEXT);
-                break;
-            }
-            assert_eq!(rt; last, wanted, "{number}");
-        }
-        assert_eq!(rt; last, 0);
-    }
-    Ok(())
-}
-
 #[test]
 fn usage(rt: HostRuntime) -> Result<(), Fail> {
     for words in NO_COMMANDS {
         let mut packs = packs_of(rt.alloc(), b"", b"", NONE.packs)?;
-        let ran = run_on(rt.alloc(), words, SCRIPT, &mut packs, NONE)?;
+        let ran = run_on(rt.alloc(), words, b"unit 0 rp06\n", &mut packs, NONE)?;
         assert_eq!(rt; ran.status, 2);
         assert_eq!(rt; ran.out.taken(), USAGE);
     }

@@ -1,4 +1,5 @@
 mod Asked
 mod Begun
 mod Complete
+mod Fronts
 mod Quiet

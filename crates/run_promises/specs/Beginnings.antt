@@ -84,6 +84,13 @@ abbrev pub QuietMomentsKeep : Type 0
 QuietMomentsKeep = (drives : ℕ → Option DriveKind) (old new : ℕ → model.Pack) (start : Replay) (moments more : List Moment) → AreNoSectors more
     → AreLeft drives old new (after_moments start moments).surface → AreLeft drives old new (after_moments start (moments ++ more)).surface
 
+-- CUT ANYWHERE. Where the packs are left as the replay has them behind the first moments, and some that come behind these tell of no
+-- sector, the same is promised of them all, however the run goes on.
+abbrev pub FrontsKeep : Type 0
+FrontsKeep = (script : Script) (tables : ℕ → Option Table) (old new : ℕ → model.Pack) (moments front rest : List Moment)
+    → IsBegun script tables old (moments ++ (front ++ rest)) → AreNoSectors front
+    → AreLeft (drives_of script) old new (after_moments (run_start script tables old) moments).surface → PromisesSoFar script tables old new (moments ++ front)
+
 -- THE NEXT BLOCK of a write whose sectors move: each so far was clean, some are left, and the next one is not marked.
 pub record IsNextSector (u : UnitSeen) (pack : model.Pack) (block : ℕ) : Type 0 where
   pub segment : Segment

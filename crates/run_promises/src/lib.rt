@@ -8,7 +8,7 @@ ghost use Rattle.pack_model.specs.TableSpelling.{Table};
 ghost use Rattle.trace_replay.specs.Moments.{Moment};
 ghost use Rattle.trace_replay.specs.Script.{Script};
 ghost use Rattle.trace_replay.specs.Runs.{IsLegalRun};
-ghost use Rattle.run_promises.specs.Beginnings.{BeginningsKeep, NextBlocksKeep, QuietMomentsKeep};
+ghost use Rattle.run_promises.specs.Beginnings.{BeginningsKeep, FrontsKeep, NextBlocksKeep, QuietMomentsKeep};
 ghost use Rattle.run_promises.specs.Promises.{Promises};
 
 use block_machine::{answers_law, last_write_law, once_law, packs_law, refusals_law, step_law};
@@ -36,11 +36,13 @@ pub fn promises_law()
 
 /// The law of a run that was begun, however it goes on: its answers so far are legal and have their causes, and where the packs are left
 /// as the replay has them, each data block holds what the answered writes left, but for the first blocks of one request of each unit.
-/// The same is promised where the next block of one write is there already. Moments that tell of no sector leave the packs alone.
+/// The same is promised where the next block of one write is there already. Moments that tell of no sector leave the packs alone: the same
+/// is promised of each front of them.
 pub fn beginnings_law()
     ensures begun { BeginningsKeep }
     ensures next { NextBlocksKeep }
     ensures quiet { QuietMomentsKeep }
+    ensures fronts { FrontsKeep }
 {
     step_law();
     consistent_law();

@@ -1,4 +1,5 @@
 use Rattle.run_promises.proofs.Begun.{beginnings_keep, next_blocks_keep}
+use Rattle.run_promises.proofs.Fronts.{fronts_keep}
 use Rattle.run_promises.proofs.Quiet.{quiet_moments_keep}
 use Rattle.run_promises.proofs.beginnings_law.Goals as goal
 
@@ -18,3 +19,10 @@ returns-clause-next c = next_blocks_keep (record {
 
 pub returns-clause-quiet : goal.returns-clause-quiet
 returns-clause-quiet c = quiet_moments_keep
+
+pub returns-clause-fronts : goal.returns-clause-fronts
+returns-clause-fronts c = fronts_keep (beginnings_keep (record {
+  beginning = c.step_law.ensures.beginning;
+  consistent = c.consistent_law.ensures.always;
+  explained = c.cause_law.ensures.explained;
+}))

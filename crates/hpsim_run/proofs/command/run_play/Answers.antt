@@ -68,7 +68,7 @@ returns-in-Err-Sink-clause-stopped g c = λ _. record {
   read = λ t. c.in-Ok.ensures.end t;
   spelled = λ t. c.in-Ok.ensures.ok t;
   leaves = λ t. left_by _ _ _ _ _ _ _ _ _ _ _ c.in-Err-Sink.field-0-is (c.in-Err-Sink.ensures.stopped t);
-  keeps = λ t. keeps c.beginnings_law.ensures.begun faults.Sink _ _ _ _ _ _ _ _ _ (c.meaning_law.ensures.read c.in-Ok.script.text c.in-Ok.script c.in-Ok.ensures.spells);
+  keeps = λ t. keeps c.beginnings_law.ensures.begun c.beginnings_law.ensures.fronts faults.Sink _ _ _ _ _ _ _ _ _ (c.meaning_law.ensures.read c.in-Ok.script.text c.in-Ok.script c.in-Ok.ensures.spells);
 }
 
 pub returns-in-Err-Store-clause-stopped_packs : goal.returns-in-Err-Store-clause-stopped_packs
@@ -78,5 +78,5 @@ returns-in-Err-Store-clause-stopped_packs g c = λ _. record {
   read = λ t. c.in-Ok.ensures.end t;
   spelled = λ t. c.in-Ok.ensures.ok t;
   leaves = λ t. left_by _ _ _ _ _ _ _ _ _ _ _ c.in-Err-Store.field-0-is (c.in-Err-Store.ensures.stopped t);
-  keeps = λ t. keeps c.beginnings_law.ensures.begun faults.Store _ _ _ _ _ _ _ _ _ (c.meaning_law.ensures.read c.in-Ok.script.text c.in-Ok.script c.in-Ok.ensures.spells);
+  keeps = λ t. keeps c.beginnings_law.ensures.begun c.beginnings_law.ensures.fronts faults.Store _ _ _ _ _ _ _ _ _ (c.meaning_law.ensures.read c.in-Ok.script.text c.in-Ok.script c.in-Ok.ensures.spells);
 }
