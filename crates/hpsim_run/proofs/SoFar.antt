@@ -186,8 +186,7 @@ keeps keep fronts faults.Store script first left out_tells said said' trace_tell
 )
 keeps keep fronts faults.Sink script first left out_tells said said' trace_tells taken taken' good = λ is.
     let hold : HoldSoFar script is.tables first left is.stopped.done is.stopped.under =
-    hold_so_far keep fronts script good is.tables first left is.read is.stopped.done is.stopped.under is.stopped.later is.stopped.came is.stopped.packs in
-    (
+    hold_so_far keep fronts script good is.tables first left is.read is.stopped.done is.stopped.under is.stopped.later is.stopped.came is.stopped.packs in (
       keeps_so_far script good is.tables first is.read is.stopped.done is.stopped.under is.stopped.later is.stopped.came,
       hold,
       hold_taken script is.tables first left said said' is.stopped.done is.stopped.under hold,
