@@ -153,7 +153,8 @@ pub all_answered : (lines : List Line) (answers : List Answered) → AreApart (i
     → ((id : ℕ) → Contains (ids_of lines) id → times_answered id answers ≡ 1) → ((id : ℕ) → ¬ (Contains (ids_of lines) id) → times_answered id answers ≡ 0)
     → length answers ≡ counted one_request lines
 all_answered lines answers apart once no_other =
-    as_many (ids_of lines) answers apart
-    ((λ j is. once j (contains_in j (ids_of lines) is)),
-    (λ j is. no_other j (λ c. false-true (sym is ∙ in_contains j (ids_of lines) c.0 c.1 c.2))))
+    as_many (ids_of lines) answers apart (
+      (λ j is. once j (contains_in j (ids_of lines) is)),
+      (λ j is. no_other j (λ c. false-true (sym is ∙ in_contains j (ids_of lines) c.0 c.1 c.2))),
+    )
     ∙ sym (requests_are lines)

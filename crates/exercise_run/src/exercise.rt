@@ -74,7 +74,12 @@ fn play_exercise<T: Sink>(alloc: Global, number: u64, trace: &mut T) -> Result<T
 ///
 /// Memory comes only before the first line is played, with both sinks as they were. Sink comes only where the count of faults of `out`
 /// or of `trace` rose.
-pub fn run_exercise<O: Sink, T: Sink>(alloc: Global, number: u64, out: &mut O, trace: &mut T) -> Result<(), ExerciseFault>
+pub fn run_exercise<O: Sink, T: Sink>(
+    alloc: Global,
+    number: u64,
+    out: &mut O,
+    trace: &mut T,
+) -> Result<(), ExerciseFault>
     ensures done { OnOk result (IsDone number (O.tells out.new) (O.taken out.old) (O.taken out.new) (T.tells trace.new) (T.taken trace.old) (T.taken trace.new)) }
     ensures stopped { IsErrOf result ExerciseFault.Sink → IsStopped number (O.tells out.new) (O.taken out.old) (O.taken out.new) (T.tells trace.new) (T.taken trace.old) (T.taken trace.new) }
     ensures sink { IsErrOf result ExerciseFault.Sink → Rose (O.faults out.old) (O.faults out.new) ⊎ Rose (T.faults trace.old) (T.faults trace.new) }
