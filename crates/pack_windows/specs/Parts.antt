@@ -26,5 +26,5 @@ marks_of held unit = (held unit).marks
 pub record AreCurrent (tells : Bool) (held : ℕ → Pack) (images marks : List Part) : Type 0 where
   pub image_count : length images ≡ 32
   pub marks_count : length marks ≡ 32
-  pub images : IsTrue tells → AreParts images (images_of held)
-  pub marks : IsTrue tells → AreParts marks (marks_of held)
+  pub image_parts : IsTrue tells → AreParts images (images_of held)
+  pub mark_parts : IsTrue tells → AreParts marks (marks_of held)
