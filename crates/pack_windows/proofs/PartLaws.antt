@@ -1,11 +1,13 @@
 -- Laws of windows.
-use Rattle.std.proofs.Common.{◌≡◌, ◌⊎◌, inl, inr, ℕ, ◌+◌, ◌-◌, ◌<◌, ◌≤◌, List, [], ◌++◌, take, drop, length, get_or, refl, sym, ap, ◌∙◌, subst, arith}
+use Rattle.std.proofs.Common.{◌≡◌, ◌⊎◌, inl, inr, ℕ, ◌+◌, ◌-◌, ◌<◌, ◌≤◌, List, [], ◌∷◌, ◌++◌, take, drop, length, get_or, sym, ap, ◌∙◌, subst, arith}
 use Rattle.std.proofs.lemmas.Grind.{common_steps, same_number_lists}
 use Rattle.std.proofs.lemmas.Bool.{cases_lt}
-use Rattle.std.proofs.lemmas.List.{get_or-take, get_or-drop, get_or_append_left, get_or-append_right, get_or_default}
+use Rattle.std.proofs.lemmas.List.{get_or-take, get_or-drop, get_or_default, get_or_push, length_push}
+use Rattle.std.specs.Prelude.{Some}
+use Rattle.std.proofs.lemmas.Option.{slice_get_within, get_or_from_slice_get, slice_get-get_or}
 use Rattle.pack_model.specs.Pack.{window, with_window}
 use Rattle.pack_model.proofs.PackLaws.{length-window, get_or-window, get_or-with_window_here, get_or-with_window_before, get_or-with_window_after, window-with_window_other}
-use Rattle.pack_windows.specs.Parts.{Part, IsPart}
+use Rattle.pack_windows.specs.Parts.{Part, IsPart, AreParts}
 
 -- nothing is a part of any whole
 pub empty_part : (part : Part) (whole : List ℕ) → length part.bytes ≡ 0 → IsPart part whole
@@ -120,5 +122,25 @@ pub put_seen : (seen part : Part) (whole from new : List ℕ) (i at : ℕ) → s
     → IsPart (record { at = seen.at; bytes = new }) (with_window at from whole)
 put_seen seen part whole from new i at e place h n is =
     let P : Part → Type 0 =
-      λ s. new ≡ take i s.bytes ++ from ++ drop (i + length from) s.bytes → IsPart (record { at = s.at; bytes = new }) (with_window at from whole) in
+    λ s. new ≡ take i s.bytes ++ from ++ drop (i + length from) s.bytes → IsPart (record { at = s.at; bytes = new }) (with_window at from whole) in
     subst P (sym e) (λ m. put_part part whole from new i at place h m is) n
+
+-- ---- parts of all units
+
+-- one part more
+pub part_more : (parts : List Part) (part : Part) (whole : ℕ → List ℕ) → ((unit : ℕ) → IsPart part (whole unit)) → AreParts parts whole
+    → AreParts (parts ++ part ∷ []) whole
+part_more parts part whole is are = record {
+  each = λ unit other e.
+      let inside : unit < length (parts ++ part ∷ []) = slice_get_within _ unit other e in
+      let got : get_or (parts ++ part ∷ []) unit other ≡ other = get_or_from_slice_get _ unit other other e in
+      elim (cases_lt unit (length parts)) [
+        | inl before ↦
+            let there : get_or (parts ++ part ∷ []) unit other ≡ get_or parts unit other = grind (arith, common_steps) in
+            are.each unit other (slice_get-get_or parts unit other before ∙ ap Some (sym there ∙ got))
+        | inr behind ↦
+            let last : length parts ≡ unit = omega (arith, inside, length_push parts part, behind) in
+            let same : part ≡ other = sym (get_or_push parts part other unit last) ∙ got in
+            subst (λ p. IsPart p (whole unit)) same (is unit)
+      ];
+}

@@ -1,5 +1,5 @@
 -- What windows of the parts of packs hold.
-use Rattle.std.specs.Prelude.{◌≡◌, ℕ, ◌<◌, Bool, IsTrue, List, length, Some, slice_get}
+use Rattle.std.specs.Prelude.{◌≡◌, ℕ, Bool, IsTrue, List, length, Some, slice_get}
 use Rattle.pack_model.specs.Pack.{Pack, window}
 
 -- bytes, and the place where they stand in a whole

@@ -111,15 +111,19 @@ fn place_of(unit: u8, part: Part) -> usize
 }
 
 /// An answer as one of this crate: an error counts as a fault, and nothing else does.
-fn counted<T, E: Drop>(answer: Result<T, E>, faults: &mut u64) -> Result<T, StoreFailed>
-    ensures answer { HandsOn answer StoreFailed result faults.old faults.new }
+fn counted<T, D: Drop>(
+    answer: Result<T, D>,
+    failed: StoreFailed,
+    faults: &mut u64,
+) -> Result<T, StoreFailed>
+    ensures answer { HandsOn answer failed result faults.old faults.new }
     ensures cause { HasCause faults.old faults.new result }
 {
     match answer {
         Ok(value) => Ok(value),
         Err(_) => {
             *faults = faults.saturating_add(1);
-            Err(StoreFailed)
+            Err(failed)
         }
     }
 }
@@ -243,7 +247,7 @@ where
         ensures counted { Counts result self.old.faults self.new.faults }
     {
         let length = self.packs.length(unit);
-        counted(length, &mut self.faults)
+        counted(length, StoreFailed, &mut self.faults)
     }
 
     fn read(&mut self, unit: u8, block: u32, into: &mut [u8; 512]) -> Result<(), StoreFailed>
@@ -252,7 +256,7 @@ where
         ensures counted { Counts result self.old.faults self.new.faults }
     {
         let read = self.packs.read(unit, block, into);
-        counted(read, &mut self.faults)
+        counted(read, StoreFailed, &mut self.faults)
     }
 
     fn write(&mut self, unit: u8, block: u32, from: &[u8; 512]) -> Result<(), StoreFailed>
@@ -262,7 +266,7 @@ where
     {
         self.ask_again(unit, Part::Image);
         let written = self.packs.write(unit, block, from);
-        counted(written, &mut self.faults)
+        counted(written, StoreFailed, &mut self.faults)
     }
 
     fn marked(&mut self, unit: u8, block: u32) -> Result<bool, StoreFailed>
@@ -271,7 +275,7 @@ where
         ensures counted { Counts result self.old.faults self.new.faults }
     {
         let mark = self.packs.marked(unit, block);
-        counted(mark, &mut self.faults)
+        counted(mark, StoreFailed, &mut self.faults)
     }
 
     fn set_mark(&mut self, unit: u8, block: u32, on: bool) -> Result<(), StoreFailed>
@@ -281,7 +285,7 @@ where
     {
         self.ask_again(unit, Part::Marks);
         let written = self.packs.set_mark(unit, block, on);
-        counted(written, &mut self.faults)
+        counted(written, StoreFailed, &mut self.faults)
     }
 }
 
@@ -296,7 +300,7 @@ where
         ensures counted { Counts result self.old.faults self.new.faults }
     {
         let read = self.try_read(unit, Part::Image, place_in_image(block), into);
-        counted(read, &mut self.faults)
+        counted(read, StoreFailed, &mut self.faults)
     }
 
     fn read_marks(&mut self, unit: u8, block: u32, into: &mut [u8]) -> Result<(), StoreFailed>
@@ -305,6 +309,6 @@ where
         ensures counted { Counts result self.old.faults self.new.faults }
     {
         let read = self.try_read(unit, Part::Marks, u64::from(block), into);
-        counted(read, &mut self.faults)
+        counted(read, StoreFailed, &mut self.faults)
     }
 }

@@ -1,4 +1,5 @@
-ghost use Rattle.std.specs.Prelude.{◌≡◌, ◌⊎◌, ◌<◌, ◌==◌, not, IsTrue, IfOk, OnOk, OnErr, length};
+ghost use Rattle.std.specs.Prelude.{◌≡◌, ◌==◌, not, ℕ, List, IfOk, length};
+ghost use Rattle.pack_windows.specs.Parts.{AreParts};
 
 use crate::wide_packs::WidePacks;
 use crate::window::Window;
@@ -32,6 +33,7 @@ impl<W: WidePacks> Model for WindowPacks<W> {
 /// A window for each of the 32 units, with nothing in them.
 fn empty_windows(alloc: Global) -> Result<Vec<Window>, AllocError>
     ensures count { IfOk result (λ windows. length windows.items ≡ 32) }
+    ensures parts { IfOk result (λ windows. (whole : ℕ → List ℕ) → AreParts windows.items whole) }
 {
     let mut windows = Vec::with_capacity(alloc, 32)?;
     for _ in 0..32u8 {

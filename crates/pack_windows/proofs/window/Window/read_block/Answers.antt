@@ -1,4 +1,4 @@
-use Rattle.std.proofs.Common.{◌≡◌, ℕ, ◌*◌, ap, ◌∙◌}
+use Rattle.std.proofs.Common.{ap, ◌∙◌}
 use Rattle.pack_model.specs.Pack.{block_at, window}
 use Rattle.pack_windows.proofs.window.Window.read_block.Goals as goal
 
