@@ -5,8 +5,10 @@
 mod tests;
 
 use hpsim_run::{Status, run};
-use mass_outside::files::{FilePacks, FileSink};
+use mass_outside::files::FileSink;
 use mass_outside::streams::{StdSink, StdSource};
+use pack_windows::pack_files::PackFiles;
+use pack_windows::window_packs::WindowPacks;
 use std::alloc::Global;
 use std::io::ErrorKind;
 use std::process::ExitCode;
@@ -37,8 +39,10 @@ fn main(rt: HostRuntime) -> ExitCode {
     let Some(words) = words(&rt) else {
         return ExitCode::from(Status::OutOfMemory.code());
     };
+    let Ok(mut packs) = WindowPacks::new(rt.alloc(), PackFiles::new(&rt)) else {
+        return ExitCode::from(Status::OutOfMemory.code());
+    };
     let mut script = StdSource::new(rt.reader());
-    let mut packs = FilePacks::new(&rt);
     let mut out = StdSink::new(io::writer(&rt));
     let mut trace = FileSink::new(&rt, "hp.trace");
     let status = run(

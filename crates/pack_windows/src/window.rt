@@ -1,0 +1,233 @@
+ghost use Rattle.std.specs.Prelude.{◌≡◌, ℕ, ◌<◌, ◌≤◌, ◌+◌, ◌*◌, ◌⊎◌, if◌then◌else◌, List, [], ◌∷◌, ◌++◌, take, drop, IsTrue, IfSome, OnOk, length, slice_index};
+ghost use Rattle.pack_model.specs.Pack.{window, with_window, with_block, block_at};
+ghost use Rattle.mass_outside.specs.Causes.{HasCause};
+ghost use Rattle.pack_windows.specs.Parts.{IsPart};
+
+use crate::wide_packs::WidePacks;
+use mass_outside::traits::StoreFailed;
+use std::alloc::Global;
+use std::marker::Model;
+
+/// How many bytes of an image are read ahead at first, and at most.
+const FIRST_SIZE: usize = 4096;
+
+const LAST_SIZE: usize = 65536;
+
+/// How many marks are read ahead.
+const MARKS: u32 = 4096;
+
+/// Some bytes of an image or of marks, and the place of the first of them there.
+#[derive(Drop)]
+pub struct Window {
+    at: u64,
+    bytes: Vec<u8>,
+}
+
+impl Model for Window {
+    ghost use Rattle.pack_windows.specs.Parts.{Part};
+
+    ghost Value = { Part };
+
+    ghost view = { λ w. record { at = w.at; bytes = w.bytes.items } };
+}
+
+/// The place of a block in an image, in bytes.
+fn place_in_image(block: u32) -> u64
+    ensures { result ≡ 512 * block }
+{
+    512 * u64::from(block)
+}
+
+/// Reads bytes of a unit's image from a block on into all of a vector.
+fn read_blocks<W: WidePacks>(
+    packs: &mut W,
+    unit: u8,
+    block: u32,
+    bytes: &mut Vec<u8>,
+) -> Result<(), StoreFailed>
+    requires { unit < 32 }
+    ensures never_again { IsTrue (W.tells packs.new) → IsTrue (W.tells packs.old) }
+    ensures bytes { OnOk result (IsTrue (W.tells packs.new)
+        → bytes.new.items ≡ window (length bytes.new.items) (512 * block) (W.held packs.old unit).image) }
+    ensures same { IsTrue (W.tells packs.new) → W.held packs.new ≡ W.held packs.old }
+    ensures cause { HasCause (W.faults packs.old) (W.faults packs.new) result }
+{
+    packs.read_blocks(unit, block, bytes.as_mut_slice())
+}
+
+/// Reads marks of a unit from a block on into all of a vector.
+fn read_marks<W: WidePacks>(
+    packs: &mut W,
+    unit: u8,
+    block: u32,
+    bytes: &mut Vec<u8>,
+) -> Result<(), StoreFailed>
+    requires { unit < 32 }
+    ensures never_again { IsTrue (W.tells packs.new) → IsTrue (W.tells packs.old) }
+    ensures bytes { OnOk result (IsTrue (W.tells packs.new)
+        → bytes.new.items ≡ window (length bytes.new.items) block (W.held packs.old unit).marks) }
+    ensures same { IsTrue (W.tells packs.new) → W.held packs.new ≡ W.held packs.old }
+    ensures cause { HasCause (W.faults packs.old) (W.faults packs.new) result }
+{
+    packs.read_marks(unit, block, bytes.as_mut_slice())
+}
+
+/// Writes bytes at a place inside.
+fn put(bytes: &mut Vec<u8>, first: usize, from: &[u8])
+    requires { first + length from.now ≤ length bytes.old.items }
+    ensures { bytes.new.items ≡ take first bytes.old.items ++ from.now ++ drop (first + length from.now) bytes.old.items }
+{
+    bytes[first..first + from.len()].copy_from_slice(from);
+}
+
+impl Window {
+    /// A window that has nothing.
+    pub fn new(alloc: Global) -> Window
+        ensures { (whole : List ℕ) → IsPart result whole }
+    {
+        Window {
+            at: 0,
+            bytes: Vec::new(alloc),
+        }
+    }
+
+    /// Leaves nothing in the window.
+    pub fn clear(&mut self)
+        ensures { (whole : List ℕ) → IsPart self.new whole }
+    {
+        self.bytes.clear();
+    }
+
+    /// Where the bytes from a place on stand in the window, if it has so many.
+    fn find(&self, at: u64, size: usize) -> Option<usize>
+        ensures { IfSome result (λ i. (self.now.at + i ≡ at) × (i + size ≤ length self.now.bytes)) }
+    {
+        let first = usize::try_from(at.checked_sub(self.at)?).ok()?;
+        let end = first.checked_add(size)?;
+        if end > self.bytes.len() {
+            return None;
+        }
+        Some(first)
+    }
+
+    /// Gives the bytes from a place on, as many as fit, if the window has them all.
+    fn read(&self, at: u64, into: &mut [u8]) -> bool
+        ensures { (whole : List ℕ) → IsTrue result → IsPart self.now whole → into.new ≡ window (length into.old) at whole }
+    {
+        let size = into.len();
+        let Some(first) = self.find(at, size) else {
+            return false;
+        };
+        into.copy_from_slice(&self.bytes[first..first + size]);
+        true
+    }
+
+    /// Gives a block of an image, if the window has it.
+    pub fn read_block(&self, block: u32, into: &mut [u8; 512]) -> bool
+        ensures { (image : List ℕ) → IsTrue result → IsPart self.now image → into.new ≡ block_at image block }
+    {
+        self.read(place_in_image(block), into)
+    }
+
+    /// Gives the byte at a place, if the window has it.
+    pub fn byte(&self, at: u64) -> Option<u8>
+        ensures { (whole : List ℕ) → IfSome result (λ byte. IsPart self.now whole → byte ≡ slice_index whole at) }
+    {
+        let i = self.find(at, 1)?;
+        Some(self.bytes[i])
+    }
+
+    /// Whether the window has none of so many bytes from a place on.
+    fn is_apart(&self, at: u64, size: usize) -> bool
+        ensures { IsTrue result → (at + size ≤ self.now.at) ⊎ (self.now.at + length self.now.bytes ≤ at) }
+    {
+        if at < self.at {
+            self.at - at >= size as u64
+        } else {
+            at - self.at >= self.bytes.len() as u64
+        }
+    }
+
+    /// Follows a write to the whole: where the window has the bytes that were written, it has the new ones. Where it has
+    /// only some of them, nothing is left in it.
+    pub fn write(&mut self, at: u64, from: &[u8])
+        ensures { (whole : List ℕ) → IsPart self.old whole → IsPart self.new (with_window at from.now whole) }
+    {
+        match self.find(at, from.len()) {
+            Some(first) => put(&mut self.bytes, first, from),
+            None => {
+                if !self.is_apart(at, from.len()) {
+                    self.clear();
+                }
+            }
+        }
+    }
+
+    /// Follows a write of a block to an image.
+    pub fn write_block(&mut self, block: u32, from: &[u8; 512])
+        ensures { (image : List ℕ) → IsPart self.old image → IsPart self.new (with_block image block from.now) }
+    {
+        self.write(place_in_image(block), from);
+    }
+
+    /// Follows a write of a mark byte, 1 or 0.
+    pub fn write_mark(&mut self, block: u32, on: bool)
+        ensures { (marks : List ℕ) → IsPart self.old marks
+            → IsPart self.new (with_window block ((if on then 1 else 0) ∷ []) marks) }
+    {
+        self.write(u64::from(block), &[u8::from(on)]);
+    }
+
+    /// How many bytes of an image are read ahead from a place on: few at first, and four times as many as before where
+    /// the place is just behind the window.
+    fn next_size(&self, at: u64) -> usize {
+        let size = self.bytes.len();
+        match at.checked_sub(self.at) {
+            Some(offset) if offset == size as u64 => {
+                size.saturating_mul(4).max(FIRST_SIZE).min(LAST_SIZE)
+            }
+            _ => FIRST_SIZE,
+        }
+    }
+
+    /// Reads a unit's image ahead, from a block on. Where that fails, or there is no memory for it, nothing is left in the
+    /// window.
+    pub fn read_image_ahead<W: WidePacks>(&mut self, packs: &mut W, unit: u8, block: u32)
+        requires { unit < 32 }
+        ensures never_again { IsTrue (W.tells packs.new) → IsTrue (W.tells packs.old) }
+        ensures part { IsTrue (W.tells packs.new) → IsPart self.new (W.held packs.old unit).image }
+        ensures same { IsTrue (W.tells packs.new) → W.held packs.new ≡ W.held packs.old }
+        ensures faults { W.faults packs.old ≤ W.faults packs.new }
+    {
+        let at = place_in_image(block);
+        let size = self.next_size(at);
+        self.at = at;
+        if self.bytes.resize(size, 0).is_err() {
+            self.clear();
+            return;
+        }
+        if read_blocks(packs, unit, block, &mut self.bytes).is_err() {
+            self.clear();
+        }
+    }
+
+    /// Reads a unit's marks ahead, with that of a block among them. Where that fails, or there is no memory for it, nothing
+    /// is left in the window.
+    pub fn read_marks_ahead<W: WidePacks>(&mut self, packs: &mut W, unit: u8, block: u32)
+        requires { unit < 32 }
+        ensures never_again { IsTrue (W.tells packs.new) → IsTrue (W.tells packs.old) }
+        ensures part { IsTrue (W.tells packs.new) → IsPart self.new (W.held packs.old unit).marks }
+        ensures same { IsTrue (W.tells packs.new) → W.held packs.new ≡ W.held packs.old }
+        ensures faults { W.faults packs.old ≤ W.faults packs.new }
+    {
+        let first = block - block % MARKS;
+        self.at = u64::from(first);
+        if self.bytes.resize(MARKS as usize, 0).is_err() {
+            self.clear();
+            return;
+        }
+        if read_marks(packs, unit, first, &mut self.bytes).is_err() {
+            self.clear();
+        }
+    }
+}

@@ -1,0 +1,125 @@
+ghost use Rattle.std.specs.Prelude.{◌≡◌, ◌==◌, not, ℕ, List, IfOk, length};
+ghost use Rattle.pack_windows.specs.Parts.{AreParts};
+
+use crate::wide_packs::WidePacks;
+use crate::window::Window;
+use mass_outside::traits::{NoMemory, Packs, StoreFailed};
+use std::alloc::{AllocError, Global};
+use std::marker::Model;
+
+/// Packs with a window of each unit's image and one of its marks in memory, read ahead where a block or a mark is asked for
+/// that is in none. A write goes to the packs at once, and its window follows. Nobody else may write to the packs meanwhile.
+///
+/// Contracts see it as the packs behind the windows.
+#[derive(Drop)]
+pub struct WindowPacks<W: WidePacks> {
+    packs: W,
+    images: Vec<Window>,
+    marks: Vec<Window>,
+}
+
+impl<W: WidePacks> Model for WindowPacks<W> {
+    ghost use Rattle.pack_windows.specs.Parts.{AreCurrent};
+
+    ghost Value = { W };
+
+    ghost coded = { W.code };
+
+    ghost view = { λ p. p.packs };
+
+    ghost invariant = { λ p. AreCurrent (W.tells p.packs) (W.held p.packs) p.images.items p.marks.items };
+}
+
+/// A window for each of the 32 units, with nothing in them.
+fn empty_windows(alloc: Global) -> Result<Vec<Window>, AllocError>
+    ensures count { IfOk result (λ windows. length windows.items ≡ 32) }
+    ensures parts { IfOk result (λ windows. (whole : ℕ → List ℕ) → AreParts windows.items whole) }
+{
+    let mut windows = Vec::with_capacity(alloc, 32)?;
+    for _ in 0..32u8 {
+        windows.push(Window::new(alloc))?;
+    }
+    Ok(windows)
+}
+
+/// Whether a mark byte marks its block: any byte but 0 does.
+fn is_mark(byte: u8) -> bool
+    ensures { result ≡ not (byte == 0) }
+{
+    byte != 0
+}
+
+impl<W: WidePacks + Drop> WindowPacks<W> {
+    /// These packs, with nothing read ahead yet.
+    pub fn new(alloc: Global, packs: W) -> Result<WindowPacks<W>, NoMemory>
+        ensures { IfOk result (λ made. made ≡ packs) }
+    {
+        let images = empty_windows(alloc)?;
+        let marks = empty_windows(alloc)?;
+        Ok(WindowPacks {
+            packs,
+            images,
+            marks,
+        })
+    }
+}
+
+impl<W: WidePacks> Packs for WindowPacks<W> {
+    ghost tells = { W.tells };
+
+    ghost held = { W.held };
+
+    ghost faults = { W.faults };
+
+    fn length(&mut self, unit: u8) -> Result<u64, StoreFailed> {
+        self.packs.length(unit)
+    }
+
+    fn read(&mut self, unit: u8, block: u32, into: &mut [u8; 512]) -> Result<(), StoreFailed> {
+        if self.images[unit as usize].read_block(block, into) {
+            return Ok(());
+        }
+        self.images[unit as usize].read_image_ahead(&mut self.packs, unit, block);
+        if self.images[unit as usize].read_block(block, into) {
+            return Ok(());
+        }
+        self.packs.read(unit, block, into)
+    }
+
+    fn write(&mut self, unit: u8, block: u32, from: &[u8; 512]) -> Result<(), StoreFailed> {
+        match self.packs.write(unit, block, from) {
+            Ok(()) => {
+                self.images[unit as usize].write_block(block, from);
+                Ok(())
+            }
+            Err(failed) => {
+                self.images[unit as usize].clear();
+                Err(failed)
+            }
+        }
+    }
+
+    fn marked(&mut self, unit: u8, block: u32) -> Result<bool, StoreFailed> {
+        if let Some(byte) = self.marks[unit as usize].byte(u64::from(block)) {
+            return Ok(is_mark(byte));
+        }
+        self.marks[unit as usize].read_marks_ahead(&mut self.packs, unit, block);
+        if let Some(byte) = self.marks[unit as usize].byte(u64::from(block)) {
+            return Ok(is_mark(byte));
+        }
+        self.packs.marked(unit, block)
+    }
+
+    fn set_mark(&mut self, unit: u8, block: u32, on: bool) -> Result<(), StoreFailed> {
+        match self.packs.set_mark(unit, block, on) {
+            Ok(()) => {
+                self.marks[unit as usize].write_mark(block, on);
+                Ok(())
+            }
+            Err(failed) => {
+                self.marks[unit as usize].clear();
+                Err(failed)
+            }
+        }
+    }
+}
