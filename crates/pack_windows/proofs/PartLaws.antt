@@ -2,7 +2,7 @@
 use Rattle.std.proofs.Common.{◌≡◌, ◌⊎◌, inl, inr, ℕ, ◌+◌, ◌-◌, ◌<◌, ◌≤◌, List, [], ◌∷◌, ◌++◌, take, drop, length, get_or, sym, ap, ◌∙◌, subst, arith}
 use Rattle.std.proofs.lemmas.Grind.{common_steps, same_number_lists}
 use Rattle.std.proofs.lemmas.Bool.{cases_lt}
-use Rattle.std.proofs.lemmas.List.{get_or-take, get_or-drop, get_or_default, get_or_push, length_push}
+use Rattle.std.proofs.lemmas.List.{get_or-take, get_or-drop, get_or_default, get_or_push, length_push, length-take, length-take-le}
 use Rattle.std.specs.Prelude.{Some}
 use Rattle.std.proofs.lemmas.Option.{slice_get_within, get_or_from_slice_get, slice_get-get_or}
 use Rattle.pack_model.specs.Pack.{window, with_window}
@@ -23,20 +23,6 @@ byte_of_part part whole i h is =
 
 length-piece : (xs : List ℕ) (i n : ℕ) → i + n ≤ length xs → length (take n (drop i xs)) ≡ n
 length-piece xs i n h = grind (arith, common_steps)
-
--- some bytes of a part
-pub piece_of_part : (part : Part) (whole : List ℕ) (i n : ℕ) → i + n ≤ length part.bytes → IsPart part whole
-    → take n (drop i part.bytes) ≡ window n (part.at + i) whole
-piece_of_part part whole i n h is =
-    let len : length (take n (drop i part.bytes)) ≡ n = length-piece part.bytes i n h in
-    same_number_lists _ _ (len ∙ sym (length-window n (part.at + i) whole)) (λ k l.
-    let small : k < n = omega (arith, len, l) in
-    let inside : i + k < length part.bytes = omega arith in
-    let place : part.at + (i + k) ≡ part.at + i + k = omega arith in
-    get_or-take n (drop i part.bytes) k 0 small ∙ get_or-drop i part.bytes k 0
-    ∙ byte_of_part part whole (i + k) inside is
-    ∙ ap (λ j. get_or whole j 0) place
-    ∙ sym (get_or-window n (part.at + i) whole k small))
 
 -- a write apart from a part leaves it
 pub apart_part : (part : Part) (whole from : List ℕ) (at : ℕ) → (at + length from ≤ part.at) ⊎ (part.at + length part.bytes ≤ at)
@@ -99,31 +85,85 @@ put_part part whole from new i at place h e is =
           ∙ sym (get_or-window (length new) part.at (with_window at from whole) k l));
     }
 
--- ---- the same, of a part whose fields are at hand
+-- ---- parts at the front of a room
 
-pub byte_seen : (part : Part) (whole bytes : List ℕ) (i at byte : ℕ) → bytes ≡ part.bytes → part.at + i ≡ at → i + 1 ≤ length part.bytes
-    → byte ≡ get_or bytes i byte → IsPart part whole → byte ≡ get_or whole at 0
-byte_seen part whole bytes i at byte e place h b is =
+front_inside : (room : List ℕ) (size k : ℕ) → k < length (take size room) → k < length room
+front_inside room size k h = omega (arith, h, length-take size room)
+
+front_byte : (room : List ℕ) (size k : ℕ) → k < length (take size room) → get_or room k 0 ≡ get_or (take size room) k 0
+front_byte room size k h = sym (get_or-take size room k 0 (omega (arith, h, length-take size room)))
+
+-- a front that was read is a part
+pub filled_part : (at size : ℕ) (room whole : List ℕ) → size ≤ length room → take size room ≡ window size at whole
+    → IsPart (record { at = at; bytes = take size room }) whole
+filled_part at size room whole h e = record { bytes = e ∙ ap (λ n. window n at whole) (sym (length-take-le size room h)) }
+
+-- a byte of a room, of which a part is the front
+pub byte_in_room : (part : Part) (whole room : List ℕ) (size i at byte : ℕ) → take size room ≡ part.bytes → part.at + i ≡ at
+    → i + 1 ≤ length part.bytes → byte ≡ get_or room i byte → IsPart part whole → byte ≡ get_or whole at 0
+byte_in_room part whole room size i at byte e place h b is =
     let inside : i < length part.bytes = omega arith in
-    b ∙ ap (λ (xs : List ℕ). get_or xs i byte) e ∙ get_or_default part.bytes i byte 0 inside
+    let front : i < length (take size room) = omega (arith, inside, ap length e) in
+    b ∙ get_or_default room i byte 0 (front_inside room size i front)
+    ∙ front_byte room size i front
+    ∙ ap (λ (xs : List ℕ). get_or xs i 0) e
     ∙ byte_of_part part whole i inside is
     ∙ ap (λ j. get_or whole j 0) place
 
-pub piece_seen : (part : Part) (whole bytes seen : List ℕ) (i n at : ℕ) → bytes ≡ part.bytes → seen ≡ bytes → part.at + i ≡ at → i + n ≤ length part.bytes
-    → (into : List ℕ) → into ≡ take (i + n - i) (drop i seen) → IsPart part whole → into ≡ window n at whole
-piece_seen part whole bytes seen i n at e d place h into s is =
-    let size : i + n - i ≡ n = omega arith in
-    s ∙ ap (λ k. take k (drop i seen)) size ∙ ap (λ (xs : List ℕ). take n (drop i xs)) (d ∙ e)
-    ∙ piece_of_part part whole i n h is
-    ∙ ap (λ j. window n j whole) place
+-- some bytes of a room, of which a part is the front
+pub piece_of_room : (part : Part) (whole room : List ℕ) (size i n at : ℕ) → take size room ≡ part.bytes → part.at + i ≡ at
+    → i + n ≤ length part.bytes → IsPart part whole → take (i + n - i) (drop i room) ≡ window n at whole
+piece_of_room part whole room size i n at e place h is =
+    let all : length (take size room) ≡ length part.bytes = ap length e in
+    let fits : i + n ≤ length room = omega (arith, all, h, length-take size room) in
+    let less : i + n - i ≡ n = omega arith in
+    let len : length (take n (drop i room)) ≡ n = length-piece room i n fits in
+    ap (λ k. take k (drop i room)) less
+    ∙ same_number_lists _ _ (len ∙ sym (length-window n at whole)) (λ k l.
+    let small : k < n = omega (arith, len, l) in
+    let inside : i + k < length part.bytes = omega (arith, small, h) in
+    let place_k : part.at + (i + k) ≡ at + k = omega (arith, place) in
+    get_or-take n (drop i room) k 0 small ∙ get_or-drop i room k 0
+    ∙ front_byte room size (i + k) (omega (arith, all, inside))
+    ∙ ap (λ (xs : List ℕ). get_or xs (i + k) 0) e
+    ∙ byte_of_part part whole (i + k) inside is
+    ∙ ap (λ j. get_or whole j 0) place_k
+    ∙ sym (get_or-window n at whole k small))
 
-pub put_seen : (seen part : Part) (whole from new : List ℕ) (i at : ℕ) → seen ≡ part → part.at + i ≡ at → i + length from ≤ length part.bytes
-    → new ≡ take i seen.bytes ++ from ++ drop (i + length from) seen.bytes → IsPart part whole
-    → IsPart (record { at = seen.at; bytes = new }) (with_window at from whole)
-put_seen seen part whole from new i at e place h n is =
-    let P : Part → Type 0 =
-    λ s. new ≡ take i s.bytes ++ from ++ drop (i + length from) s.bytes → IsPart (record { at = s.at; bytes = new }) (with_window at from whole) in
-    subst P (sym e) (λ m. put_part part whole from new i at place h m is) n
+-- the front of a room with some bytes written
+put_front : (room ys : List ℕ) (size i : ℕ) → i + length ys ≤ length (take size room)
+    → take size (take i room ++ ys ++ drop (i + length ys) room) ≡ take i (take size room) ++ ys ++ drop (i + length ys) (take size room)
+put_front room ys size i h =
+    let fits : i + length ys ≤ length room = omega (arith, h, length-take size room) in
+    let new : List ℕ = take i room ++ ys ++ drop (i + length ys) room in
+    let whole : length new ≡ length room = length-put room ys i fits in
+    let front : length (take i (take size room) ++ ys ++ drop (i + length ys) (take size room)) ≡ length (take size room) = length-put (take size room) ys i h in
+    let len : length (take size new) ≡ length (take size room) = omega (arith, whole, length-take size new, length-take size room) in
+    same_number_lists _ _ (len ∙ sym front) (λ k l.
+    let inside : k < length (take size room) = omega (arith, len, l) in
+    sym (front_byte new size k l)
+    ∙ elim (cases_lt k i) [
+      | inl before ↦ put_before room ys i k fits before ∙ front_byte room size k inside ∙ sym (put_before (take size room) ys i k h before)
+      | inr behind ↦
+          elim (cases_lt k (i + length ys)) [
+            | inl among ↦
+                let few : k - i < length ys = omega (arith, behind, among) in
+                let there : i + (k - i) ≡ k = omega (arith, behind) in
+                subst (λ j. get_or new j 0 ≡ get_or (take i (take size room) ++ ys ++ drop (i + length ys) (take size room)) j 0) there
+                (put_here room ys i (k - i) fits few ∙ sym (put_here (take size room) ys i (k - i) h few))
+            | inr after ↦ put_after room ys i k fits after ∙ front_byte room size k inside ∙ sym (put_after (take size room) ys i k h after)
+          ]
+    ])
+
+-- a part at the front of a room with the bytes that were written
+pub put_in_room : (part : Part) (whole room from new : List ℕ) (seen size i at : ℕ) → seen ≡ part.at → take size room ≡ part.bytes → part.at + i ≡ at
+    → i + length from ≤ length part.bytes → new ≡ take i room ++ from ++ drop (i + length from) room → IsPart part whole
+    → IsPart (record { at = seen; bytes = take size new }) (with_window at from whole)
+put_in_room part whole room from new seen size i at s e place h n is =
+    let fits : i + length from ≤ length (take size room) = omega (arith, h, ap length e) in
+    let P : ℕ → Type 0 = λ a. IsPart (record { at = a; bytes = take size new }) (with_window at from whole) in
+    subst P (sym s) (put_part part whole from (take size new) i at place h
+    (ap (take size) n ∙ put_front room from size i fits ∙ ap (λ (xs : List ℕ). take i xs ++ from ++ drop (i + length from) xs) e) is)
 
 -- ---- parts of all units
 

@@ -16,19 +16,24 @@ const LAST_SIZE: usize = 65536;
 /// How many marks are read ahead.
 const MARKS: u32 = 4096;
 
-/// Some bytes of an image or of marks, and the place of the first of them there.
+/// Some bytes of an image or of marks, and the place of the first of them there. The room of a window stays when fewer
+/// bytes are in it.
 #[derive(Drop)]
 pub struct Window {
     at: u64,
-    bytes: Vec<u8>,
+    size: usize,
+    room: Vec<u8>,
 }
 
 impl Model for Window {
+    ghost use Rattle.std.specs.Prelude.{◌≤◌, length, take};
     ghost use Rattle.pack_windows.specs.Parts.{Part};
 
     ghost Value = { Part };
 
-    ghost view = { λ w. record { at = w.at; bytes = w.bytes.items } };
+    ghost view = { λ w. record { at = w.at; bytes = take w.size w.room.items } };
+
+    ghost invariant = { λ w. w.size ≤ length w.room.items };
 }
 
 /// The place of a block in an image, in bytes.
@@ -38,46 +43,57 @@ fn place_in_image(block: u32) -> u64
     512 * u64::from(block)
 }
 
-/// Reads bytes of a unit's image from a block on into all of a vector.
+/// Makes room for so many bytes, and says whether there is as much.
+fn make_room(room: &mut Vec<u8>, size: usize) -> bool
+    ensures { IsTrue result → size ≤ length room.new.items }
+{
+    room.len() >= size || room.resize(size, 0).is_ok()
+}
+
+/// Reads so many bytes of a unit's image from a block on to the front of a room.
 fn read_blocks<W: WidePacks>(
     packs: &mut W,
     unit: u8,
     block: u32,
-    bytes: &mut Vec<u8>,
+    size: usize,
+    room: &mut [u8],
 ) -> Result<(), StoreFailed>
-    requires { unit < 32 }
+    requires unit { unit < 32 }
+    requires room { size ≤ length room.old }
     ensures never_again { IsTrue (W.tells packs.new) → IsTrue (W.tells packs.old) }
     ensures bytes { OnOk result (IsTrue (W.tells packs.new)
-        → bytes.new.items ≡ window (length bytes.new.items) (512 * block) (W.held packs.old unit).image) }
+        → take size room.new ≡ window size (512 * block) (W.held packs.old unit).image) }
     ensures same { IsTrue (W.tells packs.new) → W.held packs.new ≡ W.held packs.old }
     ensures cause { HasCause (W.faults packs.old) (W.faults packs.new) result }
 {
-    packs.read_blocks(unit, block, bytes.as_mut_slice())
+    packs.read_blocks(unit, block, &mut room[..size])
 }
 
-/// Reads marks of a unit from a block on into all of a vector.
+/// Reads so many marks of a unit from a block on to the front of a room.
 fn read_marks<W: WidePacks>(
     packs: &mut W,
     unit: u8,
     block: u32,
-    bytes: &mut Vec<u8>,
+    size: usize,
+    room: &mut [u8],
 ) -> Result<(), StoreFailed>
-    requires { unit < 32 }
+    requires unit { unit < 32 }
+    requires room { size ≤ length room.old }
     ensures never_again { IsTrue (W.tells packs.new) → IsTrue (W.tells packs.old) }
     ensures bytes { OnOk result (IsTrue (W.tells packs.new)
-        → bytes.new.items ≡ window (length bytes.new.items) block (W.held packs.old unit).marks) }
+        → take size room.new ≡ window size block (W.held packs.old unit).marks) }
     ensures same { IsTrue (W.tells packs.new) → W.held packs.new ≡ W.held packs.old }
     ensures cause { HasCause (W.faults packs.old) (W.faults packs.new) result }
 {
-    packs.read_marks(unit, block, bytes.as_mut_slice())
+    packs.read_marks(unit, block, &mut room[..size])
 }
 
 /// Writes bytes at a place inside.
-fn put(bytes: &mut Vec<u8>, first: usize, from: &[u8])
-    requires { first + length from.now ≤ length bytes.old.items }
-    ensures { bytes.new.items ≡ take first bytes.old.items ++ from.now ++ drop (first + length from.now) bytes.old.items }
+fn put(room: &mut Vec<u8>, first: usize, from: &[u8])
+    requires { first + length from.now ≤ length room.old.items }
+    ensures { room.new.items ≡ take first room.old.items ++ from.now ++ drop (first + length from.now) room.old.items }
 {
-    bytes[first..first + from.len()].copy_from_slice(from);
+    room[first..first + from.len()].copy_from_slice(from);
 }
 
 impl Window {
@@ -87,7 +103,8 @@ impl Window {
     {
         Window {
             at: 0,
-            bytes: Vec::new(alloc),
+            size: 0,
+            room: Vec::new(alloc),
         }
     }
 
@@ -95,7 +112,7 @@ impl Window {
     pub fn clear(&mut self)
         ensures { (whole : List ℕ) → IsPart self.new whole }
     {
-        self.bytes.clear();
+        self.size = 0;
     }
 
     /// Where the bytes from a place on stand in the window, if it has so many.
@@ -104,7 +121,7 @@ impl Window {
     {
         let first = usize::try_from(at.checked_sub(self.at)?).ok()?;
         let end = first.checked_add(size)?;
-        if end > self.bytes.len() {
+        if end > self.size {
             return None;
         }
         Some(first)
@@ -118,7 +135,7 @@ impl Window {
         let Some(first) = self.find(at, size) else {
             return false;
         };
-        into.copy_from_slice(&self.bytes[first..first + size]);
+        into.copy_from_slice(&self.room[first..first + size]);
         true
     }
 
@@ -134,7 +151,7 @@ impl Window {
         ensures { (whole : List ℕ) → IfSome result (λ byte. IsPart self.now whole → byte ≡ slice_index whole at) }
     {
         let i = self.find(at, 1)?;
-        Some(self.bytes[i])
+        Some(self.room[i])
     }
 
     /// Whether the window has none of so many bytes from a place on.
@@ -144,7 +161,7 @@ impl Window {
         if at < self.at {
             self.at - at >= size as u64
         } else {
-            at - self.at >= self.bytes.len() as u64
+            at - self.at >= self.size as u64
         }
     }
 
@@ -154,7 +171,7 @@ impl Window {
         ensures { (whole : List ℕ) → IsPart self.old whole → IsPart self.new (with_window at from.now whole) }
     {
         match self.find(at, from.len()) {
-            Some(first) => put(&mut self.bytes, first, from),
+            Some(first) => put(&mut self.room, first, from),
             None => {
                 if !self.is_apart(at, from.len()) {
                     self.clear();
@@ -181,18 +198,17 @@ impl Window {
     /// How many bytes of an image are read ahead from a place on: few at first, and four times as many as before where
     /// the place is just behind the window.
     fn next_size(&self, at: u64) -> usize {
-        let size = self.bytes.len();
         match at.checked_sub(self.at) {
-            Some(offset) if offset == size as u64 => {
-                size.saturating_mul(4).max(FIRST_SIZE).min(LAST_SIZE)
+            Some(offset) if offset == self.size as u64 => {
+                self.size.saturating_mul(4).max(FIRST_SIZE).min(LAST_SIZE)
             }
             _ => FIRST_SIZE,
         }
     }
 
-    /// Reads a unit's image ahead, from a block on. Where that fails, or there is no memory for it, nothing is left in the
-    /// window.
-    pub fn read_image_ahead<W: WidePacks>(&mut self, packs: &mut W, unit: u8, block: u32)
+    /// Reads so many bytes of a unit's image into the window, from a block on. Where that fails, or there is no memory for
+    /// it, nothing is left in the window.
+    fn fill_from_image<W: WidePacks>(&mut self, packs: &mut W, unit: u8, block: u32, size: usize)
         requires { unit < 32 }
         ensures never_again { IsTrue (W.tells packs.new) → IsTrue (W.tells packs.old) }
         ensures part { IsTrue (W.tells packs.new) → IsPart self.new (W.held packs.old unit).image }
@@ -200,19 +216,49 @@ impl Window {
         ensures faults { W.faults packs.old ≤ W.faults packs.new }
     {
         let at = place_in_image(block);
-        let size = self.next_size(at);
-        self.at = at;
-        if self.bytes.resize(size, 0).is_err() {
-            self.clear();
+        self.size = 0;
+        if !make_room(&mut self.room, size) {
             return;
         }
-        if read_blocks(packs, unit, block, &mut self.bytes).is_err() {
-            self.clear();
+        if read_blocks(packs, unit, block, size, self.room.as_mut_slice()).is_ok() {
+            self.at = at;
+            self.size = size;
         }
     }
 
-    /// Reads a unit's marks ahead, with that of a block among them. Where that fails, or there is no memory for it, nothing
-    /// is left in the window.
+    /// Reads so many marks of a unit into the window, from a block on. Where that fails, or there is no memory for it,
+    /// nothing is left in the window.
+    fn fill_from_marks<W: WidePacks>(&mut self, packs: &mut W, unit: u8, block: u32, size: usize)
+        requires { unit < 32 }
+        ensures never_again { IsTrue (W.tells packs.new) → IsTrue (W.tells packs.old) }
+        ensures part { IsTrue (W.tells packs.new) → IsPart self.new (W.held packs.old unit).marks }
+        ensures same { IsTrue (W.tells packs.new) → W.held packs.new ≡ W.held packs.old }
+        ensures faults { W.faults packs.old ≤ W.faults packs.new }
+    {
+        let at = u64::from(block);
+        self.size = 0;
+        if !make_room(&mut self.room, size) {
+            return;
+        }
+        if read_marks(packs, unit, block, size, self.room.as_mut_slice()).is_ok() {
+            self.at = at;
+            self.size = size;
+        }
+    }
+
+    /// Reads a unit's image ahead, from a block on.
+    pub fn read_image_ahead<W: WidePacks>(&mut self, packs: &mut W, unit: u8, block: u32)
+        requires { unit < 32 }
+        ensures never_again { IsTrue (W.tells packs.new) → IsTrue (W.tells packs.old) }
+        ensures part { IsTrue (W.tells packs.new) → IsPart self.new (W.held packs.old unit).image }
+        ensures same { IsTrue (W.tells packs.new) → W.held packs.new ≡ W.held packs.old }
+        ensures faults { W.faults packs.old ≤ W.faults packs.new }
+    {
+        let size = self.next_size(place_in_image(block));
+        self.fill_from_image(packs, unit, block, size);
+    }
+
+    /// Reads a unit's marks ahead, with that of a block among them.
     pub fn read_marks_ahead<W: WidePacks>(&mut self, packs: &mut W, unit: u8, block: u32)
         requires { unit < 32 }
         ensures never_again { IsTrue (W.tells packs.new) → IsTrue (W.tells packs.old) }
@@ -220,14 +266,6 @@ impl Window {
         ensures same { IsTrue (W.tells packs.new) → W.held packs.new ≡ W.held packs.old }
         ensures faults { W.faults packs.old ≤ W.faults packs.new }
     {
-        let first = block - block % MARKS;
-        self.at = u64::from(first);
-        if self.bytes.resize(MARKS as usize, 0).is_err() {
-            self.clear();
-            return;
-        }
-        if read_marks(packs, unit, first, &mut self.bytes).is_err() {
-            self.clear();
-        }
+        self.fill_from_marks(packs, unit, block - block % MARKS, MARKS as usize);
     }
 }

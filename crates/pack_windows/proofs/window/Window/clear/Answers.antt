@@ -1,6 +1,6 @@
-use Rattle.std.proofs.Common.{length, ap}
+use Rattle.std.proofs.Common.{refl}
 use Rattle.pack_windows.proofs.PartLaws.{empty_part}
 use Rattle.pack_windows.proofs.window.Window.clear.Goals as goal
 
 pub returns : goal.returns
-returns c = λ whole. empty_part _ whole (ap length c.clear.ensures.items)
+returns c = λ whole. empty_part _ whole refl

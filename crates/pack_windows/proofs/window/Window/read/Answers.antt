@@ -1,10 +1,13 @@
-use Rattle.std.proofs.Common.{length, ap}
+use Rattle.std.proofs.Common.{ℕ, List, take, drop, ◌+◌, ◌-◌, length, ap, ◌∙◌}
 use Rattle.pack_windows.specs.Parts.{Part}
-use Rattle.pack_windows.proofs.PartLaws.{piece_seen}
+use Rattle.pack_windows.proofs.PartLaws.{piece_of_room}
 use Rattle.pack_windows.proofs.window.Window.read.Goals as goal
 
 pub returns : goal.returns
 returns c = λ whole t is.
     let place = c.in-Some.ensures in
-    piece_seen c.args.self.now whole c.self.inside.bytes.items c.deref.result.now c.in-Some.first (length c.args.into.now) c.args.at
-    (ap (λ (p : Part). p.bytes) c.self.view_is) c.deref.ensures.value place.0 place.1 c.copy_from_slice.new.self c.copy_from_slice.ensures.after is
+    let n : ℕ = length c.args.into.now in
+    c.copy_from_slice.ensures.after
+    ∙ ap (λ (xs : List ℕ). take (c.in-Some.first + n - c.in-Some.first) (drop c.in-Some.first xs)) c.deref.ensures.value
+    ∙ piece_of_room c.args.self.now whole c.self.inside.room.items c.self.inside.size c.in-Some.first n c.args.at (ap (λ (p : Part). p.bytes) c.self.view_is)
+    place.0 place.1 is
