@@ -1,5 +1,5 @@
 -- Nothing is written outside the drives of an exercise.
-use Rattle.std.proofs.Common.{◌≡◌, ◌⊎◌, inl, inr, ℕ, zero, suc, ◌+◌, ◌*◌, ◌-◌, ◌<◌, ◌≤◌, ◌^◌, Bool, true, false, List, [], ◌∷◌, ◌++◌, map, take, drop, length, All, Option, None, Some, refl, sym, ap, subst, arith, ◌∙◌}
+use Rattle.std.proofs.Common.{◌≡◌, ◌⊎◌, inl, inr, ℕ, zero, suc, ◌+◌, ◌*◌, ◌≤◌, Bool, List, [], ◌∷◌, map, drop, length, All, Option, None, Some, refl, sym, ap, subst, arith, ◌∙◌}
 use Rattle.std.specs.Prelude.{if◌then◌else◌, ◌==◌}
 use Rattle.std.proofs.lemmas.Grind.{common_steps}
 use Rattle.std.proofs.lemmas.List.Elements.{All-head, All-tail}
@@ -21,9 +21,9 @@ use Rattle.driver_outcome.specs.Outcome.{IsNextBlock}
 use Rattle.driver_runs.specs.NextBlock.{HasNext, NextBlocksShow}
 use Rattle.event_player.specs.declared.play.PlayFault.{PlayFault}
 use Rattle.event_player.specs.declared.play.PlayFault.TheVariants as faults
-use Rattle.event_player.specs.Stops.{Leaves, StopsAtStore}
+use Rattle.event_player.specs.Stops.{Leaves}
 use Rattle.hp_exercise.specs.Exercise.{words_of}
-use Rattle.hp_exercise.specs.Statements.{step_statement, steps_statements, script_statements}
+use Rattle.hp_exercise.specs.Statements.{step_statement, steps_statements}
 use Rattle.hp_exercise.proofs.CaseLaws.{step_by, steps_all}
 use Rattle.exercise_run.specs.Drives.{AreEmpty, IsOutside, blocks_on, drive_at, faults_of, with_outside}
 use Rattle.exercise_run.specs.Exercises.{exercise_script}

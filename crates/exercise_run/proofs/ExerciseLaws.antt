@@ -14,7 +14,7 @@ use Rattle.script_reader.specs.Stored.{Stored, lines_in}
 use Rattle.script_reader.specs.Words.{all_verbs}
 use Rattle.script_meaning.specs.Meaning.{line_of, meaning, meaning_of, statement_of}
 use Rattle.trace_replay.specs.Moments.{Moment, answers_in}
-use Rattle.trace_replay.specs.Script.{Drain, Numbered, Script, IsScript, with_input, inputs_before, inputs_of}
+use Rattle.trace_replay.specs.Script.{Drain, Numbered, Script, IsScript, with_input, inputs_before}
 use Rattle.trace_replay.specs.Runs.{IsLegalRun}
 use Rattle.block_machine.specs.LegalAnswers.{AreNoAliases}
 use Rattle.run_promises.specs.Promises.{Promises}

@@ -1,5 +1,5 @@
 -- The drives of an exercise, and the packs in memory on which it is played.
-use Rattle.std.specs.Prelude.{◌≡◌, ℕ, ◌<◌, ◌≤◌, ◌-◌, ◌^◌, ◌==◌, if◌then◌else◌, List, [], ◌∷◌, length, Option, None, Some, slice_get}
+use Rattle.std.specs.Prelude.{◌≡◌, ℕ, ◌<◌, ◌≤◌, ◌-◌, ◌^◌, ◌==◌, if◌then◌else◌, List, [], length, Option, None, Some, slice_get}
 use Rattle.pack_geometry.specs.declared.DriveKind.{DriveKind}
 use Rattle.pack_geometry.specs.declared.DriveKind.TheVariants.{Rp06, Rm03}
 use Rattle.pack_geometry.specs.Geometry.{block_count}
@@ -7,7 +7,7 @@ use Rattle.pack_model.specs.Pack.{Pack, empty_pack, with_written, with_mark}
 use Rattle.mass_outside.specs.declared.slots.Image.{Image}
 use Rattle.mass_outside.specs.Images.{slot_of}
 use Rattle.mass_outside.specs.Memory.{MemView, held_by}
-use Rattle.mass_outside.specs.Slots.{SlotView, blocks_in}
+use Rattle.mass_outside.specs.Slots.{blocks_in}
 use Rattle.exercise_run.specs.declared.packs.Outside.{Outside}
 use Rattle.exercise_run.specs.declared.packs.Outside.TheVariants.{Block, Mark}
 

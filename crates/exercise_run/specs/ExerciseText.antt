@@ -1,5 +1,5 @@
 -- The text of an exercise.
-use Rattle.std.specs.Prelude.{ℕ, List, [], ◌∷◌, ◌++◌, codes, decimal}
+use Rattle.std.specs.Prelude.{ℕ, List, ◌++◌, codes, decimal}
 use Rattle.answer_tally.specs.declared.tally.Tally.{Tally}
 
 -- `exercise N`, `requests R`, `answers A ok K` and `text B sum S`

@@ -8,7 +8,7 @@ use Rattle.mass_outside.specs.Causes.{Rose}
 use Rattle.answer_tally.specs.declared.tally.Tally.{Tally}
 use Rattle.event_player.specs.declared.play.PlayFault.{PlayFault}
 use Rattle.exercise_run.specs.Drives.{faults_of}
-use Rattle.exercise_run.specs.Exercises.{exercise_lines, exercise_script}
+use Rattle.exercise_run.specs.Exercises.{exercise_script}
 use Rattle.exercise_run.proofs.ExerciseLaws.{cut_short_for, exercised_for, is_exercise, never_refused, one_meaning}
 use Rattle.exercise_run.proofs.DriveLaws.{never_fails}
 use Rattle.exercise_run.proofs.exercise.play_exercise.Goals as goal
