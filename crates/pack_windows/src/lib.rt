@@ -3,6 +3,8 @@
 #![tactic(auto)]
 
 pub mod pack_files;
+#[cfg(test)]
+mod tests;
 pub mod wide_packs;
 mod window;
 pub mod window_packs;

@@ -1,0 +1,229 @@
+use crate::pack_files::PackFiles;
+use crate::wide_packs::WidePacks;
+use crate::window_packs::WindowPacks;
+use mass_outside::mem_packs::{FailCall, MemPacks, PackOp};
+use mass_outside::slots::Image;
+use mass_outside::traits::{Packs, StoreFailed};
+use std::alloc::Global;
+use std::fs;
+use std::test::Fail;
+
+/// A call on a unit's packs: of a read the block, of a write the block and the byte that fills it, of a mark the block
+/// and its new state.
+#[derive(Clone, Copy)]
+enum Call {
+    Read(u32),
+    Write(u32, u8),
+    Marked(u32),
+    Mark(u32, bool),
+}
+
+/// What a call answers: of a block its first byte, times 256, and its last; of a mark 0 or 1.
+fn answer<P: Packs>(packs: &mut P, unit: u8, call: Call) -> Option<u64> {
+    let unit = unit.min(31);
+    let mut block = [0u8; 512];
+    match call {
+        Call::Read(at) => {
+            packs.read(unit, at, &mut block).ok()?;
+            Some(256 * u64::from(block[0]) + u64::from(block[511]))
+        }
+        Call::Write(at, byte) => {
+            block.fill(byte);
+            packs.write(unit, at, &block).ok()?;
+            Some(0)
+        }
+        Call::Marked(at) => Some(u64::from(packs.marked(unit, at).ok()?)),
+        Call::Mark(at, on) => {
+            packs.set_mark(unit, at, on).ok()?;
+            Some(0)
+        }
+    }
+}
+
+/// The first call of a list that answers something else, or its length.
+fn first_other<P: Packs>(packs: &mut P, calls: &[(u8, Call, Option<u64>)]) -> usize {
+    for (i, (unit, call, want)) in calls.iter().enumerate() {
+        if answer(packs, *unit, *call) != *want {
+            return i;
+        }
+    }
+    calls.len()
+}
+
+/// Packs in memory whose wide calls read block for block, and mark for mark.
+#[derive(Drop)]
+struct BlockForBlock {
+    packs: MemPacks,
+}
+
+impl Packs for BlockForBlock {
+    ghost use Rattle.std.specs.Prelude.{false};
+    ghost use Rattle.pack_model.specs.Pack.{empty_pack};
+
+    ghost tells = { λ _. false };
+
+    ghost held = { λ _. λ _. empty_pack };
+
+    ghost faults = { λ p. p.packs.faults };
+
+    fn length(&mut self, unit: u8) -> Result<u64, StoreFailed> {
+        self.packs.length(unit)
+    }
+
+    fn read(&mut self, unit: u8, block: u32, into: &mut [u8; 512]) -> Result<(), StoreFailed> {
+        self.packs.read(unit, block, into)
+    }
+
+    fn write(&mut self, unit: u8, block: u32, from: &[u8; 512]) -> Result<(), StoreFailed> {
+        self.packs.write(unit, block, from)
+    }
+
+    fn marked(&mut self, unit: u8, block: u32) -> Result<bool, StoreFailed> {
+        self.packs.marked(unit, block)
+    }
+
+    fn set_mark(&mut self, unit: u8, block: u32, on: bool) -> Result<(), StoreFailed> {
+        self.packs.set_mark(unit, block, on)
+    }
+}
+
+impl WidePacks for BlockForBlock {
+    fn read_blocks(&mut self, unit: u8, block: u32, into: &mut [u8]) -> Result<(), StoreFailed> {
+        let mut one = [0u8; 512];
+        let mut next = block;
+        for piece in into.chunks_exact_mut(512) {
+            self.packs.read(unit, next, &mut one)?;
+            piece.copy_from_slice(&one);
+            next = next.saturating_add(1);
+        }
+        Ok(())
+    }
+
+    fn read_marks(&mut self, unit: u8, block: u32, into: &mut [u8]) -> Result<(), StoreFailed> {
+        let mut next = block;
+        for byte in into.iter_mut() {
+            *byte = u8::from(self.packs.marked(unit, next)?);
+            next = next.saturating_add(1);
+        }
+        Ok(())
+    }
+}
+
+/// What calls answer on packs in memory. Unit 3 has an image of 700 bytes 255, marks on blocks 1 and 9 and room for 40
+/// blocks; the other units have nothing. The 3rd write and the 2nd mark that is set fail.
+const CALLS: [(u8, Call, Option<u64>); 33] = [
+    (3, Call::Read(0), Some(0xFFFF)),
+    (3, Call::Read(1), Some(0xFF00)),
+    (3, Call::Read(7), Some(0)),
+    (3, Call::Read(8), Some(0)),
+    (4, Call::Read(0), Some(0)),
+    (3, Call::Write(1, 5), Some(0)),
+    (3, Call::Read(1), Some(0x0505)),
+    (3, Call::Read(0), Some(0xFFFF)),
+    (3, Call::Read(2), Some(0)),
+    (3, Call::Write(20, 6), Some(0)),
+    (3, Call::Read(19), Some(0)),
+    (3, Call::Read(20), Some(0x0606)),
+    (3, Call::Read(21), Some(0)),
+    (3, Call::Write(20, 7), None),
+    (3, Call::Read(20), Some(0x0606)),
+    (3, Call::Write(20, 8), Some(0)),
+    (3, Call::Read(20), Some(0x0808)),
+    (3, Call::Write(40, 9), None),
+    (3, Call::Read(40), Some(0)),
+    (3, Call::Read(u32::MAX), Some(0)),
+    (4, Call::Write(0, 1), None),
+    (4, Call::Read(0), Some(0)),
+    (3, Call::Marked(1), Some(1)),
+    (3, Call::Marked(0), Some(0)),
+    (3, Call::Mark(1, false), Some(0)),
+    (3, Call::Marked(1), Some(0)),
+    (3, Call::Marked(9), Some(1)),
+    (3, Call::Mark(9, false), None),
+    (3, Call::Marked(9), Some(1)),
+    (3, Call::Mark(0, true), Some(0)),
+    (3, Call::Marked(0), Some(1)),
+    (3, Call::Marked(5000), Some(0)),
+    (4, Call::Marked(1), Some(0)),
+];
+
+/// Packs for these calls, of which further calls fail.
+fn packs(alloc: Global, fail: &[FailCall]) -> Result<MemPacks, Fail> {
+    let mut images = Vec::new(alloc);
+    images.push(Image {
+        unit: 3,
+        bytes: Vec::from_slice(alloc, &[0xFF; 700])?,
+        marks: Vec::from_slice(alloc, &[0, 1, 0, 0, 0, 0, 0, 0, 0, 1])?,
+        blocks: 40,
+    })?;
+    let mut all = Vec::from_slice(alloc, fail)?;
+    all.push(FailCall {
+        op: PackOp::Write,
+        number: 3,
+    })?;
+    all.push(FailCall {
+        op: PackOp::SetMark,
+        number: 2,
+    })?;
+    Ok(MemPacks::new(alloc, images, all)?)
+}
+
+#[test]
+fn packs_behind_windows(rt: HostRuntime) -> Result<(), Fail> {
+    let alloc = rt.alloc();
+    assert_eq!(rt; first_other(&mut packs(alloc, &[])?, &CALLS), CALLS.len());
+    // The first and the second read ahead fail, and the block is read alone.
+    for number in [4u64, 11] {
+        let fail = FailCall {
+            op: PackOp::Read,
+            number,
+        };
+        let inner = BlockForBlock {
+            packs: packs(alloc, &[fail])?,
+        };
+        let mut packs = WindowPacks::new(alloc, inner)?;
+        assert_eq!(rt;
+            first_other(&mut packs, &CALLS),
+            CALLS.len(),
+            "read {number}"
+        );
+    }
+    Ok(())
+}
+
+/// What calls answer on packs in files. Unit 24 has an image of 700 bytes 255 and the marks 0, 7 and 1; unit 23 has no
+/// files.
+const FILES: [(u8, Call, Option<u64>); 14] = [
+    (23, Call::Read(3), Some(0)),
+    (23, Call::Marked(3), Some(0)),
+    (24, Call::Read(0), Some(0xFFFF)),
+    (24, Call::Read(1), Some(0xFF00)),
+    (24, Call::Read(9), Some(0)),
+    (24, Call::Marked(1), Some(1)),
+    (24, Call::Marked(3), Some(0)),
+    (24, Call::Write(9, 5), Some(0)),
+    (24, Call::Read(9), Some(0x0505)),
+    (24, Call::Mark(3, true), Some(0)),
+    (24, Call::Marked(3), Some(1)),
+    (23, Call::Write(70, 6), Some(0)),
+    (23, Call::Read(70), Some(0x0606)),
+    (23, Call::Read(3), Some(0)),
+];
+
+#[test]
+fn files_behind_windows(rt: HostRuntime) -> Result<(), Fail> {
+    fs::write(&rt, "hp24.dsk", &[0xFF; 700])?;
+    fs::write(&rt, "hp24.bad", &[0, 7, 1])?;
+    let mut packs = WindowPacks::new(rt.alloc(), PackFiles::new(&rt))?;
+    assert_eq!(rt; first_other(&mut packs, &FILES), FILES.len());
+    // Other packs over the same files find what was written.
+    let mut again = WindowPacks::new(rt.alloc(), PackFiles::new(&rt))?;
+    assert!(rt; answer(&mut again, 24, Call::Read(9)) == Some(0x0505));
+    assert!(rt; answer(&mut again, 24, Call::Marked(3)) == Some(1));
+    assert!(rt; answer(&mut again, 23, Call::Read(70)) == Some(0x0606));
+    assert!(rt; !fs::exists(&rt, "hp23.bad")?);
+    for name in ["hp23.dsk", "hp24.dsk", "hp24.bad"] {
+        fs::remove_file(&rt, name)?;
+    }
+    Ok(())
+}
