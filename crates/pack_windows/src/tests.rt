@@ -18,6 +18,11 @@ enum Call {
     Mark(u32, bool),
 }
 
+/// 256 times the first byte, and the last byte.
+fn edges(block: &[u8; 512]) -> u64 {
+    256 * u64::from(block[0]) + u64::from(block[511])
+}
+
 /// What a call answers: of a block its first byte, times 256, and its last; of a mark 0 or 1.
 fn answer<P: Packs>(packs: &mut P, unit: u8, call: Call) -> Option<u64> {
     let unit = unit.min(31);
@@ -25,7 +30,7 @@ fn answer<P: Packs>(packs: &mut P, unit: u8, call: Call) -> Option<u64> {
     match call {
         Call::Read(at) => {
             packs.read(unit, at, &mut block).ok()?;
-            Some(256 * u64::from(block[0]) + u64::from(block[511]))
+            Some(edges(&block))
         }
         Call::Write(at, byte) => {
             block.fill(byte);
