@@ -2,7 +2,7 @@
 use Rattle.std.proofs.Common.{◌≡◌, ◌⊎◌, inl, inr, ℕ, ◌+◌, ◌-◌, ◌<◌, ◌≤◌, List, [], ◌∷◌, ◌++◌, take, drop, length, get_or, sym, ap, ◌∙◌, subst, arith}
 use Rattle.std.proofs.lemmas.Grind.{common_steps, same_number_lists}
 use Rattle.std.proofs.lemmas.Bool.{cases_lt}
-use Rattle.std.proofs.lemmas.List.{get_or-take, get_or-drop, get_or_default, get_or_push, length_push, length-take, length-take-le}
+use Rattle.std.proofs.lemmas.List.{get_or-take, get_or-drop, get_or_default, get_or_push, length_push, length-take}
 use Rattle.std.specs.Prelude.{Some}
 use Rattle.std.proofs.lemmas.Option.{slice_get_within, get_or_from_slice_get, slice_get-get_or}
 use Rattle.pack_model.specs.Pack.{window, with_window}
@@ -92,11 +92,6 @@ front_inside room size k h = omega (arith, h, length-take size room)
 
 front_byte : (room : List ℕ) (size k : ℕ) → k < length (take size room) → get_or room k 0 ≡ get_or (take size room) k 0
 front_byte room size k h = sym (get_or-take size room k 0 (omega (arith, h, length-take size room)))
-
--- a front that was read is a part
-pub filled_part : (at size : ℕ) (room whole : List ℕ) → size ≤ length room → take size room ≡ window size at whole
-    → IsPart (record { at = at; bytes = take size room }) whole
-filled_part at size room whole h e = record { bytes = e ∙ ap (λ n. window n at whole) (sym (length-take-le size room h)) }
 
 -- a byte of a room, of which a part is the front
 pub byte_in_room : (part : Part) (whole room : List ℕ) (size i at byte : ℕ) → take size room ≡ part.bytes → part.at + i ≡ at
