@@ -38,7 +38,6 @@ use Rattle.run_promises.specs.Beginnings.{AreNoSectors}
 use Rattle.event_player.specs.Stops.{IsBetween, lines_told, only_played, SaysOneSector, AreBehind, CameTo, StopsAtSink, StopsAtStore, IsAtMove, TellsFront, EventTellsFront, EventSaysFront, MoveFails, EventStops, Stopped}
 use Rattle.event_player.proofs.Inputs.{event_said}
 
-
 -- MOMENTS one behind the other
 played_append : (xs ys : List Moment) → played (xs ++ ys) ≡ played xs ++ played ys
 played_append [] ys = refl
