@@ -47,7 +47,7 @@ set_none slots p q g e = elim (cases_eq q p) [
   | inr other ↦ sym (get_or-set_other slots p q None None other) ∙ e
 ]
 
-freed_was : (answers : List Made) (slots : List (Option Held)) (q : ℕ) (g : Held) → slice_index_or (freed answers slots) q None ≡ Some g
+pub freed_was : (answers : List Made) (slots : List (Option Held)) (q : ℕ) (g : Held) → slice_index_or (freed answers slots) q None ≡ Some g
     → slice_index_or slots q None ≡ Some g
 freed_was [] slots q g e = e
 freed_was (made ∷ rest) slots q g e = by made.slot e

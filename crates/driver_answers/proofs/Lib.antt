@@ -1,3 +1,3 @@
 pub mod Ids
-mod Parts
+pub mod Parts
 pub mod Waiting

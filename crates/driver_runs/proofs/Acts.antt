@@ -10,10 +10,10 @@ use Rattle.main_memory.specs.Blocks.{Loan, IsLoan, size_at}
 use Rattle.main_memory.proofs.ByteLaws.{length-filled}
 use Rattle.hardware_table.specs.Moves.{was_written}
 use Rattle.hardware_table.specs.Adapter.{AdapterState, next_window}
-use Rattle.driver_machine.specs.World.{World, Held, adapter_of, unit_at, adapter_at, held_in, slot_in_hand}
+use Rattle.driver_machine.specs.World.{World, Held, adapter_of, drive_of, unit_at, adapter_at, held_in, slot_in_hand, block_in}
 use Rattle.driver_machine.specs.Acts as deed
 use Rattle.driver_machine.specs.Acts.{Act, Refuse, Submit, Of, Change, Nothing, Taken, Deed, Tried, Scene, scene_of}
-use Rattle.driver_machine.specs.Guards.{InHand, Allowed}
+use Rattle.driver_machine.specs.Guards.{InHand, IsBusyFor, Allowed}
 use Rattle.driver_machine.specs.Sound.{SlotOk, Sound}
 use Rattle.driver_phases.proofs.Scene.{HasTransferFor, SceneOk}
 use Rattle.driver_phases.proofs.Frame.{held_is, scene_ok}
@@ -36,26 +36,31 @@ window_inside : (skip count blocks moved size : ℕ) → skip + count ≤ blocks
 window_inside skip count blocks moved size fits less is = omega (arith, fits, less, is)
 
 -- so a sector that is written is a whole one inside the pack of a unit that is set up
-record IsInside (w : World) (u block : ℕ) (t : Tried) : Type 0 where
-  below : block < block_count (unit_at w u).drive.kind
-  long : length (filled 512 t.bytes) ≡ 512
+pub record IsInside (w : World) (u block : ℕ) (t : Tried) : Type 0 where
+  pub below : block < block_count (unit_at w u).drive.kind
+  pub long : length (filled 512 t.bytes) ≡ 512
+
+pub piece_few : (w : World) (u id : ℕ) → Sound w → InHand w u id → IsBusyFor (adapter_at w (adapter_of u)).state (drive_of u) false
+    → length (block_in (held_in w (slot_in_hand (unit_at w u))) (next_window (adapter_at w (adapter_of u)).state)) ≤ 512
+piece_few w u id sound hand busy =
+    let s : Scene = scene_of w u in
+    let h : Held = held_in w (slot_in_hand (unit_at w u)) in
+    let a : AdapterState = (adapter_at w (adapter_of u)).state in
+    let ok : SceneOk u s = scene_ok w u id sound hand in
+    let has : HasTransferFor (unit_at w u) h a = transfer_at u false s ok busy in
+    let same : h ≡ hand.held = held_is w (slot_in_hand (unit_at w u)) hand.held hand.slot in
+    let slot : SlotOk w (slot_in_hand (unit_at w u)) h =
+    subst (SlotOk w (slot_in_hand (unit_at w u))) (sym same) (sound.each_slot (slot_in_hand (unit_at w u)) hand.held hand.slot) in
+    let inside : next_window a < h.loan.count =
+    window_inside a.skip a.count a.blocks a.moved h.loan.count ok.adapter.inside (moved_less a ok.adapter busy.busy busy.completion) (ap (λ (l : Loan). l.count) has.loan) in
+    subst (λ n. n ≤ 512) (sym (slot.whole (next_window a) inside)) (size_few h.loan (next_window a) slot.loan)
 
 few_bytes : (w : World) (line u id block : ℕ) (t : Tried) → Sound w → Allowed w (Of line u id (deed.Sector block t))
     → was_written (unit_at w u).drive t.verdict ≡ true → length t.bytes ≤ 512
 few_bytes w line u id block t sound allowed given =
-    let s : Scene = scene_of w u in
-    let h : Held = held_in w (slot_in_hand (unit_at w u)) in
-    let a : AdapterState = (adapter_at w (adapter_of u)).state in
-    let ok : SceneOk u s = scene_ok w u id sound allowed.0 in
-    let has : HasTransferFor (unit_at w u) h a = transfer_at u false s ok allowed.1.0 in
-    let same : h ≡ allowed.0.held = held_is w (slot_in_hand (unit_at w u)) allowed.0.held allowed.0.slot in
-    let slot : SlotOk w (slot_in_hand (unit_at w u)) h =
-    subst (SlotOk w (slot_in_hand (unit_at w u))) (sym same) (sound.each_slot (slot_in_hand (unit_at w u)) allowed.0.held allowed.0.slot) in
-    let inside : next_window a < h.loan.count =
-    window_inside a.skip a.count a.blocks a.moved h.loan.count ok.adapter.inside (moved_less a ok.adapter allowed.1.0.busy allowed.1.0.completion) (ap (λ (l : Loan). l.count) has.loan) in
-    subst (λ n. n ≤ 512) (sym (ap length (allowed.1.2.bytes given) ∙ slot.whole (next_window a) inside)) (size_few h.loan (next_window a) slot.loan)
+    subst (λ (bytes : List ℕ). length bytes ≤ 512) (sym (allowed.1.2.bytes given)) (piece_few w u id sound allowed.0 allowed.1.0)
 
-is_inside : (w : World) (line u id block : ℕ) (t : Tried) → Sound w → Allowed w (Of line u id (deed.Sector block t))
+pub is_inside : (w : World) (line u id block : ℕ) (t : Tried) → Sound w → Allowed w (Of line u id (deed.Sector block t))
     → was_written (unit_at w u).drive t.verdict ≡ true → IsInside w u block t
 is_inside w line u id block t sound allowed given = record {
   below = subst (λ n. n < block_count (unit_at w u).drive.kind) (sym allowed.1.1)
@@ -75,7 +80,7 @@ written_beyond held u block bytes unit count long below = by_unit (eqb_tells uni
         ∙ block_beyond (held u).image bytes block count long (below here.1) ∙ ap (λ (k : ℕ). drop (512 * count) (held k).image) (sym here.1)
     by_unit (inr other) = ap (λ (t : Bool). drop (512 * count) (if t then written (held u) block bytes else held unit).image) other.0
 
-beyond_by : (b : Bool) (held : ℕ → Pack) (u block : ℕ) (bytes : List ℕ) (unit count : ℕ)
+pub beyond_by : (b : Bool) (held : ℕ → Pack) (u block : ℕ) (bytes : List ℕ) (unit count : ℕ)
     → (b ≡ true → (length bytes ≡ 512) × (unit ≡ u → block < count))
     → drop (512 * count) ((if b then with_written held u block bytes else held) unit).image ≡ drop (512 * count) (held unit).image
 beyond_by true held u block bytes unit count inside = written_beyond held u block bytes unit count (inside refl).0 (inside refl).1

@@ -1,5 +1,5 @@
 mod Images
-mod Acts
+pub mod Acts
 mod Units
 pub mod Runs
 mod NextBlock

@@ -1,32 +1,31 @@
 -- The block at which the packs failed is the next block of a write, as the replay has it.
-use Rattle.std.proofs.Common.{◌≡◌, ◌≢◌, ◌⊎◌, inl, inr, ℕ, zero, suc, ◌+◌, ◌-◌, ◌*◌, ◌==◌, ◌&&◌, ◌<◌, ◌≤◌, Bool, true, false, not, List, [], ◌∷◌, ◌++◌, take, drop, length, Option, None, Some, refl, sym, ap, subst, arith, ◌∙◌}
-use Rattle.std.specs.Prelude.{if◌then◌else◌, is_some, slice_index, slice_index_or, replicate, IsTrue}
+use Rattle.std.proofs.Common.{◌≡◌, ◌≢◌, ◌⊎◌, inl, inr, ℕ, ◌+◌, ◌-◌, ◌*◌, ◌==◌, ◌&&◌, ◌<◌, ◌≤◌, Bool, true, false, not, List, [], take, drop, length, Option, None, Some, refl, sym, ap, subst, arith, ◌∙◌}
+use Rattle.std.specs.Prelude.{if◌then◌else◌, slice_index, slice_index_or, IsTrue}
 use Rattle.std.proofs.lemmas.Option.{none-some}
 use Rattle.std.proofs.lemmas.Bool.{false≢true}
 use Rattle.std.proofs.lemmas.Bool.Decides.{eqb_tells}
 use Rattle.pack_geometry.specs.declared.DriveKind.{DriveKind}
 use Rattle.pack_geometry.specs.Geometry.{block_count}
-use Rattle.pack_model.specs.Pack.{Pack, block_at, is_marked, with_written, written, with_block}
+use Rattle.pack_model.specs.Pack.{Pack, block_at, with_written, written, with_block}
 use Rattle.pack_model.proofs.PackLaws.{block_at-with_block_same, block_at-with_block_other}
 use Rattle.hardware_table.specs.declared.Moved.{Moved}
 use Rattle.hardware_table.specs.declared.Moved.TheVariants as verdict
-use Rattle.hardware_table.specs.Drive.{DriveState, is_writing}
+use Rattle.hardware_table.specs.Drive.{is_writing}
 use Rattle.hardware_table.specs.Adapter.{AdapterState, next_block, next_window}
-use Rattle.hardware_table.specs.Moves.{IsVerdictBy, stop_of, has_bytes, was_read}
+use Rattle.hardware_table.specs.Moves.{IsVerdictBy, stop_of, has_bytes}
 use Rattle.hardware_table.specs.Noise.{strikes}
 use Rattle.main_memory.specs.Bytes.{filled}
-use Rattle.main_memory.specs.Blocks.{Loan, IsLoan, size_at}
+use Rattle.main_memory.specs.Blocks.{size_at}
 use Rattle.main_memory.proofs.ByteLaws.{length-filled}
-use Rattle.subsystem_spec.specs.Requests.{Request}
 use Rattle.trace_replay.specs.Conversation as told
 use Rattle.trace_replay.specs.Packs.{this_sector_or, size_of_block, sector_of_block}
-use Rattle.trace_replay.specs.Service.{in_hand, request_or_none}
-use Rattle.trace_replay.specs.Replay.{Replay, hand_of, AreLeft}
+use Rattle.trace_replay.specs.Service.{in_hand}
+use Rattle.trace_replay.specs.Replay.{Replay, AreLeft}
 use Rattle.driver_machine.specs.declared.Phase.{Phase}
 use Rattle.driver_machine.specs.declared.Phase.TheVariants.{Transferring}
-use Rattle.driver_machine.specs.World.{World, UnitView, Held, adapter_of, drive_of, unit_on, unit_of, unit_at, adapter_at, held_in, slot_in_hand, transfer_of, block_in, pieces}
+use Rattle.driver_machine.specs.World.{World, UnitView, Held, adapter_of, unit_on, unit_of, unit_at, adapter_at, held_in, slot_in_hand, transfer_of, block_in, pieces}
 use Rattle.driver_machine.specs.Acts.{Tried, scene_of}
-use Rattle.driver_machine.specs.Guards.{InHand, IsBusyFor, IsTried, IsSetUp}
+use Rattle.driver_machine.specs.Guards.{InHand, IsTried, IsSetUp}
 use Rattle.driver_machine.specs.Sound.{Sound}
 use Rattle.driver_phases.proofs.Frame.{scene_ok}
 use Rattle.driver_phases.proofs.Sector.{next_below}

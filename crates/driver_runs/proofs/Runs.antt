@@ -64,7 +64,7 @@ pub answers_keep : AnswersKeep
 answers_keep drives old held w sound some kept = runs_keep drives old held w (Taken ∷ []) sound (some, tt) kept
 
 -- THE START. Only units below 32 are set up.
-is_small : (w : World) (x : ℕ) → Sound w → (unit_at w x).declared ≡ true → x < 32
+pub is_small : (w : World) (x : ℕ) → Sound w → (unit_at w x).declared ≡ true → x < 32
 is_small w x sound on = by_size (grind arith)
   where
     by_size : (x < 32) ⊎ (32 ≤ x) → x < 32

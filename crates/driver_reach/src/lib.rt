@@ -1,0 +1,19 @@
+//! How far the writes of a run reach: where each request ends below some block of its unit, what the image has from that block on
+//! stays. The functions here do nothing: each stands for a law.
+#![tactic(auto)]
+
+ghost use Rattle.driver_reach.specs.Reach.{StartsWithinReach, ActsKeepReach, EventsKeepReach, SubmissionsKeepReach, AnswersKeepReach, NextBlocksStay};
+
+/// From the start of a run on each call keeps what images have from the ends of all requests on.
+pub fn calls_law()
+    ensures start { StartsWithinReach }
+    ensures act { ActsKeepReach }
+    ensures event { EventsKeepReach }
+    ensures submit { SubmissionsKeepReach }
+    ensures taken { AnswersKeepReach }
+{}
+
+/// So does a block at whose write the packs failed.
+pub fn next_block_law()
+    ensures { NextBlocksStay }
+{}
