@@ -130,6 +130,7 @@ module _ (script : Script) (tables : ℕ → Option Table) (first : ℕ → Pack
     opens = opens_line line input;
     declared = told.run.kept.units;
     shows = told.run.so_far.left.stands.shows;
+    reach = told.run.reach;
     trace = told.trace;
     out = λ t. text_next old.said text (before t) (told.out (too t));
   }
@@ -269,6 +270,7 @@ later_stops script tables first line done later said taken now new fault input t
         opened = refl;
         opens = opens_none;
         declared = told.drained.kept.units;
+        reach = told.drained.reach;
         shows = subst (ShowsAll now.world) (sym told.drained.draining.ends.is) (drained_shows now.world told.drained.draining.ends.last told.drained.draining.ends.over.rests.shows);
         trace = told.trace;
         out = λ t. told.out t ∙ ap (λ (ms : List Moment). said ++ out_text ms) (sym (append-nil told.moments));

@@ -31,6 +31,7 @@ use Rattle.driver_trace.proofs.Runs.{drain_finds_nothing, drain_ends}
 use Rattle.driver_trace.proofs.Inputted.{calls_are_played, lines_play_nothing}
 use Rattle.driver_runs.specs.Runs.{IsKept}
 use Rattle.driver_runs.proofs.Runs.{events_keep, submissions_keep}
+use Rattle.driver_reach.proofs.Calls.{events_keep_reach, submissions_keep_reach}
 use Rattle.driver_drains.specs.Drains.{Falls}
 use Rattle.driver_drains.proofs.Asked.{lines_ask_nothing, calls_ask}
 use Rattle.driver_drains.proofs.Falls.{first_events_fall, drains_fall}
@@ -38,6 +39,7 @@ use Rattle.hp_driver.specs.Subsystem.{IsThere}
 use Rattle.event_player.specs.Playing.{HasRun}
 use Rattle.event_player.specs.Steps.{HasDrained, all_taken}
 use Rattle.event_player.proofs.Taking.{runs_wait, so_far_taken, draining_taken, kept_taken}
+use Rattle.event_player.proofs.Reaching.{call_asks, lines_ask, within_taken}
 
 -- THE INPUTS of lines, with those of one more
 with_more : (number : ℕ) (statement : Statement) (inputs more : List Numbered) → with_input number statement (inputs ++ more) ≡ with_input number statement inputs ++ more
@@ -118,6 +120,9 @@ module _ (script : Script) (tables : ℕ → Option Table) (first : ℕ → Pack
         inputs = calls_are_played moments next input w acts ∙ ap (λ (xs : List Numbered). xs ++ record { line = next; input = input } ∷ []) run.inputs
             ∙ sym (inputs_more done next input);
         asked = calls_ask start.there moments next input w acts run.asked asks.0 asks.1;
+        reach = λ ends below tables_below. within_taken ends first (packs_after_all w held acts) (after_all w acts) works.sound
+            (events_keep_reach ends first held w next input tried sound work may
+            (run.reach ends (call_asks ends (drives_of script) moments next input w acts below).0 tables_below));
       }
 
   -- A SUBMISSION
@@ -141,6 +146,10 @@ module _ (script : Script) (tables : ℕ → Option Table) (first : ℕ → Pack
             ∙ ap (λ (xs : List Numbered). xs ++ record { line = next; input = says.Submit r } ∷ []) run.inputs
             ∙ sym (inputs_more done next (says.Submit r));
         asked = calls_ask start.there moments next (says.Submit r) w acts run.asked some of;
+        reach = λ ends below tables_below.
+            let asks = call_asks ends (drives_of script) moments next (says.Submit r) w acts below in
+            within_taken ends first (packs_after_all w held acts) (after_all w acts) works.sound
+            (submissions_keep_reach ends (drives_of script) first held w next p r h sound work may is run.kept.units asks.1 (run.reach ends asks.0 tables_below));
       }
 
   -- A DRAIN that finds nothing
@@ -153,6 +162,7 @@ module _ (script : Script) (tables : ℕ → Option Table) (first : ℕ → Pack
     inputs = calls_are_played moments next says.Drain w (Nothing next ∷ []) ∙ ap (λ (xs : List Numbered). xs ++ record { line = next; input = says.Drain } ∷ []) run.inputs
         ∙ sym (inputs_more done next says.Drain);
     asked = calls_ask start.there moments next says.Drain w (Nothing next ∷ []) run.asked tt tt;
+    reach = λ ends below tables_below. run.reach ends (call_asks ends (drives_of script) moments next says.Drain w (Nothing next ∷ []) below).0 tables_below;
   }
 
   -- The first event of a drain
@@ -175,6 +185,9 @@ module _ (script : Script) (tables : ℕ → Option Table) (first : ℕ → Pack
         inputs = calls_are_played moments next says.Drain w acts ∙ ap (λ (xs : List Numbered). xs ++ record { line = next; input = says.Drain } ∷ []) run.inputs
             ∙ sym (inputs_more done next says.Drain);
         asked = calls_ask start.there moments next says.Drain w acts run.asked tt tt;
+        reach = λ ends below tables_below. within_taken ends first (packs_after_all w held acts) (after_all w acts) works.sound
+            (events_keep_reach ends first held w next input tried sound work may
+            (run.reach ends (call_asks ends (drives_of script) moments next says.Drain w acts below).0 tables_below));
       }
 
   -- leaves fewer than 200 for each block outstanding,
@@ -210,6 +223,9 @@ module _ (script : Script) (tables : ℕ → Option Table) (first : ℕ → Pack
             (events_keep (drives_of script) first held w line input tried sound work may run.kept);
         inputs = lines_play_nothing moments w acts ∙ run.inputs;
         asked = lines_ask_nothing start.there moments w acts run.asked;
+        reach = λ ends below tables_below. within_taken ends first (packs_after_all w held acts) (after_all w acts) works.sound
+            (events_keep_reach ends first held w line input tried sound work may
+            (run.reach ends (lines_ask ends (drives_of script) moments w acts below) tables_below));
       }
 
   pub drain_more_falls : (line : ℕ) (input : Input) (tried : Tried) (held : ℕ → Pack) (done : List Line) (w : World) (moments : List Moment)
@@ -227,4 +243,5 @@ module _ (script : Script) (tables : ℕ → Option Table) (first : ℕ → Pack
     kept = run.kept;
     inputs = run.inputs;
     asked = run.asked;
+    reach = run.reach;
   }

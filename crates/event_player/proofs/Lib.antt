@@ -1,4 +1,5 @@
 pub mod Taking
+pub mod Reaching
 pub mod TallyLaws
 pub mod Texts
 pub mod Going

@@ -22,6 +22,7 @@ use Rattle.driver_outcome.specs.Outcome.{IsFront, IsNextBlock}
 use Rattle.driver_outcome.specs.Packs.{ReadAll, packs_after_all}
 use Rattle.driver_outcome.proofs.Joined.{front_same, front_more, front_of_front}
 use Rattle.driver_runs.specs.Runs.{AreDeclared}
+use Rattle.driver_reach.specs.Reach.{AskBelow, TablesBelow, IsWithinReach}
 use Rattle.driver_trace.specs.Calls.{IsReadOf}
 use Rattle.driver_trace.specs.Noises.{AllFlip}
 use Rattle.driver_trace.specs.Within.{ShowsAll}
@@ -37,6 +38,7 @@ use Rattle.event_player.specs.Steps.{Stage, PlaysEvent, waiting_text}
 use Rattle.run_promises.specs.Beginnings.{AreNoSectors}
 use Rattle.event_player.specs.Stops.{IsBetween, lines_told, only_played, SaysOneSector, AreBehind, CameTo, StopsAtSink, StopsAtStore, IsAtMove, TellsFront, EventTellsFront, EventSaysFront, MoveFails, EventStops, Stopped}
 use Rattle.event_player.proofs.Inputs.{event_said}
+use Rattle.event_player.proofs.Reaching.{ask_parts, left_stays}
 
 -- MOMENTS one behind the other
 played_append : (xs ys : List Moment) → played (xs ++ ys) ≡ played xs ++ played ys
@@ -79,6 +81,7 @@ pub record Context (script : Script) (tables : ℕ → Option Table) (first : �
   pub opens : IsOpening opening
   pub declared : AreDeclared (drives_of script) now.world
   pub shows : ShowsAll now.world (after_moments (start_of script tables first) done)
+  pub reach : (ends : ℕ → ℕ) → AskBelow ends (drives_of script) (played done) → TablesBelow ends (drives_of script) tables → IsWithinReach ends first now.held now.world
   pub trace : IsTrue now.trace_tells → now.taken ≡ taken ++ trace_text done
   pub out : IsTrue now.out_tells → now.said ≡ said ++ out_text (done ++ opening)
 
@@ -96,6 +99,7 @@ unopened {said = said} {now = now} {opening = opening} ctx silent = record {
   opens = opens_none;
   declared = ctx.declared;
   shows = ctx.shows;
+  reach = ctx.reach;
   trace = ctx.trace;
   out = λ t. ctx.out t ∙ ap (λ (text : List ℕ). said ++ text)
       (flat_map-append said_text ctx.done opening ∙ ap (λ (text : List ℕ). out_text ctx.done ++ text) silent ∙ append-nil (out_text ctx.done)
@@ -443,6 +447,9 @@ module _ {script : Script} {tables : ℕ → Option Table} {first : ℕ → Pack
         held = now.held;
         behind = at.ctx.behind;
         packs = e.packs told;
+        reach = λ ends below tables_below. left_stays ends first now.held new.held now.world at.sound
+            (at.ctx.reach ends (ask_parts ends (drives_of script) (played at.ctx.done) at.ctx.later (subst (AskBelow ends (drives_of script)) at.ctx.inputs below)).0 tables_below)
+            (e.packs told);
         trace = λ t. e.trace t ∙ at.ctx.trace (still_traced t);
         out = λ t. e.out ∙ (unopened at.ctx (at.silent e.move)).out (still t) ∙ ap (λ (ms : List Moment). said ++ out_text ms) (append-nil at.ctx.done);
       }

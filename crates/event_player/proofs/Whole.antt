@@ -15,6 +15,7 @@ use Rattle.script_meaning.specs.Meaning.{line_of, meaning_of}
 use Rattle.trace_replay.specs.Moments.{Moment}
 use Rattle.trace_replay.specs.Script as says
 use Rattle.trace_replay.specs.Script.{Script, Input, Statement, Declares, Plays, Line, IsScript, IsStatement, AreNumbered, drives_of, ids_of, inputs_before}
+use Rattle.trace_replay.specs.Runs.{ArePlayed}
 use Rattle.trace_replay.specs.Text.{trace_text}
 use Rattle.pack_geometry.specs.declared.DriveKind.TheVariants.{Rp06}
 use Rattle.driver_machine.specs.World.{World, UnitView, Setup, no_unit, new_world, unit_at}
@@ -23,6 +24,8 @@ use Rattle.driver_machine.specs.Sound.{Sound}
 use Rattle.driver_slots.proofs.Starts.{sound_new}
 use Rattle.driver_trace.proofs.Start.{starts}
 use Rattle.driver_runs.proofs.Runs.{starts_kept, runs_are_legal}
+use Rattle.driver_reach.specs.Reach.{AskBelow}
+use Rattle.driver_reach.proofs.Calls.{starts_within_reach}
 use Rattle.driver_counts.proofs.Starts.{starts_with_none, starts_with_room}
 use Rattle.driver_answers.proofs.Ids.{starts_of_none}
 use Rattle.answer_lines.specs.AnswerText.{out_text}
@@ -78,6 +81,7 @@ declared_run s tables first held last done w moments line u kind at run = record
   kept = run.kept;
   inputs = run.inputs ∙ sym (inputs_append [] done (line ∷ []) ∙ ap (λ (st : Statement). inputs_before (says.with_input line.number st []) done) at);
   asked = run.asked;
+  reach = run.reach;
 }
 
 module _ (s : Script) (tables : ℕ → Option Table) (i : ℕ) (line : Line) (old mid new : Stage) (here : drop i s.lines ≡ line ∷ drop (i + 1) s.lines)
@@ -226,10 +230,14 @@ plays_whole s tables old new is read ends = record {
   tables = tables;
   moments = ends.moments;
   run = runs_are_legal s tables old.held new.held (s.count + 1) ends.moments new.world is
-      (ends.run.inputs ∙ inputs_append [] s.lines (line_for (s.count + 1) says.Drain ∷ [])) read ends.run.so_far ends.run.kept ends.over;
+      inputs read ends.run.so_far ends.run.kept ends.over;
+  reach = λ top below tables_below. (ends.run.reach top (subst (AskBelow top (drives_of s)) (sym inputs) below) tables_below).packs;
   out = ends.out;
   trace = ends.trace;
 }
+  where
+    inputs : ArePlayed s ends.moments
+    inputs = ends.run.inputs ∙ inputs_append [] s.lines (line_for (s.count + 1) says.Drain ∷ [])
 
 -- and its tally is that of the run.
 pub tally_whole : (s : Script) (tables : ℕ → Option Table) (old new : Stage) → IsScript s → AreTablesOf (drives_of s) old.held tables
@@ -249,6 +257,8 @@ starts_run s setups outstanding noises held set = record {
   kept = starts_kept (drives_of s) (tables_in setups) held setups outstanding noises set.are (set.set outstanding noises) (set.declared outstanding noises);
   inputs = refl;
   asked = record { some = tt; units = tt };
+  reach = λ ends below tables_below.
+      starts_within_reach ends (drives_of s) (tables_in setups) held setups outstanding noises set.are (set.set outstanding noises) (set.declared outstanding noises) tables_below;
 }
 
 is_below : (w : World) (u : ℕ) → Sound w → (unit_at w u).declared ≡ true → u < 32

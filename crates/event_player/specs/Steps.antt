@@ -27,6 +27,7 @@ use Rattle.driver_outcome.specs.Packs.{packs_after_all}
 use Rattle.driver_trace.specs.Calls.{IsReadOf}
 use Rattle.driver_trace.specs.Runs.{IsDraining}
 use Rattle.driver_runs.specs.Runs.{IsKept}
+use Rattle.driver_reach.specs.Reach.{AskBelow, TablesBelow, IsWithinReach}
 use Rattle.driver_drains.specs.Drains.{AreAsked}
 use Rattle.driver_counts.specs.Counts.{IsWithin, in_use}
 use Rattle.driver_answers.specs.Ids.{AreOf}
@@ -135,12 +136,14 @@ abbrev pub PlaysDrain : ℕ → Stage → Stage → Type 0
 PlaysDrain line old new = (script : Script) (tables : ℕ → Option Table) (first : ℕ → Pack) (last : ℕ) (done : List Line) (moments : List Moment)
     → last < line → HasRun script tables first old.held last done old.world moments → Drains script tables first done moments line old new
 
--- IN A DRAIN, behind one of its events: the moments follow, what is no sector stayed, and the line of the drain is played.
+-- IN A DRAIN, behind one of its events: the moments follow, what is no sector stayed, so did what lies beyond all requests, and the line of
+-- the drain is played.
 pub record HasDrained (script : Script) (tables : ℕ → Option Table) (first held : ℕ → Pack) (line : ℕ) (done : List Line) (w : World) (moments : List Moment) : Type 0 where
   pub draining : IsDraining (start_of script tables first) line moments held w
   pub kept : IsKept (drives_of script) first held w
   pub inputs : played moments ≡ inputs_before [] done
   pub asked : AreAsked (start_of script tables first).there moments
+  pub reach : (ends : ℕ → ℕ) → AskBelow ends (drives_of script) (played moments) → TablesBelow ends (drives_of script) tables → IsWithinReach ends first held w
 
 -- Where few enough events are left, the drain goes on to its end.
 pub record EndsDraining (script : Script) (tables : ℕ → Option Table) (first : ℕ → Pack) (done : List Line) (moments : List Moment) (line : ℕ) (old new : Stage) : Type 0 where

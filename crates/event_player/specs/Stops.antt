@@ -19,6 +19,7 @@ use Rattle.driver_work.specs.Runs.{Run, MaySubmit}
 use Rattle.driver_outcome.specs.Outcome.{IsFront, IsNextBlock}
 use Rattle.driver_outcome.specs.Packs.{ReadAll, packs_after_all}
 use Rattle.driver_runs.specs.Runs.{AreDeclared}
+use Rattle.driver_reach.specs.Reach.{AskBelow, TablesBelow, StayFrom}
 use Rattle.driver_trace.specs.Noises.{AllFlip}
 use Rattle.driver_trace.specs.Within.{ShowsAll}
 use Rattle.answer_lines.specs.AnswerText.{out_text}
@@ -87,7 +88,7 @@ IsAtMove w s later a = IsMoveLine a later ⊎ ((IsDrainLine later ⊎ IsTrue s.e
 
 -- THE PACKS FAILED, at a move, which did nothing else: all that was said before is taken. The packs are as before, but for one block
 -- at most, the next one of a write whose transfer is under way; the driver's world is that which the replay shows, of the units that are
--- declared.
+-- declared. What images have from the ends of all requests on stayed.
 pub record StopsAtStore (script : Script) (tables : ℕ → Option Table) (first left : ℕ → Pack) (out_tells : Bool) (said said' : List ℕ) (trace_tells : Bool) (taken taken' : List ℕ) : Type 0 where
   pub done : List Moment
   pub later : List Numbered
@@ -101,6 +102,7 @@ pub record StopsAtStore (script : Script) (tables : ℕ → Option Table) (first
   pub held : ℕ → Pack
   pub behind : AreBehind script tables first held done
   pub packs : (left ≡ held) ⊎ IsNextBlock world held left
+  pub reach : (ends : ℕ → ℕ) → AskBelow ends (drives_of script) (inputs_of script) → TablesBelow ends (drives_of script) tables → StayFrom ends first left
   pub trace : IsTrue trace_tells → taken' ≡ taken ++ trace_text done
   pub out : IsTrue out_tells → said' ≡ said ++ out_text done
 

@@ -27,7 +27,7 @@ use Rattle.event_player.specs.Stops.{Leaves}
 use Rattle.hp_exercise.specs.Bounds.{HasShortNoise}
 use Rattle.hp_exercise.specs.Exercise.{script_text}
 use Rattle.hp_exercise.specs.Statements.{script_statements}
-use Rattle.exercise_run.specs.Drives.{AreEmpty}
+use Rattle.exercise_run.specs.Room.{AreEmpty}
 use Rattle.exercise_run.specs.Exercises.{IsExercise, Exercised, IsCutShort, exercise_lines, exercise_script}
 use Rattle.exercise_run.proofs.AnsweredLaws.{all_answered}
 

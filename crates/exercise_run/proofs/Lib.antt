@@ -1,4 +1,6 @@
 mod TextLaws
 mod AnsweredLaws
-mod DriveLaws
+mod TableLaws
+mod ReachLaws
+mod RoomLaws
 mod ExerciseLaws

@@ -1,3 +1,3 @@
-pub mod Drives
+pub mod Room
 pub mod ExerciseText
 pub mod Exercises

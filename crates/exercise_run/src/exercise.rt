@@ -3,10 +3,9 @@ ghost use Rattle.std.specs.Prelude.{◌≡◌, ◌⊎◌, ◌≤◌, IfOk, OnOk,
 ghost use Rattle.mass_outside.specs.Causes.{Rose};
 ghost use Rattle.exercise_run.specs.Exercises.{Exercised, IsCutShort, IsDone, IsStopped};
 
-use crate::packs::DrivePacks;
+use crate::packs::ExercisePacks;
 use crate::text::exercise_lines;
 use answer_tally::Tally;
-use driver_runs::next_block_law;
 use event_player::play::{PlayFault, play};
 use hp_exercise::{bounds_law, script_of, spelling_law};
 use mass_outside::mem_streams::SureSink;
@@ -42,7 +41,6 @@ fn play_exercise<T: Sink>(alloc: Global, number: u64, trace: &mut T) -> Result<T
     grammar_law();
     spelling_law();
     bounds_law();
-    next_block_law();
     let Ok(text) = script_of(alloc, number) else {
         return Err(ExerciseFault::Memory);
     };
@@ -51,7 +49,7 @@ fn play_exercise<T: Sink>(alloc: Global, number: u64, trace: &mut T) -> Result<T
         Err(ReadFault::Memory) => return Err(ExerciseFault::Memory),
         Err(ReadFault::Refused { .. }) => unreachable!(),
     };
-    let Ok(mut packs) = DrivePacks::new(alloc) else {
+    let Ok(mut packs) = ExercisePacks::new(alloc) else {
         return Err(ExerciseFault::Memory);
     };
     let mut answers = SureSink::new();
@@ -61,7 +59,7 @@ fn play_exercise<T: Sink>(alloc: Global, number: u64, trace: &mut T) -> Result<T
         Err(PlayFault::Sink) => Err(ExerciseFault::Sink),
         // An empty image is not too long.
         Err(PlayFault::TooLong { .. }) => unreachable!(),
-        // Nothing is written outside the drives.
+        // No request reaches beyond the room.
         Err(PlayFault::Store) => {
             packs.outside_law();
             unreachable!()

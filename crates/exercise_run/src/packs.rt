@@ -1,13 +1,10 @@
 // The packs of an exercise.
 ghost use Rattle.std.specs.Prelude.{◌≡◌, ℕ, true, None, IfOk};
-ghost use Rattle.pack_geometry.specs.declared.DriveKind.{DriveKind};
-ghost use Rattle.pack_geometry.specs.Geometry.{block_count};
-ghost use Rattle.exercise_run.specs.Drives.{AreEmpty, HasDrives, IsBlank, AreOfDrives, held_on};
+ghost use Rattle.exercise_run.specs.Room.{AreEmpty, IsBlank, AreBlank, held_on, room_on};
 
-use mass_outside::mem_packs::MemPacks;
 use mass_outside::slots::Image;
+use mass_outside::sure_packs::SurePacks;
 use mass_outside::traits::{NoMemory, Packs, StoreFailed};
-use pack_geometry::{DriveKind, blocks};
 use std::alloc::Global;
 use std::marker::Model;
 
@@ -26,65 +23,76 @@ pub(crate) enum Outside {
     },
 }
 
-/// An image that holds nothing, with room for a drive of this kind.
-fn blank(alloc: Global, unit: u8, kind: DriveKind) -> Image
-    ensures { IsBlank unit kind result }
+/// The room of a unit, in blocks: as far as a request of a script may reach.
+fn room(unit: u8) -> u32
+    ensures { result ≡ room_on unit }
+{
+    if unit == 0 || unit == 1 || unit == 8 {
+        15_015
+    } else {
+        0
+    }
+}
+
+/// An image that holds nothing, with the room of its unit.
+fn blank(alloc: Global, unit: u8) -> Image
+    ensures { IsBlank unit result }
 {
     Image {
         unit,
         bytes: Vec::new(alloc),
         marks: Vec::new(alloc),
-        blocks: blocks(kind),
+        blocks: room(unit),
     }
 }
 
-/// Such images for the drives of an exercise.
+/// Such images for the units of a script.
 fn images(alloc: Global) -> Result<Vec<Image>, NoMemory>
-    ensures { IfOk result (λ images. AreOfDrives images.items) }
+    ensures { IfOk result (λ images. AreBlank images.items) }
 {
     let mut images = Vec::new(alloc);
-    images.push(blank(alloc, 0, DriveKind::Rp06))?;
-    images.push(blank(alloc, 1, DriveKind::Rm03))?;
-    images.push(blank(alloc, 8, DriveKind::Rm03))?;
+    images.push(blank(alloc, 0))?;
+    images.push(blank(alloc, 1))?;
+    images.push(blank(alloc, 8))?;
     Ok(images)
 }
 
-/// Packs in memory for the drives of an exercise, which tell what they hold. A write or a mark for which these drives
-/// have no room fails, is kept beside them as what they hold there, and from then on each call fails.
+/// Packs in memory with room for what a script may write, which tell what they hold. A write or a mark beyond that room fails, is kept
+/// beside them as what they hold there, and from then on each call fails.
 #[derive(Drop)]
-pub(crate) struct DrivePacks {
-    packs: MemPacks,
+pub(crate) struct ExercisePacks {
+    packs: SurePacks,
     outside: Option<Outside>,
 }
 
-impl Model for DrivePacks {
-    ghost use Rattle.exercise_run.specs.Drives.{DrivesView, HasDrives, IsOutside};
+impl Model for ExercisePacks {
+    ghost use Rattle.exercise_run.specs.Room.{RoomView, HasRoom, IsOutside};
 
-    ghost Value = { DrivesView };
+    ghost Value = { RoomView };
 
     ghost view = { λ p. record { packs = p.packs; outside = p.outside } };
 
-    ghost invariant = { λ p. HasDrives p.packs × IsOutside p.outside };
+    ghost invariant = { λ p. HasRoom p.packs × IsOutside p.outside };
 }
 
-impl DrivePacks {
-    ghost use Rattle.exercise_run.specs.Drives.{IsOutside};
+impl ExercisePacks {
+    ghost use Rattle.exercise_run.specs.Room.{IsOutside};
 
-    /// Empty packs without marks. The room for the drives is reserved here, so that no later call takes memory; of it, only what lies
+    /// Empty packs without marks. The room is reserved here, so that no later call takes memory; of it, only what lies
     /// below the end of the last block that is written is ever touched.
-    pub fn new(alloc: Global) -> Result<DrivePacks, NoMemory>
+    pub fn new(alloc: Global) -> Result<ExercisePacks, NoMemory>
         ensures empty { IfOk result (λ packs. AreEmpty (held_on packs)) }
         ensures inside { IfOk result (λ packs. packs.outside ≡ None) }
     {
         let images = images(alloc)?;
-        let packs = MemPacks::new(alloc, images, Vec::new(alloc))?;
-        Ok(DrivePacks {
+        let packs = SurePacks::new(alloc, images)?;
+        Ok(ExercisePacks {
             packs,
             outside: None,
         })
     }
 
-    /// The law of what is kept beside the drives: it lies outside.
+    /// The law of what is kept beside the packs: it lies beyond their room.
     pub fn outside_law(&self)
         ensures { IsOutside self.now.outside }
     {
@@ -92,8 +100,8 @@ impl DrivePacks {
     }
 }
 
-impl Packs for DrivePacks {
-    ghost use Rattle.exercise_run.specs.Drives.{faults_of, held_on};
+impl Packs for ExercisePacks {
+    ghost use Rattle.exercise_run.specs.Room.{faults_of, held_on};
 
     ghost tells = { λ _. true };
 
@@ -119,17 +127,15 @@ impl Packs for DrivePacks {
         if self.outside.is_some() {
             return Err(StoreFailed);
         }
-        match self.packs.write(unit, block, from) {
-            Ok(()) => Ok(()),
-            Err(failed) => {
-                self.outside = Some(Outside::Block {
-                    unit,
-                    block,
-                    bytes: *from,
-                });
-                Err(failed)
-            }
+        if block >= room(unit) {
+            self.outside = Some(Outside::Block {
+                unit,
+                block,
+                bytes: *from,
+            });
+            return Err(StoreFailed);
         }
+        self.packs.write(unit, block, from)
     }
 
     fn marked(&mut self, unit: u8, block: u32) -> Result<bool, StoreFailed> {
@@ -143,12 +149,10 @@ impl Packs for DrivePacks {
         if self.outside.is_some() {
             return Err(StoreFailed);
         }
-        match self.packs.set_mark(unit, block, on) {
-            Ok(()) => Ok(()),
-            Err(failed) => {
-                self.outside = Some(Outside::Mark { unit, block, on });
-                Err(failed)
-            }
+        if block >= room(unit) {
+            self.outside = Some(Outside::Mark { unit, block, on });
+            return Err(StoreFailed);
         }
+        self.packs.set_mark(unit, block, on)
     }
 }

@@ -7,10 +7,10 @@ use Rattle.hp_exercise.specs.Exercise.{script_text}
 use Rattle.mass_outside.specs.Causes.{Rose}
 use Rattle.answer_tally.specs.declared.tally.Tally.{Tally}
 use Rattle.event_player.specs.declared.play.PlayFault.{PlayFault}
-use Rattle.exercise_run.specs.Drives.{faults_of}
+use Rattle.exercise_run.specs.Room.{faults_of}
 use Rattle.exercise_run.specs.Exercises.{exercise_script}
 use Rattle.exercise_run.proofs.ExerciseLaws.{cut_short_for, exercised_for, is_exercise, never_refused, one_meaning}
-use Rattle.exercise_run.proofs.DriveLaws.{never_fails}
+use Rattle.exercise_run.proofs.RoomLaws.{never_fails}
 use Rattle.exercise_run.proofs.exercise.play_exercise.Goals as goal
 
 pub unreachable-requires : goal.unreachable-requires
@@ -26,7 +26,7 @@ unreachable-requires-in-Err-Store g c =
     let same : meaning_of c.in-Ok-read_script.script ≡ exercise_script c.args.number =
     one_meaning c.args.number c.in-Ok-read_script.script (c.spelling_law.ensures c.args.number) read
     (λ bytes ls os k o. c.grammar_law.ensures.one_script all_verbs bytes ls os k o) in
-    never_fails c.next_block_law.ensures c.args.number c.in-Err-Store.field-0 (meaning_of c.in-Ok-read_script.script) _ _ _ _ _ _ _ _ _ c.play.new.packs.outside
+    never_fails c.args.number c.in-Err-Store.field-0 (meaning_of c.in-Ok-read_script.script) _ _ _ _ _ _ _ _ _ c.play.new.packs.outside
     c.in-Err-Store.field-0-is same c.in-Ok-new.ensures.empty (c.in-Err-Store.ensures.stopped refl) c.outside_law.ensures refl
     (subst (λ outside. Rose (faults_of outside) (faults_of c.play.new.packs.outside)) c.in-Ok-new.ensures.inside (c.in-Err-Store.ensures.store (ap {B = Result Tally PlayFault} (λ (fault : PlayFault). Err fault) c.in-Err-Store.field-0-is)))
 
