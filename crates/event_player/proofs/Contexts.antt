@@ -1,12 +1,12 @@
 -- Where a call begins: at a line of the script, at the line of a drain, and behind an event of a drain.
-use Rattle.std.proofs.Common.{◌≡◌, ◌⊎◌, inl, inr, ℕ, ◌+◌, ◌<◌, ◌≤◌, ◌&&◌, Bool, true, false, IsTrue, List, [], ◌∷◌, ◌++◌, take, drop, Option, Some, None, refl, sym, ap, subst, ◌∙◌, append-nil, append_assoc, take-append-drop}
+use Rattle.std.proofs.Common.{◌≡◌, ◌⊎◌, inl, inr, ℕ, ◌<◌, ◌&&◌, Bool, true, false, IsTrue, List, [], ◌∷◌, ◌++◌, take, drop, Option, Some, None, refl, sym, ap, subst, ◌∙◌, append-nil, append_assoc, take-append-drop}
 use Rattle.std.specs.Prelude.{if◌then◌else◌, nat_lt}
 use Rattle.std.proofs.lemmas.Grind.{flat_map-append}
 use Rattle.pack_model.specs.Pack.{Pack}
 use Rattle.pack_model.specs.TableSpelling.{Table}
 use Rattle.mass_outside.specs.Puts.{TakesFront}
 use Rattle.subsystem_spec.specs.Requests.{Request, IsRequest}
-use Rattle.trace_replay.specs.Moments.{Moment, Played, Idle, played}
+use Rattle.trace_replay.specs.Moments.{Moment, Played, Idle}
 use Rattle.trace_replay.specs.Script as says
 use Rattle.trace_replay.specs.Script.{Script, Input, Line, Numbered, drives_of, inputs_of, inputs_before}
 use Rattle.trace_replay.specs.Events.{Event}
@@ -14,11 +14,9 @@ use Rattle.trace_replay.specs.Packs.{Surface}
 use Rattle.trace_replay.specs.Replay.{Replay, Follows, after_moments, drained, act_drained, next_wish}
 use Rattle.trace_replay.specs.Events.{is_no_line}
 use Rattle.trace_replay.specs.Runs.{start_of}
-use Rattle.trace_replay.specs.Text.{trace_text, moment_text}
+use Rattle.trace_replay.specs.Text.{moment_text}
 use Rattle.trace_bounds.specs.Drains.{IsOf}
 use Rattle.driver_machine.specs.World.{World}
-use Rattle.driver_machine.specs.Acts.{Act, Nothing, Tried}
-use Rattle.driver_machine.specs.Lines.{lines_of_all}
 use Rattle.driver_machine.specs.Events.{submit_acts, event_acts, next_event}
 use Rattle.driver_outcome.specs.Outcome.{IsFront}
 use Rattle.driver_outcome.specs.Packs.{packs_after_all}
@@ -34,7 +32,7 @@ use Rattle.event_player.specs.declared.play.PlayFault.{PlayFault}
 use Rattle.event_player.specs.declared.play.PlayFault.TheVariants as faults
 use Rattle.event_player.specs.Playing.{HasRun, HasTold}
 use Rattle.event_player.specs.Steps.{Stage, HasDrained}
-use Rattle.event_player.specs.Stops.{IsBetween, AreBehind, IsNext, HasDrainedTold, EventStops, SubmissionStops, SubmissionTellsFront, SubmissionSaysFront, StopsAtSink, StopsInput, StopsDraining, Stopped}
+use Rattle.event_player.specs.Stops.{IsBetween, AreBehind, IsNext, HasDrainedTold, EventStops, SubmissionStops, SubmissionTellsFront, SubmissionSaysFront, StopsAtSink, Stopped}
 use Rattle.event_player.proofs.Going.{event_goes, submission_goes, drain_empty, drain_first, drain_more}
 use Rattle.event_player.proofs.Inputs.{with_said, waiting_said}
 use Rattle.event_player.proofs.Stopping.{Context, EventContext, Whole, opens_none, opens_line, move_is, event_stops, stops_by, stops_at_sink, tells_stop, says_stop}

@@ -1,5 +1,5 @@
 -- What a line of a script leaves where it stopped, and a whole script.
-use Rattle.std.proofs.Common.{◌≡◌, ◌⊎◌, inl, inr, ℕ, ◌+◌, ◌<◌, ◌≤◌, Bool, true, false, IsTrue, List, [], ◌∷◌, ◌++◌, length, take, drop, Option, Some, None, refl, sym, ap, subst, arith, ◌∙◌, append-nil, append_assoc, take-append-drop}
+use Rattle.std.proofs.Common.{◌≡◌, inl, inr, ℕ, ◌+◌, ◌<◌, ◌≤◌, Bool, true, false, IsTrue, List, [], ◌∷◌, ◌++◌, length, take, drop, Option, Some, None, refl, sym, ap, subst, arith, ◌∙◌, append-nil, append_assoc, take-append-drop}
 use Rattle.std.specs.Prelude.{Result, Ok, Err, IfErr, IsErrAnd, IsErrOf, min}
 use Rattle.std.proofs.lemmas.List.{take_all, drop_all}
 use Rattle.pack_model.specs.Pack.{Pack}
@@ -7,7 +7,7 @@ use Rattle.pack_model.specs.PackTable.{AreTablesOf}
 use Rattle.pack_model.specs.TableSpelling.{Table}
 use Rattle.mass_outside.specs.Puts.{TakesFront}
 use Rattle.subsystem_spec.specs.Requests.{Request}
-use Rattle.trace_replay.specs.Moments.{Moment, Played, Idle}
+use Rattle.trace_replay.specs.Moments.{Played, Idle}
 use Rattle.trace_replay.specs.Script as says
 use Rattle.trace_replay.specs.Script.{Script, Input, Statement, Declares, Plays, Line, Numbered, AreNumbered, IsScript, drives_of, inputs_of, inputs_before, with_input}
 use Rattle.trace_replay.specs.Text.{moment_text}
@@ -31,9 +31,9 @@ use Rattle.hp_driver.specs.Subsystem.{State, IsThere}
 use Rattle.event_player.specs.declared.play.PlayFault.{PlayFault}
 use Rattle.event_player.specs.declared.play.PlayFault.TheVariants as faults
 use Rattle.event_player.specs.Attaching.{tables_in, AreSetFor}
-use Rattle.event_player.specs.Playing.{HasRun, HasTold}
+use Rattle.event_player.specs.Playing.{HasRun}
 use Rattle.event_player.specs.Steps.{Stage, PlaysEvent, MayAsk, MayPlay, HasDrained, all_taken}
-use Rattle.event_player.specs.Stops.{EventStops, SubmissionStops, StopsInput, StopsLine, StopsDraining, StopsScript, HasDrainedTold, IsNext, IsBetween, Stopped, StopsAtSink, IsUnplayed, StopsPlaying, Leaves}
+use Rattle.event_player.specs.Stops.{EventStops, SubmissionStops, StopsInput, StopsLine, StopsDraining, StopsScript, IsNext, Stopped, Leaves}
 use Rattle.event_player.proofs.Contexts.{between_by, line_stops, opening_stops, submission_stops, first_stops, idle_stops, later_stops}
 use Rattle.event_player.proofs.Draining.{Draining, SoDrained}
 use Rattle.event_player.proofs.Going.{line_for, inputs_append, inputs_end, inputs_more, event_goes, drain_first}

@@ -1,5 +1,5 @@
 -- A call that stopped behind a run so far leaves what playing leaves.
-use Rattle.std.proofs.Common.{◌≡◌, ◌⊎◌, inl, inr, ℕ, ◌+◌, ◌<◌, ◌≤◌, Bool, true, false, IsTrue, List, [], ◌∷◌, ◌++◌, drop, Option, Some, refl, sym, ap, subst, arith, ◌∙◌, append-nil, append_assoc}
+use Rattle.std.proofs.Common.{◌≡◌, ◌⊎◌, inl, inr, ℕ, ◌≤◌, Bool, true, false, IsTrue, List, [], ◌∷◌, ◌++◌, drop, Option, refl, sym, ap, subst, arith, ◌∙◌, append-nil, append_assoc}
 use Rattle.std.proofs.lemmas.Bool.{false≢true}
 use Rattle.std.proofs.lemmas.Grind.{flat_map-append}
 use Rattle.disksort.specs.declared.Waiter.{Waiter}
@@ -9,16 +9,16 @@ use Rattle.pack_model.specs.TableSpelling.{Table}
 use Rattle.trace_replay.specs.Moments.{Moment, Played, Told, Idle, played, answers_in}
 use Rattle.trace_replay.specs.Script as says
 use Rattle.trace_replay.specs.Script.{Script, Input, Line, Numbered, drives_of, inputs_of, inputs_before}
-use Rattle.trace_replay.specs.Replay.{Replay, Follows, AreLeft, after_moments}
+use Rattle.trace_replay.specs.Replay.{Follows, after_moments}
 use Rattle.trace_replay.specs.Runs.{start_of}
 use Rattle.trace_replay.specs.Text.{trace_text, moment_text}
 use Rattle.driver_machine.specs.World.{World, unit_at, adapter_at, unit_of}
 use Rattle.driver_machine.specs.Acts.{Act, Tried, Deed, Sector}
 use Rattle.driver_machine.specs.Lines.{lines_of_all}
-use Rattle.driver_machine.specs.Events.{event_acts, move_acts, in_hand, in_hand_by, or_nothing, can_move, next_event}
+use Rattle.driver_machine.specs.Events.{event_acts, in_hand, in_hand_by, or_nothing, can_move}
 use Rattle.driver_machine.specs.Sound.{Sound}
 use Rattle.driver_work.specs.Runs.{Run, MayCome}
-use Rattle.driver_outcome.specs.Outcome.{IsFront, IsNextBlock}
+use Rattle.driver_outcome.specs.Outcome.{IsFront}
 use Rattle.driver_outcome.specs.Packs.{ReadAll, packs_after_all}
 use Rattle.driver_outcome.proofs.Joined.{front_same, front_more, front_of_front}
 use Rattle.driver_runs.specs.Runs.{AreDeclared}
@@ -34,9 +34,9 @@ use Rattle.hp_driver.specs.Subsystem.{IsThere, is_move}
 use Rattle.hp_driver.proofs.Moves.{tried_by_rules, read_from}
 use Rattle.event_player.specs.declared.play.PlayFault.{PlayFault}
 use Rattle.event_player.specs.declared.play.PlayFault.TheVariants as faults
-use Rattle.event_player.specs.Steps.{Stage, PlaysEvent, waiting_text}
+use Rattle.event_player.specs.Steps.{Stage}
 use Rattle.run_promises.specs.Beginnings.{AreNoSectors}
-use Rattle.event_player.specs.Stops.{IsBetween, lines_told, only_played, SaysOneSector, AreBehind, CameTo, StopsAtSink, StopsAtStore, IsAtMove, TellsFront, EventTellsFront, EventSaysFront, MoveFails, EventStops, Stopped}
+use Rattle.event_player.specs.Stops.{IsBetween, lines_told, only_played, SaysOneSector, AreBehind, StopsAtSink, StopsAtStore, IsAtMove, TellsFront, EventTellsFront, EventSaysFront, MoveFails, EventStops, Stopped}
 use Rattle.event_player.proofs.Inputs.{event_said}
 use Rattle.event_player.proofs.Reaching.{ask_parts, left_stays}
 

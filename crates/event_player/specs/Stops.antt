@@ -4,7 +4,7 @@ use Rattle.pack_model.specs.Pack.{Pack}
 use Rattle.pack_model.specs.PackTable.{AreTablesOf}
 use Rattle.pack_model.specs.TableSpelling.{Table}
 use Rattle.subsystem_spec.specs.Requests.{Request}
-use Rattle.trace_replay.specs.Moments.{Moment, Played, Told, Idle, played, answers_in}
+use Rattle.trace_replay.specs.Moments.{Moment, Played, played, answers_in}
 use Rattle.trace_replay.specs.Script.{Script, Input, MoveAt, Drain, Line, Numbered, Statement, Declares, Plays, drives_of, inputs_of, inputs_before}
 use Rattle.trace_replay.specs.Replay.{Replay, Follows, AreLeft, after_moments}
 use Rattle.trace_replay.specs.Runs.{start_of}
@@ -14,7 +14,7 @@ use Rattle.driver_machine.specs.Acts.{Act, Tried}
 use Rattle.driver_machine.specs.Lines.{lines_of_all}
 use Rattle.driver_machine.specs.Events.{refusal_of, submit_acts, event_acts, next_event}
 use Rattle.driver_machine.specs.Guards.{IsHeldFor}
-use Rattle.driver_machine.specs.Sound.{Sound, AtWork}
+use Rattle.driver_machine.specs.Sound.{Sound}
 use Rattle.driver_work.specs.Runs.{Run, MaySubmit}
 use Rattle.driver_outcome.specs.Outcome.{IsFront, IsNextBlock}
 use Rattle.driver_outcome.specs.Packs.{ReadAll, packs_after_all}
