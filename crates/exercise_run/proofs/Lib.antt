@@ -2,5 +2,6 @@ mod TextLaws
 mod AnsweredLaws
 mod TableLaws
 mod ReachLaws
+mod MarkLaws
 mod RoomLaws
 mod ExerciseLaws

@@ -1,5 +1,5 @@
 -- No request of a script reaches beyond the room.
-use Rattle.std.proofs.Common.{◌≡◌, ℕ, ◌+◌, ◌*◌, ◌/◌, ◌%◌, ◌≤◌, Bool, true, false, List, [], ◌∷◌, map, All, Option, Some, refl, sym, subst, arith}
+use Rattle.std.proofs.Common.{◌≡◌, ℕ, ◌+◌, ◌/◌, ◌%◌, ◌≤◌, Bool, true, false, List, [], ◌∷◌, map, All, Option, refl, sym, subst, arith}
 use Rattle.std.specs.Prelude.{if◌then◌else◌, ◌==◌}
 use Rattle.std.proofs.lemmas.List.Elements.{All-head, All-tail}
 use Rattle.pack_geometry.specs.declared.DriveKind.{DriveKind}
@@ -14,7 +14,7 @@ use Rattle.script_reader.specs.Printing.{numbered}
 use Rattle.script_meaning.specs.Meaning.{line_of, statement_of}
 use Rattle.trace_replay.specs.Script.{Drain, Numbered, drives_of, inputs_before, inputs_of, with_input}
 use Rattle.driver_reach.specs.Reach.{AskBelow}
-use Rattle.hp_exercise.specs.Exercise.{unit_of, block_of, count_of, words_of}
+use Rattle.hp_exercise.specs.Exercise.{block_of, count_of, words_of}
 use Rattle.hp_exercise.specs.Statements.{request_of, step_statement, steps_statements}
 use Rattle.hp_exercise.proofs.CaseLaws.{step_by, steps_all}
 use Rattle.exercise_run.specs.Room.{room_on}
