@@ -70,10 +70,10 @@ fn request_for(asked: &Asked, write: bool) -> Request
         unit: asked.unit,
         part: asked.part,
         block: asked.block,
-        count: asked.count,
+        count: u32::from(asked.count),
         write,
-        offset: asked.offset,
-        last: asked.last,
+        offset: u32::from(asked.offset),
+        last: u32::from(asked.last),
     }
 }
 

@@ -9,13 +9,14 @@ use mass_text::Fields;
 fn part(text: &[u8], span: Span) -> &[u8]
     ensures { result.now ≡ slice_range text.now span.start span.end }
 {
-    if span.start >= text.len() || span.end <= span.start {
+    let (start, end) = (span.start as usize, span.end as usize);
+    if start >= text.len() || end <= start {
         return &[];
     }
-    if span.end >= text.len() {
-        return &text[span.start..];
+    if end >= text.len() {
+        return &text[start..];
     }
-    &text[span.start..span.end]
+    &text[start..end]
 }
 
 /// Passes over a field, where there is one.

@@ -36,7 +36,7 @@ fn start(known: &Known, fields: &mut Fields) -> Result<Request, ScriptKind>
         unit,
         part,
         block,
-        count,
+        count: count as u8,
         offset: 0,
         last: 512,
     })
@@ -54,7 +54,7 @@ fn end(fields: &mut Fields) -> Result<(), ScriptKind>
 
 /// `last M`, of which the first word was read, at the end of a line.
 #[tactic(auto, unfolding(crate::specs::Forms::last_form))]
-fn last(word: &[u8], fields: &mut Fields) -> Result<u32, ScriptKind>
+fn last(word: &[u8], fields: &mut Fields) -> Result<u16, ScriptKind>
     ensures { Parses last_form (word.now ∷ fields.old) result fields.new }
 {
     if word != b"last".as_slice() {
@@ -62,12 +62,12 @@ fn last(word: &[u8], fields: &mut Fields) -> Result<u32, ScriptKind>
     }
     let last = number_field(need(fields)?, 1, 512)?;
     end(fields)?;
-    Ok(last)
+    Ok(last as u16)
 }
 
 /// `[last M]`, at the end of a line.
 #[tactic(auto, unfolding(crate::specs::Forms::last_form))]
-fn last_or_end(fields: &mut Fields) -> Result<u32, ScriptKind>
+fn last_or_end(fields: &mut Fields) -> Result<u16, ScriptKind>
     ensures { Parses last_form fields.old result fields.new }
 {
     match fields.next() {
@@ -92,7 +92,7 @@ fn tail(start: &Request, fields: &mut Fields) -> Result<Request, ScriptKind>
         let offset = number_field(need(fields)?, 0, 511)?;
         let last = last_or_end(fields)?;
         return Ok(Request {
-            offset,
+            offset: offset as u16,
             last,
             ..*start
         });
@@ -172,7 +172,7 @@ fn write_line(known: &Known, span: Span, fields: &mut Fields) -> Result<Read, Sc
     ensures { Parses (mapped (read_of span) (write_form (known_in known.now))) fields.old result fields.new }
 {
     let start = start(known, fields)?;
-    let content = content(start.count, span, fields)?;
+    let content = content(u32::from(start.count), span, fields)?;
     let request = tail(&start, fields)?;
     Ok(Statement::Write { request, content })
 }

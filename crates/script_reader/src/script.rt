@@ -185,8 +185,8 @@ fn read_lines(alloc: Global, text: &[u8]) -> Result<Lines, ReadFault>
         let (piece, after) = first_piece(rest);
         let line = without_cr(piece);
         let span = Span {
-            start,
-            end: start + line.len(),
+            start: start as u32,
+            end: (start + line.len()) as u32,
         };
         match line_says(&known, number, span, line) {
             Ok(read) => store_some(alloc, number, read, &mut known, &mut lines)?,

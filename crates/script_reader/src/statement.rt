@@ -22,11 +22,11 @@ pub enum Verb {
     Drain,
 }
 
-/// Where a line stands in the text of a script, in bytes: from `start` up to `end`.
+/// Where a line stands in the text of a script, in bytes: from `start` up to `end`. A text has at most 16 MiB.
 #[derive(Clone, Copy, Debug, PartialEq, Eq)]
 pub struct Span {
-    pub start: usize,
-    pub end: usize,
+    pub start: u32,
+    pub end: u32,
 }
 
 /// What a line asks of blocks: `count` of them, 1 to 127, from `block` of a unit's partition on. The first byte stands
@@ -37,9 +37,9 @@ pub struct Request {
     pub unit: u8,
     pub part: Part,
     pub block: u32,
-    pub count: u32,
-    pub offset: u32,
-    pub last: u32,
+    pub count: u8,
+    pub offset: u16,
+    pub last: u16,
 }
 
 /// What a write writes.
