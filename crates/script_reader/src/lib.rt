@@ -5,6 +5,7 @@ mod data;
 pub mod fault;
 mod fields;
 mod forms;
+mod held;
 mod known;
 mod lines;
 mod places;
