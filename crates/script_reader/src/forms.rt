@@ -13,7 +13,7 @@ use crate::held::Held;
 use crate::known::Known;
 use crate::places::places;
 use crate::statement::{Content, Request, Span, Statement, Verb};
-use crate::words::{fault_field, kind_field, offset_field, part_field};
+use crate::words::{fault_field, is_word, kind_field, offset_field, part_field};
 use fire_code::Noise;
 use hardware_table::NoiseSpan;
 use mass_text::Fields;
@@ -69,7 +69,7 @@ fn end(fields: &mut Fields) -> Result<(), ScriptKind>
 fn last(word: &[u8], fields: &mut Fields) -> Result<u32, ScriptKind>
     ensures { Parses last_form (word.now ∷ fields.old) result fields.new }
 {
-    if word != b"last".as_slice() {
+    if !is_word(word, b"last".as_slice()) {
         return Err(ScriptKind::Word);
     }
     let last = number_field(need(fields)?, 1, 512)?;
@@ -100,7 +100,7 @@ fn tail(start: &Request, fields: &mut Fields) -> Result<Request, ScriptKind>
             ..*start
         });
     };
-    if word == b"off".as_slice() {
+    if is_word(word, b"off".as_slice()) {
         let offset = number_field(need(fields)?, 0, 511)?;
         let last = last_or_end(fields)?;
         return Ok(Request {
@@ -124,11 +124,11 @@ fn content(count: u32, span: Span, fields: &mut Fields) -> Result<Content<Span>,
     ensures { Parses (mapped (content_by (λ _. span)) (content_form count)) fields.old result fields.new }
 {
     let word = need(fields)?;
-    if word == b"fill".as_slice() {
+    if is_word(word, b"fill".as_slice()) {
         Ok(Content::Fill(byte_field(need(fields)?)?))
-    } else if word == b"seq".as_slice() {
+    } else if is_word(word, b"seq".as_slice()) {
         Ok(Content::Seq(seq_field(need(fields)?)?))
-    } else if word == b"hex".as_slice() {
+    } else if is_word(word, b"hex".as_slice()) {
         check_digits(count, need(fields)?)?;
         Ok(Content::Hex(span))
     } else {
@@ -142,7 +142,7 @@ fn noise_span(fields: &mut Fields) -> Result<NoiseSpan, ScriptKind>
     ensures { Parses span_form fields.old result fields.new }
 {
     let word = need(fields)?;
-    if word == b"until".as_slice() {
+    if is_word(word, b"until".as_slice()) {
         return Ok(NoiseSpan::Until(offset_field(need(fields)?)?));
     }
     Ok(NoiseSpan::Times(number_field(word, 1, 1000)?))

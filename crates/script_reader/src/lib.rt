@@ -2,6 +2,7 @@
 #![tactic(auto)]
 
 mod data;
+mod decimal;
 pub mod fault;
 mod fields;
 mod forms;
