@@ -1,5 +1,6 @@
 pub mod CarriesLaws
 pub mod DataLaws
+pub mod DecimalLaws
 pub mod LineLaws
 pub mod ReaderLaws
 pub mod ReadingLaws

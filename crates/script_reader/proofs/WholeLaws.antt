@@ -1,6 +1,9 @@
 -- Whole lines, under the names of what is read.
-use Rattle.std.proofs.Common.{◌≡◌, ℕ, List, [], ◌∷◌, refl, sym, ap, ◌∙◌, Some, Result, Ok, Err}
+use Rattle.std.proofs.Common.{◌≡◌, ℕ, List, [], ◌∷◌, refl, sym, ap, ◌∙◌, Option, Some, Result, Ok, Err}
+use Rattle.std.specs.Prelude.{MatchResult}
 use Rattle.std.specs.Option.{option_map}
+use Rattle.script_reader.specs.declared.fault.LineFault.{LineFault}
+use Rattle.script_reader.specs.declared.fault.LineFault.TheVariants.{Memory, Kind}
 use Rattle.script_reader.specs.declared.fault.ScriptKind.{ScriptKind}
 use Rattle.script_reader.specs.declared.fault.ScriptKind.TheVariants.{Word}
 use Rattle.script_reader.specs.declared.statement.Span.{Span}
@@ -10,6 +13,7 @@ use Rattle.script_reader.specs.Forms.{Form, mapped, none_left, whole, Parses}
 use Rattle.script_reader.specs.Grammar.{said, entry}
 use Rattle.script_reader.specs.Known.{Known, Said}
 use Rattle.script_reader.specs.Stored.{read_of}
+use Rattle.script_reader.specs.Struck.{Answers}
 use Rattle.script_reader.specs.Words.{named, verb_word}
 use Rattle.script_reader.proofs.CarriesLaws.{same_Ok, err-ok}
 
@@ -49,3 +53,15 @@ entry_of span played known all word fields verb is e =
 pub parses_as : {A : Type 0} (form other : Form A) (before between : List (List ℕ)) (result : Result A ScriptKind) (after : List (List ℕ)) → form before ≡ other between → Parses other between result after → Parses form before result after
 parses_as form other before between (Ok a) after e p = e ∙ p
 parses_as form other before between (Err kind) after e p = e ∙ p
+
+-- ANSWERS, where memory may have run out. A noise that is put where it stays
+pub held_answers : {A : Type 0} (result : Result A LineFault) (said : Result A ScriptKind) (read : A) → said ≡ Ok read → MatchResult result (λ held. held ≡ read) (λ fault. fault ≡ Memory) → Answers result said
+held_answers {A} (Ok held) said read e h = e ∙ ap (λ (r : A). Ok r) (sym h)
+held_answers {A} (Err Memory) said read e h = tt
+held_answers {A} (Err (Kind kind)) said read e h = absurd (cc)
+
+-- what was read, as what may be read
+pub some_answers : {A : Type 0} (result : Result A LineFault) (said : Result A ScriptKind) → Answers result said → Answers (and_then {B = Option A} result (λ r. Ok (Some r))) (and_then {B = Option A} said (λ r. Ok (Some r)))
+some_answers {A} (Ok read) said a = ap (λ (r : Result A ScriptKind). and_then {B = Option A} r (λ x. Ok (Some x))) a
+some_answers {A} (Err Memory) said a = tt
+some_answers {A} (Err (Kind kind)) said a = ap (λ (r : Result A ScriptKind). and_then {B = Option A} r (λ x. Ok (Some x))) a

@@ -1,5 +1,5 @@
 -- What the reader keeps of the lines before.
-use Rattle.std.specs.Prelude.{◌≡◌, ◌+◌, ◌||◌, ℕ, Bool, true, false, not, Option, None, Some, slice_index_or}
+use Rattle.std.specs.Prelude.{◌≡◌, ◌+◌, ◌||◌, ◌&&◌, nat_le, nat_lt, ℕ, Bool, true, false, not, Option, None, Some, slice_index_or}
 use Rattle.std.specs.Ordering.{nat_cmp}
 use Rattle.std.specs.BTreeSet.{contains}
 use Rattle.script_reader.specs.declared.known.Known.{Known as Kept}
@@ -15,7 +15,7 @@ one false = 0
 abbrev pub known_in : Kept → Known
 known_in kept = record {
   kinds = λ u. slice_index_or kept.kinds u None;
-  used = λ id. contains nat_cmp kept.ids id;
+  used = λ id. (nat_le kept.low id && nat_lt id kept.next) || contains nat_cmp kept.ids id;
   later = kept.later;
   requests = kept.requests;
   noises = kept.noises;

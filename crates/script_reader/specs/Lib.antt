@@ -9,4 +9,5 @@ pub mod Lines
 pub mod Printing
 pub mod Reading
 pub mod Stored
+pub mod Struck
 pub mod Words

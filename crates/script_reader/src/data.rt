@@ -55,25 +55,32 @@ fn eighth(line: &[u8]) -> &[u8]
 pub fn fill(byte: u8, into: &mut [u8])
     ensures { IsFilled byte into.new }
 {
-    for place in into.iter_mut() {
-        *place = byte;
-    }
+    into.fill(byte);
 }
 
-/// The byte at `at` of a sequence over blocks of 512 bytes.
-fn sequence_byte(first: u8, at: usize) -> u8
-    ensures { result ≡ (first + at / 512 + at % 512) % 256 }
+/// Puts the sums of a number and each place, from 0 on.
+fn ascend(first: u8, into: &mut [u8])
+    ensures bytes { (i : ℕ) → i < length into.new → slice_index into.new i ≡ (first + i) % 256 }
 {
-    ((at / 512 % 256 + at % 512 + usize::from(first)) % 256) as u8
+    let mut next = first;
+    for place in into.iter_mut() {
+        *place = next;
+        next = next.wrapping_add(1);
+    }
 }
 
 /// Puts a sequence.
 pub fn sequence(first: u8, into: &mut [u8])
     ensures { IsSequence first into.new }
 {
-    for at in 0..into.len() {
-        into[at] = sequence_byte(first, at);
+    let mut next = first;
+    let mut start = 0;
+    'rows: while into.len() - start > 512 {
+        ascend(next, &mut into[start..start + 512]);
+        next = next.wrapping_add(1);
+        start += 512;
     }
+    ascend(next, &mut into[start..]);
 }
 
 /// Puts the bytes that the digits of a line say; false exactly where there are not two digits for each byte.

@@ -30,6 +30,15 @@ pub enum ScriptKind {
     ScriptLong,
 }
 
+/// Why a line was not read.
+#[derive(Clone, Copy, Debug, PartialEq, Eq)]
+pub(crate) enum LineFault {
+    /// There was no memory.
+    Memory,
+    /// It is faulty.
+    Kind(ScriptKind),
+}
+
 /// Why a script was not read.
 #[derive(Clone, Copy, Debug, PartialEq, Eq, Error)]
 pub enum ReadFault {

@@ -3,6 +3,7 @@ ghost use Rattle.std.specs.List.{list_all};
 ghost use Rattle.hex.specs.Hex.{is_hex_digit};
 ghost use Rattle.script_reader.specs.Fields.{number_field, count_field, byte_field, seq_field, digits_field, place_field};
 
+use crate::decimal::decimal;
 use crate::fault::ScriptKind;
 use mass_text::{Fields, NumberFault, Radix, number};
 
@@ -21,12 +22,12 @@ pub fn number_field(field: &[u8], low: u32, high: u32) -> Result<u32, ScriptKind
     ensures value { result ≡ number_field low high field.now }
     ensures bound { IfOk result (λ n. n ≤ high) }
 {
-    match number(field, Radix::Decimal, u64::from(high)) {
+    match decimal(field, high) {
         Ok(n) => {
-            if n < u64::from(low) {
+            if n < low {
                 Err(ScriptKind::Number)
             } else {
-                Ok(n as u32)
+                Ok(n)
             }
         }
         Err(_) => Err(ScriptKind::Number),
@@ -38,9 +39,9 @@ pub fn count_field(field: &[u8]) -> Result<u32, ScriptKind>
     ensures value { result ≡ count_field field.now }
     ensures bound { IfOk result (λ n. n ≤ 127) }
 {
-    match number(field, Radix::Decimal, 127) {
+    match decimal(field, 127) {
         Ok(0) => Err(ScriptKind::Count),
-        Ok(count) => Ok(count as u32),
+        Ok(count) => Ok(count),
         Err(NumberFault::Large) => Err(ScriptKind::Count),
         Err(_) => Err(ScriptKind::Number),
     }
@@ -63,7 +64,7 @@ pub fn byte_field(field: &[u8]) -> Result<u8, ScriptKind>
 pub fn seq_field(field: &[u8]) -> Result<u8, ScriptKind>
     ensures { result ≡ seq_field field.now }
 {
-    match number(field, Radix::Decimal, 255) {
+    match decimal(field, 255) {
         Ok(value) => Ok(value as u8),
         Err(_) => Err(ScriptKind::Data),
     }
@@ -102,7 +103,7 @@ pub fn place_field(field: &[u8]) -> Result<u16, ScriptKind>
     ensures value { result ≡ place_field field.now }
     ensures bound { IfOk result (λ place. place ≤ 4127) }
 {
-    match number(field, Radix::Decimal, 4127) {
+    match decimal(field, 4127) {
         Ok(place) => Ok(place as u16),
         Err(_) => Err(ScriptKind::Bits),
     }

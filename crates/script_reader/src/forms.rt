@@ -1,24 +1,36 @@
-ghost use Rattle.std.specs.Prelude.{◌≡◌, ◌∷◌, ℕ, [], IfOk, ◌≤◌};
+ghost use Rattle.std.specs.Prelude.{◌≡◌, ◌≢◌, ◌∷◌, ℕ, [], IfOk, MatchResult, ◌≤◌};
 ghost use Rattle.script_reader.specs.Fields.{changed};
+ghost use Rattle.script_reader.specs.Struck.{struck_as, Answers};
 ghost use Rattle.script_reader.specs.Forms.{ends, mapped, start_form, last_form, tail_form, content_form, span_form, unit_form, read_form, write_form, turn_form, noise_form, fault_form, form_of, unit_number_form, adapter_form, Parses, none_left, whole};
 ghost use Rattle.script_reader.specs.Grammar.{too_late, said};
 ghost use Rattle.script_reader.specs.Knowing.{known_in};
 ghost use Rattle.script_reader.specs.declared.statement.Span.{Span};
 ghost use Rattle.script_reader.specs.Stored.{content_by, read_of};
 
-use crate::fault::ScriptKind;
+use crate::fault::{LineFault, ScriptKind};
 use crate::fields::{byte_field, check_digits, count_field, need, number_field, seq_field};
+use crate::held::Held;
 use crate::known::Known;
 use crate::places::places;
 use crate::statement::{Content, Request, Span, Statement, Verb};
-use crate::words::{fault_field, kind_field, offset_field, part_field};
+use crate::words::{fault_field, is_word, kind_field, offset_field, part_field};
 use fire_code::Noise;
 use hardware_table::NoiseSpan;
 use mass_text::Fields;
 use pack_geometry::{blocks, geometry_of};
+use std::alloc::Global;
 
 /// What a line says, as it is read: the digits of a write are those of the line at a place of the text.
-pub type Read = Statement<Span, Noise>;
+pub type Read = Statement<Span, Held>;
+
+/// What a line says of noise.
+#[derive(Drop)]
+struct Struck {
+    unit: u8,
+    block: u32,
+    span: NoiseSpan,
+    places: Noise,
+}
 
 /// `ID U PART BLOCK COUNT`
 #[tactic(auto, unfolding(crate::specs::Forms::start_form))]
@@ -57,7 +69,7 @@ fn end(fields: &mut Fields) -> Result<(), ScriptKind>
 fn last(word: &[u8], fields: &mut Fields) -> Result<u16, ScriptKind>
     ensures { Parses last_form (word.now ∷ fields.old) result fields.new }
 {
-    if word != b"last".as_slice() {
+    if !is_word(word, b"last".as_slice()) {
         return Err(ScriptKind::Word);
     }
     let last = number_field(need(fields)?, 1, 512)?;
@@ -88,7 +100,7 @@ fn tail(start: &Request, fields: &mut Fields) -> Result<Request, ScriptKind>
             ..*start
         });
     };
-    if word == b"off".as_slice() {
+    if is_word(word, b"off".as_slice()) {
         let offset = number_field(need(fields)?, 0, 511)?;
         let last = last_or_end(fields)?;
         return Ok(Request {
@@ -112,11 +124,11 @@ fn content(count: u32, span: Span, fields: &mut Fields) -> Result<Content<Span>,
     ensures { Parses (mapped (content_by (λ _. span)) (content_form count)) fields.old result fields.new }
 {
     let word = need(fields)?;
-    if word == b"fill".as_slice() {
+    if is_word(word, b"fill".as_slice()) {
         Ok(Content::Fill(byte_field(need(fields)?)?))
-    } else if word == b"seq".as_slice() {
+    } else if is_word(word, b"seq".as_slice()) {
         Ok(Content::Seq(seq_field(need(fields)?)?))
-    } else if word == b"hex".as_slice() {
+    } else if is_word(word, b"hex".as_slice()) {
         check_digits(count, need(fields)?)?;
         Ok(Content::Hex(span))
     } else {
@@ -130,7 +142,7 @@ fn noise_span(fields: &mut Fields) -> Result<NoiseSpan, ScriptKind>
     ensures { Parses span_form fields.old result fields.new }
 {
     let word = need(fields)?;
-    if word == b"until".as_slice() {
+    if is_word(word, b"until".as_slice()) {
         return Ok(NoiseSpan::Until(offset_field(need(fields)?)?));
     }
     Ok(NoiseSpan::Times(number_field(word, 1, 1000)?))
@@ -185,14 +197,14 @@ fn turn_line(known: &Known, fields: &mut Fields) -> Result<Read, ScriptKind>
     Ok(Statement::Turn { unit, sector })
 }
 
-fn noise_line(known: &Known, fields: &mut Fields) -> Result<Read, ScriptKind>
-    ensures { (span : Span) → Parses (mapped (read_of span) (noise_form (known_in known.now))) fields.old result fields.new }
+fn noise_line(known: &Known, fields: &mut Fields) -> Result<Struck, ScriptKind>
+    ensures { Parses (noise_form (known_in known.now)) fields.old (changed struck_as result) fields.new }
 {
     let (unit, kind) = known.unit_field(need(fields)?)?;
     let block = number_field(need(fields)?, 0, blocks(kind) - 1)?;
     let span = noise_span(fields)?;
     let places = places(fields)?;
-    Ok(Statement::Noise {
+    Ok(Struck {
         unit,
         block,
         span,
@@ -209,8 +221,9 @@ fn fault_line(known: &Known, fields: &mut Fields) -> Result<Read, ScriptKind>
     Ok(Statement::Fault { unit, what, times })
 }
 
-/// What the fields behind a word say.
+/// What the fields behind a word say, where it is no noise.
 fn form(known: &Known, verb: Verb, span: Span, fields: &mut Fields) -> Result<Read, ScriptKind>
+    requires { verb ≢ Verb.Noise }
     ensures { Parses (mapped (read_of span) (form_of (known_in known.now) verb)) fields.old result fields.new }
 {
     match verb {
@@ -227,7 +240,7 @@ fn form(known: &Known, verb: Verb, span: Span, fields: &mut Fields) -> Result<Re
         Verb::Attend => Ok(Statement::Attend {
             adapter: adapter(fields)?,
         }),
-        Verb::Noise => noise_line(known, fields),
+        Verb::Noise => unreachable!(),
         Verb::Fault => fault_line(known, fields),
         Verb::Offline => Ok(Statement::Offline {
             unit: unit(known, fields)?,
@@ -268,8 +281,9 @@ fn ended(read: Read, fields: &mut Fields) -> Result<Read, ScriptKind>
     }
 }
 
-/// What all the fields behind a word say.
+/// What all the fields behind a word say, where it is no noise.
 fn whole(known: &Known, verb: Verb, span: Span, fields: &mut Fields) -> Result<Read, ScriptKind>
+    requires { verb ≢ Verb.Noise }
     ensures { result ≡ changed (read_of span) (whole (form_of (known_in known.now) verb) fields.old) }
 {
     match form(known, verb, span, fields) {
@@ -278,12 +292,88 @@ fn whole(known: &Known, verb: Verb, span: Span, fields: &mut Fields) -> Result<R
     }
 }
 
+/// What all the fields behind the word of a noise say.
+fn whole_noise(known: &Known, fields: &mut Fields) -> Result<Struck, ScriptKind>
+    ensures { changed struck_as result ≡ whole (noise_form (known_in known.now)) fields.old }
+{
+    match noise_line(known, fields) {
+        Ok(struck) => match end(fields) {
+            Ok(()) => Ok(struck),
+            Err(kind) => Err(kind),
+        },
+        Err(kind) => Err(kind),
+    }
+}
+
+/// A noise whose places are put where they stay.
+fn held(alloc: Global, struck: Struck) -> Result<Read, LineFault>
+    ensures { (span : Span) → MatchResult result (λ read. read ≡ read_of span (struck_as struck)) (λ fault. fault ≡ LineFault.Memory) }
+{
+    let Struck {
+        unit,
+        block,
+        span,
+        places,
+    } = struck;
+    match Held::new(alloc, places) {
+        Ok(places) => Ok(Statement::Noise {
+            unit,
+            block,
+            span,
+            places,
+        }),
+        Err(_) => Err(LineFault::Memory),
+    }
+}
+
+/// What all the fields behind the word of a noise say, with its places where they stay.
+fn noise(alloc: Global, known: &Known, fields: &mut Fields) -> Result<Read, LineFault>
+    ensures { (span : Span) → Answers result (changed (read_of span) (whole (noise_form (known_in known.now)) fields.old)) }
+{
+    match whole_noise(known, fields) {
+        Ok(struck) => held(alloc, struck),
+        Err(kind) => Err(LineFault::Kind(kind)),
+    }
+}
+
+/// What was read, where memory is not needed.
+fn plain(read: Result<Read, ScriptKind>) -> Result<Read, LineFault>
+    ensures { Answers result read }
+{
+    match read {
+        Ok(read) => Ok(read),
+        Err(kind) => Err(LineFault::Kind(kind)),
+    }
+}
+
+/// What all the fields behind any word say.
+fn all_fields(
+    alloc: Global,
+    known: &Known,
+    verb: Verb,
+    span: Span,
+    fields: &mut Fields,
+) -> Result<Read, LineFault>
+    ensures { Answers result (changed (read_of span) (whole (form_of (known_in known.now) verb) fields.old)) }
+{
+    match verb {
+        Verb::Noise => noise(alloc, known, fields),
+        _ => plain(whole(known, verb, span, fields)),
+    }
+}
+
 /// What a line with this word says.
-pub fn said(known: &Known, verb: Verb, span: Span, fields: &mut Fields) -> Result<Read, ScriptKind>
-    ensures { result ≡ changed (read_of span) (said (known_in known.now) verb fields.old) }
+pub fn said(
+    alloc: Global,
+    known: &Known,
+    verb: Verb,
+    span: Span,
+    fields: &mut Fields,
+) -> Result<Read, LineFault>
+    ensures { Answers result (changed (read_of span) (said (known_in known.now) verb fields.old)) }
 {
     match too_late(known, verb) {
-        Some(kind) => Err(kind),
-        None => whole(known, verb, span, fields),
+        Some(kind) => Err(LineFault::Kind(kind)),
+        None => all_fields(alloc, known, verb, span, fields),
     }
 }

@@ -16,10 +16,13 @@ const MOST_REQUESTS: u32 = 65_536;
 /// The largest number of noises in a script.
 const MOST_NOISES: u32 = 4_096;
 
-/// What the lines so far said of units and ids, and how many requests and noises there were.
+/// What the lines so far said of units and ids, and how many requests and noises there were. The ids from `low` up to
+/// `next` came one after another; the others are in the tree.
 #[derive(Drop)]
 pub struct Known {
     kinds: [Option<DriveKind>; 256],
+    low: u64,
+    next: u64,
     ids: BTreeSet<u32>,
     later: bool,
     requests: u32,
@@ -47,6 +50,8 @@ impl Known {
     {
         Known {
             kinds: [None; 256],
+            low: 0,
+            next: 0,
             ids: BTreeSet::new(alloc),
             later: false,
             requests: 0,
@@ -101,12 +106,20 @@ impl Known {
         }
     }
 
+    /// Whether an id was used.
+    fn is_used(&self, id: u32) -> bool
+        ensures { result ≡ (known_in self.now).used id }
+    {
+        let number = u64::from(id);
+        (self.low <= number && number < self.next) || self.ids.contains(&id)
+    }
+
     /// An id that was not used.
     pub fn id_field(&self, field: &[u8]) -> Result<u32, ScriptKind>
         ensures { result ≡ id_field (known_in self.now) field.now }
     {
         let id = number_field(field, 0, u32::MAX)?;
-        if self.ids.contains(&id) {
+        if self.is_used(id) {
             return Err(ScriptKind::IdTwice);
         }
         Ok(id)
@@ -115,12 +128,38 @@ impl Known {
     /// Takes in that a unit is of a kind.
     fn learn_unit(&mut self, unit: u8, kind: DriveKind)
         ensures kinds { (u : ℕ) → (known_in self.new).kinds u ≡ (if unit == u then Some kind else (known_in self.old).kinds u) }
+        ensures low { self.new.low ≡ self.old.low }
+        ensures next { self.new.next ≡ self.old.next }
         ensures ids { self.new.ids ≡ self.old.ids }
         ensures later { self.new.later ≡ self.old.later }
         ensures requests { self.new.requests ≡ self.old.requests }
         ensures noises { self.new.noises ≡ self.old.noises }
     {
         self.kinds[usize::from(unit)] = Some(kind);
+    }
+
+    /// Takes an id in.
+    fn learn_id(&mut self, id: u32) -> Result<(), AllocFailed<u32>>
+        ensures kinds { self.new.kinds ≡ self.old.kinds }
+        ensures used { OnOk result ((other : ℕ) → (known_in self.new).used other ≡ (known_in self.old).used other || (id == other)) }
+        ensures later { self.new.later ≡ self.old.later }
+        ensures requests { self.new.requests ≡ self.old.requests }
+        ensures noises { self.new.noises ≡ self.old.noises }
+    {
+        let number = u64::from(id);
+        if self.low >= self.next {
+            self.low = number;
+            self.next = number + 1;
+            return Ok(());
+        }
+        if number == self.next {
+            self.next = number + 1;
+            return Ok(());
+        }
+        match self.ids.insert(id) {
+            Ok(_) => Ok(()),
+            Err(failed) => Err(failed),
+        }
     }
 
     /// Takes an id in, and that a request came.
@@ -134,10 +173,7 @@ impl Known {
     {
         self.requests += 1;
         self.later = true;
-        match self.ids.insert(id) {
-            Ok(_) => Ok(()),
-            Err(failed) => Err(failed),
-        }
+        self.learn_id(id)
     }
 
     /// Takes in what a line says.

@@ -2,9 +2,11 @@
 #![tactic(auto)]
 
 mod data;
+mod decimal;
 pub mod fault;
 mod fields;
 mod forms;
+mod held;
 mod known;
 mod lines;
 mod places;

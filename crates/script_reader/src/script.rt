@@ -11,13 +11,14 @@ ghost use Rattle.script_reader.specs.Knowing.{known_in, Learns, LearnsFrom};
 ghost use Rattle.script_reader.specs.Lines.{lines_of};
 ghost use Rattle.script_reader.specs.Printing.{text_of, numbered};
 ghost use Rattle.script_reader.specs.Reading.{reading, Finds, Refuses};
+ghost use Rattle.script_reader.specs.Struck.{Answers};
 ghost use Rattle.script_reader.specs.Stored.{content_by, digits_at, renamed, read_of, seen, lines_in, StoresRead, Stores};
 ghost use Rattle.script_reader.specs.Words.{all_verbs};
 ghost use Rattle.mass_text.specs.Pieces.{pieces};
 ghost use Rattle.std.specs.Box.{box_value};
 
 use crate::data::{decode, fill, sequence};
-use crate::fault::{ReadFault, ScriptKind};
+use crate::fault::{LineFault, ReadFault, ScriptKind};
 use crate::forms::{Read, said};
 use crate::known::Known;
 use crate::lines::{first_piece, without_cr};
@@ -41,7 +42,7 @@ const LONGEST_LINE: usize = 140_000;
 pub type Stored = Line<Span, Box<Noise>>;
 
 /// A statement, where one was read.
-fn some_read(read: Result<Read, ScriptKind>) -> Result<Option<Read>, ScriptKind>
+fn some_read(read: Result<Read, LineFault>) -> Result<Option<Read>, LineFault>
     ensures { result ≡ and_then read (λ r. Ok (Some r)) }
 {
     match read {
@@ -51,46 +52,51 @@ fn some_read(read: Result<Read, ScriptKind>) -> Result<Option<Read>, ScriptKind>
 }
 
 /// What fields say, on the line at `span` of the text; None where there is none.
-fn entry(known: &Known, span: Span, fields: &mut Fields) -> Result<Option<Read>, ScriptKind>
-    ensures { result ≡ changed (option_map (read_of span)) (entry all_verbs (known_in known.now) fields.old) }
+fn entry(
+    alloc: Global,
+    known: &Known,
+    span: Span,
+    fields: &mut Fields,
+) -> Result<Option<Read>, LineFault>
+    ensures { Answers result (changed (option_map (read_of span)) (entry all_verbs (known_in known.now) fields.old)) }
 {
     match fields.next() {
         None => Ok(None),
         Some(word) => match verb(word) {
-            Ok(verb) => some_read(said(known, verb, span, fields)),
-            Err(kind) => Err(kind),
+            Ok(verb) => some_read(said(alloc, known, verb, span, fields)),
+            Err(kind) => Err(LineFault::Kind(kind)),
         },
     }
 }
 
 /// What line number `number` says, at `span` of the text; None where it is passed over.
 fn line_says(
+    alloc: Global,
     known: &Known,
     number: u32,
     span: Span,
     line: &[u8],
-) -> Result<Option<Read>, ScriptKind>
-    ensures value { result ≡ changed (option_map (read_of span)) (line_says all_verbs (known_in known.now) number line.now) }
+) -> Result<Option<Read>, LineFault>
+    ensures value { Answers result (changed (option_map (read_of span)) (line_says all_verbs (known_in known.now) number line.now)) }
     ensures number { OnOk result (number ≤ 1000000) }
 {
     if number > MOST_LINES {
-        return Err(ScriptKind::TooMany);
+        return Err(LineFault::Kind(ScriptKind::TooMany));
     }
     if line.len() > LONGEST_LINE {
-        return Err(ScriptKind::LineLong);
+        return Err(LineFault::Kind(ScriptKind::LineLong));
     }
     if !line.is_empty() && line[0] == b'#' {
         return Ok(None);
     }
-    entry(known, span, &mut Fields::new(line))
+    entry(alloc, known, span, &mut Fields::new(line))
 }
 
 /// A statement as a script holds it.
-fn kept(alloc: Global, read: Read) -> Result<Statement<Span, Box<Noise>>, ReadFault>
-    ensures ok { IfOk result (λ statement. renamed (λ span. span) box_value statement ≡ read) }
-    ensures err { IfErr result (λ fault. fault ≡ ReadFault.Memory) }
+fn kept(read: Read) -> Statement<Span, Box<Noise>>
+    ensures { renamed (λ span. span) box_value result ≡ read }
 {
-    Ok(match read {
+    match read {
         Statement::Unit { unit, kind } => Statement::Unit { unit, kind },
         Statement::Read { request } => Statement::Read { request },
         Statement::Write { request, content } => Statement::Write { request, content },
@@ -107,7 +113,7 @@ fn kept(alloc: Global, read: Read) -> Result<Statement<Span, Box<Noise>>, ReadFa
             unit,
             block,
             span,
-            places: Box::new(alloc, places)?,
+            places: places.into_noise(),
         },
         Statement::Fault { unit, what, times } => Statement::Fault { unit, what, times },
         Statement::Offline { unit } => Statement::Offline { unit },
@@ -115,12 +121,11 @@ fn kept(alloc: Global, read: Read) -> Result<Statement<Span, Box<Noise>>, ReadFa
         Statement::Lock { unit } => Statement::Lock { unit },
         Statement::Unlock { unit } => Statement::Unlock { unit },
         Statement::Drain => Statement::Drain,
-    })
+    }
 }
 
 /// Stores what was read of line number `number`.
 fn store(
-    alloc: Global,
     number: u32,
     read: Read,
     known: &mut Known,
@@ -135,14 +140,13 @@ fn store(
     ensures err { IfErr result (λ fault. fault ≡ ReadFault.Memory) }
 {
     known.learn(&read)?;
-    let statement = kept(alloc, read)?;
+    let statement = kept(read);
     lines.push(Line { number, statement })?;
     Ok(())
 }
 
 /// Stores what was read of line number `number`, where it says something.
 fn store_some(
-    alloc: Global,
     number: u32,
     read: Option<Read>,
     known: &mut Known,
@@ -158,7 +162,7 @@ fn store_some(
 {
     match read {
         None => Ok(()),
-        Some(read) => store(alloc, number, read, known, lines),
+        Some(read) => store(number, read, known, lines),
     }
 }
 
@@ -188,14 +192,15 @@ fn read_lines(alloc: Global, text: &[u8]) -> Result<Lines, ReadFault>
             start: start as u32,
             end: (start + line.len()) as u32,
         };
-        match line_says(&known, number, span, line) {
-            Ok(read) => store_some(alloc, number, read, &mut known, &mut lines)?,
-            Err(kind) => {
+        match line_says(alloc, &known, number, span, line) {
+            Ok(read) => store_some(number, read, &mut known, &mut lines)?,
+            Err(LineFault::Kind(kind)) => {
                 return Err(ReadFault::Refused {
                     line: u64::from(number),
                     kind,
                 });
             }
+            Err(LineFault::Memory) => return Err(ReadFault::Memory),
         }
         number += 1;
         rest = after;

@@ -1,4 +1,5 @@
 ghost use Rattle.std.specs.Prelude.{◌≡◌};
+ghost use Rattle.std.specs.Str.{bytes_eq};
 ghost use Rattle.pack_geometry.specs.Geometry.{kind_word};
 ghost use Rattle.script_reader.specs.Fields.{some_or, kind_field, part_field, offset_field, fault_field};
 ghost use Rattle.script_reader.specs.Words.{named, verb_word, all_verbs};
@@ -10,37 +11,52 @@ use hardware_table::FaultKind;
 use pack_geometry::{DriveKind, kind_of};
 use partitions::{Part, part_of};
 
+/// Whether a field is this word.
+pub fn is_word(field: &[u8], word: &[u8]) -> bool
+    ensures { result ≡ bytes_eq field.now word.now }
+{
+    if field.len() != word.len() {
+        return false;
+    }
+    for at in 0..field.len() {
+        if field[at] != word[at] {
+            return false;
+        }
+    }
+    true
+}
+
 /// The word at the front of a line.
 pub fn verb(word: &[u8]) -> Result<Verb, ScriptKind>
     ensures { result ≡ some_or ScriptKind.Word (named verb_word all_verbs word.now) }
 {
-    if word == b"unit".as_slice() {
+    if is_word(word, b"unit".as_slice()) {
         Ok(Verb::Unit)
-    } else if word == b"read".as_slice() {
+    } else if is_word(word, b"read".as_slice()) {
         Ok(Verb::Read)
-    } else if word == b"write".as_slice() {
+    } else if is_word(word, b"write".as_slice()) {
         Ok(Verb::Write)
-    } else if word == b"arrive".as_slice() {
+    } else if is_word(word, b"arrive".as_slice()) {
         Ok(Verb::Arrive)
-    } else if word == b"turn".as_slice() {
+    } else if is_word(word, b"turn".as_slice()) {
         Ok(Verb::Turn)
-    } else if word == b"move".as_slice() {
+    } else if is_word(word, b"move".as_slice()) {
         Ok(Verb::Move)
-    } else if word == b"attend".as_slice() {
+    } else if is_word(word, b"attend".as_slice()) {
         Ok(Verb::Attend)
-    } else if word == b"noise".as_slice() {
+    } else if is_word(word, b"noise".as_slice()) {
         Ok(Verb::Noise)
-    } else if word == b"fault".as_slice() {
+    } else if is_word(word, b"fault".as_slice()) {
         Ok(Verb::Fault)
-    } else if word == b"offline".as_slice() {
+    } else if is_word(word, b"offline".as_slice()) {
         Ok(Verb::Offline)
-    } else if word == b"online".as_slice() {
+    } else if is_word(word, b"online".as_slice()) {
         Ok(Verb::Online)
-    } else if word == b"lock".as_slice() {
+    } else if is_word(word, b"lock".as_slice()) {
         Ok(Verb::Lock)
-    } else if word == b"unlock".as_slice() {
+    } else if is_word(word, b"unlock".as_slice()) {
         Ok(Verb::Unlock)
-    } else if word == b"drain".as_slice() {
+    } else if is_word(word, b"drain".as_slice()) {
         Ok(Verb::Drain)
     } else {
         Err(ScriptKind::Word)
@@ -74,17 +90,17 @@ pub fn part_field(word: &[u8]) -> Result<Part, ScriptKind>
 pub fn offset_field(word: &[u8]) -> Result<OffsetCode, ScriptKind>
     ensures { result ≡ offset_field word.now }
 {
-    if word == b"+400".as_slice() {
+    if is_word(word, b"+400".as_slice()) {
         Ok(OffsetCode::Plus400)
-    } else if word == b"-400".as_slice() {
+    } else if is_word(word, b"-400".as_slice()) {
         Ok(OffsetCode::Minus400)
-    } else if word == b"+800".as_slice() {
+    } else if is_word(word, b"+800".as_slice()) {
         Ok(OffsetCode::Plus800)
-    } else if word == b"-800".as_slice() {
+    } else if is_word(word, b"-800".as_slice()) {
         Ok(OffsetCode::Minus800)
-    } else if word == b"+1200".as_slice() {
+    } else if is_word(word, b"+1200".as_slice()) {
         Ok(OffsetCode::Plus1200)
-    } else if word == b"-1200".as_slice() {
+    } else if is_word(word, b"-1200".as_slice()) {
         Ok(OffsetCode::Minus1200)
     } else {
         Err(ScriptKind::Word)
@@ -95,15 +111,15 @@ pub fn offset_field(word: &[u8]) -> Result<OffsetCode, ScriptKind>
 pub fn fault_field(word: &[u8]) -> Result<FaultKind, ScriptKind>
     ensures { result ≡ fault_field word.now }
 {
-    if word == b"seek".as_slice() {
+    if is_word(word, b"seek".as_slice()) {
         Ok(FaultKind::Seek)
-    } else if word == b"opi".as_slice() {
+    } else if is_word(word, b"opi".as_slice()) {
         Ok(FaultKind::Opi)
-    } else if word == b"dte".as_slice() {
+    } else if is_word(word, b"dte".as_slice()) {
         Ok(FaultKind::Dte)
-    } else if word == b"hcrc".as_slice() {
+    } else if is_word(word, b"hcrc".as_slice()) {
         Ok(FaultKind::Hcrc)
-    } else if word == b"late".as_slice() {
+    } else if is_word(word, b"late".as_slice()) {
         Ok(FaultKind::Late)
     } else {
         Err(ScriptKind::Word)

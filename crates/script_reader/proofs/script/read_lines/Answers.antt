@@ -1,4 +1,4 @@
-use Rattle.std.proofs.Common.{◌+◌, ◌-◌, ◌≤◌, [], length, sym, arith}
+use Rattle.std.proofs.Common.{◌+◌, ◌-◌, ◌≤◌, [], length, arith}
 use Rattle.script_reader.specs.declared.statement.Span.{Span}
 use Rattle.script_reader.specs.Knowing.{known_in}
 use Rattle.script_reader.specs.Lines.{lines_of}
@@ -22,7 +22,7 @@ lines-preserved c =
     let front = c.without_cr-line.ensures.front in
     let goes =
     gone all_verbs (known_in c.lines.known) (known_in c.store_some.new.known) text c.lines.lines.items c.store_some.new.lines.items c.lines.number span rest piece after line c.in-Ok.read
-    (reading all_verbs [] 1 (lines_of text)) so_far.same so_far.known split.line c.without_cr-line.ensures.value (sym c.in-Ok.ensures.value)
+    (reading all_verbs [] 1 (lines_of text)) so_far.same so_far.known split.line c.without_cr-line.ensures.value c.in-Ok.ensures.value
     (there text rest piece line start so_far.place split.front front (front_short line piece front)) stored.learns stored.stores in
     let shorter : length after ≤ length rest = omega (arith, split.shorter) in record {
       same = goes.same;
