@@ -5,7 +5,7 @@ mod lines;
 mod telling;
 mod words;
 
-pub use lines::{idle, line};
+pub use lines::{idle, put_line};
 pub use telling::Told;
 
 #[cfg(test)]

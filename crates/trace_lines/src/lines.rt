@@ -1,35 +1,34 @@
-ghost use Rattle.std.specs.Prelude.{◌≡◌};
+ghost use Rattle.std.specs.Prelude.{◌≡◌, []};
 ghost use Rattle.trace_replay.specs.Moments as moments;
 ghost use Rattle.subsystem_spec.specs.Requests.{Answer};
 ghost use Rattle.trace_replay.specs.Text.{moment_text};
 ghost use Rattle.trace_lines.specs.Deeds.{deed_of};
 
 use crate::telling::Told;
-use crate::words::{first_word, put_last, put_number};
-use short_line::ShortLine;
+use crate::words::{put_first, put_last, put_number};
+use short_line::BackLine;
 
-/// The line of a deed at a unit for the request of an id, with the number of the script's line. An end's line says nothing
+/// Puts the line of a deed at a unit for the request of an id, with the number of the script's line. An end's line says nothing
 /// of its answer.
-pub fn line(number: u64, unit: u8, id: u32, told: Told) -> ShortLine
-    ensures { (answer : Answer) → result ≡ moment_text (moments.Told number unit id (deed_of answer told)) }
+pub fn put_line(text: &mut BackLine, number: u64, unit: u8, id: u32, told: Told)
+    requires { text.old ≡ [] }
+    ensures { (answer : Answer) → text.new ≡ moment_text (moments.Told number unit id (deed_of answer told)) }
 {
-    let mut text = ShortLine::new();
-    text.put(first_word(&told));
-    put_number(&mut text, number);
-    put_number(&mut text, u64::from(unit));
-    put_number(&mut text, u64::from(id));
-    put_last(&mut text, &told);
-    text.put("\n");
-    text
+    text.put_byte(b'\n');
+    put_last(text, &told);
+    put_number(text, u64::from(id));
+    put_number(text, u64::from(unit));
+    put_number(text, number);
+    put_first(text, &told);
 }
 
 /// The line of an event that found nothing to do.
-pub fn idle(number: u64) -> ShortLine
+pub fn idle(number: u64) -> BackLine
     ensures { result ≡ moment_text (moments.Idle number) }
 {
-    let mut text = ShortLine::new();
-    text.put("idle");
+    let mut text = BackLine::new();
+    text.put_byte(b'\n');
     put_number(&mut text, number);
-    text.put("\n");
+    text.put(b"idle");
     text
 }

@@ -1,6 +1,7 @@
 use super::*;
 use drive_registers::OffsetCode;
 use hardware_table::{FaultKind, Moved};
+use short_line::BackLine;
 
 /// A deed, and the line that tells it at line 4 of the script, of unit 9, for request 30.
 const LINES: [(Told, &str); 29] = [
@@ -153,6 +154,13 @@ const LINES: [(Told, &str); 29] = [
     (Told::Attn, "attn 4 9 30\n"),
     (Told::End, "end 4 9 30\n"),
 ];
+
+/// The line of a deed.
+fn line(number: u64, unit: u8, id: u32, told: Told) -> BackLine {
+    let mut text = BackLine::new();
+    put_line(&mut text, number, unit, id, told);
+    text
+}
 
 #[test]
 fn lines(rt: HostRuntime) {

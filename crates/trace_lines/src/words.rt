@@ -3,29 +3,13 @@ ghost use Rattle.mass_text.specs.Numbers.{numeral};
 ghost use Rattle.mass_text.specs.declared.numbers.Radix.TheVariants.{Octal};
 ghost use Rattle.subsystem_spec.specs.Requests.{Answer};
 ghost use Rattle.trace_replay.specs.Text.{offset_word, fault_word, verdict_words, transfer_word, first_word, last_words};
-ghost use Rattle.trace_lines.specs.Deeds.{deed_of, with_words};
+ghost use Rattle.trace_lines.specs.Deeds.{deed_of, in_front};
 
 use crate::telling::Told;
 use drive_registers::OffsetCode;
 use hardware_table::{FaultKind, Moved};
 use mass_text::{LineBuf, Radix, numeral_law};
-use short_line::ShortLine;
-
-/// The first word of a line.
-pub(crate) fn first_word(told: &Told) -> &'static str
-    ensures word { (answer : Answer) → result.now ≡ first_word (deed_of answer told.now) }
-    ensures short { length result.now ≤ 6 }
-{
-    match told {
-        Told::Arrive => "arrive",
-        Told::Sector { .. } => "sector",
-        Told::Intr => "intr",
-        Told::Try { .. } => "try",
-        Told::Attn => "attn",
-        Told::End => "end",
-        _ => "cmd",
-    }
-}
+use short_line::BackLine;
 
 /// The word of an offset.
 fn offset_word(code: OffsetCode) -> &'static str
@@ -64,107 +48,113 @@ fn transfer_word(write: bool) -> &'static str
     if write { "wcom" } else { "rcom" }
 }
 
-/// Puts a space and a word.
-#[tactic(auto, unfolding(crate::specs::Deeds::with_words))]
-fn put_word(text: &mut ShortLine, word: &str)
-    requires room { length text.old ≤ 200 }
+/// Puts a space and a word in front of a text.
+#[inline(always)]
+#[tactic(auto, unfolding(crate::specs::Deeds::in_front))]
+fn put_word(text: &mut BackLine, word: &str)
+    requires room { length text.old ≤ 137 }
     requires short { length word.now ≤ 7 }
-    ensures text { text.new ≡ with_words text.old (word.now ∷ []) }
+    ensures text { text.new ≡ in_front (word.now ∷ []) text.old }
     ensures room { length text.new ≤ length text.old + 8 }
 {
-    text.put(" ");
-    text.put(word);
+    text.put(word.as_bytes());
+    text.put_byte(b' ');
 }
 
-/// Puts a space and a number.
-#[tactic(auto, unfolding(crate::specs::Deeds::with_words))]
-pub(crate) fn put_number(text: &mut ShortLine, value: u64)
-    requires room { length text.old ≤ 200 }
-    ensures text { text.new ≡ with_words text.old (decimal value ∷ []) }
+/// Puts a space and a number in front of a text.
+#[tactic(auto, unfolding(crate::specs::Deeds::in_front))]
+pub(crate) fn put_number(text: &mut BackLine, value: u64)
+    requires room { length text.old ≤ 137 }
+    ensures text { text.new ≡ in_front (decimal value ∷ []) text.old }
     ensures room { length text.new ≤ length text.old + 23 }
 {
     numeral_law(Radix::Decimal);
-    text.put(" ");
     text.put_number(value);
+    text.put_byte(b' ');
 }
 
-/// Puts a space and a pattern, which is octal.
-#[tactic(auto, unfolding(crate::specs::Deeds::with_words))]
-fn put_pattern(text: &mut ShortLine, value: u64)
-    requires room { length text.old ≤ 200 }
-    ensures text { text.new ≡ with_words text.old (numeral Octal value ∷ []) }
+/// Puts a space and a pattern, which is octal, in front of a text.
+#[tactic(auto, unfolding(crate::specs::Deeds::in_front))]
+fn put_pattern(text: &mut BackLine, value: u64)
+    requires room { length text.old ≤ 137 }
+    ensures text { text.new ≡ in_front (numeral Octal value ∷ []) text.old }
     ensures room { length text.new ≤ length text.old + 23 }
 {
     numeral_law(Radix::Octal);
     let mut digits = LineBuf::new();
     digits.put_number(value, Radix::Octal);
-    text.put(" ");
-    text.put_bytes(digits.as_bytes());
+    text.put(digits.as_bytes());
+    text.put_byte(b' ');
 }
 
-/// Puts two numbers.
+/// Puts two numbers in front of a text.
+#[inline(always)]
 #[tactic(auto, using(crate::proofs::WordLaws::two_words))]
-fn put_pair(text: &mut ShortLine, first: u32, second: u32)
-    requires room { length text.old ≤ 150 }
-    ensures text { text.new ≡ with_words text.old (decimal first ∷ decimal second ∷ []) }
+fn put_pair(text: &mut BackLine, first: u32, second: u32)
+    requires room { length text.old ≤ 114 }
+    ensures text { text.new ≡ in_front (decimal first ∷ decimal second ∷ []) text.old }
     ensures room { length text.new ≤ length text.old + 46 }
 {
-    put_number(text, u64::from(first));
     put_number(text, u64::from(second));
+    put_number(text, u64::from(first));
 }
 
-/// Puts two words.
+/// Puts two words in front of a text.
+#[inline(always)]
 #[tactic(auto, using(crate::proofs::WordLaws::two_words))]
-fn put_words(text: &mut ShortLine, first: &str, second: &str)
-    requires room { length text.old ≤ 150 }
+fn put_words(text: &mut BackLine, first: &str, second: &str)
+    requires room { length text.old ≤ 114 }
     requires first { length first.now ≤ 7 }
     requires second { length second.now ≤ 7 }
-    ensures text { text.new ≡ with_words text.old (first.now ∷ second.now ∷ []) }
+    ensures text { text.new ≡ in_front (first.now ∷ second.now ∷ []) text.old }
     ensures room { length text.new ≤ length text.old + 16 }
 {
-    put_word(text, first);
     put_word(text, second);
+    put_word(text, first);
 }
 
-/// Puts a word and a number.
+/// Puts a word and a number in front of a text.
+#[inline(always)]
 #[tactic(auto, using(crate::proofs::WordLaws::two_words))]
-fn put_named(text: &mut ShortLine, word: &str, value: u32)
-    requires room { length text.old ≤ 150 }
+fn put_named(text: &mut BackLine, word: &str, value: u32)
+    requires room { length text.old ≤ 114 }
     requires short { length word.now ≤ 7 }
-    ensures text { text.new ≡ with_words text.old (word.now ∷ decimal value ∷ []) }
+    ensures text { text.new ≡ in_front (word.now ∷ decimal value ∷ []) text.old }
     ensures room { length text.new ≤ length text.old + 31 }
 {
-    put_word(text, word);
     put_number(text, u64::from(value));
-}
-
-/// Puts a word and two numbers.
-#[tactic(auto, using(crate::proofs::WordLaws::more_words))]
-fn put_named_pair(text: &mut ShortLine, word: &str, first: u32, second: u32)
-    requires room { length text.old ≤ 100 }
-    requires short { length word.now ≤ 7 }
-    ensures text { text.new ≡ with_words text.old (word.now ∷ decimal first ∷ decimal second ∷ []) }
-    ensures room { length text.new ≤ length text.old + 54 }
-{
     put_word(text, word);
-    put_pair(text, first, second);
 }
 
-/// Puts a burst: its first place and its pattern.
-#[tactic(auto, using(crate::proofs::WordLaws::two_words, crate::proofs::WordLaws::more_words))]
-fn put_burst(text: &mut ShortLine, at: u16, pattern: u16)
-    requires room { length text.old ≤ 130 }
-    ensures text { text.new ≡ with_words text.old (verdict_words (Moved.Burst at pattern)) }
+/// Puts a word and two numbers in front of a text.
+#[inline(always)]
+#[tactic(auto, using(crate::proofs::WordLaws::more_words))]
+fn put_named_pair(text: &mut BackLine, word: &str, first: u32, second: u32)
+    requires room { length text.old ≤ 80 }
+    requires short { length word.now ≤ 7 }
+    ensures text { text.new ≡ in_front (word.now ∷ decimal first ∷ decimal second ∷ []) text.old }
     ensures room { length text.new ≤ length text.old + 54 }
 {
-    put_named(text, "burst", u32::from(at));
-    put_pattern(text, u64::from(pattern));
+    put_pair(text, first, second);
+    put_word(text, word);
 }
 
-/// Puts a verdict.
-fn put_verdict(text: &mut ShortLine, verdict: Moved)
-    requires room { length text.old ≤ 130 }
-    ensures text { text.new ≡ with_words text.old (verdict_words verdict) }
+/// Puts a burst in front of a text: its first place and its pattern.
+#[tactic(auto, using(crate::proofs::WordLaws::two_words, crate::proofs::WordLaws::more_words))]
+fn put_burst(text: &mut BackLine, at: u16, pattern: u16)
+    requires room { length text.old ≤ 80 }
+    ensures text { text.new ≡ in_front (verdict_words (Moved.Burst at pattern)) text.old }
+    ensures room { length text.new ≤ length text.old + 54 }
+{
+    put_pattern(text, u64::from(pattern));
+    put_named(text, "burst", u32::from(at));
+}
+
+/// Puts a verdict in front of a text.
+#[inline(always)]
+fn put_verdict(text: &mut BackLine, verdict: Moved)
+    requires room { length text.old ≤ 80 }
+    ensures text { text.new ≡ in_front (verdict_words verdict) text.old }
     ensures room { length text.new ≤ length text.old + 54 }
 {
     match verdict {
@@ -177,30 +167,33 @@ fn put_verdict(text: &mut ShortLine, verdict: Moved)
     }
 }
 
-/// Puts a block and a verdict.
+/// Puts a block and a verdict in front of a text.
+#[inline(always)]
 #[tactic(auto, using(crate::proofs::WordLaws::more_words))]
-fn put_sector(text: &mut ShortLine, block: u32, verdict: Moved)
-    requires room { length text.old ≤ 100 }
-    ensures text { text.new ≡ with_words text.old (decimal block ∷ verdict_words verdict) }
+fn put_sector(text: &mut BackLine, block: u32, verdict: Moved)
+    requires room { length text.old ≤ 80 }
+    ensures text { text.new ≡ in_front (decimal block ∷ verdict_words verdict) text.old }
     ensures room { length text.new ≤ length text.old + 77 }
 {
-    put_number(text, u64::from(block));
     put_verdict(text, verdict);
+    put_number(text, u64::from(block));
 }
 
-/// Puts nothing.
+/// Puts nothing in front of a text.
+#[inline(always)]
 #[tactic(auto, using(crate::proofs::WordLaws::no_words))]
-fn put_nothing(text: &mut ShortLine)
-    ensures text { text.new ≡ with_words text.old [] }
+fn put_nothing(text: &mut BackLine)
+    ensures text { text.new ≡ in_front [] text.old }
     ensures room { length text.new ≤ length text.old }
 {
     let _ = text;
 }
 
-/// Puts the words that a line is told with, behind its numbers.
-pub(crate) fn put_last(text: &mut ShortLine, told: &Told)
-    requires room { length text.old ≤ 100 }
-    ensures text { (answer : Answer) → text.new ≡ with_words text.old (last_words (deed_of answer told.now)) }
+/// Puts the words that a line is told with, which stand behind its numbers, in front of a text.
+#[inline(always)]
+pub(crate) fn put_last(text: &mut BackLine, told: &Told)
+    requires room { length text.old ≤ 80 }
+    ensures text { (answer : Answer) → text.new ≡ in_front (last_words (deed_of answer told.now)) text.old }
     ensures room { length text.new ≤ length text.old + 77 }
 {
     match *told {
@@ -219,5 +212,22 @@ pub(crate) fn put_last(text: &mut ShortLine, told: &Told)
         Told::Sector { block, verdict } => put_sector(text, block, verdict),
         Told::Try { block, failures } => put_pair(text, block, failures),
         Told::Arrive | Told::Intr | Told::Attn | Told::End => put_nothing(text),
+    }
+}
+
+/// Puts the first word of a line in front of a text.
+#[inline(always)]
+pub(crate) fn put_first(text: &mut BackLine, told: &Told)
+    requires { length text.old ≤ 150 }
+    ensures { (answer : Answer) → text.new ≡ first_word (deed_of answer told.now) ++ text.old }
+{
+    match told {
+        Told::Arrive => text.put(b"arrive"),
+        Told::Sector { .. } => text.put(b"sector"),
+        Told::Intr => text.put(b"intr"),
+        Told::Try { .. } => text.put(b"try"),
+        Told::Attn => text.put(b"attn"),
+        Told::End => text.put(b"end"),
+        _ => text.put(b"cmd"),
     }
 }
