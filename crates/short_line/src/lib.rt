@@ -4,10 +4,6 @@
 
 ghost use Rattle.std.specs.Prelude.{◌≡◌, ◌≤◌, ◌+◌, [], ◌++◌, length, decimal};
 
-mod back_line;
-
-pub use back_line::BackLine;
-
 use arrayvec::ArrayVec;
 use itoa::Buffer;
 use std::marker::Model;

@@ -1,7 +1,6 @@
 use super::*;
 use drive_registers::OffsetCode;
 use hardware_table::{FaultKind, Moved};
-use short_line::BackLine;
 
 /// A deed, and the line that tells it at line 4 of the script, of unit 9, for request 30.
 const LINES: [(Told, &str); 29] = [
@@ -156,9 +155,9 @@ const LINES: [(Told, &str); 29] = [
 ];
 
 /// The line of a deed.
-fn line(number: u64, unit: u8, id: u32, told: Told) -> BackLine {
-    let mut text = BackLine::new();
-    put_line(&mut text, number, unit, id, told);
+fn line(number: u64, unit: u8, id: u32, told: Told) -> LineText {
+    let mut text = LineText::new();
+    text.write(number, unit, id, told);
     text
 }
 
