@@ -1,6 +1,5 @@
 -- Words in front of a text.
 use Rattle.std.proofs.Common.{◌≡◌, ℕ, List, [], ◌∷◌, ◌++◌, sym, ap, ◌∙◌, refl, append_assoc}
-use Rattle.std.specs.List.{flat_map}
 use Rattle.trace_replay.specs.Text.{spaced}
 use Rattle.trace_lines.specs.Deeds.{in_front}
 

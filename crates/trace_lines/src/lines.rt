@@ -9,7 +9,7 @@ use crate::telling::Told;
 use crate::words::{put_first, put_last, put_number};
 use std::marker::Model;
 
-/// The text of a line, which has no room for more.
+/// The text of a line of a trace.
 #[derive(Drop)]
 pub struct LineText {
     bytes: [u8; ROOM],

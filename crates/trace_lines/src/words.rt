@@ -1,3 +1,5 @@
+// Words of a line that is put together from its end: each function puts them in front of what stands from `start` on, and answers
+// where they start.
 ghost use Rattle.std.specs.Prelude.{◌≡◌, ◌≤◌, ◌+◌, ◌∷◌, [], ◌++◌, length, drop, decimal};
 ghost use Rattle.mass_text.specs.Numbers.{numeral};
 ghost use Rattle.mass_text.specs.declared.numbers.Radix.TheVariants.{Octal};
