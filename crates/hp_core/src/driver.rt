@@ -17,7 +17,7 @@ use mass_gather::Gather;
 use mass_outside::traits::Sink;
 use request_slots::Slots;
 use std::marker::Model;
-use trace_lines::{Told, idle, line};
+use trace_lines::{LineText, Told};
 use transfer_engine::Job;
 
 /// 32 units, of which some are set up, four adapters, the slots of requests and the frames that they need, the noise that is armed,
@@ -87,7 +87,8 @@ impl Core {
     ) -> Result<(), Stop>
         ensures { (answer : AnswerTold) → Tells T.tells T.taken T.faults trace.old trace.new self.old self.new result (moment_text (moments.Told number unit id (deed_of answer told))) }
     {
-        let text = line(number, unit, id, told);
+        let mut text = LineText::new();
+        text.write(number, unit, id, told);
         match self.gather.put(text.as_bytes(), trace) {
             Ok(()) => Ok(()),
             Err(_) => Err(Stop::Sink),
@@ -138,7 +139,8 @@ impl Core {
     pub(crate) fn tell_idle<T: Sink>(&mut self, number: u64, trace: &mut T) -> Result<(), Stop>
         ensures { Tells T.tells T.taken T.faults trace.old trace.new self.old self.new result (moment_text (moments.Idle number)) }
     {
-        let text = idle(number);
+        let mut text = LineText::new();
+        text.write_idle(number);
         match self.gather.put(text.as_bytes(), trace) {
             Ok(()) => Ok(()),
             Err(_) => Err(Stop::Sink),

@@ -1,4 +1,4 @@
-ghost use Rattle.std.specs.Prelude.{◌≡◌, ◌+◌, ◌≤◌, ◌==◌, IfOk, [], ◌++◌, length, vec_len, vec_capacity};
+ghost use Rattle.std.specs.Prelude.{◌≡◌, ◌+◌, ◌≤◌, ◌==◌, IfOk, [], ◌++◌, length, take, vec_len};
 ghost use Rattle.mass_outside.specs.Puts.{Puts};
 ghost use Rattle.mass_outside.specs.declared.traits.SinkFailed.{SinkFailed};
 ghost use Rattle.mass_gather.specs.Gathers.{Gathers, PutsNothing, Join, Stop, PutWhole};
@@ -11,20 +11,37 @@ use std::marker::Model;
 /// How many bytes are kept at most.
 const ROOM: usize = 16384;
 
-/// Text that is kept for a sink, at most 16,384 bytes. Their room is reserved once.
+/// Bytes of which nothing is known but how many they are.
+fn room_of(alloc: Global, size: usize) -> Result<Vec<u8>, NoMemory>
+    ensures { IfOk result (λ room. vec_len room ≡ size) }
+{
+    Ok(vec![in alloc; 0; size]?)
+}
+
+/// Writes bytes at a place inside.
+fn put_at(room: &mut Vec<u8>, at: usize, from: &[u8])
+    requires { at + length from.now ≤ vec_len room.old }
+    ensures front { take (at + length from.now) room.new.items ≡ take at room.old.items ++ from.now }
+    ensures len { vec_len room.new ≡ vec_len room.old }
+{
+    room[at..at + from.len()].copy_from_slice(from);
+}
+
+/// Text that is kept for a sink, at most 16,384 bytes. Their room is there from the start, and its front is filled.
 #[derive(Drop)]
 pub struct Gather {
-    bytes: Vec<u8>,
-    ghost few: { vec_len bytes ≤ 16384 },
-    ghost reserved: { 16384 ≤ vec_capacity bytes },
+    room: Vec<u8>,
+    filled: usize,
+    ghost whole: { vec_len room ≡ 16384 },
+    ghost inside: { filled ≤ 16384 },
 }
 
 impl Model for Gather {
-    ghost use Rattle.std.specs.Prelude.{ℕ, List};
+    ghost use Rattle.std.specs.Prelude.{ℕ, List, take};
 
     ghost Value = { List ℕ };
 
-    ghost view = { λ gather. gather.bytes.items };
+    ghost view = { λ gather. take gather.filled gather.room.items };
 }
 
 impl Gather {
@@ -32,22 +49,22 @@ impl Gather {
     pub fn new(alloc: Global) -> Result<Gather, NoMemory>
         ensures { IfOk result (λ gather. gather ≡ []) }
     {
-        let bytes = Vec::with_capacity(alloc, ROOM)?;
-        Ok(Gather { bytes })
+        let room = room_of(alloc, ROOM)?;
+        Ok(Gather { room, filled: 0 })
     }
 
     /// How many bytes are kept.
     pub fn len(&self) -> usize
         ensures { result ≡ length self.now }
     {
-        self.bytes.len()
+        self.filled
     }
 
     /// Whether nothing is kept.
     pub fn is_empty(&self) -> bool
         ensures { result ≡ (length self.now == 0) }
     {
-        self.bytes.is_empty()
+        self.filled == 0
     }
 
     /// Keeps a text that fits.
@@ -55,8 +72,8 @@ impl Gather {
         requires { length self.old + length text.now ≤ 16384 }
         ensures { self.new ≡ self.old ++ text.now }
     {
-        // The room is reserved, so this cannot fail.
-        let _ = self.bytes.extend_from_slice(text);
+        put_at(&mut self.room, self.filled, text);
+        self.filled += text.len();
     }
 
     /// Passes on what is kept. Nothing is kept after it, also where the sink failed.
@@ -65,8 +82,8 @@ impl Gather {
         ensures gathers { Gathers T.tells T.taken T.faults sink.old sink.new self.old self.new result [] }
         ensures empty { self.new ≡ [] }
     {
-        let result = write_all(sink, self.bytes.as_slice());
-        self.bytes.clear();
+        let result = write_all(sink, &self.room[..self.filled]);
+        self.filled = 0;
         result
     }
 
@@ -86,7 +103,7 @@ impl Gather {
     pub fn put<T: Sink>(&mut self, text: &[u8], sink: &mut T) -> Result<(), SinkFailed>
         ensures { Gathers T.tells T.taken T.faults sink.old sink.new self.old self.new result text.now }
     {
-        if text.len() > ROOM - self.bytes.len() {
+        if text.len() > ROOM - self.filled {
             match self.flush(sink) {
                 Ok(()) => self.put_first(text, sink),
                 Err(failed) => Err(failed),

@@ -23,6 +23,6 @@ deed_of answer (told.Try block failures) = Try block failures
 deed_of answer told.Attn = Attn
 deed_of answer told.End = End answer
 
--- a text, and words behind it
-unfoldable pub with_words : List ℕ → List (List ℕ) → List ℕ
-with_words text words = text ++ spaced words
+-- words in front of a text
+unfoldable pub in_front : List (List ℕ) → List ℕ → List ℕ
+in_front words text = spaced words ++ text

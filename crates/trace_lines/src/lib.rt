@@ -2,10 +2,11 @@
 #![tactic(auto)]
 
 mod lines;
+mod pieces;
 mod telling;
 mod words;
 
-pub use lines::{idle, line};
+pub use lines::{LineText, idle};
 pub use telling::Told;
 
 #[cfg(test)]

@@ -1,35 +1,102 @@
-ghost use Rattle.std.specs.Prelude.{◌≡◌};
+ghost use Rattle.std.specs.Prelude.{◌≡◌, ◌≤◌, [], ◌∷◌, drop};
 ghost use Rattle.trace_replay.specs.Moments as moments;
 ghost use Rattle.subsystem_spec.specs.Requests.{Answer};
 ghost use Rattle.trace_replay.specs.Text.{moment_text};
 ghost use Rattle.trace_lines.specs.Deeds.{deed_of};
 
+use crate::pieces::{ROOM, put_piece};
 use crate::telling::Told;
-use crate::words::{first_word, put_last, put_number};
-use short_line::ShortLine;
+use crate::words::{put_first, put_last, put_number};
+use std::marker::Model;
 
-/// The line of a deed at a unit for the request of an id, with the number of the script's line. An end's line says nothing
-/// of its answer.
-pub fn line(number: u64, unit: u8, id: u32, told: Told) -> ShortLine
-    ensures { (answer : Answer) → result ≡ moment_text (moments.Told number unit id (deed_of answer told)) }
+/// The text of a line of a trace.
+#[derive(Drop)]
+pub struct LineText {
+    bytes: [u8; ROOM],
+    start: usize,
+}
+
+impl Model for LineText {
+    ghost use Rattle.std.specs.Prelude.{ℕ, List, ◌≤◌, drop};
+
+    ghost Value = { List ℕ };
+
+    ghost view = { λ line. drop line.start line.bytes };
+
+    ghost invariant = { λ line. line.start ≤ 160 };
+}
+
+/// Puts the end of a line.
+fn put_end(bytes: &mut [u8; ROOM]) -> usize
+    ensures start { result ≡ 159 }
+    ensures text { drop result bytes.new ≡ 10 ∷ [] }
 {
-    let mut text = ShortLine::new();
-    text.put(first_word(&told));
-    put_number(&mut text, number);
-    put_number(&mut text, u64::from(unit));
-    put_number(&mut text, u64::from(id));
-    put_last(&mut text, &told);
-    text.put("\n");
-    text
+    bytes[ROOM - 1] = b'\n';
+    ROOM - 1
+}
+
+/// Puts the line of a deed.
+fn put_line(bytes: &mut [u8; ROOM], number: u64, unit: u8, id: u32, told: &Told) -> usize
+    ensures inside { result ≤ 160 }
+    ensures text { (answer : Answer) → drop result bytes.new ≡ moment_text (moments.Told number unit id (deed_of answer told.now)) }
+{
+    let end = put_end(bytes);
+    let last = put_last(bytes, end, told);
+    let third = put_number(bytes, last, u64::from(id));
+    let second = put_number(bytes, third, u64::from(unit));
+    let first = put_number(bytes, second, number);
+    put_first(bytes, first, told)
+}
+
+/// Puts the line of an event that found nothing to do.
+fn put_idle(bytes: &mut [u8; ROOM], number: u64) -> usize
+    ensures inside { result ≤ 160 }
+    ensures text { drop result bytes.new ≡ moment_text (moments.Idle number) }
+{
+    let end = put_end(bytes);
+    let first = put_number(bytes, end, number);
+    put_piece(bytes, first, b"idle")
+}
+
+impl LineText {
+    /// An empty text.
+    pub fn new() -> LineText
+        ensures { result ≡ [] }
+    {
+        LineText {
+            bytes: [0; ROOM],
+            start: ROOM,
+        }
+    }
+
+    /// The text.
+    pub fn as_bytes(&self) -> &[u8]
+        ensures { result.now ≡ self.now }
+    {
+        &self.bytes[self.start..]
+    }
+
+    /// Writes the line of a deed at a unit for the request of an id, with the number of the script's line, in place of what is
+    /// there. An end's line says nothing of its answer.
+    pub fn write(&mut self, number: u64, unit: u8, id: u32, told: Told)
+        ensures { (answer : Answer) → self.new ≡ moment_text (moments.Told number unit id (deed_of answer told)) }
+    {
+        self.start = put_line(&mut self.bytes, number, unit, id, &told);
+    }
+
+    /// Writes the line of an event that found nothing to do, in place of what is there.
+    pub fn write_idle(&mut self, number: u64)
+        ensures { self.new ≡ moment_text (moments.Idle number) }
+    {
+        self.start = put_idle(&mut self.bytes, number);
+    }
 }
 
 /// The line of an event that found nothing to do.
-pub fn idle(number: u64) -> ShortLine
+pub fn idle(number: u64) -> LineText
     ensures { result ≡ moment_text (moments.Idle number) }
 {
-    let mut text = ShortLine::new();
-    text.put("idle");
-    put_number(&mut text, number);
-    text.put("\n");
+    let mut text = LineText::new();
+    text.write_idle(number);
     text
 }

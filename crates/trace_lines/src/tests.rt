@@ -154,6 +154,13 @@ const LINES: [(Told, &str); 29] = [
     (Told::End, "end 4 9 30\n"),
 ];
 
+/// The line of a deed.
+fn line(number: u64, unit: u8, id: u32, told: Told) -> LineText {
+    let mut text = LineText::new();
+    text.write(number, unit, id, told);
+    text
+}
+
 #[test]
 fn lines(rt: HostRuntime) {
     for (told, wanted) in &LINES {

@@ -1,31 +1,17 @@
-ghost use Rattle.std.specs.Prelude.{◌≡◌, ◌≤◌, ◌+◌, ◌∷◌, [], ◌++◌, length, decimal};
+// Words of a line that is put together from its end: each function puts them in front of what stands from `start` on, and answers
+// where they start.
+ghost use Rattle.std.specs.Prelude.{◌≡◌, ◌≤◌, ◌+◌, ◌∷◌, [], ◌++◌, length, drop, decimal};
 ghost use Rattle.mass_text.specs.Numbers.{numeral};
 ghost use Rattle.mass_text.specs.declared.numbers.Radix.TheVariants.{Octal};
 ghost use Rattle.subsystem_spec.specs.Requests.{Answer};
 ghost use Rattle.trace_replay.specs.Text.{offset_word, fault_word, verdict_words, transfer_word, first_word, last_words};
-ghost use Rattle.trace_lines.specs.Deeds.{deed_of, with_words};
+ghost use Rattle.trace_lines.specs.Deeds.{deed_of, in_front};
 
+use crate::pieces::{ROOM, put_byte, put_digits, put_piece};
 use crate::telling::Told;
 use drive_registers::OffsetCode;
 use hardware_table::{FaultKind, Moved};
 use mass_text::{LineBuf, Radix, numeral_law};
-use short_line::ShortLine;
-
-/// The first word of a line.
-pub(crate) fn first_word(told: &Told) -> &'static str
-    ensures word { (answer : Answer) → result.now ≡ first_word (deed_of answer told.now) }
-    ensures short { length result.now ≤ 6 }
-{
-    match told {
-        Told::Arrive => "arrive",
-        Told::Sector { .. } => "sector",
-        Told::Intr => "intr",
-        Told::Try { .. } => "try",
-        Told::Attn => "attn",
-        Told::End => "end",
-        _ => "cmd",
-    }
-}
 
 /// The word of an offset.
 fn offset_word(code: OffsetCode) -> &'static str
@@ -65,159 +51,209 @@ fn transfer_word(write: bool) -> &'static str
 }
 
 /// Puts a space and a word.
-#[tactic(auto, unfolding(crate::specs::Deeds::with_words))]
-fn put_word(text: &mut ShortLine, word: &str)
-    requires room { length text.old ≤ 200 }
+#[tactic(auto, unfolding(crate::specs::Deeds::in_front))]
+fn put_word(bytes: &mut [u8; ROOM], start: usize, word: &str) -> usize
+    requires inside { start ≤ 160 }
+    requires room { 23 ≤ start }
     requires short { length word.now ≤ 7 }
-    ensures text { text.new ≡ with_words text.old (word.now ∷ []) }
-    ensures room { length text.new ≤ length text.old + 8 }
+    ensures text { drop result bytes.new ≡ in_front (word.now ∷ []) (drop start bytes.old) }
+    ensures inside { result ≤ start }
+    ensures room { start ≤ result + 8 }
 {
-    text.put(" ");
-    text.put(word);
+    let at = put_piece(bytes, start, word.as_bytes());
+    put_byte(bytes, at, b' ')
 }
 
 /// Puts a space and a number.
-#[tactic(auto, unfolding(crate::specs::Deeds::with_words))]
-pub(crate) fn put_number(text: &mut ShortLine, value: u64)
-    requires room { length text.old ≤ 200 }
-    ensures text { text.new ≡ with_words text.old (decimal value ∷ []) }
-    ensures room { length text.new ≤ length text.old + 23 }
+#[tactic(auto, unfolding(crate::specs::Deeds::in_front))]
+pub(crate) fn put_number(bytes: &mut [u8; ROOM], start: usize, value: u64) -> usize
+    requires inside { start ≤ 160 }
+    requires room { 23 ≤ start }
+    ensures text { drop result bytes.new ≡ in_front (decimal value ∷ []) (drop start bytes.old) }
+    ensures inside { result ≤ start }
+    ensures room { start ≤ result + 23 }
 {
     numeral_law(Radix::Decimal);
-    text.put(" ");
-    text.put_number(value);
+    let at = put_digits(bytes, start, value);
+    put_byte(bytes, at, b' ')
 }
 
 /// Puts a space and a pattern, which is octal.
-#[tactic(auto, unfolding(crate::specs::Deeds::with_words))]
-fn put_pattern(text: &mut ShortLine, value: u64)
-    requires room { length text.old ≤ 200 }
-    ensures text { text.new ≡ with_words text.old (numeral Octal value ∷ []) }
-    ensures room { length text.new ≤ length text.old + 23 }
+#[tactic(auto, unfolding(crate::specs::Deeds::in_front))]
+fn put_pattern(bytes: &mut [u8; ROOM], start: usize, value: u64) -> usize
+    requires inside { start ≤ 160 }
+    requires room { 23 ≤ start }
+    ensures text { drop result bytes.new ≡ in_front (numeral Octal value ∷ []) (drop start bytes.old) }
+    ensures inside { result ≤ start }
+    ensures room { start ≤ result + 23 }
 {
     numeral_law(Radix::Octal);
     let mut digits = LineBuf::new();
     digits.put_number(value, Radix::Octal);
-    text.put(" ");
-    text.put_bytes(digits.as_bytes());
+    let at = put_piece(bytes, start, digits.as_bytes());
+    put_byte(bytes, at, b' ')
 }
 
 /// Puts two numbers.
 #[tactic(auto, using(crate::proofs::WordLaws::two_words))]
-fn put_pair(text: &mut ShortLine, first: u32, second: u32)
-    requires room { length text.old ≤ 150 }
-    ensures text { text.new ≡ with_words text.old (decimal first ∷ decimal second ∷ []) }
-    ensures room { length text.new ≤ length text.old + 46 }
+fn put_pair(bytes: &mut [u8; ROOM], start: usize, first: u32, second: u32) -> usize
+    requires inside { start ≤ 160 }
+    requires room { 46 ≤ start }
+    ensures text { drop result bytes.new ≡ in_front (decimal first ∷ decimal second ∷ []) (drop start bytes.old) }
+    ensures inside { result ≤ start }
+    ensures room { start ≤ result + 46 }
 {
-    put_number(text, u64::from(first));
-    put_number(text, u64::from(second));
+    let at = put_number(bytes, start, u64::from(second));
+    put_number(bytes, at, u64::from(first))
 }
 
 /// Puts two words.
 #[tactic(auto, using(crate::proofs::WordLaws::two_words))]
-fn put_words(text: &mut ShortLine, first: &str, second: &str)
-    requires room { length text.old ≤ 150 }
+fn put_words(bytes: &mut [u8; ROOM], start: usize, first: &str, second: &str) -> usize
+    requires inside { start ≤ 160 }
+    requires room { 46 ≤ start }
     requires first { length first.now ≤ 7 }
     requires second { length second.now ≤ 7 }
-    ensures text { text.new ≡ with_words text.old (first.now ∷ second.now ∷ []) }
-    ensures room { length text.new ≤ length text.old + 16 }
+    ensures text { drop result bytes.new ≡ in_front (first.now ∷ second.now ∷ []) (drop start bytes.old) }
+    ensures inside { result ≤ start }
+    ensures room { start ≤ result + 16 }
 {
-    put_word(text, first);
-    put_word(text, second);
+    let at = put_word(bytes, start, second);
+    put_word(bytes, at, first)
 }
 
 /// Puts a word and a number.
 #[tactic(auto, using(crate::proofs::WordLaws::two_words))]
-fn put_named(text: &mut ShortLine, word: &str, value: u32)
-    requires room { length text.old ≤ 150 }
+fn put_named(bytes: &mut [u8; ROOM], start: usize, word: &str, value: u32) -> usize
+    requires inside { start ≤ 160 }
+    requires room { 46 ≤ start }
     requires short { length word.now ≤ 7 }
-    ensures text { text.new ≡ with_words text.old (word.now ∷ decimal value ∷ []) }
-    ensures room { length text.new ≤ length text.old + 31 }
+    ensures text { drop result bytes.new ≡ in_front (word.now ∷ decimal value ∷ []) (drop start bytes.old) }
+    ensures inside { result ≤ start }
+    ensures room { start ≤ result + 31 }
 {
-    put_word(text, word);
-    put_number(text, u64::from(value));
+    let at = put_number(bytes, start, u64::from(value));
+    put_word(bytes, at, word)
 }
 
 /// Puts a word and two numbers.
 #[tactic(auto, using(crate::proofs::WordLaws::more_words))]
-fn put_named_pair(text: &mut ShortLine, word: &str, first: u32, second: u32)
-    requires room { length text.old ≤ 100 }
+fn put_named_pair(
+    bytes: &mut [u8; ROOM],
+    start: usize,
+    word: &str,
+    first: u32,
+    second: u32,
+) -> usize
+    requires inside { start ≤ 160 }
+    requires room { 80 ≤ start }
     requires short { length word.now ≤ 7 }
-    ensures text { text.new ≡ with_words text.old (word.now ∷ decimal first ∷ decimal second ∷ []) }
-    ensures room { length text.new ≤ length text.old + 54 }
+    ensures text { drop result bytes.new ≡ in_front (word.now ∷ decimal first ∷ decimal second ∷ []) (drop start bytes.old) }
+    ensures inside { result ≤ start }
+    ensures room { start ≤ result + 54 }
 {
-    put_word(text, word);
-    put_pair(text, first, second);
+    let at = put_pair(bytes, start, first, second);
+    put_word(bytes, at, word)
 }
 
 /// Puts a burst: its first place and its pattern.
 #[tactic(auto, using(crate::proofs::WordLaws::two_words, crate::proofs::WordLaws::more_words))]
-fn put_burst(text: &mut ShortLine, at: u16, pattern: u16)
-    requires room { length text.old ≤ 130 }
-    ensures text { text.new ≡ with_words text.old (verdict_words (Moved.Burst at pattern)) }
-    ensures room { length text.new ≤ length text.old + 54 }
+fn put_burst(bytes: &mut [u8; ROOM], start: usize, at: u16, pattern: u16) -> usize
+    requires inside { start ≤ 160 }
+    requires room { 80 ≤ start }
+    ensures text { drop result bytes.new ≡ in_front (verdict_words (Moved.Burst at pattern)) (drop start bytes.old) }
+    ensures inside { result ≤ start }
+    ensures room { start ≤ result + 54 }
 {
-    put_named(text, "burst", u32::from(at));
-    put_pattern(text, u64::from(pattern));
+    let behind = put_pattern(bytes, start, u64::from(pattern));
+    put_named(bytes, behind, "burst", u32::from(at))
 }
 
 /// Puts a verdict.
-fn put_verdict(text: &mut ShortLine, verdict: Moved)
-    requires room { length text.old ≤ 130 }
-    ensures text { text.new ≡ with_words text.old (verdict_words verdict) }
-    ensures room { length text.new ≤ length text.old + 54 }
+fn put_verdict(bytes: &mut [u8; ROOM], start: usize, verdict: Moved) -> usize
+    requires inside { start ≤ 160 }
+    requires room { 80 ≤ start }
+    ensures text { drop result bytes.new ≡ in_front (verdict_words verdict) (drop start bytes.old) }
+    ensures inside { result ≤ start }
+    ensures room { start ≤ result + 54 }
 {
     match verdict {
-        Moved::Clean => put_word(text, "clean"),
-        Moved::Burst { at, pattern } => put_burst(text, at, pattern),
-        Moved::Hard => put_word(text, "ecc"),
-        Moved::Marked => put_word(text, "mark"),
-        Moved::Faulted(kind) => put_word(text, fault_word(kind)),
-        Moved::Offline => put_word(text, "offline"),
+        Moved::Clean => put_word(bytes, start, "clean"),
+        Moved::Burst { at, pattern } => put_burst(bytes, start, at, pattern),
+        Moved::Hard => put_word(bytes, start, "ecc"),
+        Moved::Marked => put_word(bytes, start, "mark"),
+        Moved::Faulted(kind) => put_word(bytes, start, fault_word(kind)),
+        Moved::Offline => put_word(bytes, start, "offline"),
     }
 }
 
 /// Puts a block and a verdict.
 #[tactic(auto, using(crate::proofs::WordLaws::more_words))]
-fn put_sector(text: &mut ShortLine, block: u32, verdict: Moved)
-    requires room { length text.old ≤ 100 }
-    ensures text { text.new ≡ with_words text.old (decimal block ∷ verdict_words verdict) }
-    ensures room { length text.new ≤ length text.old + 77 }
+fn put_sector(bytes: &mut [u8; ROOM], start: usize, block: u32, verdict: Moved) -> usize
+    requires inside { start ≤ 160 }
+    requires room { 80 ≤ start }
+    ensures text { drop result bytes.new ≡ in_front (decimal block ∷ verdict_words verdict) (drop start bytes.old) }
+    ensures inside { result ≤ start }
+    ensures room { start ≤ result + 77 }
 {
-    put_number(text, u64::from(block));
-    put_verdict(text, verdict);
+    let at = put_verdict(bytes, start, verdict);
+    put_number(bytes, at, u64::from(block))
 }
 
 /// Puts nothing.
 #[tactic(auto, using(crate::proofs::WordLaws::no_words))]
-fn put_nothing(text: &mut ShortLine)
-    ensures text { text.new ≡ with_words text.old [] }
-    ensures room { length text.new ≤ length text.old }
+fn put_nothing(bytes: &mut [u8; ROOM], start: usize) -> usize
+    ensures text { drop result bytes.new ≡ in_front [] (drop start bytes.old) }
+    ensures inside { result ≤ start }
+    ensures room { start ≤ result }
 {
-    let _ = text;
+    let _ = bytes;
+    start
 }
 
-/// Puts the words that a line is told with, behind its numbers.
-pub(crate) fn put_last(text: &mut ShortLine, told: &Told)
-    requires room { length text.old ≤ 100 }
-    ensures text { (answer : Answer) → text.new ≡ with_words text.old (last_words (deed_of answer told.now)) }
-    ensures room { length text.new ≤ length text.old + 77 }
+/// Puts the words that a line is told with, which stand behind its numbers.
+pub(crate) fn put_last(bytes: &mut [u8; ROOM], start: usize, told: &Told) -> usize
+    requires inside { start ≤ 160 }
+    requires room { 80 ≤ start }
+    ensures text { (answer : Answer) → drop result bytes.new ≡ in_front (last_words (deed_of answer told.now)) (drop start bytes.old) }
+    ensures inside { result ≤ start }
+    ensures room { start ≤ result + 77 }
 {
     match *told {
-        Told::Search { cylinder, sector } => put_named_pair(text, "search", cylinder, sector),
-        Told::Seek { cylinder } => put_named(text, "seek", cylinder),
-        Told::Recal => put_word(text, "recal"),
-        Told::Offset { code } => put_words(text, "offset", offset_word(code)),
-        Told::Centre => put_word(text, "rtc"),
-        Told::Clear => put_word(text, "dclr"),
-        Told::Pack => put_word(text, "pack"),
+        Told::Search { cylinder, sector } => put_named_pair(
+            bytes, start, "search", cylinder, sector,
+        ),
+        Told::Seek { cylinder } => put_named(bytes, start, "seek", cylinder),
+        Told::Recal => put_word(bytes, start, "recal"),
+        Told::Offset { code } => put_words(bytes, start, "offset", offset_word(code)),
+        Told::Centre => put_word(bytes, start, "rtc"),
+        Told::Clear => put_word(bytes, start, "dclr"),
+        Told::Pack => put_word(bytes, start, "pack"),
         Told::Transfer {
             write,
             block,
             count,
-        } => { put_named_pair(text, transfer_word(write), block, count) }
-        Told::Sector { block, verdict } => put_sector(text, block, verdict),
-        Told::Try { block, failures } => put_pair(text, block, failures),
-        Told::Arrive | Told::Intr | Told::Attn | Told::End => put_nothing(text),
+        } => { put_named_pair(bytes, start, transfer_word(write), block, count) }
+        Told::Sector { block, verdict } => put_sector(bytes, start, block, verdict),
+        Told::Try { block, failures } => put_pair(bytes, start, block, failures),
+        Told::Arrive | Told::Intr | Told::Attn | Told::End => put_nothing(bytes, start),
+    }
+}
+
+/// Puts the first word of a line.
+pub(crate) fn put_first(bytes: &mut [u8; ROOM], start: usize, told: &Told) -> usize
+    requires inside { start ≤ 160 }
+    requires room { 10 ≤ start }
+    ensures inside { result ≤ start }
+    ensures text { (answer : Answer) → drop result bytes.new ≡ first_word (deed_of answer told.now) ++ drop start bytes.old }
+{
+    match told {
+        Told::Arrive => put_piece(bytes, start, b"arrive"),
+        Told::Sector { .. } => put_piece(bytes, start, b"sector"),
+        Told::Intr => put_piece(bytes, start, b"intr"),
+        Told::Try { .. } => put_piece(bytes, start, b"try"),
+        Told::Attn => put_piece(bytes, start, b"attn"),
+        Told::End => put_piece(bytes, start, b"end"),
+        _ => put_piece(bytes, start, b"cmd"),
     }
 }
