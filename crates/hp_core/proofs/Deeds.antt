@@ -18,8 +18,7 @@ use Rattle.mba_adapter.specs.Loaded.{loaded_buffer}
 use Rattle.transfer_engine.specs.declared.job.Job.{Job}
 use Rattle.transfer_engine.specs.declared.job.Segment.{Segment}
 use Rattle.transfer_engine.specs.State.{TransferState, IsJob, segment_by, segment_of}
-use Rattle.transfer_engine.specs.Calls.{entry_for, step_for}
-use Rattle.driver_machine.specs.Due.{task_for}
+use Rattle.transfer_engine.specs.Calls.{entry_for}
 use Rattle.trace_replay.specs.Drives.{search_place}
 use Rattle.driver_machine.specs.declared.RetryStep.{RetryStep}
 use Rattle.driver_machine.specs.declared.RetryStep.TheVariants.{Seek}
@@ -28,7 +27,7 @@ use Rattle.driver_machine.specs.declared.Task.TheVariants.{Clear, Judge, Steps, 
 use Rattle.driver_machine.specs.declared.Phase.{Phase}
 use Rattle.driver_machine.specs.declared.Phase.TheVariants.{Waiting, Queued, Transferring, Due}
 use Rattle.driver_machine.specs.World.{World, Held, unit_at, adapter_at, slot_at, held_in, slot_in_hand, adapter_of, drive_of, transfer_of, job_of}
-use Rattle.driver_machine.specs.Acts.{Deed, Of, Intr, Search, Do, Move, Pack, Dclr, Rtc, Ready, Repair, Forward, Continue, Try, scene_of}
+use Rattle.driver_machine.specs.Acts.{Of, Intr, Search, Do, Move, Pack, Dclr, Rtc, Ready, Repair, Forward, Continue, Try, scene_of}
 use Rattle.driver_machine.specs.Guards.{InHand, IsBusyFor, Allowed}
 use Rattle.driver_machine.specs.Sound.{Sound, Among, Once, IsShown, IsPhase, IsTask, IsEndedAt, IsBurstAt}
 use Rattle.driver_due.specs.DueFacts.{IsDue, IsAtCommand, IsFailure, IsStep}

@@ -12,19 +12,20 @@ ghost use Rattle.hp_core.specs.Done.{Tells};
 use drive_model::NoiseBook;
 use driver_machine::RetryStep;
 use driver_outcome::Stop;
-use hp_units::{Answers, Channel, DiskUnit};
+use hp_units::{Answers, Channel};
 use mass_gather::Gather;
 use mass_outside::traits::Sink;
 use request_slots::Slots;
 use std::marker::Model;
 use trace_lines::{LineText, Told};
 use transfer_engine::Job;
+use unit_bank::UnitBank;
 
 /// 32 units, of which some are set up, four adapters, the slots of requests and the frames that they need, the noise that is armed,
 /// the answers that wait, and the text of the trace that is still kept.
 #[derive(Drop)]
 pub struct Core {
-    pub(crate) units: Vec<DiskUnit>,
+    pub(crate) units: UnitBank,
     pub(crate) channels: Vec<Channel>,
     pub(crate) slots: Slots,
     pub(crate) frames: u32,
@@ -40,7 +41,7 @@ impl Model for Core {
 
     ghost view = { λ d. record {
       world = record {
-        units = d.units.items;
+        units = d.units;
         adapters = d.channels.items;
         slots = d.slots;
         frames = d.frames;
@@ -112,7 +113,7 @@ impl Core {
         requires some { 0 < length (unit_at self.now.world u).queue }
         ensures { result ≡ slot_in_hand (unit_at self.now.world u) }
     {
-        match self.units[usize::from(u)].head() {
+        match self.units.unit(u).head() {
             Some(slot) => slot,
             None => unreachable!(),
         }
@@ -128,7 +129,7 @@ impl Core {
         let slot = self.hand(u);
         let asked = self.slots.asked(slot);
         Job {
-            kind: self.units[usize::from(u)].kind(),
+            kind: self.units.unit(u).kind(),
             first: asked.first,
             count: asked.count,
             write: asked.write,

@@ -37,7 +37,7 @@ impl Core {
           };
         } }
     {
-        self.units[usize::from(u)].arrive();
+        self.units.arrive(u);
         self.channels[usize::from(u / 8)].raise(u % 8);
     }
 
@@ -52,7 +52,7 @@ impl Core {
           };
         } }
     {
-        self.units[usize::from(u)].attend(taken);
+        self.units.attend(u, taken);
         self.channels[usize::from(u / 8)].lower(u % 8);
     }
 
@@ -71,7 +71,7 @@ impl Core {
           };
         } }
     {
-        self.units[usize::from(u)].search(target, sector, job);
+        self.units.search(u, target, sector, job);
     }
 
     /// RECAL, SEEK or OFFSET.
@@ -86,7 +86,7 @@ impl Core {
           };
         } }
     {
-        self.units[usize::from(u)].step(step, taken);
+        self.units.step(u, step, taken);
     }
 
     /// PACK.
@@ -100,7 +100,7 @@ impl Core {
           };
         } }
     {
-        self.units[usize::from(u)].pack();
+        self.units.pack(u);
     }
 
     /// DCLR.
@@ -113,7 +113,7 @@ impl Core {
           };
         } }
     {
-        self.units[usize::from(u)].clear(moved, verdict);
+        self.units.clear(u, moved, verdict);
     }
 
     /// RTC.
@@ -126,7 +126,7 @@ impl Core {
           };
         } }
     {
-        self.units[usize::from(u)].centre();
+        self.units.centre(u);
     }
 
     /// The unit is ready with a new transfer.
@@ -142,7 +142,7 @@ impl Core {
           };
         } }
     {
-        self.units[usize::from(u)].begin(job);
+        self.units.begin(u, job);
         self.channels[usize::from(u / 8)].wait(u);
     }
 
@@ -159,7 +159,7 @@ impl Core {
           };
         } }
     {
-        self.units[usize::from(u)].ready();
+        self.units.ready(u);
         self.channels[usize::from(u / 8)].wait(u);
     }
 
@@ -176,7 +176,7 @@ impl Core {
           };
         } }
     {
-        self.units[usize::from(u)].go_on(moved);
+        self.units.go_on(u, moved);
     }
 
     /// A try failed.
@@ -193,7 +193,7 @@ impl Core {
           };
         } }
     {
-        self.units[usize::from(u)].retry(moved)
+        self.units.retry(u, moved)
     }
 
     /// The replacement of a sector comes next.
@@ -209,10 +209,7 @@ impl Core {
           };
         } }
     {
-        match self.units[usize::from(u)].forward(moved) {
-            Some(_) => {}
-            None => unreachable!(),
-        }
+        self.units.forward(u, moved, index);
     }
 
     /// The data interrupt is taken: the registers show why the transfer ended.
@@ -236,9 +233,8 @@ impl Core {
         let slot = self.hand(u);
         let channel = &mut self.channels[usize::from(u / 8)];
         let ended = self.slots.complete(slot, &mut channel.adapter);
-        let unit = &mut self.units[usize::from(u)];
-        let cause = unit.cause(shows_late(ended.last));
-        unit.interrupt(ended.moved, cause);
+        let cause = self.units.unit(u).cause(shows_late(ended.last));
+        self.units.interrupt(u, ended.moved, cause);
     }
 
     /// RCOM or WCOM, and the adapter's start.
@@ -272,7 +268,7 @@ impl Core {
         channel
             .adapter
             .start(u % 8, segment.block, segment.count, write);
-        self.units[usize::from(u)].transfer(write, segment.block);
+        self.units.transfer(u, write, segment.block);
     }
 
     /// The block behind so many sectors of the segment is repaired.
@@ -295,8 +291,8 @@ impl Core {
         } }
     {
         let slot = self.hand(u);
-        let block = self.units[usize::from(u)].done() + moved;
+        let block = self.units.unit(u).done() + moved;
         self.slots.repair(slot, block, at, pattern);
-        self.units[usize::from(u)].judge_again(moved + 1);
+        self.units.judge_again(u, moved + 1);
     }
 }

@@ -17,7 +17,7 @@ impl Core {
         requires sector { sector < sectors_of (unit_at self.old.world u).drive.kind }
         ensures { self.new ≡ record self.old { world = record self.old.world { units = slice_set self.old.world.units u (with_drive (turned sector) (unit_at self.old.world u)) } } }
     {
-        self.units[usize::from(u)].turn(sector);
+        self.units.turn(u, sector);
     }
 
     /// A fault is armed.
@@ -28,7 +28,7 @@ impl Core {
         requires room { times_armed kind (unit_at self.old.world u).drive.armed + times < 2 ^ 63 }
         ensures { self.new ≡ record self.old { world = record self.old.world { units = slice_set self.old.world.units u (with_drive (fault_armed kind times) (unit_at self.old.world u)) } } }
     {
-        self.units[usize::from(u)].arm(kind, times);
+        self.units.arm(u, kind, times);
     }
 
     /// A drive goes online, or offline.
@@ -36,7 +36,7 @@ impl Core {
         requires unit { u < length self.old.world.units }
         ensures { self.new ≡ record self.old { world = record self.old.world { units = slice_set self.old.world.units u (with_drive (online_set on) (unit_at self.old.world u)) } } }
     {
-        self.units[usize::from(u)].set_online(on);
+        self.units.set_online(u, on);
     }
 
     /// A drive is locked, or unlocked.
@@ -44,7 +44,7 @@ impl Core {
         requires unit { u < length self.old.world.units }
         ensures { self.new ≡ record self.old { world = record self.old.world { units = slice_set self.old.world.units u (with_drive (locked_set on) (unit_at self.old.world u)) } } }
     {
-        self.units[usize::from(u)].set_locked(on);
+        self.units.set_locked(u, on);
     }
 
     /// Noise is armed.

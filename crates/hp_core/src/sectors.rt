@@ -68,14 +68,13 @@ impl Core {
         ensures cause { HasCause (P.faults packs.old) (P.faults packs.new) result }
     {
         let slot = self.hand(u);
-        let unit = &mut self.units[usize::from(u)];
         let channel = &mut self.channels[usize::from(u / 8)];
-        self.slots.step(
+        self.units.move_sector(
+            u,
+            &mut self.slots,
             slot,
             &mut channel.adapter,
-            &mut unit.drive,
             packs,
-            u,
             &mut self.book,
         )
     }

@@ -13,6 +13,7 @@ use mass_outside::traits::NoMemory;
 use pack_geometry::DriveKind;
 use request_slots::Slots;
 use std::alloc::Global;
+use unit_bank::UnitBank;
 
 /// A unit that is set up: its number, from 0 to 31, the kind of its drive, and the table of its pack, where the pack has one.
 /// Unit `u` is drive `u % 8` of adapter `u / 8`.
@@ -41,30 +42,15 @@ fn unit_for(alloc: Global, setup: &UnitSetup) -> Result<DiskUnit, NoMemory>
     DiskUnit::set_up(alloc, setup.unit, setup.kind, table)
 }
 
-/// 32 units, of which none is set up.
-fn blank_units(alloc: Global) -> Result<Vec<DiskUnit>, NoMemory>
-    ensures { IfOk result (λ v. v.items ≡ replicate 32 no_unit) }
-{
-    let mut units = match Vec::with_capacity(alloc, 32) {
-        Ok(units) => units,
-        Err(_) => return Err(NoMemory),
-    };
-    for _ in 0..32u32 {
-        let unit = DiskUnit::blank(alloc)?;
-        units.push_reserved(unit);
-    }
-    Ok(units)
-}
-
 /// 32 units, of which these are set up.
-fn units_of(alloc: Global, setups: &[UnitSetup]) -> Result<Vec<DiskUnit>, NoMemory>
+fn units_of(alloc: Global, setups: &[UnitSetup]) -> Result<UnitBank, NoMemory>
     requires small { (s : Setup) → Contains (setups_of setups.now) s → s.unit < 32 }
-    ensures { IfOk result (λ v. v.items ≡ set_up (setups_of setups.now) (replicate 32 no_unit)) }
+    ensures { IfOk result (λ v. v ≡ set_up (setups_of setups.now) (replicate 32 no_unit)) }
 {
-    let mut units = blank_units(alloc)?;
+    let mut units = UnitBank::new(alloc)?;
     for setup in setups {
         let unit = unit_for(alloc, setup)?;
-        units[usize::from(setup.unit)] = unit;
+        units.put(setup.unit, unit);
     }
     Ok(units)
 }

@@ -26,7 +26,7 @@ impl Core {
         requires below { first < block_count (unit_at self.old.world u).drive.kind }
         ensures { self.new ≡ record self.old { world = record self.old.world { units = slice_set self.old.world.units u (joined slot (record no_held { first = first }) (unit_at self.old.world u)) } } }
     {
-        self.units[usize::from(u)].join(slot, first);
+        self.units.join(u, slot, first);
     }
 
     /// A request stands in its slot, with the frames that it needs.

@@ -8,6 +8,7 @@ ghost use Rattle.transfer_engine.specs.State.{segment_of};
 ghost use Rattle.transfer_engine.specs.Calls.{entry_for};
 ghost use Rattle.seek_engine.specs.Seek.{position_for};
 ghost use Rattle.driver_machine.specs.World.{unit_at, adapter_at, slot_at, held_in, unit_of, block_in, slot_in_hand, transfer_of};
+ghost use Rattle.driver_machine.specs.Events.{can_arrive, lowest};
 ghost use Rattle.driver_machine.specs.Sound.{Sound};
 ghost use Rattle.request_slots.specs.Requests.{asked_of};
 ghost use Rattle.driver_machine.specs.Due.{steps_of};
@@ -27,7 +28,7 @@ impl Core {
         requires { Sound self.now.world }
         ensures { result ≡ length self.now.world.units }
     {
-        self.units.len() as u32
+        self.units.count()
     }
 
     /// Whether a unit is set up.
@@ -35,7 +36,7 @@ impl Core {
         requires { u < length self.now.world.units }
         ensures { result ≡ (unit_at self.now.world u).declared }
     {
-        self.units[usize::from(u)].is_declared()
+        self.units.unit(u).is_declared()
     }
 
     /// The kind of a unit's drive.
@@ -43,7 +44,7 @@ impl Core {
         requires { u < length self.now.world.units }
         ensures { result ≡ (unit_at self.now.world u).drive.kind }
     {
-        self.units[usize::from(u)].kind()
+        self.units.unit(u).kind()
     }
 
     /// How many requests wait at a unit, with the one in hand.
@@ -51,7 +52,7 @@ impl Core {
         requires { u < length self.now.world.units }
         ensures { result ≡ length (unit_at self.now.world u).queue }
     {
-        self.units[usize::from(u)].queue_len()
+        self.units.unit(u).queue_len()
     }
 
     /// How a drive that is at a place of its own has to position.
@@ -62,7 +63,7 @@ impl Core {
         requires target { IsInside (unit_at self.now.world u).drive.kind target }
         ensures { result ≡ position_for (unit_at self.now.world u).drive.kind (unit_at self.now.world u).drive.cc ((unit_at self.now.world u).drive.la / 64) target true }
     {
-        self.units[usize::from(u)].position(target)
+        self.units.unit(u).position(target)
     }
 
     /// How a unit has to position for a first try at a place of its drive.
@@ -82,7 +83,7 @@ impl Core {
         ensures some { IfSome result (λ p. 0 < length (unit_at self.now.world u).queue) }
         ensures none { IfNone result ((unit_at self.now.world u).queue ≡ []) }
     {
-        self.units[usize::from(u)].head()
+        self.units.unit(u).head()
     }
 
     /// Where a unit is with the head of its queue.
@@ -90,7 +91,7 @@ impl Core {
         requires { u < length self.now.world.units }
         ensures { result ≡ (unit_at self.now.world u).phase }
     {
-        self.units[usize::from(u)].phase()
+        self.units.unit(u).phase()
     }
 
     /// Whether a unit's drive positions.
@@ -98,7 +99,14 @@ impl Core {
         requires { u < length self.now.world.units }
         ensures { result ≡ is_positioning (unit_at self.now.world u).drive.work }
     {
-        self.units[usize::from(u)].is_positioning()
+        self.units.unit(u).is_positioning()
+    }
+
+    /// The lowest unit whose drive positions, found at once. None where none does.
+    pub fn positioning(&self) -> Option<u8>
+        ensures { result ≡ lowest can_arrive self.now.world.units 0 }
+    {
+        self.units.positioning()
     }
 
     /// Whether a unit's attention is up.
@@ -106,7 +114,7 @@ impl Core {
         requires { u < length self.now.world.units }
         ensures { result ≡ (unit_at self.now.world u).drive.attention }
     {
-        self.units[usize::from(u)].is_raised()
+        self.units.unit(u).is_raised()
     }
 
     /// What the drive status says before a command, which is a write's transfer command or not.
@@ -115,7 +123,7 @@ impl Core {
         ensures { result ≡ (if not (unit_at self.now.world u).drive.online then Sensed.Offline
             else if writes && (unit_at self.now.world u).drive.locked then Sensed.Locked else Sensed.Go) }
     {
-        self.units[usize::from(u)].sensed(writes)
+        self.units.unit(u).sensed(writes)
     }
 
     /// Whether the pack has to be acknowledged before the next command.
@@ -123,7 +131,7 @@ impl Core {
         requires { u < length self.now.world.units }
         ensures { result ≡ not (unit_at self.now.world u).drive.valid }
     {
-        self.units[usize::from(u)].needs_pack()
+        self.units.unit(u).needs_pack()
     }
 
     /// Whether no offset is set.
@@ -131,7 +139,7 @@ impl Core {
         requires { u < length self.now.world.units }
         ensures { result ≡ (offset_field (unit_at self.now.world u).drive.offset == 0) }
     {
-        self.units[usize::from(u)].is_centred()
+        self.units.unit(u).is_centred()
     }
 
     /// What the next transfer command moves.
@@ -139,7 +147,7 @@ impl Core {
         requires { u < length self.now.world.units }
         ensures { result ≡ segment_of (transfer_of (unit_at self.now.world u)) }
     {
-        self.units[usize::from(u)].segment()
+        self.units.unit(u).segment()
     }
 
     /// How many first blocks of the request in hand are done.
@@ -147,7 +155,7 @@ impl Core {
         requires { u < length self.now.world.units }
         ensures { result ≡ (transfer_of (unit_at self.now.world u)).done }
     {
-        self.units[usize::from(u)].done()
+        self.units.unit(u).done()
     }
 
     /// The next step of a retry, behind so many that are taken. None where all are.
@@ -158,7 +166,7 @@ impl Core {
         ensures some { IfSome result (λ step. drop taken (steps_of (transfer_of (unit_at self.now.world u))) ≡ step ∷ drop (taken + 1) (steps_of (transfer_of (unit_at self.now.world u)))) }
         ensures none { IfNone result (drop taken (steps_of (transfer_of (unit_at self.now.world u))) ≡ []) }
     {
-        self.units[usize::from(u)].next_step(taken, write)
+        self.units.unit(u).next_step(taken, write)
     }
 
     /// The entry whose replacement takes the place of the sector behind so many others. None where none does.
@@ -169,7 +177,7 @@ impl Core {
         requires moved { moved < (segment_of (transfer_of (unit_at self.now.world u))).count }
         ensures { result ≡ entry_for moved (unit_at self.now.world u).table (transfer_of (unit_at self.now.world u)) }
     {
-        self.units[usize::from(u)].entry(moved)
+        self.units.unit(u).entry(moved)
     }
 }
 

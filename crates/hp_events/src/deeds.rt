@@ -34,6 +34,16 @@ fn asked_in_hand(core: &Core, u: u8) -> Option<Asked>
     }
 }
 
+/// Whether something is due at a unit that is here with the head of its queue, where it has one.
+fn is_due(phase: Phase) -> bool
+    ensures { result ≡ is_due phase }
+{
+    match phase {
+        Phase::Waiting | Phase::Due { .. } => true,
+        Phase::Positioning { .. } | Phase::Queued | Phase::Transferring => false,
+    }
+}
+
 /// Does the task that is due.
 fn work<T: Sink>(
     core: &mut Core,
@@ -76,10 +86,14 @@ pub fn next_deed<T: Sink>(core: &mut Core, line: u64, u: u8, trace: &mut T) -> R
     ensures sound { IfOk result (λ more. Sound core.new.world) }
     ensures free { IfOk result (λ more. IsFree core.new.world u) }
 {
+    let phase = core.phase(u);
+    if !is_due(phase) {
+        return Ok(false);
+    }
     let Some(asked) = asked_in_hand(core, u) else {
         return Ok(false);
     };
-    match core.phase(u) {
+    match phase {
         Phase::Waiting => match start(core, line, u, asked, trace) {
             Ok(()) => Ok(true),
             Err(stop) => Err(stop),

@@ -56,19 +56,6 @@ pub enum Event {
     },
 }
 
-/// The lowest unit whose drive positions.
-fn next_arrival(core: &Core) -> Option<u8>
-    requires { Sound core.now.world }
-    ensures { result ≡ lowest events.can_arrive core.now.world.units 0 }
-{
-    for u in 0..32u8 {
-        if core.is_positioning(u) {
-            return Some(u);
-        }
-    }
-    None
-}
-
 /// The lowest adapter that can move a sector.
 fn next_move(core: &Core) -> Option<u8>
     requires { Sound core.now.world }
@@ -101,7 +88,7 @@ pub fn next_event(core: &Core) -> Option<Event>
     requires { Sound core.now.world }
     ensures { option_map input_of result ≡ events.next_event core.now.world }
 {
-    if let Some(unit) = next_arrival(core) {
+    if let Some(unit) = core.positioning() {
         return Some(Event::Arrive { unit });
     }
     if let Some(adapter) = next_move(core) {

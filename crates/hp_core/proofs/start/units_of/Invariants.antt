@@ -5,6 +5,6 @@ use Rattle.hp_core.proofs.start.units_of.Given as goal
 
 abbrev pub invariant-loop-setup : goal.invariant-loop-setup
 invariant-loop-setup l = record {
-  all : set_up (setups_of (drop l.setup-index l.setups)) l.units.items ≡ set_up (setups_of l.setups) (replicate 32 no_unit);
-  size : length l.units.items ≡ 32;
+  all : set_up (setups_of (drop l.setup-index l.setups)) l.units ≡ set_up (setups_of l.setups) (replicate 32 no_unit);
+  size : length l.units ≡ 32;
 }

@@ -1,14 +1,11 @@
-use Rattle.std.proofs.Common.{◌≡◌, ℕ, ◌+◌, List, [], ◌∷◌, refl, sym, ap, ◌∙◌, subst}
+use Rattle.std.proofs.Common.{◌≡◌, ℕ, List, [], ◌∷◌, refl, sym, ap, ◌∙◌, subst}
 use Rattle.std.specs.Prelude.{slice_set}
-use Rattle.transfer_engine.specs.State.{segment_of, failures_after}
-use Rattle.transfer_engine.specs.Calls.{step_for}
 use Rattle.subsystem_spec.specs.Requests.{WriteOk}
 use Rattle.trace_replay.specs.Moments.{Moment, Told}
 use Rattle.trace_replay.specs.Moments as moment
 use Rattle.driver_machine.specs.declared.Task.{Task}
 use Rattle.driver_machine.specs.World.{unit_at, transfer_of}
 use Rattle.driver_machine.specs.Acts.{with_transfer, transfer_tried}
-use Rattle.driver_machine.specs.Due.{task_for}
 use Rattle.hp_core.proofs.Telling.{told_act}
 use Rattle.hp_core.proofs.Scenes.{by_unit}
 use Rattle.hp_core.proofs.Deeds.{there, fails}

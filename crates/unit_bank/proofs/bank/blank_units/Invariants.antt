@@ -1,7 +1,7 @@
 use Rattle.std.proofs.Common.{◌≡◌, ◌≤◌, replicate}
 use Rattle.std.specs.Vec.{vec_len, vec_capacity}
 use Rattle.driver_machine.specs.World.{no_unit}
-use Rattle.hp_core.proofs.start.blank_units.Given as goal
+use Rattle.unit_bank.proofs.bank.blank_units.Given as goal
 
 abbrev pub invariant-loop : goal.invariant-loop
 invariant-loop l = record {
