@@ -24,6 +24,10 @@ pieces_none b (c ∷ cs) none =
 rest_is : (xs : List ℕ) (i : ℕ) → drop (suc i) xs ≡ take (length xs - (i + 1)) (drop (i + 1) xs)
 rest_is xs i = grind (arith, common_steps)
 
+-- no LF stands before a place
+abbrev pub NoneBefore : ℕ → List ℕ → Type 0
+NoneBefore at xs = (k : ℕ) → k < at → get_or xs k 0 ≢ 10
+
 -- at a slice's end, as `&bytes[i + 1..]` is written
 pub pieces_at : (xs : List ℕ) (i : ℕ) → i < length xs → get_or xs i 0 ≡ 10 → ((k : ℕ) → k < i → get_or xs k 0 ≢ 10) → pieces_of xs ≡ take i xs ∷ pieces_of (take (length xs - (i + 1)) (drop (i + 1) xs))
 pieces_at xs i l e before = pieces_first xs i l e before ∙ ap (λ ys. take i xs ∷ pieces_of ys) (rest_is xs i)

@@ -7,7 +7,29 @@ fn find_feed(bytes: &[u8]) -> Option<usize>
     ensures before { IfSome result (λ i. (k : ℕ) → k < i → slice_index bytes.now k ≢ 10) }
     ensures none { IfNone result ((k : ℕ) → k < length bytes.now → slice_index bytes.now k ≢ 10) }
 {
-    bytes.iter().position(|byte| *byte == b'\n')
+    let mut at = 0;
+    'fours: while bytes.len() - at >= 4 {
+        if bytes[at] == b'\n' {
+            return Some(at);
+        }
+        if bytes[at + 1] == b'\n' {
+            return Some(at + 1);
+        }
+        if bytes[at + 2] == b'\n' {
+            return Some(at + 2);
+        }
+        if bytes[at + 3] == b'\n' {
+            return Some(at + 3);
+        }
+        at += 4;
+    }
+    'last: while at < bytes.len() {
+        if bytes[at] == b'\n' {
+            return Some(at);
+        }
+        at += 1;
+    }
+    None
 }
 
 /// The first piece of a text that is not empty, and what comes after it.
