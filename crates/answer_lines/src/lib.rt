@@ -4,11 +4,13 @@
 
 ghost use Rattle.answer_lines.specs.Laws.{TextsJoin, SilentSayNothing, BytesAreCut, OneWayToCut, BlocksAreSaid, BlocksFollow, ClassIsSaid};
 
+mod blocks;
 mod lines;
 mod outcome;
 mod words;
 
-pub use lines::{answer_line, block_line, fill_line, is_fill, noise_line};
+pub use blocks::BlockLine;
+pub use lines::{answer_line, noise_line};
 pub use outcome::{Cause, Outcome};
 
 /// The text of moments in a row is that of each in a row, and of a moment that makes no answer and arms no noise it is empty.

@@ -69,12 +69,11 @@ fn lines(rt: HostRuntime) {
             "{wanted}"
         );
     }
+    let mut line = BlockLine::new();
     for (k, bytes, wanted) in &BLOCKS {
         if !bytes.is_empty() && bytes.len() <= 512 {
-            assert!(rt;
-                block_line(*k, bytes).as_bytes() == wanted.as_bytes(),
-                "{wanted}"
-            );
+            line.write(*k, bytes);
+            assert!(rt; line.as_bytes() == wanted.as_bytes(), "{wanted}");
         }
     }
     let long = answer_line(u64::MAX, u32::MAX, Outcome::Eof);

@@ -13,7 +13,7 @@ ghost use Rattle.event_player.specs.Answering.{first_blocks, first_told, first_t
 ghost use Rattle.event_player.specs.Steps.{all_taken, waiting_text};
 
 use crate::desk::Desk;
-use answer_lines::{Outcome, answer_line, block_line, fill_line, is_fill};
+use answer_lines::{Outcome, answer_line};
 use driver_answers::taken_law;
 use hp_driver::{Answer, AnswerKind, Cause, Subsystem};
 use mass_outside::traits::{Sink, SinkFailed};
@@ -72,7 +72,7 @@ fn front(bytes: &[u8; 512], size: u32) -> &[u8]
     &bytes.as_slice()[..size as usize]
 }
 
-/// Gathers the line of block `k`, which has these bytes. Where they are one byte repeated, it is a short one.
+/// Gathers the line of block `k`, which has these bytes.
 fn put_block<O: Sink>(k: u32, bytes: &[u8], desk: &mut Desk, out: &mut O) -> Result<(), SinkFailed>
     requires some { 1 ≤ length bytes.now }
     requires few { length bytes.now ≤ 512 }
@@ -80,13 +80,8 @@ fn put_block<O: Sink>(k: u32, bytes: &[u8], desk: &mut Desk, out: &mut O) -> Res
     ensures counts { Counts [] (block_text k bytes.now) desk.old.tally desk.new.tally }
     ensures requests { desk.new.tally.requests ≡ desk.old.tally.requests }
 {
-    if is_fill(bytes) {
-        let fill = fill_line(k, bytes[0]);
-        desk.put(fill.as_bytes(), out)
-    } else {
-        let line = block_line(k, bytes);
-        desk.put(line.as_bytes(), out)
-    }
+    desk.line.write(k, bytes);
+    desk.put_line(out)
 }
 
 /// Gathers the line of block `k`, of so many bytes, of the read that the oldest answer is of.

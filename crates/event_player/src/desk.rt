@@ -3,16 +3,18 @@ ghost use Rattle.std.specs.Prelude.{◌≡◌, [], IfOk};
 ghost use Rattle.mass_gather.specs.Gathers.{Gathers};
 ghost use Rattle.answer_tally.specs.Counting.{Counts, tally_by};
 
+use answer_lines::BlockLine;
 use answer_tally::Tally;
 use mass_gather::Gather;
 use mass_outside::traits::{NoMemory, Sink, SinkFailed};
 use std::alloc::Global;
 
-/// Text that is gathered for a sink, and the tally of the run so far.
+/// Text that is gathered for a sink, the tally of the run so far, and the line of a block that is to be gathered.
 #[derive(Drop)]
 pub struct Desk {
     pub gather: Gather,
     pub tally: Tally,
+    pub line: BlockLine,
 }
 
 impl Desk {
@@ -23,7 +25,12 @@ impl Desk {
     {
         let gather = Gather::new(alloc)?;
         let tally = Tally::new(requests);
-        Ok(Desk { gather, tally })
+        let line = BlockLine::new();
+        Ok(Desk {
+            gather,
+            tally,
+            line,
+        })
     }
 
     /// Counts a text, and gathers it.
@@ -34,5 +41,15 @@ impl Desk {
     {
         self.tally.count_text(text);
         self.gather.put(text, out)
+    }
+
+    /// Counts the line of a block, and gathers it.
+    pub fn put_line<O: Sink>(&mut self, out: &mut O) -> Result<(), SinkFailed>
+        ensures gathers { Gathers O.tells O.taken O.faults out.old out.new self.old.gather self.new.gather result self.old.line }
+        ensures counts { Counts [] self.old.line self.old.tally self.new.tally }
+        ensures requests { self.new.tally.requests ≡ self.old.tally.requests }
+    {
+        self.tally.count_text(self.line.as_bytes());
+        self.gather.put(self.line.as_bytes(), out)
     }
 }
