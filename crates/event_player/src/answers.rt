@@ -72,15 +72,15 @@ fn front(bytes: &[u8; 512], size: u32) -> &[u8]
     &bytes.as_slice()[..size as usize]
 }
 
-/// Gathers the line of block `k`, which has these bytes.
-fn put_block<O: Sink>(k: u32, bytes: &[u8], desk: &mut Desk, out: &mut O) -> Result<(), SinkFailed>
-    requires some { 1 ≤ length bytes.now }
-    requires few { length bytes.now ≤ 512 }
-    ensures gathers { Gathers O.tells O.taken O.faults out.old out.new desk.old.gather desk.new.gather result (block_text k bytes.now) }
-    ensures counts { Counts [] (block_text k bytes.now) desk.old.tally desk.new.tally }
+/// Gathers the line of block `k`, which has the first bytes of the block at the desk.
+fn put_block<O: Sink>(k: u32, size: u32, desk: &mut Desk, out: &mut O) -> Result<(), SinkFailed>
+    requires some { 1 ≤ size }
+    requires few { size ≤ 512 }
+    ensures gathers { Gathers O.tells O.taken O.faults out.old out.new desk.old.gather desk.new.gather result (block_text k (take size desk.old.block)) }
+    ensures counts { Counts [] (block_text k (take size desk.old.block)) desk.old.tally desk.new.tally }
     ensures requests { desk.new.tally.requests ≡ desk.old.tally.requests }
 {
-    desk.line.write(k, bytes);
+    desk.line.write(k, front(&desk.block, size));
     desk.put_line(out)
 }
 
@@ -98,9 +98,8 @@ fn gather_block<O: Sink>(
     ensures counts { Counts [] (block_text k (slice_index_or (first_blocks subsystem.now.world subsystem.now.world.answers) k [])) desk.old.tally desk.new.tally }
     ensures requests { desk.new.tally.requests ≡ desk.old.tally.requests }
 {
-    let mut bytes = [0u8; 512];
-    subsystem.answer_block(k, &mut bytes);
-    put_block(k, front(&bytes, size), desk, out)
+    subsystem.answer_block(k, &mut desk.block);
+    put_block(k, size, desk, out)
 }
 
 /// Gathers the lines of the blocks of the read that the oldest answer is of: `count` of them, the last one with `last` bytes.

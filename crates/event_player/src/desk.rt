@@ -9,11 +9,12 @@ use mass_gather::Gather;
 use mass_outside::traits::{NoMemory, Sink, SinkFailed};
 use std::alloc::Global;
 
-/// Text that is gathered for a sink, the tally of the run so far, and the line of a block that is to be gathered.
+/// Text that is gathered for a sink, the tally of the run so far, and room for a block and its line.
 #[derive(Drop)]
 pub struct Desk {
     pub gather: Gather,
     pub tally: Tally,
+    pub block: [u8; 512],
     pub line: BlockLine,
 }
 
@@ -29,6 +30,7 @@ impl Desk {
         Ok(Desk {
             gather,
             tally,
+            block: [0; 512],
             line,
         })
     }

@@ -11,7 +11,7 @@ use std::marker::Model;
 /// How many bytes of an image are read ahead at first, and at most.
 const FIRST_SIZE: usize = 4096;
 
-const LAST_SIZE: usize = 65536;
+const LAST_SIZE: usize = 16384;
 
 /// How many marks are read ahead.
 const MARKS: u32 = 4096;

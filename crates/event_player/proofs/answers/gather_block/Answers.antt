@@ -1,4 +1,4 @@
-use Rattle.std.proofs.Common.{ℕ, List, [], refl, ap, ◌∙◌, slice_index_or}
+use Rattle.std.proofs.Common.{ℕ, List, [], refl, ap, take, slice_index_or}
 use Rattle.answer_lines.specs.AnswerText.{block_text}
 use Rattle.answer_tally.proofs.CountLaws.{counts_same}
 use Rattle.event_player.specs.Answering.{first_blocks}
@@ -11,12 +11,12 @@ returns-clause-gathers g c =
     let block = c.requires.block in
     let given = block_given block c.answer_block.new.into (c.answer_block.ensures block.reads.made block.slot block.reads.oldest block.slot_is) in
     gathers_same (block_text c.args.k (slice_index_or (first_blocks w w.answers) c.args.k [])) c.put_block.ensures.gathers
-    (ap (λ (bytes : List ℕ). block_text c.args.k bytes) (c.front.ensures ∙ given))
+    (ap (λ (bytes : List ℕ). block_text c.args.k bytes) given)
 
 pub returns-clause-counts : goal.returns-clause-counts
 returns-clause-counts g c =
     let w = c.args.subsystem.now.world in
     let block = c.requires.block in
     let given = block_given block c.answer_block.new.into (c.answer_block.ensures block.reads.made block.slot block.reads.oldest block.slot_is) in
-    counts_same c.args.desk.now.tally c.put_block.new.desk.tally [] [] (block_text c.args.k c.front.result.now) (block_text c.args.k (slice_index_or (first_blocks w w.answers) c.args.k [])) c.put_block.ensures.counts refl
-    (ap (λ (bytes : List ℕ). block_text c.args.k bytes) (c.front.ensures ∙ given))
+    counts_same c.args.desk.now.tally c.put_block.new.desk.tally [] [] (block_text c.args.k (take c.args.size c.answer_block.new.into)) (block_text c.args.k (slice_index_or (first_blocks w w.answers) c.args.k [])) c.put_block.ensures.counts refl
+    (ap (λ (bytes : List ℕ). block_text c.args.k bytes) given)
