@@ -1,13 +1,14 @@
 -- Laws of the bytes that go into a buffer block by block.
-use Rattle.std.proofs.Common.{◌≡◌, ℕ, zero, suc, ◌+◌, ◌-◌, ◌*◌, ◌<◌, min, nat_lt, Bool, true, false, List, [], ◌∷◌, ◌++◌, take, drop, length, set, replicate, refl, sym, ap, ◌∙◌, subst, arith}
+use Rattle.std.proofs.Common.{◌≡◌, ℕ, zero, suc, ◌+◌, ◌-◌, ◌*◌, ◌<◌, min, nat_lt, Bool, true, false, List, [], ◌∷◌, ◌++◌, take, drop, length, replicate, refl, sym, ap, ◌∙◌, subst, arith}
 use Rattle.std.proofs.lemmas.Bool.{ltb-true, ltb-false}
 use Rattle.std.proofs.lemmas.List.{drop-drop, drop-replicate, length-take, length-drop, take_more_set, take_all}
 use Rattle.main_memory.specs.Bytes.{front, filled}
 use Rattle.main_memory.proofs.ByteLaws.{front-filled}
 use Rattle.main_memory.specs.Blocks.{Loan, IsLoan, size_at, size_of}
-use Rattle.main_memory.specs.Memory.{Memory, IsMemory, IsLent, AreApart, with_block, blocks_of}
+use Rattle.main_memory.specs.Memory.{Memory, IsMemory, IsLent, AreApart, blocks_of}
 use Rattle.main_memory.proofs.BlockLaws.{length-blocks_from, by_size}
 use Rattle.driver_machine.specs.World.{pieces}
+use Rattle.request_slots.specs.Lending.{Stores}
 
 pub pieces-more : (n : ℕ) (bytes : List ℕ) → pieces (suc n) bytes ≡ pieces n bytes ++ take 512 (drop (512 * n) bytes) ∷ []
 pieces-more zero bytes =
@@ -57,6 +58,15 @@ pub front-piece : (loan : Loan) (k : ℕ) (bytes : List ℕ) → k < loan.count 
     → front (size_at loan k) (filled 512 (take 512 (drop (512 * k) bytes))) ≡ take 512 (drop (512 * k) bytes)
 front-piece loan k bytes inside is whole = front-filled 512 (size_at loan k) (take 512 (drop (512 * k) bytes)) (length-piece loan k bytes inside is whole)
 
+-- of a whole block that is in front of what is left the block takes the piece too
+pub front-whole : (loan : Loan) (k : ℕ) (bytes block : List ℕ) → k < loan.count → IsLoan loan → length bytes ≡ size_of loan
+    → block ≡ take 512 (take (length bytes - 512 * k) (drop (512 * k) bytes)) → front (size_at loan k) block ≡ take 512 (drop (512 * k) bytes)
+unfolding front
+front-whole loan k bytes block inside is whole same =
+    let all : take (length bytes - 512 * k) (drop (512 * k) bytes) ≡ drop (512 * k) bytes = take_all (length bytes - 512 * k) (drop (512 * k) bytes) (omega (arith, length-drop (512 * k) bytes)) in
+    ap (take (size_at loan k)) (same ∙ ap (take 512) all)
+    ∙ take_all (size_at loan k) (take 512 (drop (512 * k) bytes)) (omega (arith, length-piece loan k bytes inside is whole))
+
 -- The memory where the first k blocks of a buffer hold their bytes, and all else is as it was.
 pub record IsFilled (old new : Memory) (loan : Loan) (bytes : List ℕ) (k : ℕ) : Type 0 where
   pub front : take k (blocks_of loan new) ≡ pieces k bytes
@@ -73,14 +83,6 @@ filled_none memory loan bytes sound = record {
   free = refl;
   sound = sound;
 }
-
--- What a store of block k does.
-pub record Stores (old new : Memory) (loan : Loan) (k : ℕ) (block : List ℕ) : Type 0 where
-  pub memory : new ≡ with_block loan k block old
-  pub held : blocks_of loan new ≡ set (blocks_of loan old) k block
-  pub others : (other : Loan) → IsLoan other → IsLent old other → AreApart loan other → blocks_of other new ≡ blocks_of other old
-  pub lent : (other : Loan) → IsLent old other → IsLent new other
-  pub sound : IsMemory new
 
 pub filled_more : {old memory new : Memory} {loan : Loan} (bytes : List ℕ) {k : ℕ} {block : List ℕ} → IsFilled old memory loan bytes k → Stores memory new loan k block → k < loan.count
     → block ≡ take 512 (drop (512 * k) bytes) → IsFilled old new loan bytes (k + 1)

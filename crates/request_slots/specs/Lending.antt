@@ -1,7 +1,7 @@
 -- A memory that lent a buffer for a request.
-use Rattle.std.specs.Prelude.{◌≡◌, ◌+◌, length}
+use Rattle.std.specs.Prelude.{◌≡◌, ℕ, ◌+◌, List, length, slice_set}
 use Rattle.main_memory.specs.Blocks.{Loan, IsLoan}
-use Rattle.main_memory.specs.Memory.{Memory, IsMemory, IsLent, AreApart, blocks_of}
+use Rattle.main_memory.specs.Memory.{Memory, IsMemory, IsLent, AreApart, with_block, blocks_of}
 use Rattle.request_slots.specs.declared.asked.Asked.{Asked}
 
 -- a buffer as a request asks for it
@@ -19,4 +19,12 @@ pub record HasLent (old new : Memory) (loan : Loan) (asked : Asked) : Type 0 whe
   pub others : (other : Loan) → IsLent old other → IsLent new other
   pub blocks : (other : Loan) → IsLoan other → IsLent old other → blocks_of other new ≡ blocks_of other old
   pub free : length new.free + length loan.frames ≡ length old.free
+  pub sound : IsMemory new
+
+-- What a store of block k does.
+pub record Stores (old new : Memory) (loan : Loan) (k : ℕ) (block : List ℕ) : Type 0 where
+  pub memory : new ≡ with_block loan k block old
+  pub held : blocks_of loan new ≡ slice_set (blocks_of loan old) k block
+  pub others : (other : Loan) → IsLoan other → IsLent old other → AreApart loan other → blocks_of other new ≡ blocks_of other old
+  pub lent : (other : Loan) → IsLent old other → IsLent new other
   pub sound : IsMemory new

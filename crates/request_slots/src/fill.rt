@@ -6,7 +6,7 @@ ghost use Rattle.main_memory.specs.Blocks.{Loan, IsLoan, size_of, span_of, bytes
 ghost use Rattle.main_memory.specs.Memory.{IsMemory, IsLent, AreApart, with_block, blocks_of};
 ghost use Rattle.ecc_repair.specs.Repaired.{repaired};
 ghost use Rattle.driver_machine.specs.World.{pieces};
-ghost use Rattle.request_slots.specs.Lending.{HasLent};
+ghost use Rattle.request_slots.specs.Lending.{HasLent, Stores};
 
 use crate::asked::Asked;
 use ecc_repair::repair;
@@ -39,6 +39,24 @@ fn block_at(bytes: &[u8], k: u32) -> [u8; 512]
     block
 }
 
+// Stores piece `k` of the bytes into block `k` of the buffer, which is as long.
+fn store_piece(memory: &mut MainMemory, buffer: &Buffer<Cpu>, k: u32, bytes: &[u8])
+    requires shape { IsLoan buffer.now }
+    requires lent { IsLent memory.old buffer.now }
+    requires inside { k < buffer.now.count }
+    requires whole { length bytes.now ≡ size_of buffer.now }
+    ensures { Stores memory.old memory.new buffer.now k (take 512 (drop (512 * k) bytes.now)) }
+{
+    let rest = &bytes[512 * k as usize..];
+    match rest.first_chunk::<512>() {
+        Some(block) => memory.store(buffer, k, block),
+        None => {
+            let block = block_at(bytes, k);
+            memory.store(buffer, k, &block);
+        }
+    }
+}
+
 // Stores the bytes into the buffer, block by block.
 fn fill(memory: &mut MainMemory, buffer: &Buffer<Cpu>, bytes: &[u8])
     requires shape { IsLoan buffer.now }
@@ -53,8 +71,7 @@ fn fill(memory: &mut MainMemory, buffer: &Buffer<Cpu>, bytes: &[u8])
     ensures sound { IsMemory memory.new }
 {
     for k in 0..buffer.count() {
-        let block = block_at(bytes, k);
-        memory.store(buffer, k, &block);
+        store_piece(memory, buffer, k, bytes);
     }
 }
 

@@ -1,5 +1,6 @@
 // A slot: what the driver keeps of a request.
-ghost use Rattle.std.specs.Prelude.{◌≡◌, ◌<◌, None, Some, length, slice_set, IsSome, IfOk, replicate};
+ghost use Rattle.std.specs.Prelude.{◌≡◌, ◌<◌, true, None, Some, length, slice_set, IsSome, IfOk, replicate};
+ghost use Rattle.request_slots.specs.declared.slot.Slot.{Slot};
 ghost use Rattle.request_slots.specs.Stored.{slot_in};
 
 use crate::asked::Asked;
@@ -57,6 +58,17 @@ pub fn take_slot(slots: &mut Vec<Option<Slot>>, number: u32) -> Slot
 {
     match slots[number as usize].take() {
         Some(slot) => slot,
+        None => unreachable!(),
+    }
+}
+
+// The request in a slot has ended.
+pub fn end_slot(slots: &mut Vec<Option<Slot>>, number: u32)
+    requires { IsSome (slot_in slots.old.items number) }
+    ensures { (slot : Slot) × (slot_in slots.old.items number ≡ Some slot) × (slots.new.items ≡ slice_set slots.old.items number (Some (record slot { ended = true }))) }
+{
+    match &mut slots[number as usize] {
+        Some(slot) => slot.ended = true,
         None => unreachable!(),
     }
 }

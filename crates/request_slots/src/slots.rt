@@ -14,7 +14,7 @@ mod steps;
 use crate::asked::Asked;
 use crate::fill::{lend_filled, repair_block};
 use crate::occupancy::Occupancy;
-use crate::slot::{Holder, Slot, free_slots, put_slot, slot_at, take_slot};
+use crate::slot::{Holder, Slot, end_slot, free_slots, put_slot, slot_at, take_slot};
 use main_memory::{MainMemory, frames_of};
 use mass_outside::traits::NoMemory;
 use mba_adapter::{Adapter, Ended};
@@ -222,11 +222,7 @@ impl Slots {
         ensures { let h = held_at self.old slot in
             self.new ≡ slice_set self.old slot (Some (record h { ended = true })) }
     {
-        let ended = Slot {
-            ended: true,
-            ..take_slot(&mut self.slots, slot)
-        };
-        put_slot(&mut self.slots, slot, ended);
+        end_slot(&mut self.slots, slot);
     }
 
     /// Reads block `k` of the buffer of a slot, counted from 0: its bytes, and then zeros.
