@@ -1,10 +1,10 @@
 // The deed that is due at a unit.
-ghost use Rattle.std.specs.Prelude.{◌≡◌, ◌≢◌, ◌<◌, ◌∷◌, [], true, false, drop, length, IfOk, IfSome, IfNone};
+ghost use Rattle.std.specs.Prelude.{◌≡◌, ◌≢◌, ◌<◌, ◌∷◌, [], true, false, drop, length, None, IfOk, IfSome, IfNone};
 ghost use Rattle.request_slots.specs.Requests.{asked_of};
 ghost use Rattle.driver_machine.specs.declared.Phase.TheVariants.{Queued, Due};
-ghost use Rattle.driver_machine.specs.World.{unit_at, adapter_at, adapter_of};
+ghost use Rattle.driver_machine.specs.World.{UnitView, Held, unit_at, adapter_at, adapter_of};
 ghost use Rattle.driver_machine.specs.Acts.{Of};
-ghost use Rattle.driver_machine.specs.Due.{deed_for, command_of};
+ghost use Rattle.driver_machine.specs.Due.{next_by, deed_for, command_of};
 ghost use Rattle.driver_machine.specs.Events.{in_hand, next_acts};
 ghost use Rattle.driver_machine.specs.Guards.{Allowed};
 ghost use Rattle.driver_machine.specs.Sound.{Sound};
@@ -34,13 +34,13 @@ fn asked_in_hand(core: &Core, u: u8) -> Option<Asked>
     }
 }
 
-/// Whether something is due at a unit that is here with the head of its queue, where it has one.
-fn is_due(phase: Phase) -> bool
-    ensures { result ≡ is_due phase }
+/// Whether a unit that is here with the head of its queue waits for an event, so that nothing is due at it.
+fn is_between(phase: Phase) -> bool
+    ensures { result ≡ true → (v : UnitView) → (h : Held) → next_by phase v h ≡ None }
 {
     match phase {
-        Phase::Waiting | Phase::Due { .. } => true,
-        Phase::Positioning { .. } | Phase::Queued | Phase::Transferring => false,
+        Phase::Waiting | Phase::Due { .. } => false,
+        Phase::Positioning { .. } | Phase::Queued | Phase::Transferring => true,
     }
 }
 
@@ -86,14 +86,13 @@ pub fn next_deed<T: Sink>(core: &mut Core, line: u64, u: u8, trace: &mut T) -> R
     ensures sound { IfOk result (λ more. Sound core.new.world) }
     ensures free { IfOk result (λ more. IsFree core.new.world u) }
 {
-    let phase = core.phase(u);
-    if !is_due(phase) {
+    if is_between(core.phase(u)) {
         return Ok(false);
     }
     let Some(asked) = asked_in_hand(core, u) else {
         return Ok(false);
     };
-    match phase {
+    match core.phase(u) {
         Phase::Waiting => match start(core, line, u, asked, trace) {
             Ok(()) => Ok(true),
             Err(stop) => Err(stop),
