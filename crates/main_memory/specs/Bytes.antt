@@ -1,5 +1,5 @@
 -- Parts of a list of bytes, and bytes with zeros behind them.
-use Rattle.std.specs.Prelude.{ℕ, ◌+◌, ◌-◌, ◌≤◌, List, ◌++◌, take, drop, length, replicate}
+use Rattle.std.specs.Prelude.{ℕ, ◌≡◌, ◌+◌, ◌-◌, ◌≤◌, List, ◌++◌, take, drop, length, replicate}
 
 -- so many bytes from a place on
 unfoldable pub part : ℕ → ℕ → List ℕ → List ℕ
@@ -16,6 +16,10 @@ front size bytes = take size bytes
 -- the bytes and then zeros, so many in all
 unfoldable pub filled : ℕ → List ℕ → List ℕ
 filled size bytes = bytes ++ replicate (size - length bytes) 0
+
+-- bytes that are all this one
+abbrev pub IsFill : ℕ → List ℕ → Type 0
+IsFill byte bytes = bytes ≡ replicate (length bytes) byte
 
 -- of so many bytes a front is held, and there is room for all of them
 pub record IsHeld (size held room : ℕ) : Type 0 where

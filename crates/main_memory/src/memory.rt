@@ -1,7 +1,7 @@
 // The memory itself: frames lent and given back, and blocks stored and fetched.
-ghost use Rattle.std.specs.Prelude.{◌≡◌, ◌≤◌, ◌<◌, ◌+◌, ◌↔◌, IfOk, OnOk, IfErr, OnErr, IsErr, IsSomeAnd, slice_get, slice_index, length, take, drop, slice_set, List, ℕ};
+ghost use Rattle.std.specs.Prelude.{◌≡◌, ◌≤◌, ◌<◌, ◌+◌, ◌↔◌, IfOk, OnOk, IfErr, OnErr, IsErr, IsSomeAnd, IfSome, slice_get, slice_index, length, take, drop, slice_set, List, ℕ};
 ghost use Rattle.main_memory.specs.Frames.{all_frames, frames_needed, with_frames};
-ghost use Rattle.main_memory.specs.Bytes.{front, filled};
+ghost use Rattle.main_memory.specs.Bytes.{front, filled, IsFill};
 ghost use Rattle.main_memory.specs.Blocks.{Loan, IsLoan, IsSpan, size_at, span_of, bytes_in};
 ghost use Rattle.main_memory.specs.Memory.{IsMemory, IsLent, AreApart, with_block, with_span, blocks_of};
 
@@ -132,6 +132,17 @@ impl MainMemory {
         ensures held { IsSomeAnd (slice_get (blocks_of buffer.now self.now) k) (λ block. into.new ≡ filled 512 block) }
     {
         self.read(buffer.span_at(k), into);
+    }
+
+    /// The byte that all bytes of block `k` of a buffer are, counted from 0, where the memory knows it without reading them.
+    pub fn fill(&self, buffer: &Buffer<Cpu>, k: u32) -> Option<u8>
+        requires lent { IsLent self.now buffer.now }
+        requires inside { k < buffer.now.count }
+        ensures block { IfSome result (λ byte. IsFill byte (bytes_in (span_of buffer.now k) self.now.bytes)) }
+        ensures held { IfSome result (λ byte. IsSomeAnd (slice_get (blocks_of buffer.now self.now) k) (IsFill byte)) }
+    {
+        let _span = buffer.span_at(k);
+        None
     }
 
     // Writes the bytes of a span, the first of these 512.
