@@ -1,5 +1,5 @@
 // The memory's bytes, and reads and writes of parts of them.
-ghost use Rattle.std.specs.Prelude.{◌≡◌, ◌≤◌, ◌<◌, ◌+◌, ◌^◌, length, IfOk, slice_index, slice_set, vec_len, vec_capacity};
+ghost use Rattle.std.specs.Prelude.{ℕ, ◌≡◌, ◌≤◌, ◌<◌, ◌+◌, ◌^◌, length, IfOk, slice_index, slice_set, vec_len, vec_capacity};
 ghost use Rattle.main_memory.specs.Bytes.{part, with_part, filled};
 
 use std::alloc::{AllocError, Global};
@@ -94,7 +94,8 @@ fn get_filled(bytes: &[u8], at: usize, into: &mut [u8])
 impl Bytes {
     // Takes the room. All bytes are zeros.
     pub fn new(alloc: Global) -> Result<Bytes, AllocError>
-        ensures { IfOk result (λ bytes. length bytes ≡ 8388608) }
+        ensures size { IfOk result (λ bytes. length bytes ≡ 8388608) }
+        ensures zeros { IfOk result (λ bytes. (place : ℕ) → slice_index bytes place ≡ 0) }
     {
         Ok(Bytes {
             held: Vec::with_capacity(alloc, SIZE)?,

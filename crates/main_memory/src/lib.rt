@@ -5,6 +5,7 @@
 mod bits;
 mod buffer;
 mod bytes;
+mod frames;
 mod laws;
 mod memory;
 mod span;

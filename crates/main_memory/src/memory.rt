@@ -7,8 +7,8 @@ ghost use Rattle.main_memory.specs.Memory.{IsMemory, IsLent, AreApart, with_bloc
 
 use crate::bits::{all_free, give_frames, take_frames};
 use crate::buffer::{Buffer, Cpu, frames_of};
-use crate::bytes::Bytes;
-use crate::span::{Span, read_filled, write_front};
+use crate::frames::Frames;
+use crate::span::{Span, fill_span, read_filled, write_front};
 use mass_outside::traits::NoMemory;
 use std::alloc::Global;
 use std::marker::Model;
@@ -28,7 +28,7 @@ pub struct NoFrames {
 /// 16,384 frames of 512 bytes, each of them free or lent.
 #[derive(Drop)]
 pub struct MainMemory {
-    bytes: Bytes,
+    bytes: Frames,
     free_words: [u64; 256],
     free: u32,
 }
@@ -52,7 +52,7 @@ impl MainMemory {
         ensures every { IfOk result (λ memory. length memory.free ≡ 16384) }
         ensures sound { IfOk result IsMemory }
     {
-        let bytes = match Bytes::new(alloc) {
+        let bytes = match Frames::new(alloc) {
             Ok(bytes) => bytes,
             Err(_) => return Err(NoMemory),
         };
@@ -141,8 +141,7 @@ impl MainMemory {
         ensures block { IfSome result (λ byte. IsFill byte (bytes_in (span_of buffer.now k) self.now.bytes)) }
         ensures held { IfSome result (λ byte. IsSomeAnd (slice_get (blocks_of buffer.now self.now) k) (IsFill byte)) }
     {
-        let _span = buffer.span_at(k);
-        None
+        fill_span(&self.bytes, buffer.span_at(k))
     }
 
     // Writes the bytes of a span, the first of these 512.

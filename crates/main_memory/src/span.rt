@@ -1,9 +1,9 @@
 // Where a block of a buffer lies in memory.
-ghost use Rattle.std.specs.Prelude.{◌≡◌, ◌<◌, ◌≤◌, length};
-ghost use Rattle.main_memory.specs.Bytes.{front, filled};
+ghost use Rattle.std.specs.Prelude.{◌≡◌, ◌<◌, ◌≤◌, length, IfSome};
+ghost use Rattle.main_memory.specs.Bytes.{front, filled, IsFill};
 ghost use Rattle.main_memory.specs.Blocks.{IsSpan, in_frame, place_in, bytes_in, with_bytes_in};
 
-use crate::bytes::Bytes;
+use crate::frames::Frames;
 
 // `len` bytes: in a frame from the offset on, and where they don't end there in the next frame from its start on.
 #[derive(Clone, Copy)]
@@ -39,31 +39,43 @@ pub fn place(span: Span, at: usize) -> usize
 }
 
 // Writes the bytes there.
-pub fn write_span(bytes: &mut Bytes, span: Span, from: &[u8])
+pub fn write_span(bytes: &mut Frames, span: Span, from: &[u8])
     requires span { IsSpan span }
     requires whole { length from.now ≡ span.len }
     ensures bytes { bytes.new ≡ with_bytes_in span from.now bytes.old }
     ensures size { length bytes.new ≡ 8388608 }
 {
     let (first, second) = from.split_at(len_in_frame(span));
-    bytes.put(512 * span.frame + span.offset, first);
-    bytes.put(512 * span.next, second);
+    bytes.put(span.frame, span.offset, first);
+    bytes.put(span.next, 0, second);
 }
 
 // Reads the bytes there.
-pub fn read_span(bytes: &Bytes, span: Span, into: &mut [u8])
+pub fn read_span(bytes: &Frames, span: Span, into: &mut [u8])
     requires span { IsSpan span }
     requires whole { length into.old ≡ span.len }
     ensures bytes { into.new ≡ bytes_in span bytes.now }
     ensures size { length bytes.now ≡ 8388608 }
 {
     let (first, second) = into.split_at_mut(len_in_frame(span));
-    bytes.get(512 * span.frame + span.offset, first);
-    bytes.get(512 * span.next, second);
+    bytes.get(span.frame, span.offset, first);
+    bytes.get(span.next, 0, second);
+}
+
+// The byte that all bytes there are, where that is known.
+pub fn fill_span(bytes: &Frames, span: Span) -> Option<u8>
+    requires span { IsSpan span }
+    ensures { IfSome result (λ byte. IsFill byte (bytes_in span bytes.now)) }
+{
+    let fill = bytes.fill(span.frame)?;
+    if span.len > 512 - span.offset && bytes.fill(span.next)? != fill {
+        return None;
+    }
+    Some(fill)
 }
 
 // Writes there the first bytes of 512.
-pub fn write_front(bytes: &mut Bytes, span: Span, from: &[u8; 512])
+pub fn write_front(bytes: &mut Frames, span: Span, from: &[u8; 512])
     requires span { IsSpan span }
     ensures bytes { bytes.new ≡ with_bytes_in span (front span.len from.now) bytes.old }
     ensures size { length bytes.new ≡ 8388608 }
@@ -72,7 +84,7 @@ pub fn write_front(bytes: &mut Bytes, span: Span, from: &[u8; 512])
 }
 
 // Reads the bytes there and then zeros.
-pub fn read_filled(bytes: &Bytes, span: Span, into: &mut [u8])
+pub fn read_filled(bytes: &Frames, span: Span, into: &mut [u8])
     requires span { IsSpan span }
     requires room { span.len ≤ length into.old }
     ensures bytes { into.new ≡ filled (length into.old) (bytes_in span bytes.now) }

@@ -1,0 +1,138 @@
+// The bytes of all frames, and of each frame the byte that it is all through, where that is known.
+ghost use Rattle.std.specs.Prelude.{◌≡◌, ◌≤◌, ◌<◌, ◌+◌, ◌*◌, ℕ, length, IfOk, IfSome, IsTrue, slice_index, slice_index_or, slice_set, Some, None};
+ghost use Rattle.main_memory.specs.Bytes.{part, with_part, IsFill};
+
+use crate::bytes::Bytes;
+use std::alloc::{AllocError, Global};
+use std::marker::Model;
+
+// How many frames there are.
+const FRAMES: usize = 16384;
+
+// The bytes, and what is known of frames: the byte that one is all through, where it was last written so. Bytes that a frame is
+// known to have are not written again, so a frame that stays as it is need not come near the processor.
+#[derive(Drop)]
+pub struct Frames {
+    bytes: Bytes,
+    fills: Vec<Option<u8>>,
+}
+
+impl Model for Frames {
+    ghost use Rattle.std.specs.Prelude.{ℕ, List};
+    ghost use Rattle.main_memory.specs.Bytes.{AreFills};
+
+    ghost Value = { List ℕ };
+
+    ghost view = { λ f. f.bytes };
+
+    ghost invariant = { λ f. AreFills f.fills.items f.bytes };
+}
+
+// Whether bytes are one byte repeated. Slices are compared by words.
+fn is_fill(bytes: &[u8]) -> bool
+    requires { 1 ≤ length bytes.now }
+    ensures { IsTrue result → IsFill (slice_index bytes.now 0) bytes.now }
+{
+    bytes[1..] == bytes[..bytes.len() - 1]
+}
+
+// The byte that a frame is all through behind a write of these bytes, where they are the whole of it.
+fn fill_of(bytes: &[u8]) -> Option<u8>
+    ensures { IfSome result (λ byte. (length bytes.now ≡ 512) × IsFill byte bytes.now) }
+{
+    if bytes.len() == 512 && is_fill(bytes) {
+        Some(bytes[0])
+    } else {
+        None
+    }
+}
+
+// What is known of frames all of whose bytes are zeros.
+fn all_zeros(alloc: Global) -> Result<Vec<Option<u8>>, AllocError>
+    ensures frames { IfOk result (λ fills. length fills.items ≡ 16384) }
+    ensures zeros { IfOk result (λ fills. (frame : ℕ) → frame < 16384 → slice_index_or fills.items frame None ≡ Some 0) }
+{
+    let mut fills = Vec::with_capacity(alloc, FRAMES)?;
+    for _ in 0..FRAMES {
+        fills.push(Some(0))?;
+    }
+    Ok(fills)
+}
+
+impl Frames {
+    // Takes the room. All bytes are zeros.
+    pub fn new(alloc: Global) -> Result<Frames, AllocError>
+        ensures { IfOk result (λ frames. length frames ≡ 8388608) }
+    {
+        let bytes = Bytes::new(alloc)?;
+        let fills = all_zeros(alloc)?;
+        Ok(Frames { bytes, fills })
+    }
+
+    // Whether a frame is known to be all through what each of these bytes is.
+    fn has(&self, frame: usize, bytes: &[u8]) -> bool
+        requires { frame < 16384 }
+        ensures { IsTrue result → (at k : ℕ) → at < 512 → k < length bytes.now
+            → slice_index self.now (512 * frame + at) ≡ slice_index bytes.now k }
+    {
+        let Some(first) = bytes.first() else {
+            return true;
+        };
+        match self.fills[frame] {
+            Some(byte) => byte == *first && is_fill(bytes),
+            None => false,
+        }
+    }
+
+    // Writes bytes in a frame, from a place on.
+    pub fn put(&mut self, frame: usize, offset: usize, from: &[u8])
+        requires frame { frame < 16384 }
+        requires inside { offset + length from.now ≤ 512 }
+        ensures bytes { self.new ≡ with_part (512 * frame + offset) from.now self.old }
+        ensures size { length self.new ≡ 8388608 }
+    {
+        if self.has(frame, from) {
+            return;
+        }
+        self.fills[frame] = fill_of(from);
+        self.bytes.put(512 * frame + offset, from);
+    }
+
+    // Reads bytes of a frame, from a place on.
+    pub fn get(&self, frame: usize, offset: usize, into: &mut [u8])
+        requires frame { frame < 16384 }
+        requires inside { offset + length into.old ≤ 512 }
+        ensures bytes { into.new ≡ part (length into.old) (512 * frame + offset) self.now }
+        ensures size { length self.now ≡ 8388608 }
+    {
+        self.bytes.get(512 * frame + offset, into);
+    }
+
+    // The byte that a frame is all through, where that is known.
+    pub fn fill(&self, frame: usize) -> Option<u8>
+        requires { frame < 16384 }
+        ensures fill { IfSome result (λ byte. (k : ℕ) → k < 512 → slice_index self.now (512 * frame + k) ≡ byte) }
+        ensures size { length self.now ≡ 8388608 }
+    {
+        self.fills[frame]
+    }
+
+    // The byte at a place.
+    pub fn byte_at(&self, place: usize) -> u8
+        requires { place < 8388608 }
+        ensures byte { result ≡ slice_index self.now place }
+        ensures size { length self.now ≡ 8388608 }
+    {
+        self.bytes.byte_at(place)
+    }
+
+    // Writes the byte at a place.
+    pub fn set_byte(&mut self, place: usize, byte: u8)
+        requires { place < 8388608 }
+        ensures bytes { self.new ≡ slice_set self.old place byte }
+        ensures size { length self.old ≡ 8388608 }
+    {
+        self.fills[place / 512] = None;
+        self.bytes.set_byte(place, byte);
+    }
+}
