@@ -43,7 +43,9 @@ fn window_in_two_frames(rt: HostRuntime) -> Result<(), Fail> {
 fn short_last_block(rt: HostRuntime) -> Result<(), Fail> {
     let mut memory = MainMemory::new(rt.alloc())?;
     let whole = memory.lend(1, 0, 512)?;
+    assert_eq!(rt; memory.fill(&whole, 0), Some(0));
     memory.store(&whole, 0, &[0x77; 512]);
+    assert_eq!(rt; memory.fill(&whole, 0), Some(0x77));
     memory.give_back(whole);
     let buffer = memory.lend(1, 300, 3)?;
     assert_eq!(rt; frames_of(&buffer), [0u16].as_slice());
