@@ -1,3 +1,4 @@
 pub mod BlockLaws
 pub mod ClassLaws
+pub mod FillLaws
 pub mod TextLaws

@@ -1,5 +1,5 @@
 // The line of a block, written in place.
-ghost use Rattle.std.specs.Prelude.{◌≡◌, ◌≤◌, ◌+◌, ◌*◌, ◌==◌, ◌∷◌, [], ◌++◌, length, take, decimal, slice_index, codes};
+ghost use Rattle.std.specs.Prelude.{ℕ, ◌≡◌, ◌≤◌, ◌+◌, ◌*◌, ◌==◌, ◌∷◌, [], ◌++◌, length, take, replicate, decimal, slice_index, codes};
 ghost use Rattle.std.specs.List.{flat_map, list_all};
 ghost use Rattle.mass_text.specs.BlockText.{hex_byte, content_text};
 ghost use Rattle.answer_lines.specs.AnswerText.{block_text};
@@ -48,6 +48,16 @@ fn put_digits(room: &mut [u8; ROOM], at: usize, bytes: &[u8]) -> usize
     end
 }
 
+/// Puts what a line says of bytes that are all this one.
+fn put_fill(room: &mut [u8; ROOM], at: usize, byte: u8) -> usize
+    requires { at ≤ 60 }
+    ensures end { result ≤ at + 1028 }
+    ensures text { take result room.new ≡ take at room.old ++ codes "fill " ++ hex_byte byte }
+{
+    let digits = put_piece(room, at, b"fill ");
+    put_digits(room, digits, &[byte])
+}
+
 /// Puts what a line says of the bytes of a block.
 fn put_content(room: &mut [u8; ROOM], at: usize, bytes: &[u8]) -> usize
     requires room { at ≤ 60 }
@@ -57,8 +67,7 @@ fn put_content(room: &mut [u8; ROOM], at: usize, bytes: &[u8]) -> usize
     ensures text { take result room.new ≡ take at room.old ++ content_text bytes.now }
 {
     if is_fill(bytes) {
-        let digits = put_piece(room, at, b"fill ");
-        put_digits(room, digits, &bytes[..1])
+        put_fill(room, at, bytes[0])
     } else {
         let digits = put_piece(room, at, b"hex ");
         put_digits(room, digits, bytes)
@@ -74,6 +83,16 @@ fn put_number(room: &mut [u8; ROOM], at: usize, k: u32) -> usize
     put_piece(room, at, Buffer::new().format(k).as_bytes())
 }
 
+/// Puts the front of a line, up to what it says of bytes.
+fn put_front(room: &mut [u8; ROOM], k: u32) -> usize
+    ensures end { result ≤ 60 }
+    ensures text { take result room.new ≡ codes "blk " ++ decimal k ++ codes " " }
+{
+    let number = put_piece(room, 0, b"blk ");
+    let space = put_number(room, number, k);
+    put_piece(room, space, b" ")
+}
+
 /// Puts the line of a block, and says where it ends.
 fn put_line(room: &mut [u8; ROOM], k: u32, bytes: &[u8]) -> usize
     requires some { 1 ≤ length bytes.now }
@@ -81,10 +100,18 @@ fn put_line(room: &mut [u8; ROOM], k: u32, bytes: &[u8]) -> usize
     ensures end { result ≤ 1100 }
     ensures text { take result room.new ≡ block_text k bytes.now }
 {
-    let number = put_piece(room, 0, b"blk ");
-    let space = put_number(room, number, k);
-    let content = put_piece(room, space, b" ");
+    let content = put_front(room, k);
     let end = put_content(room, content, bytes);
+    put_piece(room, end, b"\n")
+}
+
+/// Puts the line of a block whose bytes are all this one, and says where it ends.
+fn put_fill_line(room: &mut [u8; ROOM], k: u32, byte: u8) -> usize
+    ensures end { result ≤ 1100 }
+    ensures text { (size : ℕ) → 1 ≤ size → take result room.new ≡ block_text k (replicate size byte) }
+{
+    let content = put_front(room, k);
+    let end = put_fill(room, content, byte);
     put_piece(room, end, b"\n")
 }
 
@@ -130,5 +157,12 @@ impl BlockLine {
         ensures { self.new ≡ block_text k bytes.now }
     {
         self.end = put_line(&mut self.room, k, bytes);
+    }
+
+    /// Writes the line of block `k`, from 0, all of whose bytes are this one, in place of what is there.
+    pub fn write_fill(&mut self, k: u32, byte: u8)
+        ensures { (size : ℕ) → 1 ≤ size → self.new ≡ block_text k (replicate size byte) }
+    {
+        self.end = put_fill_line(&mut self.room, k, byte);
     }
 }

@@ -1,7 +1,7 @@
 // What can be seen of the driver.
 ghost use Rattle.std.specs.Prelude.{◌≡◌, ℕ, ◌<◌, ◌+◌, ◌/◌, ◌∷◌, ◌==◌, ◌&&◌, [], drop, not, length, true, false, None, Some, IsSome, IfSome, IfNone, if◌then◌else◌};
 ghost use Rattle.pack_geometry.specs.Geometry.{cylinders_of, sectors_of, IsInside};
-ghost use Rattle.main_memory.specs.Bytes.{filled};
+ghost use Rattle.main_memory.specs.Bytes.{filled, IsFill};
 ghost use Rattle.drive_registers.specs.Codes.{offset_field};
 ghost use Rattle.hardware_table.specs.Drive.{is_positioning};
 ghost use Rattle.transfer_engine.specs.State.{segment_of};
@@ -287,6 +287,16 @@ impl Core {
         ensures { into.new ≡ filled 512 (block_in (held_in self.now.world slot) k) }
     {
         self.slots.block(slot, k, into);
+    }
+
+    /// The byte that all bytes of block `k` of the request in a slot are, counted from 0, where it is known without reading them.
+    pub fn answer_fill(&self, slot: u32, k: u32) -> Option<u8>
+        requires there { IsSome (slot_at self.now.world slot) }
+        requires cpu { (held_in self.now.world slot).on_bus ≡ false }
+        requires inside { k < (held_in self.now.world slot).loan.count }
+        ensures { IfSome result (λ byte. IsFill byte (block_in (held_in self.now.world slot) k)) }
+    {
+        self.slots.fill(slot, k)
     }
 
     /// Whether no text of the trace is kept.

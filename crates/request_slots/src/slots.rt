@@ -1,6 +1,6 @@
 // The slots themselves.
 ghost use Rattle.std.specs.Prelude.{◌≡◌, ◌≢◌, ◌≤◌, ◌<◌, ◌+◌, ◌-◌, ◌*◌, if◌then◌else◌, ℕ, true, false, min, None, Some, IsSome, IfOk, IfSome, IfNone, length, replicate, slice_set};
-ghost use Rattle.main_memory.specs.Bytes.{filled};
+ghost use Rattle.main_memory.specs.Bytes.{filled, IsFill};
 ghost use Rattle.main_memory.specs.Frames.{frames_needed};
 ghost use Rattle.hardware_table.specs.Adapter.{loaded, completed};
 ghost use Rattle.mba_adapter.specs.Loaded.{loaded_buffer};
@@ -236,6 +236,19 @@ impl Slots {
             unreachable!()
         };
         self.memory.fetch(buffer, k, into);
+    }
+
+    /// The byte that all bytes of block `k` of the buffer of a slot are, counted from 0, where the memory knows it without reading them.
+    pub fn fill(&self, slot: u32, k: u32) -> Option<u8>
+        requires there { IsSome (slot_at self.now slot) }
+        requires cpu { (held_at self.now slot).on_bus ≡ false }
+        requires inside { k < count_of (held_at self.now slot) }
+        ensures { IfSome result (λ byte. IsFill byte (block_in (held_at self.now slot) k)) }
+    {
+        let Holder::Driver(buffer) = &slot_at(self.slots.as_slice(), slot).buffer else {
+            unreachable!()
+        };
+        self.memory.fill(buffer, k)
     }
 
     /// The request in a slot leaves it. The slot and the frames of the request are free again.
