@@ -7,9 +7,10 @@ use Rattle.std.proofs.lemmas.List.{length-replicate}
 use Rattle.std.proofs.lemmas.Option.{none-some}
 use Rattle.trace_replay.specs.Script as script
 use Rattle.trace_replay.specs.Script.{Input}
+use Rattle.main_memory.specs.Bytes.{IsFill}
 use Rattle.driver_machine.specs.declared.AnswerKind.TheVariants.{ReadOk}
 use Rattle.driver_machine.specs.declared.Made.{Made}
-use Rattle.driver_machine.specs.World.{World, Held, Setup, no_held, new_world, slot_at, held_in}
+use Rattle.driver_machine.specs.World.{World, Held, Setup, no_held, new_world, slot_at, held_in, block_in}
 use Rattle.driver_machine.specs.Acts.{Taken}
 use Rattle.driver_machine.specs.Events.{next_event}
 use Rattle.driver_machine.specs.Refusals.{refuses}
@@ -27,7 +28,7 @@ use Rattle.hp_core.specs.Done.{DoesSilently}
 use Rattle.hp_events.specs.declared.drain.Event.{Event}
 use Rattle.hp_events.specs.Inputs.{input_of}
 use Rattle.driver_drains.specs.Drains.{DrainsFall}
-use Rattle.hp_driver.specs.Subsystem.{IsKept, IsThere, LeavesFewer, Reads}
+use Rattle.hp_driver.specs.Subsystem.{IsKept, IsThere, LeavesFewer, IsOldest, Reads}
 use Rattle.hp_driver.specs.Calls.{Ran}
 use Rattle.hp_driver.proofs.Behind.{ran_sound, ran_noise, ran_slots}
 use Rattle.hp_driver.proofs.Calls.{silent_kept}
@@ -118,3 +119,14 @@ pub next_falls : (w : World) (result : Option Event) → DrainsFall → option_m
 next_falls w None law is = tt
 next_falls w (Some event) law is = λ drives tables surface line tried moments held asked draining may reads.
     law drives tables surface line (input_of event) tried moments held w asked draining (sym is) may reads
+
+-- WHAT A BLOCK IS ALL THROUGH is so of each made answer that is the oldest.
+slot_same : {p q : ℕ} (made found : Made) → made ≡ found → made.slot ≡ Some p → found.slot ≡ Some q → q ≡ p
+slot_same made found e f g = cc
+
+pub fill_given : (w : World) (k slot : ℕ) (found : Made) → w.answers ≡ found ∷ drop 1 w.answers → found.slot ≡ Some slot → (result : Option ℕ)
+    → IfSome result (λ byte. IsFill byte (block_in (held_in w slot) k))
+    → IfSome result (λ byte. (made : Made) → (p : ℕ) → IsOldest w made → made.slot ≡ Some p → IsFill byte (block_in (held_in w p) k))
+fill_given w k slot found first is None given = tt
+fill_given w k slot found first is (Some byte) given = λ made p oldest here.
+    subst (λ (q : ℕ). IsFill byte (block_in (held_in w q) k)) (slot_same made found (first_same oldest.first first) here is) given

@@ -1,7 +1,7 @@
 // The subsystem: what its users call.
 ghost use Rattle.std.specs.Prelude.{◌≡◌, ◌↔◌, ℕ, ◌<◌, ◌≤◌, [], min, true, false, None, Some, IsTrue, IfOk, IfSome, IfNone, OnOk, OnErr, IsErrOf};
 ghost use Rattle.mass_outside.specs.Causes.{Rose, HasCause};
-ghost use Rattle.main_memory.specs.Bytes.{filled};
+ghost use Rattle.main_memory.specs.Bytes.{filled, IsFill};
 ghost use Rattle.driver_machine.specs.declared.Made.{Made};
 ghost use Rattle.driver_machine.specs.World.{new_world, held_in, block_in};
 ghost use Rattle.driver_machine.specs.Acts.{Taken, after};
@@ -200,5 +200,20 @@ impl Subsystem {
             unreachable!()
         };
         self.core.answer_block(slot, k, into);
+    }
+
+    /// The byte that all bytes of block `k`, from 0, of the read that the oldest answer is of are, where it is known without
+    /// reading the block. None says nothing of the block.
+    pub fn answer_fill(&self, k: u32) -> Option<u8>
+        requires reads { Reads self.now.world k }
+        ensures { IfSome result (λ byte. (made : Made) → (p : ℕ) → IsOldest self.now.world made → made.slot ≡ Some p → IsFill byte (block_in (held_in self.now.world p) k)) }
+    {
+        let Some(made) = self.core.first_answer() else {
+            unreachable!()
+        };
+        let Some(slot) = made.slot else {
+            unreachable!()
+        };
+        self.core.answer_fill(slot, k)
     }
 }
