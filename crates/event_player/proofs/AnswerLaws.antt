@@ -11,7 +11,7 @@ use Rattle.mass_gather.specs.Gathers.{Gathers}
 use Rattle.mass_gather.proofs.GatherLaws.{gathers_nothing, gathers_join, gathers_stop, gathers_whole}
 use Rattle.trace_replay.specs.Moments.{Answered}
 use Rattle.main_memory.specs.Blocks.{size_at}
-use Rattle.main_memory.specs.Bytes.{filled}
+use Rattle.main_memory.specs.Bytes.{filled, IsFill}
 use Rattle.driver_machine.specs.declared.Answer.{Answer}
 use Rattle.driver_machine.specs.declared.AnswerKind.{AnswerKind}
 use Rattle.driver_machine.specs.declared.AnswerKind.TheVariants.{ReadOk, WriteOk, Eof, Error}
@@ -112,13 +112,23 @@ filled_front : (size n : ℕ) (block : List ℕ) → length block ≡ size → t
 unfolding filled
 filled_front size n block e = ap (λ (k : ℕ). take k (block ++ replicate (n - length block) 0)) (sym e) ∙ take-append_seam block (replicate (n - length block) 0)
 
+block_here : {w : World} {k size : ℕ} (block : HasBlock w k size) → slice_index_or (first_blocks w w.answers) k [] ≡ block_in (held_in w block.slot) k
+block_here {w} {k} {size} block =
+    ap (λ (blocks : List (List ℕ)). slice_index_or blocks k []) (first_blocks_at w block.reads.made block.slot block.reads.oldest block.slot_is)
+
+length_here : {w : World} {k size : ℕ} (block : HasBlock w k size) → length (block_in (held_in w block.slot) k) ≡ size
+length_here block = ap (λ (b : List ℕ). length b) (sym (block_here block)) ∙ block.long
+
 pub block_given : {w : World} {k size : ℕ} (block : HasBlock w k size) (bytes : List ℕ) → bytes ≡ filled 512 (block_in (held_in w block.slot) k)
     → take size bytes ≡ slice_index_or (first_blocks w w.answers) k []
 block_given {w} {k} {size} block bytes is =
-    let here : slice_index_or (first_blocks w w.answers) k [] ≡ block_in (held_in w block.slot) k =
-    ap (λ (blocks : List (List ℕ)). slice_index_or blocks k []) (first_blocks_at w block.reads.made block.slot block.reads.oldest block.slot_is) in
-    let long : length (block_in (held_in w block.slot) k) ≡ size = ap (λ (b : List ℕ). length b) (sym here) ∙ block.long in
-    ap (λ (b : List ℕ). take size b) is ∙ filled_front size 512 (block_in (held_in w block.slot) k) long ∙ sym here
+    ap (λ (b : List ℕ). take size b) is ∙ filled_front size 512 (block_in (held_in w block.slot) k) (length_here block) ∙ sym (block_here block)
+
+-- the bytes of a block that is one byte all through
+pub fill_given : {w : World} {k size : ℕ} (block : HasBlock w k size) (byte : ℕ) → IsFill byte (block_in (held_in w block.slot) k)
+    → replicate size byte ≡ slice_index_or (first_blocks w w.answers) k []
+fill_given {w} {k} {size} block byte is =
+    ap (λ (n : ℕ). replicate n byte) (sym (length_here block)) ∙ sym is ∙ sym (block_here block)
 
 -- THE BLOCKS SAID, one after another
 joined_is : (blocks : List (List ℕ)) → bytes_in blocks ≡ joined blocks

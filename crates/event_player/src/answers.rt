@@ -1,5 +1,5 @@
 // The answers that wait are counted and written, and then they are taken.
-ghost use Rattle.std.specs.Prelude.{◌≡◌, ◌+◌, ◌==◌, ◌<◌, ◌≤◌, ℕ, List, [], ◌∷◌, if◌then◌else◌, OnOk, length, take, slice_index_or};
+ghost use Rattle.std.specs.Prelude.{◌≡◌, ◌+◌, ◌==◌, ◌<◌, ◌≤◌, ℕ, List, [], ◌∷◌, if◌then◌else◌, OnOk, length, take, replicate, slice_index_or};
 ghost use Rattle.mass_outside.specs.Puts.{Puts};
 ghost use Rattle.mass_gather.specs.Gathers.{Gathers};
 ghost use Rattle.answer_lines.specs.AnswerText.{block_text};
@@ -84,6 +84,16 @@ fn put_block<O: Sink>(k: u32, size: u32, desk: &mut Desk, out: &mut O) -> Result
     desk.put_line(out)
 }
 
+/// Gathers the line of block `k`, whose bytes are all this one.
+fn put_fill<O: Sink>(k: u32, byte: u8, desk: &mut Desk, out: &mut O) -> Result<(), SinkFailed>
+    ensures gathers { (size : ℕ) → 1 ≤ size → Gathers O.tells O.taken O.faults out.old out.new desk.old.gather desk.new.gather result (block_text k (replicate size byte)) }
+    ensures counts { (size : ℕ) → 1 ≤ size → Counts [] (block_text k (replicate size byte)) desk.old.tally desk.new.tally }
+    ensures requests { desk.new.tally.requests ≡ desk.old.tally.requests }
+{
+    desk.line.write_fill(k, byte);
+    desk.put_line(out)
+}
+
 /// Gathers the line of block `k`, of so many bytes, of the read that the oldest answer is of.
 fn gather_block<O: Sink>(
     subsystem: &Subsystem,
@@ -98,6 +108,9 @@ fn gather_block<O: Sink>(
     ensures counts { Counts [] (block_text k (slice_index_or (first_blocks subsystem.now.world subsystem.now.world.answers) k [])) desk.old.tally desk.new.tally }
     ensures requests { desk.new.tally.requests ≡ desk.old.tally.requests }
 {
+    if let Some(byte) = subsystem.answer_fill(k) {
+        return put_fill(k, byte, desk, out);
+    }
     subsystem.answer_block(k, &mut desk.block);
     put_block(k, size, desk, out)
 }
