@@ -1,13 +1,10 @@
-// A request from its submission to its answer.
-ghost use Rattle.std.specs.Prelude.{◌≡◌, ◌≤◌, ◌∷◌, [], false, None, IfSome};
+// A subsystem is made where memory is ample, and has nothing to do yet.
+ghost use Rattle.std.specs.Prelude.{◌≡◌, ◌∷◌, [], false, None, IfSome};
 ghost use Rattle.pack_geometry.specs.declared.DriveKind.TheVariants.{Rm03};
 ghost use Rattle.driver_machine.specs.World.{new_world};
 
 use super::*;
-use mass_outside::mem_packs::MemPacks;
-use mass_outside::mem_streams::MemSink;
 use pack_geometry::DriveKind;
-use partitions::Part;
 use std::alloc::Global;
 
 /// A subsystem with an RM03 as unit 0, for one request.
@@ -25,47 +22,12 @@ fn started(alloc: Global) -> Option<Subsystem>
     }
 }
 
-/// The answer to a read of unit 0, whose pack is empty, by a subsystem of its own.
-fn answered(alloc: Global, part: Part, block: u32, count: u32) -> Option<AnswerKind>
-    requires some { 1 ≤ count }
-    requires few { count ≤ 127 }
-{
-    let mut subsystem = started(alloc)?;
-    let mut packs = MemPacks::new(alloc, Vec::new(alloc), Vec::new(alloc)).ok()?;
-    let mut trace = MemSink::new(alloc, 4096, Vec::new(alloc)).ok()?;
-    let request = Request {
-        id: 7,
-        unit: 0,
-        part,
-        block,
-        count,
-        write: false,
-        offset: 0,
-        last: 512,
-    };
-    subsystem.submit(1, request, &[], &mut trace).ok()?;
-    for line in 2..40u64 {
-        match subsystem.take_answer() {
-            Some(answer) => return Some(answer.kind),
-            None => {}
-        }
-        match subsystem.next_event() {
-            Some(event) => subsystem.event(line, event, &mut packs, &mut trace).ok()?,
-            None => return None,
-        }
-    }
-    None
-}
-
 #[test]
-fn answers(rt: HostRuntime) {
-    let alloc = rt.alloc();
-    assert!(rt;
-        answered(alloc, Part::A, 100, 3)
-            == Some(AnswerKind::ReadOk {
-                count: 3,
-                last: 512
-            })
-    );
-    assert!(rt; answered(alloc, Part::H, 0, 1) == Some(AnswerKind::Eof));
+fn made_with_ample_memory(rt: HostRuntime) {
+    match started(rt.alloc()) {
+        Some(subsystem) => assert!(rt;
+            subsystem.next_event().is_none() && subsystem.answer().is_none()
+        ),
+        None => assert!(rt; false, "there is memory"),
+    }
 }
