@@ -8,10 +8,11 @@ use mass_outside::traits::StoreFailed;
 use std::alloc::Global;
 use std::marker::Model;
 
-/// How many bytes of an image are read ahead at first, and at most.
+/// How many bytes of an image are read ahead at first, and where reading goes on: four pieces have the longest request, of 127
+/// blocks, and a block more.
 const FIRST_SIZE: usize = 4096;
 
-const LAST_SIZE: usize = 16384;
+const LAST_SIZE: usize = 20480;
 
 /// How many marks are read ahead.
 const MARKS: u32 = 4096;
@@ -195,14 +196,13 @@ impl Window {
         self.write(u64::from(block), &[u8::from(on)]);
     }
 
-    /// How many bytes of an image are read ahead from a place on: few at first, and four times as many as before where
-    /// the place is just behind the window.
+    /// How many bytes of an image are read ahead from a place on: few at first, and more where the place is just behind the
+    /// window.
     fn next_size(&self, at: u64) -> usize {
-        match at.checked_sub(self.at) {
-            Some(offset) if offset == self.size as u64 => {
-                self.size.saturating_mul(4).max(FIRST_SIZE).min(LAST_SIZE)
-            }
-            _ => FIRST_SIZE,
+        if self.size > 0 && self.at.checked_add(self.size as u64) == Some(at) {
+            LAST_SIZE
+        } else {
+            FIRST_SIZE
         }
     }
 
