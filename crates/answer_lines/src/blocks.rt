@@ -51,7 +51,7 @@ fn put_digits(room: &mut [u8; ROOM], at: usize, bytes: &[u8]) -> usize
 /// Puts what a line says of bytes that are all this one.
 fn put_fill(room: &mut [u8; ROOM], at: usize, byte: u8) -> usize
     requires { at ≤ 60 }
-    ensures end { result ≤ at + 1028 }
+    ensures end { result ≡ at + 7 }
     ensures text { take result room.new ≡ take at room.old ++ codes "fill " ++ hex_byte byte }
 {
     let digits = put_piece(room, at, b"fill ");

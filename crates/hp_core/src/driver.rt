@@ -1,6 +1,7 @@
 // The whole driver.
 ghost use Rattle.std.specs.Prelude.{◌≡◌, ◌<◌, ◌≤◌, [], length, IsSome};
 ghost use Rattle.main_memory.specs.Frames.{frames_needed};
+ghost use Rattle.hardware_table.specs.declared.Moved.TheVariants.{Clean};
 ghost use Rattle.driver_machine.specs.World.{unit_at, slot_at, held_in, slot_in_hand, job_of};
 ghost use Rattle.driver_machine.specs.Lines.{step_told};
 ghost use Rattle.trace_replay.specs.Moments as moments;
@@ -90,6 +91,25 @@ impl Core {
     {
         let mut text = LineText::new();
         text.write(number, unit, id, told);
+        match self.gather.put(text.as_bytes(), trace) {
+            Ok(()) => Ok(()),
+            Err(_) => Err(Stop::Sink),
+        }
+    }
+
+    /// Tells the line of a sector that moved clean.
+    pub(crate) fn tell_clean<T: Sink>(
+        &mut self,
+        number: u64,
+        unit: u8,
+        id: u32,
+        block: u32,
+        trace: &mut T,
+    ) -> Result<(), Stop>
+        ensures { Tells T.tells T.taken T.faults trace.old trace.new self.old self.new result (moment_text (moments.Told number unit id (moments.Sector block Clean))) }
+    {
+        let mut text = LineText::new();
+        text.write_clean(number, unit, id, block);
         match self.gather.put(text.as_bytes(), trace) {
             Ok(()) => Ok(()),
             Err(_) => Err(Stop::Sink),

@@ -108,6 +108,7 @@ impl Core {
     {
         let block = self.next_block(u);
         match self.put_sector(u, packs) {
+            Ok(Moved::Clean) => self.tell_clean(line, u, id, block, trace),
             Ok(verdict) => self.tell(line, u, id, Told::Sector { block, verdict }, trace),
             Err(_) => Err(Stop::Store),
         }

@@ -96,11 +96,22 @@ pub fn place_of(kind: DriveKind, block: u32) -> Place
     ensures place { result ≡ place_at kind block }
     ensures inside { IsInside kind result }
 {
-    let geometry = geometry_of(kind);
-    Place {
-        cylinder: block / (geometry.tracks * geometry.sectors),
-        track: block % (geometry.tracks * geometry.sectors) / geometry.sectors,
-        sector: block % geometry.sectors,
+    match kind {
+        DriveKind::Rp06 => Place {
+            cylinder: block / 418,
+            track: block % 418 / 22,
+            sector: block % 22,
+        },
+        DriveKind::Rm03 => Place {
+            cylinder: block / 160,
+            track: block % 160 / 32,
+            sector: block % 32,
+        },
+        DriveKind::Rm05 => Place {
+            cylinder: block / 608,
+            track: block % 608 / 32,
+            sector: block % 32,
+        },
     }
 }
 

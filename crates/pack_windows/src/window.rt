@@ -8,10 +8,11 @@ use mass_outside::traits::StoreFailed;
 use std::alloc::Global;
 use std::marker::Model;
 
-/// How many bytes of an image are read ahead at first, and where reading goes on: four pieces have the longest request, of 127
-/// blocks, and a block more.
+/// How many bytes of an image are read ahead at first.
 const FIRST_SIZE: usize = 4096;
 
+/// How many bytes of an image are read ahead where reading goes on: a first piece and three such hold the longest request, of
+/// 127 blocks.
 const LAST_SIZE: usize = 20480;
 
 /// How many marks are read ahead.

@@ -1,12 +1,14 @@
 ghost use Rattle.std.specs.Prelude.{◌≡◌, ◌≤◌, [], ◌∷◌, drop};
+ghost use Rattle.hardware_table.specs.declared.Moved.TheVariants.{Clean};
 ghost use Rattle.trace_replay.specs.Moments as moments;
+ghost use Rattle.trace_replay.specs.Moments.{Sector};
 ghost use Rattle.subsystem_spec.specs.Requests.{Answer};
 ghost use Rattle.trace_replay.specs.Text.{moment_text};
 ghost use Rattle.trace_lines.specs.Deeds.{deed_of};
 
 use crate::pieces::{ROOM, put_piece};
 use crate::telling::Told;
-use crate::words::{put_first, put_last, put_number};
+use crate::words::{put_first, put_last, put_moved, put_number};
 use std::marker::Model;
 
 /// The text of a line of a trace.
@@ -48,6 +50,19 @@ fn put_line(bytes: &mut [u8; ROOM], number: u64, unit: u8, id: u32, told: &Told)
     put_first(bytes, first, told)
 }
 
+/// Puts the line of a sector that moved clean.
+fn put_clean(bytes: &mut [u8; ROOM], number: u64, unit: u8, id: u32, block: u32) -> usize
+    ensures inside { result ≤ 160 }
+    ensures text { drop result bytes.new ≡ moment_text (moments.Told number unit id (Sector block Clean)) }
+{
+    let end = put_end(bytes);
+    let last = put_moved(bytes, end, block);
+    let third = put_number(bytes, last, u64::from(id));
+    let second = put_number(bytes, third, u64::from(unit));
+    let first = put_number(bytes, second, number);
+    put_piece(bytes, first, b"sector")
+}
+
 /// Puts the line of an event that found nothing to do.
 fn put_idle(bytes: &mut [u8; ROOM], number: u64) -> usize
     ensures inside { result ≤ 160 }
@@ -82,6 +97,13 @@ impl LineText {
         ensures { (answer : Answer) → self.new ≡ moment_text (moments.Told number unit id (deed_of answer told)) }
     {
         self.start = put_line(&mut self.bytes, number, unit, id, &told);
+    }
+
+    /// Writes the line of a sector that moved clean, as `write` does; most lines of a trace are such.
+    pub fn write_clean(&mut self, number: u64, unit: u8, id: u32, block: u32)
+        ensures { self.new ≡ moment_text (moments.Told number unit id (Sector block Clean)) }
+    {
+        self.start = put_clean(&mut self.bytes, number, unit, id, block);
     }
 
     /// Writes the line of an event that found nothing to do, in place of what is there.

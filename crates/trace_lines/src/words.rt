@@ -200,6 +200,19 @@ fn put_sector(bytes: &mut [u8; ROOM], start: usize, block: u32, verdict: Moved) 
     put_number(bytes, at, u64::from(block))
 }
 
+/// Puts a block that moved clean.
+#[tactic(auto, using(crate::proofs::WordLaws::two_words))]
+pub(crate) fn put_moved(bytes: &mut [u8; ROOM], start: usize, block: u32) -> usize
+    requires inside { start ≤ 160 }
+    requires room { 46 ≤ start }
+    ensures text { drop result bytes.new ≡ in_front (decimal block ∷ verdict_words Moved.Clean) (drop start bytes.old) }
+    ensures inside { result ≤ start }
+    ensures room { start ≤ result + 31 }
+{
+    let at = put_word(bytes, start, "clean");
+    put_number(bytes, at, u64::from(block))
+}
+
 /// Puts nothing.
 #[tactic(auto, using(crate::proofs::WordLaws::no_words))]
 fn put_nothing(bytes: &mut [u8; ROOM], start: usize) -> usize

@@ -1,6 +1,6 @@
 // The move of one sector between the pack and the memory.
 ghost use Rattle.std.specs.Prelude.{◌≡◌, ◌<◌, ℕ, List, true, IsTrue, MatchBool, IfOk, IsOk, OnErr, Some, IsSome, bit_or};
-ghost use Rattle.pack_geometry.specs.Geometry.{block_count};
+ghost use Rattle.pack_geometry.specs.Geometry.{block_count, sectors_of};
 ghost use Rattle.hardware_table.specs.Drive.{is_transferring, is_writing};
 ghost use Rattle.mass_outside.specs.Causes.{HasCause};
 ghost use Rattle.main_memory.specs.Windows.{memory_name, window_len, window_bytes, Writes};
@@ -19,7 +19,7 @@ use fire_code::{Check, Verdict, apply, data_law, judge_noise};
 use hardware_table::{Armed, FaultKind, Moved, Work};
 use main_memory::Window;
 use mass_outside::traits::{Packs, StoreFailed};
-use pack_geometry::{blocks, geometry_of, place_of, sector_word};
+use pack_geometry::{DriveKind, blocks, geometry_of, place_of, sector_word};
 use sector_format::{HeaderFault, header_fault, header_of};
 
 // The first armed fault, in the order in which faults strike.
@@ -69,6 +69,18 @@ fn read_through(book: &mut NoiseBook, unit: u8, block: u32, of: u16, bytes: &mut
     }
 }
 
+// The sector of a track that comes under the heads behind one of it.
+fn next_sector(kind: DriveKind, sector: u32) -> u32
+    requires { sector < sectors_of kind }
+    ensures { result ≡ (sector + 1) % sectors_of kind }
+{
+    if sector + 1 < geometry_of(kind).sectors {
+        sector + 1
+    } else {
+        0
+    }
+}
+
 impl Drive {
     // The verdict of a drive that is offline, or on which a fault is armed.
     fn stop(&self) -> Option<Moved>
@@ -89,9 +101,8 @@ impl Drive {
         ensures { self.new ≡ passed block self.old }
     {
         let place = place_of(self.kind, block);
-        let sectors = geometry_of(self.kind).sectors;
         self.cc = place.cylinder as u16;
-        self.la = ((place.sector + 1) % sectors * 64) as u16;
+        self.la = (next_sector(self.kind, place.sector) * 64) as u16;
         if block + 1 < blocks(self.kind) {
             let next = place_of(self.kind, block + 1);
             self.dc = next.cylinder as u16;
