@@ -1,7 +1,6 @@
 // The whole driver.
 ghost use Rattle.std.specs.Prelude.{◌≡◌, ◌<◌, ◌≤◌, [], length, IsSome};
 ghost use Rattle.main_memory.specs.Frames.{frames_needed};
-ghost use Rattle.hardware_table.specs.declared.Moved.TheVariants.{Clean};
 ghost use Rattle.driver_machine.specs.World.{unit_at, slot_at, held_in, slot_in_hand, job_of};
 ghost use Rattle.driver_machine.specs.Lines.{step_told};
 ghost use Rattle.trace_replay.specs.Moments as moments;
@@ -13,6 +12,7 @@ ghost use Rattle.hp_core.specs.Done.{Tells};
 use drive_model::NoiseBook;
 use driver_machine::RetryStep;
 use driver_outcome::Stop;
+use hardware_table::Moved;
 use hp_units::{Answers, Channel};
 use mass_gather::Gather;
 use mass_outside::traits::Sink;
@@ -97,19 +97,20 @@ impl Core {
         }
     }
 
-    /// Tells the line of a sector that moved clean.
-    pub(crate) fn tell_clean<T: Sink>(
+    /// Tells the line of a sector that was tried.
+    pub(crate) fn tell_sector<T: Sink>(
         &mut self,
         number: u64,
         unit: u8,
         id: u32,
         block: u32,
+        verdict: Moved,
         trace: &mut T,
     ) -> Result<(), Stop>
-        ensures { Tells T.tells T.taken T.faults trace.old trace.new self.old self.new result (moment_text (moments.Told number unit id (moments.Sector block Clean))) }
+        ensures { Tells T.tells T.taken T.faults trace.old trace.new self.old self.new result (moment_text (moments.Told number unit id (moments.Sector block verdict))) }
     {
         let mut text = LineText::new();
-        text.write_clean(number, unit, id, block);
+        text.write_sector(number, unit, id, block, verdict);
         match self.gather.put(text.as_bytes(), trace) {
             Ok(()) => Ok(()),
             Err(_) => Err(Stop::Sink),

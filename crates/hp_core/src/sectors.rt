@@ -19,7 +19,6 @@ use crate::driver::Core;
 use driver_outcome::Stop;
 use hardware_table::Moved;
 use mass_outside::traits::{Packs, Sink, StoreFailed};
-use trace_lines::Told;
 
 impl Core {
     /// Tries the next sector of the transfer under way.
@@ -108,8 +107,7 @@ impl Core {
     {
         let block = self.next_block(u);
         match self.put_sector(u, packs) {
-            Ok(Moved::Clean) => self.tell_clean(line, u, id, block, trace),
-            Ok(verdict) => self.tell(line, u, id, Told::Sector { block, verdict }, trace),
+            Ok(verdict) => self.tell_sector(line, u, id, block, verdict, trace),
             Err(_) => Err(Stop::Store),
         }
     }

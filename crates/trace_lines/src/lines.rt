@@ -9,6 +9,7 @@ ghost use Rattle.trace_lines.specs.Deeds.{deed_of};
 use crate::pieces::{ROOM, put_piece};
 use crate::telling::Told;
 use crate::words::{put_first, put_last, put_moved, put_number};
+use hardware_table::Moved;
 use std::marker::Model;
 
 /// The text of a line of a trace.
@@ -56,11 +57,29 @@ fn put_clean(bytes: &mut [u8; ROOM], number: u64, unit: u8, id: u32, block: u32)
     ensures text { drop result bytes.new ≡ moment_text (moments.Told number unit id (Sector block Clean)) }
 {
     let end = put_end(bytes);
-    let last = put_moved(bytes, end, block);
-    let third = put_number(bytes, last, u64::from(id));
-    let second = put_number(bytes, third, u64::from(unit));
-    let first = put_number(bytes, second, number);
-    put_piece(bytes, first, b"sector")
+    let block_at = put_moved(bytes, end, block);
+    let id_at = put_number(bytes, block_at, u64::from(id));
+    let unit_at = put_number(bytes, id_at, u64::from(unit));
+    let number_at = put_number(bytes, unit_at, number);
+    put_piece(bytes, number_at, b"sector")
+}
+
+/// Puts the line of a sector that was tried. Most lines are of one that moved clean.
+fn put_tried(
+    bytes: &mut [u8; ROOM],
+    number: u64,
+    unit: u8,
+    id: u32,
+    block: u32,
+    verdict: Moved,
+) -> usize
+    ensures inside { result ≤ 160 }
+    ensures text { drop result bytes.new ≡ moment_text (moments.Told number unit id (Sector block verdict)) }
+{
+    match verdict {
+        Moved::Clean => put_clean(bytes, number, unit, id, block),
+        _ => put_line(bytes, number, unit, id, &Told::Sector { block, verdict }),
+    }
 }
 
 /// Puts the line of an event that found nothing to do.
@@ -99,11 +118,11 @@ impl LineText {
         self.start = put_line(&mut self.bytes, number, unit, id, &told);
     }
 
-    /// Writes the line of a sector that moved clean, as `write` does; most lines of a trace are such.
-    pub fn write_clean(&mut self, number: u64, unit: u8, id: u32, block: u32)
-        ensures { self.new ≡ moment_text (moments.Told number unit id (Sector block Clean)) }
+    /// Writes the line of a sector that was tried, as `write` does, in less time where it moved clean.
+    pub fn write_sector(&mut self, number: u64, unit: u8, id: u32, block: u32, verdict: Moved)
+        ensures { self.new ≡ moment_text (moments.Told number unit id (Sector block verdict)) }
     {
-        self.start = put_clean(&mut self.bytes, number, unit, id, block);
+        self.start = put_tried(&mut self.bytes, number, unit, id, block, verdict);
     }
 
     /// Writes the line of an event that found nothing to do, in place of what is there.

@@ -168,6 +168,11 @@ fn lines(rt: HostRuntime) {
             line(4, 9, 30, *told).as_bytes() == wanted.as_bytes(),
             "{wanted}"
         );
+        if let Told::Sector { block, verdict } = *told {
+            let mut text = LineText::new();
+            text.write_sector(4, 9, 30, block, verdict);
+            assert!(rt; text.as_bytes() == wanted.as_bytes(), "{wanted}");
+        }
     }
     let long = line(u64::MAX, 255, u32::MAX, Told::End);
     assert!(rt; long.as_bytes() == b"end 18446744073709551615 255 4294967295\n".as_slice());

@@ -1,4 +1,3 @@
-use Rattle.subsystem_spec.specs.Requests.{WriteOk}
 use Rattle.hp_core.proofs.Tries.{Stepped, sector_told, sector_stopped}
 use Rattle.hp_core.proofs.Deeds.{there, adapter_there, hand_there, under_way}
 use Rattle.hp_core.proofs.driver.Core.sector.Goals as goal
@@ -59,7 +58,7 @@ returns-in-Ok g c =
       frames = c.put_sector.ensures.frames;
       answers = c.put_sector.ensures.answers;
     } in
-    sector_told _ _ g.P.Packs.faults _ _ g.T.Sink.faults _ _ _ _ _ c.put_sector.new.self _ _ _ _ _ _ c.in-Ok.verdict c.requires.in_hand c.requires.busy c.next_block-block.ensures s c.put_sector.ensures.kept (c.tell.ensures WriteOk)
+    sector_told _ _ g.P.Packs.faults _ _ g.T.Sink.faults _ _ _ _ _ c.put_sector.new.self _ _ _ _ _ _ c.in-Ok.verdict c.requires.in_hand c.requires.busy c.next_block-block.ensures s c.put_sector.ensures.kept c.tell_sector.ensures
     c.put_sector.ensures.never_again c.put_sector.ensures.cause.later
 
 pub returns-in-Err : goal.returns-in-Err
