@@ -1,14 +1,14 @@
 -- What a move leaves, from what the drive, the book and the packs said.
-use Rattle.std.proofs.Common.{◌≡◌, ℕ, Bool, true, false, not, ◌&&◌, IsTrue, if◌then◌else◌, List, Option, None, Some, option_map, refl, sym, ap, ◌∙◌, subst}
-use Rattle.pack_model.specs.Pack.{Pack, block_at, is_marked, with_written}
-use Rattle.main_memory.specs.Bytes.{front, filled}
+use Rattle.std.proofs.Common.{◌≡◌, ℕ, Bool, true, false, not, ◌&&◌, IsTrue, if◌then◌else◌, List, Option, None, Some, option_map, refl, ap, ◌∙◌, subst}
+use Rattle.pack_model.specs.Pack.{block_at, is_marked}
+use Rattle.main_memory.specs.Bytes.{front}
 use Rattle.hardware_table.specs.declared.FaultKind.{FaultKind}
 use Rattle.hardware_table.specs.declared.Moved.{Moved}
 use Rattle.hardware_table.specs.declared.Moved.TheVariants.{Clean, Burst, Hard, Marked, Faulted, Offline}
 use Rattle.hardware_table.specs.Drive.{DriveState, is_writing}
-use Rattle.hardware_table.specs.Noise.{Book, strikes, book_struck}
-use Rattle.hardware_table.specs.Moves.{stop_of, first_armed, has_bytes, IsVerdict, IsVerdictBy, IsReadVerdict, IsReadAs, was_read, was_written}
-use Rattle.drive_model.specs.Move.{Site, MovesSector, IsFrontRead, struck_at}
+use Rattle.hardware_table.specs.Noise.{strikes, book_struck}
+use Rattle.hardware_table.specs.Moves.{stop_of, first_armed, has_bytes, IsVerdict, IsReadVerdict, IsReadAs}
+use Rattle.drive_model.specs.Move.{Site, MovesSector, struck_at}
 
 -- a drive that is stopped moves no bytes
 no_bytes_by : (online : Bool) → (fault : Option FaultKind) → (verdict : Moved)

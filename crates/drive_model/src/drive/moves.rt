@@ -1,5 +1,5 @@
 // The move of one sector between the pack and the memory.
-ghost use Rattle.std.specs.Prelude.{◌≡◌, ◌<◌, ℕ, List, true, IsTrue, MatchBool, IfOk, IsOk, OnErr, Some, IsSome, bit_or};
+ghost use Rattle.std.specs.Prelude.{◌≡◌, ◌<◌, ◌+◌, ◌%◌, ℕ, List, true, IsTrue, MatchBool, IfOk, IsOk, OnErr, Some, IsSome, bit_or};
 ghost use Rattle.pack_geometry.specs.Geometry.{block_count, sectors_of};
 ghost use Rattle.hardware_table.specs.Drive.{is_transferring, is_writing};
 ghost use Rattle.mass_outside.specs.Causes.{HasCause};

@@ -1,5 +1,4 @@
-use Rattle.std.proofs.Common.{◌≡◌, ◌↔◌, ℕ, List, Option, None, Some, length, sym, ap, ◌∙◌, subst}
-use Rattle.main_memory.specs.Bytes.{front}
+use Rattle.std.proofs.Common.{◌≡◌, ℕ, List, Option, None, Some, length, sym, ap, ◌∙◌, subst}
 use Rattle.main_memory.proofs.ByteLaws.{front-whole, filled-whole}
 use Rattle.hardware_table.specs.Moves.{IsReadAs}
 use Rattle.drive_model.specs.Move.{IsFrontRead}

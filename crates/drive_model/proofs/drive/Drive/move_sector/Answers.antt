@@ -1,4 +1,4 @@
-use Rattle.std.proofs.Common.{◌≡◌, Bool, List, ℕ, Option, Some, refl, sym, ◌∙◌, rules, false}
+use Rattle.std.proofs.Common.{sym, ◌∙◌, rules}
 use Rattle.drive_model.proofs.MoveLaws.{stopped_moves, read_moves}
 use Rattle.drive_model.proofs.drive.Drive.move_sector.Goals as goal
 
