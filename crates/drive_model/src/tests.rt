@@ -1,10 +1,8 @@
-ghost use Rattle.std.specs.Prelude.{◌≡◌, ◌<◌, true};
-ghost use Rattle.pack_geometry.specs.Geometry.{block_count};
-ghost use Rattle.main_memory.specs.Windows.{memory_name};
+ghost use Rattle.std.specs.Prelude.{◌≡◌, true};
 ghost use Rattle.hardware_table.specs.Drive.{is_transferring};
 
 use crate::{Drive, FaultKind, Moved, NoiseBook, NoiseSpan, Register};
-use drive_registers::{Function, OffsetCode};
+use drive_registers::Function;
 use fire_code::Noise;
 use main_memory::{MainMemory, Window, to_bus};
 use mass_outside::mem_packs::{FailCall, MemPacks, PackOp};
@@ -269,74 +267,19 @@ fn do_function(rt: &impl Abort, kind: DriveKind, row: Done) {
     assert_eq!(rt; drive.read_register(Register::La), la);
 }
 
-// The type word of each kind, its last block, and that block's cylinder.
-const KINDS: [(DriveKind, u16, u32, u16); 3] = [
-    (DriveKind::Rp06, 0o20022, 340_669, 814),
-    (DriveKind::Rm03, 0o20024, 131_679, 822),
-    (DriveKind::Rm05, 0o20027, 500_383, 822),
+// The type word of each kind.
+const KINDS: [(DriveKind, u16); 3] = [
+    (DriveKind::Rp06, 0o20022),
+    (DriveKind::Rm03, 0o20024),
+    (DriveKind::Rm05, 0o20027),
 ];
 
 #[test]
 fn registers(rt: HostRuntime) {
-    for (kind, word, _, _) in KINDS {
+    for (kind, word) in KINDS {
         assert_eq!(rt; Drive::new(kind, 3).read_register(Register::Dt), word);
         for row in FUNCTIONS {
             do_function(&rt, kind, row);
         }
     }
-}
-
-// Tries a read of a block of unit 4 with this word in Of, and gives the drive that it leaves.
-fn read_block(
-    kind: DriveKind,
-    of: u16,
-    block: u32,
-    packs: &mut MemPacks,
-    book: &mut NoiseBook,
-    window: &mut Window<'_>,
-) -> Result<(Moved, Drive), Fail>
-    requires { block < block_count kind }
-    ensures { memory_name window.new ≡ memory_name window.old }
-{
-    let mut drive = transferring(kind, Trial::Mark);
-    drive.write_register(Register::Of, of);
-    let verdict = drive.move_sector(packs, 4, block, book, window)?;
-    Ok((verdict, drive))
-}
-
-// Noise until a code strikes under every other code, and ends under its own; then the sector is right.
-const READS: [(u16, u16, u16); 4] = [
-    (0o10000, 4091, 0o2001),
-    (0o10040, 4091, 0o2001),
-    (0o10020, 0, 0),
-    (0o10000, 0, 0),
-];
-
-#[test]
-fn noise_until_a_code(rt: HostRuntime) -> Result<(), Fail> {
-    let mut memory = MainMemory::new(rt.alloc())?;
-    let buffer = to_bus(memory.lend(1, 0, 512)?);
-    let mut window = memory.window(&buffer, 0);
-    for (kind, _, last, cylinder) in KINDS {
-        let mut packs = packs_with(rt.alloc(), Trial::Write, None)?;
-        let mut book = NoiseBook::new(rt.alloc(), 4096)?;
-        let noise = Noise::new(&[4090, 4100]).ok_or("no noise")?;
-        book.arm(4, 0, noise, NoiseSpan::Until(OffsetCode::Plus400));
-        for (of, at, pattern) in READS {
-            let (_, drive) = read_block(kind, of, 0, &mut packs, &mut book, &mut window)?;
-            assert_eq!(rt; drive.read_register(Register::Ec1), at);
-            assert_eq!(rt; drive.read_register(Register::Ec2), pattern);
-        }
-        let (verdict, drive) = read_block(kind, 0, last, &mut packs, &mut book, &mut window)?;
-        assert!(rt; verdict == Moved::Clean);
-        for (register, word) in [
-            (Register::Cc, cylinder),
-            (Register::Dc, 0),
-            (Register::Da, 0),
-            (Register::La, 0),
-        ] {
-            assert_eq!(rt; drive.read_register(register), word);
-        }
-    }
-    Ok(())
 }

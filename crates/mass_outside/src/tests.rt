@@ -80,65 +80,6 @@ fn packs(alloc: Global, op: PackOp, number: u64) -> Result<MemPacks, Fail> {
     )?)
 }
 
-#[test]
-fn packs_in_memory(rt: HostRuntime) -> Result<(), Fail> {
-    let alloc = rt.alloc();
-    for op in [
-        PackOp::Length,
-        PackOp::Read,
-        PackOp::Write,
-        PackOp::Marked,
-        PackOp::SetMark,
-    ] {
-        let mut packs = packs(alloc, op, 2)?;
-        let mut block = [0u8; 512];
-        for number in 1..4u64 {
-            let fails = |name| number == 2 && op == name;
-            assert!(rt;
-                packs.length(3).is_err() == fails(PackOp::Length),
-                "{op:?} {number}"
-            );
-            assert!(rt;
-                packs.read(3, 0, &mut block).is_err() == fails(PackOp::Read),
-                "{op:?} {number}"
-            );
-            assert!(rt;
-                packs.write(3, 3, &block).is_err() == fails(PackOp::Write),
-                "{op:?} {number}"
-            );
-            assert!(rt;
-                packs.marked(3, 1).is_err() == fails(PackOp::Marked),
-                "{op:?} {number}"
-            );
-            assert!(rt;
-                packs.set_mark(3, 2, true).is_err() == fails(PackOp::SetMark),
-                "{op:?} {number}"
-            );
-        }
-    }
-    let mut packs = packs(alloc, PackOp::Length, 9)?;
-    let mut block = [0u8; 512];
-    assert!(rt;
-        packs.write(3, 4, &block) == Err(StoreFailed)
-            && packs.set_mark(3, 4, true) == Err(StoreFailed)
-    );
-    assert!(rt;
-        packs.write(4, 0, &block) == Err(StoreFailed)
-            && packs.set_mark(4, 0, true) == Err(StoreFailed)
-    );
-    assert!(rt;
-        packs.length(4) == Ok(0)
-            && packs.marked(4, 0) == Ok(false)
-            && packs.marked(3, 9) == Ok(false)
-    );
-    assert!(rt; packs.length(3) == Ok(700) && packs.marked(3, 1) == Ok(true));
-    packs.read(3, 1, &mut block)?;
-    assert!(rt; block[187] == 0xFF && block[188] == 0);
-    packs.write(3, 2, &block)?;
-    assert!(rt; packs.length(3) == Ok(1536));
-    Ok(())
-}
-
 /// A reader of std whose call of one number, counted from 1, fails.
 #[derive(Drop)]
 struct FailingReader<'a> {
@@ -449,6 +390,67 @@ fn file_sink(rt: HostRuntime) -> Result<(), Fail> {
     fs::create_dir(&rt, "hp.trace")?;
     assert!(rt; write_all(&mut FileSink::new(&rt, "hp.trace"), b"idle 1\n").is_err());
     fs::remove_dir(&rt, "hp.trace")?;
+    Ok(())
+}
+
+/// The operation of a call.
+fn operation(call: Call) -> PackOp {
+    match call {
+        Call::Length => PackOp::Length,
+        Call::Read(_) => PackOp::Read,
+        Call::Write(_, _) => PackOp::Write,
+        Call::Marked(_) => PackOp::Marked,
+        Call::Mark(_, _) => PackOp::SetMark,
+    }
+}
+
+/// A call of each operation.
+const EACH: [Call; 5] = [
+    Call::Length,
+    Call::Read(0),
+    Call::Write(3, 5),
+    Call::Marked(1),
+    Call::Mark(2, true),
+];
+
+#[test]
+fn second_call_fails(rt: HostRuntime) -> Result<(), Fail> {
+    for failing in EACH {
+        let op = operation(failing);
+        let mut packs = packs(rt.alloc(), op, 2)?;
+        for number in 1..4u64 {
+            for call in EACH {
+                let fails = number == 2 && operation(call) == op;
+                assert!(rt;
+                    answer(&mut packs, 3, call).is_err() == fails,
+                    "{op:?} {number}"
+                );
+            }
+        }
+    }
+    Ok(())
+}
+
+/// What calls on packs in memory answer: unit 3 has an image of 700 bytes 255, a mark on block 1 and room for four blocks.
+const MEMORY: [(u8, Call, Option<u64>); 12] = [
+    (3, Call::Write(4, 5), None),
+    (3, Call::Mark(4, true), None),
+    (4, Call::Write(0, 5), None),
+    (4, Call::Mark(0, true), None),
+    (4, Call::Length, Some(0)),
+    (4, Call::Marked(0), Some(0)),
+    (3, Call::Marked(9), Some(0)),
+    (3, Call::Length, Some(700)),
+    (3, Call::Marked(1), Some(1)),
+    (3, Call::Read(1), Some(0xFF00)),
+    (3, Call::Write(2, 5), Some(0)),
+    (3, Call::Length, Some(1536)),
+];
+
+#[test]
+fn packs_in_memory(rt: HostRuntime) -> Result<(), Fail> {
+    let mut packs = packs(rt.alloc(), PackOp::Length, 9)?;
+    assert_eq!(rt; first_other(&mut packs, &MEMORY), MEMORY.len());
     Ok(())
 }
 
