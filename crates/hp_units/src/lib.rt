@@ -10,6 +10,3 @@ mod unit;
 pub use answers::Answers;
 pub use channel::Channel;
 pub use unit::DiskUnit;
-
-#[cfg(test)]
-mod tests;

@@ -28,36 +28,54 @@ fn pieces<S: Source>(source: &mut S) -> [u8; 3] {
     counts
 }
 
+/// How many bytes of a source in memory each piece gives where one call fails.
+fn pieces_in_memory(alloc: Global, fail: u64) -> Result<[u8; 3], Fail> {
+    let mut source = MemSource::new(
+        Vec::from_slice(alloc, b"abc")?,
+        Vec::from_slice(alloc, &[fail])?,
+    );
+    Ok(pieces(&mut source))
+}
+
 #[test]
-fn streams_in_memory(rt: HostRuntime) -> Result<(), Fail> {
-    let alloc = rt.alloc();
+fn sources_in_memory(rt: HostRuntime) -> Result<(), Fail> {
     for (fail, counts) in [
         (1u64, [9u8, 2, 1]),
         (2, [2, 9, 1]),
         (3, [2, 1, 9]),
         (4, [2, 1, 0]),
     ] {
-        let mut source = MemSource::new(
-            Vec::from_slice(alloc, b"abc")?,
-            Vec::from_slice(alloc, &[fail])?,
-        );
-        assert_eq!(rt; pieces(&mut source), counts, "call {fail}");
+        assert_eq!(rt; pieces_in_memory(rt.alloc(), fail)?, counts, "call {fail}");
     }
-    let mut sure = SureSource::new(Vec::from_slice(alloc, b"abc")?);
-    match read_all(alloc, &mut sure, 2) {
+    let mut sure = SureSource::new(Vec::from_slice(rt.alloc(), b"abc")?);
+    match read_all(rt.alloc(), &mut sure, 2) {
         Ok(bytes) => assert_eq!(rt; bytes.as_slice(), b"abc".as_slice()),
         Err(_) => assert!(rt; false, "a source in memory is read"),
     }
-    for (fail, room, text) in [
-        (1u64, 9usize, b"cd".as_slice()),
-        (2, 9, b"ab"),
-        (3, 9, b"abcd"),
-        (3, 3, b"ab"),
-        (3, 1, b""),
-    ] {
-        let mut sink = MemSink::new(alloc, room, Vec::from_slice(alloc, &[fail])?)?;
-        let _ = write_all(&mut sink, b"ab");
-        let _ = write_all(&mut sink, b"cd");
+    Ok(())
+}
+
+/// A sink in memory to which two texts were written, where one call fails.
+fn written(alloc: Global, fail: u64, room: usize) -> Result<MemSink, Fail> {
+    let mut sink = MemSink::new(alloc, room, Vec::from_slice(alloc, &[fail])?)?;
+    let _ = write_all(&mut sink, b"ab");
+    let _ = write_all(&mut sink, b"cd");
+    Ok(sink)
+}
+
+/// Which call of a sink in memory fails, its room, and what it takes.
+const WRITTEN: [(u64, usize, &[u8]); 5] = [
+    (1, 9, b"cd"),
+    (2, 9, b"ab"),
+    (3, 9, b"abcd"),
+    (3, 3, b"ab"),
+    (3, 1, b""),
+];
+
+#[test]
+fn sinks_in_memory(rt: HostRuntime) -> Result<(), Fail> {
+    for (fail, room, text) in WRITTEN {
+        let sink = written(rt.alloc(), fail, room)?;
         assert_eq!(rt; sink.taken(), text, "call {fail}, room {room}");
     }
     assert!(rt; SureSink::new().write(b"abc") == Ok(3));
@@ -123,42 +141,53 @@ impl<'a> Write for ShortWriter<'a> {
     }
 }
 
+/// How many bytes of a reader each piece gives where one call fails.
+fn pieces_of_reader(fail: u8) -> [u8; 3] {
+    let mut source = StdSource::new(FailingReader {
+        rest: b"abc",
+        calls: 0,
+        fail,
+    });
+    pieces(&mut source)
+}
+
+/// What a writer takes that takes so much a call, and whether all of it.
+fn taken_by_writer(alloc: Global, most: usize, fail: u8) -> (Vec<u8>, bool) {
+    let mut taken = Vec::new(alloc);
+    let mut sink = StdSink::new(ShortWriter {
+        taken: &mut taken,
+        most,
+        calls: 0,
+        fail,
+    });
+    let done = write_all(&mut sink, b"abcde").is_ok();
+    (taken, done)
+}
+
+/// How much a writer takes a call, which call fails, whether all is taken, and what is.
+const TAKEN: [(usize, u8, bool, &[u8]); 5] = [
+    (2, 9, true, b"abcde"),
+    (9, 9, true, b"abcde"),
+    (2, 2, false, b"ab"),
+    (3, 1, false, b""),
+    (0, 9, false, b""),
+];
+
 #[test]
-fn streams_of_std(rt: HostRuntime) -> Result<(), Fail> {
+fn streams_of_std(rt: HostRuntime) {
     for (fail, counts) in [
         (1u8, [9u8, 2, 1]),
         (2, [2, 9, 1]),
         (3, [2, 1, 9]),
         (4, [2, 1, 0]),
     ] {
-        let mut source = StdSource::new(FailingReader {
-            rest: b"abc",
-            calls: 0,
-            fail,
-        });
-        assert_eq!(rt; pieces(&mut source), counts, "call {fail}");
+        assert_eq!(rt; pieces_of_reader(fail), counts, "call {fail}");
     }
-    for (most, fail, done, text) in [
-        (2usize, 9u8, true, b"abcde".as_slice()),
-        (9, 9, true, b"abcde"),
-        (2, 2, false, b"ab"),
-        (3, 1, false, b""),
-        (0, 9, false, b""),
-    ] {
-        let mut taken = Vec::new(rt.alloc());
-        let mut sink = StdSink::new(ShortWriter {
-            taken: &mut taken,
-            most,
-            calls: 0,
-            fail,
-        });
-        assert!(rt;
-            write_all(&mut sink, b"abcde").is_ok() == done,
-            "most {most}, call {fail}"
-        );
+    for (most, fail, done, text) in TAKEN {
+        let (taken, all) = taken_by_writer(rt.alloc(), most, fail);
+        assert_eq!(rt; all, done, "most {most}, call {fail}");
         assert_eq!(rt; taken.as_slice(), text, "most {most}, call {fail}");
     }
-    Ok(())
 }
 
 /// A call on packs.

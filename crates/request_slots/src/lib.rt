@@ -10,6 +10,3 @@ mod slots;
 
 pub use asked::Asked;
 pub use slots::Slots;
-
-#[cfg(test)]
-mod tests;
