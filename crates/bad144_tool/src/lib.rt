@@ -12,6 +12,3 @@ pub use edit::AddWay;
 pub use fault::ToolFault;
 pub use laws::{add_law, refusal_law};
 pub use tool::{add, fresh, list};
-
-#[cfg(test)]
-mod tests;

@@ -11,6 +11,3 @@ pub use book::NoiseBook;
 pub use drive::Drive;
 pub use hardware_table::{FaultKind, Moved, NoiseSpan, Register};
 pub use laws::whole_sector_law;
-
-#[cfg(test)]
-mod tests;

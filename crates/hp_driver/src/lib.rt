@@ -13,6 +13,3 @@ pub use hp_core::UnitSetup;
 pub use hp_events::Event;
 pub use request::Request;
 pub use subsystem::Subsystem;
-
-#[cfg(test)]
-mod tests;

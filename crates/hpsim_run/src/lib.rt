@@ -11,12 +11,3 @@ mod words;
 
 pub use command::run;
 pub use status::Status;
-
-#[cfg(test)]
-mod exercise_tests;
-#[cfg(test)]
-mod rows;
-#[cfg(test)]
-mod stops_tests;
-#[cfg(test)]
-mod tests;

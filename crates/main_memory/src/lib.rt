@@ -15,6 +15,3 @@ pub use buffer::{Buffer, Bus, Cpu, frames_of, to_bus, to_cpu};
 pub use laws::{buffer_laws, text_laws, whole_laws, window_laws};
 pub use memory::{MainMemory, NoFrames};
 pub use window::Window;
-
-#[cfg(test)]
-mod tests;

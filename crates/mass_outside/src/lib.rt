@@ -8,7 +8,5 @@ pub mod mem_streams;
 pub mod slots;
 pub mod streams;
 pub mod sure_packs;
-#[cfg(test)]
-mod tests;
 pub mod traits;
 pub mod whole;

@@ -8,6 +8,3 @@ mod map;
 
 pub use adapter::{Adapter, Ended};
 pub use laws::transfer_law;
-
-#[cfg(test)]
-mod tests;

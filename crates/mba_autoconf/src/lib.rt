@@ -4,8 +4,6 @@
 
 mod attaching;
 mod probing;
-#[cfg(test)]
-mod tests;
 
 pub use attaching::{AttachFault, Attached, attach, attach_law};
 pub use probing::{ProbeFault, probe};

@@ -3,8 +3,6 @@
 #![tactic(auto)]
 
 pub mod pack_files;
-#[cfg(test)]
-mod tests;
 pub mod wide_packs;
 mod window;
 pub mod window_packs;

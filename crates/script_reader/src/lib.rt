@@ -12,6 +12,4 @@ mod lines;
 mod places;
 pub mod script;
 pub mod statement;
-#[cfg(test)]
-mod tests;
 mod words;

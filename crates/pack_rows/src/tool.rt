@@ -1,4 +1,4 @@
-use crate::{AddWay, ToolFault, add, fresh, list};
+use bad144_tool::{AddWay, ToolFault, add, fresh, list};
 use mass_outside::mem_packs::{FailCall, MemPacks, PackOp};
 use mass_outside::mem_streams::MemSink;
 use mass_outside::slots::Image;

@@ -1,7 +1,7 @@
 ghost use Rattle.std.specs.Prelude.{◌<◌};
 
 use crate::rows::ROWS;
-use crate::run;
+use hpsim_run::run;
 use mass_outside::mem_packs::{FailCall, MemPacks, PackOp};
 use mass_outside::mem_streams::{MemSink, MemSource};
 use mass_outside::slots::Image;
@@ -448,13 +448,18 @@ fn frames_run_out(rt: HostRuntime) -> Result<(), Fail> {
 }
 
 #[test]
-fn limits(rt: HostRuntime) -> Result<(), Fail> {
+fn too_many_requests(rt: HostRuntime) -> Result<(), Fail> {
     let script = reads(rt.alloc(), 65_537, 1)?;
     let ran = play_over(rt.alloc(), script.as_bytes(), b"", NONE)?;
     assert_eq!(rt; ran.out.taken(), b"refused line 65538 toomany\n".as_slice());
-    let mut long = Vec::new(rt.alloc());
-    long.resize(16_777_217, b'\n')?;
-    let ran = play_over(rt.alloc(), long.as_slice(), b"", NONE)?;
+    Ok(())
+}
+
+#[test]
+fn script_too_long(rt: HostRuntime) -> Result<(), Fail> {
+    let mut script = Vec::new(rt.alloc());
+    script.resize(16_777_217, b'\n')?;
+    let ran = play_over(rt.alloc(), script.as_slice(), b"", NONE)?;
     assert_eq!(rt; ran.out.taken(), b"refused line 0 scriptlong\n".as_slice());
     Ok(())
 }
@@ -544,6 +549,37 @@ fn tool(alloc: Global, line: &str, packs: &mut MemPacks) -> Result<(u8, MemSink)
     Ok((status, out))
 }
 
+/// The entries of the table behind these commands: blocks 125 and 1000.
+const ENTRIES: [u8; 8] = [0x00, 0x00, 0x0f, 0x05, 0x02, 0x00, 0x0a, 0x07];
+
+/// How many copies of the table have the serial number 7 and these entries, and end with FF.
+fn copies_of_table(packs: &mut MemPacks) -> Result<u32, Fail> {
+    let mut count = 0u32;
+    let mut bytes = [0u8; 512];
+    for block in [340648, 340650, 340652, 340654, 340656] {
+        packs.read(0, block, &mut bytes)?;
+        let is_serial = bytes.starts_with(&[7, 0, 0, 0, 0, 0, 0, 0]);
+        let is_listed = bytes[8..].starts_with(&ENTRIES);
+        if is_serial && is_listed && bytes[511] == 0xff {
+            count = count.saturating_add(1);
+        }
+    }
+    Ok(count)
+}
+
+/// Adds one block after another from 3000 on, and answers how many commands came to status 0.
+fn add_blocks(alloc: Global, count: u32, packs: &mut MemPacks) -> Result<u32, Fail> {
+    let mut done = 0u32;
+    for before in 0..count {
+        let line = format!(in alloc; "bad144 add 0 rp06 {}", u64::from(before) + 3000)?;
+        let (status, _) = tool(alloc, line.as_str(), packs)?;
+        if status == 0 {
+            done = done.saturating_add(1);
+        }
+    }
+    Ok(done)
+}
+
 #[test]
 fn bad144_tool_run(rt: HostRuntime) -> Result<(), Fail> {
     let mut packs = packs_of(rt.alloc(), b"", b"", NONE.packs)?;
@@ -552,29 +588,19 @@ fn bad144_tool_run(rt: HostRuntime) -> Result<(), Fail> {
         assert_eq!(rt; answer, status, "{line}");
         assert_eq!(rt; out.taken(), text, "{line}");
     }
-    let mut bytes = [0u8; 512];
-    for block in [340648, 340650, 340652, 340654, 340656] {
-        packs.read(0, block, &mut bytes)?;
-        for (i, byte) in [
-            7, 0, 0, 0, 0, 0, 0, 0, 0x00, 0x00, 0x0f, 0x05, 0x02, 0x00, 0x0a, 0x07,
-        ]
-        .iter()
-        .enumerate()
-        {
-            assert_eq!(rt; bytes[i], *byte, "byte {i} of block {block}");
-        }
-        assert_eq!(rt; bytes[511], 0xff);
-    }
+    assert_eq!(rt; copies_of_table(&mut packs)?, 5);
     assert!(rt; packs.marked(0, 125)? && !packs.marked(0, 1000)?);
-    packs.set_mark(0, 340645, true)?;
+    Ok(())
+}
+
+/// The next replacement is marked; and then all entries are used.
+#[test]
+fn no_replacement_left(rt: HostRuntime) -> Result<(), Fail> {
+    let mut packs = listed(rt.alloc(), &ENTRIES, &[340645], NONE.packs)?;
     let (_, out) = tool(rt.alloc(), "bad144 add 0 rp06 2000", &mut packs)?;
     assert_eq!(rt; out.taken(), b"refused spare 2\n".as_slice());
     packs.set_mark(0, 340645, false)?;
-    for block in 0..124u32 {
-        let line = format!(in rt.alloc(); "bad144 add 0 rp06 {}", 3000 + block)?;
-        let (answer, _) = tool(rt.alloc(), line.as_str(), &mut packs)?;
-        assert_eq!(rt; answer, 0, "{block}");
-    }
+    assert_eq!(rt; add_blocks(rt.alloc(), 124, &mut packs)?, 124);
     let (_, out) = tool(rt.alloc(), "bad144 add 0 rp06 2000", &mut packs)?;
     assert_eq!(rt; out.taken(), b"refused full\n".as_slice());
     Ok(())

@@ -1,5 +1,5 @@
-use crate::Adapter;
 use main_memory::{MainMemory, frames_of};
+use mba_adapter::Adapter;
 use std::test::Fail;
 
 #[test]

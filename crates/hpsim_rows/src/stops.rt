@@ -1,5 +1,5 @@
 // Runs that stop: a call fails, or a sink has no room.
-use crate::tests::{
+use crate::runs::{
     Faults, NONE, PLAY, RETRIES, Ran, holds, listed, packs_of, play_over, run_on, times,
 };
 use mass_outside::mem_packs::{FailCall, MemPacks, PackOp};

@@ -1,9 +1,9 @@
-use crate::fault::ReadFault::Refused;
-use crate::fault::ScriptKind::{
+use script_reader::fault::ReadFault::Refused;
+use script_reader::fault::ScriptKind::{
     Bits, Count, Data, IdTwice, LateUnit, Number, UnitTwice, UnitUnknown, Word,
 };
-use crate::fault::{ReadFault, ScriptKind};
-use crate::script::read_script;
+use script_reader::fault::{ReadFault, ScriptKind};
+use script_reader::script::read_script;
 use std::alloc::{AllocError, Global};
 use std::test::Fail;
 

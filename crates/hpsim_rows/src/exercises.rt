@@ -1,6 +1,6 @@
-use crate::run;
 use event_player::play::play;
 use hp_exercise::script_of;
+use hpsim_run::run;
 use mass_outside::mem_packs::MemPacks;
 use mass_outside::mem_streams::{MemSink, MemSource};
 use mass_outside::slots::Image;

@@ -1,4 +1,4 @@
-use crate::{Buffer, Bus, Cpu, MainMemory, NoFrames, frames_of, to_bus, to_cpu};
+use main_memory::{Buffer, Bus, Cpu, MainMemory, NoFrames, frames_of, to_bus, to_cpu};
 use std::test::Fail;
 
 // Byte i of a block that no other block of these tests is like.

@@ -1,9 +1,9 @@
-use crate::pack_files::PackFiles;
-use crate::wide_packs::WidePacks;
-use crate::window_packs::WindowPacks;
 use mass_outside::mem_packs::{FailCall, MemPacks, PackOp};
 use mass_outside::slots::Image;
 use mass_outside::traits::{Packs, StoreFailed};
+use pack_windows::pack_files::PackFiles;
+use pack_windows::wide_packs::WidePacks;
+use pack_windows::window_packs::WindowPacks;
 use std::alloc::Global;
 use std::fs;
 use std::test::Fail;

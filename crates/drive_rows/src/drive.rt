@@ -1,7 +1,7 @@
 ghost use Rattle.std.specs.Prelude.{◌≡◌, true};
 ghost use Rattle.hardware_table.specs.Drive.{is_transferring};
 
-use crate::{Drive, FaultKind, Moved, NoiseBook, NoiseSpan, Register};
+use drive_model::{Drive, FaultKind, Moved, NoiseBook, NoiseSpan, Register};
 use drive_registers::Function;
 use fire_code::Noise;
 use main_memory::{MainMemory, Window, to_bus};

@@ -3,7 +3,7 @@ ghost use Rattle.std.specs.Prelude.{◌≡◌, ◌∷◌, [], false, None, IfSom
 ghost use Rattle.pack_geometry.specs.declared.DriveKind.TheVariants.{Rm03};
 ghost use Rattle.driver_machine.specs.World.{new_world};
 
-use super::*;
+use hp_driver::*;
 use pack_geometry::DriveKind;
 use std::alloc::Global;
 
