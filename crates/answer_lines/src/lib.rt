@@ -25,6 +25,3 @@ pub fn text_laws()
     ensures follow { BlocksFollow }
     ensures class { ClassIsSaid }
 {}
-
-#[cfg(test)]
-mod tests;

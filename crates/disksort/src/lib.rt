@@ -167,6 +167,3 @@ pub fn service_order_law()
     ensures in_its_run { (queue : List Waiter) (joining : Waiter) → IsInOrder cylinder_of queue
         → queue_with cylinder_of joining queue ≡ in_runs cylinder_of joining queue }
 {}
-
-#[cfg(test)]
-mod tests;

@@ -1,5 +1,5 @@
-//! Tests of the drive, the adapter, memory, attaching and the driver's start: tests alone, so that the crates that they test are proved
-//! once.
+//! Tests of memory, the drive, its adapter, attaching, interrupts, transfers, the queue, the lines of a trace and the driver's start.
+//! There are tests alone here, so that the crates that they test are proved once.
 #![tactic(auto)]
 
 #[cfg(test)]
@@ -11,4 +11,12 @@ mod drive;
 #[cfg(test)]
 mod driver;
 #[cfg(test)]
+mod interrupts;
+#[cfg(test)]
+mod lines;
+#[cfg(test)]
 mod memory;
+#[cfg(test)]
+mod queue;
+#[cfg(test)]
+mod transfer;

@@ -150,6 +150,3 @@ pub fn lowest_attention(summary: u8) -> Option<u8>
         Some(summary.trailing_zeros() as u8)
     }
 }
-
-#[cfg(test)]
-mod tests;

@@ -4,6 +4,3 @@
 mod gather;
 
 pub use gather::{Gather, gather_law};
-
-#[cfg(test)]
-mod tests;

@@ -8,6 +8,3 @@ mod pieces;
 pub use line::{LineBuf, content_law};
 pub use numbers::{NumberFault, Radix, number, numeral_law};
 pub use pieces::Fields;
-
-#[cfg(test)]
-mod tests;

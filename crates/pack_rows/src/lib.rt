@@ -1,8 +1,17 @@
-//! Tests of packs, streams, files and the tool for bad-sector tables: tests alone, so that the crates that they test are proved once.
+//! Tests of packs, tables, texts, streams, files and the tool for bad-sector tables. There are tests alone here, so that the crates that
+//! they test are proved once.
 #![tactic(auto)]
 
 #[cfg(test)]
+mod answers;
+#[cfg(test)]
+mod gather;
+#[cfg(test)]
 mod outside;
+#[cfg(test)]
+mod table;
+#[cfg(test)]
+mod text;
 #[cfg(test)]
 mod tool;
 #[cfg(test)]

@@ -8,6 +8,3 @@ mod words;
 
 pub use lines::{LineText, idle};
 pub use telling::Told;
-
-#[cfg(test)]
-mod tests;

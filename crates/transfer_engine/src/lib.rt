@@ -13,6 +13,3 @@ pub use calls::begin;
 pub use job::{Job, Segment};
 pub use laws::{continuation_law, ending_law, failure_law, segment_law, transfer_law};
 pub use states::{Continued, Direct, Exhausted, Forwarded, Next, Transfer, Unforwarded};
-
-#[cfg(test)]
-mod tests;

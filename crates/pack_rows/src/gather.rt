@@ -1,4 +1,4 @@
-use super::*;
+use mass_gather::*;
 use mass_outside::mem_streams::MemSink;
 use mass_outside::traits::{Sink, SinkFailed};
 use std::test::Fail;

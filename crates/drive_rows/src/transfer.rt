@@ -1,7 +1,7 @@
-use super::*;
 use bad144_table::{BadTable, empty_table, insert};
 use pack_geometry::{DriveKind, Place};
 use retry_offsets::Step;
+use transfer_engine::*;
 
 // How a segment ends, behind so many sectors that moved.
 #[derive(Clone, Copy, Debug, PartialEq, Eq)]

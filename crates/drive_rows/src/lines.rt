@@ -1,6 +1,6 @@
-use super::*;
 use drive_registers::OffsetCode;
 use hardware_table::{FaultKind, Moved};
+use trace_lines::*;
 
 /// A deed, and the line that tells it at line 4 of the script, of unit 9, for request 30.
 const LINES: [(Told, &str); 29] = [

@@ -1,6 +1,6 @@
 ghost use Rattle.std.specs.Prelude.{◌≤◌, length};
 
-use super::*;
+use answer_lines::*;
 use fire_code::NoiseClass;
 
 /// An outcome, and the line that tells it at line 4 of the script for request 30.

@@ -1,4 +1,4 @@
-use super::*;
+use bad144_table::*;
 use pack_geometry::{DriveKind, Place};
 
 // The bytes of an RP06's table without an entry, but for four bytes.

@@ -1,4 +1,6 @@
-use super::*;
+use disksort::*;
+use mass_outside::traits::NoMemory;
+use std::alloc::Global;
 use std::test::Fail;
 
 /// How many join, at which cylinders, as the numbers 0, 1, 2 .. in this order, and in which order they are served.

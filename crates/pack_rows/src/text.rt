@@ -1,6 +1,6 @@
 ghost use Rattle.std.specs.Prelude.{◌≤◌, length};
 
-use super::*;
+use mass_text::*;
 
 #[test]
 fn numbers_and_fields(rt: HostRuntime) {

@@ -3,11 +3,11 @@ ghost use Rattle.std.specs.Prelude.{◌≡◌, false};
 ghost use Rattle.hardware_table.specs.Drive.{new_drive};
 ghost use Rattle.hp_interrupts.specs.Verdicts.{IsLeftBy};
 
-use super::{
+use hardware_table::{FaultKind, Moved};
+use hp_interrupts::{
     DataCause, Sensed, TransferRegs, data_interrupt, lowest_attention, needs_pack, sense,
     shows_late, verdict_of,
 };
-use hardware_table::{FaultKind, Moved};
 use pack_geometry::DriveKind;
 use std::process::Abort;
 
