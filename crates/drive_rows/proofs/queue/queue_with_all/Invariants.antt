@@ -1,5 +1,5 @@
 use Rattle.std.proofs.Common.{◌≡◌, ◌<◌, All, length}
-use Rattle.disksort.proofs.tests.queue_with_all.Given as goal
+use Rattle.drive_rows.proofs.queue.queue_with_all.Given as goal
 
 -- as many wait as have joined, with the numbers so far
 abbrev pub invariant-loop-number : goal.invariant-loop-number

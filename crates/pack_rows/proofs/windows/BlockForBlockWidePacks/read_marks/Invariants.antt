@@ -1,5 +1,5 @@
 use Rattle.std.proofs.Common.{◌≤◌}
-use Rattle.pack_windows.proofs.tests.BlockForBlockWidePacks.read_marks.Given as goal
+use Rattle.pack_rows.proofs.windows.BlockForBlockWidePacks.read_marks.Given as goal
 
 -- the count of faults has not fallen
 abbrev pub invariant-loop-byte : goal.invariant-loop-byte

@@ -2,7 +2,7 @@ use Rattle.std.proofs.Common.{◌+◌, ◌<◌, ◌∙◌, ap, arith}
 use Rattle.disksort.specs.declared.Waiter.{Waiter}
 use Rattle.disksort.specs.SortQueue.{cylinder_of}
 use Rattle.subsystem_spec.proofs.ServiceOrderLaws.{length-queue_with, All-queue_with}
-use Rattle.disksort.proofs.tests.queue_with_all.Goals as goal
+use Rattle.drive_rows.proofs.queue.queue_with_all.Goals as goal
 
 pub loop-number-preserved : goal.loop-number-preserved
 loop-number-preserved c = rw c.insert.ensures (record {
