@@ -1,3 +1,4 @@
+use crate::runs::Ran;
 use event_player::play::play;
 use hp_exercise::script_of;
 use hpsim_run::run;
@@ -7,14 +8,6 @@ use mass_outside::slots::Image;
 use script_reader::script::read_script;
 use std::alloc::Global;
 use std::test::Fail;
-
-/// What a run came to.
-#[derive(Drop)]
-struct Ran {
-    status: u8,
-    out: MemSink,
-    trace: MemSink,
-}
 
 /// Runs `exercise` with a word for its number, where these calls of the sinks fail. No call has the number 0. The first call of the
 /// source that is handed in fails, and the packs that are handed in have no image.

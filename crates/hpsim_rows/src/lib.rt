@@ -1,5 +1,4 @@
-//! Worked rows, played through the top call: scripts with what they print, scripts that are refused, runs that stop, and exercises.
-//! There are tests alone here, so that the crates that they test are proved once.
+//! Worked rows through the top call: scripts, refusals, stops, exercises; tests alone, so that what they test is proved once.
 #![tactic(auto)]
 
 #[cfg(test)]

@@ -448,18 +448,13 @@ fn frames_run_out(rt: HostRuntime) -> Result<(), Fail> {
 }
 
 #[test]
-fn too_many_requests(rt: HostRuntime) -> Result<(), Fail> {
+fn limits(rt: HostRuntime) -> Result<(), Fail> {
     let script = reads(rt.alloc(), 65_537, 1)?;
     let ran = play_over(rt.alloc(), script.as_bytes(), b"", NONE)?;
     assert_eq!(rt; ran.out.taken(), b"refused line 65538 toomany\n".as_slice());
-    Ok(())
-}
-
-#[test]
-fn script_too_long(rt: HostRuntime) -> Result<(), Fail> {
-    let mut script = Vec::new(rt.alloc());
-    script.resize(16_777_217, b'\n')?;
-    let ran = play_over(rt.alloc(), script.as_slice(), b"", NONE)?;
+    let mut long = Vec::new(rt.alloc());
+    long.resize(16_777_217, b'\n')?;
+    let ran = play_over(rt.alloc(), long.as_slice(), b"", NONE)?;
     assert_eq!(rt; ran.out.taken(), b"refused line 0 scriptlong\n".as_slice());
     Ok(())
 }
