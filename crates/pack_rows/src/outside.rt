@@ -192,7 +192,7 @@ fn streams_of_std(rt: HostRuntime) {
 
 /// A call on packs.
 #[derive(Clone, Copy, Debug)]
-enum Call {
+pub(crate) enum Call {
     Length,
     Read(u32),
     Write(u32, u8),
@@ -206,7 +206,7 @@ fn edges(block: &[u8; 512]) -> u64 {
 }
 
 /// What a call answers. Reading answers 256 times the first byte, and the last byte, of a buffer that held 7s before.
-fn answer<P: Packs>(packs: &mut P, unit: u8, call: Call) -> Result<u64, StoreFailed> {
+pub(crate) fn answer<P: Packs>(packs: &mut P, unit: u8, call: Call) -> Result<u64, StoreFailed> {
     let unit = unit.min(31);
     let mut block = [7u8; 512];
     match call {
@@ -348,7 +348,7 @@ impl<'a> Files for Guarded<'a> {
 }
 
 /// The first call of a list that answers something else, or its length.
-fn first_other<P: Packs>(packs: &mut P, calls: &[(u8, Call, Option<u64>)]) -> usize {
+pub(crate) fn first_other<P: Packs>(packs: &mut P, calls: &[(u8, Call, Option<u64>)]) -> usize {
     for (i, (unit, call, want)) in calls.iter().enumerate() {
         if answer(packs, *unit, *call).ok() != *want {
             return i;
