@@ -1,18 +1,18 @@
 -- Laws of the blocks of buffers.
-use Rattle.std.proofs.Common.{◌≡◌, ◌≢◌, ◌⊎◌, inl, inr, ℕ, zero, suc, ◌+◌, ◌-◌, ◌*◌, ◌<◌, ◌≤◌, ◌==◌, nat_lt, Bool, if◌then◌else◌, List, [], ◌∷◌, length, get_or, refl, sym, ap, ◌∙◌, subst, arith}
-use Rattle.std.proofs.Math.ListN.{set}
+use Rattle.std.proofs.Common.{◌≡◌, ◌≢◌, ◌⊎◌, inl, inr, ℕ, zero, suc, ◌+◌, ◌-◌, ◌*◌, ◌<◌, ◌≤◌, ◌==◌, nat_lt, Bool, if◌then◌else◌, List, [], ◌∷◌, take, drop, length, get_or, refl, sym, ap, ◌∙◌, subst, arith}
+use Rattle.std.proofs.Math.ListN.{set, drop_of_length-le}
 use Rattle.std.proofs.lemmas.Bool.{ltb-true, ltb-false, eqb-true, eqb-false}
-use Rattle.std.proofs.lemmas.List.{get_or_past}
+use Rattle.std.proofs.lemmas.List.{get_or_past, take_all}
 use Rattle.std.proofs.lemmas.Option.{slice_get-get_or}
 use Rattle.std.specs.List.{Contains, slice_get}
 use Rattle.std.specs.Prelude.{Some}
-use Rattle.main_memory.specs.Bytes.{front}
+use Rattle.main_memory.specs.Bytes.{front, with_part}
 use Rattle.main_memory.specs.declared.span.Span.{Span}
 use Rattle.main_memory.specs.Frames.{frames_needed}
 use Rattle.main_memory.specs.Blocks.{Loan, IsLoan, IsSpan, AreSeparate, in_frame, in_next, size_at, place_in, span_of, bytes_in, with_bytes_in, blocks_from}
 use Rattle.main_memory.specs.Memory.{Memory, IsLent, AreApart, with_block, blocks_of}
 use Rattle.main_memory.proofs.FrameLaws.{by_test}
-use Rattle.main_memory.proofs.ByteLaws.{Fits, length-front, Outside, length-joined, length-spread, joined-spread, spread-spread, spread-joined, joined-spread_other, joined_first, joined_second, set_first, set_second}
+use Rattle.main_memory.proofs.ByteLaws.{Fits, with_part-none, length-front, Outside, length-joined, length-spread, joined-spread, spread-spread, spread-joined, joined-spread_other, joined_first, joined_second, set_first, set_second}
 
 by_order : (span : Span) → span.frame ≢ span.next → span.offset < 512 → span.len ≤ 512 → (512 * span.frame + span.offset + in_frame span ≤ 512 * span.next) ⊎ (512 * span.next + in_next span ≤ 512 * span.frame + span.offset)
 by_order span ne inside few =
@@ -58,6 +58,15 @@ with_bytes_in-twice span block old bytes is whole old_whole size =
 pub with_bytes_in-same : (span : Span) (bytes : List ℕ) → IsSpan span → length bytes ≡ 8388608 → with_bytes_in span (bytes_in span bytes) bytes ≡ bytes
 unfolding bytes_in with_bytes_in
 with_bytes_in-same span bytes is size = spread-joined (512 * span.frame + span.offset) (in_frame span) (512 * span.next) (in_next span) bytes (fits_span span _ is size)
+
+-- a block in a span that is one whole frame
+pub with_bytes_in-whole : (span : Span) (block bytes : List ℕ) → span.offset ≡ 0 → span.len ≡ 512 → length block ≡ 512 → with_bytes_in span block bytes ≡ with_part (512 * span.frame) block bytes
+unfolding with_bytes_in
+with_bytes_in-whole span block bytes start size whole =
+    let at : 512 * span.frame + span.offset ≡ 512 * span.frame = omega arith in
+    let first : take (in_frame span) block ≡ block = take_all (in_frame span) block (omega (arith, start, size, whole)) in
+    let second : drop (in_frame span) block ≡ [] = drop_of_length-le block (omega (arith, start, size, whole)) in
+    rw (first, second, at) (with_part-none (512 * span.next) (with_part (512 * span.frame) block bytes))
 
 -- a place of a frame lies outside a part of another frame
 outside_frame : (f g low size place i at : ℕ) → f ≢ g → low + size ≤ 512 → place < 512 → i ≡ 512 * f + place → at ≡ 512 * g + low → Outside i at size

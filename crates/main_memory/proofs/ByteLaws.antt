@@ -1,5 +1,5 @@
 -- Laws of parts of bytes, and of two parts read and written as one.
-use Rattle.std.proofs.Common.{◌≡◌, ◌≢◌, ◌⊎◌, inl, inr, ℕ, ◌+◌, ◌-◌, ◌<◌, ◌≤◌, ◌==◌, nat_lt, List, ◌++◌, take, drop, length, get_or, sym, ap, ◌∙◌, arith}
+use Rattle.std.proofs.Common.{◌≡◌, ◌≢◌, ◌⊎◌, inl, inr, ℕ, ◌+◌, ◌-◌, ◌<◌, ◌≤◌, ◌==◌, nat_lt, List, [], ◌++◌, take, drop, length, get_or, sym, ap, ◌∙◌, arith}
 use Rattle.std.proofs.Common.{get_or-set_same, get_or-set_other}
 use Rattle.std.proofs.Math.ListN.{set, length-set, replicate}
 use Rattle.std.proofs.lemmas.Bool.{ltb-true, ltb-false, eqb-true, eqb-false}
@@ -20,6 +20,10 @@ get_or-part size at bytes i small = get_or-take size (drop at bytes) i 0 small �
 pub length-with_part : (at : ℕ) (new bytes : List ℕ) → at + length new ≤ length bytes → length (with_part at new bytes) ≡ length bytes
 unfolding with_part
 length-with_part at new bytes inside = grind (arith, common_steps)
+
+pub with_part-none : (at : ℕ) (bytes : List ℕ) → with_part at [] bytes ≡ bytes
+unfolding with_part
+with_part-none at bytes = grind (arith, common_steps)
 
 pub length-front : (size : ℕ) (bytes : List ℕ) → size ≤ length bytes → length (front size bytes) ≡ size
 unfolding front

@@ -1,11 +1,14 @@
 -- Laws of bytes that are all one byte, and of what is known of frames.
-use Rattle.std.proofs.Common.{◌≡◌, ◌≢◌, ℕ, zero, suc, ◌+◌, ◌-◌, ◌*◌, ◌<◌, ◌≤◌, ◌==◌, nat_eq, nat_lt, Bool, true, List, [], ◌∷◌, ◌++◌, take, drop, length, get_or, slice_index, IfSome, IsSomeAnd, Option, Some, None, false, if◌then◌else◌, refl, sym, ap, ◌∙◌, subst, inl, inr, arith}
-use Rattle.std.proofs.Common.{get_or-set_same, get_or-set_other}
-use Rattle.std.proofs.Math.ListN.{set, length-set, replicate}
-use Rattle.std.proofs.lemmas.Bool.{and_parts, eqb-true, eqb-false, ltb-true, ltb-false}
+use Rattle.std.proofs.Common.{◌≡◌, ◌≢◌, ℕ, ◌+◌, ◌-◌, ◌*◌, ◌<◌, ◌≤◌, ◌==◌, nat_eq, nat_lt, Bool, true, List, [], ◌∷◌, ◌++◌, length, get_or, slice_index, IfSome, IsSomeAnd, Option, Some, None, false, if◌then◌else◌, refl, sym, ap, ◌∙◌, subst, inl, inr, arith}
+use Rattle.std.proofs.Common.{get_or-set_same, get_or-set_other, ◌↔◌, bit_or, below_more, eq-eqb, IsTrue}
+use Rattle.std.proofs.Math.ListN.{set, length-set}
+use Rattle.std.proofs.lemmas.Bool.{eqb-true, eqb-false, ltb-true, ltb-false}
 use Rattle.std.proofs.lemmas.Grind.{same_number_lists}
-use Rattle.std.proofs.lemmas.List.{take_all, length-replicate, get_or-replicate, get_or_past, get_or_default, get_or_append_left, get_or-append_right}
-use lib.Pointwise.{pointwise}
+use Rattle.std.proofs.lemmas.List.{length-replicate, get_or-replicate, get_or_past, get_or_default, get_or_append_left, get_or-append_right}
+use Rattle.std.proofs.lemmas.Nat.{le_or_l, le_or_r, and_le_l, and_le_r}
+use lib.Bits.{bit_xor}
+use Rattle.std.specs.Option.{option_eq}
+use Rattle.std.specs.Int.Bits.{xor_add_and, xor_self}
 use Rattle.main_memory.specs.Bytes.{with_part, IsFill, AreFills}
 use Rattle.main_memory.specs.Blocks.{IsSpan, bytes_in, in_next, place_in}
 use Rattle.main_memory.specs.declared.span.Span.{Span}
@@ -21,22 +24,31 @@ pub fill_each : (byte : ℕ) (bytes : List ℕ) → ((k : ℕ) → k < length by
 fill_each byte bytes each =
     same_number_lists _ _ (sym (length-replicate (length bytes) byte)) (λ k h. each k h ∙ sym (get_or-replicate (length bytes) k byte 0 h))
 
--- bytes that are each the one before it
-each_before : (x : ℕ) (xs : List ℕ) (n : ℕ) → length xs ≡ n → pointwise nat_eq xs (take n (x ∷ xs)) ≡ true → IsFill x xs
-each_before x [] n e same = refl
-each_before x (y ∷ ys) zero e same = absurd (omega arith)
-each_before x (y ∷ ys) (suc n) e same =
-    let parts = and_parts (y == x) (pointwise nat_eq ys (take n (y ∷ ys))) same in
-    let first : y ≡ x = eqb-true y x parts.0 in
-    let rest : IsFill y ys = each_before y ys n (omega arith) parts.1 in
-    subst (λ (z : ℕ). y ∷ ys ≡ z ∷ replicate (length ys) z) first (ap (λ (zs : List ℕ). y ∷ zs) rest)
+-- bits in which no number differs
+or_none : (a b : ℕ) → bit_or a b ≡ 0 → (a ≡ 0) × (b ≡ 0)
+or_none a b e = (omega (arith, le_or_l a b, e), omega (arith, le_or_r a b, e))
 
-pub repeated : (bytes : List ℕ) (n : ℕ) → length bytes ≡ n + 1 → pointwise nat_eq (take n (drop 1 bytes)) (take n bytes) ≡ true → IsFill (slice_index bytes 0) bytes
-repeated [] n e same = absurd (omega arith)
-repeated (x ∷ xs) n e same =
-    let whole : take n xs ≡ xs = take_all n xs (omega arith) in
-    let rest : IsFill x xs = each_before x xs n (omega arith) (subst (λ (ys : List ℕ). pointwise nat_eq ys (take n (x ∷ xs)) ≡ true) whole same) in
-    ap (λ (zs : List ℕ). x ∷ zs) rest
+xor_none : (a b : ℕ) → bit_xor a b ≡ 0 → a ≡ b
+xor_none a b e = omega (arith, xor_add_and a b, and_le_l a b, and_le_r a b, e)
+
+-- whether the bytes so far are one byte, with one more of them
+pub one_more_same : (differ first i : ℕ) (bytes : List ℕ) → (differ ≡ 0) ↔ ((k : ℕ) → k < i → get_or bytes k 0 ≡ first)
+    → (bit_or differ (bit_xor (get_or bytes i 0) first) ≡ 0) ↔ ((k : ℕ) → k < i + 1 → get_or bytes k 0 ≡ first)
+one_more_same differ first i bytes before = (
+  λ e. let parts = or_none differ (bit_xor (get_or bytes i 0) first) e in below_more _ _ (before.0 parts.0) (xor_none _ _ parts.1),
+  λ each.
+      let none : differ ≡ 0 = before.1 (λ k h. each k (omega arith)) in
+      let same : get_or bytes i 0 ≡ first = each i (omega arith) in
+      rw (none, same, xor_self) refl,
+)
+
+-- and with all of them
+pub all_same : (differ i : ℕ) (bytes : List ℕ) → i ≡ length bytes → 1 ≤ length bytes → (differ ≡ 0) ↔ ((k : ℕ) → k < i → get_or bytes k 0 ≡ get_or bytes 0 0)
+    → IsTrue (nat_eq differ 0) ↔ IsFill (slice_index bytes 0) bytes
+all_same differ i bytes end some all = (
+  λ yes. fill_each (get_or bytes 0 0) bytes (λ k h. all.0 (eqb-true differ 0 yes) k (omega (arith, end, h))),
+  λ fill. eq-eqb differ 0 (all.1 (λ k h. fill_at (get_or bytes 0 0) bytes k fill (omega (arith, end, h)))),
+)
 
 -- what is written is there
 pub with_part-same : (at : ℕ) (new bytes : List ℕ) → at + length new ≤ length bytes → ((k : ℕ) → k < length new → get_or bytes (at + k) 0 ≡ get_or new k 0)
@@ -56,7 +68,7 @@ with_part-same at new bytes fits each =
 the_same : {x y : ℕ} → Some x ≡ Some y → x ≡ y
 the_same e = grind arith
 
-none_some : {X : Type 0} {byte : ℕ} → None ≡ Some byte → X
+pub none_some : {X : Type 0} {byte : ℕ} → None ≡ Some byte → X
 none_some e = absurd (grind (arith, e))
 
 -- what is known of one more frame
@@ -116,6 +128,14 @@ module _ (fills : List (Option ℕ)) (bytes from : List ℕ) (frame offset : ℕ
         out_of_it other byte k ne (sym (get_or-set_other fills frame other fill None ne) ∙ is) few);
   }
 
+-- a write of a whole frame
+pub fills_put_whole : (fills : List (Option ℕ)) (bytes from : List ℕ) (frame : ℕ) (fill : Option ℕ) → AreFills fills bytes → frame < 16384 → length from ≡ 512
+    → ((byte : ℕ) → fill ≡ Some byte → IsFill byte from) → AreFills (set fills frame fill) (with_part (512 * frame) from bytes)
+fills_put_whole fills bytes from frame fill are small whole told =
+    let start : 512 * frame + 0 ≡ 512 * frame = omega arith in
+    subst (λ (at : ℕ). AreFills (set fills frame fill) (with_part at from bytes)) start
+    (fills_put fills bytes from frame 0 fill are small (omega (arith, whole)) (λ byte is. (whole, told byte is)))
+
 -- the bytes of a span whose frames are all one byte
 pub fill_in : (span : Span) (byte : ℕ) (bytes : List ℕ) → IsSpan span → length bytes ≡ 8388608 → ((k : ℕ) → k < 512 → get_or bytes (512 * span.frame + k) 0 ≡ byte)
     → (0 < in_next span → (k : ℕ) → k < 512 → get_or bytes (512 * span.next + k) 0 ≡ byte) → IsFill byte (bytes_in span bytes)
@@ -143,6 +163,13 @@ known fills bytes shown frame (Some byte) are is small looked = λ k few.
     ∙ are.all frame byte k (get_or_default fills frame None (Some byte) (omega (arith, are.frames, small)) ∙ sym looked) few
 known fills bytes shown frame None are is small looked = tt
 
+-- and where it is found to be this byte
+pub known_as : (fills : List (Option ℕ)) (bytes shown : List ℕ) (frame byte : ℕ) (fill : Option ℕ) → AreFills fills bytes → bytes ≡ shown → frame < 16384 → fill ≡ get_or fills frame fill
+    → option_eq nat_eq fill (Some byte) ≡ true → (k : ℕ) → k < 512 → get_or shown (512 * frame + k) 0 ≡ byte
+known_as fills bytes shown frame byte (Some there) are is small looked same = λ k few.
+    known fills bytes shown frame (Some there) are is small looked k few ∙ eqb-true there byte same
+known_as fills bytes shown frame byte None are is small looked same = absurd (grind (arith, same))
+
 -- bytes that a frame is all through are written over themselves
 pub written_same : (bytes shown from : List ℕ) (frame offset : ℕ) → bytes ≡ shown → length bytes ≡ 8388608 → frame < 16384 → offset + length from ≤ 512
     → ((at k : ℕ) → at < 512 → k < length from → get_or shown (512 * frame + at) 0 ≡ get_or from k 0) → shown ≡ with_part (512 * frame + offset) from shown
@@ -152,20 +179,12 @@ written_same bytes shown from frame offset is size small inside each =
     let there : (512 * frame + offset) + k ≡ 512 * frame + (offset + k) = omega arith in
     ap (λ (j : ℕ). get_or shown j 0) there ∙ each (offset + k) k (omega (arith, inside, h)) h)
 
--- a byte that is all of some bytes is each of them
-pub each_of : (byte first k : ℕ) (bytes : List ℕ) → byte ≡ first → first ≡ get_or bytes 0 0 → IsFill (get_or bytes 0 0) bytes → k < length bytes → byte ≡ get_or bytes k 0
-each_of byte first k bytes same is all small = same ∙ is ∙ sym (fill_at (get_or bytes 0 0) bytes k all small)
-
-pub if_some : (P : ℕ → Type 0) {byte : ℕ} (fill : Option ℕ) → fill ≡ Some byte → IfSome fill P → P byte
-if_some P {byte} fill is h = subst (λ (o : Option ℕ). IfSome o P) is h
-
--- where a frame is known to be all through one byte, and that is the first of bytes that are all one byte
-pub has_each : (fills : List (Option ℕ)) (bytes shown given : List ℕ) (frame byte first : ℕ) (fill : Option ℕ) → AreFills fills bytes → bytes ≡ shown → frame < 16384 → fill ≡ get_or fills frame fill
-    → fill ≡ Some byte → byte ≡ first → first ≡ get_or given 0 0 → IsFill (get_or given 0 0) given
-    → (at k : ℕ) → at < 512 → k < length given → get_or shown (512 * frame + at) 0 ≡ get_or given k 0
-has_each fills bytes shown given frame byte first fill are is small looked there same head all at k few in_it =
-    if_some (λ b. (j : ℕ) → j < 512 → get_or shown (512 * frame + j) 0 ≡ b) fill there (known fills bytes shown frame fill are is small looked) at few
-    ∙ each_of byte first k given same head all in_it
+-- a whole frame that is all through what the bytes are
+pub whole_same : (bytes shown from : List ℕ) (frame byte : ℕ) → bytes ≡ shown → length bytes ≡ 8388608 → frame < 16384 → length from ≡ 512
+    → ((k : ℕ) → k < 512 → get_or shown (512 * frame + k) 0 ≡ byte) → IsFill byte from → shown ≡ with_part (512 * frame) from shown
+whole_same bytes shown from frame byte is size small whole each fill =
+    let long : length shown ≡ 8388608 = sym (ap (λ (xs : List ℕ). length xs) is) ∙ size in
+    with_part-same (512 * frame) from shown (omega (arith, long, small, whole)) (λ k h. each k (omega (arith, whole, h)) ∙ sym (fill_at byte from k fill h))
 
 -- what is found of a block's bytes, as it stands among the blocks
 pub fill_there : (fill : Option ℕ) (bytes block : List ℕ) (found : Option (List ℕ)) → bytes ≡ block → found ≡ Some block → IfSome fill (λ byte. IsFill byte bytes)

@@ -1,5 +1,5 @@
 // The bytes of all frames, and of each frame the byte that it is all through, where that is known.
-ghost use Rattle.std.specs.Prelude.{◌≡◌, ◌≤◌, ◌<◌, ◌+◌, ◌*◌, ℕ, length, IfOk, IfSome, IsTrue, slice_index, slice_index_or, slice_set, Some, None};
+ghost use Rattle.std.specs.Prelude.{◌≡◌, ◌≤◌, ◌<◌, ◌+◌, ◌*◌, ◌↔◌, ℕ, length, IfOk, IfSome, IsTrue, slice_index, slice_index_or, slice_set, Some, None};
 ghost use Rattle.main_memory.specs.Bytes.{part, with_part, IsFill};
 
 use crate::bytes::Bytes;
@@ -28,23 +28,24 @@ impl Model for Frames {
     ghost invariant = { λ f. AreFills f.fills.items f.bytes };
 }
 
-// Whether bytes are one byte repeated. Slices are compared by words.
+// Whether bytes are one byte repeated. The loop has no early way out, so many bytes are compared at a time.
 fn is_fill(bytes: &[u8]) -> bool
     requires { 1 ≤ length bytes.now }
-    ensures { IsTrue result → IsFill (slice_index bytes.now 0) bytes.now }
+    ensures { IsTrue result ↔ IsFill (slice_index bytes.now 0) bytes.now }
 {
-    bytes[1..] == bytes[..bytes.len() - 1]
+    let first = bytes[0];
+    let mut differ = 0u8;
+    for byte in bytes {
+        differ |= *byte ^ first;
+    }
+    differ == 0
 }
 
-// The byte that a frame is all through behind a write of these bytes, where they are the whole of it.
-fn fill_of(bytes: &[u8]) -> Option<u8>
-    ensures { IfSome result (λ byte. (length bytes.now ≡ 512) × IsFill byte bytes.now) }
+// The byte that a frame is all through behind a write of these bytes, if they are one byte repeated.
+fn fill_of(bytes: &[u8; 512]) -> Option<u8>
+    ensures { (byte : ℕ) → (result ≡ Some byte) ↔ IsFill byte bytes.now }
 {
-    if bytes.len() == 512 && is_fill(bytes) {
-        Some(bytes[0])
-    } else {
-        None
-    }
+    if is_fill(bytes) { Some(bytes[0]) } else { None }
 }
 
 // What is known of frames all of whose bytes are zeros.
@@ -69,6 +70,14 @@ impl Frames {
         Ok(Frames { bytes, fills })
     }
 
+    // Whether a frame is known to be all through this byte.
+    fn is_all(&self, frame: usize, byte: u8) -> bool
+        requires { frame < 16384 }
+        ensures { IsTrue result → (k : ℕ) → k < 512 → slice_index self.now (512 * frame + k) ≡ byte }
+    {
+        self.fills[frame] == Some(byte)
+    }
+
     // Whether a frame is known to be all through what each of these bytes is.
     fn has(&self, frame: usize, bytes: &[u8]) -> bool
         requires { frame < 16384 }
@@ -78,10 +87,7 @@ impl Frames {
         let Some(first) = bytes.first() else {
             return true;
         };
-        match self.fills[frame] {
-            Some(byte) => byte == *first && is_fill(bytes),
-            None => false,
-        }
+        self.is_all(frame, *first) && is_fill(bytes)
     }
 
     // Writes bytes in a frame, from a place on.
@@ -94,8 +100,24 @@ impl Frames {
         if self.has(frame, from) {
             return;
         }
-        self.fills[frame] = fill_of(from);
+        self.fills[frame] = None;
         self.bytes.put(512 * frame + offset, from);
+    }
+
+    // Writes all bytes of a frame.
+    pub fn put_whole(&mut self, frame: usize, from: &[u8; 512])
+        requires frame { frame < 16384 }
+        ensures bytes { self.new ≡ with_part (512 * frame) from.now self.old }
+        ensures size { length self.new ≡ 8388608 }
+    {
+        let fill = fill_of(from);
+        if let Some(byte) = fill
+            && self.is_all(frame, byte)
+        {
+            return;
+        }
+        self.fills[frame] = fill;
+        self.bytes.put(512 * frame, from);
     }
 
     // Reads bytes of a frame, from a place on.

@@ -80,7 +80,11 @@ pub fn write_front(bytes: &mut Frames, span: Span, from: &[u8; 512])
     ensures bytes { bytes.new ≡ with_bytes_in span (front span.len from.now) bytes.old }
     ensures size { length bytes.new ≡ 8388608 }
 {
-    write_span(bytes, span, &from[..span.len]);
+    if span.offset == 0 && span.len == 512 {
+        bytes.put_whole(span.frame, from);
+    } else {
+        write_span(bytes, span, &from[..span.len]);
+    }
 }
 
 // Reads the bytes there and then zeros.

@@ -1,7 +1,7 @@
-use Rattle.std.proofs.Common.{◌≡◌, length, sym, subst}
+use Rattle.std.proofs.Common.{sym, subst, None}
 use Rattle.std.proofs.Math.ListN.{set}
-use Rattle.main_memory.specs.Bytes.{IsFill, AreFills}
-use Rattle.main_memory.proofs.FillLaws.{written_same, fills_put, if_some}
+use Rattle.main_memory.specs.Bytes.{AreFills}
+use Rattle.main_memory.proofs.FillLaws.{written_same, fills_put, none_some}
 use Rattle.main_memory.proofs.frames.Frames.put.Goals as goal
 
 pub returns-then-has-clause-bytes : goal.returns-then-has-clause-bytes
@@ -10,6 +10,6 @@ returns-then-has-clause-bytes c =
 
 pub invariant_of-self : goal.invariant_of-self
 invariant_of-self c =
-    subst (AreFills (set c.self.inside.fills.items c.args.frame c.fill_of.result)) (sym c.put.ensures.bytes)
-    (fills_put c.self.inside.fills.items c.self.inside.bytes c.args.from.now c.args.frame c.args.offset c.fill_of.result c.self.invariant c.requires.frame c.requires.inside
-    (λ byte is. if_some (λ b. (length c.args.from.now ≡ 512) × IsFill b c.args.from.now) c.fill_of.result is c.fill_of.ensures))
+    subst (AreFills (set c.self.inside.fills.items c.args.frame None)) (sym c.put.ensures.bytes)
+    (fills_put c.self.inside.fills.items c.self.inside.bytes c.args.from.now c.args.frame c.args.offset None c.self.invariant c.requires.frame c.requires.inside
+    (λ byte is. none_some is))
