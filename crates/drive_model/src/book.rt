@@ -1,8 +1,8 @@
-// The book of noise: which noise is live, found by its sector.
-ghost use Rattle.std.specs.Prelude.{◌≡◌, ◌≤◌, ◌<◌, IfOk, [], vec_capacity};
+// The book of noise: which noise is live, found by its sector; and room for a sector that moves.
+ghost use Rattle.std.specs.Prelude.{◌≡◌, ◌≤◌, ◌<◌, IfOk};
 ghost use Rattle.hardware_table.specs.Noise.{empty_book, book_armed, book_struck, strikes};
 
-use crate::entries::{Entry, is_spent, noise_in, put, strike};
+use crate::live::Live;
 use fire_code::Noise;
 use hardware_table::NoiseSpan;
 use mass_outside::traits::NoMemory;
@@ -13,34 +13,17 @@ use std::marker::Model;
 /// on the unit and the block.
 #[derive(Drop)]
 pub struct NoiseBook {
-    entries: Vec<Entry>,
-    noises: Vec<Noise>,
-    armed: u32,
-    capacity: u32,
+    pub(crate) live: Live,
+    /// Room for the bytes of a sector that moves. What stands there between two moves means nothing.
+    pub(crate) sector: [u8; 512],
 }
 
 impl Model for NoiseBook {
-    ghost use Rattle.std.specs.Prelude.{vec_capacity};
     ghost use Rattle.hardware_table.specs.Noise.{Book};
 
     ghost Value = { Book };
 
-    ghost use Rattle.drive_model.specs.Book.{live_of, IsKept};
-
-    ghost view = { λ b. record { live = live_of b.noises.items b.entries.items; armed = b.armed; capacity = b.capacity } };
-
-    ghost invariant = { λ b. IsKept b.noises.items b.entries.items b.armed b.capacity (vec_capacity b.noises) (vec_capacity b.entries) };
-}
-
-// Room for so many.
-fn reserve<T: Drop>(alloc: Global, capacity: u32) -> Result<Vec<T>, NoMemory>
-    ensures empty { IfOk result (λ v. v.items ≡ []) }
-    ensures room { IfOk result (λ v. capacity ≤ vec_capacity v) }
-{
-    match Vec::with_capacity(alloc, capacity as usize) {
-        Ok(v) => Ok(v),
-        Err(_) => Err(NoMemory),
-    }
+    ghost view = { λ b. b.live };
 }
 
 impl NoiseBook {
@@ -50,13 +33,10 @@ impl NoiseBook {
         requires { capacity ≤ 4096 }
         ensures { IfOk result (λ book. book ≡ empty_book capacity) }
     {
-        let entries = reserve(alloc, capacity)?;
-        let noises = reserve(alloc, capacity)?;
+        let live = Live::new(alloc, capacity)?;
         Ok(NoiseBook {
-            entries,
-            noises,
-            armed: 0,
-            capacity,
+            live,
+            sector: [0; 512],
         })
     }
 
@@ -66,21 +46,7 @@ impl NoiseBook {
         requires { self.old.armed < self.old.capacity }
         ensures { self.new ≡ book_armed (record { unit = unit; block = block; span = span; places = noise }) self.old }
     {
-        self.armed += 1;
-        if is_spent(span) {
-            return;
-        }
-        let slot = self.noises.len() as u32;
-        self.noises.push_reserved(noise);
-        put(
-            &mut self.entries,
-            Entry {
-                span,
-                block,
-                slot,
-                unit,
-            },
-        );
+        self.live.arm(unit, block, noise, span);
     }
 
     /// The noise that strikes a read of a sector with this word in the offset register, which is used by it. None
@@ -89,9 +55,6 @@ impl NoiseBook {
         ensures noise { result ≡ strikes unit block of self.old.live }
         ensures book { self.new ≡ book_struck unit block of self.old }
     {
-        match strike(&mut self.entries, unit, block, of) {
-            None => None,
-            Some(entry) => noise_in(self.noises.as_slice(), entry, of),
-        }
+        self.live.strike(unit, block, of)
     }
 }

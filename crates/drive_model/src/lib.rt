@@ -6,6 +6,7 @@ mod book;
 mod drive;
 mod entries;
 mod laws;
+mod live;
 
 pub use book::NoiseBook;
 pub use drive::Drive;

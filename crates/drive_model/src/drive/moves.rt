@@ -13,6 +13,7 @@ ghost use Rattle.fire_code.specs.Verdict.{Judges};
 
 use crate::book::NoiseBook;
 use crate::drive::Drive;
+use crate::live::Live;
 use bitflags::Flags;
 use drive_registers::{Er1, Er2};
 use fire_code::{Check, Verdict, apply, data_law, judge_noise};
@@ -53,12 +54,12 @@ fn moved_by(verdict: Verdict) -> Moved
 }
 
 // Reads a sector's bytes through the noise that strikes it, and judges them by its places.
-fn read_through(book: &mut NoiseBook, unit: u8, block: u32, of: u16, bytes: &mut [u8; 512]) -> Moved
-    ensures verdict { IsReadVerdict (strikes unit block of book.old.live) result }
-    ensures bytes { IsReadAs (strikes unit block of book.old.live) bytes.old bytes.new }
-    ensures book { book.new ≡ book_struck unit block of book.old }
+fn read_through(live: &mut Live, unit: u8, block: u32, of: u16, bytes: &mut [u8; 512]) -> Moved
+    ensures verdict { IsReadVerdict (strikes unit block of live.old.live) result }
+    ensures bytes { IsReadAs (strikes unit block of live.old.live) bytes.old bytes.new }
+    ensures book { live.new ≡ book_struck unit block of live.old }
 {
-    match book.strike(unit, block, of) {
+    match live.strike(unit, block, of) {
         None => Moved::Clean,
         Some(noise) => {
             data_law(bytes);
@@ -248,16 +249,16 @@ impl Drive {
             self.take(Moved::Marked, block);
             return Ok(Moved::Marked);
         }
-        let mut bytes = [0; 512];
         if self.is_writing() {
-            window.copy_out(&mut bytes);
-            packs.write(unit, block, &bytes)?;
+            window.copy_out(&mut book.sector);
+            packs.write(unit, block, &book.sector)?;
             self.take(Moved::Clean, block);
             return Ok(Moved::Clean);
         }
-        packs.read(unit, block, &mut bytes)?;
-        let moved = read_through(book, unit, block, self.offset.bits(), &mut bytes);
-        window.copy_in(&bytes);
+        packs.read(unit, block, &mut book.sector)?;
+        let of = self.offset.bits();
+        let moved = read_through(&mut book.live, unit, block, of, &mut book.sector);
+        window.copy_in(&book.sector);
         self.take(moved, block);
         Ok(moved)
     }

@@ -1,0 +1,93 @@
+// The noise that is live: its entries in the order of their sectors, and its places.
+ghost use Rattle.std.specs.Prelude.{◌≡◌, ◌≤◌, ◌<◌, IfOk, [], vec_capacity};
+ghost use Rattle.hardware_table.specs.Noise.{empty_book, book_armed, book_struck, strikes};
+
+use crate::entries::{Entry, is_spent, noise_in, put, strike};
+use fire_code::Noise;
+use hardware_table::NoiseSpan;
+use mass_outside::traits::NoMemory;
+use std::alloc::Global;
+use std::marker::Model;
+
+/// The noise that is live, with how much was armed of how much that may be.
+#[derive(Drop)]
+pub(crate) struct Live {
+    entries: Vec<Entry>,
+    noises: Vec<Noise>,
+    armed: u32,
+    capacity: u32,
+}
+
+impl Model for Live {
+    ghost use Rattle.std.specs.Prelude.{vec_capacity};
+    ghost use Rattle.hardware_table.specs.Noise.{Book};
+
+    ghost Value = { Book };
+
+    ghost use Rattle.drive_model.specs.Book.{live_of, IsKept};
+
+    ghost view = { λ b. record { live = live_of b.noises.items b.entries.items; armed = b.armed; capacity = b.capacity } };
+
+    ghost invariant = { λ b. IsKept b.noises.items b.entries.items b.armed b.capacity (vec_capacity b.noises) (vec_capacity b.entries) };
+}
+
+// Room for so many.
+fn reserve<T: Drop>(alloc: Global, capacity: u32) -> Result<Vec<T>, NoMemory>
+    ensures empty { IfOk result (λ v. v.items ≡ []) }
+    ensures room { IfOk result (λ v. capacity ≤ vec_capacity v) }
+{
+    match Vec::with_capacity(alloc, capacity as usize) {
+        Ok(v) => Ok(v),
+        Err(_) => Err(NoMemory),
+    }
+}
+
+impl Live {
+    /// No noise, with the memory for all that may be armed.
+    pub(crate) fn new(alloc: Global, capacity: u32) -> Result<Live, NoMemory>
+        requires { capacity ≤ 4096 }
+        ensures { IfOk result (λ live. live ≡ empty_book capacity) }
+    {
+        let entries = reserve(alloc, capacity)?;
+        let noises = reserve(alloc, capacity)?;
+        Ok(Live {
+            entries,
+            noises,
+            armed: 0,
+            capacity,
+        })
+    }
+
+    /// Arms noise at a sector.
+    pub(crate) fn arm(&mut self, unit: u8, block: u32, noise: Noise, span: NoiseSpan)
+        requires { self.old.armed < self.old.capacity }
+        ensures { self.new ≡ book_armed (record { unit = unit; block = block; span = span; places = noise }) self.old }
+    {
+        self.armed += 1;
+        if is_spent(span) {
+            return;
+        }
+        let slot = self.noises.len() as u32;
+        self.noises.push_reserved(noise);
+        put(
+            &mut self.entries,
+            Entry {
+                span,
+                block,
+                slot,
+                unit,
+            },
+        );
+    }
+
+    /// The noise that strikes a read of a sector with this word in the offset register, which is used by it.
+    pub(crate) fn strike(&mut self, unit: u8, block: u32, of: u16) -> Option<Noise>
+        ensures noise { result ≡ strikes unit block of self.old.live }
+        ensures book { self.new ≡ book_struck unit block of self.old }
+    {
+        match strike(&mut self.entries, unit, block, of) {
+            None => None,
+            Some(entry) => noise_in(self.noises.as_slice(), entry, of),
+        }
+    }
+}
