@@ -1,5 +1,5 @@
 // The line of a block, written in place.
-ghost use Rattle.std.specs.Prelude.{ℕ, ◌≡◌, ◌≤◌, ◌+◌, ◌*◌, ◌==◌, ◌∷◌, [], ◌++◌, length, take, replicate, decimal, slice_index, codes};
+ghost use Rattle.std.specs.Prelude.{◌≡◌, ◌≤◌, ◌+◌, ◌*◌, ◌==◌, ◌∷◌, [], ◌++◌, length, take, decimal, slice_index, codes};
 ghost use Rattle.std.specs.List.{flat_map, list_all};
 ghost use Rattle.mass_text.specs.BlockText.{hex_byte, content_text};
 ghost use Rattle.answer_lines.specs.AnswerText.{block_text};
@@ -105,16 +105,6 @@ fn put_line(room: &mut [u8; ROOM], k: u32, bytes: &[u8]) -> usize
     put_piece(room, end, b"\n")
 }
 
-/// Puts the line of a block whose bytes are all this one, and says where it ends.
-fn put_fill_line(room: &mut [u8; ROOM], k: u32, byte: u8) -> usize
-    ensures end { result ≤ 1100 }
-    ensures text { (size : ℕ) → 1 ≤ size → take result room.new ≡ block_text k (replicate size byte) }
-{
-    let content = put_front(room, k);
-    let end = put_fill(room, content, byte);
-    put_piece(room, end, b"\n")
-}
-
 /// The text of the line of a block of a read.
 #[derive(Drop)]
 pub struct BlockLine {
@@ -157,12 +147,5 @@ impl BlockLine {
         ensures { self.new ≡ block_text k bytes.now }
     {
         self.end = put_line(&mut self.room, k, bytes);
-    }
-
-    /// Writes the line of block `k`, from 0, all of whose bytes are this one, in place of what is there.
-    pub fn write_fill(&mut self, k: u32, byte: u8)
-        ensures { (size : ℕ) → 1 ≤ size → self.new ≡ block_text k (replicate size byte) }
-    {
-        self.end = put_fill_line(&mut self.room, k, byte);
     }
 }

@@ -5,11 +5,13 @@
 ghost use Rattle.answer_lines.specs.Laws.{TextsJoin, SilentSayNothing, BytesAreCut, OneWayToCut, BlocksAreSaid, BlocksFollow, ClassIsSaid};
 
 mod blocks;
+mod fills;
 mod lines;
 mod outcome;
 mod words;
 
 pub use blocks::BlockLine;
+pub use fills::FillLine;
 pub use lines::{answer_line, noise_line};
 pub use outcome::{Cause, Outcome};
 

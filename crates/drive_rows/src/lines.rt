@@ -161,6 +161,11 @@ fn line(number: u64, unit: u8, id: u32, told: Told) -> LineText {
     text
 }
 
+/// Whether the bytes of the line of a sector that moved clean begin with a text, which is as long as the line.
+fn begins_with_line(text: &CleanLine, wanted: &[u8]) -> bool {
+    text.len() == wanted.len() && text.front().as_slice().starts_with(wanted)
+}
+
 #[test]
 fn lines(rt: HostRuntime) {
     for (told, wanted) in &LINES {
@@ -168,13 +173,24 @@ fn lines(rt: HostRuntime) {
             line(4, 9, 30, *told).as_bytes() == wanted.as_bytes(),
             "{wanted}"
         );
-        if let Told::Sector { block, verdict } = *told {
-            let mut text = LineText::new();
-            text.write_sector(4, 9, 30, block, verdict);
-            assert!(rt; text.as_bytes() == wanted.as_bytes(), "{wanted}");
+        if let Told::Sector {
+            block,
+            verdict: Moved::Clean,
+        } = *told
+        {
+            let text = CleanLine::new(4, 9, 30, block);
+            assert!(rt; begins_with_line(&text, wanted.as_bytes()), "{wanted}");
         }
     }
     let long = line(u64::MAX, 255, u32::MAX, Told::End);
     assert!(rt; long.as_bytes() == b"end 18446744073709551615 255 4294967295\n".as_slice());
+    let longest = CleanLine::new(u64::MAX, 255, u32::MAX, u32::MAX);
+    assert!(rt;
+        begins_with_line(
+            &longest,
+            b"sector 18446744073709551615 255 4294967295 4294967295 clean\n"
+        )
+    );
+    assert!(rt; begins_with_line(&CleanLine::new(0, 0, 0, 0), b"sector 0 0 0 0 clean\n"));
     assert!(rt; idle(12).as_bytes() == b"idle 12\n".as_slice());
 }

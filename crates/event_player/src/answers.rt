@@ -90,8 +90,8 @@ fn put_fill<O: Sink>(k: u32, byte: u8, desk: &mut Desk, out: &mut O) -> Result<(
     ensures counts { (size : ℕ) → 1 ≤ size → Counts [] (block_text k (replicate size byte)) desk.old.tally desk.new.tally }
     ensures requests { desk.new.tally.requests ≡ desk.old.tally.requests }
 {
-    desk.line.write_fill(k, byte);
-    desk.put_line(out)
+    desk.fill.write(k, byte);
+    desk.put_fill(out)
 }
 
 /// Gathers the line of block `k`, of so many bytes, of the read that the oldest answer is of.

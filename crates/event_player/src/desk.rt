@@ -3,19 +3,20 @@ ghost use Rattle.std.specs.Prelude.{◌≡◌, [], IfOk};
 ghost use Rattle.mass_gather.specs.Gathers.{Gathers};
 ghost use Rattle.answer_tally.specs.Counting.{Counts, tally_by};
 
-use answer_lines::BlockLine;
+use answer_lines::{BlockLine, FillLine};
 use answer_tally::Tally;
 use mass_gather::Gather;
 use mass_outside::traits::{NoMemory, Sink, SinkFailed};
 use std::alloc::Global;
 
-/// Text that is gathered for a sink, the tally of the run so far, and room for a block and its line.
+/// Text that is gathered for a sink, the tally of the run so far, and room for a block and for its line, of either form.
 #[derive(Drop)]
 pub struct Desk {
     pub gather: Gather,
     pub tally: Tally,
     pub block: [u8; 512],
     pub line: BlockLine,
+    pub fill: FillLine,
 }
 
 impl Desk {
@@ -27,11 +28,13 @@ impl Desk {
         let gather = Gather::new(alloc)?;
         let tally = Tally::new(requests);
         let line = BlockLine::new();
+        let fill = FillLine::new();
         Ok(Desk {
             gather,
             tally,
             block: [0; 512],
             line,
+            fill,
         })
     }
 
@@ -53,5 +56,15 @@ impl Desk {
     {
         self.tally.count_text(self.line.as_bytes());
         self.gather.put(self.line.as_bytes(), out)
+    }
+    /// Counts the line of a block whose bytes are all one byte, and gathers it.
+    pub fn put_fill<O: Sink>(&mut self, out: &mut O) -> Result<(), SinkFailed>
+        ensures gathers { Gathers O.tells O.taken O.faults out.old out.new self.old.gather self.new.gather result self.old.fill }
+        ensures counts { Counts [] self.old.fill self.old.tally self.new.tally }
+        ensures requests { self.new.tally.requests ≡ self.old.tally.requests }
+    {
+        self.tally.count_text(self.fill.as_bytes());
+        self.gather
+            .put_short(self.fill.front(), self.fill.len(), out)
     }
 }

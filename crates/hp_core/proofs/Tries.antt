@@ -22,6 +22,8 @@ use Rattle.driver_outcome.specs.Outcome.{stop_in}
 use Rattle.driver_outcome.specs.declared.Stop.{Stop}
 use Rattle.driver_outcome.specs.declared.Stop.TheVariants.{Store, Sink}
 use Rattle.driver_outcome.proofs.Joined.{nothing_done}
+use Rattle.request_slots.specs.declared.asked.Asked.{Asked}
+use Rattle.request_slots.specs.Requests.{asked_of}
 use Rattle.hp_core.specs.State.{State, site}
 use Rattle.mass_outside.specs.Causes.{HasCause, Rose}
 use Rattle.hp_core.specs.Done.{Tells, TriesSector, HasCauses}
@@ -122,6 +124,10 @@ no_store (Ok value) stop e = absurd (cc)
 no_store (Err Sink) stop e = absurd (cc)
 no_store (Err Store) stop e = absurd (cc)
 
+-- the id of the request in a slot, which is the one in hand
+pub named_in : (w : World) (slot hand : ℕ) (asked : Asked) → asked ≡ asked_of (held_in w slot) → slot ≡ hand → asked.id ≡ (held_in w hand).id
+named_in w slot hand asked is same = ap (λ (a : Asked). a.id) is ∙ ap (λ (p : ℕ). (held_in w p).id) same
+
 -- THE PACKS FAILED before the sector was tried.
 pub sector_stopped : {O Q : Type 0} (holds : Q → Bool) (held : Q → ℕ → Pack) (packs_faults : Q → ℕ) (tells : O → Bool) (taken : O → List ℕ) (faults : O → ℕ) (packs packs' : Q) (trace : O) (old new : State) (line u id : ℕ)
     → IsBusyFor (adapter_at old.world (adapter_of u)).state (drive_of u) false → new ≡ old
@@ -159,13 +165,13 @@ sector_stopped holds held packs_faults tells taken faults packs packs' trace old
 
 -- THE SECTOR was tried, and its line told or not.
 pub sector_told : {O Q : Type 0} (holds : Q → Bool) (held : Q → ℕ → Pack) (packs_faults : Q → ℕ) (tells : O → Bool) (taken : O → List ℕ) (faults : O → ℕ) (packs packs' : Q) (trace trace' : O) (old mid new : State)
-    (result : Result (Unit {0}) Stop) (line u id block : ℕ) (v : Moved) → InHand old.world u id
+    (result : Result (Unit {0}) Stop) (line u id named block : ℕ) (v : Moved) → InHand old.world u id → named ≡ id
     → IsBusyFor (adapter_at old.world (adapter_of u)).state (drive_of u) false → block ≡ next_block (adapter_at old.world (adapter_of u)).state
     → Stepped old.world mid.world u (holds packs') (held packs) (held packs') v → mid.kept ≡ old.kept
-    → Tells tells taken faults trace trace' mid new result (moment_text (moments.Told line u id (moments.Sector block v)))
+    → Tells tells taken faults trace trace' mid new result (moment_text (moments.Told line u named (moments.Sector block v)))
     → (IsTrue (holds packs') → IsTrue (holds packs)) → packs_faults packs ≤ packs_faults packs'
     → TriesSector holds held packs_faults tells taken faults packs packs' trace trace' old new result line u id
-sector_told holds held packs_faults tells taken faults packs packs' trace trace' old mid new result line u id block v i b at s kept told again later =
+sector_told holds held packs_faults tells taken faults packs packs' trace trace' old mid new result line u id named block v i same b at s kept told again later =
     let world : new.world ≡ after old.world (Of line u id (Sector (next_block (adapter_at old.world (adapter_of u)).state) (tried old.world mid.world line u id (holds packs') (held packs) (held packs') v i b s))) =
     told.world ∙ sector_world old.world mid.world line u id (holds packs') (held packs) (held packs') v i b s in
     record {
@@ -180,7 +186,8 @@ sector_told holds held packs_faults tells taken faults packs packs' trace trace'
             packs = λ t. sector_packs old.world mid.world line u id (holds packs') (held packs) (held packs') v i b s t;
           })
           (subst (λ (k : List ℕ). Gathers tells taken faults trace trace' k new.kept result (moment_text (moments.Told line u id (moments.Sector (next_block (adapter_at old.world (adapter_of u)).state) v)))) kept
-          (subst (λ (n : ℕ). Gathers tells taken faults trace trace' mid.kept new.kept result (moment_text (moments.Told line u id (moments.Sector n v)))) at told.gathers)) told.stop;
+          (subst (λ (n : ℕ). Gathers tells taken faults trace trace' mid.kept new.kept result (moment_text (moments.Told line u id (moments.Sector n v)))) at
+          (subst (λ (n : ℕ). Gathers tells taken faults trace trace' mid.kept new.kept result (moment_text (moments.Told line u n (moments.Sector block v)))) same told.gathers))) told.stop;
       world = if_ok result _ world;
       never_again_packs = again;
       never_again = told.gathers.never_again;

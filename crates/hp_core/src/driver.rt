@@ -1,5 +1,5 @@
 // The whole driver.
-ghost use Rattle.std.specs.Prelude.{◌≡◌, ◌<◌, ◌≤◌, [], length, IsSome};
+ghost use Rattle.std.specs.Prelude.{◌≡◌, ◌<◌, ◌≤◌, [], length, IsSome, MatchResult, Ok, Err};
 ghost use Rattle.main_memory.specs.Frames.{frames_needed};
 ghost use Rattle.driver_machine.specs.World.{unit_at, slot_at, held_in, slot_in_hand, job_of};
 ghost use Rattle.driver_machine.specs.Lines.{step_told};
@@ -7,6 +7,7 @@ ghost use Rattle.trace_replay.specs.Moments as moments;
 ghost use Rattle.subsystem_spec.specs.Requests.{Answer as AnswerTold};
 ghost use Rattle.trace_replay.specs.Text.{moment_text};
 ghost use Rattle.trace_lines.specs.Deeds.{deed_of};
+ghost use Rattle.driver_outcome.specs.declared.Stop.TheVariants as stop;
 ghost use Rattle.hp_core.specs.Done.{Tells};
 
 use drive_model::NoiseBook;
@@ -15,10 +16,10 @@ use driver_outcome::Stop;
 use hardware_table::Moved;
 use hp_units::{Answers, Channel};
 use mass_gather::Gather;
-use mass_outside::traits::Sink;
+use mass_outside::traits::{Sink, SinkFailed};
 use request_slots::Slots;
 use std::marker::Model;
-use trace_lines::{LineText, Told};
+use trace_lines::{CleanLine, LineText, Told};
 use transfer_engine::Job;
 use unit_bank::UnitBank;
 
@@ -77,6 +78,16 @@ pub(crate) fn needed(count: u32, offset: u32, last: u32) -> u32
     (offset + 512 * (count - 1) + last + 511) / 512
 }
 
+/// What a call comes to that put text to the trace.
+fn sent(put: Result<(), SinkFailed>) -> Result<(), Stop>
+    ensures { MatchResult put (λ x. result ≡ Ok x) (λ _. result ≡ Err stop.Sink) }
+{
+    match put {
+        Ok(()) => Ok(()),
+        Err(_) => Err(Stop::Sink),
+    }
+}
+
 impl Core {
     /// Tells the line of a deed.
     pub(crate) fn tell<T: Sink>(
@@ -91,10 +102,7 @@ impl Core {
     {
         let mut text = LineText::new();
         text.write(number, unit, id, told);
-        match self.gather.put(text.as_bytes(), trace) {
-            Ok(()) => Ok(()),
-            Err(_) => Err(Stop::Sink),
-        }
+        sent(self.gather.put(text.as_bytes(), trace))
     }
 
     /// Tells the line of a sector that was tried.
@@ -109,12 +117,11 @@ impl Core {
     ) -> Result<(), Stop>
         ensures { Tells T.tells T.taken T.faults trace.old trace.new self.old self.new result (moment_text (moments.Told number unit id (moments.Sector block verdict))) }
     {
-        let mut text = LineText::new();
-        text.write_sector(number, unit, id, block, verdict);
-        match self.gather.put(text.as_bytes(), trace) {
-            Ok(()) => Ok(()),
-            Err(_) => Err(Stop::Sink),
-        }
+        let Moved::Clean = verdict else {
+            return self.tell(number, unit, id, Told::Sector { block, verdict }, trace);
+        };
+        let text = CleanLine::new(number, unit, id, block);
+        sent(self.gather.put_short(text.front(), text.len(), trace))
     }
 
     /// Sends the text that is kept. Nothing is kept after it, also where the trace failed.
@@ -122,10 +129,7 @@ impl Core {
         ensures sends { Tells T.tells T.taken T.faults trace.old trace.new self.old self.new result [] }
         ensures empty { self.new.kept ≡ [] }
     {
-        match self.gather.flush(trace) {
-            Ok(()) => Ok(()),
-            Err(_) => Err(Stop::Sink),
-        }
+        sent(self.gather.flush(trace))
     }
 
     /// The slot of the request in hand.
@@ -163,9 +167,6 @@ impl Core {
     {
         let mut text = LineText::new();
         text.write_idle(number);
-        match self.gather.put(text.as_bytes(), trace) {
-            Ok(()) => Ok(()),
-            Err(_) => Err(Stop::Sink),
-        }
+        sent(self.gather.put(text.as_bytes(), trace))
     }
 }

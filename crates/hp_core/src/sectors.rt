@@ -21,16 +21,17 @@ use hardware_table::Moved;
 use mass_outside::traits::{Packs, Sink, StoreFailed};
 
 impl Core {
-    /// Tries the next sector of the transfer under way.
+    /// Tries the next sector of the transfer under way, which is for the request of a slot.
     pub(crate) fn put_sector<P: Packs>(
         &mut self,
         u: u8,
+        slot: u32,
         packs: &mut P,
     ) -> Result<Moved, StoreFailed>
         requires small { u < 32 }
         requires unit { u < length self.old.world.units }
         requires adapter { adapter_of u < length self.old.world.adapters }
-        requires some { 0 < length (unit_at self.old.world u).queue }
+        requires slot { slot ≡ slot_in_hand (unit_at self.old.world u) }
         requires there { IsSome (slot_at self.old.world (slot_in_hand (unit_at self.old.world u))) }
         requires bus { (held_in self.old.world (slot_in_hand (unit_at self.old.world u))).on_bus ≡ true }
         requires busy { (adapter_at self.old.world (adapter_of u)).state.busy ≡ true }
@@ -66,7 +67,6 @@ impl Core {
         ensures never_again { IsTrue (P.tells packs.new) → IsTrue (P.tells packs.old) }
         ensures cause { HasCause (P.faults packs.old) (P.faults packs.new) result }
     {
-        let slot = self.hand(u);
         let channel = &mut self.channels[usize::from(u / 8)];
         self.units.move_sector(
             u,
@@ -91,22 +91,24 @@ impl Core {
         block + moved
     }
 
-    /// The next sector of the transfer under way is tried.
+    /// The next sector of the transfer under way is tried, for the request in hand.
     pub fn sector<P: Packs, T: Sink>(
         &mut self,
         line: u64,
         u: u8,
-        id: u32,
         packs: &mut P,
         trace: &mut T,
     ) -> Result<(), Stop>
         requires sound { Sound self.old.world }
-        requires in_hand { InHand self.old.world u id }
+        requires in_hand { InHand self.old.world u (held_in self.old.world (slot_in_hand (unit_at self.old.world u))).id }
         requires busy { IsBusyFor (adapter_at self.old.world (adapter_of u)).state (drive_of u) false }
-        ensures { TriesSector P.tells P.held P.faults T.tells T.taken T.faults packs.old packs.new trace.old trace.new self.old self.new result line u id }
+        ensures { TriesSector P.tells P.held P.faults T.tells T.taken T.faults packs.old packs.new trace.old trace.new self.old self.new result line u
+            (held_in self.old.world (slot_in_hand (unit_at self.old.world u))).id }
     {
+        let slot = self.hand(u);
+        let id = self.asked(slot).id;
         let block = self.next_block(u);
-        match self.put_sector(u, packs) {
+        match self.put_sector(u, slot, packs) {
             Ok(verdict) => self.tell_sector(line, u, id, block, verdict, trace),
             Err(_) => Err(Stop::Store),
         }

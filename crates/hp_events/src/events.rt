@@ -64,8 +64,7 @@ pub fn move_sector<P: Packs, T: Sink>(
         return core.nothing(line, trace);
     }
     let u = core.transferring(a);
-    let id = id_in_hand(core, u);
-    core.sector(line, u, id, packs, trace)
+    core.sector(line, u, packs, trace)
 }
 
 /// The data interrupt of an adapter is taken, where its completion is up, and what is due behind it is done.

@@ -76,8 +76,9 @@ fn lines(rt: HostRuntime) {
             assert!(rt; line.as_bytes() == wanted.as_bytes(), "{wanted}");
         }
     }
-    line.write_fill(126, 10);
-    assert!(rt; line.as_bytes() == b"blk 126 fill 0a\n".as_slice());
+    let mut fill = FillLine::new();
+    fill.write(126, 10);
+    assert!(rt; fill.as_bytes() == b"blk 126 fill 0a\n".as_slice());
     let long = answer_line(u64::MAX, u32::MAX, Outcome::Eof);
     assert!(rt; long.as_bytes() == b"ans 4294967295 at 18446744073709551615 eof\n".as_slice());
 }

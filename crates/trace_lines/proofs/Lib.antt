@@ -1,1 +1,2 @@
+pub mod CleanLaws
 pub mod WordLaws

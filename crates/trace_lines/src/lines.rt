@@ -1,15 +1,13 @@
 ghost use Rattle.std.specs.Prelude.{◌≡◌, ◌≤◌, [], ◌∷◌, drop};
-ghost use Rattle.hardware_table.specs.declared.Moved.TheVariants.{Clean};
 ghost use Rattle.trace_replay.specs.Moments as moments;
-ghost use Rattle.trace_replay.specs.Moments.{Sector};
 ghost use Rattle.subsystem_spec.specs.Requests.{Answer};
 ghost use Rattle.trace_replay.specs.Text.{moment_text};
 ghost use Rattle.trace_lines.specs.Deeds.{deed_of};
 
-use crate::pieces::{ROOM, put_piece};
+use crate::pieces::ROOM;
 use crate::telling::Told;
-use crate::words::{put_first, put_last, put_moved, put_number};
-use hardware_table::Moved;
+use crate::words::{put_first, put_last, put_number};
+use line_pieces::put_piece;
 use std::marker::Model;
 
 /// The text of a line of a trace.
@@ -51,37 +49,6 @@ fn put_line(bytes: &mut [u8; ROOM], number: u64, unit: u8, id: u32, told: &Told)
     put_first(bytes, first, told)
 }
 
-/// Puts the line of a sector that moved clean.
-fn put_clean(bytes: &mut [u8; ROOM], number: u64, unit: u8, id: u32, block: u32) -> usize
-    ensures inside { result ≤ 160 }
-    ensures text { drop result bytes.new ≡ moment_text (moments.Told number unit id (Sector block Clean)) }
-{
-    let end = put_end(bytes);
-    let block_at = put_moved(bytes, end, block);
-    let id_at = put_number(bytes, block_at, u64::from(id));
-    let unit_at = put_number(bytes, id_at, u64::from(unit));
-    let number_at = put_number(bytes, unit_at, number);
-    put_piece(bytes, number_at, b"sector")
-}
-
-/// Puts the line of a sector that was tried. Most lines are of one that moved clean.
-fn put_tried(
-    bytes: &mut [u8; ROOM],
-    number: u64,
-    unit: u8,
-    id: u32,
-    block: u32,
-    verdict: Moved,
-) -> usize
-    ensures inside { result ≤ 160 }
-    ensures text { drop result bytes.new ≡ moment_text (moments.Told number unit id (Sector block verdict)) }
-{
-    match verdict {
-        Moved::Clean => put_clean(bytes, number, unit, id, block),
-        _ => put_line(bytes, number, unit, id, &Told::Sector { block, verdict }),
-    }
-}
-
 /// Puts the line of an event that found nothing to do.
 fn put_idle(bytes: &mut [u8; ROOM], number: u64) -> usize
     ensures inside { result ≤ 160 }
@@ -116,13 +83,6 @@ impl LineText {
         ensures { (answer : Answer) → self.new ≡ moment_text (moments.Told number unit id (deed_of answer told)) }
     {
         self.start = put_line(&mut self.bytes, number, unit, id, &told);
-    }
-
-    /// Writes the line of a sector that was tried, as `write` does, in less time where it moved clean.
-    pub fn write_sector(&mut self, number: u64, unit: u8, id: u32, block: u32, verdict: Moved)
-        ensures { self.new ≡ moment_text (moments.Told number unit id (Sector block verdict)) }
-    {
-        self.start = put_tried(&mut self.bytes, number, unit, id, block, verdict);
     }
 
     /// Writes the line of an event that found nothing to do, in place of what is there.

@@ -7,10 +7,11 @@ ghost use Rattle.subsystem_spec.specs.Requests.{Answer};
 ghost use Rattle.trace_replay.specs.Text.{offset_word, fault_word, verdict_words, transfer_word, first_word, last_words};
 ghost use Rattle.trace_lines.specs.Deeds.{deed_of, in_front};
 
-use crate::pieces::{ROOM, put_byte, put_digits, put_piece};
+use crate::pieces::{ROOM, put_spaced};
 use crate::telling::Told;
 use drive_registers::OffsetCode;
 use hardware_table::{FaultKind, Moved};
+use line_pieces::{put_byte, put_piece};
 use mass_text::{LineBuf, Radix, numeral_law};
 
 /// The word of an offset.
@@ -65,7 +66,6 @@ fn put_word(bytes: &mut [u8; ROOM], start: usize, word: &str) -> usize
 }
 
 /// Puts a space and a number.
-#[tactic(auto, unfolding(crate::specs::Deeds::in_front))]
 pub(crate) fn put_number(bytes: &mut [u8; ROOM], start: usize, value: u64) -> usize
     requires inside { start ≤ 160 }
     requires room { 23 ≤ start }
@@ -74,8 +74,7 @@ pub(crate) fn put_number(bytes: &mut [u8; ROOM], start: usize, value: u64) -> us
     ensures room { start ≤ result + 23 }
 {
     numeral_law(Radix::Decimal);
-    let at = put_digits(bytes, start, value);
-    put_byte(bytes, at, b' ')
+    put_spaced(bytes, start, value)
 }
 
 /// Puts a space and a pattern, which is octal.
@@ -197,19 +196,6 @@ fn put_sector(bytes: &mut [u8; ROOM], start: usize, block: u32, verdict: Moved) 
     ensures room { start ≤ result + 77 }
 {
     let at = put_verdict(bytes, start, verdict);
-    put_number(bytes, at, u64::from(block))
-}
-
-/// Puts a block that moved clean.
-#[tactic(auto, using(crate::proofs::WordLaws::two_words))]
-pub(crate) fn put_moved(bytes: &mut [u8; ROOM], start: usize, block: u32) -> usize
-    requires inside { start ≤ 160 }
-    requires room { 46 ≤ start }
-    ensures text { drop result bytes.new ≡ in_front (decimal block ∷ verdict_words Moved.Clean) (drop start bytes.old) }
-    ensures inside { result ≤ start }
-    ensures room { start ≤ result + 31 }
-{
-    let at = put_word(bytes, start, "clean");
     put_number(bytes, at, u64::from(block))
 }
 

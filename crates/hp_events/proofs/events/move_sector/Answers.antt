@@ -1,4 +1,4 @@
-use Rattle.std.proofs.Common.{sym}
+use Rattle.std.proofs.Common.{refl, sym}
 use Rattle.hp_events.proofs.Moving.{moves_none, moves_one}
 use Rattle.hp_events.proofs.events.move_sector.Goals as goal
 
@@ -7,4 +7,4 @@ returns-then-not-moves g c = moves_none _ _ _ _ _ _ _ _ _ _ _ _ _ _ (sym c.if-no
 
 pub returns : goal.returns
 returns g c =
-    moves_one _ _ _ _ _ _ _ _ _ _ _ _ _ _ _ _ _ c.requires.sound (sym c.if-not-moves.ensures) c.transferring-u.ensures.unit c.id_in_hand-id.ensures c.sector.ensures
+    moves_one _ _ _ _ _ _ _ _ _ _ _ _ _ _ _ _ _ c.requires.sound (sym c.if-not-moves.ensures) c.transferring-u.ensures.unit refl c.sector.ensures

@@ -1,6 +1,12 @@
-use Rattle.hp_core.proofs.Tries.{Stepped, sector_told, sector_stopped}
+use Rattle.hp_core.proofs.Tries.{Stepped, named_in, sector_told, sector_stopped}
 use Rattle.hp_core.proofs.Deeds.{there, adapter_there, hand_there, under_way}
 use Rattle.hp_core.proofs.driver.Core.sector.Goals as goal
+
+pub hand-slot-requires-clause-unit : goal.hand-slot-requires-clause-unit
+hand-slot-requires-clause-unit g c = there _ c.args.line _ _ c.requires.sound c.requires.in_hand
+
+pub hand-slot-requires-clause-some : goal.hand-slot-requires-clause-some
+hand-slot-requires-clause-some g c = c.requires.in_hand.some
 
 pub put_sector-requires-clause-small : goal.put_sector-requires-clause-small
 put_sector-requires-clause-small g c = c.requires.in_hand.unit
@@ -10,9 +16,6 @@ put_sector-requires-clause-unit g c = there _ c.args.line _ _ c.requires.sound c
 
 pub put_sector-requires-clause-adapter : goal.put_sector-requires-clause-adapter
 put_sector-requires-clause-adapter g c = adapter_there _ c.args.line _ _ c.requires.sound c.requires.in_hand
-
-pub put_sector-requires-clause-some : goal.put_sector-requires-clause-some
-put_sector-requires-clause-some g c = c.requires.in_hand.some
 
 pub put_sector-requires-clause-there : goal.put_sector-requires-clause-there
 put_sector-requires-clause-there g c = hand_there _ c.args.line _ _ c.requires.sound c.requires.in_hand
@@ -58,7 +61,9 @@ returns-in-Ok g c =
       frames = c.put_sector.ensures.frames;
       answers = c.put_sector.ensures.answers;
     } in
-    sector_told _ _ g.P.Packs.faults _ _ g.T.Sink.faults _ _ _ _ _ c.put_sector.new.self _ _ _ _ _ _ c.in-Ok.verdict c.requires.in_hand c.requires.busy c.next_block-block.ensures s c.put_sector.ensures.kept c.tell_sector.ensures
+    sector_told _ _ g.P.Packs.faults _ _ g.T.Sink.faults _ _ _ _ _ c.put_sector.new.self _ _ _ _ _ _ _ c.in-Ok.verdict c.requires.in_hand
+    (named_in c.args.self.now.world _ _ _ c.asked-id.ensures c.hand-slot.ensures) c.requires.busy c.next_block-block.ensures s c.put_sector.ensures.kept
+    c.tell_sector.ensures
     c.put_sector.ensures.never_again c.put_sector.ensures.cause.later
 
 pub returns-in-Err : goal.returns-in-Err
