@@ -1,11 +1,11 @@
 ghost use Rattle.std.specs.Prelude.{◌≡◌, ◌<◌, ℕ, IfOk, IfSome, IsTrue, MatchOption};
 ghost use Rattle.pack_model.specs.TableSpelling.{Table};
 ghost use Rattle.pack_model.specs.PackTable.{IsTableOf, Tells};
-ghost use Rattle.mass_outside.specs.Causes.{HasCause};
+ghost use Rattle.outside_traits.specs.Causes.{HasCause};
 
 use crate::spelling::read_table;
 use crate::table::BadTable;
-use mass_outside::traits::{Packs, StoreFailed};
+use outside_traits::traits::{Packs, StoreFailed};
 use pack_geometry::{DriveKind, copy_block};
 
 /// The table that copy `k` tells; None where it is marked, or its bytes spell no table for this kind.

@@ -6,8 +6,8 @@ use Rattle.std.proofs.lemmas.Option.{get_or_from_slice_get, slice_get_within}
 use Rattle.std.specs.Prelude.{min, slice_get}
 use Rattle.pack_geometry.specs.declared.DriveKind.{DriveKind}
 use Rattle.pack_geometry.specs.declared.Place.{Place}
-use Rattle.mass_outside.specs.Puts.{Puts, TakesFront}
-use Rattle.mass_outside.specs.Causes.{Rose}
+use Rattle.outside_traits.specs.Puts.{Puts, TakesFront}
+use Rattle.outside_traits.specs.Causes.{Rose}
 use Rattle.bad144_tool.specs.Texts.{entry_line, entry_lines}
 
 entry_lines-append : (kind : DriveKind) (j : ℕ) (xs ys : List Place) → entry_lines kind j (xs ++ ys) ≡ entry_lines kind j xs ++ entry_lines kind (j + length xs) ys

@@ -6,7 +6,7 @@ use Rattle.pack_geometry.specs.Geometry.{block_count, block_number}
 use Rattle.pack_model.specs.Pack.{Pack}
 use Rattle.pack_model.specs.PackTable.{IsTableOf}
 use Rattle.pack_model.specs.TableSpelling.{Table}
-use Rattle.mass_outside.specs.Puts.{TakesFront}
+use Rattle.outside_traits.specs.Puts.{TakesFront}
 
 -- a name and its number
 abbrev pub field_text : List ℕ → ℕ → List ℕ

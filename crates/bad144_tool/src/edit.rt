@@ -2,12 +2,12 @@ ghost use Rattle.std.specs.Prelude.{◌≡◌, ◌<◌, ◌≤◌, ◌-◌, ◌+
 ghost use Rattle.pack_geometry.specs.Geometry.{copy_at, limit_of, replacement_at};
 ghost use Rattle.pack_model.specs.Pack.{block_at};
 ghost use Rattle.pack_model.specs.TableSpelling.{Table, table_text};
-ghost use Rattle.mass_outside.specs.Causes.{HasCause};
+ghost use Rattle.outside_traits.specs.Causes.{HasCause};
 ghost use Rattle.bad144_tool.specs.Changes.{DoesAll, with_changes, Block, Mark};
 ghost use Rattle.bad144_tool.specs.Edit.{copies, edit_writes, first_content, marking, moves, writes_with};
 
 use bad144_table::{BadTable, entries, write_table};
-use mass_outside::traits::{Packs, StoreFailed};
+use outside_traits::traits::{Packs, StoreFailed};
 use pack_geometry::{DriveKind, copy_block, replacement};
 
 /// How a block is added to a table: whether its bytes are copied to its replacement (else that gets zeros), and whether

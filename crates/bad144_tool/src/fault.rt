@@ -1,5 +1,5 @@
 use bad144_table::InsertFault;
-use mass_outside::traits::{SinkFailed, StoreFailed};
+use outside_traits::traits::{SinkFailed, StoreFailed};
 use thiserror::Error;
 
 /// Why a call of the tool did not do what it was asked.

@@ -1,8 +1,8 @@
 ghost use Rattle.std.specs.Prelude.{◌≡◌, ◌≢◌, ℕ, ◌<◌, ◌≤◌, ◌*◌, [], ◌++◌, length, IsTrue, IfOk, IfErr, IfSome, OnOk, IsErrOf};
 ghost use Rattle.pack_geometry.specs.Geometry.{IsInside, block_count, block_number, limit_of};
 ghost use Rattle.pack_model.specs.TableSpelling.{Table, table_text};
-ghost use Rattle.mass_outside.specs.Causes.{Rose};
-ghost use Rattle.mass_outside.specs.Puts.{Puts};
+ghost use Rattle.outside_traits.specs.Causes.{Rose};
+ghost use Rattle.outside_traits.specs.Puts.{Puts};
 ghost use Rattle.bad144_tool.specs.Adding.{Adds, AreFree, Fits, HasTable, IsFirstMarked, MayList};
 ghost use Rattle.bad144_tool.specs.Changes.{IsCutShort, with_changes};
 ghost use Rattle.bad144_tool.specs.Edit.{copies};
@@ -13,8 +13,8 @@ use crate::edit::{AddWay, write_copies, write_edit};
 use crate::fault::ToolFault;
 use crate::text::{entry_line, no_table_line, table_line};
 use bad144_table::{BadTable, empty_table, entries, entry, insert, table_of};
-use mass_outside::traits::{Packs, Sink, SinkFailed};
-use mass_outside::whole::write_all;
+use outside_traits::traits::{Packs, Sink, SinkFailed};
+use outside_traits::whole::write_all;
 use pack_geometry::{DriveKind, Place, block_of, blocks, place_law, place_of, replacement};
 
 /// Looks whether the image is no longer than the pack.

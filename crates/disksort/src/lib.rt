@@ -12,7 +12,7 @@ mod row;
 mod run;
 
 use crate::run::{Run, zeros};
-use mass_outside::traits::NoMemory;
+use outside_traits::traits::NoMemory;
 use std::alloc::Global;
 use std::marker::Model;
 

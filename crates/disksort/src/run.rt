@@ -6,7 +6,7 @@ ghost use Rattle.disksort.specs.Buckets.{RunView, IsRun, IsLinked, IsLowest, cha
 
 use crate::Waiter;
 use crate::row::{clear_bit, is_on, lowest, set_bit};
-use mass_outside::traits::NoMemory;
+use outside_traits::traits::NoMemory;
 use std::alloc::Global;
 use std::mem::swap;
 

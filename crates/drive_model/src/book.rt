@@ -5,7 +5,7 @@ ghost use Rattle.hardware_table.specs.Noise.{empty_book, book_armed, book_struck
 use crate::live::Live;
 use fire_code::Noise;
 use hardware_table::NoiseSpan;
-use mass_outside::traits::NoMemory;
+use outside_traits::traits::NoMemory;
 use std::alloc::Global;
 use std::marker::Model;
 

@@ -1,7 +1,7 @@
 use bad144_table::{empty_table, serial, write_table};
 use drive_model::Drive;
 use hardware_table::Register;
-use mass_outside::traits::{Packs, StoreFailed};
+use outside_traits::traits::{Packs, StoreFailed};
 use mba_autoconf::*;
 use pack_geometry::{DriveKind, copy_block};
 

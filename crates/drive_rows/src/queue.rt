@@ -1,5 +1,5 @@
 use disksort::*;
-use mass_outside::traits::NoMemory;
+use outside_traits::traits::NoMemory;
 use std::alloc::Global;
 use std::test::Fail;
 

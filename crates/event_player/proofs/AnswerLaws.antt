@@ -5,8 +5,8 @@ use Rattle.std.specs.List.{flat_map}
 use Rattle.std.proofs.lemmas.Bool.{eq-eqb}
 use Rattle.std.proofs.lemmas.List.{take-append-drop}
 use Rattle.std.proofs.Math.Seq.{take-append_seam}
-use Rattle.mass_outside.specs.declared.traits.SinkFailed.{SinkFailed}
-use Rattle.mass_outside.specs.Puts.{Puts}
+use Rattle.outside_traits.specs.declared.traits.SinkFailed.{SinkFailed}
+use Rattle.outside_traits.specs.Puts.{Puts}
 use Rattle.mass_gather.specs.Gathers.{Gathers}
 use Rattle.mass_gather.proofs.GatherLaws.{gathers_nothing, gathers_join, gathers_stop, gathers_whole}
 use Rattle.trace_replay.specs.Moments.{Answered}

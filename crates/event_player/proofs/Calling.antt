@@ -1,7 +1,7 @@
 -- A call of the driver that stopped, and one behind which the sink of the answers failed.
 use Rattle.std.proofs.Common.{◌≡◌, inl, inr, ℕ, Bool, true, false, IsTrue, List, ◌++◌, Some, None, refl, sym, ap, subst, ◌∙◌}
 use Rattle.pack_model.specs.Pack.{Pack}
-use Rattle.mass_outside.specs.Puts.{TakesFront}
+use Rattle.outside_traits.specs.Puts.{TakesFront}
 use Rattle.subsystem_spec.specs.Requests.{Request}
 use Rattle.trace_replay.specs.Script.{Input}
 use Rattle.driver_machine.specs.World.{World}

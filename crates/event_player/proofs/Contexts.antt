@@ -4,7 +4,7 @@ use Rattle.std.specs.Prelude.{if◌then◌else◌, nat_lt}
 use Rattle.std.proofs.lemmas.Grind.{flat_map-append}
 use Rattle.pack_model.specs.Pack.{Pack}
 use Rattle.pack_model.specs.TableSpelling.{Table}
-use Rattle.mass_outside.specs.Puts.{TakesFront}
+use Rattle.outside_traits.specs.Puts.{TakesFront}
 use Rattle.subsystem_spec.specs.Requests.{Request, IsRequest}
 use Rattle.trace_replay.specs.Moments.{Moment, Played, Idle}
 use Rattle.trace_replay.specs.Script as says

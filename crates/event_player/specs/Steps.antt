@@ -3,7 +3,7 @@ use Rattle.std.specs.Prelude.{◌≡◌, ◌≢◌, ◌⊎◌, ℕ, ◌+◌, ◌
 use Rattle.std.specs.List.{flat_map}
 use Rattle.pack_model.specs.Pack.{Pack}
 use Rattle.pack_model.specs.TableSpelling.{Table}
-use Rattle.mass_outside.specs.Causes.{Rose}
+use Rattle.outside_traits.specs.Causes.{Rose}
 use Rattle.script_reader.specs.declared.statement.Statement as Told
 use Rattle.script_reader.specs.declared.statement.Statement.TheVariants as says
 use Rattle.script_reader.specs.Formed.{IsWritten}

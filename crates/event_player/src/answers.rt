@@ -1,6 +1,6 @@
 // The answers that wait are counted and written, and then they are taken.
 ghost use Rattle.std.specs.Prelude.{◌≡◌, ◌+◌, ◌==◌, ◌<◌, ◌≤◌, ℕ, List, [], ◌∷◌, if◌then◌else◌, OnOk, length, take, replicate, slice_index_or};
-ghost use Rattle.mass_outside.specs.Puts.{Puts};
+ghost use Rattle.outside_traits.specs.Puts.{Puts};
 ghost use Rattle.mass_gather.specs.Gathers.{Gathers};
 ghost use Rattle.answer_lines.specs.AnswerText.{block_text};
 ghost use Rattle.answer_lines.specs.Outcomes.{answer_of};
@@ -16,7 +16,7 @@ use crate::desk::Desk;
 use answer_lines::{Outcome, answer_line};
 use driver_answers::taken_law;
 use hp_driver::{Answer, AnswerKind, Cause, Subsystem};
-use mass_outside::traits::{Sink, SinkFailed};
+use outside_traits::traits::{Sink, SinkFailed};
 
 /// How an error is said; `done` blocks were done.
 fn error_outcome(cause: Cause, done: u32) -> Outcome

@@ -1,6 +1,6 @@
 // The units of a script are attached.
 ghost use Rattle.std.specs.Prelude.{◌≡◌, ◌≤◌, ◌<◌, ℕ, IsTrue, IfOk, IfErr, IfSome, OnOk, IsErrOf};
-ghost use Rattle.mass_outside.specs.Causes.{Rose};
+ghost use Rattle.outside_traits.specs.Causes.{Rose};
 ghost use Rattle.pack_model.specs.PackTable.{AreTablesOf};
 ghost use Rattle.pack_model.specs.TableSpelling.{IsTable};
 ghost use Rattle.script_reader.specs.Grammar.{Spells};
@@ -17,7 +17,7 @@ use crate::play::PlayFault;
 use bad144_table::{BadTable, entries};
 use drive_model::Drive;
 use hp_driver::UnitSetup;
-use mass_outside::traits::Packs;
+use outside_traits::traits::Packs;
 use mba_autoconf::{AttachFault, attach};
 use pack_geometry::DriveKind;
 use script_meaning::meaning_law;

@@ -10,7 +10,7 @@ use crate::answers::write_answers;
 use crate::desk::Desk;
 use crate::play::PlayFault;
 use hp_driver::{Event, Request, Subsystem};
-use mass_outside::traits::{Packs, Sink};
+use outside_traits::traits::{Packs, Sink};
 
 /// Submits a request at a line, with the bytes of a write.
 pub fn ask<O: Sink, T: Sink>(

@@ -6,7 +6,7 @@ ghost use Rattle.answer_tally.specs.Counting.{Counts, tally_by};
 use answer_lines::{BlockLine, FillLine};
 use answer_tally::Tally;
 use mass_gather::Gather;
-use mass_outside::traits::{NoMemory, Sink, SinkFailed};
+use outside_traits::traits::{NoMemory, Sink, SinkFailed};
 use std::alloc::Global;
 
 /// Text that is gathered for a sink, the tally of the run so far, and room for a block and for its line, of either form.

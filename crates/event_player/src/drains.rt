@@ -1,6 +1,6 @@
 // A drain: events happen until no request is outstanding.
 ghost use Rattle.std.specs.Prelude.{◌≡◌, ℕ, ◌≤◌, [], length, false, IsTrue, OnOk, IfErr};
-ghost use Rattle.mass_outside.specs.Puts.{Puts};
+ghost use Rattle.outside_traits.specs.Puts.{Puts};
 ghost use Rattle.trace_replay.specs.Moments.{Idle};
 ghost use Rattle.trace_replay.specs.Script.{Plays, Drain};
 ghost use Rattle.trace_replay.specs.Text.{moment_text};
@@ -11,8 +11,8 @@ use crate::calls::happen;
 use crate::desk::Desk;
 use crate::play::PlayFault;
 use hp_driver::Subsystem;
-use mass_outside::traits::{Packs, Sink, SinkFailed};
-use mass_outside::whole::write_all;
+use outside_traits::traits::{Packs, Sink, SinkFailed};
+use outside_traits::whole::write_all;
 use trace_lines::idle;
 
 /// Says that a drain found nothing to do.

@@ -1,6 +1,6 @@
 // A script is played to its end.
 ghost use Rattle.std.specs.Prelude.{◌≡◌, ◌⊎◌, ◌≤◌, ℕ, [], false, length, IsTrue, Result, Ok, Err, OnOk, OnErr, IsErrOf, IfOk, IfErr, vec_len, Option};
-ghost use Rattle.mass_outside.specs.Causes.{Rose};
+ghost use Rattle.outside_traits.specs.Causes.{Rose};
 ghost use Rattle.pack_model.specs.TableSpelling.{Table};
 ghost use Rattle.script_reader.specs.Grammar.{Spells};
 ghost use Rattle.script_reader.specs.Stored.{lines_in};
@@ -20,7 +20,7 @@ use crate::player::play_line;
 pub use answer_tally::Tally;
 use driver_outcome::Stop;
 use hp_driver::Subsystem;
-use mass_outside::traits::{NoMemory, Packs, Sink, SinkFailed};
+use outside_traits::traits::{NoMemory, Packs, Sink, SinkFailed};
 use script_meaning::meaning_law;
 use script_reader::script::{Script, read_back_law};
 use std::alloc::{AllocError, Global};

@@ -6,7 +6,7 @@ use Rattle.std.proofs.lemmas.Bool.{eq-eqb}
 use Rattle.std.proofs.lemmas.Bool.Decides.{eqb_tells}
 use Rattle.pack_model.specs.Pack.{Pack, grown, with_window, with_block, with_pack, with_written, written}
 use Rattle.pack_model.proofs.PackLaws.{length-grown}
-use Rattle.mass_outside.specs.Causes.{Rose}
+use Rattle.outside_traits.specs.Causes.{Rose}
 use Rattle.trace_replay.specs.Script.{Script, drives_of}
 use Rattle.driver_outcome.specs.Outcome.{IsNextBlock}
 use Rattle.event_player.specs.declared.play.PlayFault.{PlayFault}

@@ -1,7 +1,7 @@
 -- What an exercise has done.
 use Rattle.std.specs.Prelude.{◌≡◌, ◌⊎◌, ℕ, false, Bool, IsTrue, List, [], ◌++◌}
 use Rattle.pack_model.specs.Pack.{Pack}
-use Rattle.mass_outside.specs.Puts.{TakesFront}
+use Rattle.outside_traits.specs.Puts.{TakesFront}
 use Rattle.script_reader.specs.Grammar.{Spells}
 use Rattle.script_reader.specs.Known.{Numbered}
 use Rattle.script_reader.specs.Printing.{numbered}

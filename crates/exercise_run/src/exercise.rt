@@ -1,6 +1,6 @@
 // The script of a number is played, and its tally is printed.
 ghost use Rattle.std.specs.Prelude.{◌≡◌, ◌⊎◌, ◌≤◌, IfOk, OnOk, IsErrOf};
-ghost use Rattle.mass_outside.specs.Causes.{Rose};
+ghost use Rattle.outside_traits.specs.Causes.{Rose};
 ghost use Rattle.exercise_run.specs.Exercises.{Exercised, IsCutShort, IsDone, IsStopped};
 
 use crate::packs::ExercisePacks;
@@ -9,8 +9,8 @@ use answer_tally::Tally;
 use event_player::play::{PlayFault, play};
 use hp_exercise::{bounds_law, script_of, spelling_law};
 use mass_outside::mem_streams::SureSink;
-use mass_outside::traits::Sink;
-use mass_outside::whole::write_all;
+use outside_traits::traits::Sink;
+use outside_traits::whole::write_all;
 use run_promises::promises_law;
 use script_meaning::meaning_law;
 use script_reader::fault::ReadFault;

@@ -4,7 +4,7 @@ ghost use Rattle.exercise_run.specs.Room.{AreEmpty, IsBlank, AreBlank, held_on, 
 
 use mass_outside::slots::Image;
 use mass_outside::sure_packs::SurePacks;
-use mass_outside::traits::{NoMemory, Packs, StoreFailed};
+use outside_traits::traits::{NoMemory, Packs, StoreFailed};
 use std::alloc::Global;
 use std::marker::Model;
 

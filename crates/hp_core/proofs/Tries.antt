@@ -25,7 +25,7 @@ use Rattle.driver_outcome.proofs.Joined.{nothing_done}
 use Rattle.request_slots.specs.declared.asked.Asked.{Asked}
 use Rattle.request_slots.specs.Requests.{asked_of}
 use Rattle.hp_core.specs.State.{State, site}
-use Rattle.mass_outside.specs.Causes.{HasCause, Rose}
+use Rattle.outside_traits.specs.Causes.{HasCause, Rose}
 use Rattle.hp_core.specs.Done.{Tells, TriesSector, HasCauses}
 use Rattle.hp_core.proofs.Telling.{outcome_of}
 use Rattle.hp_core.proofs.Scenes.{same_slot}

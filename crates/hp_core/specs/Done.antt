@@ -1,7 +1,7 @@
 -- What the method of an act does.
 use Rattle.std.specs.Prelude.{◌≡◌, ℕ, ◌≤◌, Bool, List, [], ◌∷◌, Result, Option, Some, IsTrue, IfOk, IfErr}
 use Rattle.pack_model.specs.Pack.{Pack}
-use Rattle.mass_outside.specs.Causes.{HasCause, Rose}
+use Rattle.outside_traits.specs.Causes.{HasCause, Rose}
 use Rattle.hardware_table.specs.Adapter.{next_block}
 use Rattle.mass_gather.specs.Gathers.{Gathers}
 use Rattle.driver_machine.specs.World.{adapter_at, adapter_of}

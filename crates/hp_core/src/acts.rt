@@ -10,7 +10,7 @@ use crate::driver::{Core, told_step};
 use driver_machine::RetryStep;
 use driver_outcome::Stop;
 use hardware_table::Moved;
-use mass_outside::traits::Sink;
+use outside_traits::traits::Sink;
 use pack_geometry::Place;
 use trace_lines::Told;
 

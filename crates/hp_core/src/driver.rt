@@ -16,7 +16,7 @@ use driver_outcome::Stop;
 use hardware_table::Moved;
 use hp_units::{Answers, Channel};
 use mass_gather::Gather;
-use mass_outside::traits::{Sink, SinkFailed};
+use outside_traits::traits::{Sink, SinkFailed};
 use request_slots::Slots;
 use std::marker::Model;
 use trace_lines::{CleanLine, LineText, Told};

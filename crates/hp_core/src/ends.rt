@@ -12,7 +12,7 @@ ghost use Rattle.hp_core.specs.Done.{DoesAct};
 use crate::driver::{Core, needed};
 use driver_machine::{Answer, AnswerKind, Made};
 use driver_outcome::Stop;
-use mass_outside::traits::Sink;
+use outside_traits::traits::Sink;
 use trace_lines::Told;
 
 impl Core {

@@ -9,7 +9,7 @@ ghost use Rattle.hp_core.specs.Done.{DoesAct};
 
 use crate::driver::Core;
 use driver_outcome::Stop;
-use mass_outside::traits::Sink;
+use outside_traits::traits::Sink;
 use trace_lines::Told;
 use transfer_engine::Segment;
 

@@ -1,7 +1,7 @@
 // One sector of a transfer.
 ghost use Rattle.std.specs.Prelude.{◌≡◌, ◌<◌, ◌^◌, true, false, IsTrue, IfOk, OnErr, IsSome, Some, length, slice_set, if◌then◌else◌};
 ghost use Rattle.pack_geometry.specs.Geometry.{block_count};
-ghost use Rattle.mass_outside.specs.Causes.{HasCause};
+ghost use Rattle.outside_traits.specs.Causes.{HasCause};
 ghost use Rattle.main_memory.specs.Blocks.{size_at};
 ghost use Rattle.hardware_table.specs.declared.Work.TheVariants.{Transfer};
 ghost use Rattle.hardware_table.specs.Moves.{was_read};
@@ -18,7 +18,7 @@ ghost use Rattle.hp_core.specs.Done.{TriesSector};
 use crate::driver::Core;
 use driver_outcome::Stop;
 use hardware_table::Moved;
-use mass_outside::traits::{Packs, Sink, StoreFailed};
+use outside_traits::traits::{Packs, Sink, StoreFailed};
 
 impl Core {
     /// Tries the next sector of the transfer under way, which is for the request of a slot.

@@ -9,7 +9,7 @@ use bad144_table::BadTable;
 use drive_model::NoiseBook;
 use hp_units::{Answers, Channel, DiskUnit};
 use mass_gather::Gather;
-use mass_outside::traits::NoMemory;
+use outside_traits::traits::NoMemory;
 use pack_geometry::DriveKind;
 use request_slots::Slots;
 use std::alloc::Global;

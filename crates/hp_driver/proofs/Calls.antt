@@ -3,7 +3,7 @@ use Rattle.std.proofs.Common.{◌≡◌, ℕ, ◌≤◌, Bool, true, false, List
 use Rattle.std.specs.Prelude.{Result, Ok, Err, IfErr, OnOk}
 use Rattle.std.proofs.lemmas.List.{append-nil}
 use Rattle.pack_model.specs.Pack.{Pack, empty_pack}
-use Rattle.mass_outside.specs.Causes.{HasCause, Rose}
+use Rattle.outside_traits.specs.Causes.{HasCause, Rose}
 use Rattle.trace_replay.specs.Script.{Input}
 use Rattle.driver_machine.specs.World.{World}
 use Rattle.driver_machine.specs.Acts.{Act, Tried, after_all}

@@ -2,7 +2,7 @@
 use Rattle.std.proofs.Common.{◌≡◌, ℕ, Bool, List, [], ◌++◌, Some, refl, sym, ◌∙◌, subst}
 use Rattle.std.specs.Prelude.{Result, Ok, Err, IfErr, OnOk}
 use Rattle.pack_model.specs.Pack.{Pack}
-use Rattle.mass_outside.specs.Causes.{HasCause}
+use Rattle.outside_traits.specs.Causes.{HasCause}
 use Rattle.trace_replay.specs.Script.{MoveAt}
 use Rattle.driver_machine.specs.Acts.{Tried}
 use Rattle.driver_machine.specs.Events.{move_acts}

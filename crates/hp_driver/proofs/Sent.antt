@@ -2,7 +2,7 @@
 use Rattle.std.proofs.Common.{◌≡◌, ℕ, Bool, IsTrue, List, [], ◌++◌, drop, take, take-append-drop, sym, ap, ◌∙◌}
 use Rattle.std.proofs.lemmas.List.{append_assoc, append-nil}
 use Rattle.pack_model.specs.Pack.{Pack}
-use Rattle.mass_outside.specs.Puts.{TakesFront}
+use Rattle.outside_traits.specs.Puts.{TakesFront}
 use Rattle.trace_replay.specs.Text.{trace_text}
 use Rattle.driver_machine.specs.World.{World}
 use Rattle.driver_machine.specs.Acts.{Act}

@@ -1,7 +1,7 @@
 -- What the parts of a call come to, over the core: each part sends what it tells.
 use Rattle.std.specs.Prelude.{◌≡◌, ℕ, ◌+◌, ◌-◌, ◌*◌, ◌<◌, Bool, false, if◌then◌else◌, IsTrue, min, List, [], length, Result, IfErr, OnOk}
 use Rattle.pack_model.specs.Pack.{Pack}
-use Rattle.mass_outside.specs.Causes.{HasCause}
+use Rattle.outside_traits.specs.Causes.{HasCause}
 use Rattle.subsystem_spec.specs.Requests as told
 use Rattle.subsystem_spec.specs.Requests.{IsRequest}
 use Rattle.trace_replay.specs.Script.{Input}

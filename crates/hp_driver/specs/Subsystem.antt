@@ -3,7 +3,7 @@ use Rattle.std.specs.Prelude.{◌≡◌, ◌≢◌, ℕ, ◌<◌, ◌≤◌, min
 use Rattle.pack_geometry.specs.declared.DriveKind.{DriveKind}
 use Rattle.pack_model.specs.Pack.{Pack}
 use Rattle.pack_model.specs.TableSpelling.{Table}
-use Rattle.mass_outside.specs.declared.traits.SinkFailed.{SinkFailed}
+use Rattle.outside_traits.specs.declared.traits.SinkFailed.{SinkFailed}
 use Rattle.subsystem_spec.specs.Requests as told
 use Rattle.subsystem_spec.specs.Requests.{IsRequest}
 use Rattle.trace_replay.specs.Moments.{Moment}

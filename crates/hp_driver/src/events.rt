@@ -9,7 +9,7 @@ ghost use Rattle.hp_driver.specs.Calls.{Stands, SendsActs, Happens};
 use driver_outcome::Stop;
 use hp_core::Core;
 use hp_events::Event;
-use mass_outside::traits::{Packs, Sink};
+use outside_traits::traits::{Packs, Sink};
 
 /// A positioning ends.
 fn arrive<T: Sink>(core: &mut Core, line: u64, unit: u8, trace: &mut T) -> Result<(), Stop>

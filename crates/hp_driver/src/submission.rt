@@ -16,7 +16,7 @@ use crate::request::{Request, frames_for};
 use driver_machine::{AnswerKind, Cause};
 use driver_outcome::Stop;
 use hp_core::Core;
-use mass_outside::traits::Sink;
+use outside_traits::traits::Sink;
 use partitions::{Admission, admit};
 use request_slots::Asked;
 

@@ -1,6 +1,6 @@
 // The subsystem: what its users call.
 ghost use Rattle.std.specs.Prelude.{◌≡◌, ◌↔◌, ℕ, ◌<◌, ◌≤◌, [], min, true, false, None, Some, IsTrue, IfOk, IfSome, IfNone, OnOk, OnErr, IsErrOf};
-ghost use Rattle.mass_outside.specs.Causes.{Rose, HasCause};
+ghost use Rattle.outside_traits.specs.Causes.{Rose, HasCause};
 ghost use Rattle.main_memory.specs.Bytes.{filled, IsFill};
 ghost use Rattle.driver_machine.specs.declared.Made.{Made};
 ghost use Rattle.driver_machine.specs.World.{new_world, held_in, block_in};
@@ -24,7 +24,7 @@ use driver_machine::Answer;
 use driver_outcome::Stop;
 use hp_core::{Core, UnitSetup};
 use hp_events::Event;
-use mass_outside::traits::{NoMemory, Packs, Sink, SinkFailed};
+use outside_traits::traits::{NoMemory, Packs, Sink, SinkFailed};
 use std::alloc::Global;
 use std::marker::Model;
 use trace_bounds::commands_law;

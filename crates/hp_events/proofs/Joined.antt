@@ -2,7 +2,7 @@
 use Rattle.std.proofs.Common.{ℕ, ◌≤◌, Bool, false, IsTrue, List, [], ◌∷◌, ◌++◌, sym, subst, arith}
 use Rattle.std.specs.Prelude.{Result, Ok, Err}
 use Rattle.pack_model.specs.Pack.{empty_pack}
-use Rattle.mass_outside.specs.Causes.{HasCause, Rose}
+use Rattle.outside_traits.specs.Causes.{HasCause, Rose}
 use Rattle.driver_machine.specs.World.{World}
 use Rattle.driver_machine.specs.Acts.{Act, after_all}
 use Rattle.driver_machine.specs.Events.{Part, followed}

@@ -1,7 +1,7 @@
 -- What a call that does acts one after another comes to.
 use Rattle.std.specs.Prelude.{◌≡◌, ℕ, Bool, IsTrue, List, Result, IfErr}
 use Rattle.pack_model.specs.Pack.{Pack}
-use Rattle.mass_outside.specs.Causes.{HasCause}
+use Rattle.outside_traits.specs.Causes.{HasCause}
 use Rattle.driver_machine.specs.World.{World}
 use Rattle.driver_machine.specs.Acts.{Act, after_all}
 use Rattle.driver_machine.specs.Sound.{Sound}

@@ -17,7 +17,7 @@ use crate::verdicts::judge;
 use driver_machine::{AnswerKind, Cause, Phase, Task};
 use driver_outcome::Stop;
 use hp_core::Core;
-use mass_outside::traits::Sink;
+use outside_traits::traits::Sink;
 use request_slots::Asked;
 
 /// What the request in hand of a unit asks. None where its queue is empty.

@@ -12,7 +12,7 @@ use crate::turns::{due, start_adapter};
 use driver_machine::Phase;
 use driver_outcome::Stop;
 use hp_core::Core;
-use mass_outside::traits::{Packs, Sink};
+use outside_traits::traits::{Packs, Sink};
 
 /// The positioning of a unit's drive ends, where one is under way. Stops where the trace fails.
 pub fn arrive<T: Sink>(core: &mut Core, line: u64, u: u8, trace: &mut T) -> Result<(), Stop>

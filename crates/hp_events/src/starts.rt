@@ -16,7 +16,7 @@ use crate::guards::{Before, due_before};
 use driver_machine::{AnswerKind, RetryStep};
 use driver_outcome::Stop;
 use hp_core::Core;
-use mass_outside::traits::Sink;
+use outside_traits::traits::Sink;
 use pack_geometry::{Place, place_of};
 use request_slots::Asked;
 use seek_engine::Position;

@@ -15,7 +15,7 @@ use crate::turns::{due, start_adapter};
 use driver_machine::AnswerKind;
 use driver_outcome::Stop;
 use hp_core::Core;
-use mass_outside::traits::Sink;
+use outside_traits::traits::Sink;
 use request_slots::Asked;
 
 /// A request of a unit is refused, and then its adapter is started. Stops where the trace fails.

@@ -9,7 +9,7 @@ ghost use Rattle.hp_events.specs.Free.{IsFree};
 use crate::deeds::{choose, next_deed};
 use driver_outcome::Stop;
 use hp_core::Core;
-use mass_outside::traits::Sink;
+use outside_traits::traits::Sink;
 
 /// Does what is due at a unit, 0 to 31, until nothing is; a transfer command comes only where its adapter is free. Stops where the
 /// trace fails.

@@ -16,7 +16,7 @@ use driver_machine::{AnswerKind, Cause};
 use driver_outcome::Stop;
 use hardware_table::Moved;
 use hp_core::Core;
-use mass_outside::traits::Sink;
+use outside_traits::traits::Sink;
 use request_slots::Asked;
 
 /// The answer to a request all of whose blocks moved.

@@ -12,7 +12,7 @@ ghost use Rattle.script_reader.specs.Grammar.{Spells};
 ghost use Rattle.script_reader.specs.Printing.{numbered};
 ghost use Rattle.script_reader.specs.Words.{all_verbs};
 
-use mass_outside::traits::NoMemory;
+use outside_traits::traits::NoMemory;
 use rand_core::{Rng, SeedableRng};
 use rand_xoshiro::SplitMix64;
 use std::alloc::Global;

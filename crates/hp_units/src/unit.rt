@@ -25,7 +25,7 @@ use drive_registers::{Ds, Function, OFFSET_CODE, Of, RM03_TYPE, RP06_TYPE};
 use driver_machine::{Phase, RetryStep};
 use hardware_table::{FaultKind, Register, status_law};
 use hp_interrupts::{DataCause, Sensed, TransferRegs, data_interrupt, needs_pack, sense};
-use mass_outside::traits::NoMemory;
+use outside_traits::traits::NoMemory;
 use pack_geometry::{DriveKind, Place};
 use seek_engine::{Position, decide};
 use std::alloc::Global;

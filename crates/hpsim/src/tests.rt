@@ -2,7 +2,7 @@
 use hpsim_run::run;
 use mass_outside::files::{FilePacks, FileSink};
 use mass_outside::streams::{StdSink, StdSource};
-use mass_outside::traits::{Packs, Sink};
+use outside_traits::traits::{Packs, Sink};
 use std::alloc::{Allocator, Global};
 use std::fs::{File, Metadata, OpenOptions};
 use std::rt::Files;

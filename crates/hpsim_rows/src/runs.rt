@@ -5,7 +5,7 @@ use hpsim_run::run;
 use mass_outside::mem_packs::{FailCall, MemPacks, PackOp};
 use mass_outside::mem_streams::{MemSink, MemSource};
 use mass_outside::slots::Image;
-use mass_outside::traits::Packs;
+use outside_traits::traits::Packs;
 use std::alloc::Global;
 use std::test::Fail;
 

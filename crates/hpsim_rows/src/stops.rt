@@ -3,7 +3,7 @@ use crate::runs::{
     Faults, NONE, PLAY, RETRIES, Ran, holds, listed, packs_of, play_over, run_on, times,
 };
 use mass_outside::mem_packs::{FailCall, MemPacks, PackOp};
-use mass_outside::traits::Packs;
+use outside_traits::traits::Packs;
 use std::alloc::Global;
 use std::test::Fail;
 

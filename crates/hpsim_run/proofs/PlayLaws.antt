@@ -1,7 +1,7 @@
 -- What a run of `play` comes to.
 use Rattle.std.proofs.Common.{◌≡◌, ◌⊎◌, inl, inr, ℕ, ◌++◌, List, [], Bool, IsTrue, Result, Ok, Err, OnOk, OnErr, subst, sym}
-use Rattle.mass_outside.specs.Causes.{HasCause}
-use Rattle.mass_outside.specs.Puts.{TakesFront}
+use Rattle.outside_traits.specs.Causes.{HasCause}
+use Rattle.outside_traits.specs.Puts.{TakesFront}
 use Rattle.pack_model.specs.Pack.{Pack}
 use Rattle.script_reader.specs.declared.fault.ScriptKind.{ScriptKind}
 use Rattle.script_reader.specs.Grammar.{IsRefused}

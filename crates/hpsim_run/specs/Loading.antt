@@ -1,7 +1,7 @@
 -- Faults of loading a script.
 use Rattle.std.specs.Prelude.{◌≡◌, ℕ, List}
-use Rattle.mass_outside.specs.declared.whole.ReadAllFault.{ReadAllFault}
-use Rattle.mass_outside.specs.declared.whole.ReadAllFault.TheVariants.{Memory as AllMemory, Failed as AllFailed}
+use Rattle.outside_traits.specs.declared.whole.ReadAllFault.{ReadAllFault}
+use Rattle.outside_traits.specs.declared.whole.ReadAllFault.TheVariants.{Memory as AllMemory, Failed as AllFailed}
 use Rattle.script_reader.specs.declared.fault.ReadFault.{ReadFault}
 use Rattle.script_reader.specs.declared.fault.ReadFault.TheVariants.{Memory as ReadMemory, Refused as ReadRefused}
 use Rattle.script_reader.specs.Grammar.{IsRefused}

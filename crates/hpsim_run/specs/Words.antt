@@ -2,8 +2,8 @@
 use Rattle.std.specs.Prelude.{◌≡◌, ◌⊎◌, ℕ, List, [], ◌∷◌, ◌++◌, Option, map, codes, decimal, String}
 use Rattle.std.specs.declared.alloc.Global.{Global}
 use Rattle.std.specs.String.{string_bytes}
-use Rattle.mass_outside.specs.Causes.{Rose}
-use Rattle.mass_outside.specs.Puts.{TakesFront}
+use Rattle.outside_traits.specs.Causes.{Rose}
+use Rattle.outside_traits.specs.Puts.{TakesFront}
 use Rattle.hpsim_run.specs.declared.words.Command.{Command}
 use Rattle.hpsim_run.specs.Commands.{command_named}
 use Rattle.script_reader.specs.declared.fault.ScriptKind.{ScriptKind}

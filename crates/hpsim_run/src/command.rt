@@ -1,5 +1,5 @@
 ghost use Rattle.std.specs.Prelude.{◌≡◌, ◌⊎◌, ◌↔◌, ◌+◌, ◌≤◌, ℕ, ◌≢◌, List, IsTrue, length, None, Some};
-ghost use Rattle.mass_outside.specs.Causes.{Rose};
+ghost use Rattle.outside_traits.specs.Causes.{Rose};
 ghost use Rattle.script_reader.specs.Grammar.{Spells};
 ghost use Rattle.script_reader.specs.Known.{Numbered};
 ghost use Rattle.script_reader.specs.Words.{all_verbs};
@@ -23,8 +23,8 @@ use crate::text::{refusal, too_long, usage};
 use crate::tools::{run_add, run_fresh, run_list};
 use crate::words::{Command, command_of};
 use event_player::play::{PlayFault, play};
-use mass_outside::traits::{Packs, Sink, Source};
-use mass_outside::whole::write_all;
+use outside_traits::traits::{Packs, Sink, Source};
+use outside_traits::whole::write_all;
 use run_promises::{beginnings_law, promises_law};
 use script_meaning::meaning_law;
 use script_reader::script::grammar_law;

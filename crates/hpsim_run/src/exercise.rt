@@ -1,12 +1,12 @@
 ghost use Rattle.std.specs.Prelude.{◌≡◌, ◌⊎◌};
-ghost use Rattle.mass_outside.specs.Causes.{Rose};
+ghost use Rattle.outside_traits.specs.Causes.{Rose};
 ghost use Rattle.hpsim_run.specs.Exercises.{RunsExercise};
 ghost use Rattle.hpsim_run.specs.Statuses.{status_code};
 ghost use Rattle.hpsim_run.specs.declared.status.Status.TheVariants.{OutOfMemory, SinkFailed};
 
 use crate::status::Status;
 use exercise_run::{ExerciseFault, run_exercise as play_number};
-use mass_outside::traits::Sink;
+use outside_traits::traits::Sink;
 use std::alloc::Global;
 
 /// Plays the script of a number over packs of its own, and prints its tally.

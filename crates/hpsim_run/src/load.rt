@@ -1,13 +1,13 @@
 ghost use Rattle.std.specs.Prelude.{◌≡◌, ◌+◌, ◌≤◌, IsTrue, [], length, IfOk, IfErr, IsErrOf};
-ghost use Rattle.mass_outside.specs.Causes.{Rose};
+ghost use Rattle.outside_traits.specs.Causes.{Rose};
 ghost use Rattle.script_reader.specs.Grammar.{Spells};
 ghost use Rattle.script_reader.specs.Stored.{lines_in};
 ghost use Rattle.script_reader.specs.Words.{all_verbs};
 ghost use Rattle.hpsim_run.specs.Headline.{longest};
 ghost use Rattle.hpsim_run.specs.Loading.{RefusesAll};
 
-use mass_outside::traits::Source;
-use mass_outside::whole::{ReadAllFault, read_all};
+use outside_traits::traits::Source;
+use outside_traits::whole::{ReadAllFault, read_all};
 use script_reader::fault::{ReadFault, ScriptKind};
 use script_reader::script::{Script, grammar_law, read_script};
 use std::alloc::Global;

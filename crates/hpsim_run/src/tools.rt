@@ -1,6 +1,6 @@
 ghost use Rattle.std.specs.Prelude.{◌≡◌, ◌≤◌, ◌<◌, IsTrue};
 ghost use Rattle.pack_geometry.specs.Geometry.{block_count};
-ghost use Rattle.mass_outside.specs.Causes.{Rose};
+ghost use Rattle.outside_traits.specs.Causes.{Rose};
 ghost use Rattle.hpsim_run.specs.Statuses.{status_code};
 ghost use Rattle.hpsim_run.specs.Tools.{RunsAdd, RunsFresh, RunsList, fault_status, fault_text};
 ghost use Rattle.hpsim_run.specs.Words.{Told};
@@ -8,8 +8,8 @@ ghost use Rattle.hpsim_run.specs.Words.{Told};
 use crate::status::Status;
 use crate::text::{entry_line, fault_line, serial_line};
 use bad144_tool::{AddWay, ToolFault, add, fresh, list};
-use mass_outside::traits::{Packs, Sink};
-use mass_outside::whole::write_all;
+use outside_traits::traits::{Packs, Sink};
+use outside_traits::whole::write_all;
 use pack_geometry::DriveKind;
 
 /// The status that a fault of the tool ends with.

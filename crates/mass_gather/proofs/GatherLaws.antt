@@ -4,8 +4,8 @@ use Rattle.std.specs.Prelude.{Result, Ok, Err, IsOk, IsErr}
 use Rattle.std.proofs.lemmas.List.{take_all, take-append-le}
 use Rattle.std.proofs.lemmas.Bool.{cases_lt}
 use Rattle.std.proofs.Math.Seq.{take-add, take-append_seam, drop-append_seam}
-use Rattle.mass_outside.specs.Causes.{Rose}
-use Rattle.mass_outside.specs.Puts.{TakesFront, Puts}
+use Rattle.outside_traits.specs.Causes.{Rose}
+use Rattle.outside_traits.specs.Puts.{TakesFront, Puts}
 use Rattle.mass_gather.specs.Gathers.{Gathers}
 
 -- a front of a text is a front of a longer one

@@ -1,7 +1,7 @@
 -- What a call that puts a text to a gathering writer does.
 use Rattle.std.specs.Prelude.{◌≡◌, ℕ, List, [], ◌++◌, Bool, IsTrue, Result, Ok, OnOk, OnErr, IsOk, IsErr}
-use Rattle.mass_outside.specs.Causes.{HasCause}
-use Rattle.mass_outside.specs.Puts.{TakesFront, Puts}
+use Rattle.outside_traits.specs.Causes.{HasCause}
+use Rattle.outside_traits.specs.Puts.{TakesFront, Puts}
 
 -- Where the sink tells, a front of what was kept before and the text was taken, and at Ok the rest of it is kept. At Err nothing is
 -- kept. A failure has its cause.

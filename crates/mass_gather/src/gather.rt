@@ -1,10 +1,10 @@
 ghost use Rattle.std.specs.Prelude.{◌≡◌, ◌+◌, ◌≤◌, ◌==◌, IfOk, [], ◌++◌, length, take, vec_len};
-ghost use Rattle.mass_outside.specs.Puts.{Puts};
-ghost use Rattle.mass_outside.specs.declared.traits.SinkFailed.{SinkFailed};
+ghost use Rattle.outside_traits.specs.Puts.{Puts};
+ghost use Rattle.outside_traits.specs.declared.traits.SinkFailed.{SinkFailed};
 ghost use Rattle.mass_gather.specs.Gathers.{Gathers, PutsNothing, Join, Stop, PutWhole};
 
-use mass_outside::traits::{NoMemory, Sink, SinkFailed};
-use mass_outside::whole::write_all;
+use outside_traits::traits::{NoMemory, Sink, SinkFailed};
+use outside_traits::whole::write_all;
 use std::alloc::Global;
 use std::marker::Model;
 

@@ -6,7 +6,7 @@ use Rattle.std.specs.Io.{WritesAtMost}
 use Rattle.std.proofs.lemmas.List.{drop_at, take-append-le, length-take}
 use Rattle.std.proofs.lemmas.Slice.{take-put_mid_below}
 use Rattle.std.proofs.Math.Seq.{take-add}
-use Rattle.mass_outside.proofs.TakenLaws.{rest_whole}
+use Rattle.outside_traits.proofs.TakenLaws.{rest_whole}
 use borrow.Rule.Slice.PartMut.{put_mid, post_of}
 
 consumes_both : (a b c : Option (List ℕ)) (x y : List ℕ) → Consumes a b x → Consumes b c y → Consumes a c (x ++ y)

@@ -1,3 +1,2 @@
 pub mod KnownLaws
 pub mod MemoryLaws
-pub mod TakenLaws

@@ -2,7 +2,7 @@
 use Rattle.std.specs.Prelude.{◌≡◌, ℕ, nat_lt, not, Bool, if◌then◌else◌, List, Some, slice_get, slice_set}
 use Rattle.pack_model.specs.Pack.{Pack}
 use Rattle.mass_outside.specs.Slots.{SlotView, held_slots, blocks_in, slot_written, slot_marked}
-use Rattle.mass_outside.specs.Causes.{next}
+use Rattle.outside_traits.specs.Causes.{next}
 use Rattle.mass_outside.specs.declared.mem_packs.FailCall.{FailCall}
 
 -- the slots of the 32 units, the calls that fail, how many calls of each operation were made, and the failures

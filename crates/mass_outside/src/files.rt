@@ -1,11 +1,11 @@
 ghost use Rattle.std.specs.Prelude.{◌≡◌, ◌<◌, ◌≤◌, ◌-◌, ◌*◌, ◌==◌, ◌++◌, ℕ, not, if◌then◌else◌, length, take, replicate, IfOk, OnOk, IfSome, IsSome, None, MatchResult, vec_len, string_bytes};
 ghost use Rattle.std.specs.Io.{ReadsAtMost, WritesAtMost};
 ghost use Rattle.std.specs.Io.KnownBytes.{Appends, ReadConsumes, WriteAppends};
-ghost use Rattle.mass_outside.specs.Causes.{HasCause, Counts};
+ghost use Rattle.outside_traits.specs.Causes.{HasCause, Counts};
 ghost use Rattle.mass_outside.specs.Files.{name_of, moved_by, FillsFront};
 
 use crate::streams::{counted, some_taken};
-use crate::traits::{Packs, Sink, SinkFailed, StoreFailed};
+use outside_traits::traits::{Packs, Sink, SinkFailed, StoreFailed};
 use std::alloc::{AllocError, Global};
 use std::fs::{OpenFile, OpenOptions};
 use std::io;

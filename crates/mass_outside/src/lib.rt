@@ -8,5 +8,5 @@ pub mod mem_streams;
 pub mod slots;
 pub mod streams;
 pub mod sure_packs;
-pub mod traits;
-pub mod whole;
+
+pub use outside_traits::{traits, whole, wide_packs};

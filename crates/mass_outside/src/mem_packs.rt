@@ -4,7 +4,7 @@ ghost use Rattle.mass_outside.specs.Slots.{AllEmpty};
 ghost use Rattle.mass_outside.specs.Memory.{IsFresh};
 
 use crate::slots::{Image, Slot};
-use crate::traits::{NoMemory, Packs, StoreFailed};
+use outside_traits::traits::{NoMemory, Packs, StoreFailed};
 use std::alloc::{AllocError, Global};
 use std::marker::Model;
 
@@ -116,7 +116,7 @@ pub(crate) fn slots_of(alloc: Global, mut images: Vec<Image>) -> Result<Vec<Slot
 }
 
 impl MemPacks {
-    ghost use Rattle.mass_outside.specs.Causes.{next};
+    ghost use Rattle.outside_traits.specs.Causes.{next};
 
     /// Packs with these images, and calls that are to fail. The first image of a unit counts. It reserves the room
     /// for their blocks and marks, so that no later call takes memory.
@@ -150,7 +150,7 @@ impl MemPacks {
 impl Packs for MemPacks {
     ghost use Rattle.std.specs.Prelude.{ℕ, Bool, true, false, slice_get};
     ghost use Rattle.pack_model.specs.Pack.{block_at, is_marked, with_written, with_mark};
-    ghost use Rattle.mass_outside.specs.Causes.{HasCause, next};
+    ghost use Rattle.outside_traits.specs.Causes.{HasCause, next};
     ghost use Rattle.mass_outside.specs.Memory.{held_by, has_no_room, AfterWrite, AfterMark};
 
     ghost tells = { λ _. true };

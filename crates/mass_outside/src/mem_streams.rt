@@ -1,6 +1,6 @@
 ghost use Rattle.std.specs.Prelude.{◌≡◌, ◌≤◌, ◌+◌, [], IfOk, vec_len, vec_capacity, take, length, min};
 
-use crate::traits::{NoMemory, Sink, SinkFailed, Source, SourceFailed};
+use outside_traits::traits::{NoMemory, Sink, SinkFailed, Source, SourceFailed};
 use std::alloc::Global;
 
 /// A source in memory, which tells what is left. The calls whose numbers, from 1, are listed fail, and no other.
@@ -47,7 +47,7 @@ impl MemSource {
 impl Source for MemSource {
     ghost use Rattle.std.specs.Prelude.{true, ◌<◌, ◌==◌, ◌++◌, IsTrue, OnErr, is_err};
     ghost use Rattle.std.specs.List.{list_any};
-    ghost use Rattle.mass_outside.specs.Causes.{HasCause, next};
+    ghost use Rattle.outside_traits.specs.Causes.{HasCause, next};
     ghost use Rattle.mass_outside.specs.Streams.{left_of};
 
     ghost tells = { λ _. true };
@@ -125,7 +125,7 @@ impl MemSink {
 impl Sink for MemSink {
     ghost use Rattle.std.specs.Prelude.{true, ◌<◌, ◌==◌, ◌||◌, ◌++◌, IsTrue, OnErr, is_err, nat_lt};
     ghost use Rattle.std.specs.List.{list_any};
-    ghost use Rattle.mass_outside.specs.Causes.{HasCause, next};
+    ghost use Rattle.outside_traits.specs.Causes.{HasCause, next};
     ghost use Rattle.mass_outside.specs.Streams.{taken_of};
 
     ghost tells = { λ _. true };
@@ -180,7 +180,7 @@ impl SureSource {
 
 impl Source for SureSource {
     ghost use Rattle.std.specs.Prelude.{true, ◌<◌, ◌++◌, IsTrue, IsOk, OnErr};
-    ghost use Rattle.mass_outside.specs.Causes.{HasCause};
+    ghost use Rattle.outside_traits.specs.Causes.{HasCause};
     ghost use Rattle.mass_outside.specs.Streams.{sure_left};
 
     ghost tells = { λ _. true };
@@ -222,7 +222,7 @@ impl SureSink {
 
 impl Sink for SureSink {
     ghost use Rattle.std.specs.Prelude.{true, false, ◌<◌, ◌++◌, IsTrue, IsOk, OnErr};
-    ghost use Rattle.mass_outside.specs.Causes.{HasCause};
+    ghost use Rattle.outside_traits.specs.Causes.{HasCause};
     ghost use Rattle.mass_outside.specs.Streams.{none_kept};
 
     ghost tells = { λ _. false };

@@ -1,9 +1,9 @@
 ghost use Rattle.std.specs.Prelude.{◌≡◌, ◌<◌, ◌≤◌, ℕ, length, IfOk, is_err, Ok};
 ghost use Rattle.std.specs.Io.KnownBytes.{ReadConsumes, WriteAppends};
-ghost use Rattle.mass_outside.specs.Causes.{HasCause, Counts, HandsOn};
+ghost use Rattle.outside_traits.specs.Causes.{HasCause, Counts, HandsOn};
 ghost use Rattle.mass_outside.specs.Files.{takes_nothing};
 
-use crate::traits::{Sink, SinkFailed, Source, SourceFailed};
+use outside_traits::traits::{Sink, SinkFailed, Source, SourceFailed};
 use std::io;
 use std::io::{ErrorKind, Read, Write};
 

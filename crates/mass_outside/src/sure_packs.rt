@@ -4,7 +4,7 @@ ghost use Rattle.mass_outside.specs.Memory.{is_outside};
 
 use crate::mem_packs::slots_of;
 use crate::slots::{Image, Slot};
-use crate::traits::{NoMemory, Packs, StoreFailed};
+use outside_traits::traits::{NoMemory, Packs, StoreFailed};
 use std::alloc::Global;
 use std::marker::Model;
 
@@ -43,7 +43,7 @@ impl SurePacks {
 impl Packs for SurePacks {
     ghost use Rattle.std.specs.Prelude.{ℕ, Bool, slice_get};
     ghost use Rattle.pack_model.specs.Pack.{block_at, is_marked, with_written, with_mark};
-    ghost use Rattle.mass_outside.specs.Causes.{HasCause};
+    ghost use Rattle.outside_traits.specs.Causes.{HasCause};
     ghost use Rattle.mass_outside.specs.Sure.{sure_held, SureWrote, SureMarked};
 
     ghost tells = { λ p. p.tells };

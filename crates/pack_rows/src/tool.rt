@@ -2,7 +2,7 @@ use bad144_tool::{AddWay, ToolFault, add, fresh, list};
 use mass_outside::mem_packs::{FailCall, MemPacks, PackOp};
 use mass_outside::mem_streams::MemSink;
 use mass_outside::slots::Image;
-use mass_outside::traits::{Packs, StoreFailed};
+use outside_traits::traits::{Packs, StoreFailed};
 use pack_geometry::{DriveKind, replacement};
 use std::alloc::Global;
 use std::test::Fail;

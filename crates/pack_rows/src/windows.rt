@@ -1,7 +1,7 @@
 use crate::outside::{Call, answer, first_other};
 use mass_outside::mem_packs::{FailCall, MemPacks, PackOp};
 use mass_outside::slots::Image;
-use mass_outside::traits::{Packs, StoreFailed};
+use outside_traits::traits::{Packs, StoreFailed};
 use pack_windows::pack_files::PackFiles;
 use pack_windows::wide_packs::WidePacks;
 use pack_windows::window_packs::WindowPacks;

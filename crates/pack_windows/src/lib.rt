@@ -3,6 +3,5 @@
 #![tactic(auto)]
 
 pub mod pack_files;
-pub mod wide_packs;
 mod window;
 pub mod window_packs;

@@ -1,13 +1,13 @@
 ghost use Rattle.std.specs.Prelude.{◌≡◌, ◌<◌, ◌≤◌, ◌-◌, ◌*◌, ◌++◌, IfOk, IfSome, length, take, replicate, MatchResult, None, vec_len, string_bytes};
 ghost use Rattle.std.specs.Io.{ReadsAtMost};
 ghost use Rattle.std.specs.Io.KnownBytes.{ReadConsumes};
-ghost use Rattle.mass_outside.specs.Causes.{HasCause, Counts, HandsOn};
+ghost use Rattle.outside_traits.specs.Causes.{HasCause, Counts, HandsOn};
 ghost use Rattle.mass_outside.specs.Files.{moved_by, FillsFront};
 ghost use Rattle.pack_windows.specs.Files.{name_of};
 
-use crate::wide_packs::WidePacks;
+use outside_traits::wide_packs::WidePacks;
 use mass_outside::files::FilePacks;
-use mass_outside::traits::{Packs, StoreFailed};
+use outside_traits::traits::{Packs, StoreFailed};
 use std::alloc::{AllocError, Global};
 use std::fs::OpenOptions;
 use std::io;

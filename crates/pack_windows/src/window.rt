@@ -1,10 +1,10 @@
 ghost use Rattle.std.specs.Prelude.{◌≡◌, ℕ, ◌<◌, ◌≤◌, ◌+◌, ◌*◌, ◌⊎◌, if◌then◌else◌, List, [], ◌∷◌, ◌++◌, take, drop, IsTrue, IfSome, OnOk, length, slice_index};
 ghost use Rattle.pack_model.specs.Pack.{window, with_window, with_block, block_at};
-ghost use Rattle.mass_outside.specs.Causes.{HasCause};
+ghost use Rattle.outside_traits.specs.Causes.{HasCause};
 ghost use Rattle.pack_windows.specs.Parts.{IsPart};
 
-use crate::wide_packs::WidePacks;
-use mass_outside::traits::StoreFailed;
+use outside_traits::wide_packs::WidePacks;
+use outside_traits::traits::StoreFailed;
 use std::alloc::Global;
 use std::marker::Model;
 

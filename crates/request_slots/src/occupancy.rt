@@ -2,7 +2,7 @@
 ghost use Rattle.std.specs.Prelude.{◌≡◌, ◌<◌, ◌≤◌, ℕ, true, false, IfOk, IfSome, IfNone, length, replicate, slice_index, slice_index_or, slice_set};
 ghost use Rattle.request_slots.specs.Order.{IsOrder, numbers_below};
 
-use mass_outside::traits::NoMemory;
+use outside_traits::traits::NoMemory;
 use std::alloc::Global;
 use std::marker::Model;
 

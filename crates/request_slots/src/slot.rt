@@ -5,7 +5,7 @@ ghost use Rattle.request_slots.specs.Stored.{slot_in};
 
 use crate::asked::Asked;
 use main_memory::{Buffer, Bus, Cpu};
-use mass_outside::traits::NoMemory;
+use outside_traits::traits::NoMemory;
 use std::alloc::Global;
 
 // Who has the buffer of a request.

@@ -16,7 +16,7 @@ use crate::fill::{lend_filled, repair_block};
 use crate::occupancy::Occupancy;
 use crate::slot::{Holder, Slot, end_slot, free_slots, put_slot, slot_at, take_slot};
 use main_memory::{MainMemory, frames_of};
-use mass_outside::traits::NoMemory;
+use outside_traits::traits::NoMemory;
 use mba_adapter::{Adapter, Ended};
 use std::alloc::Global;
 use std::marker::Model;

@@ -6,7 +6,7 @@ ghost use Rattle.unit_bank.specs.Row.{unit_in};
 
 use crate::row::{lowest, noted};
 use hp_units::DiskUnit;
-use mass_outside::traits::NoMemory;
+use outside_traits::traits::NoMemory;
 use std::alloc::Global;
 use std::marker::Model;
 

@@ -1,7 +1,7 @@
 // One sector of a transfer.
 ghost use Rattle.std.specs.Prelude.{◌≡◌, ◌<◌, true, false, IsTrue, IfOk, OnErr, IsSome, Some, length, slice_set, if◌then◌else◌};
 ghost use Rattle.pack_geometry.specs.Geometry.{block_count};
-ghost use Rattle.mass_outside.specs.Causes.{HasCause};
+ghost use Rattle.outside_traits.specs.Causes.{HasCause};
 ghost use Rattle.main_memory.specs.Blocks.{size_at};
 ghost use Rattle.hardware_table.specs.declared.Work.TheVariants.{Transfer};
 ghost use Rattle.hardware_table.specs.Moves.{was_read};
@@ -16,7 +16,7 @@ ghost use Rattle.unit_bank.specs.Row.{unit_in};
 use crate::bank::UnitBank;
 use drive_model::NoiseBook;
 use hardware_table::Moved;
-use mass_outside::traits::{Packs, StoreFailed};
+use outside_traits::traits::{Packs, StoreFailed};
 use mba_adapter::Adapter;
 use request_slots::Slots;
 

@@ -2,7 +2,7 @@
 ghost use Rattle.std.specs.Prelude.{◌≡◌, ◌<◌, ◌+◌, ◌%◌, ℕ, List, true, IsTrue, MatchBool, IfOk, IsOk, OnErr, Some, IsSome, bit_or};
 ghost use Rattle.pack_geometry.specs.Geometry.{block_count, sectors_of};
 ghost use Rattle.hardware_table.specs.Drive.{is_transferring, is_writing};
-ghost use Rattle.mass_outside.specs.Causes.{HasCause};
+ghost use Rattle.outside_traits.specs.Causes.{HasCause};
 ghost use Rattle.main_memory.specs.Windows.{memory_name, window_len, window_bytes, Writes};
 ghost use Rattle.hardware_table.specs.Functions.{refused};
 ghost use Rattle.hardware_table.specs.Noise.{strikes, book_struck};
@@ -19,7 +19,7 @@ use drive_registers::{Er1, Er2};
 use fire_code::{Check, Verdict, apply, data_law, judge_noise};
 use hardware_table::{Armed, FaultKind, Moved, Work};
 use main_memory::Window;
-use mass_outside::traits::{Packs, StoreFailed};
+use outside_traits::traits::{Packs, StoreFailed};
 use pack_geometry::{DriveKind, blocks, geometry_of, place_of, sector_word};
 use sector_format::{HeaderFault, header_fault, header_of};
 

@@ -1,7 +1,7 @@
 // One step of a transfer: the move of one sector between the drive and the loaded buffer.
 ghost use Rattle.std.specs.Prelude.{◌≡◌, ◌<◌, Bool, true, false, IsTrue, IfOk, IsOk, OnErr, IsSome, ◌⊎◌, if◌then◌else◌};
 ghost use Rattle.pack_geometry.specs.Geometry.{block_count};
-ghost use Rattle.mass_outside.specs.Causes.{HasCause};
+ghost use Rattle.outside_traits.specs.Causes.{HasCause};
 ghost use Rattle.main_memory.specs.Blocks.{Loan, size_at};
 ghost use Rattle.main_memory.specs.Memory.{IsLent, with_block};
 ghost use Rattle.hardware_table.specs.declared.Work.TheVariants.{Transfer};
@@ -13,7 +13,7 @@ ghost use Rattle.mba_adapter.specs.Loaded.{loaded_buffer, next_bytes};
 use crate::adapter::Adapter;
 use drive_model::{Drive, FaultKind, Moved, NoiseBook};
 use main_memory::{Buffer, Bus, MainMemory};
-use mass_outside::traits::{Packs, StoreFailed};
+use outside_traits::traits::{Packs, StoreFailed};
 
 impl Adapter {
     // Takes the verdict on the next sector.

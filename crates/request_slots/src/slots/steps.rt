@@ -1,7 +1,7 @@
 // One step of the transfer of a request.
 ghost use Rattle.std.specs.Prelude.{◌≡◌, ◌<◌, true, false, IsTrue, IfOk, IsOk, OnErr, IsSome, Some, if◌then◌else◌, length, slice_set};
 ghost use Rattle.pack_geometry.specs.Geometry.{block_count};
-ghost use Rattle.mass_outside.specs.Causes.{HasCause};
+ghost use Rattle.outside_traits.specs.Causes.{HasCause};
 ghost use Rattle.main_memory.specs.Blocks.{size_at};
 ghost use Rattle.hardware_table.specs.declared.Work.TheVariants.{Transfer};
 ghost use Rattle.hardware_table.specs.Moves.{stop_of, was_read};
@@ -14,7 +14,7 @@ ghost use Rattle.request_slots.specs.Requests.{slot_at, held_at};
 use crate::slot::{Holder, slot_at};
 use crate::slots::Slots;
 use drive_model::{Drive, Moved, NoiseBook};
-use mass_outside::traits::{Packs, StoreFailed};
+use outside_traits::traits::{Packs, StoreFailed};
 use mba_adapter::Adapter;
 
 impl Slots {

@@ -1,5 +1,5 @@
 use Rattle.std.proofs.Common.{rules, ◌≡◌, ap, sym, ◌∙◌, ◌++◌, List, ℕ, subst, arith}
-use Rattle.mass_outside.specs.Puts.{TakesFront}
+use Rattle.outside_traits.specs.Puts.{TakesFront}
 use Rattle.bad144_tool.specs.Texts.{entry_line}
 use Rattle.bad144_tool.proofs.ListLaws.{entries_front, entries_more, puts_front}
 use Rattle.bad144_tool.proofs.tool.write_entries.Goals as goal

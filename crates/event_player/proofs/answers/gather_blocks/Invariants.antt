@@ -1,6 +1,6 @@
 use Rattle.std.proofs.Common.{◌≡◌, [], take}
 use Rattle.std.specs.Prelude.{Ok}
-use Rattle.mass_outside.specs.declared.traits.SinkFailed.{SinkFailed}
+use Rattle.outside_traits.specs.declared.traits.SinkFailed.{SinkFailed}
 use Rattle.mass_gather.specs.Gathers.{Gathers}
 use Rattle.answer_lines.specs.AnswerText.{block_texts}
 use Rattle.answer_tally.specs.Counting.{Counts}

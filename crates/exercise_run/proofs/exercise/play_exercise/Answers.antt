@@ -4,7 +4,7 @@ use Rattle.script_reader.specs.Stored.{lines_in}
 use Rattle.script_reader.specs.Words.{all_verbs}
 use Rattle.script_meaning.specs.Meaning.{meaning_of}
 use Rattle.hp_exercise.specs.Exercise.{script_text}
-use Rattle.mass_outside.specs.Causes.{Rose}
+use Rattle.outside_traits.specs.Causes.{Rose}
 use Rattle.answer_tally.specs.declared.tally.Tally.{Tally}
 use Rattle.event_player.specs.declared.play.PlayFault.{PlayFault}
 use Rattle.exercise_run.specs.Room.{faults_of}

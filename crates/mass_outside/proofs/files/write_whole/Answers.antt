@@ -1,4 +1,4 @@
-use Rattle.mass_outside.proofs.TakenLaws.{count_inside}
+use Rattle.outside_traits.proofs.TakenLaws.{count_inside}
 use Rattle.mass_outside.proofs.KnownLaws.{appends_more, written_at, within_at}
 use Rattle.mass_outside.proofs.files.write_whole.Goals as goal
 

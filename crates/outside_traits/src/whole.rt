@@ -1,6 +1,6 @@
 ghost use Rattle.std.specs.Prelude.{◌≡◌, ◌⊎◌, ℕ, ◌+◌, ◌<◌, ◌≤◌, ◌^◌, IsTrue, [], ◌++◌, length, IfOk, IsErrOf};
-ghost use Rattle.mass_outside.specs.Causes.{Rose};
-ghost use Rattle.mass_outside.specs.Puts.{Puts};
+ghost use Rattle.outside_traits.specs.Causes.{Rose};
+ghost use Rattle.outside_traits.specs.Puts.{Puts};
 
 use crate::traits::{Sink, SinkFailed, Source, SourceFailed};
 use std::alloc::{AllocError, Global};
@@ -30,7 +30,7 @@ pub enum ReadAllFault {
 
 impl From<AllocError> for ReadAllFault {
     ghost use Rattle.std.specs.Prelude.{◌≡◌};
-    ghost use Rattle.mass_outside.specs.declared.whole.ReadAllFault.TheVariants.{Memory};
+    ghost use Rattle.outside_traits.specs.declared.whole.ReadAllFault.TheVariants.{Memory};
 
     ghost from_gives = { λ _ e. e ≡ Memory };
 
@@ -41,7 +41,7 @@ impl From<AllocError> for ReadAllFault {
 
 impl From<SourceFailed> for ReadAllFault {
     ghost use Rattle.std.specs.Prelude.{◌≡◌};
-    ghost use Rattle.mass_outside.specs.declared.whole.ReadAllFault.TheVariants.{Failed};
+    ghost use Rattle.outside_traits.specs.declared.whole.ReadAllFault.TheVariants.{Failed};
 
     ghost from_gives = { λ _ e. e ≡ Failed };
 

@@ -1,6 +1,6 @@
 use Rattle.std.proofs.Common.{rules}
-use Rattle.mass_outside.proofs.TakenLaws.{taken_more, count_inside}
-use Rattle.mass_outside.proofs.whole.write_all.Goals as goal
+use Rattle.outside_traits.proofs.TakenLaws.{taken_more, count_inside}
+use Rattle.outside_traits.proofs.whole.write_all.Goals as goal
 
 -- src/whole.rt:13:5
 pub loop-done-preserved : goal.loop-done-preserved

@@ -1,5 +1,5 @@
 use Rattle.std.proofs.Common.{◌≡◌, ◌≤◌, ◌-◌, ◌++◌, IsTrue, length, take}
-use Rattle.mass_outside.proofs.whole.write_all.Given as goal
+use Rattle.outside_traits.proofs.whole.write_all.Given as goal
 
 -- the bytes so far were taken
 abbrev pub invariant-loop-done : goal.invariant-loop-done

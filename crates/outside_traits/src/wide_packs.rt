@@ -1,8 +1,8 @@
 ghost use Rattle.std.specs.Prelude.{◌≡◌, ◌<◌, ◌*◌, IsTrue, OnOk, length};
 ghost use Rattle.pack_model.specs.Pack.{Pack, window};
-ghost use Rattle.mass_outside.specs.Causes.{HasCause};
+ghost use Rattle.outside_traits.specs.Causes.{HasCause};
 
-use mass_outside::traits::{Packs, StoreFailed};
+use crate::traits::{Packs, StoreFailed};
 
 /// Packs that also give many bytes of an image, and of marks, in one call.
 pub trait WidePacks: Packs {

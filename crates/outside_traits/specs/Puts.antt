@@ -1,6 +1,6 @@
 -- What a call that writes a text to a sink does.
 use Rattle.std.specs.Prelude.{◌≡◌, ℕ, List, ◌++◌, take, Bool, IsTrue, Result, OnOk, OnErr}
-use Rattle.mass_outside.specs.Causes.{HasCause}
+use Rattle.outside_traits.specs.Causes.{HasCause}
 
 -- a front of a text was taken behind what was taken before
 abbrev pub TakesFront : List ℕ → List ℕ → List ℕ → Type 0
