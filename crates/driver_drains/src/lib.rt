@@ -2,7 +2,7 @@
 #![tactic(auto)]
 
 ghost use Rattle.driver_drains.specs.Fronts.{CallFrontsFollow, EventFrontsFollow};
-ghost use Rattle.driver_drains.specs.Drains.{FirstEventsFall, DrainsFall, DrainsKeep, LinesAskNothing, CallsAsk};
+ghost use Rattle.driver_drains.specs.Drains.{ScriptsCanStart, FirstEventsFall, DrainsFall, DrainsKeep, LinesAskNothing, CallsAsk};
 
 /// Where the moments of a call follow, those of its first acts follow too, behind a line of the script and inside a drain.
 pub fn fronts_law()
@@ -11,8 +11,10 @@ pub fn fronts_law()
 {}
 
 /// Each event of a drain leaves fewer event lines to come, which are at most 200 for each block of the requests that are
-/// outstanding; the line of the script that drains leaves as many.
+/// outstanding; the line of the script that drains leaves as many. The later events of a drain do so from any start, as that of a
+/// script is one.
 pub fn falls_law()
+    ensures start { ScriptsCanStart }
     ensures first { FirstEventsFall }
     ensures later { DrainsFall }
     ensures line { DrainsKeep }
