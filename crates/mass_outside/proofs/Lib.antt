@@ -1,2 +1,2 @@
-pub mod KnownLaws
+pub mod FolderLaws
 pub mod MemoryLaws

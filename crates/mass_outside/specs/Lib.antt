@@ -1,4 +1,5 @@
 pub mod Files
+pub mod Folder
 pub mod Images
 pub mod Memory
 pub mod Slots
