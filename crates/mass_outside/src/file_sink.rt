@@ -1,5 +1,6 @@
 ghost use Rattle.std.specs.Prelude.{◌≡◌, ℕ, ◌<◌, ◌≤◌, ◌++◌, length, take, IfOk};
 ghost use Rattle.outside_traits.specs.Causes.{HasCause, Counts};
+ghost use Rattle.mass_outside.specs.Files.{TakesOn};
 
 use crate::streams::{counted, some_taken};
 use outside_traits::traits::{Sink, SinkFailed};
@@ -35,6 +36,7 @@ impl<'a, R: Files> FileSink<'a, R> {
         ensures bound { IfOk result (λ n. n ≤ length from.now) }
         ensures name { self.new.name.now ≡ self.old.name.now }
         ensures faults { self.new.faults ≡ self.old.faults }
+        ensures on { TakesOn R.File.contents self.old.file self.new.file result from.now }
     {
         if self.file.is_none() {
             self.file = Some(std::fs::create(&self.rt, self.name)?);
@@ -64,6 +66,8 @@ impl<'a, R: Files> Sink for FileSink<'a, R> {
         // It counts each failure and nothing else, and keeps its file's name.
         ensures counted { Counts result self.old.faults self.new.faults }
         ensures name { self.new.name.now ≡ self.old.name.now }
+        // Where its file was open, it takes what the file takes.
+        ensures on { TakesOn R.File.contents self.old.file self.new.file result from.now }
     {
         let answer = some_taken(self.try_write(from), from.len());
         counted(answer, SinkFailed, &mut self.faults)
