@@ -1,5 +1,3 @@
-pub mod Files
-pub mod Folder
 pub mod Images
 pub mod Memory
 pub mod Slots
