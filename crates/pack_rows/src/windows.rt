@@ -2,7 +2,7 @@ use crate::outside::{Call, answer, first_other};
 use mass_outside::mem_packs::{FailCall, MemPacks, PackOp};
 use mass_outside::slots::Image;
 use outside_traits::traits::{Packs, StoreFailed};
-use pack_windows::pack_files::PackFiles;
+use mass_outside::files::FilePacks;
 use pack_windows::wide_packs::WidePacks;
 use pack_windows::window_packs::WindowPacks;
 use std::alloc::Global;
@@ -173,10 +173,10 @@ const FILES: [(u8, Call, Option<u64>); 14] = [
 fn files_behind_windows(rt: HostRuntime) -> Result<(), Fail> {
     fs::write(&rt, "hp24.dsk", &[0xFF; 700])?;
     fs::write(&rt, "hp24.bad", &[0, 7, 1])?;
-    let mut packs = WindowPacks::new(rt.alloc(), PackFiles::new(&rt))?;
+    let mut packs = WindowPacks::new(rt.alloc(), FilePacks::new(&rt))?;
     assert_eq!(rt; first_other(&mut packs, &FILES), FILES.len());
     // Other packs over the same files find what was written.
-    let mut again = WindowPacks::new(rt.alloc(), PackFiles::new(&rt))?;
+    let mut again = WindowPacks::new(rt.alloc(), FilePacks::new(&rt))?;
     assert!(rt; answer(&mut again, 24, Call::Read(9)).ok() == Some(0x0505));
     assert!(rt; answer(&mut again, 24, Call::Marked(3)).ok() == Some(1));
     assert!(rt; answer(&mut again, 23, Call::Read(70)).ok() == Some(0x0606));

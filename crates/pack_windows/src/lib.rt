@@ -2,6 +2,5 @@
 //! call answers is what the packs behind the windows hold.
 #![tactic(auto)]
 
-pub mod pack_files;
 mod window;
 pub mod window_packs;
