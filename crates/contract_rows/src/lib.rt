@@ -5,6 +5,7 @@
 ghost use Rattle.contract_rows.specs.Memory.{FirstPieceOnly, KnownFrameTakenForTheSame, ByteWrittenTakenForItsFrame, NextFrameNotAsked, OldBytesBehindTheEnd, LentFrameLeftFree, FramesWithoutTheOffset};
 ghost use Rattle.contract_rows.specs.Drives.{TwelvePlaceBurst, BurstPastTheEnd, WritesForgotten, WriteHeldBack, SectorWrittenWithoutItsZeros, MarkTestedBeforeTheArmedFault, NewestNoiseStrikes, ByteCountNotShortened, CompletionOneSectorEarly, MarkedSectorLetThrough};
 ghost use Rattle.contract_rows.specs.Machine.{FirstFailureIsFinal, OneSeekAtATime, RtcForgotten, RetryNamesTheFirstBlock, ReplacementForwardedAgain, NewestAnswerTakenFirst, AnswerAtAnotherLine, AllOthersLeaveTheAdapter, HighestUnitFirst, FramesBeforePartition, FirstBlocksLoaded};
+ghost use Rattle.contract_rows.specs.Slots.{FrameLost, BitLeftOnBehindTheArrival, BitOfAnotherUnit};
 
 /// Main memory may not be left so: by its window's `Writes`, what it knows of its frames, what it lent, and how many frames it needs.
 pub fn memory_law()
@@ -44,4 +45,11 @@ pub fn machine_law()
     ensures highest_unit_first { HighestUnitFirst }
     ensures frames_before_partition { FramesBeforePartition }
     ensures first_blocks_loaded { FirstBlocksLoaded }
+{}
+
+/// Slots and the units' row of bits may not be left so, by what they keep.
+pub fn slots_law()
+    ensures frame_lost { FrameLost }
+    ensures bit_left_on_behind_the_arrival { BitLeftOnBehindTheArrival }
+    ensures bit_of_another_unit { BitOfAnotherUnit }
 {}

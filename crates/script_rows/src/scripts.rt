@@ -1,6 +1,6 @@
 use script_reader::fault::ReadFault::Refused;
 use script_reader::fault::ScriptKind::{
-    Bits, Count, Data, IdTwice, LateUnit, Number, UnitTwice, UnitUnknown, Word,
+    Bits, Count, Data, IdTwice, LateUnit, Number, TooMany, UnitTwice, UnitUnknown, Word,
 };
 use script_reader::fault::{ReadFault, ScriptKind};
 use script_reader::script::read_script;
@@ -13,6 +13,23 @@ fn read(alloc: Global, text: &str) -> Result<Result<(u32, usize), ReadFault>, Al
     match read_script(alloc, bytes) {
         Ok(script) => Ok(Ok((script.count(), script.lines().len()))),
         Err(fault) => Ok(Err(fault)),
+    }
+}
+
+// Whether this comes of a text.
+fn is_read_as(
+    alloc: Global,
+    text: &str,
+    wanted: Result<(u32, usize), ReadFault>,
+) -> Result<bool, AllocError> {
+    Ok(read(alloc, text)? == wanted)
+}
+
+// Whether a text is refused so.
+fn is_refused(alloc: Global, bytes: Vec<u8>, line: u64, kind: ScriptKind) -> bool {
+    match read_script(alloc, bytes) {
+        Ok(_) => false,
+        Err(fault) => fault == Refused { line, kind },
     }
 }
 
@@ -71,18 +88,23 @@ const REFUSED: [(&str, u64, ScriptKind); 48] = [
 #[test]
 fn refusals_in_their_order(rt: HostRuntime) -> Result<(), Fail> {
     for (text, line, kind) in REFUSED {
-        let wanted = Refused { line, kind };
-        assert!(rt; read(rt.alloc(), text)? == Err(wanted), "{text}");
+        let is_so = is_read_as(rt.alloc(), text, Err(Refused { line, kind }))?;
+        assert!(rt; is_so, "{text}");
     }
     Ok(())
 }
 
 // How many lines a text has, and how many of them say something.
-const READ: [(&str, u32, usize); 6] = [
+const READ: [(&str, u32, usize); 7] = [
     ("", 0, 0),
     ("\r", 1, 0),
     ("\n\n", 2, 0),
     ("#a\n\n\tdrain \r\n drain", 4, 2),
+    (
+        "unit 0 rp06\nread 1 0 c 0 1\nread 3 0 c 0 1\nread 2 0 c 0 1",
+        4,
+        4,
+    ),
     (
         "unit 00 rm05\nread 007 0 a 4294967295 127 off 511 last 512\nwrite 8 0 h 0 1 fill aB last 1",
         3,
@@ -98,7 +120,18 @@ const READ: [(&str, u32, usize); 6] = [
 #[test]
 fn scripts_are_read(rt: HostRuntime) -> Result<(), Fail> {
     for (text, count, lines) in READ {
-        assert!(rt; read(rt.alloc(), text)? == Ok((count, lines)), "{text}");
+        let is_so = is_read_as(rt.alloc(), text, Ok((count, lines)))?;
+        assert!(rt; is_so, "{text}");
     }
+    Ok(())
+}
+
+// One line more than a script may have.
+#[test]
+fn too_many_lines(rt: HostRuntime) -> Result<(), Fail> {
+    let mut bytes = Vec::new(rt.alloc());
+    bytes.resize(1_000_001, b'\n')?;
+    let is_so = is_refused(rt.alloc(), bytes, 1_000_001, TooMany);
+    assert!(rt; is_so);
     Ok(())
 }
