@@ -32,7 +32,7 @@ use Rattle.driver_trace.proofs.ReadSectors.{tried_on}
 use Rattle.driver_trace.proofs.Drains.{GoesOn, event_goes, drain_goes_on, drain_between, drain_begins}
 use Rattle.driver_trace.proofs.Runs.{moments_append, follows_append}
 use Rattle.driver_trace.proofs.Calls.{drains_start}
-use Rattle.driver_drains.specs.Drains.{CanStart, ScriptsCanStart, Falls, AreAsked, FirstEventsFall, DrainsFall, DrainsKeep}
+use Rattle.driver_drains.specs.Drains.{CanStart, ScriptsCanStart, Falls, AreAsked, FirstEventsFall, DrainsFall, DrainsFallFrom, DrainsKeep}
 use Rattle.driver_drains.proofs.Asked.{drain_asked}
 use Rattle.driver_drains.proofs.Telling.{something_told, some_outstanding}
 
@@ -71,7 +71,7 @@ fall_from start ms w acts idle asked follows some tells =
 pub scripts_can_start : ScriptsCanStart
 scripts_can_start drives tables surface = record { idle = starts_idle drives tables surface; consistent = starts_consistent drives tables surface }
 
-pub falls_from : DrainsFall
+pub falls_from : DrainsFallFrom
 falls_from start line input tried moments held w can asked far is may on =
     let s : Replay = after_moments start moments in
     let acts : List Act = event_acts line input tried w in
@@ -88,11 +88,7 @@ falls_from start line input tried moments held w can asked far is may on =
     (λ m. λ comes. events_tell start moments m can.idle far.follows between comes)
 
 -- so it is from the start of a script
-pub drains_fall : (drives : ℕ → Option DriveKind) (tables : ℕ → Option Table) (surface : Surface) (line : ℕ) (input : Input) (tried : Tried)
-    (moments : List Moment) (held : ℕ → Pack) (w : World) → AreAsked (new_replay drives tables surface).there moments
-    → IsDraining (new_replay drives tables surface) line moments held w → next_event w ≡ Some input → work.MayCome w input tried → IsReadOf w held input tried
-    → Falls (after_moments (new_replay drives tables surface) moments)
-    (after_moments (new_replay drives tables surface) (moments ++ lines_of_all w (event_acts line input tried w)))
+pub drains_fall : DrainsFall
 drains_fall drives tables surface line input tried moments held w asked far is may on =
     falls_from (new_replay drives tables surface) line input tried moments held w (scripts_can_start drives tables surface) asked far is may on
 

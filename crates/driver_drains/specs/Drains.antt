@@ -47,9 +47,18 @@ FirstEventsFall = (drives : ℕ → Option DriveKind) (tables : ℕ → Option T
     → Falls (after_moments (new_replay drives tables surface) moments)
     (after_moments (new_replay drives tables surface) (with_call moments next script.Drain w (event_acts next input tried w)))
 
--- and so does each later one, from any start.
+-- and so does each later one;
 abbrev pub DrainsFall : Type 0
-DrainsFall = (start : Replay) (line : ℕ) (input : Input) (tried : Tried) (moments : List Moment) (held : ℕ → Pack) (w : World) → CanStart start
+DrainsFall = (drives : ℕ → Option DriveKind) (tables : ℕ → Option Table) (surface : Surface) (line : ℕ) (input : Input) (tried : Tried)
+    (moments : List Moment) (held : ℕ → Pack) (w : World) → AreAsked (new_replay drives tables surface).there moments
+    → IsDraining (new_replay drives tables surface) line moments held w → next_event w ≡ Some input → MayCome w input tried
+    → IsReadOf w held input tried
+    → Falls (after_moments (new_replay drives tables surface) moments)
+    (after_moments (new_replay drives tables surface) (moments ++ lines_of_all w (event_acts line input tried w)))
+
+-- it does so from any start.
+abbrev pub DrainsFallFrom : Type 0
+DrainsFallFrom = (start : Replay) (line : ℕ) (input : Input) (tried : Tried) (moments : List Moment) (held : ℕ → Pack) (w : World) → CanStart start
     → AreAsked start.there moments → IsDraining start line moments held w → next_event w ≡ Some input → MayCome w input tried
     → IsReadOf w held input tried
     → Falls (after_moments start moments) (after_moments start (moments ++ lines_of_all w (event_acts line input tried w)))

@@ -2,7 +2,7 @@
 #![tactic(auto)]
 
 ghost use Rattle.driver_drains.specs.Fronts.{CallFrontsFollow, EventFrontsFollow};
-ghost use Rattle.driver_drains.specs.Drains.{ScriptsCanStart, FirstEventsFall, DrainsFall, DrainsKeep, LinesAskNothing, CallsAsk};
+ghost use Rattle.driver_drains.specs.Drains.{ScriptsCanStart, FirstEventsFall, DrainsFall, DrainsFallFrom, DrainsKeep, LinesAskNothing, CallsAsk};
 
 /// Where the moments of a call follow, those of its first acts follow too, behind a line of the script and inside a drain.
 pub fn fronts_law()
@@ -17,6 +17,7 @@ pub fn falls_law()
     ensures start { ScriptsCanStart }
     ensures first { FirstEventsFall }
     ensures later { DrainsFall }
+    ensures from { DrainsFallFrom }
     ensures line { DrainsKeep }
 {}
 
