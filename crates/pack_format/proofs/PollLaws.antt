@@ -1,5 +1,5 @@
 -- The move of one sector on a good drive, as a poll.
-use Rattle.std.proofs.Common.{◌≡◌, ◌⊎◌, inl, inr, ℕ, ◌+◌, ◌-◌, ◌==◌, ◌&&◌, not, Bool, true, false, IsTrue, if◌then◌else◌, List, [], ◌∷◌, ◌++◌, length, replicate, take, Option, None, Some, Result, Ok, Err, IsErr, refl, sym, ap, ◌∙◌, subst, arith}
+use Rattle.std.proofs.Common.{◌≡◌, ◌⊎◌, inl, inr, ℕ, ◌+◌, ◌-◌, ◌==◌, ◌&&◌, not, Bool, true, false, IsTrue, if◌then◌else◌, List, [], ◌∷◌, ◌++◌, length, replicate, take, Option, None, Result, Ok, Err, IsErr, refl, sym, ap, ◌∙◌, subst, arith}
 use Rattle.std.specs.Prelude.{OnErr, slice_set}
 use Rattle.std.proofs.lemmas.List.{append-nil, take_all}
 use Rattle.pack_geometry.specs.declared.DriveKind.{DriveKind}
@@ -15,7 +15,7 @@ use Rattle.hardware_table.specs.declared.Work.TheVariants.{Ready, Transfer}
 use Rattle.hardware_table.specs.Adapter.{AdapterState, drive_stepped, stepped}
 use Rattle.hardware_table.specs.Drive.{DriveState, is_writing}
 use Rattle.hardware_table.specs.Events.{transfer_ended}
-use Rattle.hardware_table.specs.Functions.{effect, performed}
+use Rattle.hardware_table.specs.Functions.{performed}
 use Rattle.drive_registers.specs.declared.Function.TheVariants.{Clear}
 use Rattle.hardware_table.specs.Moves.{IsReadAs, IsVerdictBy, has_bytes, stop_of, was_read, was_written, with_mark_bits}
 use Rattle.hardware_table.specs.Noise.{Book}
@@ -230,59 +230,6 @@ old_or_new kind unit block write told d a loan memory book held left does starte
     (ap is_writing does.work_is) (which t)))
 
 -- ---- a block that goes through the frame
-
--- what was read through the frame
-pub read_through : (unit block : ℕ) (told : Bool) (held held' : ℕ → Pack) (loan : Loan) (old new : Memory) (into into' : List ℕ) (polled : Polled)
-    → Polls unit block false told (sides_of held loan old) (sides_of held' loan new) polled
-    → (polled ≡ Clean → into' ≡ filled 512 (bytes_in (span_of loan 0) new.bytes)) → (polled ≡ Marked → into' ≡ into)
-    → Polls unit block false told (record { held = held; bytes = into }) (record { held = held'; bytes = into' }) polled
-read_through unit block told held held' loan old new into into' Clean polls clean marked = record {
-  answer = polls.answer;
-  sides = λ t. same_sides held' held into' (block_at (held unit).image block) (ap (λ (s : Sides). s.held) (polls.sides t)) (clean refl ∙ ap (λ (s : Sides). s.bytes) (polls.sides t));
-  marked = λ e. absurd (clash e);
-  written = λ e. absurd (false_true e);
-}
-  where
-    clash : Clean ≡ Marked → ⊥
-    clash e = cc
-
-    false_true : false ≡ true → ⊥
-    false_true e = cc
-read_through unit block told held held' loan old new into into' Marked polls clean marked = record {
-  answer = polls.answer;
-  sides = λ t. same_sides held' held into' into (ap (λ (s : Sides). s.held) (polls.sides t)) (marked refl);
-  marked = marked;
-  written = λ e. absurd (false_true e);
-}
-  where
-    false_true : false ≡ true → ⊥
-    false_true e = cc
-
--- what was written through the frame
-pub written_through : (unit block : ℕ) (told : Bool) (held held' : ℕ → Pack) (loan : Loan) (old new : Memory) (from : List ℕ) (polled : Polled)
-    → filled 512 (bytes_in (span_of loan 0) old.bytes) ≡ from → Polls unit block true told (sides_of held loan old) (sides_of held' loan new) polled
-    → Polls unit block true told (record { held = held; bytes = from }) (record { held = held'; bytes = from }) polled
-written_through unit block told held held' loan old new from polled stored polls =
-    subst (λ (bytes : List ℕ). Polls unit block true told (record { held = held; bytes = bytes }) (record { held = held'; bytes = bytes }) polled) stored
-    (subst (λ (bytes : List ℕ). Polls unit block true told (sides_of held loan old) (record { held = held'; bytes = bytes }) polled) (polls.written refl) polls)
-
-pub old_or_written : (unit block : ℕ) (told : Bool) (held held' : ℕ → Pack) (loan : Loan) (old : Memory) (from : List ℕ)
-    → filled 512 (bytes_in (span_of loan 0) old.bytes) ≡ from → IsOldOrNew unit block true told (sides_of held loan old) held'
-    → IsOldOrNew unit block true told (record { held = held; bytes = from }) held'
-old_or_written unit block told held held' loan old from stored which =
-    subst (λ (bytes : List ℕ). IsOldOrNew unit block true told (record { held = held; bytes = bytes }) held') stored which
-
--- a read that failed leaves the packs
-pub read_failed : (unit block : ℕ) (told : Bool) (held held' : ℕ → Pack) (loan : Loan) (old : Memory)
-    → IsOldOrNew unit block false told (sides_of held loan old) held' → IsTrue told → held' ≡ held
-read_failed unit block told held held' loan old which t = by (which t)
-  where
-    by : (held' ≡ held) ⊎ ((false ≡ true) × (is_marked (held unit) block ≡ false) × (held' ≡ with_written held unit block (filled 512 (bytes_in (span_of loan 0) old.bytes)))) → held' ≡ held
-    by (inl same) = same
-    by (inr wrote) = absurd (false_true wrote.0)
-      where
-        false_true : false ≡ true → ⊥
-        false_true e = cc
 
 -- the one block of a frame
 one_of : (loan : Loan) (bytes : List ℕ) (n : ℕ) → n ≡ 1 → blocks_from loan bytes 0 n ≡ bytes_in (span_of loan 0) bytes ∷ []

@@ -1,5 +1,5 @@
 -- What one poll of a sector comes to.
-use Rattle.std.specs.Prelude.{◌≡◌, ◌⊎◌, ℕ, Bool, true, false, IsTrue, List, Result, IfOk, OnErr}
+use Rattle.std.specs.Prelude.{◌≡◌, ◌⊎◌, ℕ, Bool, true, false, IsTrue, List}
 use Rattle.pack_model.specs.Pack.{Pack, block_at, is_marked, with_written}
 use Rattle.main_memory.specs.Blocks.{Loan, bytes_in, span_of}
 use Rattle.main_memory.specs.Bytes.{filled}

@@ -1,8 +1,8 @@
 -- A good drive with an adapter and a frame of memory, between two polls and within one.
-use Rattle.std.specs.Prelude.{◌≡◌, ℕ, ◌<◌, Bool, true, false, List, [], length}
+use Rattle.std.specs.Prelude.{◌≡◌, ℕ, ◌<◌, Bool, true, false, [], length}
 use Rattle.pack_geometry.specs.declared.DriveKind.{DriveKind}
 use Rattle.hardware_table.specs.declared.Work.{Work}
-use Rattle.hardware_table.specs.declared.Work.TheVariants.{Ready, Transfer}
+use Rattle.hardware_table.specs.declared.Work.TheVariants.{Ready}
 use Rattle.hardware_table.specs.Adapter.{AdapterState}
 use Rattle.hardware_table.specs.Drive.{DriveState, none_armed}
 use Rattle.hardware_table.specs.Noise.{Book}
