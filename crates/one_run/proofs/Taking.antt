@@ -6,6 +6,7 @@ use Rattle.trace_replay.specs.Moments.{Moment}
 use Rattle.trace_replay.specs.Script as script
 use Rattle.trace_replay.specs.Script.{Input}
 use Rattle.trace_replay.specs.Replay.{Replay}
+use Rattle.disksort.specs.declared.Waiter.{Waiter}
 use Rattle.driver_machine.specs.declared.Made.{Made}
 use Rattle.driver_machine.specs.World.{World, unit_at}
 use Rattle.driver_machine.specs.Acts.{Act, Refuse, Submit, Of, Change, Nothing, Taken, changed, after, after_all}
@@ -24,7 +25,7 @@ use Rattle.driver_trace.proofs.Calls.{answers_go}
 use Rattle.driver_runs.specs.Runs.{IsKept}
 use Rattle.driver_runs.proofs.Runs.{answers_keep}
 use Rattle.driver_counts.proofs.Units.{setups_stay}
-use Rattle.event_player.specs.Steps.{Stage, PlaysActs, takings, all_taken}
+use Rattle.one_run.specs.Steps.{takings, all_taken}
 
 some_first : (xs : List Made) (made : Made) (rest : List Made) → xs ≡ made ∷ rest → 0 < length xs
 some_first xs made rest is = subst (λ (ys : List Made). 0 < length ys) (sym is) (omega arith)
@@ -45,9 +46,6 @@ none_waits w = taken_none w.answers w refl
 
 pub nothing_taken : (w : World) → w.answers ≡ [] → all_taken w ≡ w
 nothing_taken w none = ap (λ (xs : List Made). after_all w (takings xs)) none
-
-pub plays_none : {acts : List Act} {old new : Stage} → PlaysActs acts old new → new.world.answers ≡ []
-plays_none {acts} {old} {new} plays = ap (λ (w : World). w.answers) plays.world ∙ none_waits (after_all old.world acts)
 
 -- A UNIT IS THERE, where an answer waits.
 abbrev pub Waits : World → Type 0
@@ -72,7 +70,7 @@ stays_waiting : (w : World) (act : Act) → (after w act).answers ≡ w.answers 
 stays_waiting w act same (inl none) = inl (same ∙ none)
 stays_waiting w act same (inr unit) = inr (unit.0, stays_up w act unit.0 unit.1)
 
-some_queue : (queue : List Rattle.disksort.specs.declared.Waiter.Waiter) → queue ≡ [] → 0 < length queue → ⊥
+some_queue : (queue : List Waiter) → queue ≡ [] → 0 < length queue → ⊥
 some_queue queue none some = absurd (omega (arith, some, ap length none))
 
 in_hand_set_up : (w : World) (u id : ℕ) → Sound w → InHand w u id → IsSetUp w u
