@@ -1,4 +1,8 @@
-// The program: it makes the real source, sinks and packs, and ends with the status of the command.
+//! The program: it makes the real source, sinks and packs, and ends with the status of the command.
+//!
+//! What is proved: main is safe and ends. What the command does is the contract of `hpsim_run::run`, whose objects tell nothing here.
+//!
+//! Only tested: a run with real streams and files, and files that are full.
 #![tactic(auto)]
 
 #[cfg(test)]
