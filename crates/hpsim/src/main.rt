@@ -14,6 +14,7 @@ use mass_outside::streams::{StdSink, StdSource};
 use pack_windows::pack_files::PackFiles;
 use pack_windows::window_packs::WindowPacks;
 use std::alloc::Global;
+use std::fs::{File, OpenOptions};
 use std::io::ErrorKind;
 use std::process::ExitCode;
 use std::{env, io};
@@ -39,7 +40,20 @@ fn words(rt: &HostRuntime) -> Option<Vec<String>> {
     Some(words)
 }
 
+/// Three handles of the device that is empty and takes all. While they are held no file that is opened has the number of a
+/// standard stream that was closed before the program began: what is printed would go to that file, a pack's perhaps.
+fn streams(rt: &HostRuntime) -> [io::Result<File>; 3] {
+    let mut how = OpenOptions::new();
+    how.read(true).write(true);
+    [
+        how.open(rt, "/dev/null"),
+        how.open(rt, "/dev/null"),
+        how.open(rt, "/dev/null"),
+    ]
+}
+
 fn main(rt: HostRuntime) -> ExitCode {
+    let _streams = streams(&rt);
     let Some(words) = words(&rt) else {
         return ExitCode::from(Status::OutOfMemory.code());
     };
