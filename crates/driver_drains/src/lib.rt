@@ -1,4 +1,8 @@
 //! What a drain and a call that stops come to in the replay. The functions here do nothing: each stands for a law.
+//!
+//! What is proved: `falls_law`: with each event of a drain of the machine a number falls that is at most 200 for each block
+//! outstanding. `fronts_law`: the lines of the first acts of a call follow where those of all do. `asks_law`: no line asks for
+//! anything.
 #![tactic(auto)]
 
 ghost use Rattle.driver_drains.specs.Fronts.{CallFrontsFollow, EventFrontsFollow};

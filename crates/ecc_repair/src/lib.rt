@@ -1,4 +1,8 @@
 //! The repair of a sector in main memory: the driver flips back the burst that the drive's registers tell.
+//!
+//! What is proved: `repair` leaves the window's bytes with the pattern's places flipped from `at - 1` on, cut at the window's
+//! length, and all else as before. `repair_law`: at most three bytes change; a sector that is read with a short burst and
+//! repaired has the bytes that stand on the pack.
 #![tactic(auto)]
 
 ghost use Rattle.std.specs.Prelude.{◌≡◌, ◌≤◌, ◌<◌, ◌+◌, ◌-◌, ◌*◌, ◌/◌, ◌%◌, ◌^◌, ◌⊎◌, ℕ, List, All, length, slice_index};

@@ -1,10 +1,18 @@
-// The Fire code of a sector: its check, its word's remainder, and the bursts that a remainder tells.
-//
-// A sector's word is 4,128 places: its 512 bytes, each from its least significant bit on, and then the check's 32
-// bits, from the most significant on. Place k is the coefficient of x^(4127-k), and a word is right where its
-// polynomial is a multiple of x^32 + x^23 + x^21 + x^11 + x^2 + 1 = (x^21 + 1)(x^11 + x^2 + 1). That a Fire code
-// corrects one burst of at most 11 bits in a sector is as on the real drives; this generator and this order of the
-// bits are the project's own choice.
+//! The Fire code of a sector: its check, its word's remainder, and the bursts that a remainder tells.
+//!
+//! A sector's word is 4,128 places: its 512 bytes, each from its least significant bit on, and then the check's 32 bits, from
+//! the most significant on. Place k is the coefficient of x^(4127-k), and a word is right where its polynomial is a multiple of
+//! x^32 + x^23 + x^21 + x^11 + x^2 + 1 = (x^21 + 1)(x^11 + x^2 + 1). That a Fire code corrects one burst of at most 11 bits in
+//! a sector is as on the real drives; this generator and this order of the bits are the project's own choice.
+//!
+//! What is proved: `encode` gives the one check that makes a word right; `syndrome` is the word's remainder, a sum over places;
+//! `judge` is exact for every data and check, and names just the burst that was applied to a right word; `class_of`, `apply`,
+//! `Noise::new` exact; `judge_noise` is the verdict on any right word with these places flipped. `burst_law`: no short burst
+//! has remainder zero, two different ones have different remainders, and powers of x repeat after 42,987 steps and not before.
+//! The three tables are proved equal to the definition by functions over them (`tables`, `logarithms`); the plain program has
+//! the same contracts.
+//!
+//! Only tested, in `pack_rows`: worked checks and verdicts.
 #![tactic(auto)]
 
 ghost use Rattle.std.specs.Prelude.{◌≡◌, ◌≢◌, ◌<◌, ◌^◌, ◌*◌, ◌≤◌, ◌+◌, ◌-◌, ◌%◌, ◌==◌, ℕ, List, take, cond, ◌↔◌, IsTrue, All, SomeIff, bit_xor, slice_index};

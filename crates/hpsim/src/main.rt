@@ -1,14 +1,29 @@
-// The program: it makes the real words, folder, reader, writer and trace, and ends with the status of the command.
+//! The program: it makes the real words, folder, reader, writer and trace, and ends with the status of the command, which is
+//! `hpsim_main::end_status`. Only tested: a run with real streams and files (its own, and those of `outside_rows`).
 #![tactic(auto)]
 
 use hpsim_main::{TRACE_NAME, end_status, words_of};
 use outside_files::file_sink::FileSink;
 use outside_files::os_folder::OsFolder;
 use std::alloc::Global;
+use std::fs::{File, OpenOptions};
 use std::process::ExitCode;
 use std::{env, io};
 
+/// Three handles of the device that is empty and takes all. While they are held no file that is opened has the number of a
+/// standard stream that was closed before the program began: what is printed would go to that file, a pack's perhaps.
+fn streams(rt: &HostRuntime) -> [io::Result<File>; 3] {
+    let mut how = OpenOptions::new();
+    how.read(true).write(true);
+    [
+        how.open(rt, "/dev/null"),
+        how.open(rt, "/dev/null"),
+        how.open(rt, "/dev/null"),
+    ]
+}
+
 fn main(rt: HostRuntime) -> ExitCode {
+    let _streams = streams(&rt);
     let words = words_of(rt.alloc(), env::args(&rt));
     let folder = OsFolder::new(&rt);
     let mut trace = FileSink::new(&rt, TRACE_NAME);

@@ -108,8 +108,8 @@ fn run_play<S: Source, P: Packs, O: Sink, T: Sink>(
 /// | 4 | SourceFailed | only where the source's count of faults rose | nothing |
 /// | 5 | SinkFailed | only where the count of `out` or of `trace` rose | nothing further |
 /// | 6 | PacksFailed | only where the packs' count rose | nothing further |
-/// | 7 | TooLong | exactly where the image of a declared unit, or of the unit of a `bad144` command, is longer than its pack | `too long unit U length L` |
-/// | 8 | ToolRefused | exactly where `bad144 add` is refused | `refused no table`, `refused reserved`, `refused listed I`, `refused full`, `refused spare I` |
+/// | 7 | TooLong | only where the image of a declared unit, or of the unit of a `bad144` command, is longer than its pack, and there unless 4, 6 or 9 comes | `too long unit U length L` |
+/// | 8 | ToolRefused | only where `bad144 add` is refused, and there unless 6 or 7 comes | `refused no table`, `refused reserved`, `refused listed I`, `refused full`, `refused spare I` |
 /// | 9 | OutOfMemory | there was no memory, before the first line was played; only of `play` and `exercise` | nothing |
 pub fn run<S: Source, P: Packs, O: Sink, T: Sink>(
     alloc: Global,

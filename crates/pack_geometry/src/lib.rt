@@ -1,4 +1,10 @@
 //! The sizes of the drives, and where their blocks lie, after the manuals of the RP06, RM03 and RM05 drives.
+//!
+//! What is proved: `geometry_of`, `blocks`, `data_limit` give the numbers of the RP06, RM03 and RM05; `track_and_sector` is the
+//! word `track*256 + sector`. `place_of` and `block_of` are exact and inverse inside the geometry (`place_law`); data blocks,
+//! replacements and table copies lie apart, in this order (`apart_law`); `kind_of` is exact.
+//!
+//! Only tested, in `pack_rows`: worked values, beside their proofs.
 #![tactic(auto)]
 
 ghost use Rattle.std.specs.Prelude.{◌≡◌, ◌≢◌, ◌<◌, ◌≤◌, ◌-◌, ◌↔◌, ℕ, IfNone, SomeIff};

@@ -1,5 +1,7 @@
-//! The partitions of the drives, and the admission of requests to them. The sizes and the first cylinders are this
-//! project's own: a pack that another system divided has its own.
+//! The partitions of the drives, and the admission of requests to them. The sizes and the first cylinders are this project's
+//! own: a pack that another system divided has its own.
+//!
+//! What is proved: `part_of`, `part_range` and `admit` are exact for each kind; a range inside has data blocks only.
 #![tactic(auto)]
 
 ghost use Rattle.std.specs.Prelude.{◌≡◌, ◌<◌, ◌≤◌, ◌+◌, ◌↔◌, ◌⊎◌, ℕ, IsSome};

@@ -1,5 +1,9 @@
-// What a driver does after the failures at one physical sector: try again, off the centre of the track, after a
-// recalibration, or give up.
+//! What a driver does after the failures at one physical sector: try again, off the centre of the track, after a recalibration,
+//! or give up.
+//!
+//! What is proved: `next_step` is the schedule, and GiveUp exactly at 28.
+//!
+//! Only tested, in `drive_rows`: worked values, beside their proofs.
 #![tactic(auto)]
 
 ghost use Rattle.std.specs.Prelude.{◌≡◌, ◌≤◌, ◌↔◌};

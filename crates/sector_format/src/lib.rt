@@ -1,5 +1,8 @@
-//! A sector as it lies on the pack: its header, its 512 bytes and their check. The header's words are made
-//! after the RP06, RM03 and RM05 manuals; the bits of this crate's tables are the project's own choice of them.
+//! A sector as it lies on the pack: its header, its 512 bytes and their check. The header's words are made after the RP06, RM03
+//! and RM05 manuals; the bits of this crate's tables are the project's own choice of them.
+//!
+//! What is proved: `header_of`, `header_fault` and `raw_sector` are the header tables; a header made for the wanted block shows
+//! no fault where it is unmarked, and Format (RP06) or BadSector (RM03, RM05) where it is marked.
 #![tactic(auto)]
 
 ghost use Rattle.std.specs.Prelude.{◌≡◌, ◌<◌};

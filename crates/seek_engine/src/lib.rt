@@ -1,4 +1,7 @@
-// Positioning: whether a unit seeks or searches before a transfer, and the states on the way.
+//! Positioning: whether a unit seeks or searches before a transfer, and the states on the way.
+//!
+//! What is proved: `decide` is exact; `position` is Queued exactly for Ready; the states move, and a positioning's goal is
+//! never Ready.
 #![tactic(auto)]
 
 ghost use Rattle.std.specs.Prelude.{◌≡◌, ◌≢◌, ◌<◌, ◌↔◌, IfOk, IsErr};

@@ -1,5 +1,9 @@
 //! What a request and a drain cost, over legal traces. The definitions stand in `specs/`. The functions here do nothing: each
 //! stands for a law.
+//!
+//! What is proved: `commands_law`: a request has at most 300 commands for each of its blocks, so far and as it ends.
+//! `drain_law`: a drain has at most 200 event lines for each block that is outstanding before it; the number of what is left
+//! falls with each of them and rises with no line, and each event of a drain begins with one.
 #![tactic(auto)]
 
 ghost use Rattle.trace_bounds.specs.Commands.{AreToldAsCommands, CommandsAreBounded, EndsAreBounded};
