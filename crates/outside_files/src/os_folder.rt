@@ -2,15 +2,13 @@ ghost use Rattle.std.specs.Prelude.{◌<◌, ◌≤◌, OnOk, vec_len};
 
 use crate::folder::{PackFolder, Part};
 use crate::streams::some_taken;
-use std::alloc::AllocError;
 use std::fs::{OpenFile, OpenOptions};
+use std::io;
 use std::io::ErrorKind;
 use std::os::unix::fs::FileExt;
 use std::rt::Files;
-use std::{array, io};
 
-/// What is known of a file. One that was opened stays open between calls; one that was missing is taken to be missing until it
-/// is made here.
+/// What is known of a file: one that was opened stays open, and one that was missing stays missing until it is made here.
 #[derive(Drop)]
 enum Known<F> {
     Nothing,
@@ -24,7 +22,6 @@ enum Known<F> {
 #[derive(Drop)]
 pub struct OsFolder<R: Files + AllocGlobal> {
     rt: R,
-    /// By number; there is none before the first call.
     files: Vec<Known<R::File>>,
 }
 
@@ -33,20 +30,14 @@ fn open_file<R: Files>(rt: &R, name: &str, create: bool) -> io::Result<R::File> 
     let mut how = OpenOptions::new();
     how.read(true).write(true).create(create);
     match how.open(rt, name) {
-        Err(error) if !create && may_be_read(error.kind()) => {
-            let mut how = OpenOptions::new();
-            how.read(true).open(rt, name)
-        }
+        Err(error) if !create && is_forbidden(error.kind()) => how.write(false).open(rt, name),
         answer => answer,
     }
 }
 
 /// Whether a file that can't be opened for writing may still be one to read.
-fn may_be_read(kind: ErrorKind) -> bool {
-    matches!(
-        kind,
-        ErrorKind::PermissionDenied | ErrorKind::ReadOnlyFilesystem
-    )
+fn is_forbidden(kind: ErrorKind) -> bool {
+    kind == ErrorKind::PermissionDenied || kind == ErrorKind::ReadOnlyFilesystem
 }
 
 impl<R: Files + AllocGlobal> OsFolder<R> {
@@ -67,7 +58,7 @@ impl<R: Files + AllocGlobal> OsFolder<R> {
     }
 
     /// Makes room for what is known of each file.
-    fn make_room(&mut self) -> Result<(), AllocError>
+    fn make_room(&mut self) -> io::Result<()>
         ensures { OnOk result (64 ≤ vec_len self.new.files) }
     {
         if self.files.len() < 64 {

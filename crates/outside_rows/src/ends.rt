@@ -1,4 +1,5 @@
 // How the program ends, over folders in memory and real ones.
+use crate::guarded::Guarded;
 use crate::memory::{Habit, MemFolder, WHOLE, no_files};
 use hpsim_main::{TRACE_NAME, end_status, words_of};
 use mass_outside::file_sink::FileSink;
@@ -194,6 +195,32 @@ fn no_room_for_text(rt: HostRuntime) -> Result<(), Fail> {
     fs::remove_file(&rt, "full.trace")?;
     let (status, said) = ended(&rt, "play", script, FULL)?;
     assert_eq!(rt; (status, said.len()), (5, 0));
+    Ok(())
+}
+
+/// The packs are on a full disk: what is read is answered, and the write fails.
+#[test]
+fn no_room_on_the_packs(rt: HostRuntime) -> Result<(), Fail> {
+    let device = Guarded {
+        rt: &rt,
+        reads: true,
+        device: Some(FULL),
+    };
+    let mut said = Vec::new(rt.alloc());
+    let script = b"unit 0 rp06\nread 1 0 c 5 1\ndrain\nwrite 2 0 c 5 1 fill 77\n";
+    let status = end_status(
+        rt.alloc(),
+        words(rt.alloc(), "play")?,
+        OsFolder::new((device, rt.alloc())),
+        script.as_slice(),
+        &mut said,
+        &mut SureSink::new(),
+    );
+    assert_eq!(rt; status, 6);
+    assert_eq!(rt;
+        said.as_slice(),
+        b"ans 1 at 3 ok\nblk 0 fill 00\n".as_slice()
+    );
     Ok(())
 }
 

@@ -49,8 +49,8 @@ fn answer<P: Packs>(packs: &mut P, unit: u8, call: Call) -> Result<u64, StoreFai
 }
 
 /// What calls on the packs of files answer. Unit 28 has an image of 700 bytes 255 and the marks 0, 7 and 1, the image
-/// of unit 27 is a folder, and the other units have no files.
-const FILES: [(u8, Call, Option<u64>); 32] = [
+/// of unit 27 is a folder, those of unit 25 are empty, and the other units have no files.
+const FILES: [(u8, Call, Option<u64>); 40] = [
     (29, Call::Length, Some(0)),
     (29, Call::Read(3), Some(0)),
     (29, Call::Marked(5), Some(0)),
@@ -82,6 +82,14 @@ const FILES: [(u8, Call, Option<u64>); 32] = [
     (26, Call::Read(340_670), Some(0x0505)),
     (26, Call::Read(340_669), Some(0)),
     (26, Call::Read(340_671), Some(0)),
+    (26, Call::Mark(2, true), Some(0)),
+    (26, Call::Marked(2), Some(1)),
+    (26, Call::Marked(1), Some(0)),
+    (26, Call::Mark(2, false), Some(0)),
+    (26, Call::Marked(2), Some(0)),
+    (25, Call::Length, Some(0)),
+    (25, Call::Read(0), Some(0)),
+    (25, Call::Marked(0), Some(0)),
     (29, Call::Length, Some(0)),
 ];
 
@@ -125,10 +133,14 @@ fn packs_in_files(rt: HostRuntime) -> Result<(), Fail> {
     fs::write(&rt, "hp28.dsk", &[0xFF; 700])?;
     fs::write(&rt, "hp28.bad", &[0, 7, 1])?;
     fs::create_dir(&rt, "hp27.dsk")?;
+    for name in ["hp25.dsk", "hp25.bad"] {
+        fs::write(&rt, name, b"")?;
+    }
     assert_eq!(rt; first_other(&mut FilePacks::new(&rt), &FILES), FILES.len());
     let guarded = Guarded {
         rt: &rt,
         reads: true,
+        device: None,
     };
     assert_eq!(rt;
         first_other(&mut FilePacks::new((guarded, alloc)), &READ_ONLY),
@@ -137,6 +149,7 @@ fn packs_in_files(rt: HostRuntime) -> Result<(), Fail> {
     let guarded = Guarded {
         rt: &rt,
         reads: false,
+        device: None,
     };
     assert_eq!(rt;
         first_other(&mut FilePacks::new((guarded, alloc)), &SHUT),
@@ -150,22 +163,25 @@ fn packs_in_files(rt: HostRuntime) -> Result<(), Fail> {
         assert!(rt; !fs::exists(&rt, name)?, "{name} is there");
     }
     fs::remove_dir(&rt, "hp27.dsk")?;
-    for name in ["hp28.dsk", "hp28.bad", "hp26.dsk"] {
+    for name in [
+        "hp28.dsk", "hp28.bad", "hp26.dsk", "hp26.bad", "hp25.dsk", "hp25.bad",
+    ] {
         fs::remove_file(&rt, name)?;
     }
     Ok(())
 }
 
+/// A file that is made behind our back is out of scope; it is not found where it was missing before.
 #[test]
 fn missing_until_written(rt: HostRuntime) -> Result<(), Fail> {
     let mut packs = FilePacks::new(&rt);
-    assert!(rt; packs.length(25) == Ok(0));
-    fs::write(&rt, "hp25.dsk", &[1; 512])?;
-    assert!(rt; packs.length(25) == Ok(0), "it was missing");
-    assert!(rt; packs.write(25, 1, &[2; 512]).is_ok());
-    assert!(rt; packs.length(25) == Ok(1024), "it is opened to be written");
-    fs::remove_file(&rt, "hp25.dsk")?;
-    assert!(rt; packs.length(25) == Ok(1024), "it stays open");
+    assert!(rt; packs.length(19) == Ok(0));
+    fs::write(&rt, "hp19.dsk", &[1; 512])?;
+    assert!(rt; packs.length(19) == Ok(0), "it was missing");
+    assert!(rt; packs.write(19, 1, &[2; 512]).is_ok());
+    assert!(rt; packs.length(19) == Ok(1024), "it is opened to be written");
+    fs::remove_file(&rt, "hp19.dsk")?;
+    assert!(rt; packs.length(19) == Ok(1024), "it stays open");
     Ok(())
 }
 

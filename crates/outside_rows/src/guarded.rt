@@ -11,6 +11,8 @@ pub(crate) struct Guarded<'a> {
     pub rt: &'a HostRuntime,
     /// Whether one may be opened for reading alone.
     pub reads: bool,
+    /// What is opened in the place of each of them: the file itself, or a device.
+    pub device: Option<&'static str>,
 }
 
 impl<'a> Files for Guarded<'a> {
@@ -19,6 +21,11 @@ impl<'a> Files for Guarded<'a> {
     type Dir = <HostRuntime as Files>::Dir;
 
     fn open_file(&self, how: &OpenOptions, path: &str) -> io::Result<File> {
+        if let Some(device) = self.device {
+            let mut how = OpenOptions::new();
+            how.read(true).write(true);
+            return self.rt.open_file(&how, device);
+        }
         if how.asks_write() || !self.reads {
             return Err(io::Error::from(ErrorKind::PermissionDenied));
         }
