@@ -1,5 +1,5 @@
 -- WHAT EACH MOMENT DOES TO A DRIVE.
-use Rattle.std.specs.Prelude.{ℕ, ◌-◌, ◌*◌, ◌/◌, ◌==◌, nat_lt, Bool, true, false, if◌then◌else◌, Option, Some, None}
+use Rattle.std.specs.Prelude.{ℕ, ◌-◌, ◌*◌, ◌/◌, ◌==◌, nat_lt, max, Bool, true, false, ◌||◌, if◌then◌else◌, Option, Some, None}
 use Rattle.pack_geometry.specs.declared.DriveKind.{DriveKind}
 use Rattle.pack_geometry.specs.Geometry.{tracks_of, sectors_of}
 use Rattle.drive_registers.specs.declared.OffsetCode.{OffsetCode}
@@ -23,7 +23,9 @@ use Rattle.run_picture.specs.declared.drives.Change.TheVariants as change
 use Rattle.run_picture.specs.Counts.{plus, apart}
 use Rattle.run_picture.specs.Letters.{is_on_its_way, is_ready, is_holding}
 use Rattle.run_picture.specs.Marks.{later, mark_of}
-use Rattle.run_picture.specs.Arms.{new_arm, sent, reached}
+use Rattle.run_picture.specs.Arms.{new_arm, sent, reached, paths_joined}
+use Rattle.run_picture.specs.declared.cells.Cell.{Cell}
+use Rattle.run_picture.specs.Cells.{new_cell, tallied}
 
 -- BEFORE THE RUN: idle on cylinder 0, online and not locked.
 abbrev pub new_seen : Seen
@@ -50,6 +52,7 @@ new_drive kind = record {
   all = blank;
   offline = false;
   locked = false;
+  cell = new_cell;
 }
 
 -- a mark is shown unless a graver one is
@@ -235,9 +238,31 @@ freed event drive = record drive {
   since = blank;
 }
 
--- AN EVENT ENDS, by the letter that stands behind it; and another begins, in which nothing is seen yet
+-- AN EVENT ENDS, by the letter that stands behind it, and is seen in its column; and another begins, in which nothing is seen yet
+abbrev pub cell_with : Drive → Cell
+cell_with drive = record {
+  tally = tallied drive.letter drive.cell.tally;
+  path = paths_joined drive.cell.path drive.arm.path;
+  cylinder = drive.arm.cylinder;
+  waiting = max drive.cell.waiting drive.queue.waiting;
+  mark = later drive.cell.mark drive.seen.mark;
+  signal = later drive.cell.signal drive.seen.signal;
+  code = max drive.cell.code drive.seen.code;
+  tried = max drive.cell.tried drive.seen.tried;
+  offline = drive.cell.offline || drive.offline;
+  locked = drive.cell.locked || drive.locked;
+}
+
 abbrev pub event_counted : Drive → Drive
-event_counted drive = record drive { since = counted drive.letter drive.since; all = counted drive.letter drive.all }
+event_counted drive = record drive {
+  since = counted drive.letter drive.since;
+  all = counted drive.letter drive.all;
+  cell = cell_with drive;
+}
 
 abbrev pub unseen : Drive → Drive
 unseen drive = record drive { arm = record drive.arm { path = None }; seen = new_seen }
+
+-- another column begins
+abbrev pub cleared : Drive → Drive
+cleared drive = record drive { cell = new_cell }

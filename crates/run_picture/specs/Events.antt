@@ -40,3 +40,8 @@ begins_at before moment = false
 abbrev pub begins : Option Moment → Moment → Bool
 begins None moment = true
 begins (Some before) moment = if line_of before == line_of moment then begins_at before moment else true
+
+-- a moment finds nothing to do
+abbrev pub is_idle : Moment → Bool
+is_idle (Idle line) = true
+is_idle moment = false

@@ -1,6 +1,5 @@
 -- THE FOLD: what is known of a run behind each moment.
-use Rattle.std.specs.Prelude.{ℕ, ◌+◌, ◌-◌, ◌*◌, ◌/◌, ◌<◌, ◌==◌, nat_lt, Bool, true, false, ◌&&◌, ◌||◌, if◌then◌else◌, List, [], ◌∷◌, ◌++◌, length, map, count_by, replicate, slice_set, fold, get_or, Option, Some, None, Result, Ok, Err}
-use Rattle.std.specs.List.{list_any}
+use Rattle.std.specs.Prelude.{ℕ, ◌+◌, ◌-◌, ◌*◌, ◌/◌, ◌<◌, ◌==◌, nat_lt, Bool, true, false, ◌&&◌, ◌||◌, if◌then◌else◌, List, [], ◌∷◌, ◌++◌, length, map, replicate, slice_set, fold, get_or, Option, Some, None, Result, Ok, Err}
 use Rattle.pack_geometry.specs.declared.DriveKind.{DriveKind}
 use Rattle.partitions.specs.declared.Admission.{Admission}
 use Rattle.partitions.specs.declared.Admission.TheVariants as meets
@@ -21,17 +20,22 @@ use Rattle.run_picture.specs.declared.requests.Outcome.{Outcome}
 use Rattle.run_picture.specs.declared.requests.Outcome.TheVariants as outcome
 use Rattle.run_picture.specs.declared.requests.Request.{Request}
 use Rattle.run_picture.specs.declared.acts.Glance.{Glance}
+use Rattle.run_picture.specs.declared.columns.Window.{Window}
+use Rattle.run_picture.specs.declared.columns.Head.{Head}
+use Rattle.run_picture.specs.declared.columns.Column.{Column}
+use Rattle.run_picture.specs.Columns.{new_head, headed, is_inside, is_before, is_full}
 use Rattle.run_picture.specs.Counts.{plus}
-use Rattle.run_picture.specs.Letters.{is_positioning, is_moving}
-use Rattle.run_picture.specs.Drives.{blank, new_drive, changed, joined, met, marked, freed, event_counted, unseen, cylinder_blocks}
+use Rattle.run_picture.specs.Positioning.{positioning, moving}
+use Rattle.run_picture.specs.Drives.{blank, new_drive, changed, joined, met, marked, freed, event_counted, unseen, cleared, cylinder_blocks}
 use Rattle.run_picture.specs.Drives as drives
-use Rattle.run_picture.specs.Events.{line_of, begins}
+use Rattle.run_picture.specs.Events.{line_of, begins, is_idle}
 use Rattle.run_picture.specs.Places.{place_of}
 use Rattle.run_picture.specs.Requests.{answer, is_ok, is_refused, refused, ended, left}
 use Rattle.run_picture.specs.Requests as requests
 
 -- WHAT IS KNOWN behind a moment: each of the 32 drives; the requests as asked, with their ids; the frames that are lent; the
--- number of the event at hand; the moment; and what is seen at a glance.
+-- number of the event at hand; the moment; what is seen at a glance; the events that are shown, the column at hand, the drives
+-- before the first column, and the columns that are whole.
 pub record Known : Type 0 where
   pub drives : List Drive
   pub ids : List ℕ
@@ -40,10 +44,14 @@ pub record Known : Type 0 where
   pub event : ℕ
   pub before : Option Moment
   pub glance : Glance
+  pub window : Window
+  pub head : Head
+  pub start : List Drive
+  pub columns : List Column
 
 -- before the first moment, with no drive declared
-abbrev pub new_known : Known
-new_known = record {
+abbrev pub new_known : Window → Known
+new_known window = record {
   drives = replicate 32 (new_drive None);
   ids = [];
   requests = [];
@@ -51,6 +59,10 @@ new_known = record {
   event = 0;
   before = None;
   glance = record { most = 0; most_line = 0; moving = 0; both = 0 };
+  window = window;
+  head = new_head;
+  start = replicate 32 (new_drive None);
+  columns = [];
 }
 
 -- A REQUEST IS ASKED FOR: the frames that its bytes lie in
@@ -209,13 +221,7 @@ heard (Played line play) known = played line play known
 heard (Told line unit id d) known = told line unit id d known
 heard (Idle line) known = known
 
--- WHERE AN EVENT ENDS. Positioning at once: the drives with a seek, a search, a recalibration or an offset under way behind it.
-abbrev pub positioning : List Drive → ℕ
-positioning drives = count_by (λ (drive : Drive). is_positioning drive.letter) drives
-
-abbrev pub moving : List Drive → Bool
-moving drives = list_any (λ (drive : Drive). is_moving drive.letter) drives
-
+-- WHERE AN EVENT ENDS
 abbrev pub more_if : Bool → ℕ → ℕ
 more_if true n = plus n 1
 more_if false n = n
@@ -231,18 +237,47 @@ glance_after event line drives glance = record {
   both = more_if (moving drives && nat_lt 0 (positioning drives)) glance.both;
 }
 
-abbrev pub event_ended : ℕ → Known → Known
-event_ended line known = record known {
-  drives = map event_counted known.drives;
-  glance = glance_after known.event line known.drives known.glance;
+-- THE COLUMNS: behind the last event before the window they begin; an event of the window is one more of the column at hand,
+-- which is whole where it is full
+abbrev pub column_closed : Bool → Head → Known → Known
+column_closed true head known = record known {
+  columns = known.columns ++ record { head = head; drives = known.drives } ∷ [];
+  head = new_head;
+  drives = map cleared known.drives;
 }
+column_closed false head known = record known { head = head }
+
+abbrev pub column_with : Moment → Known → Known
+column_with last known =
+    let head = headed (line_of last) (is_idle last) known.drives known.head in
+    column_closed (is_full head known.window known.event) head known
+
+abbrev pub window_begun : Known → Known
+window_begun known = record known { start = known.drives; drives = map cleared known.drives }
+
+abbrev pub shown_by : Bool → Bool → Moment → Known → Known
+shown_by true inside last known = window_begun known
+shown_by false true last known = column_with last known
+shown_by false false last known = known
+
+abbrev pub event_shown : Moment → Known → Known
+event_shown last known = shown_by (is_before known.window known.event) (is_inside known.window known.event) last known
+
+abbrev pub event_counted_in : Moment → Known → Known
+event_counted_in last known = record known {
+  drives = map event_counted known.drives;
+  glance = glance_after known.event (line_of last) known.drives known.glance;
+}
+
+abbrev pub event_ended : Moment → Known → Known
+event_ended last known = event_shown last (event_counted_in last known)
 
 abbrev pub event_begun : Known → Known
 event_begun known = record known { drives = map unseen known.drives; event = plus known.event 1 }
 
 abbrev pub turned_behind : Option Moment → Known → Known
 turned_behind None known = known
-turned_behind (Some last) known = event_begun (event_ended (line_of last) known)
+turned_behind (Some last) known = event_begun (event_ended last known)
 
 abbrev pub turned : Moment → Known → Known
 turned moment known = if begins known.before moment then turned_behind known.before known else known
@@ -257,7 +292,7 @@ events_in (Some last) event = plus event 1
 
 abbrev pub ended_behind : Option Moment → Known → Known
 ended_behind None known = known
-ended_behind (Some last) known = event_ended (line_of last) known
+ended_behind (Some last) known = event_ended last known
 
 abbrev pub finished : Known → Known
 finished known = record (ended_behind known.before known) {

@@ -2,9 +2,10 @@
 
 ghost use Rattle.std.specs.Prelude.{◌≡◌, nat_lt, if◌then◌else◌, map};
 ghost use Rattle.run_picture.specs.Counts.{plus};
+ghost use Rattle.run_picture.specs.Positioning.{positions, moves, positioning, moving};
 ghost use Rattle.trace_lines.specs.declared.telling.Told.TheVariants.{End};
 ghost use Rattle.run_picture.specs.Drives.{event_counted, unseen};
-ghost use Rattle.run_picture.specs.Fold.{new_known, admitted, frames_of, new_request, request_asked, drive_asked, lent_asked, drive_after, request_after, back_after, end_mark, positioning, moving, glance_after};
+ghost use Rattle.run_picture.specs.Fold.{new_known, admitted, frames_of, new_request, request_asked, drive_asked, lent_asked, drive_after, request_after, back_after, end_mark, glance_after};
 
 use crate::counts::plus;
 use crate::drives::{Drive, Times, cylinder_blocks};
@@ -177,21 +178,40 @@ pub fn act(
     }
 }
 
+/// A drive positions.
+#[tactic(auto, unfolding(crate::specs::Positioning::positions))]
+fn positions(drive: &Drive) -> bool
+    ensures { result ≡ positions drive.now }
+{
+    drive.letter.is_positioning()
+}
+
+/// Its sectors move.
+#[tactic(auto, unfolding(crate::specs::Positioning::moves))]
+fn moves(drive: &Drive) -> bool
+    ensures { result ≡ moves drive.now }
+{
+    drive.letter.is_moving()
+}
+
 /// The drives that position.
-fn positioning(drives: &[Drive; 32]) -> usize
+pub fn positioning(drives: &[Drive]) -> usize
     ensures { result ≡ positioning drives.now }
 {
-    drives
-        .iter()
-        .filter(|drive| drive.letter.is_positioning())
-        .count()
+    let mut count = 0usize;
+    for drive in drives {
+        if positions(drive) {
+            count += 1;
+        }
+    }
+    count
 }
 
 /// Whether sectors move.
-fn moving(drives: &[Drive; 32]) -> bool
+fn moving(drives: &[Drive]) -> bool
     ensures { result ≡ moving drives.now }
 {
-    drives.iter().any(|drive| drive.letter.is_moving())
+    drives.iter().any(|drive| moves(drive))
 }
 
 impl Glance {
@@ -208,7 +228,7 @@ impl Glance {
     }
 
     /// An event ends, with so many drives that position, and with sectors that move or none.
-    pub fn see(&mut self, event: u64, line: u32, drives: &[Drive; 32])
+    pub fn see(&mut self, event: u64, line: u32, drives: &[Drive])
         ensures { self.new ≡ glance_after event line drives.now self.old }
     {
         let here = positioning(drives);

@@ -3,9 +3,10 @@
 ghost use Rattle.std.specs.Prelude.{◌≡◌, ◌<◌};
 ghost use Rattle.run_picture.specs.Arms.{sent};
 ghost use Rattle.trace_lines.specs.declared.telling.Told.TheVariants.{Sector};
-ghost use Rattle.run_picture.specs.Drives.{new_drive, new_seen, blank, counted, going, in_hand, is_at, offset_mark, offset_hundreds, transfer_letter, wanted, cylinder_blocks, verdict_arm, verdict_trial, verdict_letter, said, tells, changed, joined, met, marked, freed, event_counted, unseen};
+ghost use Rattle.run_picture.specs.Drives.{new_drive, new_seen, blank, counted, going, in_hand, is_at, offset_mark, offset_hundreds, transfer_letter, wanted, cylinder_blocks, verdict_arm, verdict_trial, verdict_letter, said, tells, changed, joined, met, marked, freed, event_counted, unseen, cell_with, cleared};
 
-use crate::arms::Arm;
+use crate::arms::{Arm, join_paths};
+use crate::cells::Cell;
 use crate::counts::plus;
 use crate::letters::Letter;
 use crate::marks::{Mark, mark_of};
@@ -78,6 +79,8 @@ pub struct Drive {
     pub offline: bool,
     /// It is locked against writing.
     pub locked: bool,
+    /// What was seen of it in the column at hand.
+    pub cell: Cell,
 }
 
 /// What a line of the script changes at a drive.
@@ -292,6 +295,7 @@ impl Drive {
             all: Times::new(),
             offline: false,
             locked: false,
+            cell: Cell::new(),
         }
     }
 
@@ -470,10 +474,39 @@ impl Drive {
         };
     }
 
+    /// What is seen of it is seen in its column.
+    fn show_in_column(&mut self)
+        ensures { self.new ≡ record self.old { cell = cell_with self.old } }
+    {
+        let cell = self.cell;
+        let mut tally = cell.tally;
+        tally.count(self.letter);
+        self.cell = Cell {
+            tally,
+            path: join_paths(cell.path, self.arm.path),
+            cylinder: self.arm.cylinder,
+            waiting: cell.waiting.max(self.queue.waiting),
+            mark: cell.mark.later(self.seen.mark),
+            signal: cell.signal.later(self.seen.signal),
+            code: cell.code.max(self.seen.code),
+            tried: cell.tried.max(self.seen.tried),
+            offline: cell.offline || self.offline,
+            locked: cell.locked || self.locked,
+        };
+    }
+
+    /// Another column begins.
+    pub fn clear(&mut self)
+        ensures { self.new ≡ cleared self.old }
+    {
+        self.cell = Cell::new();
+    }
+
     /// An event ends.
     pub fn count_event(&mut self)
         ensures { self.new ≡ event_counted self.old }
     {
+        self.show_in_column();
         let letter = self.letter;
         self.since.count(letter);
         self.all.count(letter);

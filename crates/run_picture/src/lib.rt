@@ -4,6 +4,8 @@
 
 mod acts;
 mod arms;
+mod cells;
+mod columns;
 mod counts;
 mod drives;
 mod letters;
@@ -15,6 +17,8 @@ mod run;
 
 pub use acts::Glance;
 pub use arms::{Arm, Path, join_paths};
+pub use cells::{Cell, Tally};
+pub use columns::{Column, Head, Window};
 pub use drives::{Change, Drive, Queue, Seen, Times, Trial};
 pub use letters::Letter;
 pub use marks::Mark;

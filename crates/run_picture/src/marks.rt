@@ -60,7 +60,7 @@ pub enum Mark {
 
 impl Mark {
     /// The place of a mark among all, from the lightest.
-    fn weight(self) -> u32
+    pub fn weight(self) -> u32
         ensures { result ≡ weight_of self }
     {
         match self {

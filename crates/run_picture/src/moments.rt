@@ -1,7 +1,7 @@
 //! What is seen of a run, one after another: the lines of the script as they are played, and the lines of the trace.
 
 ghost use Rattle.std.specs.Prelude.{◌≡◌};
-ghost use Rattle.run_picture.specs.Events.{line_of, begins, begins_at, begins_by, is_end_of_wait, adapter_of};
+ghost use Rattle.run_picture.specs.Events.{line_of, begins, begins_at, begins_by, is_end_of_wait, is_idle};
 
 use crate::drives::Change;
 use script_reader::statement::Request;
@@ -103,5 +103,15 @@ pub fn begins(before: Option<Moment>, moment: &Moment) -> bool
                 true
             }
         }
+    }
+}
+
+/// A moment finds nothing to do.
+pub fn is_idle(moment: &Moment) -> bool
+    ensures { result ≡ is_idle moment.now }
+{
+    match moment {
+        Moment::Idle { .. } => true,
+        _ => false,
     }
 }

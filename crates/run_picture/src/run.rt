@@ -1,14 +1,15 @@
 //! The fold: what is known of a run behind each moment.
 
 ghost use Rattle.std.specs.Prelude.{◌≡◌, ◌<◌, map, IfOk, OnOk, slice_set};
-ghost use Rattle.run_picture.specs.Fold.{new_known, declared, asked, met_at, place_in, told_at, told, heard, step, finished, request_at, changed_at, turned_behind, event_ended, events_in, IsHeard};
+ghost use Rattle.run_picture.specs.Fold.{new_known, declared, asked, met_at, place_in, told_at, told, heard, step, finished, request_at, changed_at, column_closed, column_with, window_begun, event_shown, event_counted_in, event_ended, turned_behind, turned, ended_behind, events_in, IsHeard};
 ghost use Rattle.run_picture.specs.Places.{place_of};
 ghost use Rattle.run_picture.specs.Requests.{left};
 
 use crate::acts::{Glance, act, admit, begin_events, count_events, frames_of, lend, submit};
+use crate::columns::{Column, Head, Window, clear_cells};
 use crate::counts::plus;
 use crate::drives::{Change, Drive};
-use crate::moments::{Moment, Play, begins, line_of};
+use crate::moments::{Moment, Play, begins, is_idle, line_of};
 use crate::places::Places;
 use crate::requests::Request;
 use pack_geometry::DriveKind;
@@ -28,6 +29,10 @@ pub struct Run {
     event: u64,
     before: Option<Moment>,
     glance: Glance,
+    window: Window,
+    head: Head,
+    start: [Drive; 32],
+    columns: Vec<Column>,
 }
 
 impl Model for Run {
@@ -43,6 +48,10 @@ impl Model for Run {
       event = r.event;
       before = r.before;
       glance = r.glance;
+      window = r.window;
+      head = r.head;
+      start = r.start;
+      columns = r.columns.items;
     } };
 }
 
@@ -75,9 +84,9 @@ fn leave_all(requests: &mut [Request], events: u64)
 }
 
 impl Run {
-    /// Before the first moment, with no drive declared.
-    pub fn new(alloc: Global) -> Run
-        ensures { result ≡ new_known }
+    /// Before the first moment, with no drive declared, and with the events that are shown.
+    pub fn new(alloc: Global, window: Window) -> Run
+        ensures { result ≡ new_known window }
     {
         Run {
             drives: [Drive::new(None); 32],
@@ -87,6 +96,10 @@ impl Run {
             event: 0,
             before: None,
             glance: Glance::new(),
+            window,
+            head: Head::new(),
+            start: [Drive::new(None); 32],
+            columns: Vec::new(alloc),
         }
     }
 
@@ -175,27 +188,94 @@ impl Run {
         self.drives[usize::from(unit)].change(change);
     }
 
-    /// An event ends at a line.
-    fn end_event(&mut self, line: u32)
-        ensures { self.new ≡ event_ended line self.old }
+    /// The column at hand is whole, or goes on.
+    fn close_column(&mut self, full: bool, head: Head) -> Result<(), AllocError>
+        ensures { OnOk result (self.new ≡ column_closed full head self.old) }
     {
-        self.glance.see(self.event, line, &self.drives);
+        if full {
+            self.columns.push(Column {
+                head,
+                drives: self.drives,
+            })?;
+            self.head = Head::new();
+            clear_cells(&mut self.drives);
+        } else {
+            self.head = head;
+        }
+        Ok(())
+    }
+
+    /// An event of the window is one more of its column.
+    fn add_to_column(&mut self, last: &Moment) -> Result<(), AllocError>
+        ensures { OnOk result (self.new ≡ column_with last.now self.old) }
+    {
+        let mut head = self.head;
+        head.add(line_of(last), is_idle(last), &self.drives);
+        let full = head.is_full(&self.window, self.event);
+        self.close_column(full, head)
+    }
+
+    /// The window begins.
+    fn begin_window(&mut self)
+        ensures { self.new ≡ window_begun self.old }
+    {
+        self.start = self.drives;
+        clear_cells(&mut self.drives);
+    }
+
+    /// An event is shown, if it is one of the window.
+    fn show_event(&mut self, last: &Moment) -> Result<(), AllocError>
+        ensures { OnOk result (self.new ≡ event_shown last.now self.old) }
+    {
+        if self.window.is_before(self.event) {
+            self.begin_window();
+            Ok(())
+        } else if self.window.is_inside(self.event) {
+            self.add_to_column(last)
+        } else {
+            Ok(())
+        }
+    }
+
+    /// An event is counted.
+    fn count_event(&mut self, last: &Moment)
+        ensures { self.new ≡ event_counted_in last.now self.old }
+    {
+        self.glance.see(self.event, line_of(last), &self.drives);
         count_events(&mut self.drives);
     }
 
+    /// An event ends, whose last moment is given.
+    fn end_event(&mut self, last: &Moment) -> Result<(), AllocError>
+        ensures { OnOk result (self.new ≡ event_ended last.now self.old) }
+    {
+        self.count_event(last);
+        self.show_event(last)
+    }
+
     /// The event at hand ends, and another begins.
-    fn turn(&mut self)
-        ensures { self.new ≡ turned_behind self.old.before self.old }
+    fn turn(&mut self) -> Result<(), AllocError>
+        ensures { OnOk result (self.new ≡ turned_behind self.old.before self.old) }
     {
         match self.before {
-            None => {}
+            None => Ok(()),
             Some(last) => {
-                let line = line_of(&last);
-                self.end_event(line);
+                self.end_event(&last)?;
                 begin_events(&mut self.drives);
-                let event = self.event;
-                self.event = plus(event, 1);
+                self.event = plus(self.event, 1);
+                Ok(())
             }
+        }
+    }
+
+    /// The event at hand ends where a moment begins another.
+    fn turn_for(&mut self, moment: &Moment) -> Result<(), AllocError>
+        ensures { OnOk result (self.new ≡ turned moment.now self.old) }
+    {
+        if begins(self.before, moment) {
+            self.turn()
+        } else {
+            Ok(())
         }
     }
 
@@ -235,26 +315,29 @@ impl Run {
         requires { IsHeard moment.now }
         ensures { OnOk result (self.new ≡ step self.old moment.now) }
     {
-        if begins(self.before, moment) {
-            self.turn();
-        }
+        self.turn_for(moment)?;
         self.before = Some(*moment);
         self.hear(moment)
     }
 
+    /// The last event ends.
+    fn end_last(&mut self) -> Result<(), AllocError>
+        ensures { OnOk result (self.new ≡ ended_behind self.old.before self.old) }
+    {
+        match self.before {
+            None => Ok(()),
+            Some(last) => self.end_event(&last),
+        }
+    }
+
     /// Behind the last moment.
-    pub fn finish(&mut self)
-        ensures { self.new ≡ finished self.old }
+    pub fn finish(&mut self) -> Result<(), AllocError>
+        ensures { OnOk result (self.new ≡ finished self.old) }
     {
         let events = self.events();
-        match self.before {
-            None => {}
-            Some(last) => {
-                let line = line_of(&last);
-                self.end_event(line);
-            }
-        }
+        self.end_last()?;
         leave_all(self.requests.as_mut_slice(), events);
+        Ok(())
     }
 
     /// How many events there were.
@@ -286,5 +369,19 @@ impl Run {
         ensures { result ≡ self.now.glance }
     {
         self.glance
+    }
+
+    /// The columns.
+    pub fn columns(&self) -> &[Column]
+        ensures { result.now ≡ self.now.columns }
+    {
+        self.columns.as_slice()
+    }
+
+    /// The drives before the first column.
+    pub fn start(&self) -> &[Drive; 32]
+        ensures { result.now ≡ self.now.start }
+    {
+        &self.start
     }
 }
