@@ -586,8 +586,14 @@ def write(names):
     put('proofs/Refused1.antt', '-- What a row that breaks one rule alone keeps: all others; docs/trace-rows/rows.py writes this.\n'
         + used(body, LIB_USES + 'use Rattle.std.proofs.Common.{refl}\n' + 'use Rattle.std.specs.Prelude.{◌≢◌, take}\n' + row_names(lambda n: [f'{n}_start', n])) + '\n' + body)
     answers = REFUSED_HEAD + f"use Rattle.trace_rows.proofs.Refused1.{{{', '.join(h[0] + '_alone' for h, _, _, _ in alone)}}}\n" + REFUSED_BURST
-    for h, _, _, _ in alone:
-        answers += f'\npub returns-clause-{h[0]} : goal.returns-clause-{h[0]}\nreturns-clause-{h[0]} c = record {{ broken = search arith; others = {h[0]}_alone }}\n'
+    told = set(re.findall(r'returns-clause-(\w+) c', REFUSED_BURST))
+    for head, _, _ in refused:
+        name = head[0]
+        if name not in told:
+            proof = f'record {{ broken = search arith; others = {name}_alone }}' if 'alone' in head else 'search arith'
+            answers += f'\npub returns-clause-{name} : goal.returns-clause-{name}\nreturns-clause-{name} c = {proof}\n'
+    for n, _ in unfinished:
+        answers += f'\npub returns-clause-{n}_unfinished : goal.returns-clause-{n}_unfinished\nreturns-clause-{n}_unfinished c = search arith\n'
     put('proofs/refusals_law/Answers.antt', answers)
     answers = 'use Rattle.std.proofs.Common.{refl}\nuse Rattle.std.specs.Fmt as fmt\nuse Rattle.trace_rows.proofs.text_law.Goals as goal\n'
     for n in texts:

@@ -1,5 +1,14 @@
 //! The answer text: the classes of noise, the answers of requests and the blocks that reads gave, as definitions over the
 //! moments of a run, and its lines as code writes them.
+//!
+//! Defined in `specs/`: the answer text of a run, over its moments: `out_text`.
+//!
+//! What is proved: `answer_line`, `noise_line` and what `BlockLine::write` and `FillLine::write` write are its lines.
+//! `text_laws`: the text of moments in a row is that of each in a row, and only answers and noise have any; a read's bytes are
+//! cut into blocks of 512 bytes, the last one perhaps short, in one way only, so that a read that gives such blocks has a line
+//! for each of them, one after another; the class that is said of noise is the one that `fire_code` gives it.
+//!
+//! Only tested, in `pack_rows`: worked values, beside their proofs.
 #![tactic(auto)]
 
 ghost use Rattle.answer_lines.specs.Laws.{TextsJoin, SilentSayNothing, BytesAreCut, OneWayToCut, BlocksAreSaid, BlocksFollow, ClassIsSaid};

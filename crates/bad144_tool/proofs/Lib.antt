@@ -2,5 +2,6 @@ pub mod AddLaws
 pub mod ChangeLaws
 pub mod EditLaws
 pub mod ListLaws
+pub mod MarkLaws
 pub mod TableEdits
 pub mod RefusalLaws

@@ -17,11 +17,11 @@ use Rattle.bad144_tool.proofs.EditLaws.{different_replacements, moves_same}
 use Rattle.pack_model.proofs.PackLaws.{block_at-with_block_other, length-block_at}
 
 -- one write, as it is seen in the unit's pack
-abbrev changed : Pack → Change → Pack
+abbrev pub changed : Pack → Change → Pack
 changed pack (Block block bytes) = written pack block bytes
 changed pack (Mark block) = with_mark_at true block pack
 
-abbrev all_changed : Pack → List Change → Pack
+abbrev pub all_changed : Pack → List Change → Pack
 all_changed pack [] = pack
 all_changed pack (change ∷ changes) = all_changed (changed pack change) changes
 
@@ -29,7 +29,7 @@ change_in_pack : (packs : ℕ → Pack) (unit : ℕ) (change : Change) → with_
 change_in_pack packs unit (Block block bytes) = grind (arith, nat_tests)
 change_in_pack packs unit (Mark block) = grind (arith, nat_tests)
 
-changes_in_pack : (packs : ℕ → Pack) (unit : ℕ) (changes : List Change) → with_changes packs unit changes unit ≡ all_changed (packs unit) changes
+pub changes_in_pack : (packs : ℕ → Pack) (unit : ℕ) (changes : List Change) → with_changes packs unit changes unit ≡ all_changed (packs unit) changes
 changes_in_pack packs unit [] = refl
 changes_in_pack packs unit (change ∷ changes) =
     changes_in_pack (with_change packs unit change) unit changes ∙ ap (λ (pack : Pack). all_changed pack changes) (change_in_pack packs unit change)

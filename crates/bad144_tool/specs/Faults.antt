@@ -8,6 +8,7 @@ use Rattle.bad144_table.specs.declared.table.InsertFault.TheVariants as insert_f
 use Rattle.bad144_tool.specs.declared.fault.ToolFault.{ToolFault}
 use Rattle.bad144_tool.specs.declared.fault.ToolFault.TheVariants.{NoTable, Reserved, Listed, Full, Spare, TooLong, Store, Sink}
 use Rattle.bad144_tool.specs.Adding.{IsTooLong, HasNone, IsReserved, IsListed, IsFull, IsSpare, IsStopped}
+use Rattle.bad144_tool.specs.Marking.{IsMarkingStopped}
 use Rattle.bad144_tool.specs.declared.edit.AddWay.{AddWay}
 
 abbrev pub from_insert : InsertFault → ToolFault
@@ -47,6 +48,17 @@ IsAddFault kind (Listed i) = Unit {0}
 IsAddFault kind Full = Unit {0}
 IsAddFault kind (Spare j) = Unit {0}
 
+-- the faults that `mark` has, over all packs
+abbrev pub IsMarkFault : DriveKind → ToolFault → Type 0
+IsMarkFault kind (TooLong n) = 512 * block_count kind < n
+IsMarkFault kind NoTable = Unit {0}
+IsMarkFault kind Store = Unit {0}
+IsMarkFault kind Sink = ⊥
+IsMarkFault kind Reserved = ⊥
+IsMarkFault kind (Listed i) = ⊥
+IsMarkFault kind Full = ⊥
+IsMarkFault kind (Spare j) = ⊥
+
 abbrev pub IsSpareFault : ToolFault → Type 0
 IsSpareFault (Spare j) = Unit {0}
 IsSpareFault Store = Unit {0}
@@ -78,6 +90,17 @@ Leaves kind unit block way old new (Listed i) = new ≡ old
 Leaves kind unit block way old new Full = new ≡ old
 Leaves kind unit block way old new (Spare j) = new ≡ old
 Leaves kind unit block way old new Sink = new ≡ old
+
+-- what `mark` leaves where it answers a fault: a refusal changes nothing
+abbrev pub LeavesMarks : DriveKind → ℕ → (ℕ → Pack) → (ℕ → Pack) → ToolFault → Type 0
+LeavesMarks kind unit old new Store = IsMarkingStopped kind unit old new
+LeavesMarks kind unit old new (TooLong n) = new ≡ old
+LeavesMarks kind unit old new NoTable = new ≡ old
+LeavesMarks kind unit old new Reserved = new ≡ old
+LeavesMarks kind unit old new (Listed i) = new ≡ old
+LeavesMarks kind unit old new Full = new ≡ old
+LeavesMarks kind unit old new (Spare j) = new ≡ old
+LeavesMarks kind unit old new Sink = new ≡ old
 
 -- a refusal, which is no failure of the packs or of the sink
 abbrev pub IsRefusal : ToolFault → Type 0

@@ -133,7 +133,13 @@ pub(crate) fn write_copies<P: Packs>(
     write_to_all(packs, unit, kind, &bytes)
 }
 
-fn write_mark<P: Packs>(packs: &mut P, unit: u8, block: u32, mark: bool) -> Result<(), StoreFailed>
+/// Marks a block, where that is asked for.
+pub(crate) fn write_mark<P: Packs>(
+    packs: &mut P,
+    unit: u8,
+    block: u32,
+    mark: bool,
+) -> Result<(), StoreFailed>
     requires { unit < 32 }
     ensures { DoesAll P.tells P.held P.faults unit packs.old packs.new result (marking mark block) }
 {

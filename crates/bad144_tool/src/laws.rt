@@ -6,6 +6,7 @@ ghost use Rattle.pack_model.specs.TableEdit.{IsAddedAt, IsEdited};
 ghost use Rattle.pack_model.specs.TableSpelling.{Table};
 ghost use Rattle.bad144_tool.specs.Adding.{Adds, MayList, edit_of};
 ghost use Rattle.bad144_tool.specs.Faults.{IsRefusal, IsWhy};
+ghost use Rattle.bad144_tool.specs.Marking.{IsMarkedUp, Marks};
 ghost use Rattle.bad144_tool.specs.declared.fault.ToolFault.{ToolFault};
 ghost use Rattle.bad144_tool.specs.declared.edit.AddWay.{AddWay};
 
@@ -34,4 +35,16 @@ pub fn refusal_law()
         → block < block_count kind → IsRefusal f → IsWhy kind pack block f → ¬ (MayList kind pack block i old new) }
     ensures one_index { (kind : DriveKind) → (pack : Pack) → (block i j : ℕ) → (old new other other_new : Table)
         → block < block_count kind → MayList kind pack block i old new → MayList kind pack block j other other_new → i ≡ j }
+{}
+
+/// The law of marking: where the blocks that a pack's table lists were marked, no byte changed; the marks are those that
+/// there were and those of the listed data blocks; the table is the pack's still. What is read of a listed data block is
+/// what its replacement holds, and every other block keeps its content. Every other unit's pack is as before. Marking a
+/// second time finds nothing to mark, and leaves all as it is.
+pub fn mark_law()
+    ensures up { (kind : DriveKind) → (unit count : ℕ) → (old new : ℕ → Pack) → (m : Marks kind unit old new count)
+        → IsMarkedUp kind (old unit) (new unit) m.table }
+    ensures elsewhere { (kind : DriveKind) → (unit count other : ℕ) → (old new : ℕ → Pack) → Marks kind unit old new count → other ≢ unit → new other ≡ old other }
+    ensures again { (kind : DriveKind) → (unit count more : ℕ) → (old new newer : ℕ → Pack) → Marks kind unit old new count → Marks kind unit new newer more
+        → (more ≡ 0) × (newer ≡ new) }
 {}

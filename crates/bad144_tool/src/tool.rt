@@ -6,7 +6,7 @@ ghost use Rattle.outside_traits.specs.Puts.{Puts};
 ghost use Rattle.bad144_tool.specs.Adding.{Adds, AreFree, Fits, HasTable, IsFirstMarked, MayList};
 ghost use Rattle.bad144_tool.specs.Changes.{IsCutShort, with_changes};
 ghost use Rattle.bad144_tool.specs.Edit.{copies};
-ghost use Rattle.bad144_tool.specs.Faults.{IsAddFault, IsFreshFault, IsListFault, IsSpareFault, IsWhy, Leaves};
+ghost use Rattle.bad144_tool.specs.Faults.{IsAddFault, IsFreshFault, IsListFault, IsMarkFault, IsSpareFault, IsWhy, Leaves};
 ghost use Rattle.bad144_tool.specs.Texts.{Lists, ListsFront, entry_lines, list_text, table_line as the_line};
 
 use crate::edit::{AddWay, write_copies, write_edit};
@@ -43,7 +43,7 @@ struct Plan {
 }
 
 /// The table of a unit's pack, which is no longer than it may be.
-fn table_that_fits<P: Packs>(
+pub(crate) fn table_that_fits<P: Packs>(
     packs: &mut P,
     unit: u8,
     kind: DriveKind,
@@ -54,6 +54,7 @@ fn table_that_fits<P: Packs>(
     ensures drive { IfOk result (λ table. table.kind ≡ kind) }
     ensures table { IfOk result (λ table. IsTrue (P.tells packs.new) → HasTable kind (P.held packs.old unit) table) }
     ensures faults { IfErr result (IsAddFault kind) }
+    ensures only { IfErr result (IsMarkFault kind) }
     ensures why { (block : ℕ) → IfErr result (λ fault. IsTrue (P.tells packs.new) → IsWhy kind (P.held packs.old unit) block fault) }
     ensures later { P.faults packs.old ≤ P.faults packs.new }
     ensures store { IsErrOf result ToolFault.Store → Rose (P.faults packs.old) (P.faults packs.new) }
@@ -179,7 +180,8 @@ pub fn fresh<P: Packs>(
     Ok(())
 }
 
-fn number(kind: DriveKind, place: Place) -> u32
+/// The number of the block at a place of the drive.
+pub(crate) fn number(kind: DriveKind, place: Place) -> u32
     requires { IsInside kind place }
     ensures { result ≡ block_number kind place }
 {

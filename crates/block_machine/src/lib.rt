@@ -1,6 +1,15 @@
 //! Which answers to a script are legal: a machine of blocks that knows of no drive, queue or replacement, in which a request
 //! changes whole at its answer. And that the answers of each legal trace are legal by it, and its packs hold the machine's last
 //! map. The definitions stand in `specs/`; the functions here do nothing: each stands for a law.
+//!
+//! Defined in `specs/`: which answers to a script are legal, by a machine of contents and outstanding requests that knows of no
+//! drive or queue.
+//!
+//! What is proved: `step_law`: each moment of a legal trace is a step of the machine that its state stands for. `answers_law`:
+//! the answers of each legal run are legal, and the packs hold the last map; where alias noise is armed, the bytes of the reads
+//! that it may strike are not claimed. `last_write_law`: each read gives what the writes that were answered before it left, or
+//! what the packs held first. `packs_law`: every other sector, mark and pack is as at first. `once_law`: each id is answered
+//! once. `refusals_law`: a request is refused directly after the line that submits it, where it meets that refusal.
 #![tactic(auto)]
 
 ghost use Rattle.block_machine.specs.Laws.{StartIsReached, EachMomentReaches, StartStands, EachMomentSteps, EachLineSteps, EachBeginningStands, AnswersAreLegal, AllAnswersAreLegal, LeadsToOneMap, WritesArePassedOn, AllWritesArePassedOn, PacksStay, EachIsAnsweredOnce};

@@ -1,5 +1,12 @@
-// The sorted queue of a unit: the arm sweeps from low cylinders to high ones, then begins again. It is kept in buckets
-// of cylinders, so that one that joins or leaves costs the same however many wait.
+//! The sorted queue of a unit: the arm sweeps from low cylinders to high ones, then begins again. It is kept in buckets of
+//! cylinders, so that one that joins or leaves costs the same however many wait.
+//!
+//! What is proved: `SortQueue` is seen as the list of waiters in the service order, a sort of the whole list by sweep, cylinder
+//! and order of joining; `insert`, `head`, `take_head`, `nth` and `len` are exact. Its two runs lie in buckets by cylinder, and
+//! the invariant says that these spell the list. `service_order_law`: for every sequence of joins and leaves the queue is that
+//! sort, it is two ascending runs, and none stands anywhere in front of one that is served before it.
+//!
+//! Only tested, in `drive_rows`: worked values, beside their proofs.
 #![tactic(auto)]
 
 ghost use Rattle.std.specs.Prelude.{◌≡◌, ◌≢◌, ◌<◌, ◌≤◌, ◌⊎◌, ℕ, false, IsTrue, List, [], ◌∷◌, length, drop, All, IfOk, IsPermutation, slice_get};

@@ -1,5 +1,10 @@
-//! The words of a drive's registers, after the register lists of the RP06, RM03 and RM05 manuals: the codes of
-//! functions and offsets, and the bits of the status, error and offset registers.
+//! The words of a drive's registers, after the register lists of the RP06, RM03 and RM05 manuals: the codes of functions and
+//! offsets, and the bits of the status, error and offset registers.
+//!
+//! What is proved: `function_of` and `code_of` are inverse on the twelve codes; the bits of `Ds`, `Er1`, `Er2` and `Of`;
+//! `offset_word` by the table.
+//!
+//! Only tested, in `drive_rows`: worked values, beside their proofs.
 #![tactic(auto)]
 
 ghost use Rattle.std.specs.Prelude.{◌≡◌, ◌≢◌, ◌<◌, ◌↔◌, IfSome, IsNone, Some};

@@ -1,5 +1,14 @@
-//! The answers that wait in the driver are those of the end lines that its acts told, and the ids of the requests that stand in it
-//! are among those that were asked for. The functions here do nothing: each stands for a law.
+//! The answers that wait in the driver are those of the end lines that its acts told, and the ids of the requests that stand in
+//! it are among those that were asked for. The functions here do nothing: each stands for a law.
+//!
+//! Defined in `specs/`: an answer that waits, as a trace tells it (`told_by`, `waiting`), and the ids of the requests in slots
+//! (`AreOf`).
+//!
+//! What is proved: `act_law`: an act that takes no answer leaves those that waited, and after them just the answers of its
+//! lines, with their ids and the bytes of their blocks; so do runs. `taken_law`: the taking takes the first one, and the others
+//! wait as they did. `calls_law`: no event and no submission takes an answer; so after a submission, and after an event before
+//! which none waited, just the answers of its lines wait. `ids_law`: from the start on each request in a slot has an id that
+//! was submitted.
 #![tactic(auto)]
 
 ghost use Rattle.driver_answers.specs.Ids.{StartsOfNone, ActsAdd, RunsAdd, EventsAddNone, SubmissionsAdd, TakingAddsNone, NoOthers, OthersAreFresh};

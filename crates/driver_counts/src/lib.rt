@@ -1,6 +1,14 @@
 //! How many requests, noises and faults the driver's machine comes to have: each call adds at most what its line of the script
 //! brings, so a player that counts the lines knows that there is room for the next one. The functions here do nothing: each
 //! stands for a law.
+//!
+//! Defined in `specs/`: how many slots have a request, how much noise was armed and in how many lines faults were (`IsWithin`),
+//! and what each act and each input brings of them.
+//!
+//! What is proved: `counts_law`: from none at the start on, each act, run, event, submission and taking of an answer adds at
+//! most what it brings. `stays_law`: how much noise may be armed stays, and of each unit whether it is set up, its table and
+//! the kind of its drive. `free_law`: where fewer slots have a request than there are, one is free. `none_waits_law`: where the
+//! invariant holds and no answer waits, no request in a slot has ended, and the frames in use are those of all slots.
 #![tactic(auto)]
 
 ghost use Rattle.driver_counts.specs.Laws.{StartsWithNone, StartsWithRoom, MoreIsWithin, ActsAdd, RunsAdd, EventsAdd, SubmissionsAdd, TakingsAdd, CapacityStays, SetupsStay, FreeWhereRoom, FullWhereTaken, NoneEnded, AllLentAreNeeded};

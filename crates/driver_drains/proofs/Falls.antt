@@ -1,34 +1,38 @@
 -- How many event lines are left falls with each event of a drain.
-use Rattle.std.proofs.Common.{◌≡◌, inr, ℕ, ◌+◌, ◌*◌, ◌≤◌, ◌<◌, true, List, [], ◌∷◌, ◌++◌, Option, refl, sym, ap, subst, arith, append_assoc}
+use Rattle.std.proofs.Common.{◌≡◌, ℕ, ◌+◌, ◌*◌, ◌≤◌, ◌<◌, Bool, true, List, [], ◌∷◌, ◌++◌, Option, Some, refl, sym, ap, subst, arith, append_assoc}
 use Rattle.pack_geometry.specs.declared.DriveKind.{DriveKind}
+use Rattle.pack_model.specs.Pack.{Pack}
 use Rattle.pack_model.specs.TableSpelling.{Table}
 use Rattle.trace_replay.specs.Moments.{Moment, Played, Told, Idle}
 use Rattle.trace_replay.specs.Script as script
 use Rattle.trace_replay.specs.Script.{Input}
 use Rattle.trace_replay.specs.Packs.{Surface}
-use Rattle.trace_replay.specs.Replay.{Replay, MayCome, Follows, new_replay, after_moment, after_moments}
+use Rattle.trace_replay.specs.Replay.{Replay, MayCome, Follows, WorkMay, new_replay, after_moment, after_moments}
 use Rattle.trace_replay.proofs.Following.{follow_on}
 use Rattle.trace_bounds.specs.Measure.{events_left, blocks_outstanding}
-use Rattle.trace_bounds.specs.Drains.{event_by, events_in}
+use Rattle.trace_bounds.specs.Drains.{event_by, events_in, IsIdle}
+use Rattle.trace_bounds.proofs.Idle.{starts_idle}
 use Rattle.trace_bounds.proofs.Drain.{events_are_few, drains_are_bounded}
 use Rattle.trace_bounds.proofs.Tells.{events_tell, drains_tell}
-use Rattle.trace_work.proofs.Conserved.{is_conserved}
+use Rattle.trace_work.specs.Consistent.{IsConsistent}
+use Rattle.trace_work.proofs.Consistency.{moments_consistent, starts_consistent}
 use Rattle.driver_machine.specs.World.{World}
-use Rattle.driver_machine.specs.Acts.{Act}
+use Rattle.driver_machine.specs.Acts.{Act, Tried}
 use Rattle.driver_machine.specs.Lines.{lines_of_all}
-use Rattle.driver_machine.specs.Events.{event_acts}
+use Rattle.driver_machine.specs.Events.{event_acts, next_event}
 use Rattle.driver_work.specs.Runs.{Works}
 use Rattle.driver_work.specs.Runs as work
 use Rattle.driver_work.proofs.Calls.{event_works}
 use Rattle.driver_work.proofs.Next.{next_can}
 use Rattle.driver_invariant.proofs.Sound.{sound_after}
-use Rattle.driver_trace.specs.Runs.{with_call}
+use Rattle.driver_trace.specs.Runs.{IsDraining, with_call}
+use Rattle.driver_trace.specs.Calls.{IsTold, IsTriedOn, IsReadOf}
 use Rattle.driver_trace.proofs.Inputted.{lines_play_nothing}
 use Rattle.driver_trace.proofs.ReadSectors.{tried_on}
-use Rattle.driver_trace.proofs.Drains.{GoesOn, drain_goes_on, drain_between, drain_begins}
-use Rattle.driver_trace.proofs.Runs.{moments_append}
-use Rattle.driver_trace.proofs.Calls.{drains_start, drains_go_on}
-use Rattle.driver_drains.specs.Drains.{Falls, AreAsked, FirstEventsFall, DrainsFall, DrainsKeep}
+use Rattle.driver_trace.proofs.Drains.{GoesOn, event_goes, drain_goes_on, drain_between, drain_begins}
+use Rattle.driver_trace.proofs.Runs.{moments_append, follows_append}
+use Rattle.driver_trace.proofs.Calls.{drains_start}
+use Rattle.driver_drains.specs.Drains.{CanStart, ScriptsCanStart, Falls, AreAsked, FirstEventsFall, DrainsFall, DrainsFallFrom, DrainsKeep}
 use Rattle.driver_drains.proofs.Asked.{drain_asked}
 use Rattle.driver_drains.proofs.Telling.{something_told, some_outstanding}
 
@@ -41,45 +45,52 @@ one_counted (Told line unit id deed) ms is = more (event_by deed) (events_in ms)
 one_counted (Played line input) ms is = absurd (grind (arith, is))
 one_counted (Idle line) ms is = absurd (grind (arith, is))
 
-some_counted : (s : Replay) (ms : List Moment) → (ms ≡ [] → ⊥) → Follows s ms → ((m : Moment) → MayCome s m → events_in (m ∷ []) ≡ 1) → 1 ≤ events_in ms
-some_counted s [] some follows tells = absurd (some refl)
-some_counted s (m ∷ ms) some follows tells = one_counted m ms (tells m follows.0)
+pub some_told : (s : Replay) (ms : List Moment) → (ms ≡ [] → ⊥) → Follows s ms → ((m : Moment) → MayCome s m → events_in (m ∷ []) ≡ 1) → 1 ≤ events_in ms
+some_told s [] some follows tells = absurd (some refl)
+some_told s (m ∷ ms) some follows tells = one_counted m ms (tells m follows.0)
 
 fewer_by : (n before after : ℕ) → 1 ≤ n → n + after ≤ before → after < before
 fewer_by n before after some bounded = omega (arith, some, bounded)
 
-module _ (drives : ℕ → Option DriveKind) (tables : ℕ → Option Table) (surface : Surface) where
-  -- FROM SOME MOMENTS to the lines of one more event
-  fall_from : (ms : List Moment) (w : World) (acts : List Act) → AreAsked (new_replay drives tables surface).there ms
-      → Follows (new_replay drives tables surface) (ms ++ lines_of_all w acts) → (lines_of_all w acts ≡ [] → ⊥)
-      → ((m : Moment) → MayCome (after_moments (new_replay drives tables surface) ms) m → events_in (m ∷ []) ≡ 1)
-      → Falls (after_moments (new_replay drives tables surface) ms) (after_moments (new_replay drives tables surface) (ms ++ lines_of_all w acts))
-  fall_from ms w acts asked follows some tells =
-      let parts : Follows (new_replay drives tables surface) ms × Follows (after_moments (new_replay drives tables surface) ms) (lines_of_all w acts) =
-      (follow_on (new_replay drives tables surface) ms (lines_of_all w acts)).0 follows in
-      let bounded : events_in (lines_of_all w acts) + events_left (after_moments (after_moments (new_replay drives tables surface) ms) (lines_of_all w acts))
-      ≤ events_left (after_moments (new_replay drives tables surface) ms) =
-      (drains_are_bounded drives tables surface ms (lines_of_all w acts) asked.some asked.units follows (lines_play_nothing [] w acts)).0 in
-      subst (Falls (after_moments (new_replay drives tables surface) ms)) (sym (moments_append (new_replay drives tables surface) ms (lines_of_all w acts)))
-      (record {
-        fewer = fewer_by (events_in (lines_of_all w acts)) (events_left (after_moments (new_replay drives tables surface) ms))
-            (events_left (after_moments (after_moments (new_replay drives tables surface) ms) (lines_of_all w acts)))
-            (some_counted (after_moments (new_replay drives tables surface) ms) (lines_of_all w acts) some parts.1 tells) bounded;
-        few = events_are_few drives tables surface ms asked.some parts.0;
-      })
+-- FROM SOME MOMENTS to the lines of one more event
+fall_from : (start : Replay) (ms : List Moment) (w : World) (acts : List Act) → IsIdle start → AreAsked start.there ms
+    → Follows start (ms ++ lines_of_all w acts) → (lines_of_all w acts ≡ [] → ⊥)
+    → ((m : Moment) → MayCome (after_moments start ms) m → events_in (m ∷ []) ≡ 1)
+    → Falls (after_moments start ms) (after_moments start (ms ++ lines_of_all w acts))
+fall_from start ms w acts idle asked follows some tells =
+    let parts : Follows start ms × Follows (after_moments start ms) (lines_of_all w acts) = (follow_on start ms (lines_of_all w acts)).0 follows in
+    let bounded : events_in (lines_of_all w acts) + events_left (after_moments (after_moments start ms) (lines_of_all w acts)) ≤ events_left (after_moments start ms) =
+    (drains_are_bounded start ms (lines_of_all w acts) idle asked.some asked.units follows (lines_play_nothing [] w acts)).0 in
+    subst (Falls (after_moments start ms)) (sym (moments_append start ms (lines_of_all w acts)))
+    (record {
+      fewer = fewer_by (events_in (lines_of_all w acts)) (events_left (after_moments start ms)) (events_left (after_moments (after_moments start ms) (lines_of_all w acts)))
+          (some_told (after_moments start ms) (lines_of_all w acts) some parts.1 tells) bounded;
+      few = events_are_few start ms idle asked.some parts.0;
+    })
 
+pub scripts_can_start : ScriptsCanStart
+scripts_can_start drives tables surface = record { idle = starts_idle drives tables surface; consistent = starts_consistent drives tables surface }
+
+pub falls_from : DrainsFallFrom
+falls_from start line input tried moments held w can asked far is may on =
+    let s : Replay = after_moments start moments in
+    let acts : List Act = event_acts line input tried w in
+    let works : Works w acts = event_works sound_after line input tried w far.ends.over.rests.sound far.work may in
+    let between : s.event.between ≡ true = drain_between line input held w s far.ends far.work is in
+    let consistent : IsConsistent s = moments_consistent start moments far.follows can.consistent in
+    let goes : GoesOn line input held w s =
+    drain_goes_on line input held w s far.ends far.work far.there is (subst (λ (b : Bool). WorkMay b s) between consistent.event.at_work) in
+    let next : work.CanCome w input = next_can w input goes.rests.sound is in
+    let tried_so : IsTriedOn w s input tried = tried_on input tried held w s goes.rests.shows goes.packs on in
+    let told : IsTold line true held w s acts = event_goes line true input tried held w s next goes.rests goes.packs tried_so works.run in
+    fall_from start moments w acts can.idle asked (follows_append start moments (lines_of_all w acts) far.follows told.follows)
+    (something_told line true input tried held w s next goes.rests goes.packs tried_so works.run)
+    (λ m. λ comes. events_tell start moments m can.idle far.follows between comes)
+
+-- so it is from the start of a script
 pub drains_fall : DrainsFall
 drains_fall drives tables surface line input tried moments held w asked far is may on =
-    let s : Replay = after_moments (new_replay drives tables surface) moments in
-    let works : Works w (event_acts line input tried w) = event_works sound_after line input tried w far.ends.over.rests.sound far.work may in
-    let between : s.event.between ≡ true = drain_between line input held w s far.ends far.work is in
-    let goes : GoesOn line input held w s =
-    drain_goes_on line input held w s far.ends far.work far.there is (is_conserved drives tables surface moments far.follows (inr between)) in
-    fall_from drives tables surface moments w (event_acts line input tried w) asked
-    (drains_go_on drives tables surface line input tried moments held w far is may on).follows
-    (something_told line true input tried held w s (next_can w input goes.rests.sound is) goes.rests goes.packs
-    (tried_on input tried held w s goes.rests.shows goes.packs on) works.run)
-    (λ m. λ comes. events_tell drives tables surface moments m far.follows between comes)
+    falls_from (new_replay drives tables surface) line input tried moments held w (scripts_can_start drives tables surface) asked far is may on
 
 pub drains_keep : DrainsKeep
 drains_keep start moments next = (
@@ -112,12 +123,12 @@ first_events_fall drives tables surface line next input tried moments held w ask
     moments_append (new_replay drives tables surface) moments (Played next script.Drain ∷ []) in
     let falls : Falls (after_moments (new_replay drives tables surface) (moments ++ Played next script.Drain ∷ []))
     (after_moments (new_replay drives tables surface) ((moments ++ Played next script.Drain ∷ []) ++ lines_of_all w acts)) =
-    fall_from drives tables surface (moments ++ Played next script.Drain ∷ []) w acts
+    fall_from (new_replay drives tables surface) (moments ++ Played next script.Drain ∷ []) w acts (starts_idle drives tables surface)
     (drain_asked (new_replay drives tables surface).there moments next asked)
     (subst (Follows (new_replay drives tables surface)) behind whole)
     (something_told next true input tried held w (after_moment s (Played next script.Drain)) can goes.rests goes.packs
     (tried_on input tried held w (after_moment s (Played next script.Drain)) goes.rests.shows goes.packs on) works.run)
-    (λ m. λ comes. drains_tell drives tables surface moments next m far.follows line_may
+    (λ m. λ comes. drains_tell (new_replay drives tables surface) moments next m (starts_idle drives tables surface) far.follows line_may
     (some_outstanding s.outstanding _ input w (after_moment s (Played next script.Drain)) can goes.rests.event.act_is)
     (subst (λ (r : Replay). MayCome r m) at comes)) in
     before_line s (after_moments (new_replay drives tables surface) (moments ++ Played next script.Drain ∷ []))

@@ -10,7 +10,8 @@ use Rattle.trace_replay.specs.Script.{Input}
 use Rattle.trace_replay.specs.Packs.{Surface}
 use Rattle.trace_replay.specs.Replay.{Replay, new_replay, after_moments}
 use Rattle.trace_bounds.specs.Measure.{events_left, blocks_outstanding}
-use Rattle.trace_bounds.specs.Drains.{IsOf, AreOf}
+use Rattle.trace_bounds.specs.Drains.{IsIdle, IsOf, AreOf}
+use Rattle.trace_work.specs.Consistent.{IsConsistent}
 use Rattle.driver_machine.specs.World.{World}
 use Rattle.driver_machine.specs.Acts.{Act, Tried}
 use Rattle.driver_machine.specs.Lines.{lines_of_all}
@@ -23,6 +24,14 @@ use Rattle.driver_trace.specs.Runs.{IsSoFar, IsDraining, with_call}
 pub record Falls (before after : Replay) : Type 0 where
   pub fewer : events_left after < events_left before
   pub few : events_left before ≤ 200 * blocks_outstanding before
+
+-- A START from which a drain can be counted: an idle replay whose parts agree, as the start of a script is one
+pub record CanStart (start : Replay) : Type 0 where
+  pub idle : IsIdle start
+  pub consistent : IsConsistent start
+
+abbrev pub ScriptsCanStart : Type 0
+ScriptsCanStart = (drives : ℕ → Option DriveKind) (tables : ℕ → Option Table) (surface : Surface) → CanStart (new_replay drives tables surface)
 
 -- the moments ask for some blocks each time, of units that are there
 pub record AreAsked (there : List ℕ) (moments : List Moment) : Type 0 where
@@ -38,7 +47,7 @@ FirstEventsFall = (drives : ℕ → Option DriveKind) (tables : ℕ → Option T
     → Falls (after_moments (new_replay drives tables surface) moments)
     (after_moments (new_replay drives tables surface) (with_call moments next script.Drain w (event_acts next input tried w)))
 
--- and so does each later one.
+-- and so does each later one;
 abbrev pub DrainsFall : Type 0
 DrainsFall = (drives : ℕ → Option DriveKind) (tables : ℕ → Option Table) (surface : Surface) (line : ℕ) (input : Input) (tried : Tried)
     (moments : List Moment) (held : ℕ → Pack) (w : World) → AreAsked (new_replay drives tables surface).there moments
@@ -46,6 +55,13 @@ DrainsFall = (drives : ℕ → Option DriveKind) (tables : ℕ → Option Table)
     → IsReadOf w held input tried
     → Falls (after_moments (new_replay drives tables surface) moments)
     (after_moments (new_replay drives tables surface) (moments ++ lines_of_all w (event_acts line input tried w)))
+
+-- it does so from any start.
+abbrev pub DrainsFallFrom : Type 0
+DrainsFallFrom = (start : Replay) (line : ℕ) (input : Input) (tried : Tried) (moments : List Moment) (held : ℕ → Pack) (w : World) → CanStart start
+    → AreAsked start.there moments → IsDraining start line moments held w → next_event w ≡ Some input → MayCome w input tried
+    → IsReadOf w held input tried
+    → Falls (after_moments start moments) (after_moments start (moments ++ lines_of_all w (event_acts line input tried w)))
 
 -- THE LINE OF THE SCRIPT that drains leaves as many, and as many blocks outstanding.
 abbrev pub DrainsKeep : Type 0

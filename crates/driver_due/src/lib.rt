@@ -1,4 +1,7 @@
 //! What is due in the driver's machine, and what a deed leaves alone. The functions here do nothing: each stands for a law.
+//!
+//! What is proved: `due_law`: what is known where a deed is due, and that what is due is done until nothing is. `frame_law`:
+//! what a deed leaves alone.
 #![tactic(auto)]
 
 ghost use Rattle.std.specs.Prelude.{◌≡◌, ◌≢◌, ℕ, ◌<◌, [], length, Some};

@@ -1,5 +1,8 @@
-//! The driver's invariant whole: it holds at the start (`driver_slots::start_law`), each act keeps it, and each call of the driver runs
-//! and leaves no work undone. The functions here do nothing: each stands for a law.
+//! The driver's invariant whole: it holds at the start (`driver_slots::start_law`), each act keeps it, and each call of the
+//! driver runs and leaves no work undone. The functions here do nothing: each stands for a law.
+//!
+//! What is proved: `invariant_law`: each act keeps the invariant whole. `calls_law`: each submission, event and taking of an
+//! answer runs from a sound driver at work, and leaves one.
 #![tactic(auto)]
 
 ghost use Rattle.driver_invariant.specs.Kept.{EachActKeeps, RunsKeep, SubmissionsWork, EventsWork, TakingWorks, StartsRun, StartsEnd};

@@ -192,7 +192,8 @@ pub record UnitOk (w : World) (u : ℕ) (v : UnitView) : Type 0 where
   pub table : (table : Table) → v.table ≡ Some table → IsTableFor v.drive.kind table
   pub undeclared : v.declared ≡ false → v.queue ≡ []
 
--- THE ADAPTER. Where it is busy, it has the buffer of the request in hand of a transferring unit, and moves its segment.
+-- THE ADAPTER names one of its eight drives, busy or free. Where it is busy, it has the buffer of the request in hand of a transferring unit,
+-- and moves its segment.
 pub record Transfers (w : World) (u : ℕ) (h : Held) (a : AdapterState) : Type 0 where
   pub phase : (unit_at w u).phase ≡ Transferring
   pub slot : slot_at w (slot_in_hand (unit_at w u)) ≡ Some h
@@ -205,7 +206,7 @@ pub record Transfers (w : World) (u : ℕ) (h : Held) (a : AdapterState) : Type 
 
 pub record AdapterOk (w : World) (a : ℕ) (v : AdapterView) : Type 0 where
   pub state : IsAdapter v.state
-  pub drive : v.state.busy ≡ true → v.state.drive < 8
+  pub drive : v.state.drive < 8
   pub busy : v.state.busy ≡ true → (h : Held) × Transfers w (unit_on a v.state.drive) h v.state
   pub rest : v.state.busy ≡ false → v.state.completion ≡ false
   pub waits : (u : ℕ) → Among u v.queue → (u < 32) × (adapter_of u ≡ a) × ((unit_at w u).phase ≡ Queued)

@@ -1,5 +1,8 @@
 //! What the driver does, act by act: a machine of acts for the whole driver. What comes next at a unit inside an event is one
 //! function, which is also the guard of what may come. The definitions stand in `specs/`; their laws, in crates above.
+//!
+//! Defined in `specs/`: what stands between two acts; what comes next at a unit, as one function, which is also the guard; what
+//! each deed leaves; the acts of each event; the lines that they tell; the invariant.
 #![tactic(auto)]
 
 ghost use Rattle.std.specs.Prelude.{◌≡◌};

@@ -1,5 +1,9 @@
-//! Worked rows of the driver's machine: what it does with a script is just the row's trace, with the answers and their bytes, and
-//! its invariant is met behind each act. The rows are those of `trace_rows`.
+//! Worked rows of the driver's machine: what it does with a script is just the row's trace, with the answers and their bytes,
+//! and its invariant is met behind each act. The rows are those of `trace_rows`.
+//!
+//! What is proved: The scripts of 37 worked traces, played through that machine, give just these traces with the answers and
+//! their bytes, and the invariant is met after each act, by computation (noise that imitates a right sector is left to
+//! `trace_rows`).
 #![tactic(auto)]
 
 ghost use Rattle.trace_rows.specs.Rows1.{answers_in_service_order_script, answers_in_service_order_start, answers_in_service_order, attentions_together_script, attentions_together_start, attentions_together, burst_across_two_frames_script, burst_across_two_frames_start, burst_across_two_frames, burst_beyond_the_end_script, burst_beyond_the_end_start, burst_beyond_the_end, each_fault_script, each_fault_start, each_fault, empty_script_script, empty_script_start, empty_script, first_read_script, first_read_start, first_read, forwarded_between_other_units_script, forwarded_between_other_units_start, forwarded_between_other_units, forwarded_read_script, forwarded_read_start, forwarded_read};

@@ -1,5 +1,10 @@
-//! What a call of the driver comes to, whether it ends or a call outside fails in it. The functions here do nothing: each stands
-//! for a law.
+//! What a call of the driver comes to, whether it ends or a call outside fails in it. The functions here do nothing: each
+//! stands for a law.
+//!
+//! Defined in `specs/`: what a call comes to: its acts with their whole text; or the first ones with a front of their text,
+//! where the trace failed; or some acts, where the packs failed, with the next block of one write old or new.
+//!
+//! What is proved: `outcome_law`: outcomes of calls one after the other join.
 #![tactic(auto)]
 
 ghost use Rattle.std.specs.Prelude.{◌≡◌};

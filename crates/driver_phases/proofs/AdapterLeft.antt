@@ -15,7 +15,7 @@ use Rattle.driver_phases.proofs.Scene.{HasTransferFor, SceneOk}
 
 -- what holds of the adapter in a scene, beside the transfer
 pub record SceneAdapter (u : ℕ) (s : Scene) : Type 0 where
-  pub drive : s.adapter.state.busy ≡ true → s.adapter.state.drive < 8
+  pub drive : s.adapter.state.drive < 8
   pub rest : s.adapter.state.busy ≡ false → s.adapter.state.completion ≡ false
   pub mine : Among u s.adapter.queue → s.unit.phase ≡ Queued
   pub once : Once s.adapter.queue
@@ -26,7 +26,7 @@ pub record SceneAdapter (u : ℕ) (s : Scene) : Type 0 where
 -- WHAT IS LEFT of the adapter by a change at one unit: it transfers for the unit, or as before; those that wait waited before.
 pub record AdapterLeft (u : ℕ) (old : AdapterView) (v : UnitView) (z : AdapterView) (h : Held) : Type 0 where
   pub state : IsAdapter z.state
-  pub drive : z.state.busy ≡ true → z.state.drive < 8
+  pub drive : z.state.drive < 8
   pub own : z.state.busy ≡ true → z.state.drive ≡ drive_of u → HasTransferFor v h z.state
   pub elsewhere : z.state.busy ≡ true → z.state.drive ≢ drive_of u → z.state ≡ record old.state { attentions = z.state.attentions }
   pub rest : z.state.busy ≡ false → z.state.completion ≡ false

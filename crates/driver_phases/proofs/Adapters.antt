@@ -60,7 +60,7 @@ module _ (w now : World) (u : ℕ) (s : Sound w) (c : Changed w now u) (lt : u <
   )
 
   not_own : z.state.busy ≡ true → z.state.drive ≢ drive_of u → unit_on (adapter_of u) z.state.drive ≢ u
-  not_own busy other same = other (sym (drive_of-unit_on (adapter_of u) z.state.drive (is.drive busy)) ∙ ap drive_of same)
+  not_own busy other same = other (sym (drive_of-unit_on (adapter_of u) z.state.drive is.drive) ∙ ap drive_of same)
 
   busy_other : z.state.busy ≡ true → z.state.drive ≢ drive_of u → (h : Held) × Transfers now (unit_on (adapter_of u) z.state.drive) h z.state
   busy_other busy other =
@@ -72,7 +72,7 @@ module _ (w now : World) (u : ℕ) (s : Sound w) (c : Changed w now u) (lt : u <
       subst (λ k. Transfers w (unit_on (adapter_of u) k) transfer.0 old.state) (sym drive) transfer.1 in
       let x : ℕ = unit_on (adapter_of u) z.state.drive in
       let after_it : Transfers now x transfer.0 old.state =
-      transfers_on w now u x transfer.0 old.state c (unit_on-small (adapter_of u) z.state.drive (adapter_of-small u lt) (is.drive busy)) (not_own busy other) before in
+      transfers_on w now u x transfer.0 old.state c (unit_on-small (adapter_of u) z.state.drive (adapter_of-small u lt) is.drive) (not_own busy other) before in
       (transfer.0, subst (Transfers now x transfer.0) (sym same) (attentions_on now x z.state.attentions transfer.0 old.state after_it))
 
   waits_now : (x : ℕ) → Among x z.queue → (x < 32) × (adapter_of x ≡ adapter_of u) × ((unit_at now x).phase ≡ Queued)

@@ -144,7 +144,7 @@ adapter_stays w now u a s c lt other =
       drive = ok.drive;
       busy = λ e.
           let was = ok.busy e in
-          let small = ok.drive e in
+          let small = ok.drive in
           let x : ℕ = unit_on a v.state.drive in
           (was.0, transfers_on w now u x was.0 v.state c (unit_on-small a v.state.drive lt small) (elsewhere a v.state.drive u small other) was.1);
       rest = ok.rest;

@@ -108,7 +108,7 @@ intr_left line u p moved last s ok at may =
     let has = transfer_at u true s ok may.0 in
     record {
       state = completed_adapter s.adapter.state ok.adapter;
-      drive = λ busy. absurd (false≢true busy);
+      drive = at.drive;
       own = λ busy. absurd (false≢true busy);
       elsewhere = λ busy. absurd (false≢true busy);
       rest = λ free. refl;

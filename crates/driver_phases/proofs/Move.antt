@@ -99,7 +99,7 @@ move_left line u p write segment s ok at due =
     (subst (λ (j : Job). (segment_of t).skip + (segment_of t).count ≤ j.count) is.0.job (segment_inside t.index t.job t.done is.0.is.left)) in
     record {
       state = started_adapter s.adapter.state s.held.loan segment.skip segment.count (drive_of u) segment.block write ok.loan some fits;
-      drive = λ busy. at.unit;
+      drive = at.unit;
       own = λ busy drive. record {
         phase = refl;
         on_bus = refl;

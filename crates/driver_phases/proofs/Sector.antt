@@ -341,7 +341,7 @@ sector_left line u p block t s ok at may =
     (subst (λ b. IsFor b t.verdict) (has.write ∙ sym ask.write) (for_verdict s.unit.drive t.marked a.write _ t.verdict does may.2.verdict)) in
     record {
       state = stepped_adapter t.verdict a ok.adapter may.0.busy;
-      drive = λ busy. subst (λ n. n < 8) (sym (step.drive ∙ may.0.drive)) at.unit;
+      drive = subst (λ n. n < 8) (sym (step.drive ∙ may.0.drive)) at.unit;
       own = λ busy drive. record {
         phase = has.phase;
         on_bus = held_on_bus (was_read s.unit.drive t.verdict) s.held (next_window a) t.bytes ∙ has.on_bus;

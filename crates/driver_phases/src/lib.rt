@@ -1,5 +1,7 @@
-//! Each act of the driver's machine keeps what holds of its units and its adapters. The functions here do nothing: each
-//! stands for a law.
+//! Each act of the driver's machine keeps what holds of its units and its adapters. The functions here do nothing: each stands
+//! for a law.
+//!
+//! What is proved: Each act keeps what holds of drives, tables, phases and adapters.
 #![tactic(auto)]
 
 ghost use Rattle.driver_phases.specs.Kept.{AreDrives, AreTables, ArePhases, AreAdapters, IsKept};

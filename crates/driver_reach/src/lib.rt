@@ -1,5 +1,11 @@
-//! How far the writes of a run reach: where each request ends below some block of its unit, what the image has from that block on
-//! stays. The functions here do nothing: each stands for a law.
+//! How far the writes of a run reach: where each request ends below some block of its unit, what the image has from that block
+//! on stays. The functions here do nothing: each stands for a law.
+//!
+//! Defined in `specs/`: what is asked ends below some block of each unit (`AskBelow`), and where a pack has a table the whole
+//! drive does (`TablesBelow`).
+//!
+//! What is proved: `calls_law`: from the start on each act, event, submission and taking of an answer keeps what images have
+//! from there on (`IsWithinReach`). `next_block_law`: so does a block at whose write the packs failed.
 #![tactic(auto)]
 
 ghost use Rattle.driver_reach.specs.Reach.{StartsWithinReach, ActsKeepReach, EventsKeepReach, SubmissionsKeepReach, AnswersKeepReach, NextBlocksStay};

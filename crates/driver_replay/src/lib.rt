@@ -1,4 +1,10 @@
 //! The lines that the driver's machine tells are a legal trace. The functions here do nothing: each stands for a law.
+//!
+//! Defined in `specs/`: which state of the replay a world of the machine stands for.
+//!
+//! What is proved: `lines_law`: each line of a deed that may come keeps the rules of service, conversation, drives, adapters
+//! and packs, and the replay after it stands for the world after the deed; a deed that tells no line changes nothing that is
+//! seen. `inputs_law`: the same of requests that join or are refused, and of conditions. `start_law`: at the start they fit.
 #![tactic(auto)]
 
 ghost use Rattle.driver_replay.specs.Laws.{LinesAreSaid, SilentDeedsShow};

@@ -1,5 +1,9 @@
 //! What a run leaves of its packs is what the replay leaves; and a run is a legal run. The functions here do nothing: each
 //! stands for a law.
+//!
+//! What is proved: `act_law`: an act changes nothing that an image has after its last sector, and no pack of a unit that is not
+//! set up. `kept_law`: so do runs of acts, from the start on, call by call. `left_law`: between any two calls the packs are
+//! left as the replay has them, and where no event can come after the inputs of a script the run is a legal run of it.
 #![tactic(auto)]
 
 ghost use Rattle.driver_runs.specs.Acts.{BeyondStays, OthersStay};

@@ -176,7 +176,7 @@ module _ (units : List UnitView) (adapters : List AdapterView) (slots : List (Op
   start_adapter : (a : ℕ) → AdapterOk start a (adapter_at start a)
   start_adapter a = subst (AdapterOk start a) (sym (free a)) (record {
     state = new_adapter_is;
-    drive = λ e. absurd (false_true e);
+    drive = omega arith;
     busy = λ e. absurd (false_true e);
     rest = λ e. refl;
     waits = λ u m. absurd m;

@@ -1,5 +1,8 @@
 //! Each act of the driver's machine keeps what holds of queues, slots, frames and answers, and at the start all holds. The
 //! functions here do nothing: each stands for a law.
+//!
+//! What is proved: Each act keeps what holds of queues, slots, frames and answers; `start_law`: at the start all of it holds.
+//! `sizes_law`: no act adds or takes away a unit, an adapter or a slot.
 #![tactic(auto)]
 
 ghost use Rattle.std.specs.Prelude.{◌≡◌, ℕ, ◌<◌, List, Contains};

@@ -46,7 +46,7 @@ events_go drives tables surface line next input tried moments held w far less of
     (event_told next input tried held w (after_moments (new_replay drives tables surface) moments) stands of_units may (tried_on input tried held w (after_moments (new_replay drives tables surface) moments) stands.shows stands.packs on) works)
 
 -- A SUBMISSION
-submit_told : (refused : Option AnswerKind) (next p : ℕ) (r : Request) (h : Held) (held : ℕ → Pack) (w : World) (s : Replay) → Stands held w s
+pub submit_told : (refused : Option AnswerKind) (next p : ℕ) (r : Request) (h : Held) (held : ℕ → Pack) (w : World) (s : Replay) → Stands held w s
     → refusal_of r w ≡ refused → MaySubmit w r p h → (refusal_of r w ≡ None → MayJoin p h r w s) → Run w (submit_by refused r next p h w)
     → IsTold next false held w (after_moment s (Played next (script.Submit r))) (submit_by refused r next p h w)
 submit_told (Some kind) next p r h held w s stands is may joins run = refused_played next r kind held w s stands (may.unit, may.fresh, is)

@@ -84,7 +84,7 @@ filter_by p q (x ∷ xs) same =
     ap (λ (b : Bool). if b then x ∷ filter p xs else filter p xs) (same x)
     ∙ ap (λ (l : List ℕ). if q x then x ∷ l else l) (filter_by p q xs same)
 
-there_after : (w : World) (acts : List Act) (s r : Replay) → Sound w → Run w acts → AreThere w s → r.there ≡ s.there → AreThere (after_all w acts) r
+pub there_after : (w : World) (acts : List Act) (s r : Replay) → Sound w → Run w acts → AreThere w s → r.there ≡ s.there → AreThere (after_all w acts) r
 there_after w acts s r sound run there same =
     same ∙ there ∙ filter_by (λ u. (unit_at w u).declared) (λ u. (unit_at (after_all w acts) u).declared) all_units
     (λ x. sym (all_declared w acts x sound run))
@@ -94,7 +94,7 @@ submit_there : (s : Replay) (r : _) (m : Submission) → (submitted s r m).there
 submit_there s r (Refused why) = refl
 submit_there s r Joined = refl
 
-played_there : (s : Replay) (input : Input) → (replay_played s input).there ≡ s.there
+pub played_there : (s : Replay) (input : Input) → (replay_played s input).there ≡ s.there
 played_there s (script.Submit r) = submit_there s r (submission s r)
 played_there s (script.Turn u sector) = refl
 played_there s (script.Noise noise) = refl

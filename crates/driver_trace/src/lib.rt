@@ -1,5 +1,11 @@
 //! The lines of each call of the driver follow in the replay of the trace, and behind them the replay stands for the driver and
 //! its packs. The functions here do nothing: each stands for a law.
+//!
+//! Defined in `specs/`: a run of the machine so far, with its lines and packs (`IsSoFar`, `IsDraining`).
+//!
+//! What is proved: `calls_law`, `drains_law`: from the start on each event, condition, submission, drain and taking of an
+//! answer goes on with a run whose lines follow in the replay, and the packs stay the replay's. `legal_law`: where no event can
+//! come the trace is legal. `inputs_law`: its inputs and answers are those of the calls.
 #![tactic(auto)]
 
 ghost use Rattle.driver_trace.specs.Runs.{RunsStart, EventsGo, SubmissionsGo, AnswersGo, EmptyDrainsGo, DrainsStart, DrainsGoOn, DrainsEnd, RunsAreLegal, CallsArePlayed, LinesPlayNothing, CallsAreAnswered};

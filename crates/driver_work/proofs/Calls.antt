@@ -235,7 +235,7 @@ serving w a sound busy =
 
     of_four : a < 4 → IsServing w a
     of_four four =
-        let eight : (adapter_at w a).state.drive < 8 = (sound.each_adapter a four).drive busy in
+        let eight : (adapter_at w a).state.drive < 8 = (sound.each_adapter a four).drive in
         let less : unit_of w a < 32 = unit_less a (adapter_at w a).state.drive four eight in
         let phase : (unit_at w (unit_of w a)).phase ≡ Transferring = ((sound.each_adapter a four).busy busy).1.phase in
         record {

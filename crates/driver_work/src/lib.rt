@@ -1,5 +1,9 @@
 //! Work conservation of the driver's machine: what each event does runs, and leaves no work undone. The functions here do
 //! nothing: each stands for a law.
+//!
+//! What is proved: `start_law`, `work_law`, given that acts keep the invariant: an adapter's start is never cut short, and each
+//! call of the driver runs and leaves no work undone. `drain_law`: a drain has a next event exactly where a request is
+//! outstanding. `until_law`: a part that is done again until it has nothing to do is the same, however it is counted.
 #![tactic(auto)]
 
 ghost use Rattle.std.specs.Prelude.{◌≡◌, ◌↔◌, ℕ, ◌<◌, List, [], ◌∷◌, length, Some, None};

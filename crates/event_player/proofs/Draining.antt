@@ -18,8 +18,9 @@ use Rattle.driver_trace.specs.Runs.{with_call}
 use Rattle.answer_lines.specs.AnswerText.{out_text}
 use Rattle.answer_tally.specs.Counting.{CountsAll}
 use Rattle.answer_tally.proofs.CountLaws.{counts_none, counts_more}
+use Rattle.one_run.specs.Steps.{all_taken}
 use Rattle.event_player.specs.Playing.{HasRun}
-use Rattle.event_player.specs.Steps.{Stage, PlaysEvent, HasDrained, EndsDraining, GoesOnDraining, PlaysDrain, all_taken}
+use Rattle.event_player.specs.Steps.{Stage, PlaysEvent, HasDrained, EndsDraining, GoesOnDraining, PlaysDrain}
 use Rattle.event_player.proofs.Bounds.{blocks_few}
 use Rattle.event_player.proofs.Going.{line_for, drain_empty, drain_first, drain_first_falls, drain_more, drain_more_falls, drain_over}
 use Rattle.event_player.proofs.Inputs.{event_said, event_counted, said_more, told_more}

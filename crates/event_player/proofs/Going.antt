@@ -1,7 +1,5 @@
 -- A run goes on call by call, with the answers that are taken behind each call.
-use Rattle.std.proofs.Common.{◌≡◌, inl, ℕ, ◌*◌, ◌<◌, ◌≤◌, Bool, true, false, List, [], ◌∷◌, ◌++◌, Option, Some, None, refl, sym, ap, arith, ◌∙◌}
-use Rattle.std.specs.Prelude.{is_some}
-use Rattle.pack_geometry.specs.declared.DriveKind.{DriveKind}
+use Rattle.std.proofs.Common.{◌≡◌, inl, ℕ, ◌*◌, ◌<◌, ◌≤◌, List, [], ◌∷◌, ◌++◌, Option, Some, None, refl, sym, ap, arith, ◌∙◌}
 use Rattle.pack_model.specs.Pack.{Pack}
 use Rattle.pack_model.specs.TableSpelling.{Table}
 use Rattle.subsystem_spec.specs.Requests.{Request}
@@ -18,7 +16,7 @@ use Rattle.driver_machine.specs.World.{World, Held, unit_at}
 use Rattle.driver_machine.specs.Acts.{Act, Nothing, Tried, after_all}
 use Rattle.driver_machine.specs.Lines.{lines_of_all}
 use Rattle.driver_machine.specs.Events.{refusal_of, submit_acts, event_acts, next_event}
-use Rattle.driver_machine.specs.Guards.{IsSetUp, IsHeldFor}
+use Rattle.driver_machine.specs.Guards.{IsHeldFor}
 use Rattle.driver_machine.specs.Sound.{Sound, AtWork}
 use Rattle.driver_work.specs.Runs.{Works, MaySubmit, MayCome}
 use Rattle.driver_work.proofs.Calls.{event_works, submit_works}
@@ -29,16 +27,16 @@ use Rattle.driver_trace.specs.Runs.{IsOfUnits, with_call}
 use Rattle.driver_trace.proofs.Calls.{events_go, submissions_go, drains_start, drains_go_on}
 use Rattle.driver_trace.proofs.Runs.{drain_finds_nothing, drain_ends}
 use Rattle.driver_trace.proofs.Inputted.{calls_are_played, lines_play_nothing}
-use Rattle.driver_runs.specs.Runs.{IsKept}
 use Rattle.driver_runs.proofs.Runs.{events_keep, submissions_keep}
 use Rattle.driver_reach.proofs.Calls.{events_keep_reach, submissions_keep_reach}
 use Rattle.driver_drains.specs.Drains.{Falls}
 use Rattle.driver_drains.proofs.Asked.{lines_ask_nothing, calls_ask}
 use Rattle.driver_drains.proofs.Falls.{first_events_fall, drains_fall}
 use Rattle.hp_driver.specs.Subsystem.{IsThere}
+use Rattle.one_run.specs.Steps.{all_taken}
 use Rattle.event_player.specs.Playing.{HasRun}
-use Rattle.event_player.specs.Steps.{HasDrained, all_taken}
-use Rattle.event_player.proofs.Taking.{runs_wait, so_far_taken, draining_taken, kept_taken}
+use Rattle.event_player.specs.Steps.{HasDrained}
+use Rattle.one_run.proofs.Taking.{runs_wait, so_far_taken, draining_taken, kept_taken}
 use Rattle.event_player.proofs.Reaching.{call_asks, lines_ask, within_taken}
 
 -- THE INPUTS of lines, with those of one more
@@ -86,14 +84,6 @@ asks_nothing w there (says.Noise noise) is = (tt, tt)
 asks_nothing w there (says.Arm u kind times) is = (tt, tt)
 asks_nothing w there (says.SetOnline u on) is = (tt, tt)
 asks_nothing w there (says.SetLocked u on) is = (tt, tt)
-
--- THE UNIT of a request that is set up is there.
-some_by : (drive : Option DriveKind) (declared : Bool) → (drive ≡ None → declared ≡ false) → declared ≡ true → is_some drive ≡ true
-some_by None declared others on = absurd (cc (others refl, on))
-some_by (Some kind) declared others on = refl
-
-pub is_declared : (script : Script) (old held : ℕ → Pack) (w : World) (u : ℕ) → IsKept (drives_of script) old held w → IsSetUp w u → is_some (drives_of script u) ≡ true
-is_declared script old held w u kept unit = some_by (drives_of script u) (unit_at w u).declared (kept.units.others u) unit.declared
 
 module _ (script : Script) (tables : ℕ → Option Table) (first : ℕ → Pack) where
   abbrev start : Replay

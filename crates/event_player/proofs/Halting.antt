@@ -28,11 +28,11 @@ use Rattle.hp_events.specs.declared.drain.Event.TheVariants as event
 use Rattle.hardware_table.specs.declared.NoiseSpan.{NoiseSpan}
 use Rattle.hp_events.specs.Inputs.{input_of}
 use Rattle.hp_driver.specs.Subsystem.{State, IsThere}
+use Rattle.one_run.specs.Steps.{all_taken, tables_in, AreSetFor}
 use Rattle.event_player.specs.declared.play.PlayFault.{PlayFault}
 use Rattle.event_player.specs.declared.play.PlayFault.TheVariants as faults
-use Rattle.event_player.specs.Attaching.{tables_in, AreSetFor}
 use Rattle.event_player.specs.Playing.{HasRun}
-use Rattle.event_player.specs.Steps.{Stage, PlaysEvent, MayAsk, MayPlay, HasDrained, all_taken}
+use Rattle.event_player.specs.Steps.{Stage, PlaysEvent, MayAsk, MayPlay, HasDrained}
 use Rattle.event_player.specs.Stops.{EventStops, SubmissionStops, StopsInput, StopsLine, StopsDraining, StopsScript, IsNext, Stopped, Leaves}
 use Rattle.event_player.proofs.Contexts.{between_by, line_stops, opening_stops, submission_stops, first_stops, idle_stops, later_stops}
 use Rattle.event_player.proofs.Draining.{Draining, SoDrained}
@@ -210,7 +210,7 @@ stopped_leaves faults.Store s first left out_tells said said' trace_tells taken 
 stopped_leaves faults.Sink s first left out_tells said said' trace_tells taken taken' tables read is = record { tables = tables; read = read; stopped = is }
 
 pub play_halts : (s : Script) (units slice : List UnitSetup) (requests noises : ℕ) (state : State) (held : ℕ → Pack) (fault : PlayFault) (old new : Stage) → slice ≡ units
-    → AreSetFor s (setups_of units) → AreTablesOf (drives_of s) held (tables_in (setups_of units)) → old.held ≡ held
+    → AreSetFor s (tables_in (setups_of units)) (setups_of units) → AreTablesOf (drives_of s) held (tables_in (setups_of units)) → old.held ≡ held
     → state ≡ record { world = new_world (setups_of slice) (min requests 16384) noises; outstanding = requests; failed = false } → old.world ≡ state.world
     → ((tables : ℕ → Option Table) → StopsScript s tables fault old new)
     → Leaves fault s held new.held new.out_tells old.said new.said new.trace_tells old.taken new.taken

@@ -25,8 +25,10 @@ use Rattle.answer_tally.specs.declared.tally.Tally.{Tally}
 use Rattle.answer_tally.specs.Counting.{Counts, CountsAll}
 use Rattle.answer_tally.proofs.CountLaws.{counts_none, counts_both, counts_same}
 use Rattle.hp_driver.specs.Subsystem.{IsThere}
+use Rattle.one_run.specs.Steps.{all_taken}
+use Rattle.one_run.proofs.Taking.{none_waits}
 use Rattle.event_player.specs.Playing.{HasRun}
-use Rattle.event_player.specs.Steps.{Stage, PlaysEvent, PlaysSubmission, PlaysInput, all_taken, waiting_text}
+use Rattle.event_player.specs.Steps.{Stage, PlaysActs, PlaysEvent, PlaysSubmission, PlaysInput, waiting_text}
 use Rattle.event_player.proofs.Texts.{said_lines}
 use Rattle.event_player.proofs.Going.{line_for, event_goes, submission_goes}
 
@@ -49,6 +51,10 @@ event_counted line input old new none plays =
     let acts : List Act = event_acts line input plays.tried old.world in
     counts_same old.tally new.tally (waiting (after_all old.world acts)) (answers_in (lines_of_all old.world acts)) (waiting_text (after_all old.world acts)) (out_text (lines_of_all old.world acts))
     plays.plays.tally (events_alone old.world line input plays.tried plays.plays.sound plays.plays.work plays.may none) (event_said line input old new none plays)
+
+-- No answer waits behind it.
+pub plays_none : {acts : List Act} {old new : Stage} → PlaysActs acts old new → new.world.answers ≡ []
+plays_none {acts} {old} {new} plays = ap (λ (w : World). w.answers) plays.world ∙ none_waits (after_all old.world acts)
 
 -- texts one behind the other
 text_more : (old mid new first later : List ℕ) → mid ≡ old ++ first → new ≡ mid ++ later → new ≡ old ++ (first ++ later)

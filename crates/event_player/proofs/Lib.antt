@@ -1,4 +1,3 @@
-pub mod Taking
 pub mod Reaching
 pub mod TallyLaws
 pub mod Texts

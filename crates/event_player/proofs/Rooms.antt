@@ -1,24 +1,19 @@
 -- There is room for what the next line brings: each line brings what it says, and so the next one may be played.
-use Rattle.std.proofs.Common.{◌≡◌, inl, inr, ℕ, suc, ◌+◌, ◌*◌, ◌^◌, ◌<◌, ◌≤◌, ◌==◌, ◌||◌, Bool, true, false, List, [], ◌∷◌, ◌++◌, length, Option, Some, None, refl, sym, ap, subst, arith, ◌∙◌}
+use Rattle.std.proofs.Common.{◌≡◌, inl, inr, ℕ, suc, ◌+◌, ◌^◌, ◌<◌, ◌≤◌, ◌==◌, ◌||◌, Bool, true, false, List, [], ◌∷◌, ◌++◌, length, Option, Some, None, refl, sym, ap, subst, arith, ◌∙◌}
 use Rattle.std.specs.Prelude.{Contains}
 use Rattle.std.specs.List.{list_any}
 use Rattle.std.proofs.lemmas.Bool.Decides.{nat_tests}
 use Rattle.std.proofs.lemmas.List.Elements.{Contains-append_left, Contains-push}
 use Rattle.std.proofs.lemmas.Option.{none-some}
-use Rattle.fire_code.specs.Noise.{IsNoise}
 use Rattle.hardware_table.specs.Noise.{LiveNoise}
 use Rattle.pack_geometry.specs.declared.DriveKind.{DriveKind}
-use Rattle.pack_geometry.specs.Geometry.{block_count, sectors_of}
-use Rattle.hardware_table.specs.declared.FaultKind.{FaultKind}
-use Rattle.hardware_table.specs.Events.{times_armed}
 use Rattle.subsystem_spec.specs.Requests.{Request, IsRequest}
 use Rattle.trace_replay.specs.Script as script
-use Rattle.trace_replay.specs.Script.{Script, Input, Statement, Declares, Plays, Line, IsScript, IsStatement, IsInput, drives_of, ids_of, with_id, AreApart, AreNumbered}
-use Rattle.driver_machine.specs.World.{World, Held, unit_at}
+use Rattle.trace_replay.specs.Script.{Script, Input, Statement, Declares, Plays, Line, IsScript, IsStatement, IsInput, drives_of, ids_of, with_id, AreApart}
+use Rattle.driver_machine.specs.World.{World, Held}
 use Rattle.driver_machine.specs.Acts.{Act, after_all}
 use Rattle.driver_machine.specs.declared.AnswerKind.{AnswerKind}
 use Rattle.driver_machine.specs.Events.{submit_by, submit_acts, event_acts, refusal_of, next_event}
-use Rattle.driver_machine.specs.Guards.{IsSetUp, MayChange}
 use Rattle.driver_slots.proofs.Sizes.{sizes_all}
 use Rattle.driver_slots.proofs.Lists.{Contains-later, Contains-cases}
 use Rattle.driver_work.specs.Runs.{CanCome}
@@ -26,26 +21,18 @@ use Rattle.driver_work.proofs.Next.{next_can}
 use Rattle.driver_counts.specs.Counts.{IsWithin, in_use, noises_of, faults_of}
 use Rattle.driver_counts.proofs.Acts.{takings_add, capacity_stays}
 use Rattle.driver_counts.proofs.Events.{events_add, submissions_add}
-use Rattle.driver_counts.proofs.Units.{setups_stay}
 use Rattle.driver_answers.specs.Ids.{AreOf}
 use Rattle.driver_answers.proofs.Ids.{events_add_none, taking_adds_none, no_others}
 use Rattle.driver_answers.proofs.Ids as ids
 use Rattle.hp_driver.specs.Subsystem.{State}
-use Rattle.event_player.specs.Playing.{AreUnits, counted, one_request, one_noise, one_fault}
-use Rattle.event_player.specs.Steps.{Stage, PlaysEvent, PlaysSubmission, Ready, Brings, MayAsk, MayPlay, takings, all_taken}
-use Rattle.event_player.proofs.Taking.{taken_by, none_waits}
+use Rattle.one_run.specs.Steps.{takings, all_taken, AreUnits}
+use Rattle.event_player.specs.Playing.{counted, one_request, one_noise, one_fault}
+use Rattle.event_player.specs.Steps.{Stage, PlaysEvent, PlaysSubmission, Ready, Brings, MayAsk, MayPlay}
+use Rattle.one_run.proofs.Taking.{taken_by, none_waits}
+use Rattle.one_run.proofs.Fitting.{within_more, units_stay, few_lines, Found, found, set_up, may_turn, may_strike, may_arm}
+use Rattle.one_run.proofs.Rooms.{nothing_armed}
 
 -- MORE ROOM is enough.
-within_more : (r r' n n' f f' : ℕ) (w : World) → r ≤ r' → n ≤ n' → f ≤ f' → IsWithin r n f w → IsWithin r' n' f' w
-within_more r r' n n' f f' w requests noises faults within = record {
-  requests = omega (arith, requests, within.requests);
-  noises = omega (arith, noises, within.noises);
-  faults = λ u kind. times (times_armed kind (unit_at w u).drive.armed) f f' (within.faults u kind) faults;
-}
-  where
-    times : (n f f' : ℕ) → n ≤ 1000 * f → f ≤ f' → n ≤ 1000 * f'
-    times n f f' le more = omega (arith, le, more)
-
 pub ready_more : (s : Script) (r r' n n' f f' : ℕ) (xs ys : List ℕ) (w : World) → r ≤ r' → n ≤ n' → f ≤ f' → ((id : ℕ) → Contains xs id → Contains ys id)
     → Ready s r n f xs w → Ready s r' n' f' ys w
 ready_more s r r' n n' f f' xs ys w requests noises faults more ready = record {
@@ -56,12 +43,6 @@ ready_more s r r' n n' f f' xs ys w requests noises faults more ready = record {
   slots = ready.slots;
   none_waits = ready.none_waits;
 }
-
--- THE UNITS that are set up stay so.
-units_stay : (s : Script) (w : World) (acts : List Act) → AreUnits s w → AreUnits s (after_all w acts)
-units_stay s w acts units u kind is =
-    let at = units u kind is in
-    (record { unit = at.0.unit; declared = (setups_stay w acts u).declared ∙ at.0.declared }, (setups_stay w acts u).kind ∙ at.1)
 
 -- WHAT IS LEFT behind acts and the taking of their answers
 within_taken : (r n f : ℕ) (w : World) → IsWithin r n f w → IsWithin r n f (all_taken w)
@@ -140,18 +121,6 @@ event_brings line input old new plays s r n f xs ready =
     (with_more input xs) (event_ready line input old new plays s r n f xs ready)
 
 -- and one of a drain nothing;
-nothing_armed : (w : World) (input : Input) → CanCome w input → (noises_of input ≡ 0) × (faults_of input ≡ 0)
-nothing_armed w (script.ArriveAt u) can = (refl, refl)
-nothing_armed w (script.MoveAt a) can = (refl, refl)
-nothing_armed w (script.AttendTo a) can = (refl, refl)
-nothing_armed w (script.Submit r) can = (refl, refl)
-nothing_armed w script.Drain can = (refl, refl)
-nothing_armed w (script.Turn u sector) can = (refl, refl)
-nothing_armed w (script.Noise noise) can = absurd can
-nothing_armed w (script.Arm u kind times) can = absurd can
-nothing_armed w (script.SetOnline u on) can = (refl, refl)
-nothing_armed w (script.SetLocked u on) can = (refl, refl)
-
 pub drain_brings : (line : ℕ) (input : Input) (old new : Stage) → next_event old.world ≡ Some input → PlaysEvent line input old new → Brings (Plays script.Drain) old.world new.world
 drain_brings line input old new is plays s r n f xs ready =
     let can : CanCome old.world input = next_can old.world input plays.plays.sound is in
@@ -301,28 +270,8 @@ few_faults (line ∷ lines) = more (one_fault line.statement) (counted one_fault
     more : (a b c : ℕ) → a ≤ 1 → b ≤ c → a + b ≤ suc c
     more a b c one le = omega (arith, one, le)
 
-few_lines : (before count : ℕ) (lines : List Line) → AreNumbered before count lines → before + length lines ≤ count
-few_lines before count [] are = omega (arith, are)
-few_lines before count (line ∷ lines) are = more before line.number (length lines) count are.0 (few_lines line.number count lines are.1)
-  where
-    more : (a b n c : ℕ) → a < b → b + n ≤ c → a + suc n ≤ c
-    more a b n c less le = omega (arith, less, le)
-
--- WHAT IS SAID OF A UNIT that is there
-record Found (drive : Option DriveKind) (P : DriveKind → Type 0) : Type 0 where
-  kind : DriveKind
-  is : drive ≡ Some kind
-  holds : P kind
-
-found : (drive : Option DriveKind) (P : DriveKind → Type 0) → script.IsThere drive P → Found drive P
-found None P there = absurd there
-found (Some kind) P there = record { kind = kind; is = refl; holds = there }
-
 below_by : (front one behind all used : ℕ) → all ≡ front + (one + behind) → one ≡ 1 → used ≤ front → used < all
 below_by front one behind all used whole is le = omega (arith, whole, is, le)
-
-faults_fit : (used faults lines count times : ℕ) → used ≤ 1000 * faults → faults ≤ lines → lines ≤ count → count < 2 ^ 32 → times ≤ 1000 → used + times < 2 ^ 63
-faults_fit used faults lines count times few le short small some = omega (arith, few, le, short, small, some)
 
 module _ (s : Script) (state : State) (front : List Line) (line : Line) (behind : List Line) (whole : s.lines ≡ front ++ line ∷ behind) (is : IsScript s)
     (small : s.count < 2 ^ 32) (most : state.outstanding ≡ counted one_request s.lines) (ready : ReadyBehind s front state.world) where
@@ -347,31 +296,11 @@ module _ (s : Script) (state : State) (front : List Line) (line : Line) (behind 
             (counted_whole one_request) (ap one_request at) ready.within.requests);
       }
 
-  set_up : (u : ℕ) → script.IsThere (drives_of s u) (λ kind. Unit {0}) → IsSetUp state.world u
-  set_up u there =
-      let unit : Found (drives_of s u) (λ kind. Unit {0}) = found (drives_of s u) (λ kind. Unit {0}) there in
-      (ready.units u unit.kind unit.is).0
-
-  may_turn : (u sector : ℕ) → script.IsThere (drives_of s u) (λ kind. sector < sectors_of kind) → MayChange state.world (script.Turn u sector)
-  may_turn u sector there =
-      let unit : Found (drives_of s u) (λ kind. sector < sectors_of kind) = found (drives_of s u) (λ kind. sector < sectors_of kind) there in
-      let at = ready.units u unit.kind unit.is in
-      (at.0, subst (λ (k : DriveKind). sector < sectors_of k) (sym at.1) unit.holds)
-
-  may_strike : (noise : LiveNoise) → line.statement ≡ Plays (script.Noise noise)
-      → script.IsThere (drives_of s noise.unit) (λ kind. (noise.block < block_count kind) × IsNoise noise.places × script.IsSpan noise.span) → MayChange state.world (script.Noise noise)
-  may_strike noise at there =
-      let unit : Found (drives_of s noise.unit) (λ kind. (noise.block < block_count kind) × IsNoise noise.places × script.IsSpan noise.span) =
-      found (drives_of s noise.unit) (λ kind. (noise.block < block_count kind) × IsNoise noise.places × script.IsSpan noise.span) there in
-      let set = ready.units noise.unit unit.kind unit.is in (
-        set.0,
-        subst (λ (k : DriveKind). noise.block < block_count k) (sym set.1) unit.holds.0,
-        unit.holds.1,
-        unit.holds.2,
-        subst (λ (n : ℕ). state.world.book.armed < n) (sym ready.room)
-            (below_by (counted one_noise front) (one_noise line.statement) (counted one_noise behind) (counted one_noise s.lines) state.world.book.armed
-            (counted_whole one_noise) (ap one_noise at) ready.within.noises),
-      )
+  noise_fits : (noise : LiveNoise) → line.statement ≡ Plays (script.Noise noise) → state.world.book.armed < state.world.book.capacity
+  noise_fits noise at =
+      subst (λ (n : ℕ). state.world.book.armed < n) (sym ready.room)
+      (below_by (counted one_noise front) (one_noise line.statement) (counted one_noise behind) (counted one_noise s.lines) state.world.book.armed
+      (counted_whole one_noise) (ap one_noise at) ready.within.noises)
 
   few_so_far : counted one_fault front ≤ s.count
   few_so_far =
@@ -381,27 +310,18 @@ module _ (s : Script) (state : State) (front : List Line) (line : Line) (behind 
       fewer : (a b c n k : ℕ) → c ≡ a + b → c ≤ n → 0 + n ≤ k → a ≤ k
       fewer a b c n k is le few = omega (arith, is, le, few)
 
-  may_arm : (u : ℕ) (kind : FaultKind) (times : ℕ) → script.IsThere (drives_of s u) (λ drive. (1 ≤ times) × (times ≤ 1000)) → MayChange state.world (script.Arm u kind times)
-  may_arm u kind times there =
-      let unit : Found (drives_of s u) (λ drive. (1 ≤ times) × (times ≤ 1000)) = found (drives_of s u) (λ drive. (1 ≤ times) × (times ≤ 1000)) there in (
-        (ready.units u unit.kind unit.is).0,
-        unit.holds.0,
-        unit.holds.1,
-        faults_fit (times_armed kind (unit_at state.world u).drive.armed) (counted one_fault front) s.count s.count times (ready.within.faults u kind) few_so_far (omega arith) small unit.holds.1,
-      )
-
   -- THE NEXT LINE may be played.
   may_input : (input : Input) → line.statement ≡ Plays input → IsInput (drives_of s) input → MayPlay state (Plays input)
   may_input (script.Submit r) at there = may_ask r at there
-  may_input (script.ArriveAt u) at there = set_up u there
+  may_input (script.ArriveAt u) at there = set_up s state.world ready.units u there
   may_input (script.MoveAt a) at there = there
   may_input (script.AttendTo a) at there = there
   may_input script.Drain at there = ready.slots
-  may_input (script.Turn u sector) at there = may_turn u sector there
-  may_input (script.Noise noise) at there = may_strike noise at there
-  may_input (script.Arm u kind times) at there = may_arm u kind times there
-  may_input (script.SetOnline u on) at there = set_up u there
-  may_input (script.SetLocked u on) at there = set_up u there
+  may_input (script.Turn u sector) at there = may_turn s state.world ready.units u sector there
+  may_input (script.Noise noise) at there = may_strike s state.world ready.units noise (noise_fits noise at) there
+  may_input (script.Arm u kind times) at there = may_arm s state.world ready.units u kind times (counted one_fault front) s.count (ready.within.faults u kind) few_so_far small there
+  may_input (script.SetOnline u on) at there = set_up s state.world ready.units u there
+  may_input (script.SetLocked u on) at there = set_up s state.world ready.units u there
 
   may_state : (statement : Statement) → line.statement ≡ statement → IsStatement (drives_of s) statement → MayPlay state statement
   may_state (Declares u kind) at there = tt

@@ -1,10 +1,8 @@
 -- What a line of the text says, as it is played.
-use Rattle.std.proofs.Common.{◌≡◌, inl, inr, ℕ, zero, suc, ◌+◌, ◌<◌, ◌≤◌, ◌==◌, ◌||◌, Bool, true, false, IsTrue, List, [], ◌∷◌, ◌++◌, filter, Option, refl, sym, ap, subst, arith, ◌∙◌}
-use Rattle.std.specs.Prelude.{if◌then◌else◌, is_some, Box}
+use Rattle.std.proofs.Common.{◌≡◌, ℕ, Bool, true, false, IsTrue, List, [], ◌++◌, Option, sym, ap, subst, ◌∙◌}
+use Rattle.std.specs.Prelude.{Box}
 use Rattle.std.specs.Box.{box_value}
-use Rattle.std.specs.List.{list_any}
 use Rattle.std.specs.declared.alloc.Global.{Global}
-use Rattle.std.proofs.lemmas.Bool.Decides.{eqb_tells, nat_tests}
 use Rattle.pack_model.specs.Pack.{Pack}
 use Rattle.pack_model.specs.TableSpelling.{Table}
 use Rattle.script_reader.specs.declared.statement.Span.{Span}
@@ -18,8 +16,7 @@ use Rattle.script_meaning.specs.Meaning.{statement_of, written_of}
 use Rattle.subsystem_spec.specs.Requests.{Request}
 use Rattle.trace_replay.specs.Moments.{Moment, Played}
 use Rattle.trace_replay.specs.Script as says
-use Rattle.trace_replay.specs.Script.{Script, Input, Statement, Plays, Line, drives_of}
-use Rattle.trace_replay.specs.Replay.{all_units}
+use Rattle.trace_replay.specs.Script.{Script, Input, Statement, Plays, Line}
 use Rattle.trace_replay.specs.Runs.{start_of}
 use Rattle.trace_bounds.specs.Drains.{IsOf}
 use Rattle.driver_machine.specs.World.{World}
@@ -34,63 +31,14 @@ use Rattle.hp_events.specs.Inputs.{input_of}
 use Rattle.hp_driver.specs.Subsystem.{State, IsThere, asked}
 use Rattle.event_player.specs.Playing.{HasRun}
 use Rattle.event_player.specs.Steps.{Stage, PlaysEvent, PlaysSubmission, PlaysLine, PlaysDrain, Brings, MayAsk, MayPlay}
-use Rattle.event_player.proofs.Going.{is_declared}
+use Rattle.one_run.proofs.Submissions.{of_unit}
 use Rattle.event_player.proofs.Inputs.{with_said, plays_event, plays_silent, plays_submission}
 use Rattle.event_player.proofs.Rooms.{event_brings, submission_brings}
 
 -- THE UNIT of a request that is set up is one of those that are there.
-abbrev from : ℕ → ℕ → List ℕ
-from at zero = []
-from at (suc n) = at ∷ from (at + 1) n
-
-all_from : all_units ≡ from 0 32
-all_from = refl
-
-or_true : (b c : Bool) → c ≡ true → b || c ≡ true
-or_true true c is = refl
-or_true false c is = is
-
-first_true : (b c : Bool) → b ≡ true → b || c ≡ true
-first_true true c is = refl
-first_true false c is = absurd (cc is)
-
-from_any : (n start k : ℕ) → start ≤ k → k < start + n → list_any (λ x. x == k) (from start n) ≡ true
-from_any zero start k low high = absurd (omega (arith, low, high))
-from_any (suc n) start k low high = elim (eqb_tells start k) [
-  | inl same ↦ first_true (start == k) (list_any (λ x. x == k) (from (start + 1) n)) same.0
-  | inr other ↦ or_true (start == k) (list_any (λ x. x == k) (from (start + 1) n)) (from_any n (start + 1) k (next start k low (unequal start k other.0)) (omega (arith, high)))
-]
-  where
-    next : (a b : ℕ) → a ≤ b → (a ≡ b → ⊥) → a + 1 ≤ b
-    next a b le ne = omega arith
-
-    unequal : (a c : ℕ) → a == c ≡ false → a ≡ c → ⊥
-    unequal a c h e = grind (arith, nat_tests)
-
-filter_any : (p : ℕ → Bool) (k : ℕ) (xs : List ℕ) → p k ≡ true → list_any (λ x. x == k) xs ≡ true → list_any (λ x. x == k) (filter p xs) ≡ true
-filter_any p k [] is any = any
-filter_any p k (x ∷ xs) is any = elim (eqb_tells x k) [
-  | inl same ↦ here (p x) (subst (λ z. p z ≡ true) (sym same.1) is) same.0
-  | inr other ↦ there (p x) (filter_any p k xs is (not_first (x == k) (list_any (λ y. y == k) xs) other.0 any))
-]
-  where
-    not_first : (b c : Bool) → b ≡ false → b || c ≡ true → c ≡ true
-    not_first true c off or = absurd (cc off)
-    not_first false c off or = or
-
-    here : (b : Bool) → b ≡ true → x == k ≡ true → list_any (λ y. y == k) (if b then x ∷ filter p xs else filter p xs) ≡ true
-    here true on same = first_true (x == k) (list_any (λ y. y == k) (filter p xs)) same
-    here false on same = absurd (cc on)
-
-    there : (b : Bool) → list_any (λ y. y == k) (filter p xs) ≡ true → list_any (λ y. y == k) (if b then x ∷ filter p xs else filter p xs) ≡ true
-    there true rest = or_true (x == k) (list_any (λ y. y == k) (filter p xs)) rest
-    there false rest = rest
-
 pub of_run : (r : Request) (w : World) → IsSetUp w r.unit → (script : Script) (tables : ℕ → Option Table) (first held : ℕ → Pack) (last : ℕ) (done : List Line) (moments : List Moment)
     → HasRun script tables first held last done w moments → IsOf (start_of script tables first).there (says.Submit r)
-of_run r w unit script tables first held last done moments run =
-    filter_any (λ u. is_some (drives_of script u)) r.unit all_units (is_declared script first held w r.unit run.kept unit)
-    (subst (λ (us : List ℕ). list_any (λ x. x == r.unit) us ≡ true) (sym all_from) (from_any 32 0 r.unit (omega arith) (omega (arith, unit.unit))))
+of_run r w unit script tables first held last done moments run = of_unit script tables first held w r unit run.kept
 
 -- A LINE that asks
 pub request_plays : (number : ℕ) (statement : Statement) (r : Request) (state : State) (old new : Stage) → statement ≡ Plays (says.Submit r) → state.world ≡ old.world

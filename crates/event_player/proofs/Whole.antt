@@ -34,9 +34,9 @@ use Rattle.answer_tally.proofs.CountLaws.{counts_none, counts_more}
 use Rattle.hp_core.specs.declared.start.UnitSetup.{UnitSetup}
 use Rattle.hp_core.specs.Setups.{setups_of}
 use Rattle.hp_driver.specs.Subsystem.{State}
-use Rattle.event_player.specs.Attaching.{tables_in, AreSetFor}
+use Rattle.one_run.specs.Steps.{AreUnits, tables_in, AreSetFor}
 use Rattle.event_player.specs.Plays.{Plays as IsPlayed, Tallied}
-use Rattle.event_player.specs.Playing.{HasRun, AreUnits, counted, one_request, one_noise}
+use Rattle.event_player.specs.Playing.{HasRun, counted, one_request, one_noise}
 use Rattle.event_player.specs.Steps.{Stage, GoesOn, PlaysLine, PlaysDrain, Drains, EndsWith, PlaysScript, Ready, Brings, MayPlay, HasData}
 use Rattle.event_player.proofs.Going.{line_for, inputs_append}
 use Rattle.event_player.proofs.Inputs.{said_more, told_more}
@@ -250,7 +250,7 @@ tally_whole s tables old new is read none_yet ends = record {
 }
 
 -- AT THE START
-pub starts_run : (s : Script) (setups : List Setup) (outstanding noises : ℕ) (held : ℕ → Pack) → AreSetFor s setups
+pub starts_run : (s : Script) (setups : List Setup) (outstanding noises : ℕ) (held : ℕ → Pack) → AreSetFor s (tables_in setups) setups
     → HasRun s (tables_in setups) held held 0 [] (new_world setups outstanding noises) []
 starts_run s setups outstanding noises held set = record {
   so_far = starts (drives_of s) (tables_in setups) held setups outstanding noises set.are (set.set outstanding noises) (set.declared outstanding noises);
@@ -267,14 +267,14 @@ is_below w u sound on = elim (cases_lt u 32) [
   | inr past ↦ absurd (false≢true (sym (ap (λ (v : UnitView). v.declared) (get_or_past w.units u no_unit (subst (λ (n : ℕ). n ≤ u) (sym sound.units) past))) ∙ on))
 ]
 
-start_units : (s : Script) (setups : List Setup) (outstanding noises : ℕ) → AreSetFor s setups → AreUnits s (new_world setups outstanding noises)
+start_units : (s : Script) (setups : List Setup) (outstanding noises : ℕ) → AreSetFor s (tables_in setups) setups → AreUnits s (new_world setups outstanding noises)
 start_units s setups outstanding noises set u kind is =
     let w : World = new_world setups outstanding noises in
     let on : (unit_at w u).declared ≡ true = sym (set.declared outstanding noises u) ∙ ap is_some is in
     let up : IsSetUp w u = record { unit = is_below w u (sound_new setups outstanding noises set.are) on; declared = on } in
     (up, ap (λ (v : UnitView). v.drive.kind) (set.set outstanding noises u up) ∙ ap (λ (o : Option DriveKind). unwrap_or o Rp06) is)
 
-pub starts_ready : (s : Script) (setups : List Setup) (outstanding noises : ℕ) → AreSetFor s setups → noises ≡ counted one_noise s.lines
+pub starts_ready : (s : Script) (setups : List Setup) (outstanding noises : ℕ) → AreSetFor s (tables_in setups) setups → noises ≡ counted one_noise s.lines
     → Ready s 0 0 0 [] (new_world setups (min outstanding 16384) noises)
 starts_ready s setups outstanding noises set count = record {
   units = start_units s setups (min outstanding 16384) noises set;
@@ -295,14 +295,14 @@ pub new_is : (units slice : List UnitSetup) (requests noises : ℕ) (state : Sta
 new_is units slice requests noises state same is =
     ap (λ (s : State). s.world) is ∙ ap (λ (us : List UnitSetup). new_world (setups_of us) (min requests 16384) noises) same
 
-pub ready_for : (s : Script) (units slice : List UnitSetup) (requests noises : ℕ) (state : State) → slice ≡ units → AreSetFor s (setups_of units)
+pub ready_for : (s : Script) (units slice : List UnitSetup) (requests noises : ℕ) (state : State) → slice ≡ units → AreSetFor s (tables_in (setups_of units)) (setups_of units)
     → noises ≡ counted one_noise s.lines → state ≡ record { world = new_world (setups_of slice) (min requests 16384) noises; outstanding = requests; failed = false }
     → Ready s 0 0 0 [] state.world
 ready_for s units slice requests noises state same set count is =
     subst (Ready s 0 0 0 []) (sym (new_is units slice requests noises state same is)) (starts_ready s (setups_of units) requests noises set count)
 
 pub whole_for : (s : Script) (units slice : List UnitSetup) (requests noises : ℕ) (state : State) (held : ℕ → Pack) (old new : Stage) → IsScript s → slice ≡ units
-    → AreSetFor s (setups_of units) → AreTablesOf (drives_of s) held (tables_in (setups_of units)) → old.held ≡ held
+    → AreSetFor s (tables_in (setups_of units)) (setups_of units) → AreTablesOf (drives_of s) held (tables_in (setups_of units)) → old.held ≡ held
     → state ≡ record { world = new_world (setups_of slice) (min requests 16384) noises; outstanding = requests; failed = false } → old.world ≡ state.world
     → old.tally ≡ tally_by (counted one_request s.lines) [] [] → ((tables : ℕ → Option Table) → PlaysScript s tables old new)
     → Tallied s held new.held new.out_tells old.said new.said new.trace_tells old.taken new.taken new.tally

@@ -1,5 +1,5 @@
 -- The units of a script, as they are set up.
-use Rattle.std.specs.Prelude.{◌≡◌, ℕ, ◌*◌, ◌<◌, ◌≤◌, ◌==◌, if◌then◌else◌, Bool, IsTrue, List, [], ◌∷◌, ◌++◌, length, Option, None, Some, is_some}
+use Rattle.std.specs.Prelude.{◌≡◌, ℕ, ◌*◌, ◌<◌, ◌≤◌, Bool, IsTrue, List, [], ◌∷◌, ◌++◌, length, Some}
 use Rattle.pack_geometry.specs.declared.DriveKind.{DriveKind}
 use Rattle.pack_geometry.specs.Geometry.{block_count}
 use Rattle.pack_model.specs.Pack.{Pack}
@@ -7,24 +7,10 @@ use Rattle.pack_model.specs.TableSpelling.{Table}
 use Rattle.pack_model.specs.PackTable.{IsTableOf}
 use Rattle.script_reader.specs.declared.statement.Statement.{Statement}
 use Rattle.script_reader.specs.declared.statement.Statement.TheVariants as says
-use Rattle.trace_replay.specs.Script.{Script, drives_of}
-use Rattle.driver_machine.specs.World.{Setup, new_world, unit_at}
+use Rattle.driver_machine.specs.World.{Setup}
 use Rattle.driver_machine.specs.Sound.{IsTableFor}
-use Rattle.driver_slots.specs.Parts.{AreSetups}
-use Rattle.driver_replay.specs.Acts.{AreSetUp}
 use Rattle.event_player.specs.declared.play.PlayFault.{PlayFault}
 use Rattle.event_player.specs.declared.play.PlayFault.TheVariants as faults
-
--- the table of a unit that is set up
-abbrev pub tables_in : List Setup → ℕ → Option Table
-tables_in [] unit = None
-tables_in (s ∷ setups) unit = if s.unit == unit then s.table else tables_in setups unit
-
--- THE SETUPS are those of the drives that a script declares, whatever room there is.
-pub record AreSetFor (script : Script) (setups : List Setup) : Type 0 where
-  pub are : AreSetups setups
-  pub set : (outstanding noises : ℕ) → AreSetUp (drives_of script) (tables_in setups) (new_world setups outstanding noises)
-  pub declared : (outstanding noises x : ℕ) → is_some (drives_of script x) ≡ (unit_at (new_world setups outstanding noises) x).declared
 
 -- A UNIT'S SETUP: its table is for its kind, and where the packs tell, its image fits, and the table is that of its pack.
 pub record IsSet (tells : Bool) (packs : ℕ → Pack) (unit : ℕ) (kind : DriveKind) (s : Setup) : Type 0 where

@@ -1,14 +1,12 @@
 -- How far a script is played: what stands between two lines of it.
-use Rattle.std.specs.Prelude.{◌≡◌, ℕ, ◌+◌, Bool, IsTrue, List, [], ◌∷◌, ◌++◌, Option, Some}
-use Rattle.pack_geometry.specs.declared.DriveKind.{DriveKind}
+use Rattle.std.specs.Prelude.{◌≡◌, ℕ, ◌+◌, Bool, IsTrue, List, [], ◌∷◌, ◌++◌, Option}
 use Rattle.pack_model.specs.Pack.{Pack}
 use Rattle.pack_model.specs.TableSpelling.{Table}
 use Rattle.trace_replay.specs.Moments.{Moment, played}
 use Rattle.trace_replay.specs.Script.{Script, Submit, Noise, Arm, Statement, Plays as PlaysInput, Line, drives_of, inputs_before}
 use Rattle.trace_replay.specs.Runs.{start_of}
 use Rattle.trace_replay.specs.Text.{trace_text}
-use Rattle.driver_machine.specs.World.{World, unit_at}
-use Rattle.driver_machine.specs.Guards.{IsSetUp}
+use Rattle.driver_machine.specs.World.{World}
 use Rattle.driver_trace.specs.Runs.{IsSoFar}
 use Rattle.driver_runs.specs.Runs.{IsKept}
 use Rattle.driver_reach.specs.Reach.{AskBelow, TablesBelow, IsWithinReach}
@@ -31,10 +29,6 @@ one_fault statement = 0
 abbrev pub counted : (Statement → ℕ) → List Line → ℕ
 counted one [] = 0
 counted one (line ∷ lines) = one line.statement + counted one lines
-
--- THE UNITS are set up as the script declares them.
-abbrev pub AreUnits : Script → World → Type 0
-AreUnits script w = (unit : ℕ) (kind : DriveKind) → drives_of script unit ≡ Some kind → IsSetUp w unit × ((unit_at w unit).drive.kind ≡ kind)
 
 -- THE RUN SO FAR, behind the first lines: its moments play these, the replay behind them stands for the driver, what is no sector
 -- stayed, each request asks for some blocks of a unit that is there, and what images have from the ends of all requests on stayed.

@@ -15,9 +15,8 @@ use Rattle.trace_replay.specs.Replay.{after_moments}
 use Rattle.trace_replay.specs.Runs.{start_of}
 use Rattle.trace_bounds.specs.Measure.{events_left}
 use Rattle.trace_replay.specs.Text.{trace_text}
-use Rattle.driver_machine.specs.declared.Made.{Made}
 use Rattle.driver_machine.specs.World.{World, Held, unit_at, slot_at}
-use Rattle.driver_machine.specs.Acts.{Act, Taken, Tried, after_all}
+use Rattle.driver_machine.specs.Acts.{Act, Tried, after_all}
 use Rattle.driver_machine.specs.Lines.{lines_of_all}
 use Rattle.driver_machine.specs.Events.{refusal_of, submit_acts, event_acts, next_event}
 use Rattle.driver_machine.specs.Guards.{IsSetUp, IsHeldFor}
@@ -38,16 +37,10 @@ use Rattle.answer_tally.specs.Counting.{Counts, CountsAll}
 use Rattle.hp_driver.specs.Subsystem.{State, IsThere}
 use Rattle.event_player.specs.declared.play.PlayFault.{PlayFault}
 use Rattle.event_player.specs.declared.play.PlayFault.TheVariants as faults
-use Rattle.event_player.specs.Playing.{AreUnits, HasRun, counted, one_request, one_noise, one_fault}
+use Rattle.one_run.specs.Steps.{AreUnits, all_taken}
+use Rattle.event_player.specs.Playing.{HasRun, counted, one_request, one_noise, one_fault}
 
--- THE ANSWERS THAT WAIT: each is taken, the oldest first; and their text
-abbrev pub takings : List Made → List Act
-takings [] = []
-takings (made ∷ rest) = Taken ∷ takings rest
-
-abbrev pub all_taken : World → World
-all_taken w = after_all w (takings w.answers)
-
+-- THE ANSWERS THAT WAIT: their text
 abbrev pub waiting_text : World → List ℕ
 waiting_text w = flat_map answer_text (waiting w)
 

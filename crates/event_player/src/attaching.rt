@@ -9,7 +9,8 @@ ghost use Rattle.script_reader.specs.Words.{all_verbs};
 ghost use Rattle.script_meaning.specs.Meaning.{meaning_of};
 ghost use Rattle.trace_replay.specs.Script.{drives_of};
 ghost use Rattle.hp_core.specs.Setups.{setup_of, setups_of};
-ghost use Rattle.event_player.specs.Attaching.{tables_in, AreSetFor, IsSet, IsFoundLong, HasRoom, Adds, RefusesLine};
+ghost use Rattle.one_run.specs.Steps.{tables_in, AreSetFor};
+ghost use Rattle.event_player.specs.Attaching.{IsSet, IsFoundLong, HasRoom, Adds, RefusesLine};
 ghost use Rattle.event_player.specs.Faults.{IsLongFor};
 ghost use Rattle.event_player.specs.Plays.{IsTooLong};
 
@@ -17,8 +18,8 @@ use crate::play::PlayFault;
 use bad144_table::{BadTable, entries};
 use drive_model::Drive;
 use hp_driver::UnitSetup;
-use outside_traits::traits::Packs;
 use mba_autoconf::{AttachFault, attach};
+use outside_traits::traits::Packs;
 use pack_geometry::DriveKind;
 use script_meaning::meaning_law;
 use script_reader::script::{Script, Stored};
@@ -100,7 +101,7 @@ pub fn attach_units<P: Packs>(
     packs: &mut P,
 ) -> Result<Vec<UnitSetup>, PlayFault>
     requires good { Spells all_verbs script.now.text (lines_in script.now) script.now.count }
-    ensures set { IfOk result (λ units. AreSetFor (meaning_of script.now) (setups_of units.items)) }
+    ensures set { IfOk result (λ units. AreSetFor (meaning_of script.now) (tables_in (setups_of units.items)) (setups_of units.items)) }
     ensures tables { IfOk result (λ units. IsTrue (P.tells packs.new)
         → AreTablesOf (drives_of (meaning_of script.now)) (P.held packs.old) (tables_in (setups_of units.items))) }
     ensures fits { OnOk result (IsTrue (P.tells packs.new) → (unit n : ℕ) → ¬ (IsTooLong (meaning_of script.now) (P.held packs.old) unit n)) }

@@ -6,6 +6,7 @@ ghost use Rattle.script_reader.specs.Grammar.{Spells};
 ghost use Rattle.script_reader.specs.Stored.{lines_in};
 ghost use Rattle.script_reader.specs.Words.{all_verbs};
 ghost use Rattle.script_meaning.specs.Meaning.{meaning_of};
+ghost use Rattle.answer_tally.specs.Counting.{tally_by};
 ghost use Rattle.event_player.specs.Plays.{Plays, Tallied, IsTooLong};
 ghost use Rattle.event_player.specs.Faults.{IsPlaying, IsBefore, IsLongFor};
 ghost use Rattle.event_player.specs.Playing.{counted, one_request};
@@ -100,6 +101,27 @@ fn bytes(alloc: Global, size: usize) -> Result<Vec<u8>, AllocError>
     vec![in alloc; 0; size]
 }
 
+/// A desk, and the room for the bytes of the longest write.
+#[derive(Drop)]
+struct Bench {
+    room: Vec<u8>,
+    desk: Desk,
+}
+
+impl Bench {
+    /// A desk at which nothing is gathered yet, and none of so many requests is answered.
+    fn new(alloc: Global, requests: u64) -> Result<Bench, PlayFault>
+        ensures room { IfOk result (λ bench. vec_len bench.room ≡ 65024) }
+        ensures gather { IfOk result (λ bench. bench.desk.gather ≡ []) }
+        ensures tally { IfOk result (λ bench. bench.desk.tally ≡ tally_by requests [] []) }
+        ensures memory { IfErr result (λ fault. fault ≡ PlayFault.Memory) }
+    {
+        let room = bytes(alloc, MOST_BYTES)?;
+        let desk = Desk::new(alloc, requests)?;
+        Ok(Bench { room, desk })
+    }
+}
+
 /// Plays the lines of a script over units that are set up for it, and behind the last line a drain, whose number is the number of
 /// lines plus one. `room` has a place for each byte of the longest write.
 fn play_lines<P: Packs, O: Sink, T: Sink>(
@@ -110,7 +132,7 @@ fn play_lines<P: Packs, O: Sink, T: Sink>(
     packs: &mut P,
     out: &mut O,
     trace: &mut T,
-) -> Result<(), PlayFault>
+) -> Result<Tally, PlayFault>
     requires good { Spells all_verbs script.now.text (lines_in script.now) script.now.count }
     requires going { subsystem.old.failed ≡ false }
     requires ready { Ready (meaning_of script.now) 0 0 0 [] subsystem.old.world }
@@ -123,6 +145,7 @@ fn play_lines<P: Packs, O: Sink, T: Sink>(
     ensures stops { IfErr result (λ fault. IsTrue (P.tells packs.new) → (tables : ℕ → Option Table) → StopsScript (meaning_of script.now) tables fault
         (stage P.tells P.held O.tells O.taken T.tells T.taken subsystem.old.world packs.old out.old trace.old desk.old.tally)
         (stage P.tells P.held O.tells O.taken T.tells T.taken subsystem.new.world packs.new out.new trace.new desk.new.tally)) }
+    ensures told { IfOk result (λ tally. tally ≡ desk.new.tally) }
     ensures requests { desk.new.tally.requests ≡ desk.old.tally.requests }
     ensures never_again { IsTrue (P.tells packs.new) → IsTrue (P.tells packs.old) }
     ensures never_again_out { IsTrue (O.tells out.new) → IsTrue (O.tells out.old) }
@@ -137,7 +160,7 @@ fn play_lines<P: Packs, O: Sink, T: Sink>(
         play_line(script, subsystem, line, room, desk, packs, out, trace)?;
     }
     drain(subsystem, number, desk, packs, out, trace)?;
-    Ok(())
+    Ok(desk.tally)
 }
 
 /// Plays a script line by line, and behind its last line a drain, whose number is the number of lines plus one. The answers of
@@ -184,10 +207,15 @@ pub fn play<P: Packs, O: Sink, T: Sink>(
     let units = attach_units(alloc, script, packs)?;
     let requests = count_requests(script);
     let noises = count_noises(script);
+    let mut bench = Bench::new(alloc, u64::from(requests))?;
     let mut subsystem = Subsystem::new(alloc, units.as_slice(), requests, noises)?;
-    let mut room = bytes(alloc, MOST_BYTES)?;
-    let mut desk = Desk::new(alloc, u64::from(requests))?;
-    let room = room.as_mut_slice();
-    play_lines(script, &mut subsystem, room, &mut desk, packs, out, trace)?;
-    Ok(desk.tally)
+    play_lines(
+        script,
+        &mut subsystem,
+        bench.room.as_mut_slice(),
+        &mut bench.desk,
+        packs,
+        out,
+        trace,
+    )
 }

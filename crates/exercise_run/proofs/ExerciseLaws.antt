@@ -19,6 +19,7 @@ use Rattle.trace_replay.specs.Runs.{IsLegalRun}
 use Rattle.block_machine.specs.LegalAnswers.{AreNoAliases}
 use Rattle.run_promises.specs.Promises.{Promises}
 use Rattle.answer_tally.specs.declared.tally.Tally.{Tally}
+use Rattle.one_run.proofs.Whole.{legal_runs_are_one}
 use Rattle.event_player.specs.declared.play.PlayFault.{PlayFault}
 use Rattle.event_player.specs.declared.play.PlayFault.TheVariants as faults
 use Rattle.event_player.specs.Playing.{counted, one_request}
@@ -113,6 +114,7 @@ exercised_for number script first last tells taken taken' tally same exercise go
       last = last;
       empty = empty;
       played = played;
+      one = legal_runs_are_one (exercise_script number) first played.plays.tables last played.plays.moments played.plays.run;
       keeps = keeps (exercise_script number) played.plays.tables first last played.plays.moments played.plays.run;
       answered = all_counted (exercise_script number) first last tells taken taken' tally good keeps small played;
     }

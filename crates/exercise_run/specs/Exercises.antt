@@ -1,6 +1,7 @@
 -- What an exercise has done.
 use Rattle.std.specs.Prelude.{◌≡◌, ◌⊎◌, ℕ, false, Bool, IsTrue, List, [], ◌++◌}
 use Rattle.pack_model.specs.Pack.{Pack}
+use Rattle.outside_traits.specs.Causes.{Rose}
 use Rattle.outside_traits.specs.Puts.{TakesFront}
 use Rattle.script_reader.specs.Grammar.{Spells}
 use Rattle.script_reader.specs.Known.{Numbered}
@@ -16,6 +17,7 @@ use Rattle.event_player.specs.Stops.{StopsPlaying}
 use Rattle.hp_exercise.specs.Exercise.{script_text}
 use Rattle.hp_exercise.specs.Statements.{script_statements}
 use Rattle.run_promises.specs.Promises.{Promises}
+use Rattle.one_run.specs.OneRun.{IsTheRun}
 use Rattle.exercise_run.specs.Room.{AreEmpty}
 use Rattle.exercise_run.specs.ExerciseText.{exercise_text}
 
@@ -31,14 +33,15 @@ pub record IsExercise (number : ℕ) : Type 0 where
   pub spelled : Spells all_verbs (script_text number) (exercise_lines number) 2051
   pub no_alias : AreNoAliases (inputs_of (exercise_script number))
 
--- IT WAS PLAYED in a legal run over empty packs, of which all is promised that is promised of a run of `play`. Where the trace tells, it
--- took just the run's lines. The tally is that of the run, and each request was answered.
+-- IT WAS PLAYED in the one legal run that the script has over empty packs, of which all is promised that is promised of a run of `play`.
+-- Where the trace tells, it took just the run's lines. The tally is that of the run, and each request was answered.
 pub record Exercised (number : ℕ) (trace_tells : Bool) (taken taken' : List ℕ) (tally : Tally) : Type 0 where
   pub exercise : IsExercise number
   pub first : ℕ → Pack
   pub last : ℕ → Pack
   pub empty : AreEmpty first
   pub played : Tallied (exercise_script number) first last false [] [] trace_tells taken taken' tally
+  pub one : IsTheRun (exercise_script number) first played.plays.tables last played.plays.moments
   pub keeps : Promises (exercise_script number) played.plays.tables first last played.plays.moments
   pub answered : tally.answers ≡ tally.requests
 
@@ -48,7 +51,8 @@ pub record IsDone (number : ℕ) (out_tells : Bool) (said said' : List ℕ) (tra
   pub exercised : Exercised number trace_tells taken taken' tally
   pub told : IsTrue out_tells → said' ≡ said ++ exercise_text number tally
 
--- A SINK FAILED: the trace, and the script was played so far; or the other sink, and it took a front of the four lines.
+-- A SINK FAILED, whose count of faults rose: the trace, and the script was played so far; or the other sink, and it took a front of the
+-- four lines.
 pub record IsCutShort (number : ℕ) (trace_tells : Bool) (taken taken' : List ℕ) : Type 0 where
   pub exercise : IsExercise number
   pub first : ℕ → Pack
@@ -61,6 +65,8 @@ pub record IsUntold (number : ℕ) (out_tells : Bool) (said said' : List ℕ) (t
   pub exercised : Exercised number trace_tells taken taken' tally
   pub front : IsTrue out_tells → TakesFront said said' (exercise_text number tally)
 
-abbrev pub IsStopped : (number : ℕ) (out_tells : Bool) (said said' : List ℕ) (trace_tells : Bool) (taken taken' : List ℕ) → Type 0
-IsStopped number out_tells said said' trace_tells taken taken' =
-    ((said' ≡ said) × IsCutShort number trace_tells taken taken') ⊎ IsUntold number out_tells said said' trace_tells taken taken'
+abbrev pub IsStopped : (number : ℕ) (out_tells : Bool) (said said' : List ℕ) (out_faults out_faults' : ℕ)
+    (trace_tells : Bool) (taken taken' : List ℕ) (trace_faults trace_faults' : ℕ) → Type 0
+IsStopped number out_tells said said' out_faults out_faults' trace_tells taken taken' trace_faults trace_faults' =
+    (Rose trace_faults trace_faults' × (said' ≡ said) × IsCutShort number trace_tells taken taken')
+    ⊎ (Rose out_faults out_faults' × IsUntold number out_tells said said' trace_tells taken taken')

@@ -79,7 +79,8 @@ pub fn run_exercise<O: Sink, T: Sink>(
     trace: &mut T,
 ) -> Result<(), ExerciseFault>
     ensures done { OnOk result (IsDone number (O.tells out.new) (O.taken out.old) (O.taken out.new) (T.tells trace.new) (T.taken trace.old) (T.taken trace.new)) }
-    ensures stopped { IsErrOf result ExerciseFault.Sink → IsStopped number (O.tells out.new) (O.taken out.old) (O.taken out.new) (T.tells trace.new) (T.taken trace.old) (T.taken trace.new) }
+    ensures stopped { IsErrOf result ExerciseFault.Sink → IsStopped number (O.tells out.new) (O.taken out.old) (O.taken out.new) (O.faults out.old) (O.faults out.new)
+        (T.tells trace.new) (T.taken trace.old) (T.taken trace.new) (T.faults trace.old) (T.faults trace.new) }
     ensures sink { IsErrOf result ExerciseFault.Sink → Rose (O.faults out.old) (O.faults out.new) ⊎ Rose (T.faults trace.old) (T.faults trace.new) }
     ensures silent { IsErrOf result ExerciseFault.Memory → out.new ≡ out.old }
     ensures untraced { IsErrOf result ExerciseFault.Memory → trace.new ≡ trace.old }

@@ -1,4 +1,12 @@
 //! The exercise: the large script of a number is played over empty packs in memory, and its tally is printed.
+//!
+//! What is proved: `run_exercise`: Ok is a legal run of the number's script over empty packs, of which all of `Promises` holds;
+//! where `trace` tells it took just its lines, and where `out` tells just the four lines of its tally, whose answers are as
+//! many as its requests. Sink has its cause, and says how far the script came, or that a front of the four lines was taken;
+//! Memory comes before anything is played. The packs are `ExercisePacks`: `SurePacks` with room for the blocks of a script;
+//! what would be written beyond it is kept as what they hold there and fails, and by the contract of `play` that never comes.
+//!
+//! Only tested, in `hpsim_rows`: worked values, beside their proofs.
 #![tactic(auto)]
 
 mod exercise;

@@ -1,10 +1,18 @@
-// The Fire code of a sector: its check, its word's remainder, and the bursts that a remainder tells.
-//
-// A sector's word is 4,128 places: its 512 bytes, each from its least significant bit on, and then the check's 32
-// bits, from the most significant on. Place k is the coefficient of x^(4127-k), and a word is right where its
-// polynomial is a multiple of x^32 + x^23 + x^21 + x^11 + x^2 + 1 = (x^21 + 1)(x^11 + x^2 + 1). That a Fire code
-// corrects one burst of at most 11 bits in a sector is as on the real drives; this generator and this order of the
-// bits are the project's own choice.
+//! The Fire code of a sector: its check, its word's remainder, and the bursts that a remainder tells.
+//!
+//! A sector's word is 4,128 places: its 512 bytes, each from its least significant bit on, and then the check's 32 bits, from
+//! the most significant on. Place k is the coefficient of x^(4127-k), and a word is right where its polynomial is a multiple of
+//! x^32 + x^23 + x^21 + x^11 + x^2 + 1 = (x^21 + 1)(x^11 + x^2 + 1). That a Fire code corrects one burst of at most 11 bits in
+//! a sector is as on the real drives; this generator and this order of the bits are the project's own choice.
+//!
+//! What is proved: `encode` gives the one check that makes a word right; `syndrome` is the word's remainder, a sum over places;
+//! `judge` is exact for every data and check, and names just the burst that was applied to a right word; `class_of`, `apply`,
+//! `Noise::new` exact; `judge_noise` is the verdict on any right word with these places flipped. `burst_law`: no short burst
+//! has remainder zero, two different ones have different remainders, and powers of x repeat after 42,987 steps and not before.
+//! The three tables are proved equal to the definition by functions over them (`tables`, `logarithms`); the plain program has
+//! the same contracts.
+//!
+//! Only tested, in `pack_rows`: worked checks and verdicts.
 #![tactic(auto)]
 
 ghost use Rattle.std.specs.Prelude.{◌≡◌, ◌≢◌, ◌<◌, ◌^◌, ◌*◌, ◌≤◌, ◌+◌, ◌-◌, ◌%◌, ◌==◌, ℕ, List, take, cond, ◌↔◌, IsTrue, All, SomeIff, bit_xor, slice_index};
@@ -270,54 +278,3 @@ pub fn burst_law()
     ensures begins { (at pattern r : ℕ) → IsBurst at pattern r → at ≤ 4128 }
     ensures period { (e d : ℕ) → (the_power (e + d) ≡ the_power e) ↔ (d % 42987 ≡ 0) }
 {}
-
-#[cfg(test)]
-mod tests {
-    use super::*;
-    use std::process::Abort;
-    use std::test::Fail;
-
-    // The check of 512 zeros, of a last byte with its highest bit set, and of one with the next bit set.
-    #[test]
-    fn fire_code_values(rt: HostRuntime) -> Result<(), Fail> {
-        for (last, check) in [(0, 0), (0x80, 0x00A0_0805), (0x40, 0x0140_100A)] {
-            let mut bytes = [0; 512];
-            bytes[511] = last;
-            assert_eq!(rt; encode(&bytes), Check(check));
-            assert_eq!(rt; plain::remainder(&bytes, Check(0)), check);
-        }
-        struck_zeros(&rt, &[4090, 4100], NoiseClass::Short, burst(4091, 0o2001))?;
-        struck_zeros(&rt, &[0, 7, 14], NoiseClass::Shown, Verdict::Uncorrectable)?;
-        struck_zeros(
-            &rt,
-            &[0, 9, 11, 21, 30, 32],
-            NoiseClass::Alias,
-            Verdict::Clean,
-        )?;
-        struck_zeros(&rt, &[4127], NoiseClass::Short, burst(4128, 1))?;
-        Ok(())
-    }
-
-    fn burst(at: u16, pattern: u16) -> Verdict {
-        Verdict::Burst { at, pattern }
-    }
-
-    // The class and the verdict of this noise in a sector of zeros, by the tables and by the plain program.
-    fn struck_zeros(
-        rt: &impl Abort,
-        places: &[u16],
-        class: NoiseClass,
-        verdict: Verdict,
-    ) -> Result<(), Fail> {
-        let noise = Noise::new(places).ok_or("no noise")?;
-        let mut bytes = [0; 512];
-        let check = apply(&noise, &mut bytes, Check(0));
-        let remainder = plain::remainder(&bytes, check);
-        assert_eq!(rt; syndrome(&bytes, check), remainder);
-        assert_eq!(rt; judge(&bytes, check), verdict);
-        assert_eq!(rt; plain::verdict_of(remainder), verdict);
-        assert_eq!(rt; judge_noise(&noise.copy()), verdict);
-        assert_eq!(rt; class_of(&noise), class);
-        Ok(())
-    }
-}

@@ -1,5 +1,12 @@
-//! What the drives and adapters are, as the contracts of all crates see them: their states as records, and each
-//! row of the hardware table as a function on a state.
+//! What the drives and adapters are, as the contracts of all crates see them: their states as records, and each row of the
+//! hardware table as a function on a state.
+//!
+//! Defined in `specs/`: the states of a drive and of an adapter as records, each row of the hardware table as a function on
+//! them, the verdict of a move, and live noise.
+//!
+//! What is proved: `status_law`: each status bit is on exactly where its condition holds. `noise_law`: at each sector noise
+//! stands in the order of its arming, and a strike uses the oldest and changes nothing else. `adapter_law`: what every adapter
+//! keeps, kept by each act.
 #![tactic(auto)]
 
 ghost use Rattle.std.specs.Prelude.{◌≡◌, ◌≢◌, ◌≤◌, ◌<◌, ◌+◌, ◌*◌, ◌==◌, ◌++◌, ℕ, Bool, true, false, List, [], ◌∷◌, All, bit_and, if◌then◌else◌};

@@ -1,5 +1,6 @@
 // The driver at its start.
-ghost use Rattle.std.specs.Prelude.{◌≡◌, ◌<◌, ◌≤◌, ◌+◌, [], List, Contains, length, min, replicate, IfOk};
+ghost use Rattle.std.specs.Prelude.{◌≡◌, ◌<◌, ◌≤◌, ◌+◌, [], List, Contains, length, min, replicate, IfOk, None};
+ghost use Rattle.hardware_table.specs.Noise.{empty_book};
 ghost use Rattle.driver_machine.specs.World.{Setup, no_unit, new_unit, new_adapter_view, set_up, new_world};
 ghost use Rattle.driver_slots.specs.Parts.{AreSetups};
 ghost use Rattle.hp_core.specs.Setups.{setup_of, setups_of};
@@ -69,6 +70,31 @@ fn free_channels(alloc: Global) -> Result<Vec<Channel>, NoMemory>
     Ok(channels)
 }
 
+/// Slots, all free, and the book of noise, which is empty.
+fn slots_and_book(
+    alloc: Global,
+    outstanding: u32,
+    noises: u32,
+) -> Result<(Slots, NoiseBook), NoMemory>
+    requires noises { noises ≤ 4096 }
+    ensures slots { IfOk result (λ v. v.0 ≡ replicate (min outstanding 16384) None) }
+    ensures book { IfOk result (λ v. v.1 ≡ empty_book noises) }
+{
+    let slots = Slots::new(alloc, outstanding)?;
+    let book = NoiseBook::new(alloc, noises)?;
+    Ok((slots, book))
+}
+
+/// No answer, and nothing gathered.
+fn answers_and_gather(alloc: Global, outstanding: u32) -> Result<(Answers, Gather), NoMemory>
+    ensures answers { IfOk result (λ v. v.0 ≡ record { made = []; most = min outstanding 16384 + 1 }) }
+    ensures gather { IfOk result (λ v. v.1 ≡ []) }
+{
+    let answers = Answers::new(alloc, outstanding.min(16384) + 1)?;
+    let gather = Gather::new(alloc)?;
+    Ok((answers, gather))
+}
+
 impl Core {
     /// The driver at its start, with these units set up, with slots for so many requests that are outstanding at a time, of
     /// which there are at most 16,384, and with room for so many noises in all. `NoMemory` where the memory is not to be had.
@@ -86,10 +112,8 @@ impl Core {
     {
         let units = units_of(alloc, setups)?;
         let channels = free_channels(alloc)?;
-        let slots = Slots::new(alloc, outstanding)?;
-        let book = NoiseBook::new(alloc, noises)?;
-        let answers = Answers::new(alloc, outstanding.min(16384) + 1)?;
-        let gather = Gather::new(alloc)?;
+        let (slots, book) = slots_and_book(alloc, outstanding, noises)?;
+        let (answers, gather) = answers_and_gather(alloc, outstanding)?;
         Ok(Core {
             units,
             channels,

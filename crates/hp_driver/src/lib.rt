@@ -1,5 +1,13 @@
 //! The driver of the disks, after 4.3BSD's `hp.c` and `mba.c`: what its users call. A call comes to the acts that the driver's
 //! machine gives for it, with their lines told to a trace.
+//!
+//! What is proved: `Subsystem`, what callers see of the driver. `submit` and `event` come to the acts that the machine gives
+//! for them (`Submits`, `Comes`), with what the packs hold; `next_event` is the drain's order, None exactly where no request is
+//! outstanding; `answer`, `take_answer` and `answer_block` show and take the oldest answer, and `answer_fill` gives a byte only
+//! where a block of it is that byte all through. The driver invariant is that of its model, so their conditions are only that
+//! no call has failed, that no answer waits, and that what is asked for is there. No call but `new` takes memory.
+//!
+//! Only tested, in `drive_rows`: worked values, beside their proofs.
 #![tactic(auto)]
 
 mod events;

@@ -1,4 +1,10 @@
-// A large script from a number.
+//! A large script from a number.
+//!
+//! What is proved: `script_of`: the text is the script of the number, word by word. `spelling_law`: it spells 2,051 known lines
+//! by the whole grammar. `bounds_law`: in these lines at most 125 requests of at most 17 frames stand between two drains, the
+//! faults strike at most 24 times, and every noise is a short burst.
+//!
+//! Only tested, in `hpsim_rows`: worked values, beside their proofs.
 #![tactic(auto)]
 
 mod draw;

@@ -1,5 +1,11 @@
-//! What the driver reads from the registers at an interrupt and before a command, after the registers of the RP06,
-//! RM03 and RM05 drives.
+//! What the driver reads from the registers at an interrupt and before a command, after the registers of the RP06, RM03 and
+//! RM05 drives.
+//!
+//! What is proved: `data_interrupt` gives the one cause that a verdict's registers have, for every verdict and each kind of
+//! drive; `verdict_of` gives the one verdict of a cause, and `shows_late` whether the adapter shows data late after a verdict;
+//! `sense`, `needs_pack` and `lowest_attention` by bits.
+//!
+//! Only tested, in `drive_rows`: worked values, beside their proofs.
 #![tactic(auto)]
 
 ghost use Rattle.std.specs.Prelude.{◌≡◌, ◌<◌, ◌↔◌, ℕ, false, IsTrue, IsNone, IfSome, Some};

@@ -1,56 +1,38 @@
-// The program: it makes the real source, sinks and packs, and ends with the status of the command.
+//! The program: it makes the real words, folder, reader, writer and trace, and ends with the status of the command, which is
+//! `hpsim_main::end_status`. Only tested: a run with real streams and files (its own, and those of `outside_rows`).
 #![tactic(auto)]
 
-#[cfg(test)]
-mod tests;
-
-use hpsim_run::{Status, run};
-use mass_outside::files::FileSink;
-use mass_outside::streams::{StdSink, StdSource};
-use pack_windows::pack_files::PackFiles;
-use pack_windows::window_packs::WindowPacks;
+use hpsim_main::{TRACE_NAME, end_status, words_of};
+use outside_files::file_sink::FileSink;
+use outside_files::os_folder::OsFolder;
 use std::alloc::Global;
-use std::io::ErrorKind;
+use std::fs::{File, OpenOptions};
 use std::process::ExitCode;
 use std::{env, io};
 
-/// The words after the program's name; there are none where one of them is not text, which is no command. None where
-/// there is no memory for them.
-fn words(rt: &HostRuntime) -> Option<Vec<String>> {
-    let mut words = Vec::new(rt.alloc());
-    let args = match env::args(rt) {
-        Ok(args) => args,
-        Err(error) => {
-            return match error.kind() {
-                ErrorKind::OutOfMemory => None,
-                _ => Some(words),
-            };
-        }
-    };
-    for word in args.skip(1) {
-        if words.push(word).is_err() {
-            return None;
-        }
-    }
-    Some(words)
+/// Three handles of the device that is empty and takes all. While they are held no file that is opened has the number of a
+/// standard stream that was closed before the program began: what is printed would go to that file, a pack's perhaps.
+fn streams(rt: &HostRuntime) -> [io::Result<File>; 3] {
+    let mut how = OpenOptions::new();
+    how.read(true).write(true);
+    [
+        how.open(rt, "/dev/null"),
+        how.open(rt, "/dev/null"),
+        how.open(rt, "/dev/null"),
+    ]
 }
 
 fn main(rt: HostRuntime) -> ExitCode {
-    let Some(words) = words(&rt) else {
-        return ExitCode::from(Status::OutOfMemory.code());
-    };
-    let Ok(mut packs) = WindowPacks::new(rt.alloc(), PackFiles::new(&rt)) else {
-        return ExitCode::from(Status::OutOfMemory.code());
-    };
-    let mut script = StdSource::new(rt.reader());
-    let mut out = StdSink::new(io::writer(&rt));
-    let mut trace = FileSink::new(&rt, "hp.trace");
-    let status = run(
+    let _streams = streams(&rt);
+    let words = words_of(rt.alloc(), env::args(&rt));
+    let folder = OsFolder::new(&rt);
+    let mut trace = FileSink::new(&rt, TRACE_NAME);
+    let status = end_status(
         rt.alloc(),
-        words.as_slice(),
-        &mut script,
-        &mut packs,
-        &mut out,
+        words,
+        folder,
+        rt.reader(),
+        io::writer(&rt),
         &mut trace,
     );
     ExitCode::from(status)

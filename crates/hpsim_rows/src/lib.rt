@@ -8,6 +8,4 @@ mod rows;
 #[cfg(test)]
 mod runs;
 #[cfg(test)]
-mod scripts;
-#[cfg(test)]
 mod stops;

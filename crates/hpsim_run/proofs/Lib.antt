@@ -4,3 +4,4 @@ pub mod ToolLaws
 pub mod WordLaws
 pub mod SoFar
 mod Standing
+mod TheRunLaws

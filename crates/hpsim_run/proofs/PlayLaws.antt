@@ -1,5 +1,5 @@
 -- What a run of `play` comes to.
-use Rattle.std.proofs.Common.{◌≡◌, ◌⊎◌, inl, inr, ℕ, ◌++◌, List, [], Bool, IsTrue, Result, Ok, Err, OnOk, OnErr, subst, sym}
+use Rattle.std.proofs.Common.{◌≡◌, ◌⊎◌, inl, inr, ℕ, ◌++◌, List, [], Bool, IsTrue, Result, Ok, Err, OnOk, OnErr, refl, subst, sym}
 use Rattle.outside_traits.specs.Causes.{HasCause}
 use Rattle.outside_traits.specs.Puts.{TakesFront}
 use Rattle.pack_model.specs.Pack.{Pack}
@@ -21,7 +21,8 @@ use Rattle.script_meaning.specs.Meaning.{meaning}
 use Rattle.event_player.specs.Plays.{IsTooLong}
 use Rattle.event_player.specs.Stops.{Leaves}
 use Rattle.hpsim_run.specs.declared.status.Status.{Status}
-use Rattle.hpsim_run.specs.Statuses.{status_code}
+use Rattle.hpsim_run.specs.declared.status.Status.TheVariants.{Done, Usage, Refused, SourceFailed, SinkFailed, PacksFailed, TooLong, ToolRefused, OutOfMemory}
+use Rattle.hpsim_run.specs.Statuses.{status_code, IsPlayCode, IsPlayStatus}
 
 -- bytes spell one script
 abbrev pub OneScript : Type 0
@@ -39,6 +40,21 @@ none_long bytes lines others count other unit n packs one spelled read none is =
 -- each status has its number
 pub coded : {status other : Status} (code : ℕ) → code ≡ status_code status → status ≡ other → code ≡ status_code other
 coded code is e = subst (λ (s : Status). code ≡ status_code s) e is
+
+-- a status of `play` has one of its numbers
+play_status : (status : Status) → IsPlayStatus status → IsPlayCode (status_code status)
+play_status Done is = inl refl
+play_status Refused is = inr (inl refl)
+play_status SourceFailed is = inr (inr (inl refl))
+play_status SinkFailed is = inr (inr (inr (inl refl)))
+play_status PacksFailed is = inr (inr (inr (inr (inl refl))))
+play_status TooLong is = inr (inr (inr (inr (inr (inl refl)))))
+play_status OutOfMemory is = inr (inr (inr (inr (inr (inr refl)))))
+play_status Usage is = absurd is
+play_status ToolRefused is = absurd is
+
+pub play_code : (status : Status) (code : ℕ) → code ≡ status_code status → IsPlayStatus status → IsPlayCode code
+play_code status code is play = subst IsPlayCode (sym is) (play_status status play)
 
 -- a text that was written whole, or whose sink failed
 written : {T E : Type 0} (result : Result T E) (taken after text : List ℕ) (faults faults_after : ℕ) (tells : Bool)

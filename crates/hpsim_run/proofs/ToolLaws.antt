@@ -1,13 +1,13 @@
 -- What runs of `bad144` come to, from what the tool's calls answer.
-use Rattle.std.proofs.Common.{arith, ◌≡◌, ◌≢◌, ◌⊎◌, inl, inr, ℕ, Bool, IsTrue, List, [], ◌∷◌, ◌++◌, refl, sym, ap, subst, ◌∙◌, zero, suc, take}
+use Rattle.std.proofs.Common.{arith, ◌≡◌, ◌≢◌, inl, inr, ℕ, Bool, IsTrue, List, [], ◌++◌, refl, sym, ap, subst, ◌∙◌, zero, suc, take}
 use Rattle.std.proofs.lemmas.List.{append-nil}
 use Rattle.outside_traits.specs.Causes.{Rose}
 use Rattle.outside_traits.specs.Puts.{TakesFront}
 use Rattle.pack_geometry.specs.declared.DriveKind.{DriveKind}
 use Rattle.pack_model.specs.Pack.{Pack}
 use Rattle.pack_model.specs.TableSpelling.{table_text}
-use Rattle.bad144_tool.specs.Adding.{Adds, IsStopped}
-use Rattle.bad144_tool.specs.Changes.{IsCutShort}
+use Rattle.bad144_tool.specs.Adding.{Adds, Fits, IsStopped}
+use Rattle.bad144_tool.specs.Changes.{IsCutShort, with_changes}
 use Rattle.bad144_tool.specs.Edit.{copies}
 use Rattle.bad144_tool.specs.Faults.{IsAddFault, IsFreshFault, IsListFault, IsWhy, Leaves}
 use Rattle.bad144_tool.specs.Texts.{ListsFront, list_text}
@@ -17,8 +17,17 @@ use Rattle.bad144_tool.specs.declared.fault.ToolFault.TheVariants as fault
 use Rattle.hpsim_run.specs.Statuses.{status_code}
 use Rattle.hpsim_run.specs.declared.status.Status.{Status}
 use Rattle.hpsim_run.specs.declared.status.Status.TheVariants.{ToolRefused}
-use Rattle.hpsim_run.specs.Tools.{RunsAdd, RunsAdded, RunsFresh, RunsList, RunsRefused, RunsTooLong, entry_text, fault_status, fault_text, too_long_text}
+use Rattle.hpsim_run.specs.Tools.{RunsAdd, RunsAdded, RunsFresh, RunsList, RunsRefused, RunsTooLong, entry_text, fault_status, fault_text, serial_text, too_long_text}
 use Rattle.hpsim_run.specs.Words.{Told}
+
+-- nothing was put behind what was taken
+nothing_more : (mid after : List ℕ) (faults faults_after : ℕ) → Told mid after [] faults faults_after → after ≡ mid
+nothing_more mid after faults faults_after (inl all) = all ∙ append-nil mid
+nothing_more mid after faults faults_after (inr (rose, (n, front))) = front ∙ ap (λ (text : List ℕ). mid ++ text) (take_nothing n) ∙ append-nil mid
+  where
+    take_nothing : (n : ℕ) → take {A = ℕ} n [] ≡ []
+    take_nothing zero = refl
+    take_nothing (suc n) = refl
 
 -- `bad144 add` answered a fault
 module _ {kind : DriveKind} {unit block : ℕ} {way : AddWay} {tells : Bool} {old new : ℕ → Pack} {out_tells : Bool} {taken after : List ℕ} {faults faults_after : ℕ} where
@@ -29,6 +38,7 @@ module _ {kind : DriveKind} {unit block : ℕ} {way : AddWay} {tells : Bool} {ol
     statuses = inr (inr (inr (inr refl)));
     added = λ e. absurd (elim e [ inl e ↦ omega (arith, e) | inr e ↦ omega (arith, e) ]);
     stopped = λ e. absurd (omega (arith, e));
+    silent = λ e. absurd (omega (arith, e));
     too_long = λ e. absurd (omega (arith, e));
     unchanged = λ e. absurd (omega (arith, e));
     refused = λ e. record { fault = f; refusal = is; why = why; same = same; told = told };
@@ -47,6 +57,7 @@ module _ {kind : DriveKind} {unit block : ℕ} {way : AddWay} {tells : Bool} {ol
     statuses = inr (inr (inr (inl refl)));
     added = λ e. absurd (elim e [ inl e ↦ omega (arith, e) | inr e ↦ omega (arith, e) ]);
     stopped = λ e. absurd (omega (arith, e));
+    silent = λ e. absurd (omega (arith, e));
     too_long = λ e. record { length = n; above = is; is = why; told = told };
     unchanged = λ e. left;
     refused = λ e. absurd (omega (arith, e));
@@ -55,6 +66,7 @@ module _ {kind : DriveKind} {unit block : ℕ} {way : AddWay} {tells : Bool} {ol
     statuses = inr (inr (inl refl));
     added = λ e. absurd (elim e [ inl e ↦ omega (arith, e) | inr e ↦ omega (arith, e) ]);
     stopped = λ e. left;
+    silent = λ e t. nothing_more taken after faults faults_after (told t);
     too_long = λ e. absurd (omega (arith, e));
     unchanged = λ e. absurd (omega (arith, e));
     refused = λ e. absurd (omega (arith, e));
@@ -68,17 +80,30 @@ module _ {kind : DriveKind} {unit block : ℕ} {way : AddWay} {tells : Bool} {ol
       subst (λ (s : Status). RunsAdd kind unit block way (status_code s) tells old new out_tells taken after faults faults_after) (sym e)
       (add_fault f is why left told)
 
-  -- a block was added, and the sink took its text or failed
-  pub add_done : (code index : ℕ) → (code ≡ 0) ⊎ (code ≡ 5) → (IsTrue tells → Adds kind unit block way old new index)
-      → (IsTrue out_tells → Told taken after (entry_text index) faults faults_after)
-      → RunsAdd kind unit block way code tells old new out_tells taken after faults faults_after
-  add_done code index is adds told = record {
-    statuses = elim is [ inl e ↦ inl e | inr e ↦ inr (inl e) ];
-    added = λ e t. record { index = index; adds = adds t; told = told };
-    stopped = λ e. absurd (elim is [ inl z ↦ omega (arith, e, z) | inr z ↦ omega (arith, e, z) ]);
-    too_long = λ e. absurd (elim is [ inl z ↦ omega (arith, e, z) | inr z ↦ omega (arith, e, z) ]);
-    unchanged = λ e. absurd (elim is [ inl z ↦ omega (arith, e, z) | inr z ↦ omega (arith, e, z) ]);
-    refused = λ e. absurd (elim is [ inl z ↦ omega (arith, e, z) | inr z ↦ omega (arith, e, z) ]);
+  -- a block was added, and the sink took its text;
+  pub add_done : (index : ℕ) → (IsTrue tells → Adds kind unit block way old new index) → (IsTrue out_tells → after ≡ taken ++ entry_text index)
+      → RunsAdd kind unit block way 0 tells old new out_tells taken after faults faults_after
+  add_done index adds told = record {
+    statuses = inl refl;
+    added = λ e t. record { index = index; adds = adds t; told = λ e. told; front = λ e. absurd (omega (arith, e)) };
+    stopped = λ e. absurd (omega (arith, e));
+    silent = λ e. absurd (omega (arith, e));
+    too_long = λ e. absurd (omega (arith, e));
+    unchanged = λ e. absurd (omega (arith, e));
+    refused = λ e. absurd (omega (arith, e));
+  }
+
+  -- or it failed, and took a front of it.
+  pub add_cut : (index : ℕ) → (IsTrue tells → Adds kind unit block way old new index) → Rose faults faults_after → (IsTrue out_tells → TakesFront taken after (entry_text index))
+      → RunsAdd kind unit block way 5 tells old new out_tells taken after faults faults_after
+  add_cut index adds rose front = record {
+    statuses = inr (inl refl);
+    added = λ e t. record { index = index; adds = adds t; told = λ e. absurd (omega (arith, e)); front = λ e. (rose, front) };
+    stopped = λ e. absurd (omega (arith, e));
+    silent = λ e. absurd (omega (arith, e));
+    too_long = λ e. absurd (omega (arith, e));
+    unchanged = λ e. absurd (omega (arith, e));
+    refused = λ e. absurd (omega (arith, e));
   }
 
 -- `bad144 fresh` answered a fault
@@ -93,17 +118,21 @@ fresh_fault (fault.TooLong n) is why stopped same told = record {
   statuses = inr (inr (inr refl));
   fits = λ e. absurd (elim e [ inl e ↦ omega (arith, e) | inr e ↦ omega (arith, e) ]);
   done = λ e. absurd (elim e [ inl e ↦ omega (arith, e) | inr e ↦ omega (arith, e) ]);
-  told = λ e. absurd (elim e [ inl e ↦ omega (arith, e) | inr e ↦ omega (arith, e) ]);
+  told = λ e. absurd (omega (arith, e));
+  front = λ e. absurd (omega (arith, e));
   stopped = λ e. absurd (omega (arith, e));
+  silent = λ e. absurd (omega (arith, e));
   too_long = λ e. record { length = n; above = is; is = why; told = told };
   unchanged = λ e. same n refl;
 }
-fresh_fault fault.Store is why stopped same told = record {
+fresh_fault {taken = taken} {after = after} {faults = faults} {faults_after = faults_after} fault.Store is why stopped same told = record {
   statuses = inr (inr (inl refl));
   fits = λ e. absurd (elim e [ inl e ↦ omega (arith, e) | inr e ↦ omega (arith, e) ]);
   done = λ e. absurd (elim e [ inl e ↦ omega (arith, e) | inr e ↦ omega (arith, e) ]);
-  told = λ e. absurd (elim e [ inl e ↦ omega (arith, e) | inr e ↦ omega (arith, e) ]);
+  told = λ e. absurd (omega (arith, e));
+  front = λ e. absurd (omega (arith, e));
   stopped = λ e. stopped refl;
+  silent = λ e t. nothing_more taken after faults faults_after (told t);
   too_long = λ e. absurd (omega (arith, e));
   unchanged = λ e. absurd (omega (arith, e));
 }
@@ -127,23 +156,29 @@ list_fault (fault.TooLong n) is why same front told = record {
   listed = λ e. absurd (omega (arith, e));
   front = λ e. absurd (omega (arith, e));
   too_long = λ e. record { length = n; above = is; is = why; told = told (λ e. absurd (no_sink e)) };
+  silent = λ e. absurd (omega (arith, e));
 }
   where
     no_sink : fault.TooLong n ≡ fault.Sink → ⊥
     no_sink e = cc
-list_fault fault.Store is why same front told = record {
+list_fault {taken = taken} {after = after} {faults = faults} {faults_after = faults_after} fault.Store is why same front told = record {
   statuses = inr (inr (inl refl));
   same = same;
   listed = λ e. absurd (omega (arith, e));
   front = λ e. absurd (omega (arith, e));
   too_long = λ e. absurd (omega (arith, e));
+  silent = λ e t. nothing_more taken after faults faults_after (told store_alone t);
 }
+  where
+    store_alone : fault.Store ≡ fault.Sink → ⊥
+    store_alone e = cc
 list_fault fault.Sink is why same front told = record {
   statuses = inr (inl refl);
   same = same;
   listed = λ e. absurd (omega (arith, e));
   front = λ e. front refl;
   too_long = λ e. absurd (omega (arith, e));
+  silent = λ e. absurd (omega (arith, e));
 }
 list_fault fault.NoTable is why same front told = absurd is
 list_fault fault.Reserved is why same front told = absurd is
@@ -160,15 +195,6 @@ pub fresh_run : {kind : DriveKind} {unit serial : ℕ} {status : Status} {tells 
 fresh_run {kind = kind} {unit = unit} {serial = serial} {tells = tells} {old = old} {new = new} {out_tells = out_tells} {taken = taken} {after = after} {faults = faults} {faults_after = faults_after} f e is why stopped same told =
     subst (λ (s : Status). RunsFresh kind unit serial (status_code s) tells old new out_tells taken after faults faults_after) (sym e)
     (fresh_fault f is why stopped same told)
-
--- nothing was put behind what was taken
-nothing_more : (mid after : List ℕ) (faults faults_after : ℕ) → Told mid after [] faults faults_after → after ≡ mid
-nothing_more mid after faults faults_after (inl all) = all ∙ append-nil mid
-nothing_more mid after faults faults_after (inr (rose, (n, front))) = front ∙ ap (λ (text : List ℕ). mid ++ text) (take_nothing n) ∙ append-nil mid
-  where
-    take_nothing : (n : ℕ) → take {A = ℕ} n [] ≡ []
-    take_nothing zero = refl
-    take_nothing (suc n) = refl
 
 -- a front of the list was taken, and then nothing more
 pub list_front : {kind : DriveKind} {pack : Pack} {mid_tells tells : Bool} {taken mid after : List ℕ} (faults faults_after : ℕ) → ListsFront kind pack mid_tells taken mid
@@ -196,10 +222,40 @@ unfolding fault_text
 sink_text unit mid after faults faults_after f e told =
     subst (λ (g : ToolFault). Told mid after (fault_text unit g) faults faults_after) e told
 
--- a text was taken whole, or a front of it
-pub told_all : (taken after text line bytes : List ℕ) (faults faults_after : ℕ) → bytes ≡ line → line ≡ text → after ≡ taken ++ bytes → Told taken after text faults faults_after
-told_all taken after text line_text bytes_text faults faults_after bytes line all = inl (all ∙ ap (λ (xs : List ℕ). taken ++ xs) (bytes ∙ line))
+-- `bad144 fresh` wrote the copies, and the sink took its text;
+module _ {kind : DriveKind} {unit serial : ℕ} {tells : Bool} {old new : ℕ → Pack} {out_tells : Bool} {taken after : List ℕ} {faults faults_after : ℕ} where
+  pub fresh_done : (IsTrue tells → Fits kind (old unit)) → (IsTrue tells → new ≡ with_changes old unit (copies kind (table_text serial [])))
+      → (IsTrue out_tells → after ≡ taken ++ serial_text serial) → RunsFresh kind unit serial 0 tells old new out_tells taken after faults faults_after
+  fresh_done fits done told = record {
+    statuses = inl refl;
+    fits = λ e. fits;
+    done = λ e. done;
+    told = λ e. told;
+    front = λ e. absurd (omega (arith, e));
+    stopped = λ e. absurd (omega (arith, e));
+    silent = λ e. absurd (omega (arith, e));
+    too_long = λ e. absurd (omega (arith, e));
+    unchanged = λ e. absurd (omega (arith, e));
+  }
 
-pub told_front : (taken after text line bytes : List ℕ) (faults faults_after : ℕ) → bytes ≡ line → line ≡ text → Rose faults faults_after → TakesFront taken after bytes
-    → Told taken after text faults faults_after
-told_front taken after text line_text bytes_text faults faults_after bytes line rose front = inr (rose, subst (λ (xs : List ℕ). TakesFront taken after xs) (bytes ∙ line) front)
+  -- or it failed, and took a front of it.
+  pub fresh_cut : (IsTrue tells → Fits kind (old unit)) → (IsTrue tells → new ≡ with_changes old unit (copies kind (table_text serial [])))
+      → Rose faults faults_after → (IsTrue out_tells → TakesFront taken after (serial_text serial)) → RunsFresh kind unit serial 5 tells old new out_tells taken after faults faults_after
+  fresh_cut fits done rose front = record {
+    statuses = inr (inl refl);
+    fits = λ e. fits;
+    done = λ e. done;
+    told = λ e. absurd (omega (arith, e));
+    front = λ e. (rose, front);
+    stopped = λ e. absurd (omega (arith, e));
+    silent = λ e. absurd (omega (arith, e));
+    too_long = λ e. absurd (omega (arith, e));
+    unchanged = λ e. absurd (omega (arith, e));
+  }
+
+-- a text was taken whole, or a front of it
+pub told_all : (taken after text line bytes : List ℕ) → bytes ≡ line → line ≡ text → after ≡ taken ++ bytes → after ≡ taken ++ text
+told_all taken after text line_text bytes_text bytes line all = all ∙ ap (λ (xs : List ℕ). taken ++ xs) (bytes ∙ line)
+
+pub told_front : (taken after text line bytes : List ℕ) → bytes ≡ line → line ≡ text → TakesFront taken after bytes → TakesFront taken after text
+told_front taken after text line_text bytes_text bytes line front = subst (λ (xs : List ℕ). TakesFront taken after xs) (bytes ∙ line) front

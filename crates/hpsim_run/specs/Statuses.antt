@@ -1,5 +1,9 @@
 -- The numbers that the program ends with.
-use Rattle.std.specs.Prelude.{◌≡◌, ◌⊎◌, ℕ}
+use Rattle.std.specs.Prelude.{◌≡◌, ◌⊎◌, ℕ, Option, None, Some}
+use Rattle.pack_geometry.specs.declared.DriveKind.{DriveKind}
+use Rattle.bad144_tool.specs.declared.edit.AddWay.{AddWay}
+use Rattle.hpsim_run.specs.declared.words.Command.{Command}
+use Rattle.hpsim_run.specs.declared.words.Command.TheVariants.{Play, ListTable, AddBlock, FreshTable, Exercise}
 use Rattle.hpsim_run.specs.declared.status.Status.{Status}
 use Rattle.hpsim_run.specs.declared.status.Status.TheVariants.{Done, Usage, Refused, SourceFailed, SinkFailed, PacksFailed, TooLong, ToolRefused, OutOfMemory}
 
@@ -14,12 +18,30 @@ status_code TooLong = 7
 status_code ToolRefused = 8
 status_code OutOfMemory = 9
 
--- a number is a status's
-abbrev pub IsStatus : ℕ → Type 0
-IsStatus code = (code ≡ status_code Done) ⊎ (code ≡ status_code Usage) ⊎ (code ≡ status_code Refused) ⊎ (code ≡ status_code SourceFailed)
-    ⊎ (code ≡ status_code SinkFailed) ⊎ (code ≡ status_code PacksFailed) ⊎ (code ≡ status_code TooLong) ⊎ (code ≡ status_code ToolRefused) ⊎ (code ≡ status_code OutOfMemory)
+-- the statuses of `play`, of the three commands of `bad144`, and of `exercise`
+abbrev pub IsPlayCode : ℕ → Type 0
+IsPlayCode code = (code ≡ status_code Done) ⊎ (code ≡ status_code Refused) ⊎ (code ≡ status_code SourceFailed) ⊎ (code ≡ status_code SinkFailed)
+    ⊎ (code ≡ status_code PacksFailed) ⊎ (code ≡ status_code TooLong) ⊎ (code ≡ status_code OutOfMemory)
 
--- the statuses of `play`
+abbrev pub IsToolCode : ℕ → Type 0
+IsToolCode code = (code ≡ status_code Done) ⊎ (code ≡ status_code SinkFailed) ⊎ (code ≡ status_code PacksFailed) ⊎ (code ≡ status_code TooLong)
+
+abbrev pub IsAddCode : ℕ → Type 0
+IsAddCode code = (code ≡ status_code Done) ⊎ (code ≡ status_code SinkFailed) ⊎ (code ≡ status_code PacksFailed) ⊎ (code ≡ status_code TooLong) ⊎ (code ≡ status_code ToolRefused)
+
+abbrev pub IsExerciseCode : ℕ → Type 0
+IsExerciseCode code = (code ≡ status_code Done) ⊎ (code ≡ status_code SinkFailed) ⊎ (code ≡ status_code OutOfMemory)
+
+-- EACH COMMAND has its statuses, and words that are none have the usage's.
+pub record IsStatusOf (command : Option Command) (code : ℕ) : Type 0 where
+  pub none : command ≡ None → code ≡ status_code Usage
+  pub play : command ≡ Some Play → IsPlayCode code
+  pub list : (unit : ℕ) (kind : DriveKind) → command ≡ Some (ListTable unit kind) → IsToolCode code
+  pub add : (unit block : ℕ) (kind : DriveKind) (way : AddWay) → command ≡ Some (AddBlock unit kind block way) → IsAddCode code
+  pub fresh : (unit serial : ℕ) (kind : DriveKind) → command ≡ Some (FreshTable unit kind serial) → IsToolCode code
+  pub exercise : (number : ℕ) → command ≡ Some (Exercise number) → IsExerciseCode code
+
+-- a status of `play`
 abbrev pub IsPlayStatus : Status → Type 0
 IsPlayStatus Done = Unit {0}
 IsPlayStatus Refused = Unit {0}

@@ -2,6 +2,8 @@
 use Rattle.std.specs.Prelude.{◌≡◌, ◌⊎◌, ℕ, ◌<◌, ◌*◌, Bool, IsTrue, List, [], ◌∷◌, ◌++◌, codes, decimal}
 use Rattle.pack_geometry.specs.declared.DriveKind.{DriveKind}
 use Rattle.pack_geometry.specs.Geometry.{block_count}
+use Rattle.outside_traits.specs.Causes.{Rose}
+use Rattle.outside_traits.specs.Puts.{TakesFront}
 use Rattle.pack_model.specs.Pack.{Pack}
 use Rattle.pack_model.specs.TableSpelling.{table_text}
 use Rattle.bad144_tool.specs.Adding.{Adds, Fits, IsStopped, IsTooLong}
@@ -63,12 +65,14 @@ pub record RunsList (kind : DriveKind) (unit code : ℕ) (tells : Bool) (old new
   pub listed : code ≡ 0 → IsTrue tells → Lists kind (old unit) out_tells taken after
   pub front : code ≡ 5 → IsTrue tells → ListsFront kind (old unit) out_tells taken after
   pub too_long : code ≡ 7 → RunsTooLong kind unit tells (old unit) out_tells taken after faults faults_after
+  pub silent : code ≡ 6 → IsTrue out_tells → after ≡ taken
 
--- a block was added, and its entry's index was printed, or a front of that where the sink failed
-pub record RunsAdded (kind : DriveKind) (unit block : ℕ) (way : AddWay) (old new : ℕ → Pack) (out_tells : Bool) (taken after : List ℕ) (faults faults_after : ℕ) : Type 0 where
+-- a block was added, and its entry's index was printed; or a front of that, where the sink failed
+pub record RunsAdded (kind : DriveKind) (unit block : ℕ) (way : AddWay) (code : ℕ) (old new : ℕ → Pack) (out_tells : Bool) (taken after : List ℕ) (faults faults_after : ℕ) : Type 0 where
   pub index : ℕ
   pub adds : Adds kind unit block way old new index
-  pub told : IsTrue out_tells → Told taken after (entry_text index) faults faults_after
+  pub told : code ≡ 0 → IsTrue out_tells → after ≡ taken ++ entry_text index
+  pub front : code ≡ 5 → Rose faults faults_after × (IsTrue out_tells → TakesFront taken after (entry_text index))
 
 -- the tool refused: nothing was changed, and why is printed
 pub record RunsRefused (kind : DriveKind) (unit block : ℕ) (tells : Bool) (old new : ℕ → Pack) (out_tells : Bool) (taken after : List ℕ) (faults faults_after : ℕ) : Type 0 where
@@ -81,18 +85,21 @@ pub record RunsRefused (kind : DriveKind) (unit block : ℕ) (tells : Bool) (old
 -- `bad144 add`
 pub record RunsAdd (kind : DriveKind) (unit block : ℕ) (way : AddWay) (code : ℕ) (tells : Bool) (old new : ℕ → Pack) (out_tells : Bool) (taken after : List ℕ) (faults faults_after : ℕ) : Type 0 where
   pub statuses : (code ≡ 0) ⊎ (code ≡ 5) ⊎ (code ≡ 6) ⊎ (code ≡ 7) ⊎ (code ≡ 8)
-  pub added : (code ≡ 0) ⊎ (code ≡ 5) → IsTrue tells → RunsAdded kind unit block way old new out_tells taken after faults faults_after
+  pub added : (code ≡ 0) ⊎ (code ≡ 5) → IsTrue tells → RunsAdded kind unit block way code old new out_tells taken after faults faults_after
   pub stopped : code ≡ 6 → IsTrue tells → IsStopped kind unit block way old new
+  pub silent : code ≡ 6 → IsTrue out_tells → after ≡ taken
   pub too_long : code ≡ 7 → RunsTooLong kind unit tells (old unit) out_tells taken after faults faults_after
   pub unchanged : code ≡ 7 → IsTrue tells → new ≡ old
   pub refused : code ≡ 8 → RunsRefused kind unit block tells old new out_tells taken after faults faults_after
 
--- `bad144 fresh`: the five copies of an empty table are written, and its serial number is printed
+-- `bad144 fresh`: the five copies of an empty table are written, and its serial number is printed; or a front of that, where the sink failed
 pub record RunsFresh (kind : DriveKind) (unit serial code : ℕ) (tells : Bool) (old new : ℕ → Pack) (out_tells : Bool) (taken after : List ℕ) (faults faults_after : ℕ) : Type 0 where
   pub statuses : (code ≡ 0) ⊎ (code ≡ 5) ⊎ (code ≡ 6) ⊎ (code ≡ 7)
   pub fits : (code ≡ 0) ⊎ (code ≡ 5) → IsTrue tells → Fits kind (old unit)
   pub done : (code ≡ 0) ⊎ (code ≡ 5) → IsTrue tells → new ≡ with_changes old unit (copies kind (table_text serial []))
-  pub told : (code ≡ 0) ⊎ (code ≡ 5) → IsTrue out_tells → Told taken after (serial_text serial) faults faults_after
+  pub told : code ≡ 0 → IsTrue out_tells → after ≡ taken ++ serial_text serial
+  pub front : code ≡ 5 → Rose faults faults_after × (IsTrue out_tells → TakesFront taken after (serial_text serial))
   pub stopped : code ≡ 6 → IsTrue tells → IsCutShort old new unit (copies kind (table_text serial []))
+  pub silent : code ≡ 6 → IsTrue out_tells → after ≡ taken
   pub too_long : code ≡ 7 → RunsTooLong kind unit tells (old unit) out_tells taken after faults faults_after
   pub unchanged : code ≡ 7 → IsTrue tells → new ≡ old

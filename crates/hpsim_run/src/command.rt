@@ -8,7 +8,8 @@ ghost use Rattle.event_player.specs.Plays.{IsTooLong};
 ghost use Rattle.hpsim_run.specs.Exercises.{RunsExercise};
 ghost use Rattle.hpsim_run.specs.Headline.{Headline, HasStopped, SpellNone, TellsRefusal, TellsTooLong, longest};
 ghost use Rattle.event_player.specs.declared.play.PlayFault.TheVariants.{Store as StoreFault, Sink as SinkFault};
-ghost use Rattle.hpsim_run.specs.Statuses.{status_code, IsPlayStatus, IsStatus};
+ghost use Rattle.hpsim_run.specs.Statuses.{status_code, IsPlayStatus, IsStatusOf};
+ghost use Rattle.hpsim_run.specs.TheRun.{IsThatRun};
 ghost use Rattle.hpsim_run.specs.Tools.{RunsAdd, RunsFresh, RunsList};
 ghost use Rattle.hpsim_run.specs.Words.{command_of as the_command, usage_text, Told};
 ghost use Rattle.pack_geometry.specs.declared.DriveKind.{DriveKind};
@@ -107,8 +108,8 @@ fn run_play<S: Source, P: Packs, O: Sink, T: Sink>(
 /// | 4 | SourceFailed | only where the source's count of faults rose | nothing |
 /// | 5 | SinkFailed | only where the count of `out` or of `trace` rose | nothing further |
 /// | 6 | PacksFailed | only where the packs' count rose | nothing further |
-/// | 7 | TooLong | exactly where the image of a declared unit, or of the unit of a `bad144` command, is longer than its pack | `too long unit U length L` |
-/// | 8 | ToolRefused | exactly where `bad144 add` is refused | `refused no table`, `refused reserved`, `refused listed I`, `refused full`, `refused spare I` |
+/// | 7 | TooLong | only where the image of a declared unit, or of the unit of a `bad144` command, is longer than its pack, and there unless 4, 6 or 9 comes | `too long unit U length L` |
+/// | 8 | ToolRefused | only where `bad144 add` is refused, and there unless 6 or 7 comes | `refused no table`, `refused reserved`, `refused listed I`, `refused full`, `refused spare I` |
 /// | 9 | OutOfMemory | there was no memory, before the first line was played; only of `play` and `exercise` | nothing |
 pub fn run<S: Source, P: Packs, O: Sink, T: Sink>(
     alloc: Global,
@@ -123,6 +124,11 @@ pub fn run<S: Source, P: Packs, O: Sink, T: Sink>(
         Headline (S.tells script.new) (S.left script.old) (S.left script.new) (P.tells packs.new) (P.held packs.old) (P.held packs.new)
         (O.tells out.new) (O.taken out.old) (O.taken out.new) (T.tells trace.new) (T.taken trace.old) (T.taken trace.new) }
 
+    // It is the one legal run that the script has over these packs.
+    ensures one { (lines : List Numbered) → (count : ℕ) → the_command words.now ≡ Some Play → result ≡ status_code Done → IsTrue (S.tells script.new) → IsTrue (P.tells packs.new)
+        → Spells all_verbs (S.left script.old) lines count
+        → IsThatRun lines count (P.held packs.old) (P.held packs.new) (O.tells out.new) (O.taken out.old) (O.taken out.new) (T.tells trace.new) (T.taken trace.old) (T.taken trace.new) }
+
     // What stands after a stop.
     ensures stopped { the_command words.now ≡ Some Play → result ≡ status_code SinkFailed → HasStopped SinkFault (S.tells script.new) (S.left script.old) (S.left script.new) (P.tells packs.new) (P.held packs.old) (P.held packs.new)
         (O.tells out.new) (O.taken out.old) (O.taken out.new) (T.tells trace.new) (T.taken trace.old) (T.taken trace.new) }
@@ -130,7 +136,7 @@ pub fn run<S: Source, P: Packs, O: Sink, T: Sink>(
         (O.tells out.new) (O.taken out.old) (O.taken out.new) (T.tells trace.new) (T.taken trace.old) (T.taken trace.new) }
 
     // Each other status has its cause, and comes exactly there where one can see it.
-    ensures statuses { IsStatus result }
+    ensures statuses { IsStatusOf (the_command words.now) result }
     ensures usage { (result ≡ status_code Usage) ↔ (the_command words.now ≡ None) }
     ensures refused { the_command words.now ≡ Some Play → result ≡ status_code Refused → TellsRefusal (S.tells script.new) (S.left script.old)
         (O.tells out.new) (O.taken out.old) (O.taken out.new) (O.faults out.old) (O.faults out.new) }
@@ -164,7 +170,8 @@ pub fn run<S: Source, P: Packs, O: Sink, T: Sink>(
 
     // The exercise, which leaves the packs that are handed in alone.
     ensures exercise { (number : ℕ) → the_command words.now ≡ Some (Exercise number) →
-        RunsExercise number result (O.tells out.new) (O.taken out.old) (O.taken out.new) (T.tells trace.new) (T.taken trace.old) (T.taken trace.new) }
+        RunsExercise number result (O.tells out.new) (O.taken out.old) (O.taken out.new) (O.faults out.old) (O.faults out.new)
+        (T.tells trace.new) (T.taken trace.old) (T.taken trace.new) (T.faults trace.old) (T.faults trace.new) }
     ensures exercise_ends { (number : ℕ) → the_command words.now ≡ Some (Exercise number) →
         ¬ Rose (O.faults out.old) (O.faults out.new) → ¬ Rose (T.faults trace.old) (T.faults trace.new) → (result ≡ status_code Done) ⊎ (result ≡ status_code OutOfMemory) }
     ensures exercise_packs { (number : ℕ) → the_command words.now ≡ Some (Exercise number) → packs.new ≡ packs.old }

@@ -16,8 +16,8 @@ pub(crate) fn run_exercise<O: Sink, T: Sink>(
     out: &mut O,
     trace: &mut T,
 ) -> Status
-    ensures runs { RunsExercise number (status_code result) (O.tells out.new) (O.taken out.old) (O.taken out.new)
-        (T.tells trace.new) (T.taken trace.old) (T.taken trace.new) }
+    ensures runs { RunsExercise number (status_code result) (O.tells out.new) (O.taken out.old) (O.taken out.new) (O.faults out.old) (O.faults out.new)
+        (T.tells trace.new) (T.taken trace.old) (T.taken trace.new) (T.faults trace.old) (T.faults trace.new) }
     ensures sink { result ≡ SinkFailed → Rose (O.faults out.old) (O.faults out.new) ⊎ Rose (T.faults trace.old) (T.faults trace.new) }
     ensures silent { result ≡ OutOfMemory → out.new ≡ out.old }
     ensures untraced { result ≡ OutOfMemory → trace.new ≡ trace.old }

@@ -1,4 +1,10 @@
 //! The sizes of the drives, and where their blocks lie, after the manuals of the RP06, RM03 and RM05 drives.
+//!
+//! What is proved: `geometry_of`, `blocks`, `data_limit` give the numbers of the RP06, RM03 and RM05; `track_and_sector` is the
+//! word `track*256 + sector`. `place_of` and `block_of` are exact and inverse inside the geometry (`place_law`); data blocks,
+//! replacements and table copies lie apart, in this order (`apart_law`); `kind_of` is exact.
+//!
+//! Only tested, in `pack_rows`: worked values, beside their proofs.
 #![tactic(auto)]
 
 ghost use Rattle.std.specs.Prelude.{◌≡◌, ◌≢◌, ◌<◌, ◌≤◌, ◌-◌, ◌↔◌, ℕ, IfNone, SomeIff};
@@ -176,53 +182,3 @@ pub fn apart_law(kind: DriveKind)
     ensures different_replacements { (i j : ℕ) → i < 126 → j < 126 → i ≢ j → replacement_at kind i ≢ replacement_at kind j }
     ensures different_copies { (k l : ℕ) → k < 5 → l < 5 → k ≢ l → copy_at kind k ≢ copy_at kind l }
 {}
-
-#[cfg(test)]
-mod tests {
-    use super::*;
-
-    // Places worked out by hand from the drives' sizes, and the ends of a pack.
-    #[test]
-    fn places_and_parts(rt: HostRuntime) {
-        use DriveKind::{Rm03, Rm05, Rp06};
-        for (kind, block, cylinder, track, sector) in [
-            (Rp06, 0, 0, 0, 0),
-            (Rp06, 1000, 2, 7, 10),
-            (Rp06, 340669, 814, 18, 21),
-            (Rm03, 159, 0, 4, 31),
-            (Rm03, 160, 1, 0, 0),
-            (Rm03, 131679, 822, 4, 31),
-            (Rm05, 1000, 1, 12, 8),
-            (Rm05, 500225, 822, 14, 1),
-            (Rm05, 500383, 822, 18, 31),
-        ] {
-            if block >= blocks(kind) {
-                assert!(rt; false, "block {block} is beyond the pack");
-            } else {
-                let place = Place {
-                    cylinder,
-                    track,
-                    sector,
-                };
-                assert!(rt; place_of(kind, block) == place, "block {block}");
-                assert!(rt; block_of(kind, place) == Some(block), "block {block}");
-            }
-        }
-        assert_eq!(rt;
-            (copy_block(Rp06, 0), copy_block(Rp06, 4)),
-            (340648, 340656)
-        );
-        assert_eq!(rt;
-            (replacement(Rm03, 0), replacement(Rm03, 125)),
-            (131647, 131522)
-        );
-        assert_eq!(rt;
-            (
-                copy_block(Rm05, 0),
-                copy_block(Rm05, 4),
-                replacement(Rm05, 0)
-            ),
-            (500352, 500360, 500351)
-        );
-    }
-}

@@ -1,5 +1,16 @@
-//! What a pack holds, as the contracts of all crates see it: image and mark bytes, the bad-sector table, and the home
-//! and the content of each data block.
+//! What a pack holds, as the contracts of all crates see it: image and mark bytes, the bad-sector table, and the home and the
+//! content of each data block.
+//!
+//! Defined in `specs/`: packs, the spelling of a bad-sector table, the table of a pack by its five copies, homes and contents
+//! by the drive's kind and that table.
+//!
+//! What is proved: `block_law`: a block that was written is read again, and no other changed. `table_law`: bytes spell one
+//! table of a kind at most, and each table has one spelling, of 512 bytes. `pack_table_law`: a pack has one table at most, by
+//! its copies alone. `home_law`: no two data blocks share a home. `home_write_law`: a write at a home leaves the copies, the
+//! tables and every other block's content. `table_edit_law`: the writes that list a block leave every other data block's
+//! content; `two_edits_law`: two of them come to the same in either order.
+//!
+//! Only tested, in `pack_rows`: worked values, beside their proofs.
 #![tactic(auto)]
 
 ghost use Rattle.std.specs.Prelude.{◌≡◌, ◌≢◌, ◌≤◌, ◌<◌, ℕ, true, false, List, Option, Some, length};

@@ -1,4 +1,3 @@
-use mass_outside::files::{FilePacks, FileSink};
 use mass_outside::mem_packs::{FailCall, MemPacks, PackOp};
 use mass_outside::mem_streams::{MemSink, MemSource, SureSink, SureSource};
 use mass_outside::slots::Image;
@@ -6,12 +5,10 @@ use mass_outside::streams::{StdSink, StdSource};
 use mass_outside::sure_packs::SurePacks;
 use outside_traits::traits::{Packs, Sink, Source, StoreFailed};
 use outside_traits::whole::{read_all, write_all};
-use std::alloc::{Allocator, Global};
-use std::fs::{File, Metadata, OpenOptions};
+use std::alloc::Global;
+use std::io;
 use std::io::{ErrorKind, Read, Write};
-use std::rt::Files;
 use std::test::Fail;
-use std::{fs, io};
 
 /// Reads three pieces of at most two bytes, and answers how many bytes each gave; 9 stands for a failure.
 fn pieces<S: Source>(source: &mut S) -> [u8; 3] {
@@ -230,123 +227,6 @@ pub(crate) fn answer<P: Packs>(packs: &mut P, unit: u8, call: Call) -> Result<u6
     }
 }
 
-/// What calls on the packs of files answer. Unit 28 has an image of 700 bytes 255 and the marks 0, 7 and 1, the image
-/// of unit 27 is a folder, and the other units have no files.
-const FILES: [(u8, Call, Option<u64>); 32] = [
-    (29, Call::Length, Some(0)),
-    (29, Call::Read(3), Some(0)),
-    (29, Call::Marked(5), Some(0)),
-    (28, Call::Length, Some(700)),
-    (28, Call::Read(0), Some(0xFFFF)),
-    (28, Call::Read(1), Some(0xFF00)),
-    (28, Call::Read(2), Some(0)),
-    (28, Call::Marked(0), Some(0)),
-    (28, Call::Marked(1), Some(1)),
-    (28, Call::Marked(2), Some(1)),
-    (28, Call::Marked(3), Some(0)),
-    (28, Call::Mark(1, false), Some(0)),
-    (28, Call::Marked(1), Some(0)),
-    (28, Call::Marked(2), Some(1)),
-    (28, Call::Mark(4, true), Some(0)),
-    (28, Call::Marked(4), Some(1)),
-    (28, Call::Marked(3), Some(0)),
-    (28, Call::Write(3, 5), Some(0)),
-    (28, Call::Length, Some(2048)),
-    (28, Call::Read(3), Some(0x0505)),
-    (28, Call::Read(2), Some(0)),
-    (28, Call::Read(0), Some(0xFFFF)),
-    (27, Call::Length, None),
-    (27, Call::Read(0), None),
-    (27, Call::Write(0, 1), None),
-    (27, Call::Marked(0), Some(0)),
-    (26, Call::Write(340_670, 5), Some(0)),
-    (26, Call::Length, Some(174_423_552)),
-    (26, Call::Read(340_670), Some(0x0505)),
-    (26, Call::Read(340_669), Some(0)),
-    (26, Call::Read(340_671), Some(0)),
-    (29, Call::Length, Some(0)),
-];
-
-/// What they answer afterwards where no file may be written: unit 28 is read, and nothing is written or made.
-const READ_ONLY: [(u8, Call, Option<u64>); 10] = [
-    (28, Call::Write(0, 1), None),
-    (28, Call::Mark(1, true), None),
-    (28, Call::Length, Some(2048)),
-    (28, Call::Read(3), Some(0x0505)),
-    (28, Call::Marked(2), Some(1)),
-    (28, Call::Write(0, 1), None),
-    (28, Call::Mark(1, true), None),
-    (28, Call::Read(0), Some(0xFFFF)),
-    (28, Call::Marked(1), Some(0)),
-    (29, Call::Write(0, 1), None),
-];
-
-/// What they answer where no file may be opened: a file that is there is not taken for a missing one.
-const SHUT: [(u8, Call, Option<u64>); 6] = [
-    (28, Call::Length, None),
-    (28, Call::Read(0), None),
-    (28, Call::Write(0, 1), None),
-    (28, Call::Marked(2), None),
-    (28, Call::Mark(1, true), None),
-    (29, Call::Length, None),
-];
-
-/// The files of the working folder, of which none may be opened for writing, or none at all.
-#[derive(Drop)]
-struct Guarded<'a> {
-    rt: &'a HostRuntime,
-    reads: bool,
-}
-
-impl<'a> Files for Guarded<'a> {
-    type File = File;
-
-    type Dir = <HostRuntime as Files>::Dir;
-
-    fn open_file(&self, how: &OpenOptions, path: &str) -> io::Result<File> {
-        if how.asks_write() || !self.reads {
-            return Err(io::Error::from(ErrorKind::PermissionDenied));
-        }
-        self.rt.open_file(how, path)
-    }
-
-    fn open_dir(&self, path: &str) -> io::Result<Self::Dir> {
-        self.rt.open_dir(path)
-    }
-
-    fn metadata(&self, path: &str) -> io::Result<Metadata> {
-        fs::metadata(self.rt, path)
-    }
-
-    fn symlink_metadata(&self, path: &str) -> io::Result<Metadata> {
-        fs::symlink_metadata(self.rt, path)
-    }
-
-    fn copy(&self, _from: &str, _to: &str) -> io::Result<u64> {
-        Err(io::Error::from(ErrorKind::PermissionDenied))
-    }
-
-    fn rename(&self, _from: &str, _to: &str) -> io::Result<()> {
-        Err(io::Error::from(ErrorKind::PermissionDenied))
-    }
-
-    fn remove_file(&self, _path: &str) -> io::Result<()> {
-        Err(io::Error::from(ErrorKind::PermissionDenied))
-    }
-
-    fn create_dir(&self, _path: &str) -> io::Result<()> {
-        Err(io::Error::from(ErrorKind::PermissionDenied))
-    }
-
-    fn remove_dir(&self, _path: &str) -> io::Result<()> {
-        Err(io::Error::from(ErrorKind::PermissionDenied))
-    }
-
-    fn remove_dir_all<B: Allocator>(&self, _alloc: B, _path: &str) -> io::Result<()> {
-        Err(io::Error::from(ErrorKind::PermissionDenied))
-    }
-}
-
 /// The first call of a list that answers something else, or its length.
 pub(crate) fn first_other<P: Packs>(packs: &mut P, calls: &[(u8, Call, Option<u64>)]) -> usize {
     for (i, (unit, call, want)) in calls.iter().enumerate() {
@@ -355,71 +235,6 @@ pub(crate) fn first_other<P: Packs>(packs: &mut P, calls: &[(u8, Call, Option<u6
         }
     }
     calls.len()
-}
-
-#[test]
-fn packs_in_files(rt: HostRuntime) -> Result<(), Fail> {
-    let alloc = rt.alloc();
-    fs::write(&rt, "hp28.dsk", &[0xFF; 700])?;
-    fs::write(&rt, "hp28.bad", &[0, 7, 1])?;
-    fs::create_dir(&rt, "hp27.dsk")?;
-    assert_eq!(rt; first_other(&mut FilePacks::new(&rt), &FILES), FILES.len());
-    let guarded = Guarded {
-        rt: &rt,
-        reads: true,
-    };
-    assert_eq!(rt;
-        first_other(&mut FilePacks::new((guarded, alloc)), &READ_ONLY),
-        READ_ONLY.len()
-    );
-    let guarded = Guarded {
-        rt: &rt,
-        reads: false,
-    };
-    assert_eq!(rt;
-        first_other(&mut FilePacks::new((guarded, alloc)), &SHUT),
-        SHUT.len()
-    );
-    assert_eq!(rt;
-        fs::read(&rt, "hp28.bad")?.as_slice(),
-        [0u8, 0, 1, 0, 1].as_slice()
-    );
-    for name in ["hp29.dsk", "hp29.bad", "hp27.bad"] {
-        assert!(rt; !fs::exists(&rt, name)?, "{name} is there");
-    }
-    fs::remove_dir(&rt, "hp27.dsk")?;
-    for name in ["hp28.dsk", "hp28.bad", "hp26.dsk"] {
-        fs::remove_file(&rt, name)?;
-    }
-    Ok(())
-}
-
-#[test]
-fn missing_until_written(rt: HostRuntime) -> Result<(), Fail> {
-    let mut packs = FilePacks::new(&rt);
-    assert!(rt; packs.length(25) == Ok(0));
-    fs::write(&rt, "hp25.dsk", &[1; 512])?;
-    assert!(rt; packs.length(25) == Ok(0), "it was missing");
-    assert!(rt; packs.write(25, 1, &[2; 512]).is_ok());
-    assert!(rt; packs.length(25) == Ok(1024), "it is opened to be written");
-    fs::remove_file(&rt, "hp25.dsk")?;
-    assert!(rt; packs.length(25) == Ok(1024), "it stays open");
-    Ok(())
-}
-
-#[test]
-fn file_sink(rt: HostRuntime) -> Result<(), Fail> {
-    fs::write(&rt, "hp.trace", b"an older and longer text")?;
-    let mut file = FileSink::new(&rt, "hp.trace");
-    write_all(&mut file, b"idle 1\n")?;
-    write_all(&mut file, b"idle 2\n")?;
-    let text = fs::read_to_string(&rt, "hp.trace")?;
-    assert_eq!(rt; text.as_str(), "idle 1\nidle 2\n");
-    fs::remove_file(&rt, "hp.trace")?;
-    fs::create_dir(&rt, "hp.trace")?;
-    assert!(rt; write_all(&mut FileSink::new(&rt, "hp.trace"), b"idle 1\n").is_err());
-    fs::remove_dir(&rt, "hp.trace")?;
-    Ok(())
 }
 
 /// The operation of a call.

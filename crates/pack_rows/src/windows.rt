@@ -2,11 +2,9 @@ use crate::outside::{Call, answer, first_other};
 use mass_outside::mem_packs::{FailCall, MemPacks, PackOp};
 use mass_outside::slots::Image;
 use outside_traits::traits::{Packs, StoreFailed};
-use pack_windows::pack_files::PackFiles;
-use pack_windows::wide_packs::WidePacks;
+use outside_traits::wide_packs::WidePacks;
 use pack_windows::window_packs::WindowPacks;
 use std::alloc::Global;
-use std::fs;
 use std::test::Fail;
 
 /// Packs in memory whose wide calls read block for block, and mark for mark.
@@ -146,43 +144,6 @@ fn packs_behind_windows(rt: HostRuntime) -> Result<(), Fail> {
             CALLS.len(),
             "read {number}"
         );
-    }
-    Ok(())
-}
-
-/// What calls answer on packs in files. Unit 24 has an image of 700 bytes 255 and the marks 0, 7 and 1; unit 23 has no
-/// files.
-const FILES: [(u8, Call, Option<u64>); 14] = [
-    (23, Call::Read(3), Some(0)),
-    (23, Call::Marked(3), Some(0)),
-    (24, Call::Read(0), Some(0xFFFF)),
-    (24, Call::Read(1), Some(0xFF00)),
-    (24, Call::Read(9), Some(0)),
-    (24, Call::Marked(1), Some(1)),
-    (24, Call::Marked(3), Some(0)),
-    (24, Call::Write(9, 5), Some(0)),
-    (24, Call::Read(9), Some(0x0505)),
-    (24, Call::Mark(3, true), Some(0)),
-    (24, Call::Marked(3), Some(1)),
-    (23, Call::Write(70, 6), Some(0)),
-    (23, Call::Read(70), Some(0x0606)),
-    (23, Call::Read(3), Some(0)),
-];
-
-#[test]
-fn files_behind_windows(rt: HostRuntime) -> Result<(), Fail> {
-    fs::write(&rt, "hp24.dsk", &[0xFF; 700])?;
-    fs::write(&rt, "hp24.bad", &[0, 7, 1])?;
-    let mut packs = WindowPacks::new(rt.alloc(), PackFiles::new(&rt))?;
-    assert_eq!(rt; first_other(&mut packs, &FILES), FILES.len());
-    // Other packs over the same files find what was written.
-    let mut again = WindowPacks::new(rt.alloc(), PackFiles::new(&rt))?;
-    assert!(rt; answer(&mut again, 24, Call::Read(9)).ok() == Some(0x0505));
-    assert!(rt; answer(&mut again, 24, Call::Marked(3)).ok() == Some(1));
-    assert!(rt; answer(&mut again, 23, Call::Read(70)).ok() == Some(0x0606));
-    assert!(rt; !fs::exists(&rt, "hp23.bad")?);
-    for name in ["hp23.dsk", "hp24.dsk", "hp24.bad"] {
-        fs::remove_file(&rt, name)?;
     }
     Ok(())
 }

@@ -3,8 +3,8 @@ ghost use Rattle.pack_model.specs.Pack.{window, with_window, with_block, block_a
 ghost use Rattle.outside_traits.specs.Causes.{HasCause};
 ghost use Rattle.pack_windows.specs.Parts.{IsPart};
 
-use outside_traits::wide_packs::WidePacks;
 use outside_traits::traits::StoreFailed;
+use outside_traits::wide_packs::WidePacks;
 use std::alloc::Global;
 use std::marker::Model;
 

@@ -1,9 +1,9 @@
 ghost use Rattle.std.specs.Prelude.{◌≡◌, ◌==◌, not, ℕ, List, IfOk, length};
 ghost use Rattle.pack_windows.specs.Parts.{AreParts};
 
-use outside_traits::wide_packs::WidePacks;
 use crate::window::Window;
 use outside_traits::traits::{NoMemory, Packs, StoreFailed};
+use outside_traits::wide_packs::WidePacks;
 use std::alloc::{AllocError, Global};
 use std::marker::Model;
 

@@ -1,5 +1,9 @@
-// What a driver does after the failures at one physical sector: try again, off the centre of the track, after a
-// recalibration, or give up.
+//! What a driver does after the failures at one physical sector: try again, off the centre of the track, after a recalibration,
+//! or give up.
+//!
+//! What is proved: `next_step` is the schedule, and GiveUp exactly at 28.
+//!
+//! Only tested, in `drive_rows`: worked values, beside their proofs.
 #![tactic(auto)]
 
 ghost use Rattle.std.specs.Prelude.{◌≡◌, ◌≤◌, ◌↔◌};
@@ -58,61 +62,5 @@ fn offset_for(failures: u32, reads: bool) -> Option<OffsetCode>
         24 | 26 => Some(OffsetCode::Plus1200),
         25 | 27 => Some(OffsetCode::Minus1200),
         _ => None,
-    }
-}
-
-#[cfg(test)]
-mod tests {
-    use super::*;
-    use OffsetCode::{Minus400, Minus800, Minus1200, Plus400, Plus800, Plus1200};
-    use Step::{Again, GiveUp, Offset, Recalibrate};
-
-    // What follows each failure of a read and of a write, from failure 1 on.
-    static SCHEDULE: [(Step, Step); 28] = [
-        (Again, Again),
-        (Again, Again),
-        (Again, Again),
-        (Recalibrate(None), Recalibrate(None)),
-        (Again, Again),
-        (Again, Again),
-        (Again, Again),
-        (Again, Again),
-        (Again, Again),
-        (Again, Again),
-        (Again, Again),
-        (Recalibrate(None), Recalibrate(None)),
-        (Again, Again),
-        (Again, Again),
-        (Again, Again),
-        (Offset(Plus400), Again),
-        (Offset(Minus400), Again),
-        (Offset(Plus400), Again),
-        (Offset(Minus400), Again),
-        (Recalibrate(Some(Plus800)), Recalibrate(None)),
-        (Offset(Minus800), Again),
-        (Offset(Plus800), Again),
-        (Offset(Minus800), Again),
-        (Offset(Plus1200), Again),
-        (Offset(Minus1200), Again),
-        (Offset(Plus1200), Again),
-        (Offset(Minus1200), Again),
-        (GiveUp, GiveUp),
-    ];
-
-    #[test]
-    fn schedule(rt: HostRuntime) {
-        for failures in 1..=28 {
-            let (read, write) = SCHEDULE[failures as usize - 1];
-            assert_eq!(rt;
-                next_step(failures, true),
-                read,
-                "a read, failure {failures}"
-            );
-            assert_eq!(rt;
-                next_step(failures, false),
-                write,
-                "a write, failure {failures}"
-            );
-        }
     }
 }

@@ -1,5 +1,12 @@
-//! What is promised of a run, in the words of its script, its packs and its answers, and that each legal run keeps it; and what is
-//! promised of a run that was begun. The functions here do nothing: each stands for a law.
+//! What is promised of a run, in the words of its script, its packs and its answers, and that each legal run keeps it; and what
+//! is promised of a run that was begun. The functions here do nothing: each stands for a law.
+//!
+//! Defined in `specs/`: what is promised of a run, in the words of its script, its packs and its answers (`Promises`), and a
+//! request that nothing hinders.
+//!
+//! What is proved: `promises_law`: all of it holds of each legal run. `beginnings_law`: what holds of a run that was begun,
+//! however it goes on: its answers so far are legal and have their causes, and each data block holds what the answered writes
+//! left, but for the first blocks of one request of each unit that is not answered yet.
 #![tactic(auto)]
 
 ghost use Rattle.std.specs.Prelude.{ℕ, Option, List};

@@ -1,5 +1,9 @@
 //! What scripts mean: the bytes of a script, as the reader has them, give the script that traces are legal for. The definitions
 //! stand in `specs/`. The functions here do nothing: each stands for a law.
+//!
+//! What is proved: `meaning_law`: whatever bytes spell means a script of `trace_replay`: lines numbered upwards, drives first,
+//! no id twice, each input of units that are there; its drives are those of the `unit` lines, the bytes of its writes those
+//! that `script_reader` puts, and what is said alike means the same. `row_is_script`: a text of one read means that row.
 #![tactic(auto)]
 
 ghost use Rattle.trace_replay.specs.Script.{IsScript};

@@ -1,5 +1,8 @@
-//! A sector as it lies on the pack: its header, its 512 bytes and their check. The header's words are made
-//! after the RP06, RM03 and RM05 manuals; the bits of this crate's tables are the project's own choice of them.
+//! A sector as it lies on the pack: its header, its 512 bytes and their check. The header's words are made after the RP06, RM03
+//! and RM05 manuals; the bits of this crate's tables are the project's own choice of them.
+//!
+//! What is proved: `header_of`, `header_fault` and `raw_sector` are the header tables; a header made for the wanted block shows
+//! no fault where it is unmarked, and Format (RP06) or BadSector (RM03, RM05) where it is marked.
 #![tactic(auto)]
 
 ghost use Rattle.std.specs.Prelude.{◌≡◌, ◌<◌};
@@ -104,53 +107,5 @@ pub fn raw_sector(kind: DriveKind, block: u32, marked: bool, body: &[u8; 512]) -
         header: header_of(kind, block, marked),
         body: *body,
         check: encode(body),
-    }
-}
-
-#[cfg(test)]
-mod tests {
-    use super::*;
-
-    // The words by the drives' tables, worked out by hand.
-    #[test]
-    fn headers(rt: HostRuntime) {
-        use DriveKind::{Rm03, Rm05, Rp06};
-        for (kind, block, marked, cylinder_word, sector_word, fault) in [
-            (Rp06, 1000, false, 0o010002, 0o003412, None),
-            (
-                Rp06,
-                1000,
-                true,
-                0o000002,
-                0o003412,
-                Some(HeaderFault::Format),
-            ),
-            (Rm03, 160, false, 0o150001, 0, None),
-            (Rm03, 160, true, 0o110001, 0, Some(HeaderFault::BadSector)),
-            (Rm05, 1000, false, 0o150001, 0o006010, None),
-            (
-                Rm05,
-                1000,
-                true,
-                0o110001,
-                0o006010,
-                Some(HeaderFault::BadSector),
-            ),
-        ] {
-            if block < 131680 {
-                let header = header_of(kind, block, marked);
-                assert_eq!(rt; header.cylinder_word, cylinder_word);
-                assert_eq!(rt; header.sector_word, sector_word);
-                assert!(rt; header_fault(kind, header, block) == fault);
-            }
-        }
-        let header = header_of(Rp06, 1000, false);
-        assert!(rt; header_fault(Rp06, header, 1001) == Some(HeaderFault::Compare));
-        assert!(rt; header_fault(Rp06, header, 1418) == Some(HeaderFault::Compare));
-        let mut body = [0u8; 512];
-        body[511] = 0x80;
-        let sector = raw_sector(Rm03, 160, false, &body);
-        assert!(rt; sector.body == body);
-        assert_eq!(rt; sector.check.0, 0x00A0_0805);
     }
 }

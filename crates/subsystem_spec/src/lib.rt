@@ -1,4 +1,7 @@
 //! What is asked of the subsystem and how it is answered, and the order in which a unit serves what waits at it.
+//!
+//! Defined in `specs/`: requests with their answers and causes, which the reader, the rules, the driver and the player share,
+//! and the service order.
 #![tactic(auto)]
 
 ghost use Rattle.std.specs.Prelude.{ℕ, List, ◌∷◌, drop};

@@ -15,7 +15,8 @@ use Rattle.trace_replay.proofs.Kept.{UnitFits, AskSomeBlocks, IsHeld, moments_al
 use Rattle.trace_bounds.specs.Commands.{commands_in, CommandsAreBounded, EndsAreBounded}
 use Rattle.trace_bounds.proofs.Costs.{cost_in}
 use Rattle.trace_bounds.proofs.Units.{UnitWithin}
-use Rattle.trace_bounds.proofs.Drain.{moments_within, starts_within}
+use Rattle.trace_bounds.proofs.Idle.{idle_within, starts_idle}
+use Rattle.trace_bounds.proofs.Drain.{moments_within}
 use Rattle.trace_bounds.proofs.Packs.{pack_last, one_at_most, moments_packs, starts_packs}
 
 -- a unit without a request has no lines
@@ -45,7 +46,7 @@ pub commands_are_bounded : CommandsAreBounded
 commands_are_bounded drives tables surface ms unit some follows =
     unit_bounded ((after_moments (new_replay drives tables surface) ms).units unit) (lines_behind unit [] ms)
     (moments_all (new_replay drives tables surface) ms (λ x. []) some follows (starts drives tables surface) unit)
-    (moments_within (new_replay drives tables surface) ms (λ x. []) some follows (starts drives tables surface) (starts_within drives tables surface) unit)
+    (moments_within (new_replay drives tables surface) ms (λ x. []) some follows (starts drives tables surface) (idle_within (new_replay drives tables surface) (starts_idle drives tables surface)) unit)
     ((moments_packs (new_replay drives tables surface) ms (λ x. []) some follows (starts drives tables surface) (starts_packs drives tables surface)).counted unit)
 
 -- ---- the end

@@ -18,14 +18,15 @@ use Rattle.trace_replay.specs.Drives.{DriveMay, drive_after}
 use Rattle.trace_replay.specs.Packs.{Surface}
 use Rattle.trace_replay.specs.Service.{in_hand, target_of}
 use Rattle.trace_replay.specs.Events.{Wish, NoLine, DueLine, Arrival, SectorLine, Interrupt, Attention, Refusal, IdleLine}
-use Rattle.trace_replay.specs.Replay.{Replay, UnitSeen, new_replay, with_state, next_wish, at_unit, LineMay, ToldMay, Follows, after_moment, after_moments, unit_after, bytes_of, told_after, replay_told, Submission, Refused, Joined, submission, submitted, unit_joined, replay_played}
+use Rattle.trace_replay.specs.Replay.{Replay, UnitSeen, with_state, next_wish, at_unit, LineMay, ToldMay, Follows, after_moment, after_moments, unit_after, bytes_of, told_after, replay_told, Submission, Refused, Joined, submission, submitted, unit_joined, replay_played}
 use Rattle.trace_replay.specs.History.{with_deed, lines_after, lines_behind}
 use Rattle.trace_replay.specs.Causes.{AskSome, AsksSome}
 use Rattle.trace_replay.proofs.Following.{follow_on}
 use Rattle.trace_replay.proofs.Unchanged.{drained_keeps}
-use Rattle.trace_replay.proofs.Kept.{AllFit, UnitFits, IsHeld, held_by, told_all, played_all, moments_all, starts, refused_is, no}
+use Rattle.trace_replay.proofs.Kept.{AllFit, UnitFits, IsHeld, held_by, told_all, played_all, moments_all, refused_is, no}
 use Rattle.trace_bounds.specs.Measure.{events_of_unit, events_of_units, events_left, blocks_waiting, blocks_of_units, blocks_outstanding}
-use Rattle.trace_bounds.specs.Drains.{event_by, events_in, IsOf, AreOf, EventsFall, EventsAreFew, DrainsAreBounded}
+use Rattle.trace_bounds.specs.Drains.{event_by, events_in, IsOf, AreOf, IsIdle, EventsFall, EventsAreFew, DrainsAreBounded}
+use Rattle.trace_bounds.proofs.Idle.{idle_fits, idle_within, none_waits}
 use Rattle.trace_bounds.proofs.Units.{Passes, UnitWithin, unit_falls, unit_within, unit_joined_within, unit_few}
 
 -- ---- sums over units
@@ -45,7 +46,7 @@ units_no_more units k u (x ∷ xs) le = sum_no_more (one_no_more units k u x le)
 one_falls : (units : ℕ → UnitSeen) (k : ℕ) (u : UnitSeen) (x e : ℕ) → x == k ≡ true → x ≡ k → events_of_unit u + e ≤ events_of_unit (units k) → events_of_unit (with_state units k u x) + e ≤ events_of_unit (units x)
 one_falls units k u x e is same le = rw is (subst (λ z. events_of_unit u + e ≤ events_of_unit (units z)) (sym same) le)
 
-abbrev IsThere : List ℕ → ℕ → Type 0
+abbrev pub IsThere : List ℕ → ℕ → Type 0
 IsThere there unit = list_any (λ other. other == unit) there ≡ true
 
 not_first : (b c : Bool) → b ≡ false → b || c ≡ true → c ≡ true
@@ -124,9 +125,9 @@ told_falls IdleLine s line unit id deed lines may all there =
     (λ event. line_falls s line unit id deed lines may all (there unit (held_by (s.units unit).service.waiting id may.service)))
 
 -- ---- requests are of units that are there
-record IsAt (there : List ℕ) (s : Replay) : Type 0 where
-  same : s.there ≡ there
-  held : (x : ℕ) → IsHeld (s.units x).service.waiting → IsThere there x
+pub record IsAt (there : List ℕ) (s : Replay) : Type 0 where
+  pub same : s.there ≡ there
+  pub held : (x : ℕ) → IsHeld (s.units x).service.waiting → IsThere there x
 
 line_at : (there : List ℕ) (s : Replay) (line unit id : ℕ) (deed : Deed) → LineMay s line unit id deed → IsAt there s → IsAt there (replay_told s unit deed (unit_after s unit deed))
 line_at there s line unit id deed may at = record {
@@ -164,7 +165,7 @@ submitted_at there s r Joined is at = record {
   ];
 }
 
-played_at : (there : List ℕ) (s : Replay) (input : Input) → IsOf there input → IsAt there s → IsAt there (replay_played s input)
+pub played_at : (there : List ℕ) (s : Replay) (input : Input) → IsOf there input → IsAt there s → IsAt there (replay_played s input)
 played_at there s (Submit r) is at = submitted_at there s r (submission s r) is at
 played_at there s (Turn u y) is at = record { same = at.same; held = at.held }
 played_at there s (Noise n) is at = record { same = at.same; held = at.held }
@@ -176,7 +177,7 @@ played_at there s (MoveAt a) is at = at
 played_at there s (AttendTo a) is at = at
 played_at there s Drain is at = at
 
-moments_at : (there : List ℕ) (s : Replay) (ms : List Moment) → AreOf there ms → Follows s ms → IsAt there s → IsAt there (after_moments s ms)
+pub moments_at : (there : List ℕ) (s : Replay) (ms : List Moment) → AreOf there ms → Follows s ms → IsAt there s → IsAt there (after_moments s ms)
 moments_at there s [] are follows at = at
 moments_at there s (Played line input ∷ ms) are follows at =
     let next : IsAt there (replay_played s input) = played_at there s input are.0 at in
@@ -186,24 +187,23 @@ moments_at there s (Told line unit id deed ∷ ms) are follows at =
 moments_at there s (Idle line ∷ ms) are follows at =
     moments_at there (after_moment s (Idle line)) ms are follows.1 (record { same = at.same; held = at.held })
 
-starts_at : (drives : ℕ → Option DriveKind) (tables : ℕ → Option Table) (surface : Surface) → IsAt (new_replay drives tables surface).there (new_replay drives tables surface)
-starts_at drives tables surface = record { same = refl; held = λ x held. absurd held }
+pub idle_at : (start : Replay) → IsIdle start → IsAt start.there start
+idle_at start idle = record { same = refl; held = λ x held. none_waits start idle x held }
 
 there_so : (there : List ℕ) (s : Replay) → IsAt there s → (x : ℕ) → IsHeld (s.units x).service.waiting → IsThere s.there x
 there_so there s at x held = subst (λ z. IsThere z x) (sym at.same) (at.held x held)
 
 pub events_fall : EventsFall
-events_fall drives tables surface ms line unit id deed some are follows may =
-    told_falls (next_wish (after_moments (new_replay drives tables surface) ms)) (after_moments (new_replay drives tables surface) ms) line unit id deed (λ x. lines_behind x [] ms) may
-    (moments_all (new_replay drives tables surface) ms (λ x. []) some follows (starts drives tables surface))
-    (there_so (new_replay drives tables surface).there (after_moments (new_replay drives tables surface) ms)
-    (moments_at (new_replay drives tables surface).there (new_replay drives tables surface) ms are follows (starts_at drives tables surface)))
+events_fall start ms line unit id deed idle some are follows may =
+    told_falls (next_wish (after_moments start ms)) (after_moments start ms) line unit id deed (λ x. lines_behind x [] ms) may
+    (moments_all start ms (λ x. []) some follows (idle_fits start idle))
+    (there_so start.there (after_moments start ms) (moments_at start.there start ms are follows (idle_at start idle)))
 
 -- ---- a drain
 less_than : (a b c d e : ℕ) → a + b ≤ c → d + e ≤ a → b + d + e ≤ c
 less_than a b c d e h k = omega (arith, h, k)
 
-drained_falls : (there : List ℕ) (s : Replay) (ts : List Moment) (lines : ℕ → List Deed) → Follows s ts → played ts ≡ [] → AllFit s lines → IsAt there s
+pub drained_falls : (there : List ℕ) (s : Replay) (ts : List Moment) (lines : ℕ → List Deed) → Follows s ts → played ts ≡ [] → AllFit s lines → IsAt there s
     → events_in ts + events_left (after_moments s ts) ≤ events_left s
 drained_falls there s [] lines follows none all at = same (events_left s)
   where
@@ -273,7 +273,7 @@ submitted_within s r Joined lines some all within = λ x. elim (eqb_tells x r.un
   | inr other ↦ rw other.0 (within x)
 ]
 
-played_within : (s : Replay) (input : Input) (lines : ℕ → List Deed) → AsksSome input → AllFit s lines → AllWithin s lines → AllWithin (replay_played s input) lines
+pub played_within : (s : Replay) (input : Input) (lines : ℕ → List Deed) → AsksSome input → AllFit s lines → AllWithin s lines → AllWithin (replay_played s input) lines
 played_within s (Submit r) lines some all within = submitted_within s r (submission s r) lines some all within
 played_within s input lines some all within = within
 
@@ -287,10 +287,7 @@ moments_within s (Told line unit id deed ∷ ms) lines some follows all within =
     (told_all (next_wish s) s line unit id deed lines follows.0 all) (told_within (next_wish s) s line unit id deed lines follows.0 all within)
 moments_within s (Idle line ∷ ms) lines some follows all within = moments_within (after_moment s (Idle line)) ms lines some follows.1 all within
 
-pub starts_within : (drives : ℕ → Option DriveKind) (tables : ℕ → Option Table) (surface : Surface) → AllWithin (new_replay drives tables surface) (λ x. [])
-starts_within drives tables surface x = record { events = omega arith; commands = omega arith }
-
-units_few : (units : ℕ → UnitSeen) (lines : ℕ → List Deed) (xs : List ℕ) → ((x : ℕ) → UnitFits (units x) (lines x)) → ((x : ℕ) → UnitWithin (units x) (lines x))
+pub units_few : (units : ℕ → UnitSeen) (lines : ℕ → List Deed) (xs : List ℕ) → ((x : ℕ) → UnitFits (units x) (lines x)) → ((x : ℕ) → UnitWithin (units x) (lines x))
     → events_of_units units xs ≤ 200 * blocks_of_units units xs
 units_few units lines [] all within = omega arith
 units_few units lines (x ∷ xs) all within =
@@ -301,25 +298,25 @@ units_few units lines (x ∷ xs) all within =
     sum_few a b c d h k = omega (arith, h, k)
 
 pub events_are_few : EventsAreFew
-events_are_few drives tables surface ms some follows =
-    units_few (after_moments (new_replay drives tables surface) ms).units (λ x. lines_behind x [] ms) (after_moments (new_replay drives tables surface) ms).there
-    (moments_all (new_replay drives tables surface) ms (λ x. []) some follows (starts drives tables surface))
-    (moments_within (new_replay drives tables surface) ms (λ x. []) some follows (starts drives tables surface) (starts_within drives tables surface))
+events_are_few start ms idle some follows =
+    units_few (after_moments start ms).units (λ x. lines_behind x [] ms) (after_moments start ms).there
+    (moments_all start ms (λ x. []) some follows (idle_fits start idle))
+    (moments_within start ms (λ x. []) some follows (idle_fits start idle) (idle_within start idle))
 
 pub drains_are_bounded : DrainsAreBounded
-drains_are_bounded drives tables surface ms ts some are follows none = (
+drains_are_bounded start ms ts idle some are follows none = (
   falls,
-  along (events_in ts) (events_left (after_moments (new_replay drives tables surface) ms)) (200 * blocks_outstanding (after_moments (new_replay drives tables surface) ms))
-      (events_left (after_moments (after_moments (new_replay drives tables surface) ms) ts)) falls (events_are_few drives tables surface ms some parts.0),
+  along (events_in ts) (events_left (after_moments start ms)) (200 * blocks_outstanding (after_moments start ms))
+      (events_left (after_moments (after_moments start ms) ts)) falls (events_are_few start ms idle some parts.0),
 )
   where
-    parts : Follows (new_replay drives tables surface) ms × Follows (after_moments (new_replay drives tables surface) ms) ts
-    parts = (follow_on (new_replay drives tables surface) ms ts).0 follows
+    parts : Follows start ms × Follows (after_moments start ms) ts
+    parts = (follow_on start ms ts).0 follows
 
-    falls : events_in ts + events_left (after_moments (after_moments (new_replay drives tables surface) ms) ts) ≤ events_left (after_moments (new_replay drives tables surface) ms)
-    falls = drained_falls (new_replay drives tables surface).there (after_moments (new_replay drives tables surface) ms) ts (λ x. lines_behind x [] ms) parts.1 none
-        (moments_all (new_replay drives tables surface) ms (λ x. []) some parts.0 (starts drives tables surface))
-        (moments_at (new_replay drives tables surface).there (new_replay drives tables surface) ms are parts.0 (starts_at drives tables surface))
+    falls : events_in ts + events_left (after_moments (after_moments start ms) ts) ≤ events_left (after_moments start ms)
+    falls = drained_falls start.there (after_moments start ms) ts (λ x. lines_behind x [] ms) parts.1 none
+        (moments_all start ms (λ x. []) some parts.0 (idle_fits start idle))
+        (moments_at start.there start ms are parts.0 (idle_at start idle))
 
     along : (a b c d : ℕ) → a + d ≤ b → b ≤ c → a ≤ c
     along a b c d h k = omega (arith, h, k)

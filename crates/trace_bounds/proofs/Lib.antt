@@ -1,6 +1,7 @@
 pub mod Numbers
 pub mod Costs
 pub mod Units
+pub mod Idle
 pub mod Drain
 pub mod Packs
 pub mod Commands

@@ -19,14 +19,15 @@ use Rattle.trace_replay.proofs.Kept.{no}
 use Rattle.trace_bounds.specs.Drains.{IsOf, AreOf}
 use Rattle.trace_bounds.specs.Runs.{RunCommandsAreBounded, RunDrainsAreBounded}
 use Rattle.trace_bounds.proofs.Commands.{ends_are_bounded}
+use Rattle.trace_bounds.proofs.Idle.{starts_idle}
 use Rattle.trace_bounds.proofs.Drain.{drains_are_bounded}
 
 -- ---- the units that a script declares are there
-abbrev from : ℕ → ℕ → List ℕ
+abbrev pub from : ℕ → ℕ → List ℕ
 from start zero = []
 from start (suc n) = start ∷ from (start + 1) n
 
-all_from : all_units ≡ from 0 32
+pub all_from : all_units ≡ from 0 32
 all_from = refl
 
 or_true : (b c : Bool) → c ≡ true → b || c ≡ true
@@ -37,7 +38,7 @@ first_true : (b c : Bool) → b ≡ true → b || c ≡ true
 first_true true c is = refl
 first_true false c is = absurd (no is)
 
-from_any : (n start k : ℕ) → start ≤ k → k < start + n → list_any (λ x. x == k) (from start n) ≡ true
+pub from_any : (n start k : ℕ) → start ≤ k → k < start + n → list_any (λ x. x == k) (from start n) ≡ true
 from_any zero start k low high = absurd (omega (arith, low, high))
 from_any (suc n) start k low high = elim (eqb_tells start k) [
   | inl same ↦ first_true (start == k) (list_any (λ x. x == k) (from (start + 1) n)) same.0
@@ -50,7 +51,7 @@ from_any (suc n) start k low high = elim (eqb_tells start k) [
     unequal : (a c : ℕ) → a == c ≡ false → a ≡ c → ⊥
     unequal a c h e = grind (arith, nat_tests)
 
-filter_any : (p : ℕ → Bool) (k : ℕ) (xs : List ℕ) → p k ≡ true → list_any (λ x. x == k) xs ≡ true → list_any (λ x. x == k) (filter p xs) ≡ true
+pub filter_any : (p : ℕ → Bool) (k : ℕ) (xs : List ℕ) → p k ≡ true → list_any (λ x. x == k) xs ≡ true → list_any (λ x. x == k) (filter p xs) ≡ true
 filter_any p k [] is any = any
 filter_any p k (x ∷ xs) is any = elim (eqb_tells x k) [
   | inl same ↦ here (p x) (subst (λ z. p z ≡ true) (sym same.1) is) same.0
@@ -153,7 +154,7 @@ run_commands script tables old new ms ns line unit id answer run kept =
 
 pub run_drains : RunDrainsAreBounded
 run_drains script tables old new ms ts ns run none =
-    (drains_are_bounded (drives_of script) tables (surface_of old) ms ts asks.0 asks.1
+    (drains_are_bounded (start_of script tables old) ms ts (starts_idle (drives_of script) tables (surface_of old)) asks.0 asks.1
     ((follow_on (start_of script tables old) ms ts).1 (parts.0, ((follow_on (after_moments (start_of script tables old) ms) ts ns).0 parts.1).0)) none).1
   where
     parts : Follows (start_of script tables old) ms × Follows (after_moments (start_of script tables old) ms) (ts ++ ns)

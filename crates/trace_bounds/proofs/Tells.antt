@@ -10,7 +10,7 @@ use Rattle.trace_replay.specs.Moments.{Deed, Arrive, Sector, Intr, Attn, Moment,
 use Rattle.trace_replay.specs.Adapters.{AdapterSeen, can_move, attentive}
 use Rattle.trace_replay.specs.Conversation.{goes_on}
 use Rattle.trace_replay.specs.Events.{Event, Wish, NoLine, DueLine, Arrival, SectorLine, Interrupt, Attention, Refusal, IdleLine, wish_of, wish_in, wish_in_serving, wanted, is_no_line, can_attend, is_some_drive, adapters_there, act_of_attend, act_of_move, act_of_arrival}
-use Rattle.trace_replay.specs.Replay.{Replay, new_replay, with_state, next_wish, act_drained, drained, LineMay, ToldMay, MayCome, Follows, after_moment, after_moments, unit_after, told_after, replay_told, Submission, Refused, Joined, submission, submitted, replay_played, speaker_of}
+use Rattle.trace_replay.specs.Replay.{Replay, with_state, next_wish, act_drained, drained, LineMay, ToldMay, MayCome, Follows, after_moment, after_moments, unit_after, told_after, replay_told, Submission, Refused, Joined, submission, submitted, replay_played, speaker_of}
 use Rattle.trace_replay.proofs.Kept.{no}
 use Rattle.trace_bounds.specs.Drains.{event_by, events_in, EventsTell, DrainsTell}
 use Rattle.trace_bounds.proofs.Packs.{its_own}
@@ -57,10 +57,10 @@ drain_brings : (s : Replay) → BringsEvent (wish_in s.adapters (act_drained s))
 drain_brings s = arrival_brings s.adapters (find (λ unit. is_positioning (s.units unit).drive.work) s.there)
 
 -- a drain's event has just begun, and requests are outstanding
-record HasBegun (s : Replay) : Type 0 where
-  quiet : goes_on (s.units s.event.speaker).stage ≡ false
-  act : s.event.act ≡ act_drained s
-  drains : s.event.drains && nat_lt 0 s.outstanding ≡ true
+pub record HasBegun (s : Replay) : Type 0 where
+  pub quiet : goes_on (s.units s.event.speaker).stage ≡ false
+  pub act : s.event.act ≡ act_drained s
+  pub drains : s.event.drains && nat_lt 0 s.outstanding ≡ true
 
 begun_brings : (s : Replay) → HasBegun s → BringsEvent (next_wish s)
 begun_brings s h = subst (λ z. BringsEvent (wanted s.adapters s.event z)) (sym h.quiet) (subst (λ z. BringsEvent (wish_in s.adapters z)) (sym h.act) (drain_brings s))
@@ -82,7 +82,7 @@ told_tells (Interrupt u) s line unit id deed may is b = event_told unit deed (su
 told_tells (Attention u) s line unit id deed may is b = event_told unit deed (subst BringsEvent may.wished b)
 told_tells IdleLine s line unit id deed may is b = event_told unit deed (subst BringsEvent may.wished b)
 
-begun_tells : (s : Replay) (m : Moment) → HasBegun s → MayCome s m → events_in (m ∷ []) ≡ 1
+pub begun_tells : (s : Replay) (m : Moment) → HasBegun s → MayCome s m → events_in (m ∷ []) ≡ 1
 begun_tells s (Played line input) h may = absurd (no (sym may.finished ∙ h.drains))
 begun_tells s (Told line unit id deed) h may = told_tells (next_wish s) s line unit id deed may refl (begun_brings s h)
 begun_tells s (Idle line) h may = absurd (subst BringsEvent may.nothing (begun_brings s h))
@@ -111,7 +111,7 @@ drained_begun t off on = at (t.event.drains && (is_no_line (next_wish t) && nat_
     }
     at false is was = absurd (no (sym off ∙ was))
 
-abbrev Between : Replay → Type 0
+abbrev pub Between : Replay → Type 0
 Between s = s.event.between ≡ true → HasBegun s
 
 told_between : (wish : Wish) (s : Replay) (line unit id : ℕ) (deed : Deed) → next_wish s ≡ wish → Between s → Between (told_after wish s unit deed)
@@ -124,7 +124,7 @@ told_between (Interrupt u) s line unit id deed is b = λ on. drained_begun (repl
 told_between (Attention u) s line unit id deed is b = λ on. drained_begun (replay_told s unit deed (unit_after s unit deed)) refl on
 told_between IdleLine s line unit id deed is b = λ on. drained_begun (replay_told s unit deed (unit_after s unit deed)) refl on
 
-moments_between : (s : Replay) (ms : List Moment) → Follows s ms → Between s → Between (after_moments s ms)
+pub moments_between : (s : Replay) (ms : List Moment) → Follows s ms → Between s → Between (after_moments s ms)
 moments_between s [] follows b = b
 moments_between s (Played line input ∷ ms) follows b = moments_between (after_moment s (Played line input)) ms follows.1 (λ on. absurd (no on))
 moments_between s (Told line unit id deed ∷ ms) follows b =
@@ -133,8 +133,8 @@ moments_between s (Idle line ∷ ms) follows b =
     moments_between (after_moment s (Idle line)) ms follows.1 (λ on. absurd (subst BringsEvent follows.0.nothing (begun_brings s (b on))))
 
 pub events_tell : EventsTell
-events_tell drives tables surface ms m follows on may =
-    begun_tells (after_moments (new_replay drives tables surface) ms) m (moments_between (new_replay drives tables surface) ms follows (λ off. absurd (no off)) on) may
+events_tell start ms m idle follows on may =
+    begun_tells (after_moments start ms) m (moments_between start ms follows (λ off. absurd (no (sym idle.between ∙ off))) on) may
 
 -- ---- only the unit that spoke last goes on
 abbrev GoesOn : Replay → Type 0
@@ -202,21 +202,22 @@ false_then : (b : Bool) → (b ≡ true → ⊥) → b ≡ false
 false_then true never = absurd (never refl)
 false_then false never = refl
 
-some_counted : (n : ℕ) → 1 ≤ n → (n == 0 ≡ false) × (nat_lt 0 n ≡ true)
+pub some_counted : (n : ℕ) → 1 ≤ n → (n == 0 ≡ false) × (nat_lt 0 n ≡ true)
 some_counted n some = (false_then (n == 0) (λ is. none n some is), grind (arith, some, nat_tests))
   where
     none : (k : ℕ) → 1 ≤ k → k == 0 ≡ true → ⊥
     none k some is = grind (arith, nat_tests)
 
 pub drains_tell : DrainsTell
-drains_tell drives tables surface ms number m follows may some = begun_tells (after_moment s (Played number Drain)) m begun
+drains_tell start ms number m idle follows may some = begun_tells (after_moment s (Played number Drain)) m begun
   where
     s : Replay
-    s = after_moments (new_replay drives tables surface) ms
+    s = after_moments start ms
 
     begun : HasBegun (after_moment s (Played number Drain))
     begun = record {
-      quiet = false_then (goes_on (s.units 0).stage) (none_goes_on s may.over (moments_going (new_replay drives tables surface) ms follows (λ x off. absurd (no off))) 0);
+      quiet = false_then (goes_on (s.units 0).stage)
+          (none_goes_on s may.over (moments_going start ms follows (λ x off. absurd (no (sym (ap goes_on (idle.stages x)) ∙ off)))) 0);
       act = rw (some_counted s.outstanding some).0 refl;
       drains = (some_counted s.outstanding some).1;
     }

@@ -1,6 +1,13 @@
 //! Which traces are legal: the rules of a trace of the whole subsystem, over what is seen of a run alone, which are the script,
 //! the packs, and the lines of the trace with the answers that they make. The definitions stand in `specs/`; they know nothing
 //! of how a driver goes about it. The functions here do nothing: each stands for a law.
+//!
+//! Defined in `specs/`: which traces are legal, over the script, the packs and the lines alone, as one state with a rule for
+//! each aspect.
+//!
+//! What is proved: `parts_law`, `frame_law`, `bytes_law`, `condition_law`. `one_trace_law`: for one script over the same packs
+//! at most one trace is legal. `cause_law`: each answer has its cause exactly. `bounds_law`: a request that meets only clean
+//! sectors and is answered ok has one transfer command and at most one search.
 #![tactic(auto)]
 
 ghost use Rattle.trace_replay.specs.Rules.{KeepsEach, FollowOn};

@@ -1,5 +1,9 @@
 //! That the parts of a replay agree, whatever legal beginning led to it, and what follows: work is conserved, and the causes of
 //! answers as they are known from the script and the packs alone. The functions here do nothing: each stands for a law.
+//!
+//! What is proved: `consistent_law`: in each state that a legal beginning reaches, stages, drives, adapters, ready units and
+//! the event agree. `work_law`: after each event all units are at work, so the rule of work follows from the others.
+//! `told_causes_law`: what follows of a cause from script and packs alone.
 #![tactic(auto)]
 
 ghost use Rattle.trace_work.specs.Consistent.{StartsConsistent, StaysConsistent, IsAlwaysConsistent};

@@ -1,6 +1,13 @@
-//! A request's transfer from its beginning to its end: the segments that its transfer commands move, the blocks that
-//! are done, and the failures at the sector at hand. Each state is a value that a call takes, so that a transfer goes
-//! one way alone.
+//! A request's transfer from its beginning to its end: the segments that its transfer commands move, the blocks that are done,
+//! and the failures at the sector at hand. Each state is a value that a call takes, so that a transfer goes one way alone.
+//!
+//! What is proved: `Direct`, `Forwarded` and `Continued` are seen as one record: the job, blocks done, failures, and the entry
+//! whose replacement is at hand. Each call is a function on it; Finished, Unforwarded and Exhausted come exactly where they are
+//! due. Laws: a segment lies inside the job or is one replacement; blocks done never fall; failures begin anew where the place
+//! moves on; Exhausted exactly at failure 28; after a forwarded block the rest begins one block later; a sequence of calls
+//! ends.
+//!
+//! Only tested, in `drive_rows`: worked values, beside their proofs.
 #![tactic(auto)]
 
 mod calls;

@@ -1,4 +1,4 @@
-use Rattle.driver_drains.proofs.Falls.{first_events_fall, drains_fall, drains_keep}
+use Rattle.driver_drains.proofs.Falls.{scripts_can_start, first_events_fall, drains_fall, falls_from, drains_keep}
 use Rattle.driver_drains.proofs.falls_law.Goals as goal
 
 pub returns-clause-first : goal.returns-clause-first
@@ -9,3 +9,9 @@ returns-clause-later c = drains_fall
 
 pub returns-clause-line : goal.returns-clause-line
 returns-clause-line c = drains_keep
+
+pub returns-clause-start : goal.returns-clause-start
+returns-clause-start c = scripts_can_start
+
+pub returns-clause-from : goal.returns-clause-from
+returns-clause-from c = falls_from

@@ -50,7 +50,7 @@ returns c script tables old new moments run = record {
   }) script tables old new ahead between after at line r kind answer (same run e) there free;
   commands = λ line unit id answer before after e no. (c.commands_law.ensures.run script tables old new before after line unit id answer (same run e) no).0;
   drains = λ before drained after e none. c.drain_law.ensures.run script tables old new before drained after (same run e) none;
-  events = λ moment before after e between. c.drain_law.ensures.tells (drives_of script) tables (surface_of old) before moment (fronts before (moment ∷ after) (same run e)).0 between
+  events = λ moment before after e between. c.drain_law.ensures.tells (start_of script tables old) before moment (c.drain_law.ensures.start (drives_of script) tables (surface_of old)) (fronts before (moment ∷ after) (same run e)).0 between
       (fronts before (moment ∷ after) (same run e)).1.0;
   undisturbed = λ line unit id answer before after e ok clean. c.bounds_law.ensures (drives_of script) tables (surface_of old) before line unit id answer
       (run_asks script tables old new before (Told line unit id (End answer) ∷ after) (same run e)) (first_end before after (Told line unit id (End answer)) (same run e)) ok clean;

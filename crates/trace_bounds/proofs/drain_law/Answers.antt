@@ -1,3 +1,4 @@
+use Rattle.trace_bounds.proofs.Idle.{starts_idle}
 use Rattle.trace_bounds.proofs.Drain.{events_fall, events_are_few, drains_are_bounded}
 use Rattle.trace_bounds.proofs.Runs.{run_drains}
 use Rattle.trace_bounds.proofs.Tells.{events_tell, drains_tell}
@@ -24,3 +25,6 @@ returns-clause-begins c = drains_tell
 
 pub returns-clause-told : goal.returns-clause-told
 returns-clause-told c = told_as_events
+
+pub returns-clause-start : goal.returns-clause-start
+returns-clause-start c = starts_idle

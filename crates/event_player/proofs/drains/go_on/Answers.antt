@@ -3,7 +3,7 @@ use Rattle.hp_events.specs.Inputs.{input_of}
 use Rattle.event_player.specs.Steps.{Stage, stage}
 use Rattle.event_player.proofs.Draining.{draining_starts, draining_next, draining_over, draining_never}
 use Rattle.event_player.proofs.Rooms.{drain_brings, still_brings, brings_both}
-use Rattle.event_player.proofs.Taking.{plays_none}
+use Rattle.event_player.proofs.Inputs.{plays_none}
 use Rattle.event_player.proofs.drains.go_on.Goals as goal
 use Rattle.event_player.proofs.Halting.{err_is, draining_halts}
 

@@ -1,44 +1,94 @@
-use Rattle.std.proofs.Common.{ℕ, [], refl, ap, ◌∙◌}
+use Rattle.std.proofs.Common.{ℕ, [], ◌≡◌, refl, ap, sym, subst, ◌∙◌, IfOk, IfErr, OnOk}
+use Rattle.std.specs.Prelude.{Result, Ok, Err}
+use Rattle.pack_model.specs.Pack.{Pack}
+use Rattle.trace_replay.specs.Script.{Script}
 use Rattle.script_meaning.specs.Meaning.{meaning_of}
 use Rattle.answer_tally.specs.Counting.{tally_by}
-use Rattle.event_player.specs.Steps.{Stage, stage}
+use Rattle.answer_tally.specs.declared.tally.Tally.{Tally}
+use Rattle.event_player.specs.declared.play.PlayFault.{PlayFault}
+use Rattle.event_player.specs.declared.play.PlayFault.TheVariants as fault
+use Rattle.event_player.specs.Faults.{IsBefore, IsLongFor}
+use Rattle.event_player.specs.Steps.{Stage, stage, HasCauses}
 use Rattle.event_player.proofs.Whole.{ready_for, whole_for}
 use Rattle.event_player.proofs.play.play.Goals as goal
-use Rattle.event_player.proofs.Halting.{err_is, play_halts}
+use Rattle.event_player.proofs.Halting.{play_halts}
+
+-- what is known of the tally that is counted, of the one that is answered
+at_told : {A : Type 0} (Q : Tally → Type 0) (result : Result Tally PlayFault) (now : Tally) → IfOk result (λ x. x ≡ now) → OnOk result A → (A → Q now) → IfOk result Q
+at_told Q (Ok x) now is holds gives = subst Q (sym is) (gives holds)
+at_told Q (Err e) now is holds gives = tt
+
+at_err : {P Q : PlayFault → Type 0} (result : Result Tally PlayFault) → IfErr result P → ((e : PlayFault) → P e → Q e) → IfErr result Q
+at_err (Ok x) holds gives = tt
+at_err (Err e) holds gives = gives e holds
+
+-- behind the units nothing is too long, and there is memory
+never_before : {a b c d e f : ℕ} (result : Result Tally PlayFault) → HasCauses a b c d e f result → IsBefore result → ⊥
+never_before (Ok x) causes before = before
+never_before (Err fault.Memory) causes before = causes.memory refl
+never_before (Err (fault.TooLong u n)) causes before = causes.too_long u n refl
+never_before (Err fault.Store) causes before = before
+never_before (Err fault.Sink) causes before = before
+
+never_long : (X : Type 0) {a b c d e f : ℕ} (result : Result Tally PlayFault) → HasCauses a b c d e f result → (s : Script) (packs : ℕ → Pack) → IfErr result (λ stop. X → IsLongFor s packs stop)
+never_long X (Ok x) causes s packs = tt
+never_long X (Err fault.Memory) causes s packs = λ x. tt
+never_long X (Err (fault.TooLong u n)) causes s packs = λ x. absurd (causes.too_long u n refl)
+never_long X (Err fault.Store) causes s packs = λ x. tt
+never_long X (Err fault.Sink) causes s packs = λ x. tt
+
+ok_of : {P : Tally → Type 0} {B : Type 0} (result : Result Tally PlayFault) → IfOk result P → ((x : Tally) → P x → B) → OnOk result B
+ok_of (Ok x) holds gives = gives x holds
+ok_of (Err e) holds gives = tt
 
 pub play_lines-requires-clause-ready : goal.play_lines-requires-clause-ready
 play_lines-requires-clause-ready g c =
     ready_for (meaning_of c.args.script.now) c.in_ok-units.units.items c.as_slice.result.now c.count_requests-requests.result c.count_noises-noises.result c.in_ok-subsystem.subsystem
     c.as_slice.ensures.value c.in_ok-units.ensures.set c.count_noises-noises.ensures.count c.in_ok-subsystem.ensures
 
-pub returns-in_err-play_lines-clause-fits : goal.returns-in_err-play_lines-clause-fits
-returns-in_err-play_lines-clause-fits g c = λ playing t. c.in_ok-units.ensures.fits (c.in_err-play_lines.ensures.never_again t)
-
 pub returns-clause-fits : goal.returns-clause-fits
-returns-clause-fits g c = λ playing t. c.in_ok-units.ensures.fits (c.in_ok-play_lines.ensures.never_again t)
+returns-clause-fits g c = λ playing t. c.in_ok-units.ensures.fits (c.play_lines.ensures.never_again t)
+
+pub returns-clause-requests : goal.returns-clause-requests
+returns-clause-requests g c =
+    let lines = c.play_lines.ensures in
+    at_told _ c.play_lines.result c.play_lines.new.desk.tally lines.told lines.plays
+    (λ plays. lines.requests ∙ ap (λ (x : Tally). x.requests) c.in_ok-bench.ensures.tally ∙ c.from.ensures ∙ c.count_requests-requests.ensures.count)
 
 pub returns-clause-tallied : goal.returns-clause-tallied
 returns-clause-tallied g c =
     let units = c.in_ok-units.ensures in
-    let lines = c.in_ok-play_lines.ensures in
-    let old : Stage = stage g.P.Packs.tells g.P.Packs.held g.O.Sink.tells g.O.Sink.taken g.T.Sink.tells g.T.Sink.taken c.in_ok-subsystem.subsystem.world c.attach_units.new.packs c.args.out.now c.args.trace.now c.in_ok-desk.desk.tally in
+    let lines = c.play_lines.ensures in
+    let old : Stage = stage g.P.Packs.tells g.P.Packs.held g.O.Sink.tells g.O.Sink.taken g.T.Sink.tells g.T.Sink.taken c.in_ok-subsystem.subsystem.world c.attach_units.new.packs c.args.out.now c.args.trace.now c.in_ok-bench.bench.desk.tally in
     let new : Stage = stage g.P.Packs.tells g.P.Packs.held g.O.Sink.tells g.O.Sink.taken g.T.Sink.tells g.T.Sink.taken c.play_lines.new.subsystem.world c.play_lines.new.packs c.play_lines.new.out c.play_lines.new.trace c.play_lines.new.desk.tally in
-    λ t.
+    at_told _ c.play_lines.result c.play_lines.new.desk.tally lines.told lines.plays (λ plays t.
     whole_for (meaning_of c.args.script.now) c.in_ok-units.units.items c.as_slice.result.now c.count_requests-requests.result c.count_noises-noises.result c.in_ok-subsystem.subsystem
     (g.P.Packs.held c.args.packs.now) old new (c.meaning_law.ensures.read c.args.script.now.text c.args.script.now c.requires.good) c.as_slice.ensures.value units.set
     (units.tables (lines.never_again t)) (units.same (lines.never_again t)) c.in_ok-subsystem.ensures refl
-    (c.in_ok-desk.ensures.tally ∙ ap (λ (n : ℕ). tally_by n [] []) (c.from.ensures ∙ c.count_requests-requests.ensures.count)) (lines.plays t)
+    (c.in_ok-bench.ensures.tally ∙ ap (λ (n : ℕ). tally_by n [] []) (c.from.ensures ∙ c.count_requests-requests.ensures.count)) (plays t))
 
 pub returns-clause-played : goal.returns-clause-played
-returns-clause-played g c = λ t. (returns-clause-tallied g c t).plays
+returns-clause-played g c = ok_of c.play_lines.result (returns-clause-tallied g c) (λ tally tallied t. (tallied t).plays)
 
-pub returns-in_err-play_lines-clause-stopped : goal.returns-in_err-play_lines-clause-stopped
-returns-in_err-play_lines-clause-stopped g c =
+pub returns-clause-stopped : goal.returns-clause-stopped
+returns-clause-stopped g c =
     let units = c.in_ok-units.ensures in
-    let lines = c.in_err-play_lines.ensures in
-    let old : Stage = stage g.P.Packs.tells g.P.Packs.held g.O.Sink.tells g.O.Sink.taken g.T.Sink.tells g.T.Sink.taken c.in_ok-subsystem.subsystem.world c.attach_units.new.packs c.args.out.now c.args.trace.now c.in_ok-desk.desk.tally in
+    let lines = c.play_lines.ensures in
+    let old : Stage = stage g.P.Packs.tells g.P.Packs.held g.O.Sink.tells g.O.Sink.taken g.T.Sink.tells g.T.Sink.taken c.in_ok-subsystem.subsystem.world c.attach_units.new.packs c.args.out.now c.args.trace.now c.in_ok-bench.bench.desk.tally in
     let new : Stage = stage g.P.Packs.tells g.P.Packs.held g.O.Sink.tells g.O.Sink.taken g.T.Sink.tells g.T.Sink.taken c.play_lines.new.subsystem.world c.play_lines.new.packs c.play_lines.new.out c.play_lines.new.trace c.play_lines.new.desk.tally in
-    err_is _ c.from_residual-in_err-play_lines.result c.in_err-play_lines.field-0.0 c.from_residual-in_err-play_lines.ensures.1
-    (λ t. play_halts (meaning_of c.args.script.now) c.in_ok-units.units.items c.as_slice.result.now c.count_requests-requests.result c.count_noises-noises.result c.in_ok-subsystem.subsystem
-    (g.P.Packs.held c.args.packs.now) c.in_err-play_lines.field-0.0 old new c.as_slice.ensures.value units.set
-    (units.tables (lines.never_again t)) (units.same (lines.never_again t)) c.in_ok-subsystem.ensures refl (lines.stops t))
+    at_err c.play_lines.result lines.stops (λ stop stops t.
+    play_halts (meaning_of c.args.script.now) c.in_ok-units.units.items c.as_slice.result.now c.count_requests-requests.result c.count_noises-noises.result c.in_ok-subsystem.subsystem
+    (g.P.Packs.held c.args.packs.now) stop old new c.as_slice.ensures.value units.set
+    (units.tables (lines.never_again t)) (units.same (lines.never_again t)) c.in_ok-subsystem.ensures refl (stops t))
+
+pub returns-clause-too_long : goal.returns-clause-too_long
+returns-clause-too_long g c = never_long _ c.play_lines.result c.play_lines.ensures.causes _ _
+
+pub returns-clause-same : goal.returns-clause-same
+returns-clause-same g c = λ before. absurd (never_before c.play_lines.result c.play_lines.ensures.causes before)
+
+pub returns-clause-silent : goal.returns-clause-silent
+returns-clause-silent g c = λ before. absurd (never_before c.play_lines.result c.play_lines.ensures.causes before)
+
+pub returns-clause-untraced : goal.returns-clause-untraced
+returns-clause-untraced g c = λ before. absurd (never_before c.play_lines.result c.play_lines.ensures.causes before)

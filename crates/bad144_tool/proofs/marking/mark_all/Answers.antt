@@ -1,0 +1,30 @@
+use Rattle.std.proofs.Common.{ℕ, ◌≡◌, ◌≤◌, ◌+◌, ◌∙◌, Bool, true, false, arith}
+use Rattle.std.specs.Prelude.{if◌then◌else◌}
+use Rattle.bad144_tool.proofs.MarkLaws.{count_then, does_err, does_front, does_ok, place_then, wanted_first}
+use Rattle.bad144_tool.proofs.marking.mark_all.Goals as goal
+
+small_then : (count i n : ℕ) (on : Bool) → n ≡ count + (if on then 1 else 0) → count ≤ i → n ≤ i + 1
+small_then count i n true is le = omega arith
+small_then count i n false is le = omega arith
+
+pub returns-in_err-on-clause-does : goal.returns-in_err-on-clause-does
+returns-in_err-on-clause-does g c =
+    does_err c.from_residual.ensures.0 (does_front c.args.kind c.args.unit (c.loop-i.i + 1) c.args.table.now.places
+    (place_then c.args.kind c.args.table.now c.requires.kind c.entries-i-end.ensures.valid c.loop-i.i c.entry.result c.entry.ensures
+    c.loop-i.invariant.does c.in_err-on.ensures.does))
+
+pub loop-i-preserved : goal.loop-i-preserved
+loop-i-preserved g c =
+    record {
+      does = does_ok (place_then c.args.kind c.args.table.now c.requires.kind c.entries-i-end.ensures.valid c.loop-i.i c.entry.result c.entry.ensures
+          c.loop-i.invariant.does c.in_ok-on.ensures.does);
+      counted = λ t.
+          let told = c.in_ok-on.ensures.does.never_again t in
+          c.more-count.ensures
+          ∙ count_then c.args.kind c.args.table.now c.requires.kind c.entries-i-end.ensures.valid c.loop-i.i c.entry.result c.entry.ensures
+          (g.P.Packs.held c.args.packs.now c.args.unit) c.loop-i.count c.in_ok-on.on (c.loop-i.invariant.counted told)
+          (c.in_ok-on.ensures.did t
+          ∙ wanted_first c.args.kind c.args.table.now c.requires.kind c.entries-i-end.ensures.valid c.loop-i.i c.entry.result c.entry.ensures
+          (g.P.Packs.held c.args.packs.now) (g.P.Packs.held c.loop-i.packs) c.args.unit (c.loop-i.invariant.does.done told));
+      small = small_then c.loop-i.count c.loop-i.i c.more-count.result c.in_ok-on.on c.more-count.ensures c.loop-i.invariant.small;
+    }

@@ -1,0 +1,4 @@
+pub mod Memory
+pub mod Drives
+pub mod Machine
+pub mod Slots

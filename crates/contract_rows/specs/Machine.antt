@@ -1,0 +1,68 @@
+-- What wrong bodies of the driver would do, refused by what its machine does.
+use Rattle.std.specs.Prelude.{ℕ, ◌≡◌, ◌≢◌, ◌<◌, Bool, true, [], ◌∷◌, ◌++◌, Option, Some, None}
+use Rattle.drive_registers.specs.Codes.{offset_field}
+use Rattle.hardware_table.specs.declared.Moved.{Moved}
+use Rattle.hardware_table.specs.declared.Moved.TheVariants.{Hard}
+use Rattle.hardware_table.specs.Adapter.{AdapterState}
+use Rattle.partitions.specs.declared.Admission.TheVariants.{Outside}
+use Rattle.pack_model.specs.TableSpelling.{Table}
+use Rattle.transfer_engine.specs.State.{TransferState, segment_of}
+use Rattle.transfer_engine.specs.Calls.{entry_for}
+use Rattle.driver_machine.specs.declared.AnswerKind.{AnswerKind}
+use Rattle.driver_machine.specs.declared.AnswerKind.TheVariants.{Error}
+use Rattle.driver_machine.specs.declared.Cause.TheVariants as cause
+use Rattle.driver_machine.specs.declared.Made.{Made}
+use Rattle.driver_machine.specs.declared.Task.{Task}
+use Rattle.driver_machine.specs.declared.Task.TheVariants.{Judge}
+use Rattle.driver_machine.specs.declared.Phase.TheVariants.{Waiting}
+use Rattle.driver_machine.specs.World.{World, UnitView, AdapterView, Held}
+use Rattle.driver_machine.specs.Acts.{Try, Rtc, End, Of, Taken, no_more_waits, after, commanded}
+use Rattle.driver_machine.specs.Due.{judged, deed_for, next_of, try_of}
+use Rattle.driver_machine.specs.Events.{can_arrive, lowest, refusal_by}
+
+-- a request ends at the first failure of a sector
+abbrev pub FirstFailureIsFinal : Type 0
+FirstFailureIsFinal = (moved : ℕ) (v : UnitView) (h : Held) (kind : AnswerKind) → judged moved Hard v h ≡ End kind → ⊥
+
+-- a unit whose queue is not empty is not started, for others position
+abbrev pub OneSeekAtATime : Type 0
+OneSeekAtATime = (v : UnitView) (h : Held) → v.phase ≡ Waiting → next_of v h ≡ None → ⊥
+
+-- a verdict is judged while an offset is set
+abbrev pub RtcForgotten : Type 0
+RtcForgotten = (moved : ℕ) (verdict : Moved) (v : UnitView) (h : Held) → offset_field v.drive.offset ≢ 0 → deed_for (Judge moved verdict) v h ≢ Rtc → ⊥
+
+-- a retry names the block with which the segment began, though others of it moved clean
+abbrev pub RetryNamesTheFirstBlock : Type 0
+RetryNamesTheFirstBlock = (moved number : ℕ) (t : TransferState) (next : Task) → 0 < moved → try_of moved t ≡ Try moved (segment_of t).block number next → ⊥
+
+-- a replacement is replaced
+abbrev pub ReplacementForwardedAgain : Type 0
+ReplacementForwardedAgain = (moved index other : ℕ) (table : Option Table) (t : TransferState) → t.index ≡ Some index → entry_for moved table t ≡ Some other → ⊥
+
+-- the newest of two answers is taken first
+abbrev pub NewestAnswerTakenFirst : Type 0
+NewestAnswerTakenFirst = (w : World) (first second : Made) → w.answers ≡ first ∷ second ∷ [] → first ≢ second
+    → (after w Taken).answers ≡ first ∷ [] → ⊥
+
+-- the answer of a request that ends is dated with another line
+abbrev pub AnswerAtAnotherLine : Type 0
+AnswerAtAnotherLine = (w : World) (line other u id : ℕ) (kind : AnswerKind) (made : Made) → other ≢ line → made.answer.at ≡ other
+    → (after w (Of line u id (End kind))).answers ≡ w.answers ++ made ∷ [] → ⊥
+
+-- of two units that wait for an adapter the one that leaves stays, and the other goes
+abbrev pub AllOthersLeaveTheAdapter : Type 0
+AllOthersLeaveTheAdapter = (u other : ℕ) (a : AdapterView) → u ≢ other → a.queue ≡ u ∷ other ∷ [] → (no_more_waits u a).queue ≡ u ∷ [] → ⊥
+
+-- of two units that position the higher one arrives first
+abbrev pub HighestUnitFirst : Type 0
+HighestUnitFirst = (v other : UnitView) → can_arrive v ≡ true → can_arrive other ≡ true → lowest can_arrive (v ∷ other ∷ []) 0 ≡ Some 1 → ⊥
+
+-- a request outside its partition is told that frames are short
+abbrev pub FramesBeforePartition : Type 0
+FramesBeforePartition = (room : Bool) → refusal_by Outside room ≡ Some (Error cause.Frames 0) → ⊥
+
+-- the blocks that come next are loaded from the front of the buffer
+abbrev pub FirstBlocksLoaded : Type 0
+FirstBlocksLoaded = (u : ℕ) (h : Held) (write : Bool) (t : TransferState) (a : AdapterState) → t.index ≡ None → 0 < t.done
+    → (commanded u h write (segment_of t) a).skip ≡ 0 → ⊥

@@ -1,0 +1,21 @@
+-- What wrong bodies would leave of slots and of the units' row of bits, refused by what these keep.
+use Rattle.std.specs.Prelude.{ℕ, ◌≡◌, ◌<◌, ◌+◌, true, false, List, Option, length}
+use Rattle.main_memory.specs.Memory.{Memory}
+use Rattle.driver_machine.specs.World.{UnitView}
+use Rattle.driver_machine.specs.Events.{can_arrive}
+use Rattle.request_slots.specs.declared.slot.Slot.{Slot}
+use Rattle.request_slots.specs.Requests.{frames_lent}
+use Rattle.request_slots.specs.Stored.{IsKept, as_seen}
+use Rattle.unit_bank.specs.Row.{IsRow, is_on, unit_in}
+
+-- a frame is neither free nor that of a request
+abbrev pub FrameLost : Type 0
+FrameLost = (memory : Memory) (slots : List (Option Slot)) → IsKept memory slots → length memory.free + frames_lent (as_seen memory slots) < 16384 → ⊥
+
+-- a unit arrived, and its bit says that it positions
+abbrev pub BitLeftOnBehindTheArrival : Type 0
+BitLeftOnBehindTheArrival = (row u : ℕ) (units : List UnitView) → IsRow row units → u < 32 → can_arrive (unit_in units u) ≡ false → is_on row u ≡ true → ⊥
+
+-- a unit positions, and its bit says that it does not
+abbrev pub BitOfAnotherUnit : Type 0
+BitOfAnotherUnit = (row u : ℕ) (units : List UnitView) → IsRow row units → u < 32 → can_arrive (unit_in units u) ≡ true → is_on row u ≡ false → ⊥

@@ -1,0 +1,11 @@
+//! The program, but for the making of the real objects: what its words come to, over any folder, reader and writers. `hpsim`
+//! makes the real ones and ends with this status.
+//!
+//! What is proved: the status where the words are no command, or there was no memory for them; all else is `hpsim_run::run`, over
+//! packs in the files of the folder, read ahead. Only tested, in `outside_rows`: each status, over a folder in memory whose calls
+//! are short, fail and are interrupted, and over real files.
+#![tactic(auto)]
+
+mod program;
+
+pub use program::{TRACE_NAME, end_status, words_of};

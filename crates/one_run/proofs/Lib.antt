@@ -1,0 +1,17 @@
+pub mod Verdicts
+pub mod Tries
+pub mod Goes
+pub mod Taking
+pub mod Fitting
+pub mod Rooms
+pub mod Events
+pub mod Drains
+pub mod Frames
+pub mod Places
+pub mod Submissions
+pub mod Attached
+pub mod Setups
+pub mod Starts
+pub mod Lines
+pub mod Whole
+pub mod Bytes

@@ -1,0 +1,22 @@
+use Rattle.std.proofs.Common.{rules, ◌∙◌}
+use Rattle.outside_traits.proofs.TakenLaws.{count_inside}
+use Rattle.outside_files.proofs.FolderLaws.{put_step, put_same}
+use Rattle.outside_files.proofs.transfers.write_front.Goals as goal
+use Rattle.outside_files.proofs.transfers.write_front.Goals.{in-Ok-write_at, in-Err-write_at}
+
+-- src/transfers.rt:100:5
+pub loop-preserved : goal.loop-preserved
+loop-preserved g c = elim c.match-write_at.branch [
+  | in-Ok-write_at w ↦ record {
+    inside = search rules;
+    never_again = search rules;
+    told = λ t.
+        put_step (g.F.PackFolder.held c.args.folder.now) (g.F.PackFolder.held c.loop.folder) (g.F.PackFolder.held c.write_at.new.self) c.args.unit c.args.part c.args.at c.in-Ok.place c.loop.done w.in-Ok-write_at.count _ c.args.from.now c.in-Ok.ensures w.done-is
+        c.loop.invariant.inside (c.loop.invariant.told (c.write_at.ensures.never_again t)) (w.in-Ok-write_at.ensures.bytes t);
+  }
+  | in-Err-write_at w ↦ record {
+    inside = search rules;
+    never_again = search rules;
+    told = λ t. put_same (g.F.PackFolder.held c.args.folder.now) (g.F.PackFolder.held c.loop.folder) (g.F.PackFolder.held c.write_at.new.self) c.args.unit c.args.part c.args.at c.loop.done _ c.args.from.now w.done-is (c.loop.invariant.told (c.write_at.ensures.never_again t)) (w.in-Err-write_at.ensures.err t);
+  }
+]

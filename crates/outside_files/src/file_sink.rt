@@ -1,0 +1,75 @@
+ghost use Rattle.std.specs.Prelude.{◌≡◌, ℕ, ◌<◌, ◌≤◌, ◌++◌, length, take, IfOk};
+ghost use Rattle.outside_traits.specs.Causes.{HasCause, Counts};
+ghost use Rattle.outside_files.specs.Answers.{TakesOn};
+
+use crate::streams::{counted, some_taken};
+use outside_traits::traits::{Sink, SinkFailed};
+use std::io;
+use std::io::{ErrorKind, Write};
+use std::rt::Files;
+
+/// A file as a sink, made anew at the first write. What it took is not told; each error counts as a fault, and so does
+/// a call that takes no byte of a piece that is not empty.
+#[derive(Drop)]
+pub struct FileSink<'a, R: Files> {
+    rt: R,
+    name: &'a str,
+    file: Option<R::File>,
+    faults: u64,
+}
+
+impl<'a, R: Files> FileSink<'a, R> {
+    /// The sink that writes to the file of this name. It opens nothing, and its count of faults begins at 0.
+    pub fn new(rt: R, name: &'a str) -> FileSink<'a, R>
+        ensures file { result.name.now ≡ name.now }
+        ensures faults { result.faults ≡ 0 }
+    {
+        FileSink {
+            rt,
+            name,
+            file: None,
+            faults: 0,
+        }
+    }
+
+    fn try_write(&mut self, from: &[u8]) -> io::Result<usize>
+        ensures bound { IfOk result (λ n. n ≤ length from.now) }
+        ensures name { self.new.name.now ≡ self.old.name.now }
+        ensures faults { self.new.faults ≡ self.old.faults }
+        ensures on { TakesOn R.File.contents self.old.file self.new.file result from.now }
+    {
+        if self.file.is_none() {
+            self.file = Some(std::fs::create(&self.rt, self.name)?);
+        }
+        match &mut self.file {
+            Some(file) => file.write(from),
+            None => Err(io::Error::from(ErrorKind::NotFound)),
+        }
+    }
+}
+
+impl<'a, R: Files> Sink for FileSink<'a, R> {
+    ghost use Rattle.std.specs.Prelude.{false, List, [], IsTrue, OnErr};
+
+    ghost tells = { λ _. false };
+
+    ghost taken = { λ _. [] };
+
+    ghost faults = { λ s. s.faults };
+
+    fn write(&mut self, from: &[u8]) -> Result<usize, SinkFailed>
+        ensures bound { IfOk result (λ n. n ≤ length from.now) }
+        ensures some { IfOk result (λ n. 0 < length from.now → 0 < n) }
+        ensures bytes { IfOk result (λ n. IsTrue false → ◌≡◌ {A = List ℕ} [] ([] ++ take n from.now)) }
+        ensures err { OnErr result (IsTrue false → ◌≡◌ {A = List ℕ} [] []) }
+        ensures cause { HasCause self.old.faults self.new.faults result }
+        // It counts each failure and nothing else, and keeps its file's name.
+        ensures counted { Counts result self.old.faults self.new.faults }
+        ensures name { self.new.name.now ≡ self.old.name.now }
+        // Where its file was open, it takes what the file takes.
+        ensures on { TakesOn R.File.contents self.old.file self.new.file result from.now }
+    {
+        let answer = some_taken(self.try_write(from), from.len());
+        counted(answer, SinkFailed, &mut self.faults)
+    }
+}

@@ -1,0 +1,163 @@
+ghost use Rattle.std.specs.Prelude.{◌≡◌, ◌<◌, ◌≤◌, ◌*◌, ◌+◌, ◌==◌, ◌||◌, ◌⊎◌, ℕ, Bool, List, [], ◌∷◌, IsTrue, false, not, if◌then◌else◌, length, take, nat_lt, is_err, IfOk, OnOk, OnErr};
+ghost use Rattle.pack_model.specs.Pack.{Pack, window, is_marked};
+ghost use Rattle.outside_traits.specs.Causes.{HasCause, Counts};
+ghost use Rattle.outside_files.specs.Folder.{file_of, with_put};
+
+use crate::folder::{PackFolder, Part};
+use crate::os_folder::OsFolder;
+use crate::streams::counted;
+use crate::transfers::{read_window, write_front};
+use outside_traits::traits::{Packs, StoreFailed};
+use outside_traits::wide_packs::WidePacks;
+use std::io;
+use std::os::unix::fs::FileExt;
+use std::rt::Files;
+
+/// The place of a block in an image, in bytes.
+fn place_in_image(block: u32) -> u64
+    ensures { result ≡ 512 * block }
+{
+    512 * u64::from(block)
+}
+
+/// Whether a mark byte marks its block: any byte but 0 does.
+fn is_mark(byte: u8) -> bool
+    ensures { result ≡ not (byte == 0) }
+{
+    byte != 0
+}
+
+/// The mark byte that is written: 1 for a marked block, 0 for a good one.
+fn mark_byte(on: bool) -> u8
+    ensures { result ≡ (if on then 1 else 0) }
+{
+    u8::from(on)
+}
+
+/// The packs in the files of a folder: block b is bytes 512*b to 512*b+511 of its unit's image, and byte b of the marks belongs
+/// to block b. A missing file is empty, and is made at its first write.
+///
+/// They tell what they hold where the folder does, up to a write that failed when a part of its bytes had gone out: that block
+/// is neither old nor new. Each error counts as a fault; a call that was interrupted is made again.
+#[derive(Drop)]
+pub struct FilePacks<F> {
+    folder: F,
+    torn: bool,
+    faults: u64,
+}
+
+impl<R: Files + AllocGlobal> FilePacks<OsFolder<R>>
+where
+    R::File: FileExt,
+{
+    /// The packs in the files `hpU.dsk` and `hpU.bad` of the working folder. It opens nothing, and its count of faults begins
+    /// at 0.
+    pub fn new(rt: R) -> FilePacks<OsFolder<R>>
+        ensures faults { result.faults ≡ 0 }
+        ensures whole { result.torn ≡ false }
+    {
+        FilePacks::over(OsFolder::new(rt))
+    }
+}
+
+impl<F: PackFolder> FilePacks<F> {
+    /// The packs in the files of this folder. The count of faults begins at 0.
+    pub fn over(folder: F) -> FilePacks<F>
+        ensures folder { result.folder ≡ folder }
+        ensures faults { result.faults ≡ 0 }
+        ensures whole { result.torn ≡ false }
+    {
+        FilePacks {
+            folder,
+            torn: false,
+            faults: 0,
+        }
+    }
+
+    /// Whether a block is marked.
+    fn read_mark(&mut self, unit: u8, block: u32) -> io::Result<bool>
+        requires { unit < 32 }
+        ensures never_again { IsTrue (F.tells self.new.folder) → IsTrue (F.tells self.old.folder) }
+        ensures mark { IfOk result (λ on. IsTrue (F.tells self.new.folder) → on ≡ is_marked (F.held self.old.folder unit) block) }
+        ensures same { IsTrue (F.tells self.new.folder) → F.held self.new.folder ≡ F.held self.old.folder }
+        ensures torn { self.new.torn ≡ self.old.torn }
+        ensures faults { self.new.faults ≡ self.old.faults }
+    {
+        let mut byte = [0u8; 1];
+        read_window(
+            &mut self.folder,
+            unit,
+            Part::Marks,
+            u64::from(block),
+            &mut byte,
+        )?;
+        Ok(is_mark(byte[0]))
+    }
+
+    /// Writes bytes at a place of a file. Where that fails when some of them went out, the packs are torn.
+    fn put(&mut self, unit: u8, part: Part, at: u64, from: &[u8]) -> io::Result<()>
+        requires { unit < 32 }
+        ensures never_again { IsTrue (F.tells self.new.folder) → IsTrue (F.tells self.old.folder) }
+        ensures torn { self.new.torn ≡ false → self.old.torn ≡ false }
+        ensures faults { self.new.faults ≡ self.old.faults }
+        ensures ok { OnOk result (IsTrue (F.tells self.new.folder) → F.held self.new.folder ≡ with_put (F.held self.old.folder) unit part at from.now) }
+        ensures err { OnErr result (IsTrue (F.tells self.new.folder) → self.new.torn ≡ false → F.held self.new.folder ≡ F.held self.old.folder) }
+    {
+        let (count, answer) = write_front(&mut self.folder, unit, part, at, from);
+        if answer.is_err() && count > 0 {
+            self.torn = true;
+        }
+        answer
+    }
+}
+
+impl<F: PackFolder> Packs for FilePacks<F> {
+    ghost use Rattle.std.specs.Prelude.{◌&&◌};
+
+    ghost tells = { λ p. F.tells p.folder && not p.torn };
+
+    ghost held = { λ p. F.held p.folder };
+
+    ghost faults = { λ p. p.faults };
+
+    fn length(&mut self, unit: u8) -> Result<u64, StoreFailed> {
+        let length = self.folder.length(unit, Part::Image);
+        counted(length, StoreFailed, &mut self.faults)
+    }
+
+    #[tactic(auto, unfolding(pack_model::specs::Pack::block_at))]
+    fn read(&mut self, unit: u8, block: u32, into: &mut [u8; 512]) -> Result<(), StoreFailed> {
+        let place = place_in_image(block);
+        let read = read_window(&mut self.folder, unit, Part::Image, place, into);
+        counted(read, StoreFailed, &mut self.faults)
+    }
+
+    fn write(&mut self, unit: u8, block: u32, from: &[u8; 512]) -> Result<(), StoreFailed> {
+        let written = self.put(unit, Part::Image, place_in_image(block), from);
+        counted(written, StoreFailed, &mut self.faults)
+    }
+
+    fn marked(&mut self, unit: u8, block: u32) -> Result<bool, StoreFailed> {
+        let mark = self.read_mark(unit, block);
+        counted(mark, StoreFailed, &mut self.faults)
+    }
+
+    fn set_mark(&mut self, unit: u8, block: u32, on: bool) -> Result<(), StoreFailed> {
+        let written = self.put(unit, Part::Marks, u64::from(block), &[mark_byte(on)]);
+        counted(written, StoreFailed, &mut self.faults)
+    }
+}
+
+impl<F: PackFolder> WidePacks for FilePacks<F> {
+    fn read_blocks(&mut self, unit: u8, block: u32, into: &mut [u8]) -> Result<(), StoreFailed> {
+        let place = place_in_image(block);
+        let read = read_window(&mut self.folder, unit, Part::Image, place, into);
+        counted(read, StoreFailed, &mut self.faults)
+    }
+
+    fn read_marks(&mut self, unit: u8, block: u32, into: &mut [u8]) -> Result<(), StoreFailed> {
+        let place = u64::from(block);
+        let read = read_window(&mut self.folder, unit, Part::Marks, place, into);
+        counted(read, StoreFailed, &mut self.faults)
+    }
+}

@@ -1,0 +1,75 @@
+ghost use Rattle.std.specs.Prelude.{◌≡◌, ℕ, ◌<◌, ◌≤◌, Bool, IsTrue, List, take, drop, length, IfOk, OnErr, string_bytes};
+ghost use Rattle.pack_model.specs.Pack.{Pack};
+ghost use Rattle.outside_files.specs.Folder.{file_of, with_put, file_number, name_of};
+
+use std::alloc::{AllocError, Global};
+use std::io;
+
+/// The two files of a unit.
+#[derive(Clone, Copy, Debug, PartialEq, Eq)]
+pub enum Part {
+    /// The bytes of its blocks.
+    Image,
+    /// A byte for each block, not 0 where it is marked.
+    Marks,
+}
+
+impl Part {
+    /// A file's number among those of all units, below 64.
+    pub fn number(self, unit: u8) -> usize
+        ensures { result ≡ file_number unit self }
+    {
+        match self {
+            Part::Image => 2 * usize::from(unit),
+            Part::Marks => 2 * usize::from(unit) + 1,
+        }
+    }
+
+    /// The name of a unit's file: `hpU.dsk` or `hpU.bad`, with the unit in decimal.
+    pub fn name(self, alloc: Global, unit: u8) -> Result<String, AllocError>
+        ensures { IfOk result (λ name. string_bytes name ≡ name_of unit self) }
+    {
+        match self {
+            Part::Image => format!(in alloc; "hp{unit}.dsk"),
+            Part::Marks => format!(in alloc; "hp{unit}.bad"),
+        }
+    }
+}
+
+/// A folder with two files for each of the units 0 to 31. A missing file is empty.
+///
+/// What the files hold is told or not told; a folder that no longer tells never tells again. An error is std's own, and it has
+/// changed nothing.
+pub trait PackFolder {
+    /// Whether it tells what the files hold.
+    ghost tells: { Self → Bool };
+
+    /// What the two files of each unit hold, where it tells.
+    ghost held: { Self → ℕ → Pack };
+
+    /// Answers a file's length, in bytes.
+    fn length(&mut self, unit: u8, part: Part) -> io::Result<u64>
+        requires { unit < 32 }
+        ensures never_again { IsTrue (tells self.new) → IsTrue (tells self.old) }
+        ensures length { IfOk result (λ n. IsTrue (tells self.new) → n ≡ length (file_of (held self.old unit) part)) }
+        ensures same { IsTrue (tells self.new) → held self.new ≡ held self.old };
+
+    /// Reads bytes of a file from a place on, at least one where one is there and fits, and answers how many they are.
+    fn read_at(&mut self, unit: u8, part: Part, at: u64, into: &mut [u8]) -> io::Result<usize>
+        requires { unit < 32 }
+        ensures bound { IfOk result (λ n. n ≤ length into.new) }
+        ensures never_again { IsTrue (tells self.new) → IsTrue (tells self.old) }
+        ensures bytes { IfOk result (λ n. IsTrue (tells self.new) → take n into.new ≡ take n (drop at (file_of (held self.old unit) part))) }
+        ensures end { IfOk result (λ n. IsTrue (tells self.new) → n ≡ 0 → 0 < length into.new → length (file_of (held self.old unit) part) ≤ at) }
+        ensures same { IsTrue (tells self.new) → held self.new ≡ held self.old };
+
+    /// Writes a front of these bytes at a place of a file, at least one of some, and answers how many they are. The file is made
+    /// where it is missing, and extended by zeros where it is short.
+    fn write_at(&mut self, unit: u8, part: Part, at: u64, from: &[u8]) -> io::Result<usize>
+        requires { unit < 32 }
+        ensures bound { IfOk result (λ n. n ≤ length from.now) }
+        ensures some { IfOk result (λ n. 0 < length from.now → 0 < n) }
+        ensures never_again { IsTrue (tells self.new) → IsTrue (tells self.old) }
+        ensures bytes { IfOk result (λ n. IsTrue (tells self.new) → held self.new ≡ with_put (held self.old) unit part at (take n from.now)) }
+        ensures err { OnErr result (IsTrue (tells self.new) → held self.new ≡ held self.old) };
+}

@@ -1,0 +1,29 @@
+-- Wrong outcomes of the tool and of `exercise`, and statuses of other commands.
+use Rattle.std.specs.Prelude.{ℕ, true, List, [], ◌∷◌, codes, Some}
+use Rattle.pack_geometry.specs.declared.DriveKind.{DriveKind}
+use Rattle.pack_model.specs.Pack.{Pack}
+use Rattle.bad144_tool.specs.declared.edit.AddWay.{AddWay}
+use Rattle.hpsim_run.specs.declared.words.Command.TheVariants.{Play}
+use Rattle.hpsim_run.specs.declared.status.Status.TheVariants.{ToolRefused}
+use Rattle.hpsim_run.specs.Statuses.{status_code, IsStatusOf}
+use Rattle.hpsim_run.specs.Exercises.{RunsExercise}
+use Rattle.hpsim_run.specs.Tools.{RunsAdd, RunsFresh, RunsList}
+
+-- DONE WHERE THE TEXT WAS NOT TAKEN: `bad144 add` and `fresh` answer 0, and of the text nothing was taken, though the sink's count rose.
+abbrev pub DoneWhereTheTextWasNotTaken : Type 0
+DoneWhereTheTextWasNotTaken = (kind : DriveKind) (unit block serial : ℕ) (way : AddWay) (old new : ℕ → Pack) (taken : List ℕ)
+    → (¬ RunsAdd kind unit block way 0 true old new true taken taken 0 1) × (¬ RunsFresh kind unit serial 0 true old new true taken taken 0 1)
+
+-- A FAULT THAT PRINTS: the packs failed, and something was printed.
+abbrev pub FaultThatPrints : Type 0
+FaultThatPrints = (kind : DriveKind) (unit block serial byte : ℕ) (way : AddWay) (old new : ℕ → Pack)
+    → (¬ RunsList kind unit 6 true old new true [] (byte ∷ []) 0 0) × (¬ RunsAdd kind unit block way 6 true old new true [] (byte ∷ []) 0 0)
+    × (¬ RunsFresh kind unit serial 6 true old new true [] (byte ∷ []) 0 0)
+
+-- HANDED IN PACKS PLAYED: an exercise is done, and the text of another script's answer was taken.
+abbrev pub HandedInPacksPlayed : Type 0
+HandedInPacksPlayed = (number : ℕ) (taken taken' : List ℕ) → ¬ RunsExercise number 0 true [] (codes "ans 1 at 3 ok\n") 0 0 true taken taken' 0 0
+
+-- `play` answers what only `bad144 add` has.
+abbrev pub PlayedAsRefusedByTheTool : Type 0
+PlayedAsRefusedByTheTool = ¬ IsStatusOf (Some Play) (status_code ToolRefused)

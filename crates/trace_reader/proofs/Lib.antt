@@ -1,0 +1,9 @@
+pub mod NumberLaws
+pub mod WordLaws
+pub mod FormLaws
+pub mod BackLaws
+pub mod LineLaws
+pub mod ReadingLaws
+pub mod RoundLaws
+pub mod FeedLaws
+pub mod GrammarLaws

@@ -1,0 +1,6 @@
+pub mod Asked
+pub mod Grammar
+pub mod Knowing
+pub mod Lines
+pub mod Reading
+pub mod RoundTrip

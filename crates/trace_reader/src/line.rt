@@ -1,0 +1,33 @@
+use trace_lines::Told;
+
+/// A line of a trace.
+#[derive(Clone, Copy, Debug, PartialEq, Eq)]
+pub enum TraceLine {
+    /// What was done at a unit, 0 to 31, for the request of an id, as line number `line` of the script was played: 1 to
+    /// 1,000,001, where the number behind the last line is that of the last drain.
+    Deed {
+        line: u32,
+        unit: u8,
+        id: u32,
+        told: Told,
+    },
+    /// An event of that line of the script found nothing to do.
+    Idle {
+        line: u32,
+    },
+}
+
+impl TraceLine {
+    ghost use Rattle.std.specs.Prelude.{◌≡◌};
+    ghost use Rattle.trace_reader.specs.Lines.{line_number};
+
+    /// The number of the script's line.
+    pub fn line(&self) -> u32
+        ensures { result ≡ line_number self.now }
+    {
+        match *self {
+            TraceLine::Deed { line, .. } => line,
+            TraceLine::Idle { line } => line,
+        }
+    }
+}

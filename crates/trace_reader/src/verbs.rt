@@ -1,0 +1,25 @@
+/// The first words of lines that tell of a unit.
+#[derive(Clone, Copy, Debug, PartialEq, Eq)]
+pub(crate) enum Verb {
+    Cmd,
+    Arrive,
+    Sector,
+    Intr,
+    Try,
+    Attn,
+    End,
+}
+
+/// The words of commands.
+#[derive(Clone, Copy, Debug, PartialEq, Eq)]
+pub(crate) enum Command {
+    Search,
+    Seek,
+    Recal,
+    Offset,
+    Centre,
+    Clear,
+    Pack,
+    Write,
+    Read,
+}

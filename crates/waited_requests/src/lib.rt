@@ -1,0 +1,16 @@
+//! One request at a time, waited for: from a replay at rest, whatever the heads and registers are, it has one answer, which what the packs
+//! hold gives by itself; and the replay behind it rests again. The function here does nothing: it stands for a law.
+#![tactic(auto)]
+
+ghost use Rattle.waited_requests.specs.Rest.{StartRests};
+ghost use Rattle.waited_requests.specs.Waited.{WaitedIsAnswered, RestsAgain, PacksHoldMap};
+
+/// The start over packs rests. A request that is waited for from a replay at rest is answered once: by its partition where that refuses
+/// it, ok where all its blocks can be used, and else unforwarded at the first that can't; the homes hold the map behind that answer, and
+/// where the packs are left so the replay rests again over them.
+pub fn waited_law()
+    ensures start { StartRests }
+    ensures answered { WaitedIsAnswered }
+    ensures rests { RestsAgain }
+    ensures packs { PacksHoldMap }
+{}
