@@ -1,9 +1,9 @@
 -- THE COLUMNS OF A PICTURE: the events of a window, equally many to each.
 use Rattle.std.specs.Prelude.{ℕ, ◌+◌, ◌-◌, ◌*◌, ◌/◌, ◌%◌, ◌==◌, nat_le, nat_lt, min, max, Bool, false, ◌&&◌, ◌||◌, if◌then◌else◌, List, [], ◌∷◌, slice_index, slice_range}
-use Rattle.run_picture.specs.declared.drives.Drive.{Drive}
+use Rattle.drive_pictures.specs.declared.drives.Drive.{Drive}
 use Rattle.run_picture.specs.declared.columns.Window.{Window}
 use Rattle.run_picture.specs.declared.columns.Head.{Head}
-use Rattle.run_picture.specs.Counts.{plus}
+use Rattle.drive_pictures.specs.Counts.{plus}
 use Rattle.run_picture.specs.Positioning.{positioning}
 
 -- of a run of so many events those from one up to another, in at most 216 columns

@@ -7,31 +7,31 @@ use Rattle.partitions.specs.Partitions.{admission}
 use Rattle.script_reader.specs.declared.statement.Request.{Request as Asked}
 use Rattle.trace_lines.specs.declared.telling.Told.{Told as Deed}
 use Rattle.trace_lines.specs.declared.telling.Told.TheVariants as deed
-use Rattle.run_picture.specs.declared.drives.Drive.{Drive}
-use Rattle.run_picture.specs.declared.marks.Mark.TheVariants as mark
-use Rattle.run_picture.specs.declared.marks.Mark.{Mark}
-use Rattle.run_picture.specs.declared.moments.Moment.{Moment}
-use Rattle.run_picture.specs.declared.moments.Moment.TheVariants.{Played, Told, Idle}
-use Rattle.run_picture.specs.declared.moments.Play.{Play}
-use Rattle.run_picture.specs.declared.moments.Play.TheVariants.{Ask, Other}
-use Rattle.run_picture.specs.declared.moments.Play.TheVariants as play
-use Rattle.run_picture.specs.declared.drives.Change.{Change}
-use Rattle.run_picture.specs.declared.requests.Outcome.{Outcome}
-use Rattle.run_picture.specs.declared.requests.Outcome.TheVariants as outcome
-use Rattle.run_picture.specs.declared.requests.Request.{Request}
+use Rattle.drive_pictures.specs.declared.drives.Drive.{Drive}
+use Rattle.drive_pictures.specs.declared.marks.Mark.TheVariants as mark
+use Rattle.drive_pictures.specs.declared.marks.Mark.{Mark}
+use Rattle.drive_pictures.specs.declared.moments.Moment.{Moment}
+use Rattle.drive_pictures.specs.declared.moments.Moment.TheVariants.{Played, Told, Idle}
+use Rattle.drive_pictures.specs.declared.moments.Play.{Play}
+use Rattle.drive_pictures.specs.declared.moments.Play.TheVariants.{Ask, Other}
+use Rattle.drive_pictures.specs.declared.moments.Play.TheVariants as play
+use Rattle.drive_pictures.specs.declared.drives.Change.{Change}
+use Rattle.drive_pictures.specs.declared.requests.Outcome.{Outcome}
+use Rattle.drive_pictures.specs.declared.requests.Outcome.TheVariants as outcome
+use Rattle.drive_pictures.specs.declared.requests.Request.{Request}
 use Rattle.run_picture.specs.declared.acts.Glance.{Glance}
 use Rattle.run_picture.specs.declared.columns.Window.{Window}
 use Rattle.run_picture.specs.declared.columns.Head.{Head}
 use Rattle.run_picture.specs.declared.columns.Column.{Column}
 use Rattle.run_picture.specs.Columns.{new_head, headed, is_inside, is_before, is_full}
-use Rattle.run_picture.specs.Counts.{plus}
+use Rattle.drive_pictures.specs.Counts.{plus}
 use Rattle.run_picture.specs.Positioning.{positioning, moving}
-use Rattle.run_picture.specs.Drives.{blank, new_drive, changed, joined, met, marked, freed, event_counted, unseen, cleared, cylinder_blocks}
-use Rattle.run_picture.specs.Drives as drives
-use Rattle.run_picture.specs.Events.{line_of, begins, is_idle}
+use Rattle.drive_pictures.specs.Drives.{new_drive, changed, joined, met, marked, freed, event_counted, unseen, cleared, cylinder_blocks}
+use Rattle.drive_pictures.specs.Drives as drives
+use Rattle.drive_pictures.specs.Events.{line_of, begins, is_idle}
 use Rattle.run_picture.specs.Places.{place_of}
-use Rattle.run_picture.specs.Requests.{answer, is_ok, is_refused, refused, ended, left}
-use Rattle.run_picture.specs.Requests as requests
+use Rattle.drive_pictures.specs.Requests.{new_request, answer, is_ok, is_refused, refused, ended, left}
+use Rattle.drive_pictures.specs.Requests as requests
 
 -- WHAT IS KNOWN behind a moment: each of the 32 drives; the requests as asked, with their ids; the frames that are lent; the
 -- number of the event at hand; the moment; what is seen at a glance; the events that are shown, the column at hand, the drives
@@ -79,29 +79,6 @@ admitted_by (meets.Inside first) kind r lent =
 abbrev pub admitted : Option DriveKind → Asked → ℕ → Result ℕ Outcome
 admitted None r lent = Err outcome.Partition
 admitted (Some kind) r lent = admitted_by (admission kind r.part r.block r.count) kind r lent
-
--- as it is asked for, at an event and a line
-abbrev pub new_request : ℕ → ℕ → ℕ → ℕ → Bool → Request
-new_request event line unit id write = record {
-  id = id;
-  unit = unit;
-  write = write;
-  line = line;
-  cylinder = None;
-  why = None;
-  needed = 0;
-  asked = event;
-  in_hand = None;
-  ended = None;
-  ended_line = 0;
-  rank = 0;
-  turn = 0;
-  times = blank;
-  done = 0;
-  verdict = None;
-  outcome = outcome.Open;
-  trouble = false;
-}
 
 -- where it is admitted it joins the requests of its drive, and frames are lent; else it has its reason
 abbrev pub request_asked : Result ℕ Outcome → ℕ → ℕ → Request → Request

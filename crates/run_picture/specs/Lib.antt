@@ -1,12 +1,4 @@
-pub mod Counts
-pub mod Letters
-pub mod Marks
-pub mod Arms
-pub mod Cells
-pub mod Drives
 pub mod Positioning
 pub mod Columns
-pub mod Events
-pub mod Requests
 pub mod Places
 pub mod Fold

@@ -1,8 +1,8 @@
 -- WHAT DRIVES DO AT ONCE.
 use Rattle.std.specs.Prelude.{ℕ, Bool, List, count_by}
 use Rattle.std.specs.List.{list_any}
-use Rattle.run_picture.specs.declared.drives.Drive.{Drive}
-use Rattle.run_picture.specs.Letters.{is_positioning, is_moving}
+use Rattle.drive_pictures.specs.declared.drives.Drive.{Drive}
+use Rattle.drive_pictures.specs.Letters.{is_positioning, is_moving}
 
 -- positioning at once: the drives with a seek, a search, a recalibration or an offset under way behind it.
 unfoldable pub positions : Drive → Bool

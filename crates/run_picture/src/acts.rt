@@ -1,16 +1,13 @@
 //! What each moment and the end of each event do to drives and requests.
 
 ghost use Rattle.std.specs.Prelude.{◌≡◌, nat_lt, if◌then◌else◌, map};
-ghost use Rattle.run_picture.specs.Counts.{plus};
+ghost use Rattle.drive_pictures.specs.Counts.{plus};
 ghost use Rattle.run_picture.specs.Positioning.{positions, moves, positioning, moving};
 ghost use Rattle.trace_lines.specs.declared.telling.Told.TheVariants.{End};
-ghost use Rattle.run_picture.specs.Drives.{event_counted, unseen};
-ghost use Rattle.run_picture.specs.Fold.{new_known, admitted, frames_of, new_request, request_asked, drive_asked, lent_asked, drive_after, request_after, back_after, end_mark, glance_after};
+ghost use Rattle.drive_pictures.specs.Drives.{event_counted, unseen};
+ghost use Rattle.run_picture.specs.Fold.{admitted, frames_of, request_asked, drive_asked, lent_asked, drive_after, request_after, back_after, end_mark, glance_after};
 
-use crate::counts::plus;
-use crate::drives::{Drive, Times, cylinder_blocks};
-use crate::marks::Mark;
-use crate::requests::{Outcome, Request};
+use drive_pictures::{Drive, Mark, Outcome, Request, cylinder_blocks, plus};
 use pack_geometry::DriveKind;
 use partitions::part_range;
 use script_reader::statement::Request as Asked;
@@ -68,34 +65,6 @@ pub fn admit(kind: Option<DriveKind>, asked: &Asked, lent: u64) -> Result<u32, O
                     lent,
                 )
             }
-        }
-    }
-}
-
-impl Request {
-    /// As it is asked for, at an event and a line.
-    pub fn new(event: u64, line: u32, unit: u8, id: u32, write: bool) -> Request
-        ensures { result ≡ new_request event line unit id write }
-    {
-        Request {
-            id,
-            unit,
-            write,
-            line,
-            cylinder: None,
-            why: None,
-            needed: 0,
-            asked: event,
-            in_hand: None,
-            ended: None,
-            ended_line: 0,
-            rank: 0,
-            turn: 0,
-            times: Times::new(),
-            done: 0,
-            verdict: None,
-            outcome: Outcome::Open,
-            trouble: false,
         }
     }
 }

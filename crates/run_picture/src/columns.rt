@@ -1,12 +1,11 @@
 //! The columns of a picture: the events of a window, equally many to each.
 
 ghost use Rattle.std.specs.Prelude.{◌≡◌, ◌<◌, map};
-ghost use Rattle.run_picture.specs.Drives.{cleared};
+ghost use Rattle.drive_pictures.specs.Drives.{cleared};
 ghost use Rattle.run_picture.specs.Columns.{window_of, new_head, headed, adapter_drives, together, is_inside, is_full, is_before};
 
 use crate::acts::positioning;
-use crate::counts::plus;
-use crate::drives::Drive;
+use drive_pictures::{Drive, plus};
 
 /// The most columns of a picture.
 const WIDEST: u64 = 216;

@@ -3,15 +3,12 @@
 ghost use Rattle.std.specs.Prelude.{◌≡◌, ◌<◌, map, IfOk, OnOk, slice_set};
 ghost use Rattle.run_picture.specs.Fold.{new_known, declared, asked, met_at, place_in, told_at, told, heard, step, finished, request_at, changed_at, column_closed, column_with, window_begun, event_shown, event_counted_in, event_ended, turned_behind, turned, ended_behind, events_in, IsHeard};
 ghost use Rattle.run_picture.specs.Places.{place_of};
-ghost use Rattle.run_picture.specs.Requests.{left};
+ghost use Rattle.drive_pictures.specs.Requests.{left};
 
 use crate::acts::{Glance, act, admit, begin_events, count_events, frames_of, lend, submit};
 use crate::columns::{Column, Head, Window, clear_cells};
-use crate::counts::plus;
-use crate::drives::{Change, Drive};
-use crate::moments::{Moment, Play, begins, is_idle, line_of};
 use crate::places::Places;
-use crate::requests::Request;
+use drive_pictures::{Change, Drive, Moment, Play, Request, begins, is_idle, line_of, plus};
 use pack_geometry::DriveKind;
 use script_reader::statement::Request as Asked;
 use std::alloc::{AllocError, Global};

@@ -1,4 +1,4 @@
-use Rattle.run_picture.specs.Drives.{unseen}
+use Rattle.drive_pictures.specs.Drives.{unseen}
 use Rattle.run_picture.proofs.ListLaws.{map_step}
 use Rattle.run_picture.proofs.acts.begin_events.Goals as goal
 

@@ -1,4 +1,4 @@
-use Rattle.run_picture.specs.Drives.{event_counted}
+use Rattle.drive_pictures.specs.Drives.{event_counted}
 use Rattle.run_picture.proofs.ListLaws.{map_step}
 use Rattle.run_picture.proofs.acts.count_events.Goals as goal
 

@@ -1,5 +1,5 @@
 use Rattle.std.proofs.Common.{◌≡◌, ◌++◌, map, take, drop}
-use Rattle.run_picture.specs.Drives.{event_counted}
+use Rattle.drive_pictures.specs.Drives.{event_counted}
 use Rattle.run_picture.proofs.acts.count_events.Given as goal
 
 abbrev pub invariant-loop-drive : goal.invariant-loop-drive

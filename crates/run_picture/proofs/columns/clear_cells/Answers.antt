@@ -1,4 +1,4 @@
-use Rattle.run_picture.specs.Drives.{cleared}
+use Rattle.drive_pictures.specs.Drives.{cleared}
 use Rattle.run_picture.proofs.ListLaws.{map_step}
 use Rattle.run_picture.proofs.columns.clear_cells.Goals as goal
 

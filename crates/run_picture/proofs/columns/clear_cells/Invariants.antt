@@ -1,5 +1,5 @@
 use Rattle.std.proofs.Common.{◌≡◌, ◌++◌, map, take, drop}
-use Rattle.run_picture.specs.Drives.{cleared}
+use Rattle.drive_pictures.specs.Drives.{cleared}
 use Rattle.run_picture.proofs.columns.clear_cells.Given as goal
 
 abbrev pub invariant-loop-drive : goal.invariant-loop-drive

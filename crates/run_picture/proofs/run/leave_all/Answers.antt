@@ -1,4 +1,4 @@
-use Rattle.run_picture.specs.Requests.{left}
+use Rattle.drive_pictures.specs.Requests.{left}
 use Rattle.run_picture.proofs.ListLaws.{map_step}
 use Rattle.run_picture.proofs.run.leave_all.Goals as goal
 

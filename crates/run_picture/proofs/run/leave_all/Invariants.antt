@@ -1,5 +1,5 @@
 use Rattle.std.proofs.Common.{◌≡◌, ◌++◌, map, take, drop}
-use Rattle.run_picture.specs.Requests.{left}
+use Rattle.drive_pictures.specs.Requests.{left}
 use Rattle.run_picture.proofs.run.leave_all.Given as goal
 
 abbrev pub invariant-loop-request : goal.invariant-loop-request

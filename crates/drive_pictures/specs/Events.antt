@@ -2,8 +2,8 @@
 use Rattle.std.specs.Prelude.{ℕ, ◌/◌, ◌==◌, Bool, true, false, not, ◌||◌, if◌then◌else◌, Option, Some, None}
 use Rattle.trace_lines.specs.declared.telling.Told.{Told as Deed}
 use Rattle.trace_lines.specs.declared.telling.Told.TheVariants as told
-use Rattle.run_picture.specs.declared.moments.Moment.{Moment}
-use Rattle.run_picture.specs.declared.moments.Moment.TheVariants.{Played, Told, Idle}
+use Rattle.drive_pictures.specs.declared.moments.Moment.{Moment}
+use Rattle.drive_pictures.specs.declared.moments.Moment.TheVariants.{Played, Told, Idle}
 
 -- the number of the script's line
 abbrev pub line_of : Moment → ℕ

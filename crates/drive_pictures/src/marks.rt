@@ -1,7 +1,7 @@
 //! The marks of an event: what happened at a drive.
 
 ghost use Rattle.std.specs.Prelude.{◌≡◌};
-ghost use Rattle.run_picture.specs.Marks.{weight_of, later, is_trouble, mark_of};
+ghost use Rattle.drive_pictures.specs.Marks.{weight_of, later, is_trouble, mark_of};
 
 use hardware_table::Moved;
 

@@ -1,7 +1,7 @@
 //! What becomes of a request.
 
 ghost use Rattle.std.specs.Prelude.{◌≡◌, max};
-ghost use Rattle.run_picture.specs.Requests.{queued, is_out_of_order, started, tried, heard, tells, stopped_by, answer, is_refused, refused, ended, left};
+ghost use Rattle.drive_pictures.specs.Requests.{new_request, queued, is_out_of_order, started, tried, heard, tells, stopped_by, answer, is_refused, refused, ended, left};
 
 use crate::counts::plus;
 use crate::drives::{Drive, Times};
@@ -83,6 +83,32 @@ fn later_event(event: u64, other: u64) -> u64
 }
 
 impl Request {
+    /// As it is asked for, at an event and a line.
+    pub fn new(event: u64, line: u32, unit: u8, id: u32, write: bool) -> Request
+        ensures { result ≡ new_request event line unit id write }
+    {
+        Request {
+            id,
+            unit,
+            write,
+            line,
+            cylinder: None,
+            why: None,
+            needed: 0,
+            asked: event,
+            in_hand: None,
+            ended: None,
+            ended_line: 0,
+            rank: 0,
+            turn: 0,
+            times: Times::new(),
+            done: 0,
+            verdict: None,
+            outcome: Outcome::Open,
+            trouble: false,
+        }
+    }
+
     /// The events that it waited.
     pub fn queued(&self) -> u64
         ensures { result ≡ queued self.now }

@@ -1,7 +1,7 @@
 //! What is seen of a drive in a column: several events as one.
 
 ghost use Rattle.std.specs.Prelude.{◌≡◌};
-ghost use Rattle.run_picture.specs.Cells.{new_tally, tallied, new_cell};
+ghost use Rattle.drive_pictures.specs.Cells.{new_tally, tallied, new_cell};
 
 use crate::arms::Path;
 use crate::counts::plus;

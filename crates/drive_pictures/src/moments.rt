@@ -1,7 +1,7 @@
 //! What is seen of a run, one after another: the lines of the script as they are played, and the lines of the trace.
 
 ghost use Rattle.std.specs.Prelude.{◌≡◌};
-ghost use Rattle.run_picture.specs.Events.{line_of, begins, begins_at, begins_by, is_end_of_wait, is_idle};
+ghost use Rattle.drive_pictures.specs.Events.{line_of, begins, begins_at, begins_by, is_end_of_wait, is_idle};
 
 use crate::drives::Change;
 use script_reader::statement::Request;

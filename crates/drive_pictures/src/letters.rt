@@ -1,7 +1,7 @@
 //! The letters of a drive: what it does behind an event, until the next.
 
 ghost use Rattle.std.specs.Prelude.{◌≡◌};
-ghost use Rattle.run_picture.specs.Letters.{is_positioning, is_on_its_way, is_holding, is_moving};
+ghost use Rattle.drive_pictures.specs.Letters.{is_positioning, is_on_its_way, is_holding, is_moving};
 
 /// What a drive does behind an event, until the next.
 #[derive(Clone, Copy, PartialEq, Eq)]

@@ -1,7 +1,7 @@
 //! Counts that stop at the largest number.
 
 ghost use Rattle.std.specs.Prelude.{◌≡◌};
-ghost use Rattle.run_picture.specs.Counts.{plus};
+ghost use Rattle.drive_pictures.specs.Counts.{plus};
 
 /// A sum, which stops at 2^64 - 1.
 pub fn plus(count: u64, more: u64) -> u64

@@ -8,24 +8,24 @@ use Rattle.hardware_table.specs.declared.Moved.{Moved}
 use Rattle.hardware_table.specs.declared.Moved.TheVariants as verdict
 use Rattle.trace_lines.specs.declared.telling.Told.{Told}
 use Rattle.trace_lines.specs.declared.telling.Told.TheVariants as deed
-use Rattle.run_picture.specs.declared.letters.Letter.{Letter}
-use Rattle.run_picture.specs.declared.letters.Letter.TheVariants as letter
-use Rattle.run_picture.specs.declared.marks.Mark.{Mark}
-use Rattle.run_picture.specs.declared.marks.Mark.TheVariants as mark
-use Rattle.run_picture.specs.declared.arms.Arm.{Arm}
-use Rattle.run_picture.specs.declared.drives.Seen.{Seen}
-use Rattle.run_picture.specs.declared.drives.Times.{Times}
-use Rattle.run_picture.specs.declared.drives.Trial.{Trial}
-use Rattle.run_picture.specs.declared.drives.Queue.{Queue}
-use Rattle.run_picture.specs.declared.drives.Drive.{Drive}
-use Rattle.run_picture.specs.declared.drives.Change.{Change}
-use Rattle.run_picture.specs.declared.drives.Change.TheVariants as change
-use Rattle.run_picture.specs.Counts.{plus, apart}
-use Rattle.run_picture.specs.Letters.{is_on_its_way, is_ready, is_holding}
-use Rattle.run_picture.specs.Marks.{later, mark_of}
-use Rattle.run_picture.specs.Arms.{new_arm, sent, reached, paths_joined}
-use Rattle.run_picture.specs.declared.cells.Cell.{Cell}
-use Rattle.run_picture.specs.Cells.{new_cell, tallied}
+use Rattle.drive_pictures.specs.declared.letters.Letter.{Letter}
+use Rattle.drive_pictures.specs.declared.letters.Letter.TheVariants as letter
+use Rattle.drive_pictures.specs.declared.marks.Mark.{Mark}
+use Rattle.drive_pictures.specs.declared.marks.Mark.TheVariants as mark
+use Rattle.drive_pictures.specs.declared.arms.Arm.{Arm}
+use Rattle.drive_pictures.specs.declared.drives.Seen.{Seen}
+use Rattle.drive_pictures.specs.declared.drives.Times.{Times}
+use Rattle.drive_pictures.specs.declared.drives.Queue.{Queue}
+use Rattle.drive_pictures.specs.declared.drives.Drive.{Drive}
+use Rattle.drive_pictures.specs.declared.drives.Change.{Change}
+use Rattle.drive_pictures.specs.declared.drives.Change.TheVariants as change
+use Rattle.drive_pictures.specs.Counts.{plus, apart}
+use Rattle.drive_pictures.specs.Trials.{new_trial, in_hand, wanted, transfer_letter, verdict_trial, verdict_letter}
+use Rattle.drive_pictures.specs.Letters.{is_on_its_way, is_ready, is_holding}
+use Rattle.drive_pictures.specs.Marks.{later, mark_of}
+use Rattle.drive_pictures.specs.Arms.{new_arm, sent, reached, paths_joined}
+use Rattle.drive_pictures.specs.declared.cells.Cell.{Cell}
+use Rattle.drive_pictures.specs.Cells.{new_cell, tallied}
 
 -- BEFORE THE RUN: idle on cylinder 0, online and not locked.
 abbrev pub new_seen : Seen
@@ -33,9 +33,6 @@ new_seen = record { mark = mark.Blank; signal = mark.Blank; code = 0; tried = 0 
 
 abbrev pub blank : Times
 blank = record { way = 0; ready = 0; trans = 0 }
-
-abbrev pub new_trial : Trial
-new_trial = record { hand = None; want = 0; left = 0; fails = 0; marks = 0 }
 
 abbrev pub new_queue : Queue
 new_queue = record { joined = 0; served = 0; waiting = 0; free = 0; last = 0; as_asked = 0 }
@@ -71,27 +68,9 @@ counted l times = record {
   trans = more_if (is_holding l) times.trans;
 }
 
--- THE REQUEST IN HAND
-abbrev pub is_at : Option ℕ → ℕ → Bool
-is_at None place = false
-is_at (Some other) place = other == place
-
--- a request at a place is in hand: it wants nothing yet, unless it was in hand
-abbrev pub in_hand : ℕ → Trial → Trial
-in_hand place trial = record trial { hand = Some place; want = if is_at trial.hand place then trial.want else 0 }
-
--- a segment of so many sectors begins; the first says how many blocks the request wants
-abbrev pub wanted : ℕ → Trial → Trial
-wanted count trial = record trial { left = count; want = if trial.want == 0 then count else trial.want }
-
--- THE LETTERS of what begins: a search on the arm's cylinder only turns; a transfer is one at a replacement, a try again, or the
--- first
+-- THE LETTER of a search: on the arm's cylinder it only turns
 abbrev pub going : Arm → ℕ → Letter
 going arm cylinder = if cylinder == arm.cylinder then letter.Turns else letter.Seeks
-
-abbrev pub transfer_letter : Trial → Letter
-transfer_letter trial =
-    if nat_lt 0 trial.marks then letter.Replaces else if nat_lt 0 trial.fails then letter.Retries else letter.Moves
 
 abbrev pub offset_mark : OffsetCode → Mark
 offset_mark Plus400 = mark.OffsetPlus
@@ -120,18 +99,6 @@ block_arm (Some kind) block arm = reached (block / cylinder_blocks kind) arm
 abbrev pub verdict_arm : Moved → Option DriveKind → ℕ → Arm → Arm
 verdict_arm verdict.Offline kind block arm = arm
 verdict_arm v kind block arm = block_arm kind block arm
-
--- a sector that moved ends the tries at its block, and a mark ends them and is counted
-abbrev pub verdict_trial : Moved → Trial → Trial
-verdict_trial verdict.Clean trial = record trial { left = trial.left - 1; fails = 0; marks = 0 }
-verdict_trial (verdict.Burst at pattern) trial = record trial { left = trial.left - 1; fails = 0; marks = 0 }
-verdict_trial verdict.Marked trial = record trial { left = trial.left - 1; fails = 0; marks = plus trial.marks 1 }
-verdict_trial v trial = record trial { left = trial.left - 1 }
-
--- the segment goes on where the sector was clean and others are left
-abbrev pub verdict_letter : Moved → ℕ → Letter
-verdict_letter verdict.Clean left = if nat_lt 0 left then letter.Moves else letter.Moved
-verdict_letter v left = letter.Moved
 
 -- A LINE OF THE TRACE, but an end, for the request at a place
 abbrev pub said : Told → Drive → Drive

@@ -1,7 +1,7 @@
 -- What the letters of a drive say.
 use Rattle.std.specs.Prelude.{Bool, true, false}
-use Rattle.run_picture.specs.declared.letters.Letter.{Letter}
-use Rattle.run_picture.specs.declared.letters.Letter.TheVariants.{Seeks, Turns, Recalibrates, Offsets, Arrived, Ready, Moves, Retries, Replaces, Moved}
+use Rattle.drive_pictures.specs.declared.letters.Letter.{Letter}
+use Rattle.drive_pictures.specs.declared.letters.Letter.TheVariants.{Seeks, Turns, Recalibrates, Offsets, Arrived, Ready, Moves, Retries, Replaces, Moved}
 
 -- a seek, a search, a recalibration or an offset is under way
 abbrev pub is_positioning : Letter → Bool

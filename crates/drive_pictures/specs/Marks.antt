@@ -2,8 +2,8 @@
 use Rattle.std.specs.Prelude.{ℕ, nat_lt, Bool, true, false, if◌then◌else◌}
 use Rattle.hardware_table.specs.declared.Moved.{Moved}
 use Rattle.hardware_table.specs.declared.Moved.TheVariants as verdict
-use Rattle.run_picture.specs.declared.marks.Mark.{Mark}
-use Rattle.run_picture.specs.declared.marks.Mark.TheVariants.{Blank, AttentionUp, AttentionTaken, InterruptTaken, Asked, SectorMoved, Answered, Turned, FaultArmed, NoiseArmed, Acknowledged, Unlocked, Locked, Online, Offline, TryFailed, OffsetPlus, OffsetMinus, Burst, MarkedSector, Fault, Hard, TriedOffline, Stopped}
+use Rattle.drive_pictures.specs.declared.marks.Mark.{Mark}
+use Rattle.drive_pictures.specs.declared.marks.Mark.TheVariants.{Blank, AttentionUp, AttentionTaken, InterruptTaken, Asked, SectorMoved, Answered, Turned, FaultArmed, NoiseArmed, Acknowledged, Unlocked, Locked, Online, Offline, TryFailed, OffsetPlus, OffsetMinus, Burst, MarkedSector, Fault, Hard, TriedOffline, Stopped}
 
 -- the place of a mark among all
 abbrev pub weight_of : Mark → ℕ

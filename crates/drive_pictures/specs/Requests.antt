@@ -1,16 +1,40 @@
 -- WHAT BECOMES OF A REQUEST.
-use Rattle.std.specs.Prelude.{ℕ, ◌-◌, ◌==◌, nat_lt, max, Bool, true, false, not, ◌&&◌, ◌||◌, if◌then◌else◌, Option, Some, is_some, is_none, unwrap_or}
+use Rattle.std.specs.Prelude.{ℕ, ◌-◌, ◌==◌, nat_lt, max, Bool, true, false, not, ◌&&◌, ◌||◌, if◌then◌else◌, Option, Some, None, is_some, is_none, unwrap_or}
 use Rattle.hardware_table.specs.declared.Moved.{Moved}
 use Rattle.hardware_table.specs.declared.Moved.TheVariants as verdict
 use Rattle.trace_lines.specs.declared.telling.Told.{Told}
 use Rattle.trace_lines.specs.declared.telling.Told.TheVariants as deed
-use Rattle.run_picture.specs.declared.drives.Drive.{Drive}
-use Rattle.run_picture.specs.declared.requests.Outcome.{Outcome}
-use Rattle.run_picture.specs.declared.requests.Outcome.TheVariants as outcome
-use Rattle.run_picture.specs.declared.requests.Request.{Request}
-use Rattle.run_picture.specs.Counts.{plus}
-use Rattle.run_picture.specs.Marks.{mark_of, is_trouble}
-use Rattle.run_picture.specs.Drives.{is_at}
+use Rattle.drive_pictures.specs.declared.drives.Drive.{Drive}
+use Rattle.drive_pictures.specs.declared.requests.Outcome.{Outcome}
+use Rattle.drive_pictures.specs.declared.requests.Outcome.TheVariants as outcome
+use Rattle.drive_pictures.specs.declared.requests.Request.{Request}
+use Rattle.drive_pictures.specs.Counts.{plus}
+use Rattle.drive_pictures.specs.Marks.{mark_of, is_trouble}
+use Rattle.drive_pictures.specs.Drives.{blank}
+use Rattle.drive_pictures.specs.Trials.{is_at}
+
+-- as it is asked for, at an event and a line
+abbrev pub new_request : ℕ → ℕ → ℕ → ℕ → Bool → Request
+new_request event line unit id write = record {
+  id = id;
+  unit = unit;
+  write = write;
+  line = line;
+  cylinder = None;
+  why = None;
+  needed = 0;
+  asked = event;
+  in_hand = None;
+  ended = None;
+  ended_line = 0;
+  rank = 0;
+  turn = 0;
+  times = blank;
+  done = 0;
+  verdict = None;
+  outcome = outcome.Open;
+  trouble = false;
+}
 
 -- the events that it waited: from its asking on, until it was in hand
 abbrev pub queued : Request → ℕ

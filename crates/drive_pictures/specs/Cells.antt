@@ -1,11 +1,11 @@
 -- WHAT IS SEEN OF A DRIVE IN A COLUMN.
 use Rattle.std.specs.Prelude.{None, false}
-use Rattle.run_picture.specs.declared.letters.Letter.{Letter}
-use Rattle.run_picture.specs.declared.letters.Letter.TheVariants as letter
-use Rattle.run_picture.specs.declared.marks.Mark.TheVariants.{Blank}
-use Rattle.run_picture.specs.declared.cells.Tally.{Tally}
-use Rattle.run_picture.specs.declared.cells.Cell.{Cell}
-use Rattle.run_picture.specs.Counts.{plus}
+use Rattle.drive_pictures.specs.declared.letters.Letter.{Letter}
+use Rattle.drive_pictures.specs.declared.letters.Letter.TheVariants as letter
+use Rattle.drive_pictures.specs.declared.marks.Mark.TheVariants.{Blank}
+use Rattle.drive_pictures.specs.declared.cells.Tally.{Tally}
+use Rattle.drive_pictures.specs.declared.cells.Cell.{Cell}
+use Rattle.drive_pictures.specs.Counts.{plus}
 
 -- behind how many events each letter stands
 abbrev pub new_tally : Tally

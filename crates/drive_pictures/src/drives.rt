@@ -1,15 +1,17 @@
 //! What is known of a drive behind a moment, and what each moment does to it.
 
 ghost use Rattle.std.specs.Prelude.{◌≡◌, ◌<◌};
-ghost use Rattle.run_picture.specs.Arms.{sent};
+ghost use Rattle.drive_pictures.specs.Arms.{sent};
 ghost use Rattle.trace_lines.specs.declared.telling.Told.TheVariants.{Sector};
-ghost use Rattle.run_picture.specs.Drives.{new_drive, new_seen, blank, counted, going, in_hand, is_at, offset_mark, offset_hundreds, transfer_letter, wanted, cylinder_blocks, verdict_arm, verdict_trial, verdict_letter, said, tells, changed, joined, met, marked, freed, event_counted, unseen, cell_with, cleared};
+ghost use Rattle.drive_pictures.specs.Drives.{new_drive, new_seen, blank, counted, going, offset_mark, offset_hundreds, cylinder_blocks, verdict_arm, said, tells, changed, joined, met, marked, freed, event_counted, unseen, cell_with, cleared};
+ghost use Rattle.drive_pictures.specs.Trials.{is_at};
 
 use crate::arms::{Arm, join_paths};
 use crate::cells::Cell;
 use crate::counts::plus;
 use crate::letters::Letter;
 use crate::marks::{Mark, mark_of};
+use crate::trials::{Trial, verdict_letter};
 use drive_registers::OffsetCode;
 use hardware_table::Moved;
 use pack_geometry::{DriveKind, geometry_of};
@@ -31,17 +33,6 @@ pub struct Times {
     pub way: u64,
     pub ready: u64,
     pub trans: u64,
-}
-
-/// The request in hand: its place among the requests, the blocks that it wants, the sectors left of its segment, and at the
-/// block at hand the tries that failed and the marks that were met.
-#[derive(Clone, Copy)]
-pub struct Trial {
-    pub hand: Option<usize>,
-    pub want: u32,
-    pub left: u32,
-    pub fails: u32,
-    pub marks: u64,
 }
 
 /// The requests of a drive: how many joined, were served, and wait; the event of the last end; the cylinder of the last that
@@ -180,80 +171,6 @@ fn offset_hundreds(code: OffsetCode) -> u32
         OffsetCode::Plus400 | OffsetCode::Minus400 => 4,
         OffsetCode::Plus800 | OffsetCode::Minus800 => 8,
         OffsetCode::Plus1200 | OffsetCode::Minus1200 => 12,
-    }
-}
-
-impl Trial {
-    /// The request at a place is in hand: it wants nothing yet, unless it was in hand.
-    fn take(&mut self, place: usize)
-        ensures { self.new ≡ in_hand place self.old }
-    {
-        match self.hand {
-            Some(other) => {
-                if other != place {
-                    self.want = 0;
-                }
-            }
-            None => self.want = 0,
-        }
-        self.hand = Some(place);
-    }
-
-    /// The letter of a transfer.
-    fn transfer_letter(&self) -> Letter
-        ensures { result ≡ transfer_letter self.now }
-    {
-        if self.marks > 0 {
-            Letter::Replaces
-        } else if self.fails > 0 {
-            Letter::Retries
-        } else {
-            Letter::Moves
-        }
-    }
-
-    /// A segment of so many sectors begins.
-    fn begin(&mut self, count: u32)
-        ensures { self.new ≡ wanted count self.old }
-    {
-        if self.want == 0 {
-            self.want = count;
-        }
-        self.left = count;
-    }
-
-    /// A sector was tried.
-    fn move_sector(&mut self, verdict: Moved)
-        ensures { self.new ≡ verdict_trial verdict self.old }
-    {
-        self.left = self.left.saturating_sub(1);
-        match verdict {
-            Moved::Clean | Moved::Burst { .. } => {
-                self.fails = 0;
-                self.marks = 0;
-            }
-            Moved::Marked => {
-                self.fails = 0;
-                self.marks = plus(self.marks, 1);
-            }
-            _ => {}
-        }
-    }
-}
-
-/// The letter behind a sector's verdict, with so many sectors left.
-fn verdict_letter(verdict: Moved, left: u32) -> Letter
-    ensures { result ≡ verdict_letter verdict left }
-{
-    match verdict {
-        Moved::Clean => {
-            if left > 0 {
-                Letter::Moves
-            } else {
-                Letter::Moved
-            }
-        }
-        _ => Letter::Moved,
     }
 }
 

@@ -1,8 +1,8 @@
 -- The arm of a drive.
 use Rattle.std.specs.Prelude.{ℕ, min, max, Option, Some, None}
-use Rattle.run_picture.specs.declared.arms.Path.{Path}
-use Rattle.run_picture.specs.declared.arms.Arm.{Arm}
-use Rattle.run_picture.specs.Counts.{plus, apart}
+use Rattle.drive_pictures.specs.declared.arms.Path.{Path}
+use Rattle.drive_pictures.specs.declared.arms.Arm.{Arm}
+use Rattle.drive_pictures.specs.Counts.{plus, apart}
 
 -- WHERE AN ARM WAS SEEN: the first, the lowest, the highest and the last cylinder
 abbrev pub path_with : Option Path → ℕ → Option Path
