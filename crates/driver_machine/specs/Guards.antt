@@ -59,7 +59,7 @@ May u (Attn taken) s = (s.unit.phase ≡ Positioning taken) × (s.unit.drive.att
 May u (Move write segment) s = IsNext u (Move write segment) s × (s.adapter.state.busy ≡ false)
 May u deed s = IsNext u deed s
 
--- the frames of a request: those that it needs, below 16,384 and each once, and none of another request
+-- the frames of a request: as many as it needs, below 16,384, and none of another request
 abbrev pub IsApart : List ℕ → List ℕ → Type 0
 IsApart frames others = (frame : ℕ) → Contains frames frame → ¬ (Contains others frame)
 

@@ -166,14 +166,14 @@ fn play_lines<P: Packs, O: Sink, T: Sink>(
 /// Plays a script line by line, and behind its last line a drain, whose number is the number of lines plus one. The answers of
 /// each submission and event go to `out` behind it, and its lines to `trace`.
 ///
-/// The units are attached first, in the order of their lines. TooLong tells the first of them whose image has more bytes than
-/// the blocks of its drive. Store comes only where the packs' count of faults rose in this call, and Sink only where that of
+/// The units are attached first, in the order of their lines. TooLong tells a declared unit whose image has more bytes than the
+/// blocks of its drive. Store comes only where the packs' count of faults rose in this call, and Sink only where that of
 /// `out` or of `trace` rose; Memory only before the first line is played, with the packs, `out` and `trace` as they were.
 ///
 /// The tally counts the script's requests and the answers of the run with their text, also where `out` does not tell what it took.
 ///
 /// Behind Store and Sink it is known how far the script came: `trace` and `out` took fronts of the texts of a run so far, the
-/// packs are as its replay leaves them but for one block at most, and no call was made behind the one that failed.
+/// packs are as its replay leaves them but for one block at most.
 pub fn play<P: Packs, O: Sink, T: Sink>(
     alloc: Global,
     script: &Script,

@@ -1,7 +1,7 @@
-ghost use Rattle.std.specs.Prelude.{◌≡◌, ◌≢◌, ◌⊎◌, None, IfSome};
-ghost use Rattle.hpsim_run.specs.Statuses.{status_code, IsStatus};
+ghost use Rattle.std.specs.Prelude.{◌≡◌, ◌⊎◌, None, IfSome};
+ghost use Rattle.hpsim_run.specs.Statuses.{status_code, IsStatusOf};
 ghost use Rattle.hpsim_run.specs.Words.{command_of as the_command};
-ghost use Rattle.hpsim_run.specs.declared.status.Status.TheVariants.{Usage, OutOfMemory};
+ghost use Rattle.hpsim_run.specs.declared.status.Status.TheVariants.{OutOfMemory};
 
 use hpsim_run::{Status, run};
 use outside_files::files::FilePacks;
@@ -47,10 +47,8 @@ pub fn end_status<F: PackFolder + Drop, R: Read + Drop, W: Write + Drop, T: Sink
     writer: W,
     trace: &mut T,
 ) -> u8
-    ensures statuses { IsStatus result }
     ensures no_words { words ≡ None → result ≡ status_code OutOfMemory }
-    ensures usage { IfSome words (λ list. the_command list.items ≡ None → (result ≡ status_code Usage) ⊎ (result ≡ status_code OutOfMemory)) }
-    ensures only_usage { IfSome words (λ list. the_command list.items ≢ None → result ≢ status_code Usage) }
+    ensures statuses { IfSome words (λ list. IsStatusOf (the_command list.items) result ⊎ (result ≡ status_code OutOfMemory)) }
 {
     let Some(words) = words else {
         return Status::OutOfMemory.code();

@@ -3,7 +3,7 @@ use Rattle.std.specs.Prelude.{◌≡◌, ◌⊎◌, ℕ, Option, None, Some}
 use Rattle.pack_geometry.specs.declared.DriveKind.{DriveKind}
 use Rattle.bad144_tool.specs.declared.edit.AddWay.{AddWay}
 use Rattle.hpsim_run.specs.declared.words.Command.{Command}
-use Rattle.hpsim_run.specs.declared.words.Command.TheVariants.{Play, ListTable, AddBlock, FreshTable, Exercise}
+use Rattle.hpsim_run.specs.declared.words.Command.TheVariants.{Play, ListTable, AddBlock, FreshTable, MarkBlocks, Exercise}
 use Rattle.hpsim_run.specs.declared.status.Status.{Status}
 use Rattle.hpsim_run.specs.declared.status.Status.TheVariants.{Done, Usage, Refused, SourceFailed, SinkFailed, PacksFailed, TooLong, ToolRefused, OutOfMemory}
 
@@ -18,7 +18,7 @@ status_code TooLong = 7
 status_code ToolRefused = 8
 status_code OutOfMemory = 9
 
--- the statuses of `play`, of the three commands of `bad144`, and of `exercise`
+-- the statuses of `play`, of the commands of `bad144` without and with refusals of their own, and of `exercise`
 abbrev pub IsPlayCode : ℕ → Type 0
 IsPlayCode code = (code ≡ status_code Done) ⊎ (code ≡ status_code Refused) ⊎ (code ≡ status_code SourceFailed) ⊎ (code ≡ status_code SinkFailed)
     ⊎ (code ≡ status_code PacksFailed) ⊎ (code ≡ status_code TooLong) ⊎ (code ≡ status_code OutOfMemory)
@@ -26,8 +26,8 @@ IsPlayCode code = (code ≡ status_code Done) ⊎ (code ≡ status_code Refused)
 abbrev pub IsToolCode : ℕ → Type 0
 IsToolCode code = (code ≡ status_code Done) ⊎ (code ≡ status_code SinkFailed) ⊎ (code ≡ status_code PacksFailed) ⊎ (code ≡ status_code TooLong)
 
-abbrev pub IsAddCode : ℕ → Type 0
-IsAddCode code = (code ≡ status_code Done) ⊎ (code ≡ status_code SinkFailed) ⊎ (code ≡ status_code PacksFailed) ⊎ (code ≡ status_code TooLong) ⊎ (code ≡ status_code ToolRefused)
+abbrev pub IsChangeCode : ℕ → Type 0
+IsChangeCode code = (code ≡ status_code Done) ⊎ (code ≡ status_code SinkFailed) ⊎ (code ≡ status_code PacksFailed) ⊎ (code ≡ status_code TooLong) ⊎ (code ≡ status_code ToolRefused)
 
 abbrev pub IsExerciseCode : ℕ → Type 0
 IsExerciseCode code = (code ≡ status_code Done) ⊎ (code ≡ status_code SinkFailed) ⊎ (code ≡ status_code OutOfMemory)
@@ -37,8 +37,9 @@ pub record IsStatusOf (command : Option Command) (code : ℕ) : Type 0 where
   pub none : command ≡ None → code ≡ status_code Usage
   pub play : command ≡ Some Play → IsPlayCode code
   pub list : (unit : ℕ) (kind : DriveKind) → command ≡ Some (ListTable unit kind) → IsToolCode code
-  pub add : (unit block : ℕ) (kind : DriveKind) (way : AddWay) → command ≡ Some (AddBlock unit kind block way) → IsAddCode code
+  pub add : (unit block : ℕ) (kind : DriveKind) (way : AddWay) → command ≡ Some (AddBlock unit kind block way) → IsChangeCode code
   pub fresh : (unit serial : ℕ) (kind : DriveKind) → command ≡ Some (FreshTable unit kind serial) → IsToolCode code
+  pub mark : (unit : ℕ) (kind : DriveKind) → command ≡ Some (MarkBlocks unit kind) → IsChangeCode code
   pub exercise : (number : ℕ) → command ≡ Some (Exercise number) → IsExerciseCode code
 
 -- a status of `play`

@@ -23,5 +23,6 @@ returns-in-Some-Play-clause-statuses g c = record {
   list = search rules;
   add = search rules;
   fresh = search rules;
+  mark = search rules;
   exercise = search rules;
 }
