@@ -1,6 +1,6 @@
 //! Where the arm of a drive is and goes, and where it was seen.
 
-ghost use Rattle.std.specs.Prelude.{◌≡◌, None};
+ghost use Rattle.std.specs.Prelude.{◌≡◌};
 ghost use Rattle.drive_pictures.specs.Arms.{path_with, paths_joined, sent, reached, new_arm};
 
 use crate::counts::plus;
