@@ -1,0 +1,9 @@
+pub mod Counts
+pub mod Letters
+pub mod Marks
+pub mod Arms
+pub mod Cells
+pub mod Trials
+pub mod Drives
+pub mod Events
+pub mod Requests

@@ -1,0 +1,94 @@
+//! Where the arm of a drive is and goes, and where it was seen.
+
+ghost use Rattle.std.specs.Prelude.{◌≡◌};
+ghost use Rattle.drive_pictures.specs.Arms.{path_with, paths_joined, sent, reached, new_arm};
+
+use crate::counts::plus;
+
+/// The cylinders where an arm was seen: the first, the lowest, the highest and the last.
+#[derive(Clone, Copy)]
+pub struct Path {
+    pub first: u32,
+    pub lowest: u32,
+    pub highest: u32,
+    pub last: u32,
+}
+
+/// An arm: the cylinder where it is, the one to which it goes, how many cylinders it has moved over, and where it was seen
+/// in the event at hand.
+#[derive(Clone, Copy)]
+pub struct Arm {
+    pub cylinder: u32,
+    pub target: u32,
+    pub travel: u64,
+    pub path: Option<Path>,
+}
+
+/// A path, and a cylinder where the arm was seen behind it.
+fn path_with(path: Option<Path>, cylinder: u32) -> Option<Path>
+    ensures { result ≡ path_with path cylinder }
+{
+    match path {
+        None => Some(Path {
+            first: cylinder,
+            lowest: cylinder,
+            highest: cylinder,
+            last: cylinder,
+        }),
+        Some(path) => Some(Path {
+            first: path.first,
+            lowest: path.lowest.min(cylinder),
+            highest: path.highest.max(cylinder),
+            last: cylinder,
+        }),
+    }
+}
+
+/// A path, and one behind it.
+pub fn join_paths(path: Option<Path>, behind: Option<Path>) -> Option<Path>
+    ensures { result ≡ paths_joined path behind }
+{
+    match path {
+        None => behind,
+        Some(before) => match behind {
+            None => Some(before),
+            Some(after) => Some(Path {
+                first: before.first,
+                lowest: before.lowest.min(after.lowest),
+                highest: before.highest.max(after.highest),
+                last: after.last,
+            }),
+        },
+    }
+}
+
+impl Arm {
+    /// Before the run: on cylinder 0.
+    pub fn new() -> Arm
+        ensures { result ≡ new_arm }
+    {
+        Arm {
+            cylinder: 0,
+            target: 0,
+            travel: 0,
+            path: None,
+        }
+    }
+
+    /// The arm is seen where it is, and goes to a cylinder.
+    pub fn send(&mut self, target: u32)
+        ensures { self.new ≡ sent target self.old }
+    {
+        self.path = path_with(self.path, self.cylinder);
+        self.target = target;
+    }
+
+    /// The arm is at a cylinder, and has moved over those between.
+    pub fn reach(&mut self, cylinder: u32)
+        ensures { self.new ≡ reached cylinder self.old }
+    {
+        self.travel = plus(self.travel, u64::from(cylinder.abs_diff(self.cylinder)));
+        self.cylinder = cylinder;
+        self.path = path_with(self.path, cylinder);
+    }
+}

@@ -1,0 +1,439 @@
+//! What is known of a drive behind a moment, and what each moment does to it.
+
+ghost use Rattle.std.specs.Prelude.{◌≡◌, ◌<◌};
+ghost use Rattle.drive_pictures.specs.Arms.{sent};
+ghost use Rattle.trace_lines.specs.declared.telling.Told.TheVariants.{Sector};
+ghost use Rattle.drive_pictures.specs.Drives.{new_drive, new_seen, blank, counted, going, offset_mark, offset_hundreds, cylinder_blocks, verdict_arm, said, tells, changed, joined, met, marked, freed, event_counted, unseen, cell_with, cleared};
+ghost use Rattle.drive_pictures.specs.Trials.{is_at};
+
+use crate::arms::{Arm, join_paths};
+use crate::cells::Cell;
+use crate::counts::plus;
+use crate::letters::Letter;
+use crate::marks::{Mark, mark_of};
+use crate::trials::{Trial, verdict_letter};
+use drive_registers::OffsetCode;
+use hardware_table::Moved;
+use pack_geometry::{DriveKind, geometry_of};
+use trace_lines::Told;
+
+/// What is seen of a drive in the event at hand: the gravest mark, the signal, the offset that was set, in hundreds, and the
+/// number of the try that failed.
+#[derive(Clone, Copy)]
+pub struct Seen {
+    pub mark: Mark,
+    pub signal: Mark,
+    pub code: u32,
+    pub tried: u32,
+}
+
+/// Events by what a drive did behind them: it was on its way, was ready and waited for its adapter, or held it.
+#[derive(Clone, Copy)]
+pub struct Times {
+    pub way: u64,
+    pub ready: u64,
+    pub trans: u64,
+}
+
+/// The requests of a drive: how many joined, were served, and wait; the event of the last end; the cylinder of the last that
+/// joined, and how far the arm would have moved from request to request as asked.
+#[derive(Clone, Copy)]
+pub struct Queue {
+    pub joined: u64,
+    pub served: u64,
+    pub waiting: u64,
+    pub free: u64,
+    pub last: u32,
+    pub as_asked: u64,
+}
+
+/// A drive.
+#[derive(Clone, Copy)]
+pub struct Drive {
+    /// Its kind, where a script declares it.
+    pub kind: Option<DriveKind>,
+    /// What it does.
+    pub letter: Letter,
+    /// Its arm.
+    pub arm: Arm,
+    /// What is seen of it in the event at hand.
+    pub seen: Seen,
+    /// The request in hand.
+    pub trial: Trial,
+    /// Its requests.
+    pub queue: Queue,
+    /// The events since the last end.
+    pub since: Times,
+    /// All events.
+    pub all: Times,
+    /// It is offline.
+    pub offline: bool,
+    /// It is locked against writing.
+    pub locked: bool,
+    /// What was seen of it in the column at hand.
+    pub cell: Cell,
+}
+
+/// What a line of the script changes at a drive.
+#[derive(Clone, Copy)]
+pub enum Change {
+    /// Noise is armed.
+    Noise,
+    /// A fault is armed.
+    Fault,
+    /// The pack is turned.
+    Turn,
+    /// The drive goes offline.
+    Offline,
+    /// The drive comes online.
+    Online,
+    /// The drive is locked.
+    Lock,
+    /// The drive is unlocked.
+    Unlock,
+}
+
+impl Seen {
+    /// Nothing.
+    fn new() -> Seen
+        ensures { result ≡ new_seen }
+    {
+        Seen {
+            mark: Mark::Blank,
+            signal: Mark::Blank,
+            code: 0,
+            tried: 0,
+        }
+    }
+}
+
+impl Times {
+    /// No event.
+    pub fn new() -> Times
+        ensures { result ≡ blank }
+    {
+        Times {
+            way: 0,
+            ready: 0,
+            trans: 0,
+        }
+    }
+
+    /// An event more, behind which a letter stands.
+    fn count(&mut self, letter: Letter)
+        ensures { self.new ≡ counted letter self.old }
+    {
+        match letter {
+            Letter::Seeks
+            | Letter::Turns
+            | Letter::Recalibrates
+            | Letter::Offsets
+            | Letter::Arrived => {
+                self.way = plus(self.way, 1);
+            }
+            Letter::Ready => {
+                self.ready = plus(self.ready, 1);
+            }
+            Letter::Moves | Letter::Retries | Letter::Replaces | Letter::Moved => {
+                self.trans = plus(self.trans, 1);
+            }
+            Letter::Idle => {}
+        }
+    }
+}
+
+/// The letter of a search.
+fn search_letter(arm: Arm, cylinder: u32) -> Letter
+    ensures { result ≡ going arm cylinder }
+{
+    if cylinder == arm.cylinder {
+        Letter::Turns
+    } else {
+        Letter::Seeks
+    }
+}
+
+/// The mark of an offset.
+fn offset_mark(code: OffsetCode) -> Mark
+    ensures { result ≡ offset_mark code }
+{
+    match code {
+        OffsetCode::Plus400 | OffsetCode::Plus800 | OffsetCode::Plus1200 => Mark::OffsetPlus,
+        OffsetCode::Minus400 | OffsetCode::Minus800 | OffsetCode::Minus1200 => Mark::OffsetMinus,
+    }
+}
+
+/// The hundreds of an offset.
+fn offset_hundreds(code: OffsetCode) -> u32
+    ensures { result ≡ offset_hundreds code }
+{
+    match code {
+        OffsetCode::Plus400 | OffsetCode::Minus400 => 4,
+        OffsetCode::Plus800 | OffsetCode::Minus800 => 8,
+        OffsetCode::Plus1200 | OffsetCode::Minus1200 => 12,
+    }
+}
+
+/// The blocks of a cylinder.
+pub fn cylinder_blocks(kind: DriveKind) -> u32
+    ensures size { result ≡ cylinder_blocks kind }
+    ensures some { 0 < result }
+{
+    let geometry = geometry_of(kind);
+    geometry.tracks * geometry.sectors
+}
+
+impl Drive {
+    /// Before the run, of a kind where a script declares one.
+    pub fn new(kind: Option<DriveKind>) -> Drive
+        ensures { result ≡ new_drive kind }
+    {
+        Drive {
+            kind,
+            letter: Letter::Idle,
+            arm: Arm::new(),
+            seen: Seen::new(),
+            trial: Trial {
+                hand: None,
+                want: 0,
+                left: 0,
+                fails: 0,
+                marks: 0,
+            },
+            queue: Queue {
+                joined: 0,
+                served: 0,
+                waiting: 0,
+                free: 0,
+                last: 0,
+                as_asked: 0,
+            },
+            since: Times::new(),
+            all: Times::new(),
+            offline: false,
+            locked: false,
+            cell: Cell::new(),
+        }
+    }
+
+    /// The request at a place is in hand.
+    pub fn is_in_hand(&self, place: usize) -> bool
+        ensures { result ≡ is_at self.now.trial.hand place }
+    {
+        match self.trial.hand {
+            Some(other) => other == place,
+            None => false,
+        }
+    }
+
+    /// A mark is shown unless a graver one is.
+    pub fn mark(&mut self, mark: Mark)
+        ensures { self.new ≡ marked mark self.old }
+    {
+        self.seen.mark = self.seen.mark.later(mark);
+    }
+
+    /// Where the drive was there, its arm is at the block's cylinder.
+    fn reach_block(&mut self, verdict: Moved, block: u32)
+        ensures { self.new ≡ record self.old { arm = verdict_arm verdict self.old.kind block self.old.arm } }
+    {
+        if let Moved::Offline = verdict {
+            return;
+        }
+        if let Some(kind) = self.kind {
+            self.arm.reach(block / cylinder_blocks(kind));
+        }
+    }
+
+    /// A sector was tried.
+    fn try_sector(&mut self, block: u32, verdict: Moved)
+        ensures { self.new ≡ said (Sector block verdict) self.old }
+    {
+        self.reach_block(verdict, block);
+        self.seen.mark = self.seen.mark.later(mark_of(verdict));
+        self.trial.move_sector(verdict);
+        self.letter = verdict_letter(verdict, self.trial.left);
+    }
+
+    /// The arm goes to a cylinder.
+    fn go(&mut self, letter: Letter, cylinder: u32)
+        ensures { self.new ≡ record self.old { letter = letter; arm = sent cylinder self.old.arm } }
+    {
+        self.letter = letter;
+        self.arm.send(cylinder);
+    }
+
+    /// A signal is seen, and a letter stands.
+    fn signal(&mut self, letter: Letter, signal: Mark)
+        ensures { self.new ≡ record self.old { letter = letter; seen = record self.old.seen { signal = signal } } }
+    {
+        self.letter = letter;
+        self.seen.signal = signal;
+    }
+
+    /// What a line of the trace says, but an end.
+    fn say(&mut self, deed: &Told)
+        ensures { self.new ≡ said deed.now self.old }
+    {
+        match *deed {
+            Told::Search { cylinder, .. } => {
+                let letter = search_letter(self.arm, cylinder);
+                self.go(letter, cylinder);
+            },
+            Told::Seek { cylinder } => self.go(Letter::Seeks, cylinder),
+            Told::Recal => self.go(Letter::Recalibrates, 0),
+            Told::Offset { code } => {
+                let here = self.arm.cylinder;
+                self.go(Letter::Offsets, here);
+                self.mark(offset_mark(code));
+                self.seen.code = offset_hundreds(code);
+            }
+            Told::Centre | Told::Clear | Told::End => {}
+            Told::Pack => self.mark(Mark::Acknowledged),
+            Told::Transfer { count, .. } => {
+                let letter = self.trial.transfer_letter();
+                let target = self.arm.target;
+                self.go(letter, target);
+                self.trial.begin(count);
+            }
+            Told::Arrive => {
+                let target = self.arm.target;
+                self.arm.reach(target);
+                self.signal(Letter::Arrived, Mark::AttentionUp);
+            }
+            Told::Sector { block, verdict } => self.try_sector(block, verdict),
+            Told::Intr => self.signal(Letter::Ready, Mark::InterruptTaken),
+            Told::Try { failures, .. } => {
+                self.trial.fails = failures;
+                self.seen.tried = failures;
+                self.seen.signal = Mark::TryFailed;
+            }
+            Told::Attn => self.signal(Letter::Ready, Mark::AttentionTaken),
+        }
+    }
+
+    /// A line of the trace, but an end, for the request at a place.
+    pub fn tell(&mut self, place: usize, deed: &Told)
+        ensures { self.new ≡ tells place deed.now self.old }
+    {
+        self.trial.take(place);
+        self.say(deed);
+    }
+
+    /// A line of the script changes the drive.
+    pub fn change(&mut self, change: Change)
+        ensures { self.new ≡ changed change self.old }
+    {
+        let mark = match change {
+            Change::Noise => Mark::NoiseArmed,
+            Change::Fault => Mark::FaultArmed,
+            Change::Turn => Mark::Turned,
+            Change::Offline => {
+                self.offline = true;
+                Mark::Offline
+            }
+            Change::Online => {
+                self.offline = false;
+                Mark::Online
+            }
+            Change::Lock => {
+                self.locked = true;
+                Mark::Locked
+            }
+            Change::Unlock => {
+                self.locked = false;
+                Mark::Unlocked
+            }
+        };
+        self.mark(mark);
+    }
+
+    /// A request joins, at its first block's cylinder.
+    pub fn join(&mut self, cylinder: u32)
+        ensures { self.new ≡ joined cylinder self.old }
+    {
+        if self.letter == Letter::Idle {
+            self.letter = Letter::Ready;
+        }
+        self.queue.joined = plus(self.queue.joined, 1);
+        self.queue.waiting = plus(self.queue.waiting, 1);
+        self.queue.as_asked = plus(
+            self.queue.as_asked,
+            u64::from(cylinder.abs_diff(self.queue.last)),
+        );
+        self.queue.last = cylinder;
+    }
+
+    /// A request that no script asked for is first seen.
+    pub fn meet(&mut self)
+        ensures { self.new ≡ met self.old }
+    {
+        self.queue.joined = plus(self.queue.joined, 1);
+        self.queue.waiting = plus(self.queue.waiting, 1);
+    }
+
+    /// The request in hand is answered at an event.
+    pub fn free(&mut self, event: u64)
+        ensures { self.new ≡ freed event self.old }
+    {
+        self.trial.hand = None;
+        self.trial.want = 0;
+        self.trial.fails = 0;
+        self.trial.marks = 0;
+        self.queue.served = plus(self.queue.served, 1);
+        self.queue.waiting = self.queue.waiting.saturating_sub(1);
+        self.queue.free = event;
+        self.since = Times::new();
+        self.letter = if self.queue.waiting > 0 {
+            Letter::Ready
+        } else {
+            Letter::Idle
+        };
+    }
+
+    /// What is seen of it is seen in its column.
+    fn show_in_column(&mut self)
+        ensures { self.new ≡ record self.old { cell = cell_with self.old } }
+    {
+        let cell = self.cell;
+        let mut tally = cell.tally;
+        tally.count(self.letter);
+        self.cell = Cell {
+            tally,
+            path: join_paths(cell.path, self.arm.path),
+            cylinder: self.arm.cylinder,
+            waiting: cell.waiting.max(self.queue.waiting),
+            mark: cell.mark.later(self.seen.mark),
+            signal: cell.signal.later(self.seen.signal),
+            code: cell.code.max(self.seen.code),
+            tried: cell.tried.max(self.seen.tried),
+            offline: cell.offline || self.offline,
+            locked: cell.locked || self.locked,
+        };
+    }
+
+    /// Another column begins.
+    pub fn clear(&mut self)
+        ensures { self.new ≡ cleared self.old }
+    {
+        self.cell = Cell::new();
+    }
+
+    /// An event ends.
+    pub fn count_event(&mut self)
+        ensures { self.new ≡ event_counted self.old }
+    {
+        self.show_in_column();
+        let letter = self.letter;
+        self.since.count(letter);
+        self.all.count(letter);
+    }
+
+    /// Another begins.
+    pub fn begin_event(&mut self)
+        ensures { self.new ≡ unseen self.old }
+    {
+        self.arm.path = None;
+        self.seen = Seen::new();
+    }
+}

@@ -1,0 +1,268 @@
+//! What becomes of a request.
+
+ghost use Rattle.std.specs.Prelude.{◌≡◌, max};
+ghost use Rattle.drive_pictures.specs.Requests.{new_request, queued, is_out_of_order, started, tried, heard, tells, stopped_by, answer, is_refused, refused, ended, left};
+
+use crate::counts::plus;
+use crate::drives::{Drive, Times};
+use crate::marks::mark_of;
+use hardware_table::Moved;
+use trace_lines::Told;
+
+/// How a request was answered, as far as the trace tells.
+#[derive(Clone, Copy, PartialEq, Eq)]
+pub enum Outcome {
+    /// Not yet.
+    Open,
+    /// All of its blocks are done.
+    Ok,
+    /// It began at the very end of its partition.
+    Eof,
+    /// It reached beyond its partition.
+    Partition,
+    /// Its frames were not there.
+    Frames,
+    /// It was refused as it was submitted, and no script says why.
+    Refused,
+    /// A block is marked and has no replacement, or the replacement is marked.
+    Unforwarded,
+    /// The drive was offline.
+    Offline,
+    /// All tries at a block failed.
+    Fault,
+    /// The drive was locked.
+    Locked,
+    /// It was stopped, and the trace does not tell by what.
+    Stopped,
+}
+
+/// A request, and what became of it.
+#[derive(Clone, Copy)]
+pub struct Request {
+    /// Its id.
+    pub id: u32,
+    /// Its unit.
+    pub unit: u8,
+    /// It writes.
+    pub write: bool,
+    /// The line at which it was asked for.
+    pub line: u32,
+    /// The cylinder of its first block, where it joined.
+    pub cylinder: Option<u32>,
+    /// Why it was refused as it was submitted.
+    pub why: Option<Outcome>,
+    /// The frames that it was lent.
+    pub needed: u64,
+    /// The event in which it was asked for.
+    pub asked: u64,
+    /// The event from which on it was in hand.
+    pub in_hand: Option<u64>,
+    /// The event of its end, and the line.
+    pub ended: Option<u64>,
+    pub ended_line: u32,
+    /// The how many-th of its unit to join, and to be served; 0 for neither.
+    pub rank: u64,
+    pub turn: u64,
+    /// Events in hand.
+    pub times: Times,
+    /// The sectors that moved.
+    pub done: u64,
+    /// The verdict of its last sector.
+    pub verdict: Option<Moved>,
+    /// Its answer.
+    pub outcome: Outcome,
+    /// A sector could not be moved as it was, a try failed, or it was stopped.
+    pub trouble: bool,
+}
+
+/// The later of two events.
+fn later_event(event: u64, other: u64) -> u64
+    ensures { result ≡ max event other }
+{
+    event.max(other)
+}
+
+impl Request {
+    /// As it is asked for, at an event and a line.
+    pub fn new(event: u64, line: u32, unit: u8, id: u32, write: bool) -> Request
+        ensures { result ≡ new_request event line unit id write }
+    {
+        Request {
+            id,
+            unit,
+            write,
+            line,
+            cylinder: None,
+            why: None,
+            needed: 0,
+            asked: event,
+            in_hand: None,
+            ended: None,
+            ended_line: 0,
+            rank: 0,
+            turn: 0,
+            times: Times::new(),
+            done: 0,
+            verdict: None,
+            outcome: Outcome::Open,
+            trouble: false,
+        }
+    }
+
+    /// The events that it waited.
+    pub fn queued(&self) -> u64
+        ensures { result ≡ queued self.now }
+    {
+        match self.in_hand {
+            Some(event) => event.saturating_sub(self.asked),
+            None => 0,
+        }
+    }
+
+    /// It was served, and not as the how many-th it joined.
+    pub fn is_out_of_order(&self) -> bool
+        ensures { result ≡ is_out_of_order self.now }
+    {
+        if self.turn == 0 {
+            false
+        } else {
+            self.turn != self.rank
+        }
+    }
+
+    /// It is in hand from its asking on, or from the end before it.
+    fn start(&mut self, free: u64)
+        ensures { self.new ≡ started free self.old }
+    {
+        self.in_hand = Some(later_event(self.asked, free));
+    }
+
+    /// Its sector was tried.
+    fn try_sector(&mut self, verdict: Moved)
+        ensures { self.new ≡ tried verdict self.old }
+    {
+        match verdict {
+            Moved::Clean | Moved::Burst { .. } => self.done = plus(self.done, 1),
+            _ => {}
+        }
+        self.verdict = Some(verdict);
+        if mark_of(verdict).is_trouble() {
+            self.trouble = true;
+        }
+    }
+
+    /// What a line of the trace says of it.
+    fn hear(&mut self, deed: &Told)
+        ensures { self.new ≡ heard deed.now self.old }
+    {
+        match *deed {
+            Told::Transfer { write, .. } => self.write = write,
+            Told::Sector { verdict, .. } => self.try_sector(verdict),
+            Told::Try { .. } => self.trouble = true,
+            _ => {}
+        }
+    }
+
+    /// A line of the trace, but an end, at its drive as that was before.
+    pub fn tell(&mut self, place: usize, drive: &Drive, deed: &Told)
+        ensures { self.new ≡ tells place drive.now deed.now self.old }
+    {
+        if !drive.is_in_hand(place) {
+            self.start(drive.queue.free);
+        }
+        self.hear(deed);
+    }
+
+    /// What stopped it, by the verdict of its last sector and its drive.
+    fn stopped_by(&self, drive: &Drive) -> Outcome
+        ensures { result ≡ stopped_by self.now.verdict drive.now self.now }
+    {
+        match self.verdict {
+            Some(Moved::Marked) => {
+                if drive.trial.marks < 2 && (drive.offline || (self.write && drive.locked)) {
+                    Outcome::Stopped
+                } else {
+                    Outcome::Unforwarded
+                }
+            }
+            Some(Moved::Offline) => Outcome::Offline,
+            _ => {
+                if drive.trial.fails == 28 {
+                    Outcome::Fault
+                } else if drive.offline {
+                    Outcome::Offline
+                } else if drive.locked {
+                    Outcome::Locked
+                } else {
+                    Outcome::Stopped
+                }
+            }
+        }
+    }
+
+    /// Its answer, by its drive as that is before the end.
+    pub fn answer(&self, drive: &Drive) -> Outcome
+        ensures { result ≡ answer drive.now self.now }
+    {
+        if drive.trial.want > 0 && self.done == u64::from(drive.trial.want) {
+            Outcome::Ok
+        } else {
+            self.stopped_by(drive)
+        }
+    }
+
+    /// It was refused as it was submitted, or another is in hand.
+    pub fn is_refused(&self, place: usize, drive: &Drive) -> bool
+        ensures { result ≡ is_refused place drive.now self.now }
+    {
+        match self.why {
+            Some(_) => true,
+            None => match drive.trial.hand {
+                Some(other) => other != place,
+                None => false,
+            },
+        }
+    }
+
+    /// It ends at an event and a line as one that was refused.
+    pub fn refuse(&mut self, event: u64, line: u32)
+        ensures { self.new ≡ refused event line self.old }
+    {
+        self.in_hand = Some(event);
+        self.ended = Some(event);
+        self.ended_line = line;
+        self.outcome = match self.why {
+            Some(why) => why,
+            None => Outcome::Refused,
+        };
+        self.trouble = true;
+    }
+
+    /// It ends at an event and a line, in hand at its drive, as that was before.
+    pub fn end(&mut self, event: u64, line: u32, drive: &Drive)
+        ensures { self.new ≡ ended event line drive.now self.old }
+    {
+        let outcome = self.answer(drive);
+        if drive.trial.hand.is_none() {
+            self.start(drive.queue.free);
+        }
+        self.ended = Some(event);
+        self.ended_line = line;
+        self.outcome = outcome;
+        self.trouble = self.trouble || outcome != Outcome::Ok;
+        self.times = drive.since;
+        self.turn = plus(drive.queue.served, 1);
+    }
+
+    /// Behind the last event one that has not ended is open.
+    pub fn leave(&mut self, events: u64)
+        ensures { self.new ≡ left events self.old }
+    {
+        if self.ended.is_none() {
+            if self.in_hand.is_none() {
+                self.in_hand = Some(events);
+            }
+            self.ended = Some(events);
+        }
+    }
+}

@@ -1,0 +1,4 @@
+pub mod Positioning
+pub mod Columns
+pub mod Places
+pub mod Fold
