@@ -6,7 +6,7 @@ ghost use Rattle.outside_files.specs.Folder.{file_of, with_put};
 use crate::folder::{PackFolder, Part};
 use crate::os_folder::OsFolder;
 use crate::streams::counted;
-use crate::transfers::{read_window, write_front};
+use crate::transfers::{length_of, read_window, write_front};
 use outside_traits::traits::{Packs, StoreFailed};
 use outside_traits::wide_packs::WidePacks;
 use std::io;
@@ -121,7 +121,7 @@ impl<F: PackFolder> Packs for FilePacks<F> {
     ghost faults = { λ p. p.faults };
 
     fn length(&mut self, unit: u8) -> Result<u64, StoreFailed> {
-        let length = self.folder.length(unit, Part::Image);
+        let length = length_of(&mut self.folder, unit, Part::Image);
         counted(length, StoreFailed, &mut self.faults)
     }
 

@@ -25,6 +25,23 @@ fn is_interrupted(error: &io::Error) -> bool {
     error.kind() == ErrorKind::Interrupted
 }
 
+/// A file's length, in bytes.
+pub(crate) fn length_of<F: PackFolder>(folder: &mut F, unit: u8, part: Part) -> io::Result<u64>
+    requires { unit < 32 }
+    ensures never_again { IsTrue (F.tells folder.new) → IsTrue (F.tells folder.old) }
+    ensures length { IfOk result (λ n. IsTrue (F.tells folder.new) → n ≡ length (file_of (F.held folder.old unit) part)) }
+    ensures same { IsTrue (F.tells folder.new) → F.held folder.new ≡ F.held folder.old }
+{
+    for _ in 0..MOST_CALLS {
+        match folder.length(unit, part) {
+            Ok(length) => return Ok(length),
+            Err(error) if is_interrupted(&error) => {}
+            Err(error) => return Err(error),
+        }
+    }
+    Err(io::Error::from(ErrorKind::TimedOut))
+}
+
 /// Reads as many bytes of a file as there are from a place on, and as fit, and answers how many they are.
 fn read_front<F: PackFolder>(
     folder: &mut F,

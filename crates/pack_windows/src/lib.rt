@@ -4,8 +4,6 @@
 //! What is proved: `WindowPacks` reads images and marks ahead: each of its calls does what `Packs` says of the packs after it,
 //! and nothing of the windows can be seen, since its value is those packs. The invariant says that where they tell, each window
 //! has just the bytes that its unit's image or marks hold there; a write is followed, and a failed one empties the window.
-//! `PackFiles` gives many bytes of an image or of marks in one call for the files of `FilePacks`, tells nothing, and counts
-//! each failure and nothing else.
 //!
 //! Only tested, in `pack_rows`: that reading ahead makes fewer calls.
 #![tactic(auto)]

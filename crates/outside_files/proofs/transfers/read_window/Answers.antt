@@ -1,4 +1,4 @@
-use Rattle.std.proofs.Common.{ap, ◌∙◌, length}
+use Rattle.std.proofs.Common.{length}
 use Rattle.outside_files.specs.Folder.{file_of}
 use Rattle.outside_files.proofs.FolderLaws.{filled_window}
 use Rattle.outside_files.proofs.transfers.read_window.Goals as goal

@@ -1,5 +1,4 @@
-use Rattle.std.proofs.Common.{rules, ◌∙◌}
-use Rattle.outside_traits.proofs.TakenLaws.{count_inside}
+use Rattle.std.proofs.Common.{rules}
 use Rattle.outside_files.proofs.FolderLaws.{put_step, put_same}
 use Rattle.outside_files.proofs.transfers.write_front.Goals as goal
 use Rattle.outside_files.proofs.transfers.write_front.Goals.{in-Ok-write_at, in-Err-write_at}
