@@ -1,8 +1,8 @@
 use bad144_table::{empty_table, serial, write_table};
 use drive_model::Drive;
 use hardware_table::Register;
-use outside_traits::traits::{Packs, StoreFailed};
 use mba_autoconf::*;
+use outside_traits::traits::{Packs, StoreFailed};
 use pack_geometry::{DriveKind, copy_block};
 
 // A pack that has a length and the copies of its table, by the serial number; a copy without one is all zeros, which

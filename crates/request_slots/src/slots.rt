@@ -16,8 +16,8 @@ use crate::fill::{lend_filled, repair_block};
 use crate::occupancy::Occupancy;
 use crate::slot::{Holder, Slot, end_slot, free_slots, put_slot, slot_at, take_slot};
 use main_memory::{MainMemory, frames_of};
-use outside_traits::traits::NoMemory;
 use mba_adapter::{Adapter, Ended};
+use outside_traits::traits::NoMemory;
 use std::alloc::Global;
 use std::marker::Model;
 

@@ -16,8 +16,8 @@ ghost use Rattle.unit_bank.specs.Row.{unit_in};
 use crate::bank::UnitBank;
 use drive_model::NoiseBook;
 use hardware_table::Moved;
-use outside_traits::traits::{Packs, StoreFailed};
 use mba_adapter::Adapter;
+use outside_traits::traits::{Packs, StoreFailed};
 use request_slots::Slots;
 
 impl UnitBank {

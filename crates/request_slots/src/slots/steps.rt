@@ -14,8 +14,8 @@ ghost use Rattle.request_slots.specs.Requests.{slot_at, held_at};
 use crate::slot::{Holder, slot_at};
 use crate::slots::Slots;
 use drive_model::{Drive, Moved, NoiseBook};
-use outside_traits::traits::{Packs, StoreFailed};
 use mba_adapter::Adapter;
+use outside_traits::traits::{Packs, StoreFailed};
 
 impl Slots {
     /// Moves one sector of a transfer between the pack and the buffer of a slot, which the adapter has, as
