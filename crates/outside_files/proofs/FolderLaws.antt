@@ -1,6 +1,6 @@
 -- Pieces of a file that are read, and written, by several calls.
 use Rattle.std.proofs.Common.{◌≡◌, ℕ, ◌+◌, ◌-◌, ◌<◌, ◌≤◌, Bool, true, false, List, [], ◌∷◌, ◌++◌, take, drop, length, get_or, refl, sym, ap, ◌∙◌, arith, append-nil, length-append, length-drop, inl, inr, subst}
-use Rattle.std.specs.Prelude.{if◌then◌else◌, ◌==◌, ◌*◌, ◌&&◌, IsTrue, slice_index, Result, Ok, Err, OnOk}
+use Rattle.std.specs.Prelude.{if◌then◌else◌, ◌==◌, ◌*◌, ◌&&◌, IsTrue, slice_index, Result, Ok, Err, OnOk, OnErr, is_err}
 use Rattle.outside_traits.specs.Causes.{HandsOn}
 use Rattle.std.proofs.lemmas.Grind.{common_steps, same_number_lists}
 use Rattle.std.proofs.lemmas.Bool.{cases_lt, eq-eqb, eqb-true}
@@ -12,7 +12,7 @@ use Rattle.std.proofs.Math.Seq.{take-add, take-append-add}
 use Rattle.outside_traits.proofs.TakenLaws.{rest_whole}
 use Rattle.pack_model.specs.Pack.{Pack, grown, window, with_window, with_pack, with_block, with_written}
 use Rattle.pack_model.proofs.PackLaws.{length-grown, get_or-window, get_or-with_window_here, get_or-with_window_before, get_or-with_window_after}
-use Rattle.outside_files.specs.Folder.{file_of, with_file, put_at, with_put, IsFilled}
+use Rattle.outside_files.specs.Folder.{file_of, with_file, put_at, with_put, IsFilled, IsTorn}
 use Rattle.outside_files.specs.declared.folder.Part.{Part}
 use Rattle.outside_files.specs.declared.folder.Part.TheVariants.{Image, Marks}
 use borrow.Rule.Slice.PartMut.{put_mid, post_of}
@@ -265,3 +265,16 @@ both_left false b h = h
 pub block_written : (packs new : ℕ → Pack) (unit block place : ℕ) (bytes : List ℕ) → length bytes ≡ 512 → place ≡ 512 * block
     → new ≡ with_put packs unit Image place bytes → new ≡ with_written packs unit block bytes
 block_written packs new unit block place bytes size is put = put ∙ ap (λ n. with_put packs unit Image n bytes) is ∙ block_put packs unit block bytes size
+
+-- an answer that is an error tells what it says of one
+pub on_err : {T E A : Type 0} (r : Result T E) → is_err r ≡ true → OnErr r A → A
+on_err (Ok x) e h = absurd (cc e)
+on_err (Err x) e h = h
+
+-- one byte is never torn
+pub one_whole : (tells : Bool) (old new : ℕ → Pack) (unit : ℕ) (part : Part) (at : ℕ) (byte : ℕ) (before now : Bool) → (now ≡ false → before ≡ false)
+    → (before ≡ false → now ≡ true → IsTorn tells old new unit part at (byte ∷ [])) → now ≡ before
+one_whole tells old new unit part at byte true true back torn = refl
+one_whole tells old new unit part at byte false false back torn = refl
+one_whole tells old new unit part at byte true false back torn = sym (back refl)
+one_whole tells old new unit part at byte false true back torn = let h : IsTorn tells old new unit part at (byte ∷ []) = torn refl refl in absurd (omega (arith, h.some, h.few))

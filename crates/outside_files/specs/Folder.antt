@@ -1,5 +1,5 @@
 -- The two files of each unit's pack, and what is written to one of them.
-use Rattle.std.specs.Prelude.{◌≡◌, ℕ, ◌+◌, ◌*◌, ◌<◌, ◌≤◌, take, drop, length, List, [], ◌∷◌, ◌++◌, codes}
+use Rattle.std.specs.Prelude.{◌≡◌, ℕ, Bool, IsTrue, ◌+◌, ◌*◌, ◌&&◌, not, ◌<◌, ◌≤◌, take, drop, length, List, [], ◌∷◌, ◌++◌, codes}
 use Rattle.std.specs.Fmt.{decimal}
 use Rattle.pack_model.specs.Pack.{Pack, with_pack, with_window}
 use Rattle.outside_files.specs.declared.folder.Part.{Part}
@@ -38,3 +38,14 @@ name_of unit Marks = codes "hp" ++ (decimal unit ++ codes ".bad")
 pub record IsFilled (file : List ℕ) (at : ℕ) (piece : List ℕ) (count : ℕ) : Type 0 where
   pub bytes : take count piece ≡ take count (drop at file)
   pub end : count < length piece → length file ≤ at + count
+
+-- a write that failed when a part of its bytes had gone out: that part stands in the file, where the folder tells it
+pub record IsTorn (tells : Bool) (old new : ℕ → Pack) (unit : ℕ) (part : Part) (at : ℕ) (bytes : List ℕ) : Type 0 where
+  pub count : ℕ
+  pub some : 0 < count
+  pub few : count < length bytes
+  pub held : IsTrue tells → new ≡ with_put old unit part at (take count bytes)
+
+-- packs in files tell where the folder does and no block is torn
+abbrev pub tells_whole : Bool → Bool → Bool
+tells_whole tells torn = tells && not torn

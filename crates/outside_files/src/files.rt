@@ -1,7 +1,8 @@
-ghost use Rattle.std.specs.Prelude.{◌≡◌, ◌<◌, ◌≤◌, ◌*◌, ◌+◌, ◌==◌, ◌||◌, ◌⊎◌, ℕ, Bool, List, [], ◌∷◌, IsTrue, false, not, if◌then◌else◌, length, take, nat_lt, is_err, IfOk, OnOk, OnErr};
-ghost use Rattle.pack_model.specs.Pack.{Pack, window, is_marked};
+ghost use Rattle.std.specs.Prelude.{◌≡◌, ◌<◌, ◌*◌, ◌==◌, ◌⊎◌, IsTrue, true, false, not, if◌then◌else◌, length, IfOk, OnOk, OnErr};
+ghost use Rattle.pack_model.specs.Pack.{window, block_at, is_marked, with_written, with_mark};
 ghost use Rattle.outside_traits.specs.Causes.{HasCause, Counts};
-ghost use Rattle.outside_files.specs.Folder.{file_of, with_put};
+ghost use Rattle.outside_files.specs.Folder.{with_put, IsTorn, tells_whole};
+ghost use Rattle.outside_files.specs.declared.folder.Part.TheVariants.{Image};
 
 use crate::folder::{PackFolder, Part};
 use crate::os_folder::OsFolder;
@@ -99,6 +100,7 @@ impl<F: PackFolder> FilePacks<F> {
         requires { unit < 32 }
         ensures never_again { IsTrue (F.tells self.new.folder) → IsTrue (F.tells self.old.folder) }
         ensures torn { self.new.torn ≡ false → self.old.torn ≡ false }
+        ensures front { self.old.torn ≡ false → self.new.torn ≡ true → IsTorn (F.tells self.new.folder) (F.held self.old.folder) (F.held self.new.folder) unit part at from.now }
         ensures faults { self.new.faults ≡ self.old.faults }
         ensures ok { OnOk result (IsTrue (F.tells self.new.folder) → F.held self.new.folder ≡ with_put (F.held self.old.folder) unit part at from.now) }
         ensures err { OnErr result (IsTrue (F.tells self.new.folder) → self.new.torn ≡ false → F.held self.new.folder ≡ F.held self.old.folder) }
@@ -112,50 +114,109 @@ impl<F: PackFolder> FilePacks<F> {
 }
 
 impl<F: PackFolder> Packs for FilePacks<F> {
-    ghost use Rattle.std.specs.Prelude.{◌&&◌};
-
-    ghost tells = { λ p. F.tells p.folder && not p.torn };
+    ghost tells = { λ p. tells_whole (F.tells p.folder) p.torn };
 
     ghost held = { λ p. F.held p.folder };
 
     ghost faults = { λ p. p.faults };
 
-    fn length(&mut self, unit: u8) -> Result<u64, StoreFailed> {
+    // Each call counts a failure where it answers one, and nowhere else. A block is torn by a write alone that failed when a part
+    // of its bytes had gone out.
+    fn length(&mut self, unit: u8) -> Result<u64, StoreFailed>
+        requires { unit < 32 }
+        ensures never_again { IsTrue (tells_whole (F.tells self.new.folder) self.new.torn) → IsTrue (tells_whole (F.tells self.old.folder) self.old.torn) }
+        ensures length { IfOk result (λ n. IsTrue (tells_whole (F.tells self.new.folder) self.new.torn) → n ≡ length (F.held self.old.folder unit).image) }
+        ensures same { IsTrue (tells_whole (F.tells self.new.folder) self.new.torn) → F.held self.new.folder ≡ F.held self.old.folder }
+        ensures cause { HasCause self.old.faults self.new.faults result }
+        ensures counted { Counts result self.old.faults self.new.faults }
+        ensures torn { self.new.torn ≡ self.old.torn }
+    {
         let length = length_of(&mut self.folder, unit, Part::Image);
         counted(length, StoreFailed, &mut self.faults)
     }
 
     #[tactic(auto, unfolding(pack_model::specs::Pack::block_at))]
-    fn read(&mut self, unit: u8, block: u32, into: &mut [u8; 512]) -> Result<(), StoreFailed> {
+    fn read(&mut self, unit: u8, block: u32, into: &mut [u8; 512]) -> Result<(), StoreFailed>
+        requires { unit < 32 }
+        ensures never_again { IsTrue (tells_whole (F.tells self.new.folder) self.new.torn) → IsTrue (tells_whole (F.tells self.old.folder) self.old.torn) }
+        ensures block { OnOk result (IsTrue (tells_whole (F.tells self.new.folder) self.new.torn) → into.new ≡ block_at (F.held self.old.folder unit).image block) }
+        ensures same { IsTrue (tells_whole (F.tells self.new.folder) self.new.torn) → F.held self.new.folder ≡ F.held self.old.folder }
+        ensures cause { HasCause self.old.faults self.new.faults result }
+        ensures counted { Counts result self.old.faults self.new.faults }
+        ensures torn { self.new.torn ≡ self.old.torn }
+    {
         let place = place_in_image(block);
         let read = read_window(&mut self.folder, unit, Part::Image, place, into);
         counted(read, StoreFailed, &mut self.faults)
     }
 
-    fn write(&mut self, unit: u8, block: u32, from: &[u8; 512]) -> Result<(), StoreFailed> {
+    fn write(&mut self, unit: u8, block: u32, from: &[u8; 512]) -> Result<(), StoreFailed>
+        requires { unit < 32 }
+        ensures never_again { IsTrue (tells_whole (F.tells self.new.folder) self.new.torn) → IsTrue (tells_whole (F.tells self.old.folder) self.old.torn) }
+        ensures ok { OnOk result (IsTrue (tells_whole (F.tells self.new.folder) self.new.torn) → F.held self.new.folder ≡ with_written (F.held self.old.folder) unit block from.now) }
+        ensures err { OnErr result (IsTrue (tells_whole (F.tells self.new.folder) self.new.torn) → (F.held self.new.folder ≡ F.held self.old.folder)
+            ⊎ (F.held self.new.folder ≡ with_written (F.held self.old.folder) unit block from.now)) }
+        ensures cause { HasCause self.old.faults self.new.faults result }
+        ensures counted { Counts result self.old.faults self.new.faults }
+        ensures torn { self.old.torn ≡ false → self.new.torn ≡ true
+            → IsTorn (F.tells self.new.folder) (F.held self.old.folder) (F.held self.new.folder) unit Image (512 * block) from.now }
+    {
         let written = self.put(unit, Part::Image, place_in_image(block), from);
         counted(written, StoreFailed, &mut self.faults)
     }
 
-    fn marked(&mut self, unit: u8, block: u32) -> Result<bool, StoreFailed> {
+    fn marked(&mut self, unit: u8, block: u32) -> Result<bool, StoreFailed>
+        requires { unit < 32 }
+        ensures never_again { IsTrue (tells_whole (F.tells self.new.folder) self.new.torn) → IsTrue (tells_whole (F.tells self.old.folder) self.old.torn) }
+        ensures mark { IfOk result (λ on. IsTrue (tells_whole (F.tells self.new.folder) self.new.torn) → on ≡ is_marked (F.held self.old.folder unit) block) }
+        ensures same { IsTrue (tells_whole (F.tells self.new.folder) self.new.torn) → F.held self.new.folder ≡ F.held self.old.folder }
+        ensures cause { HasCause self.old.faults self.new.faults result }
+        ensures counted { Counts result self.old.faults self.new.faults }
+        ensures torn { self.new.torn ≡ self.old.torn }
+    {
         let mark = self.read_mark(unit, block);
         counted(mark, StoreFailed, &mut self.faults)
     }
 
-    fn set_mark(&mut self, unit: u8, block: u32, on: bool) -> Result<(), StoreFailed> {
+    fn set_mark(&mut self, unit: u8, block: u32, on: bool) -> Result<(), StoreFailed>
+        requires { unit < 32 }
+        ensures never_again { IsTrue (tells_whole (F.tells self.new.folder) self.new.torn) → IsTrue (tells_whole (F.tells self.old.folder) self.old.torn) }
+        ensures ok { OnOk result (IsTrue (tells_whole (F.tells self.new.folder) self.new.torn) → F.held self.new.folder ≡ with_mark (F.held self.old.folder) unit block on) }
+        ensures err { OnErr result (IsTrue (tells_whole (F.tells self.new.folder) self.new.torn) → (F.held self.new.folder ≡ F.held self.old.folder)
+            ⊎ (F.held self.new.folder ≡ with_mark (F.held self.old.folder) unit block on)) }
+        ensures cause { HasCause self.old.faults self.new.faults result }
+        ensures counted { Counts result self.old.faults self.new.faults }
+        ensures torn { self.new.torn ≡ self.old.torn }
+    {
         let written = self.put(unit, Part::Marks, u64::from(block), &[mark_byte(on)]);
         counted(written, StoreFailed, &mut self.faults)
     }
 }
 
 impl<F: PackFolder> WidePacks for FilePacks<F> {
-    fn read_blocks(&mut self, unit: u8, block: u32, into: &mut [u8]) -> Result<(), StoreFailed> {
+    fn read_blocks(&mut self, unit: u8, block: u32, into: &mut [u8]) -> Result<(), StoreFailed>
+        requires { unit < 32 }
+        ensures never_again { IsTrue (tells_whole (F.tells self.new.folder) self.new.torn) → IsTrue (tells_whole (F.tells self.old.folder) self.old.torn) }
+        ensures bytes { OnOk result (IsTrue (tells_whole (F.tells self.new.folder) self.new.torn) → into.new ≡ window (length into.old) (512 * block) (F.held self.old.folder unit).image) }
+        ensures same { IsTrue (tells_whole (F.tells self.new.folder) self.new.torn) → F.held self.new.folder ≡ F.held self.old.folder }
+        ensures cause { HasCause self.old.faults self.new.faults result }
+        ensures counted { Counts result self.old.faults self.new.faults }
+        ensures torn { self.new.torn ≡ self.old.torn }
+    {
         let place = place_in_image(block);
         let read = read_window(&mut self.folder, unit, Part::Image, place, into);
         counted(read, StoreFailed, &mut self.faults)
     }
 
-    fn read_marks(&mut self, unit: u8, block: u32, into: &mut [u8]) -> Result<(), StoreFailed> {
+    fn read_marks(&mut self, unit: u8, block: u32, into: &mut [u8]) -> Result<(), StoreFailed>
+        requires { unit < 32 }
+        ensures never_again { IsTrue (tells_whole (F.tells self.new.folder) self.new.torn) → IsTrue (tells_whole (F.tells self.old.folder) self.old.torn) }
+        ensures bytes { OnOk result (IsTrue (tells_whole (F.tells self.new.folder) self.new.torn) → into.new ≡ window (length into.old) block (F.held self.old.folder unit).marks) }
+        ensures same { IsTrue (tells_whole (F.tells self.new.folder) self.new.torn) → F.held self.new.folder ≡ F.held self.old.folder }
+        ensures cause { HasCause self.old.faults self.new.faults result }
+        ensures counted { Counts result self.old.faults self.new.faults }
+        ensures torn { self.new.torn ≡ self.old.torn }
+    {
         let place = u64::from(block);
         let read = read_window(&mut self.folder, unit, Part::Marks, place, into);
         counted(read, StoreFailed, &mut self.faults)

@@ -96,7 +96,8 @@ impl<R: Read> Source for StdSource<R> {
         ensures end { IfOk result (λ n. IsTrue self.new.is_known → n ≡ 0 → 0 < length into.old → bytes_in (R.remaining self.new.inner) ≡ []) }
         ensures err { OnErr result (IsTrue self.new.is_known → bytes_in (R.remaining self.new.inner) ≡ bytes_in (R.remaining self.old.inner)) }
         ensures cause { HasCause self.old.faults self.new.faults result }
-        // It gives what the reader gives, and counts each of its errors and nothing else.
+        // It gives what the reader gives, goes on to tell, and counts each of the reader's errors and nothing else.
+        ensures still { self.new.is_known ≡ self.old.is_known }
         ensures counted { Counts result self.old.faults self.new.faults }
         ensures given { ReadConsumes (R.remaining self.old.inner) (R.remaining self.new.inner) result into.new }
     {
@@ -159,7 +160,8 @@ impl<W: Write> Sink for StdSink<W> {
             → bytes_in (W.contents self.new.inner) ≡ bytes_in (W.contents self.old.inner) ++ take n from.now) }
         ensures err { OnErr result (IsTrue self.new.is_known → bytes_in (W.contents self.new.inner) ≡ bytes_in (W.contents self.old.inner)) }
         ensures cause { HasCause self.old.faults self.new.faults result }
-        // It takes what the writer takes, and counts each failure and nothing else.
+        // It takes what the writer takes, goes on to tell, and counts each failure and nothing else.
+        ensures still { self.new.is_known ≡ self.old.is_known }
         ensures counted { Counts result self.old.faults self.new.faults }
         ensures taken { WriteAppends (W.contents self.old.inner) (W.contents self.new.inner) result from.now }
     {

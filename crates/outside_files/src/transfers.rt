@@ -1,5 +1,5 @@
 // Whole pieces of a file, by calls of a folder that may be short or interrupted.
-ghost use Rattle.std.specs.Prelude.{◌≡◌, ◌<◌, ◌≤◌, ◌+◌, ◌-◌, ◌++◌, IsTrue, length, take, replicate, IfOk, OnOk};
+ghost use Rattle.std.specs.Prelude.{◌≡◌, ◌<◌, ◌≤◌, ◌+◌, ◌-◌, ◌++◌, IsTrue, length, take, replicate, IfOk, OnOk, OnErr};
 ghost use Rattle.pack_model.specs.Pack.{window};
 ghost use Rattle.outside_files.specs.Folder.{file_of, IsFilled, with_put};
 
@@ -110,6 +110,7 @@ pub(crate) fn write_front<F: PackFolder>(
     requires { unit < 32 }
     ensures bound { result.0 ≤ length from.now }
     ensures whole { OnOk result.1 (result.0 ≡ length from.now) }
+    ensures few { OnErr result.1 (result.0 < length from.now) }
     ensures never_again { IsTrue (F.tells folder.new) → IsTrue (F.tells folder.old) }
     ensures bytes { IsTrue (F.tells folder.new) → F.held folder.new ≡ with_put (F.held folder.old) unit part at (take result.0 from.now) }
 {
@@ -128,5 +129,8 @@ pub(crate) fn write_front<F: PackFolder>(
             Err(error) => return (done, Err(error)),
         }
     }
-    (done, Err(io::Error::from(ErrorKind::TimedOut)))
+    if done < from.len() {
+        return (done, Err(io::Error::from(ErrorKind::TimedOut)));
+    }
+    (done, Ok(()))
 }
