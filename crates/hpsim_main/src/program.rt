@@ -1,4 +1,5 @@
-ghost use Rattle.std.specs.Prelude.{◌≡◌, ◌⊎◌, None, IfSome};
+ghost use Rattle.std.specs.Prelude.{◌≡◌, ◌≢◌, ◌⊎◌, true, [], None, is_some, IfSome, IfErr};
+ghost use Rattle.std_io.specs.IoError.{error_kind};
 ghost use Rattle.hpsim_run.specs.Statuses.{status_code, IsStatusOf};
 ghost use Rattle.hpsim_run.specs.Words.{command_of as the_command};
 ghost use Rattle.hpsim_run.specs.declared.status.Status.TheVariants.{OutOfMemory};
@@ -21,7 +22,11 @@ pub const TRACE_NAME: &str = "hp.trace";
 pub fn words_of<I: Iterator<Item = String>>(
     alloc: Global,
     args: io::Result<I>,
-) -> Option<Vec<String>> {
+) -> Option<Vec<String>>
+    ensures no_memory { IfErr args (λ error. error_kind error ≡ ErrorKind.OutOfMemory → result ≡ None) }
+    ensures no_text { IfErr args (λ error. error_kind error ≢ ErrorKind.OutOfMemory → is_some result ≡ true) }
+    ensures none { IfErr args (λ _. IfSome result (λ words. words.items ≡ [])) }
+{
     let mut words = Vec::new(alloc);
     let args = match args {
         Ok(args) => args,

@@ -1,4 +1,4 @@
-ghost use Rattle.std.specs.Prelude.{◌<◌, ◌≤◌, OnOk, vec_len};
+ghost use Rattle.std.specs.Prelude.{◌≡◌, ◌<◌, ◌≤◌, OnOk, vec_len};
 
 use crate::folder::{PackFolder, Part};
 use crate::streams::some_taken;
@@ -42,7 +42,9 @@ fn is_forbidden(kind: ErrorKind) -> bool {
 
 impl<R: Files + AllocGlobal> OsFolder<R> {
     /// The working folder. It opens nothing.
-    pub fn new(rt: R) -> OsFolder<R> {
+    pub fn new(rt: R) -> OsFolder<R>
+        ensures { vec_len result.files ≡ 0 }
+    {
         let files = Vec::new(rt.alloc());
         OsFolder { rt, files }
     }
