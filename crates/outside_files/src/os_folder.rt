@@ -17,8 +17,7 @@ enum Known<F> {
 }
 
 /// The files `hpU.dsk` (image) and `hpU.bad` (marks) of the working folder, for unit U in decimal. A missing file is made at
-/// its first write; that it is missing is asked once, so nobody else may make it meanwhile. A file that may only be read is
-/// read, and a write to it fails. What the files hold is not told.
+/// its first write; that it is missing is asked once, so nobody else may make it. One that may only be read is read alone.
 #[derive(Drop)]
 pub struct OsFolder<R: Files + AllocGlobal> {
     rt: R,
@@ -63,9 +62,8 @@ impl<R: Files + AllocGlobal> OsFolder<R> {
     fn make_room(&mut self) -> io::Result<()>
         ensures { OnOk result (64 ≤ vec_len self.new.files) }
     {
-        if self.files.len() < 64 {
-            self.files.resize_with(64, || Known::Nothing)?;
-        }
+        let count = self.files.len().max(64);
+        self.files.resize_with(count, || Known::Nothing)?;
         Ok(())
     }
 
