@@ -1,5 +1,5 @@
 ghost use Rattle.std.specs.Prelude.{◌≡◌, ◌≢◌, ◌⊎◌, true, [], None, is_some, IfSome, IfErr};
-ghost use Rattle.std_io.specs.IoError.{error_kind};
+ghost use Rattle.std.specs.IoError.{error_kind};
 ghost use Rattle.hpsim_run.specs.Statuses.{status_code, IsStatusOf};
 ghost use Rattle.hpsim_run.specs.Words.{command_of as the_command};
 ghost use Rattle.hpsim_run.specs.declared.status.Status.TheVariants.{OutOfMemory};
