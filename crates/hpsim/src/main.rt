@@ -22,9 +22,18 @@ fn streams(rt: &HostRuntime) -> [io::Result<File>; 3] {
     ]
 }
 
+/// The words after the program's name; an error where one of them is not text, or where there is no memory for them.
+fn words(rt: &HostRuntime) -> io::Result<Vec<String>> {
+    let mut words = Vec::new(rt.alloc());
+    for word in env::args(rt)?.skip(1) {
+        words.push(word)?;
+    }
+    Ok(words)
+}
+
 fn main(rt: HostRuntime) -> ExitCode {
     let _streams = streams(&rt);
-    let words = words_of(rt.alloc(), env::args(&rt));
+    let words = words_of(rt.alloc(), words(&rt));
     let folder = OsFolder::new(&rt);
     let mut trace = FileSink::new(&rt, TRACE_NAME);
     let status = end_status(

@@ -1,4 +1,4 @@
-ghost use Rattle.std.specs.Prelude.{◌≡◌, ◌≢◌, ◌⊎◌, true, [], None, is_some, IfSome, IfErr};
+ghost use Rattle.std.specs.Prelude.{◌≡◌, ◌≢◌, ◌⊎◌, true, [], None, Some, is_some, IfSome, IfOk, IfErr};
 ghost use Rattle.std.specs.IoError.{error_kind};
 ghost use Rattle.hpsim_run.specs.Statuses.{status_code, IsStatusOf};
 ghost use Rattle.hpsim_run.specs.Words.{command_of as the_command};
@@ -17,28 +17,19 @@ use std::io::{ErrorKind, Read, Write};
 /// The file of the trace, in the working folder.
 pub const TRACE_NAME: &str = "hp.trace";
 
-/// The words of a command line, without the program's name. There are none where one of them is not text, which is no command;
-/// `None` where there is no memory for them.
-pub fn words_of<I: Iterator<Item = String>>(
-    alloc: Global,
-    args: io::Result<I>,
-) -> Option<Vec<String>>
-    ensures no_memory { IfErr args (λ error. error_kind error ≡ ErrorKind.OutOfMemory → result ≡ None) }
-    ensures no_text { IfErr args (λ error. error_kind error ≢ ErrorKind.OutOfMemory → is_some result ≡ true) }
-    ensures none { IfErr args (λ _. IfSome result (λ words. words.items ≡ [])) }
+/// The words of a command, as they were had: there are none where one of them is not text, which is no command, and `None` where
+/// there was no memory for them.
+pub fn words_of(alloc: Global, words: io::Result<Vec<String>>) -> Option<Vec<String>>
+    ensures text { IfOk words (λ list. result ≡ Some list) }
+    ensures no_memory { IfErr words (λ error. error_kind error ≡ ErrorKind.OutOfMemory → result ≡ None) }
+    ensures no_text { IfErr words (λ error. error_kind error ≢ ErrorKind.OutOfMemory → is_some result ≡ true) }
+    ensures none { IfErr words (λ _. IfSome result (λ list. list.items ≡ [])) }
 {
-    let mut words = Vec::new(alloc);
-    let args = match args {
-        Ok(args) => args,
-        Err(error) if error.kind() == ErrorKind::OutOfMemory => return None,
-        Err(_) => return Some(words),
-    };
-    for word in args.skip(1) {
-        if words.push(word).is_err() {
-            return None;
-        }
+    match words {
+        Ok(words) => Some(words),
+        Err(error) if error.kind() == ErrorKind::OutOfMemory => None,
+        Err(_) => Some(Vec::new(alloc)),
     }
-    Some(words)
 }
 
 /// The status of the command that the words name, over the packs in the files of a folder, with the script from a reader, the

@@ -10,17 +10,15 @@ use std::fs::OpenOptions;
 use std::io::ErrorKind;
 use std::os::unix::fs::FileExt;
 use std::test::Fail;
-use std::vec::IntoIter;
 use std::{fs, io};
 
-/// The words of a command line, split at blanks, behind the program's name.
+/// The words of a command line, split at blanks.
 fn words(alloc: Global, line: &str) -> Result<Option<Vec<String>>, Fail> {
     let mut all = Vec::new(alloc);
-    all.push(String::from_str(alloc, "hpsim")?)?;
     for word in line.split_whitespace() {
         all.push(String::from_str(alloc, word)?)?;
     }
-    Ok(words_of(alloc, Ok(all.into_iter())))
+    Ok(words_of(alloc, Ok(all)))
 }
 
 /// Two blocks are written over what an image has, one further behind its end, and all of it is read back.
@@ -228,7 +226,7 @@ fn no_room_on_the_packs(rt: HostRuntime) -> Result<(), Fail> {
 #[test]
 fn words_that_are_none(rt: HostRuntime) -> Result<(), Fail> {
     for (kind, status) in [(ErrorKind::InvalidData, 2), (ErrorKind::OutOfMemory, 9)] {
-        let words = words_of::<IntoIter<String>>(rt.alloc(), Err(io::Error::from(kind)));
+        let words = words_of(rt.alloc(), Err(io::Error::from(kind)));
         let mut said = Vec::new(rt.alloc());
         let script = b"".as_slice();
         let trace = &mut SureSink::new();
