@@ -1,5 +1,5 @@
 //! The program: it makes the real words, folder, reader, writer and trace, and ends with the status of the command, which is
-//! `hpsim_main::end_status`. Only tested: a run with real streams and files (its own, and those of `outside_rows`).
+//! `hpsim_main::end_status`. Only tested: its stored run, with real streams and files.
 #![tactic(auto)]
 
 use hpsim_main::{TRACE_NAME, end_status, words_of};

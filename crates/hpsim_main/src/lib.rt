@@ -2,8 +2,7 @@
 //! makes the real ones and ends with this status.
 //!
 //! What is proved: the status where the words are no command, or there was no memory for them; all else is `hpsim_run::run`, over
-//! packs in the files of the folder, read ahead. Only tested, in `outside_rows`: each status, over a folder in memory whose calls
-//! are short, fail and are interrupted, and over real files.
+//! packs in the files of the folder, read ahead. Only tested: the stored run of `hpsim`.
 #![tactic(auto)]
 
 mod program;
