@@ -160,8 +160,9 @@ abbrev pub adapter_ok : World → ℕ → Bool
 adapter_ok w a =
     all_of (waits_ok w a) (adapter_at w a).queue
     && (all_of (raised_ok w a) (0 ∷ 1 ∷ 2 ∷ 3 ∷ 4 ∷ 5 ∷ 6 ∷ 7 ∷ [])
+    && (nat_lt (adapter_at w a).state.drive 8
     && (if (adapter_at w a).state.busy then is_busy_phase (unit_at w (unit_on a (adapter_at w a).state.drive)).phase
-    else not (adapter_at w a).state.completion))
+    else not (adapter_at w a).state.completion)))
 
 abbrev pub slots_in : List Waiter → List ℕ
 slots_in queue = map (λ (x : Waiter). x.number) queue

@@ -27,7 +27,7 @@ use Rattle.hp_core.specs.State as core
 use Rattle.hp_core.specs.Done.{DoesSilently}
 use Rattle.hp_events.specs.declared.drain.Event.{Event}
 use Rattle.hp_events.specs.Inputs.{input_of}
-use Rattle.driver_drains.specs.Drains.{DrainsFall}
+use Rattle.driver_drains.specs.Drains.{DrainsFallFrom}
 use Rattle.hp_driver.specs.Subsystem.{IsKept, IsThere, LeavesFewer, IsOldest, Reads}
 use Rattle.hp_driver.specs.Calls.{Ran}
 use Rattle.hp_driver.proofs.Behind.{ran_sound, ran_noise, ran_slots}
@@ -115,10 +115,10 @@ module _ (w : World) (p k : ℕ) (sound : Sound w) where
       (ap (λ (m : Made). m.answer.kind) (sym same) ∙ reads.ok) reads.inside
 
 -- so each event that comes next leaves fewer lines
-pub next_falls : (w : World) (result : Option Event) → DrainsFall → option_map input_of result ≡ next_event w → IfSome result (λ event. LeavesFewer w (input_of event))
+pub next_falls : (w : World) (result : Option Event) → DrainsFallFrom → option_map input_of result ≡ next_event w → IfSome result (λ event. LeavesFewer w (input_of event))
 next_falls w None law is = tt
-next_falls w (Some event) law is = λ drives tables surface line tried moments held asked draining may reads.
-    law drives tables surface line (input_of event) tried moments held w asked draining (sym is) may reads
+next_falls w (Some event) law is = λ start line tried moments held can asked draining may reads.
+    law start line (input_of event) tried moments held w can asked draining (sym is) may reads
 
 -- WHAT A BLOCK IS ALL THROUGH is so of each made answer that is the oldest.
 slot_same : {p q : ℕ} (made found : Made) → made ≡ found → made.slot ≡ Some p → found.slot ≡ Some q → q ≡ p

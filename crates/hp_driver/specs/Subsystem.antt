@@ -1,14 +1,11 @@
 -- The driver as its users' contracts see it: what may be asked of it, and what each call comes to.
 use Rattle.std.specs.Prelude.{◌≡◌, ◌≢◌, ℕ, ◌<◌, ◌≤◌, min, Bool, true, false, if◌then◌else◌, IsTrue, List, [], ◌∷◌, ◌++◌, length, drop, Option, None, Some, Result, Ok, Err}
-use Rattle.pack_geometry.specs.declared.DriveKind.{DriveKind}
 use Rattle.pack_model.specs.Pack.{Pack}
-use Rattle.pack_model.specs.TableSpelling.{Table}
 use Rattle.outside_traits.specs.declared.traits.SinkFailed.{SinkFailed}
 use Rattle.subsystem_spec.specs.Requests as told
 use Rattle.subsystem_spec.specs.Requests.{IsRequest}
 use Rattle.trace_replay.specs.Moments.{Moment}
-use Rattle.trace_replay.specs.Packs.{Surface}
-use Rattle.trace_replay.specs.Replay.{new_replay, after_moments}
+use Rattle.trace_replay.specs.Replay.{Replay, after_moments}
 use Rattle.trace_replay.specs.Script as script
 use Rattle.trace_replay.specs.Script.{Input}
 use Rattle.driver_machine.specs.declared.AnswerKind.TheVariants.{ReadOk}
@@ -27,7 +24,7 @@ use Rattle.driver_counts.specs.Counts.{in_use}
 use Rattle.driver_trace.specs.Calls.{IsReadOf}
 use Rattle.driver_trace.specs.Noises.{AllFlip}
 use Rattle.driver_trace.specs.Runs.{IsDraining}
-use Rattle.driver_drains.specs.Drains.{AreAsked, Falls}
+use Rattle.driver_drains.specs.Drains.{CanStart, AreAsked, Falls}
 use Rattle.hp_driver.specs.declared.request.Request.{Request}
 
 -- its world, how many requests may be outstanding at once, and whether one of its calls has failed
@@ -90,14 +87,12 @@ IsThere w (script.AttendTo a) = a < 4
 IsThere w script.Drain = ⊥
 IsThere w input = MayChange w input
 
--- A DRAIN COMES TO ITS END. Behind any run that drains and stands for this world, an event leaves fewer event lines to come, of which
--- there are at most 200 for each block of the requests that are outstanding.
+-- A DRAIN COMES TO ITS END. Behind any run that drains and stands for this world, from the start of a script or from wherever nothing was
+-- outstanding, an event leaves fewer event lines to come, of which there are at most 200 for each block of the requests that are outstanding.
 abbrev pub LeavesFewer : World → Input → Type 0
-LeavesFewer w input = (drives : ℕ → Option DriveKind) (tables : ℕ → Option Table) (surface : Surface) (line : ℕ) (tried : Tried) (moments : List Moment) (held : ℕ → Pack)
-    → AreAsked (new_replay drives tables surface).there moments → IsDraining (new_replay drives tables surface) line moments held w
-    → MayCome w input tried → IsReadOf w held input tried
-    → Falls (after_moments (new_replay drives tables surface) moments)
-    (after_moments (new_replay drives tables surface) (moments ++ lines_of_all w (event_acts line input tried w)))
+LeavesFewer w input = (start : Replay) (line : ℕ) (tried : Tried) (moments : List Moment) (held : ℕ → Pack) → CanStart start
+    → AreAsked start.there moments → IsDraining start line moments held w → MayCome w input tried → IsReadOf w held input tried
+    → Falls (after_moments start moments) (after_moments start (moments ++ lines_of_all w (event_acts line input tried w)))
 
 -- only a move touches the packs
 abbrev pub is_move : Input → Bool

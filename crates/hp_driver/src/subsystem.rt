@@ -3,7 +3,8 @@ ghost use Rattle.std.specs.Prelude.{◌≡◌, ◌↔◌, ℕ, ◌<◌, ◌≤�
 ghost use Rattle.outside_traits.specs.Causes.{Rose, HasCause};
 ghost use Rattle.main_memory.specs.Bytes.{filled, IsFill};
 ghost use Rattle.driver_machine.specs.declared.Made.{Made};
-ghost use Rattle.driver_machine.specs.World.{new_world, held_in, block_in};
+ghost use Rattle.driver_machine.specs.World.{new_world, unit_at, held_in, block_in};
+ghost use Rattle.driver_machine.specs.Guards.{IsSetUp};
 ghost use Rattle.driver_machine.specs.Acts.{Taken, after};
 ghost use Rattle.driver_machine.specs.Events.{next_event};
 ghost use Rattle.driver_machine.specs.Sound.{Sound, AtWork};
@@ -25,6 +26,7 @@ use driver_outcome::Stop;
 use hp_core::{Core, UnitSetup};
 use hp_events::Event;
 use outside_traits::traits::{NoMemory, Packs, Sink, SinkFailed};
+use pack_geometry::DriveKind;
 use std::alloc::Global;
 use std::marker::Model;
 use trace_bounds::commands_law;
@@ -78,6 +80,14 @@ impl Subsystem {
         ensures work { self.now.failed ≡ false → AtWork self.now.world }
     {
         let _ = &self.core;
+    }
+
+    /// The kind of a unit's drive, as the unit was set up.
+    pub fn kind(&self, unit: u8) -> DriveKind
+        requires unit { IsSetUp self.now.world unit }
+        ensures { result ≡ (unit_at self.now.world unit).drive.kind }
+    {
+        self.core.kind(unit)
     }
 
     /// Submits a request at a line of the script, with the bytes of a write. It is refused at once, or joins its unit's queue;

@@ -17,4 +17,4 @@ returns-clause-there c =
 pub returns-clause-falls : goal.returns-clause-falls
 returns-clause-falls c =
     subst (λ (s : State). IfSome c.next_event.result (λ event. LeavesFewer s.world (input_of event))) c.self.view_is
-    (next_falls c.self.inside.core.world c.next_event.result c.falls_law.ensures.later c.next_event.ensures)
+    (next_falls c.self.inside.core.world c.next_event.result c.falls_law.ensures.from c.next_event.ensures)
