@@ -1,0 +1,6 @@
+mod Laying
+mod Blocks
+mod Taking
+mod Calling
+mod Asking
+mod Ending
