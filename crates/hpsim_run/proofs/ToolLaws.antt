@@ -9,7 +9,8 @@ use Rattle.pack_model.specs.TableSpelling.{table_text}
 use Rattle.bad144_tool.specs.Adding.{Adds, IsStopped}
 use Rattle.bad144_tool.specs.Changes.{IsCutShort}
 use Rattle.bad144_tool.specs.Edit.{copies}
-use Rattle.bad144_tool.specs.Faults.{IsAddFault, IsFreshFault, IsListFault, IsWhy, Leaves}
+use Rattle.bad144_tool.specs.Faults.{IsAddFault, IsFreshFault, IsListFault, IsMarkFault, IsWhy, Leaves, LeavesMarks}
+use Rattle.bad144_tool.specs.Marking.{Marks}
 use Rattle.bad144_tool.specs.Texts.{ListsFront, list_text}
 use Rattle.bad144_tool.specs.declared.edit.AddWay.{AddWay}
 use Rattle.bad144_tool.specs.declared.fault.ToolFault.{ToolFault}
@@ -17,7 +18,7 @@ use Rattle.bad144_tool.specs.declared.fault.ToolFault.TheVariants as fault
 use Rattle.hpsim_run.specs.Statuses.{status_code}
 use Rattle.hpsim_run.specs.declared.status.Status.{Status}
 use Rattle.hpsim_run.specs.declared.status.Status.TheVariants.{ToolRefused}
-use Rattle.hpsim_run.specs.Tools.{RunsAdd, RunsAdded, RunsFresh, RunsList, RunsRefused, RunsTooLong, entry_text, fault_status, fault_text, too_long_text}
+use Rattle.hpsim_run.specs.Tools.{RunsAdd, RunsAdded, RunsFresh, RunsList, RunsMark, RunsRefused, RunsTooLong, entry_text, fault_status, fault_text, marked_text, too_long_text}
 use Rattle.hpsim_run.specs.Words.{Told}
 
 -- `bad144 add` answered a fault
@@ -203,3 +204,59 @@ told_all taken after text line_text bytes_text faults faults_after bytes line al
 pub told_front : (taken after text line bytes : List ℕ) (faults faults_after : ℕ) → bytes ≡ line → line ≡ text → Rose faults faults_after → TakesFront taken after bytes
     → Told taken after text faults faults_after
 told_front taken after text line_text bytes_text faults faults_after bytes line rose front = inr (rose, subst (λ (xs : List ℕ). TakesFront taken after xs) (bytes ∙ line) front)
+
+-- `bad144 mark` answered a fault
+module _ {kind : DriveKind} {unit : ℕ} {tells : Bool} {old new : ℕ → Pack} {out_tells : Bool} {taken after : List ℕ} {faults faults_after : ℕ} where
+  pub mark_fault : (f : ToolFault) → IsMarkFault kind f → (IsTrue tells → IsWhy kind (old unit) 0 f) → (IsTrue tells → LeavesMarks kind unit old new f)
+      → (IsTrue out_tells → Told taken after (fault_text unit f) faults faults_after)
+      → RunsMark kind unit (status_code (fault_status f)) tells old new out_tells taken after faults faults_after
+  unfolding fault_text
+  mark_fault fault.NoTable is why left told = record {
+    statuses = inr (inr (inr (inr refl)));
+    marked = λ e. absurd (elim e [ inl e ↦ omega (arith, e) | inr e ↦ omega (arith, e) ]);
+    stopped = λ e. absurd (omega (arith, e));
+    too_long = λ e. absurd (omega (arith, e));
+    unchanged = λ e. absurd (omega (arith, e));
+    refused = λ e. record { none = why; same = left; told = told };
+  }
+  mark_fault (fault.TooLong n) is why left told = record {
+    statuses = inr (inr (inr (inl refl)));
+    marked = λ e. absurd (elim e [ inl e ↦ omega (arith, e) | inr e ↦ omega (arith, e) ]);
+    stopped = λ e. absurd (omega (arith, e));
+    too_long = λ e. record { length = n; above = is; is = why; told = told };
+    unchanged = λ e. left;
+    refused = λ e. absurd (omega (arith, e));
+  }
+  mark_fault fault.Store is why left told = record {
+    statuses = inr (inr (inl refl));
+    marked = λ e. absurd (elim e [ inl e ↦ omega (arith, e) | inr e ↦ omega (arith, e) ]);
+    stopped = λ e. left;
+    too_long = λ e. absurd (omega (arith, e));
+    unchanged = λ e. absurd (omega (arith, e));
+    refused = λ e. absurd (omega (arith, e));
+  }
+  mark_fault fault.Reserved is why left told = absurd is
+  mark_fault (fault.Listed i) is why left told = absurd is
+  mark_fault fault.Full is why left told = absurd is
+  mark_fault (fault.Spare j) is why left told = absurd is
+  mark_fault fault.Sink is why left told = absurd is
+
+  pub mark_run : {status : Status} (f : ToolFault) → status ≡ fault_status f → IsMarkFault kind f → (IsTrue tells → IsWhy kind (old unit) 0 f)
+      → (IsTrue tells → LeavesMarks kind unit old new f) → (IsTrue out_tells → Told taken after (fault_text unit f) faults faults_after)
+      → RunsMark kind unit (status_code status) tells old new out_tells taken after faults faults_after
+  mark_run f e is why left told =
+      subst (λ (s : Status). RunsMark kind unit (status_code s) tells old new out_tells taken after faults faults_after) (sym e)
+      (mark_fault f is why left told)
+
+  -- the listed blocks were marked, and the sink took the text or failed
+  pub mark_done : (code count : ℕ) → (code ≡ 0) ⊎ (code ≡ 5) → (IsTrue tells → Marks kind unit old new count)
+      → (IsTrue out_tells → Told taken after (marked_text count) faults faults_after)
+      → RunsMark kind unit code tells old new out_tells taken after faults faults_after
+  mark_done code count is marks told = record {
+    statuses = elim is [ inl e ↦ inl e | inr e ↦ inr (inl e) ];
+    marked = λ e t. record { count = count; marks = marks t; told = told };
+    stopped = λ e. absurd (elim is [ inl z ↦ omega (arith, e, z) | inr z ↦ omega (arith, e, z) ]);
+    too_long = λ e. absurd (elim is [ inl z ↦ omega (arith, e, z) | inr z ↦ omega (arith, e, z) ]);
+    unchanged = λ e. absurd (elim is [ inl z ↦ omega (arith, e, z) | inr z ↦ omega (arith, e, z) ]);
+    refused = λ e. absurd (elim is [ inl z ↦ omega (arith, e, z) | inr z ↦ omega (arith, e, z) ]);
+  }

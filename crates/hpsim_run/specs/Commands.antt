@@ -10,7 +10,7 @@ use Rattle.mass_text.specs.Numbers.{number_of}
 use Rattle.mass_text.specs.declared.numbers.Radix.TheVariants.{Decimal}
 use Rattle.bad144_tool.specs.declared.edit.AddWay.{AddWay}
 use Rattle.hpsim_run.specs.declared.words.Command.{Command}
-use Rattle.hpsim_run.specs.declared.words.Command.TheVariants.{Play, ListTable, AddBlock, FreshTable, Exercise}
+use Rattle.hpsim_run.specs.declared.words.Command.TheVariants.{Play, ListTable, AddBlock, FreshTable, MarkBlocks, Exercise}
 
 -- a unit is 0 to 31, a block one of the drive's, a serial number is below 2^32, and the number of an exercise below 2^64; all are decimal
 abbrev pub unit_named : List ℕ → Option ℕ
@@ -55,6 +55,11 @@ list_named None kind = None
 list_named (Some unit) None = None
 list_named (Some unit) (Some kind) = Some (ListTable unit kind)
 
+abbrev pub mark_named : Option ℕ → Option DriveKind → Option Command
+mark_named None kind = None
+mark_named (Some unit) None = None
+mark_named (Some unit) (Some kind) = Some (MarkBlocks unit kind)
+
 abbrev pub add_of : ℕ → DriveKind → Option ℕ → Option AddWay → Option Command
 add_of unit kind None way = None
 add_of unit kind (Some block) None = None
@@ -71,7 +76,7 @@ fresh_named (Some unit) None serial = None
 fresh_named (Some unit) (Some kind) None = None
 fresh_named (Some unit) (Some kind) (Some serial) = Some (FreshTable unit kind serial)
 
--- no word more, or one and perhaps others: `bad144 list U KIND`; `bad144 add U KIND BLOCK` and how; `bad144 fresh U KIND
+-- no word more, or one and perhaps others: `bad144 list U KIND` and `bad144 mark U KIND`; `bad144 add U KIND BLOCK` and how; `bad144 fresh U KIND
 -- SERIAL`
 abbrev pub one_more_named : List ℕ → List ℕ → List ℕ → List ℕ → List (List ℕ) → Option Command
 one_more_named verb unit kind word [] =
@@ -82,7 +87,10 @@ one_more_named verb unit kind word (more ∷ words) =
     if bytes_eq verb (codes "add") then add_named (unit_named unit) (kind_named kind) word (way_named (more ∷ words)) else None
 
 abbrev pub tool_named : List ℕ → List ℕ → List ℕ → List (List ℕ) → Option Command
-tool_named verb unit kind [] = if bytes_eq verb (codes "list") then list_named (unit_named unit) (kind_named kind) else None
+tool_named verb unit kind [] =
+    if bytes_eq verb (codes "list") then list_named (unit_named unit) (kind_named kind)
+    else if bytes_eq verb (codes "mark") then mark_named (unit_named unit) (kind_named kind)
+    else None
 tool_named verb unit kind (word ∷ words) = one_more_named verb unit kind word words
 
 -- `exercise N`
@@ -104,4 +112,5 @@ IsValid Play = Unit {0}
 IsValid (ListTable unit kind) = unit < 32
 IsValid (AddBlock unit kind block way) = (unit < 32) × (block < block_count kind)
 IsValid (FreshTable unit kind serial) = unit < 32
+IsValid (MarkBlocks unit kind) = unit < 32
 IsValid (Exercise number) = number < 2 ^ 64

@@ -4,10 +4,11 @@ use Rattle.pack_geometry.specs.declared.DriveKind.{DriveKind}
 use Rattle.pack_geometry.specs.Geometry.{block_count}
 use Rattle.pack_model.specs.Pack.{Pack}
 use Rattle.pack_model.specs.TableSpelling.{table_text}
-use Rattle.bad144_tool.specs.Adding.{Adds, Fits, IsStopped, IsTooLong}
+use Rattle.bad144_tool.specs.Adding.{Adds, Fits, HasNone, IsStopped, IsTooLong}
 use Rattle.bad144_tool.specs.Changes.{IsCutShort, with_changes}
 use Rattle.bad144_tool.specs.Edit.{copies}
 use Rattle.bad144_tool.specs.Faults.{IsWhy}
+use Rattle.bad144_tool.specs.Marking.{IsMarkingStopped, Marks}
 use Rattle.bad144_tool.specs.Texts.{Lists, ListsFront}
 use Rattle.bad144_tool.specs.declared.edit.AddWay.{AddWay}
 use Rattle.bad144_tool.specs.declared.fault.ToolFault.{ToolFault}
@@ -42,12 +43,15 @@ fault_text unit (fault.TooLong n) = too_long_text unit n
 fault_text unit fault.Store = []
 fault_text unit fault.Sink = []
 
--- `entry I`, and `serial S`
+-- `entry I`, `serial S`, and `marked K`
 abbrev pub entry_text : ℕ → List ℕ
 entry_text i = codes "entry " ++ decimal i ++ 10 ∷ []
 
 abbrev pub serial_text : ℕ → List ℕ
 serial_text serial = codes "serial " ++ decimal serial ++ 10 ∷ []
+
+abbrev pub marked_text : ℕ → List ℕ
+marked_text count = codes "marked " ++ decimal count ++ 10 ∷ []
 
 -- an image that is longer than its pack: nothing was changed, and the text names unit and length
 pub record RunsTooLong (kind : DriveKind) (unit : ℕ) (tells : Bool) (pack : Pack) (out_tells : Bool) (taken after : List ℕ) (faults faults_after : ℕ) : Type 0 where
@@ -96,3 +100,24 @@ pub record RunsFresh (kind : DriveKind) (unit serial code : ℕ) (tells : Bool) 
   pub stopped : code ≡ 6 → IsTrue tells → IsCutShort old new unit (copies kind (table_text serial []))
   pub too_long : code ≡ 7 → RunsTooLong kind unit tells (old unit) out_tells taken after faults faults_after
   pub unchanged : code ≡ 7 → IsTrue tells → new ≡ old
+
+-- the listed blocks were marked, and how many is printed, or a front of that where the sink failed
+pub record RunsMarked (kind : DriveKind) (unit : ℕ) (old new : ℕ → Pack) (out_tells : Bool) (taken after : List ℕ) (faults faults_after : ℕ) : Type 0 where
+  pub count : ℕ
+  pub marks : Marks kind unit old new count
+  pub told : IsTrue out_tells → Told taken after (marked_text count) faults faults_after
+
+-- the pack has no table: nothing was changed, and that is printed
+pub record RunsNoTable (kind : DriveKind) (unit : ℕ) (tells : Bool) (old new : ℕ → Pack) (out_tells : Bool) (taken after : List ℕ) (faults faults_after : ℕ) : Type 0 where
+  pub none : IsTrue tells → HasNone kind (old unit)
+  pub same : IsTrue tells → new ≡ old
+  pub told : IsTrue out_tells → Told taken after (fault_text unit fault.NoTable) faults faults_after
+
+-- `bad144 mark`
+pub record RunsMark (kind : DriveKind) (unit code : ℕ) (tells : Bool) (old new : ℕ → Pack) (out_tells : Bool) (taken after : List ℕ) (faults faults_after : ℕ) : Type 0 where
+  pub statuses : (code ≡ 0) ⊎ (code ≡ 5) ⊎ (code ≡ 6) ⊎ (code ≡ 7) ⊎ (code ≡ 8)
+  pub marked : (code ≡ 0) ⊎ (code ≡ 5) → IsTrue tells → RunsMarked kind unit old new out_tells taken after faults faults_after
+  pub stopped : code ≡ 6 → IsTrue tells → IsMarkingStopped kind unit old new
+  pub too_long : code ≡ 7 → RunsTooLong kind unit tells (old unit) out_tells taken after faults faults_after
+  pub unchanged : code ≡ 7 → IsTrue tells → new ≡ old
+  pub refused : code ≡ 8 → RunsNoTable kind unit tells old new out_tells taken after faults faults_after

@@ -9,18 +9,18 @@ ghost use Rattle.hpsim_run.specs.Exercises.{RunsExercise};
 ghost use Rattle.hpsim_run.specs.Headline.{Headline, HasStopped, SpellNone, TellsRefusal, TellsTooLong, longest};
 ghost use Rattle.event_player.specs.declared.play.PlayFault.TheVariants.{Store as StoreFault, Sink as SinkFault};
 ghost use Rattle.hpsim_run.specs.Statuses.{status_code, IsPlayStatus, IsStatus};
-ghost use Rattle.hpsim_run.specs.Tools.{RunsAdd, RunsFresh, RunsList};
+ghost use Rattle.hpsim_run.specs.Tools.{RunsAdd, RunsFresh, RunsList, RunsMark};
 ghost use Rattle.hpsim_run.specs.Words.{command_of as the_command, usage_text, Told};
 ghost use Rattle.pack_geometry.specs.declared.DriveKind.{DriveKind};
 ghost use Rattle.bad144_tool.specs.declared.edit.AddWay.{AddWay};
-ghost use Rattle.hpsim_run.specs.declared.words.Command.TheVariants.{Play, ListTable, AddBlock, FreshTable, Exercise};
+ghost use Rattle.hpsim_run.specs.declared.words.Command.TheVariants.{Play, ListTable, AddBlock, FreshTable, MarkBlocks, Exercise};
 ghost use Rattle.hpsim_run.specs.declared.status.Status.TheVariants.{Done, Usage, Refused, SourceFailed, SinkFailed, PacksFailed, TooLong, OutOfMemory};
 
 use crate::exercise::run_exercise;
 use crate::load::{LoadFault, load};
 use crate::status::Status;
 use crate::text::{refusal, too_long, usage};
-use crate::tools::{run_add, run_fresh, run_list};
+use crate::tools::{run_add, run_fresh, run_list, run_mark};
 use crate::words::{Command, command_of};
 use event_player::play::{PlayFault, play};
 use outside_traits::traits::{Packs, Sink, Source};
@@ -96,7 +96,8 @@ fn run_play<S: Source, P: Packs, O: Sink, T: Sink>(
 ///
 /// `play` reads a script from the source and plays it over the packs; the answers go to `out`, and the trace to
 /// `trace`. `bad144 list U KIND`, `bad144 add U KIND BLOCK [copy] [mark]` and `bad144 fresh U KIND SERIAL` list a
-/// pack's bad-sector table, add a block to it, and write an empty one; they read no script.
+/// pack's bad-sector table, add a block to it, and write an empty one; `bad144 mark U KIND` marks the data blocks that the
+/// table lists. They read no script.
 /// `exercise N` plays the script of a number over empty packs of its own, and prints its tally; its trace goes to `trace`.
 ///
 /// | code | status | comes | printed on `out` |
@@ -108,7 +109,7 @@ fn run_play<S: Source, P: Packs, O: Sink, T: Sink>(
 /// | 5 | SinkFailed | only where the count of `out` or of `trace` rose | nothing further |
 /// | 6 | PacksFailed | only where the packs' count rose | nothing further |
 /// | 7 | TooLong | exactly where the image of a declared unit, or of the unit of a `bad144` command, is longer than its pack | `too long unit U length L` |
-/// | 8 | ToolRefused | exactly where `bad144 add` is refused | `refused no table`, `refused reserved`, `refused listed I`, `refused full`, `refused spare I` |
+/// | 8 | ToolRefused | exactly where `bad144 add` is refused, and where `bad144 mark` finds no table | `refused no table`, `refused reserved`, `refused listed I`, `refused full`, `refused spare I` |
 /// | 9 | OutOfMemory | there was no memory, before the first line was played; only of `play` and `exercise` | nothing |
 pub fn run<S: Source, P: Packs, O: Sink, T: Sink>(
     alloc: Global,
@@ -161,6 +162,9 @@ pub fn run<S: Source, P: Packs, O: Sink, T: Sink>(
     ensures fresh { (unit serial : ℕ) → (kind : DriveKind) → the_command words.now ≡ Some (FreshTable unit kind serial) →
         RunsFresh kind unit serial result (P.tells packs.new) (P.held packs.old) (P.held packs.new)
         (O.tells out.new) (O.taken out.old) (O.taken out.new) (O.faults out.old) (O.faults out.new) }
+    ensures mark { (unit : ℕ) → (kind : DriveKind) → the_command words.now ≡ Some (MarkBlocks unit kind) →
+        RunsMark kind unit result (P.tells packs.new) (P.held packs.old) (P.held packs.new)
+        (O.tells out.new) (O.taken out.old) (O.taken out.new) (O.faults out.old) (O.faults out.new) }
 
     // The exercise, which leaves the packs that are handed in alone.
     ensures exercise { (number : ℕ) → the_command words.now ≡ Some (Exercise number) →
@@ -199,6 +203,7 @@ pub fn run<S: Source, P: Packs, O: Sink, T: Sink>(
         Some(Command::FreshTable { unit, kind, serial }) => {
             run_fresh(packs, out, unit, kind, serial).code()
         }
+        Some(Command::MarkBlocks { unit, kind }) => run_mark(packs, out, unit, kind).code(),
         Some(Command::Exercise { number }) => run_exercise(alloc, number, out, trace).code(),
     }
 }

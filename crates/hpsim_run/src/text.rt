@@ -1,5 +1,5 @@
 ghost use Rattle.std.specs.Prelude.{◌≡◌, ◌≤◌, ◌+◌, ◌++◌, [], ◌∷◌, decimal, length};
-ghost use Rattle.hpsim_run.specs.Tools.{entry_text, fault_text, serial_text, too_long_text};
+ghost use Rattle.hpsim_run.specs.Tools.{entry_text, fault_text, marked_text, serial_text, too_long_text};
 ghost use Rattle.hpsim_run.specs.Words.{refusal_text, usage_text, kind_word, refused_line};
 
 use bad144_tool::ToolFault;
@@ -129,4 +129,11 @@ pub fn serial_line(serial: u32) -> LineBuf
     ensures { result ≡ serial_text serial }
 {
     numbered("serial ", u64::from(serial))
+}
+
+/// The text of blocks that were marked: `marked K`.
+pub fn marked_line(count: u8) -> LineBuf
+    ensures { result ≡ marked_text count }
+{
+    numbered("marked ", u64::from(count))
 }

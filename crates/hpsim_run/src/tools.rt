@@ -2,12 +2,12 @@ ghost use Rattle.std.specs.Prelude.{◌≡◌, ◌≤◌, ◌<◌, IsTrue};
 ghost use Rattle.pack_geometry.specs.Geometry.{block_count};
 ghost use Rattle.outside_traits.specs.Causes.{Rose};
 ghost use Rattle.hpsim_run.specs.Statuses.{status_code};
-ghost use Rattle.hpsim_run.specs.Tools.{RunsAdd, RunsFresh, RunsList, fault_status, fault_text};
+ghost use Rattle.hpsim_run.specs.Tools.{RunsAdd, RunsFresh, RunsList, RunsMark, fault_status, fault_text};
 ghost use Rattle.hpsim_run.specs.Words.{Told};
 
 use crate::status::Status;
-use crate::text::{entry_line, fault_line, serial_line};
-use bad144_tool::{AddWay, ToolFault, add, fresh, list};
+use crate::text::{entry_line, fault_line, marked_line, serial_line};
+use bad144_tool::{AddWay, ToolFault, add, fresh, list, mark};
 use outside_traits::traits::{Packs, Sink};
 use outside_traits::whole::write_all;
 use pack_geometry::DriveKind;
@@ -102,6 +102,29 @@ pub(crate) fn run_fresh<P: Packs, O: Sink>(
 {
     match fresh(packs, unit, kind, serial) {
         Ok(()) => match write_all(out, serial_line(serial).as_bytes()) {
+            Ok(()) => Status::Done,
+            Err(_) => Status::SinkFailed,
+        },
+        Err(fault) => refuse(out, unit, &fault),
+    }
+}
+
+/// Marks the blocks that the table of a unit's pack lists, and prints how many were not marked before.
+pub(crate) fn run_mark<P: Packs, O: Sink>(
+    packs: &mut P,
+    out: &mut O,
+    unit: u8,
+    kind: DriveKind,
+) -> Status
+    requires { unit < 32 }
+    ensures never_again { IsTrue (P.tells packs.new) → IsTrue (P.tells packs.old) }
+    ensures runs { RunsMark kind unit (status_code result) (P.tells packs.new) (P.held packs.old) (P.held packs.new)
+        (O.tells out.new) (O.taken out.old) (O.taken out.new) (O.faults out.old) (O.faults out.new) }
+    ensures sink { result ≡ Status.SinkFailed → Rose (O.faults out.old) (O.faults out.new) }
+    ensures store { result ≡ Status.PacksFailed → Rose (P.faults packs.old) (P.faults packs.new) }
+{
+    match mark(packs, unit, kind) {
+        Ok(count) => match write_all(out, marked_line(count).as_bytes()) {
             Ok(()) => Status::Done,
             Err(_) => Status::SinkFailed,
         },

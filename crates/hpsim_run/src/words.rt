@@ -1,7 +1,7 @@
 ghost use Rattle.std.specs.Prelude.{◌≡◌, ◌<◌, ◌-◌, ◌+◌, ◌^◌, map, IfSome, IfOk, Some, None};
 ghost use Rattle.std.specs.String.{string_bytes};
 ghost use Rattle.pack_geometry.specs.Geometry.{block_count};
-ghost use Rattle.hpsim_run.specs.Commands.{IsValid, add_named, block_named, both_named, one_named, command_named, exercise_named, fresh_named, kind_named, list_named, number_named, serial_named, tool_named, unit_named, way_named};
+ghost use Rattle.hpsim_run.specs.Commands.{IsValid, add_named, block_named, both_named, one_named, command_named, exercise_named, fresh_named, kind_named, list_named, mark_named, number_named, serial_named, tool_named, unit_named, way_named};
 
 use bad144_tool::AddWay;
 use mass_text::{Radix, number};
@@ -29,6 +29,11 @@ pub enum Command {
         unit: u8,
         kind: DriveKind,
         serial: u32,
+    },
+    /// The blocks that the table of a unit's pack lists are marked.
+    MarkBlocks {
+        unit: u8,
+        kind: DriveKind,
     },
     /// The script of a number is played, and its tally is printed.
     Exercise {
@@ -148,6 +153,19 @@ fn list_command(unit: &str, kind: &str) -> Option<Command>
     Some(Command::ListTable { unit, kind })
 }
 
+fn mark_command(unit: &str, kind: &str) -> Option<Command>
+    ensures named { result ≡ mark_named (unit_named unit.now) (kind_named kind.now) }
+    ensures valid { IfSome result IsValid }
+{
+    let Some(unit) = unit_in(unit) else {
+        return None;
+    };
+    let Some(kind) = kind_in(kind) else {
+        return None;
+    };
+    Some(Command::MarkBlocks { unit, kind })
+}
+
 fn add_command(unit: &str, kind: &str, block: &str, rest: &[String]) -> Option<Command>
     ensures named { result ≡ add_named (unit_named unit.now) (kind_named kind.now) block.now (way_named (map string_bytes rest.now)) }
     ensures valid { IfSome result IsValid }
@@ -207,6 +225,9 @@ fn tool_command(verb: &str, unit: &str, kind: &str, rest: &[String]) -> Option<C
         [] => {
             if verb == "list" {
                 return list_command(unit, kind);
+            }
+            if verb == "mark" {
+                return mark_command(unit, kind);
             }
             None
         }

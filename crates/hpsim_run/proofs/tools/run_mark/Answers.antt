@@ -1,0 +1,16 @@
+use Rattle.std.proofs.Common.{inl, inr, refl}
+use Rattle.hpsim_run.proofs.ToolLaws.{mark_done, mark_run, told_all, told_front}
+use Rattle.hpsim_run.proofs.tools.run_mark.Goals as goal
+
+pub returns-in-Ok-write_all-clause-runs : goal.returns-in-Ok-write_all-clause-runs
+returns-in-Ok-write_all-clause-runs g c =
+    mark_done 0 c.in-Ok.count (inl refl) c.in-Ok.ensures.marked (λ t. told_all _ _ _ _ _ _ _ c.as_bytes.ensures.text c.marked_line.ensures (c.in-Ok-write_all.ensures.bytes t))
+
+pub returns-in-Err-write_all-clause-runs : goal.returns-in-Err-write_all-clause-runs
+returns-in-Err-write_all-clause-runs g c =
+    mark_done 5 c.in-Ok.count (inr refl) c.in-Ok.ensures.marked
+    (λ t. told_front _ _ _ _ _ _ _ c.as_bytes.ensures.text c.marked_line.ensures c.in-Err-write_all.ensures.cause.failed (c.in-Err-write_all.ensures.front t))
+
+pub returns-in-Err-clause-runs : goal.returns-in-Err-clause-runs
+returns-in-Err-clause-runs g c =
+    mark_run c.in-Err.fault c.refuse.ensures.status c.in-Err.ensures.faults c.in-Err.ensures.why c.in-Err.ensures.left c.refuse.ensures.told
