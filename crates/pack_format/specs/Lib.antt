@@ -1,2 +1,4 @@
-pub mod Stations
+pub mod Faults
+pub mod Formatted
 pub mod Polls
+pub mod Stations
