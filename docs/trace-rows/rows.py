@@ -7,16 +7,17 @@
     rows.py write [NAME..]         writes the crate `trace_rows` anew: each row as a script and as moments, the lines out of
                                    place of `refused.txt`, and their proofs
 
-A row has a first line that says what it shows, and then sections. `[packs]` has lines `U table SERIAL BLOCK..`,
-`U mark BLOCK..` and `U block BLOCK HH`: all else on a pack is zeros. A row with a `[start]` begins where so
-many frames are taken; no program plays it. To try a trace of your own, write a row with `[script]`,
-`[packs]`, `[answers]` and `[trace]`, and check the crate: it proves that the trace is legal, or the check fails at the moment
-that no rule lets come.
+A row has a first line that says what it shows, and then sections. `[packs]` has lines `U table SERIAL BLOCK..`, `U mark BLOCK..`
+and `U block BLOCK HH`: all else on a pack is zeros. A row with an `[example]` has script, answers and trace of that script of
+`examples/`. One with a `[start]` begins where so many frames are taken; no program plays it. To try a trace of your own, write a
+row with `[script]`, `[packs]`, `[answers]` and `[trace]`, and check the crate: it proves that the trace is legal, or the check
+fails at the moment that no rule lets come.
 """
-import os, re, subprocess, sys, tempfile
+import itertools, os, re, subprocess, sys, tempfile
 
 HERE = os.path.dirname(os.path.abspath(__file__))
 CRATE = os.path.join(HERE, '..', '..', 'crates', 'trace_rows')
+EXAMPLES = os.path.join(HERE, '..', '..', 'examples')
 KINDS = {'rp06': (815, 19, 22, 'Rp06'), 'rm03': (823, 5, 32, 'Rm03'), 'rm05': (823, 19, 32, 'Rm05')}
 CODE = {'+400': 'Plus400', '-400': 'Minus400', '+800': 'Plus800', '-800': 'Minus800', '+1200': 'Plus1200', '-1200': 'Minus1200'}
 FAULT = {k: f'kind.{k.capitalize()}' for k in ('seek', 'opi', 'dte', 'hcrc', 'late')}
@@ -25,7 +26,7 @@ CAUSE = {k: k.capitalize() for k in ('offline', 'locked', 'unforwarded', 'fault'
 
 # ---- rows as files
 def read_row(name):
-    row = {'name': name, 'what': '', 'start': [], 'script': [], 'packs': [], 'answers': [], 'trace': []}
+    row = {'name': name, 'what': '', 'example': [], 'start': [], 'script': [], 'packs': [], 'answers': [], 'trace': []}
     part = None
     for line in open(f'{HERE}/rows/{name}.row').read().split('\n')[:-1]:
         if part is None and line.startswith('# '):
@@ -34,7 +35,25 @@ def read_row(name):
             part = line[1:-1]
         else:
             row[part].append(line)
+    if row['example']:
+        read_example(row, f"{EXAMPLES}/{row['example'][0]}")
     return row
+
+
+def read_example(row, path):
+    """the script, answers and trace of an example, without the comment at its head: each line's number is lower by that"""
+    lines = lambda suffix: open(path + suffix).read().split('\n')[:-1]
+    above = sum(1 for _ in itertools.takewhile(lambda line: line.startswith('#'), lines('.hps')))
+    row['script'] = lines('.hps')[above:]
+    row['trace'] = [lowered(line, 1, above) for line in lines('.trace')]
+    row['answers'] = [lowered(line, 3, above) for line in answers_of(row, lines('.out'))]
+
+
+def lowered(line, place, above):
+    """the line with the number at this place lowered"""
+    words = line.split(' ')
+    words[place] = str(int(words[place]) - above)
+    return ' '.join(words)
 
 
 def write_row(row):
@@ -127,10 +146,26 @@ def requests_of(row):
     return out
 
 
+def answers_of(row, lines):
+    """each answer of the lines that are printed as one line, with its bytes as runs"""
+    answers, sizes, data = [], requests_of(row), b''
+    for line in lines:
+        f = line.split()
+        if f[0] == 'ans':
+            answers.append(line)
+            data = b''
+        elif f[0] == 'blk':
+            count, last, _ = sizes[int(answers[-1].split()[1])]
+            want = last if int(f[1]) == count - 1 else 512
+            data += bytes([int(f[3], 16)]) * want if f[2] == 'fill' else bytes.fromhex(f[3])
+            answers[-1] = ' '.join(answers[-1].split()[:5]) + ' ' + runs_text(data)
+    return answers
+
+
 def run(program, names):
     for name in names:
         row = read_row(name)
-        if row['start']:
+        if row['start'] or row['example']:
             continue
         with tempfile.TemporaryDirectory() as folder:
             for unit, (blocks, marks, _) in packs_of(row).items():
@@ -150,18 +185,7 @@ def run(program, names):
                 sys.exit(f'{name}: status {done.returncode}: {done.stdout!r}')
             path = f'{folder}/hp.trace'
             row['trace'] = open(path).read().split('\n')[:-1] if os.path.exists(path) else []
-        row['answers'] = []
-        sizes = requests_of(row)
-        for line in done.stdout.decode().split('\n')[:-1]:
-            f = line.split()
-            if f[0] == 'ans':
-                row['answers'].append(line)
-                data = b''
-            elif f[0] == 'blk':
-                count, last, _ = sizes[int(row['answers'][-1].split()[1])]
-                want = last if int(f[1]) == count - 1 else 512
-                data += bytes([int(f[3], 16)]) * want if f[2] == 'fill' else bytes.fromhex(f[3])
-                row['answers'][-1] = ' '.join(row['answers'][-1].split()[:5]) + ' ' + runs_text(data)
+        row['answers'] = answers_of(row, done.stdout.decode().split('\n')[:-1])
         write_row(row)
 
 
@@ -243,7 +267,7 @@ def deed_term(f, answer):
 
 
 def told_term(line, answer=None):
-    """a line of a trace as a moment; an end line has its answer behind a colon, or is given it"""
+    """a line of a trace as a moment; an end line has its answer after a colon, or is given it"""
     text, _, words = line.partition(' : ')
     f = text.split()
     if f[0] == 'idle':
@@ -381,7 +405,7 @@ def work_marks(row):
             continue
         begins = draining and not moments[i - 1].startswith('Played') and re.search(r' (Arrive|Intr|Attn|\(Sector .*)$', m) is not None
         if begins and m.endswith(' Attn'):
-            # an attention behind another line of one attend does not begin an event
+            # an attention after another line of one attend does not begin an event
             begins = began_apart(moments, i)
         out.append('refl' if begins else 'tt')
     return out
@@ -610,6 +634,8 @@ use Rattle.trace_replay.proofs.Following.{follow_on}
 """
 LIB_HEAD = """//! Rows of traces: scripts over packs with the traces that belong to them, each proved legal by computation, and lines out of
 //! place, each refused by its rule. The rows stand as text in `docs/trace-rows`, and `rows.py` there writes this crate anew.
+//!
+//! What is proved: 39 worked traces are legal, and each of 96 lines out of place is refused by its rule, by computation.
 #![tactic(auto)]
 
 """
