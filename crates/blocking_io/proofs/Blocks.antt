@@ -1,5 +1,5 @@
 -- The blocks of the read that the oldest answer is of.
-use Rattle.std.proofs.Common.{◌≡◌, ℕ, ◌+◌, ◌<◌, ◌≤◌, Bool, true, false, IsTrue, List, [], ◌∷◌, length, take, drop, sym, ap, subst, ◌∙◌, arith, Option, None, Some, refl}
+use Rattle.std.proofs.Common.{◌≡◌, ℕ, ◌+◌, ◌<◌, ◌≤◌, Bool, true, false, IsTrue, List, [], length, take, drop, sym, ap, subst, ◌∙◌, arith, Option, None, Some, refl}
 use Rattle.std.specs.Prelude.{if◌then◌else◌, ◌==◌, Contains, slice_index_or}
 use Rattle.main_memory.specs.Blocks.{size_at}
 use Rattle.main_memory.specs.Bytes.{filled}

@@ -1,5 +1,5 @@
 -- A call of the driver, and the answers behind it.
-use Rattle.std.proofs.Common.{◌≡◌, ℕ, Bool, true, false, List, ◌++◌, Some, None, refl, sym, ap, subst, ◌∙◌}
+use Rattle.std.proofs.Common.{◌≡◌, ℕ, Bool, true, false, List, Some, None, refl, ap, ◌∙◌}
 use Rattle.pack_model.specs.Pack.{Pack}
 use Rattle.subsystem_spec.specs.Requests.{Request}
 use Rattle.trace_replay.specs.Script.{Input}
@@ -14,7 +14,7 @@ use Rattle.driver_trace.specs.Noises.{AllFlip}
 use Rattle.hp_driver.specs.Subsystem.{Submits, Comes, State, seen, IsThere, is_move}
 use Rattle.blocking_io.specs.Given.{Given, gives_all}
 use Rattle.blocking_io.specs.Taking.{all_taken}
-use Rattle.blocking_io.specs.Calls.{Stage, GivesSubmission, GivesEvent, TellsFront, SubmissionStops, EventStops}
+use Rattle.blocking_io.specs.Calls.{GivesSubmission, GivesEvent, TellsFront, SubmissionStops, EventStops}
 
 pub submission_given : {O : Type 0} (tells : O → Bool) (taken : O → List ℕ) (trace trace' : O) (line : ℕ) (r : Request) (old : World) (mid new : State) (given given' : Given)
     → Submits tells taken trace trace' line r old mid.world None → new ≡ record mid { world = all_taken mid.world } → given' ≡ gives_all (waiting mid.world) given

@@ -1,9 +1,8 @@
 -- The drain is over: the driver is quiet, and the answer is that of the map.
-use Rattle.std.proofs.Common.{◌≡◌, ℕ, ◌≤◌, Bool, true, false, IsTrue, List, [], ◌∷◌, ◌++◌, Option, Some, None, refl, sym, ap, subst, ◌∙◌, append-nil}
-use Rattle.pack_geometry.specs.declared.DriveKind.{DriveKind}
+use Rattle.std.proofs.Common.{◌≡◌, ℕ, ◌≤◌, Bool, IsTrue, List, [], ◌∷◌, ◌++◌, None, refl, sym, ap, subst, ◌∙◌, append-nil}
 use Rattle.pack_model.specs.Pack.{Pack}
 use Rattle.subsystem_spec.specs.Requests.{Request, IsRequest}
-use Rattle.trace_replay.specs.Moments.{Moment, Played, Idle, Answered, played, answers_in}
+use Rattle.trace_replay.specs.Moments.{Moment, Idle, Answered, answers_in}
 use Rattle.trace_replay.specs.Script as script
 use Rattle.trace_replay.specs.Script.{IsThere}
 use Rattle.trace_replay.specs.Text.{trace_text, moment_text}
@@ -19,16 +18,16 @@ use Rattle.driver_work.specs.Runs.{NoneOutstanding}
 use Rattle.driver_runs.specs.Runs.{Stay}
 use Rattle.driver_trace.specs.Calls.{Stands}
 use Rattle.driver_trace.proofs.Drains.{drain_left, none_outstanding}
-use Rattle.waited_requests.specs.Sessions.{Part, MayPlay, IsPart, IsSession, behind, behind_all, waited, told_in}
+use Rattle.waited_requests.specs.Sessions.{IsSession, behind, behind_all, waited, told_in}
 use Rattle.waited_requests.specs.Rest.{HasTables}
-use Rattle.waited_requests.specs.Waited.{map_of, answer_in, map_behind, with_packs, IsAskable, IsWaitedFor, IsAnswered, AreLeftBy}
+use Rattle.waited_requests.specs.Waited.{map_of, answer_in, with_packs, IsAskable, IsWaitedFor, IsAnswered, AreLeftBy}
 use Rattle.waited_requests.proofs.Waited.{waited_is_answered, all_rest_again, packs_hold_map}
 use Rattle.quiet_driver.specs.Quiet.{IsQuiet, kind_if, setup_of, rested, StandsQuiet}
 use Rattle.quiet_driver.specs.Calls.{IsOpen, GoesTo}
 use Rattle.quiet_driver.proofs.Rests.{quiet_rests}
 use Rattle.quiet_driver.proofs.Calls.{drains_are_over, drains_find_nothing}
 use Rattle.quiet_driver.proofs.Again.{quiet_again}
-use Rattle.quiet_driver.proofs.Counting.{Waits, Drains}
+use Rattle.quiet_driver.proofs.Counting.{Waits}
 use Rattle.blocking_io.specs.Given.{Given, gives_all, reached_by, bytes_by}
 use Rattle.blocking_io.specs.Calls.{Stage}
 use Rattle.blocking_io.specs.Asking.{Answers}

@@ -1,15 +1,14 @@
 -- Sessions of requests, one behind the other.
-use Rattle.std.proofs.Common.{◌≡◌, ◌⊎◌, inl, inr, ℕ, ◌==◌, not, Bool, List, [], ◌∷◌, ◌++◌, Option, None, Some, IsTrue, refl, sym, ap, subst, ◌∙◌, append-nil, append_assoc}
+use Rattle.std.proofs.Common.{◌≡◌, inl, inr, ℕ, ◌==◌, not, List, [], ◌∷◌, ◌++◌, Option, refl, sym, ap, subst, ◌∙◌, append-nil, append_assoc}
 use Rattle.std.specs.Prelude.{slice_index}
 use Rattle.std.proofs.lemmas.Grind.{flat_map-append}
 use Rattle.pack_geometry.specs.declared.DriveKind.{DriveKind}
 use Rattle.pack_model.specs.Pack.{Pack}
-use Rattle.subsystem_spec.specs.Requests.{Request}
 use Rattle.trace_replay.specs.Moments.{Moment}
 use Rattle.trace_replay.specs.Text.{trace_text, moment_text}
 use Rattle.trace_replay.specs.Packs.{Surface}
 use Rattle.trace_replay.specs.Replay.{Replay, AreLeft}
-use Rattle.run_promises.specs.Beginnings.{IsNextSector, with_next}
+use Rattle.run_promises.specs.Beginnings.{with_next}
 use Rattle.block_machine.specs.Stands.{Setup}
 use Rattle.driver_outcome.specs.Outcome.{IsFront}
 use Rattle.driver_outcome.specs.declared.Stop.{Stop}
@@ -18,13 +17,12 @@ use Rattle.driver_outcome.proofs.Joined.{front_more, front_of_front}
 use Rattle.driver_runs.specs.Runs.{Stay}
 use Rattle.driver_runs.specs.NextBlock.{HasNext}
 use Rattle.waited_requests.specs.Sessions.{Part, IsSession, behind, behind_all, waited, told_in}
-use Rattle.waited_requests.specs.Rest.{HasTables}
 use Rattle.waited_requests.specs.Waited.{with_packs}
 use Rattle.quiet_driver.specs.Quiet.{StandsQuiet}
 use Rattle.blocking_io.specs.Calls.{Stage}
-use Rattle.blocking_io.specs.Asking.{setup_at, Answers, IsMapped}
-use Rattle.blocking_io.specs.Stopping.{TookFront, Took, LeftAt, IsCut, StopsIn, begun, Stops}
-use Rattle.blocking_io.specs.Sessions.{Reaches, GoesOn, StillTell, AnswersReach, SessionsJoin, StopsJoin, TwoThenStop}
+use Rattle.blocking_io.specs.Asking.{setup_at}
+use Rattle.blocking_io.specs.Stopping.{Took, LeftAt, IsCut, begun}
+use Rattle.blocking_io.specs.Sessions.{Reaches, AnswersReach, SessionsJoin, StopsJoin, TwoThenStop}
 
 -- ---- PARTS
 session_append : (s : Replay) (xs ys : List Part) → IsSession s xs → IsSession (behind_all s xs) ys → IsSession s (xs ++ ys)

@@ -2,7 +2,7 @@
 use Rattle.std.proofs.Common.{◌≡◌, ℕ, ◌+◌, ◌-◌, ◌^◌, ◌≤◌, ◌<◌, suc, List, [], ◌∷◌, Option, None, Some, refl, sym, subst, arith, ◌∙◌}
 use Rattle.std.specs.Prelude.{slice_index_or, Result, Ok, Err, IfErr, IsErrAnd}
 use Rattle.std.proofs.lemmas.Bool.{false≢true}
-use Rattle.outside_traits.specs.Causes.{Rose, HasCause}
+use Rattle.outside_traits.specs.Causes.{Rose}
 use Rattle.driver_machine.specs.World.{World, Held, slot_at}
 use Rattle.driver_machine.specs.Sound.{Sound}
 use Rattle.driver_work.specs.Runs.{NoneOutstanding}

@@ -12,10 +12,8 @@ use Rattle.trace_replay.specs.Script as script
 use Rattle.trace_replay.specs.Script.{Input}
 use Rattle.trace_replay.specs.Text.{trace_text, moment_text}
 use Rattle.trace_replay.specs.Events.{Event, is_no_line}
-use Rattle.trace_replay.specs.Packs.{Surface}
-use Rattle.trace_replay.specs.Replay.{Replay, next_wish, act_drained, drained, are_at_work, WorkMay, Follows, AreLeft, after_moment, after_moments}
+use Rattle.trace_replay.specs.Replay.{Replay, next_wish, act_drained, drained, are_at_work, WorkMay, AreLeft, after_moment, after_moments}
 use Rattle.run_promises.specs.Beginnings.{QuietMomentsKeep}
-use Rattle.block_machine.specs.Stands.{Setup}
 use Rattle.driver_machine.specs.World.{World}
 use Rattle.driver_machine.specs.Acts.{Act, Nothing, Tried, after_all}
 use Rattle.driver_machine.specs.Lines.{lines_of_all}
@@ -29,7 +27,7 @@ use Rattle.driver_outcome.specs.Outcome.{IsFront}
 use Rattle.driver_outcome.specs.declared.Stop.{Stop}
 use Rattle.driver_outcome.specs.declared.Stop.TheVariants.{Store, Sink}
 use Rattle.driver_outcome.proofs.Joined.{front_more, front_of_front}
-use Rattle.driver_trace.specs.Calls.{Stands, Ends, IsSurfaceOf, IsReadOf}
+use Rattle.driver_trace.specs.Calls.{Ends, IsSurfaceOf}
 use Rattle.driver_trace.proofs.Drains.{GoesOn, drain_begins, drain_goes_on, drain_between}
 use Rattle.driver_trace.proofs.Inputted.{lines_play_nothing}
 use Rattle.driver_drains.proofs.Fronts.{event_fronts}
@@ -37,16 +35,15 @@ use Rattle.driver_runs.specs.Runs.{Stay}
 use Rattle.driver_runs.specs.NextBlock.{NextBlocksShow}
 use Rattle.driver_runs.proofs.Sectors.{submission_quiet}
 use Rattle.waited_requests.specs.Sessions.{MayPlay, IsPart, behind, behind_all, told_in, waited}
-use Rattle.waited_requests.specs.Rest.{HasTables}
 use Rattle.waited_requests.specs.Waited.{with_packs}
 use Rattle.quiet_driver.specs.Quiet.{setup_of, StandsQuiet}
-use Rattle.quiet_driver.specs.Calls.{IsOpen, GoesTo, DrainsFrom}
+use Rattle.quiet_driver.specs.Calls.{GoesTo, DrainsFrom}
 use Rattle.quiet_driver.proofs.Calls.{quiet_opens, quiet_submits, drains_begin, drains_continue, drains_find_nothing}
 use Rattle.blocking_io.specs.Given.{Given}
-use Rattle.blocking_io.specs.Calls.{Stage, SubmissionStops, EventTellsFront, MoveFails, EventStops}
+use Rattle.blocking_io.specs.Calls.{Stage, SubmissionStops, EventStops}
 use Rattle.blocking_io.specs.Asking.{setup_at}
-use Rattle.blocking_io.specs.Stopping.{TookFront, LeftAt, IsCut, begun, Stops}
-use Rattle.blocking_io.proofs.Waiting.{first_part, more_told, IsAskedTo, SoAsked, IsDrainedTo, SoDrained, declared_now, acts_stay}
+use Rattle.blocking_io.specs.Stopping.{TookFront, IsCut, begun, Stops}
+use Rattle.blocking_io.proofs.Waiting.{first_part, IsAskedTo, SoAsked, IsDrainedTo, SoDrained, declared_now, acts_stay}
 use Rattle.blocking_io.proofs.Trying.{Whole, Begins, event_tells, event_fails}
 
 -- ---- TEXTS

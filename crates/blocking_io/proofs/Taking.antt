@@ -1,6 +1,6 @@
 -- Each answer that waits is given and taken.
 use Rattle.std.proofs.Common.{◌≡◌, ℕ, ◌<◌, List, [], ◌∷◌, length, map, drop, sym, ap, subst, arith, ◌∙◌, refl, Option, None, Some}
-use Rattle.std.specs.Prelude.{IsSome, IfSome}
+use Rattle.std.specs.Prelude.{IfSome}
 use Rattle.trace_replay.specs.Moments.{Answered}
 use Rattle.driver_machine.specs.declared.Answer.{Answer}
 use Rattle.driver_machine.specs.declared.AnswerKind.{AnswerKind}
@@ -12,7 +12,7 @@ use Rattle.driver_machine.specs.Sound.{Sound}
 use Rattle.driver_answers.specs.Waiting.{told_by, waiting, TakingDrops}
 use Rattle.hp_driver.specs.Subsystem.{State, IsOldest}
 use Rattle.blocking_io.specs.declared.reached.Reached.{Reached}
-use Rattle.blocking_io.specs.Given.{Given, gives, gives_all, reached_by, bytes_by}
+use Rattle.blocking_io.specs.Given.{Given, gives_all, reached_by, bytes_by}
 use Rattle.blocking_io.specs.Taking.{takings, all_taken, blocks_of, oldest_blocks, IsOldestKind}
 
 some_first : (xs : List Made) (made : Made) (rest : List Made) → xs ≡ made ∷ rest → 0 < length xs

@@ -1,35 +1,29 @@
 -- A request that is asked, and its drain, event by event.
-use Rattle.std.proofs.Common.{◌≡◌, ℕ, ◌+◌, ◌≤◌, ◌<◌, ◌==◌, inl, inr, Bool, true, false, IsTrue, List, [], ◌∷◌, ◌++◌, length, Option, Some, None, refl, sym, ap, subst, arith, ◌∙◌, append-nil, append_assoc}
+use Rattle.std.proofs.Common.{◌≡◌, ℕ, ◌+◌, ◌≤◌, ◌<◌, Bool, true, false, IsTrue, List, [], ◌∷◌, ◌++◌, length, Option, Some, None, refl, sym, ap, subst, arith, ◌∙◌, append_assoc}
 use Rattle.std.proofs.lemmas.Option.{none-some, same_Some}
 use Rattle.std.proofs.lemmas.Grind.{flat_map-append}
 use Rattle.pack_geometry.specs.declared.DriveKind.{DriveKind}
 use Rattle.pack_model.specs.Pack.{Pack}
 use Rattle.subsystem_spec.specs.Requests.{Request, IsRequest}
-use Rattle.trace_replay.specs.Moments.{Moment, Played, Idle, Answered, played, answers_in}
+use Rattle.trace_replay.specs.Moments.{Moment, Answered, played, answers_in}
 use Rattle.trace_replay.specs.Script as script
 use Rattle.trace_replay.specs.Script.{Input}
 use Rattle.trace_replay.specs.Text.{trace_text, moment_text}
-use Rattle.trace_replay.specs.Replay.{Replay, after_moment, after_moments}
-use Rattle.trace_calm.specs.Calm.{IsGood, IsCalm}
+use Rattle.trace_replay.specs.Replay.{Replay}
 use Rattle.block_machine.specs.Stands.{Setup}
 use Rattle.driver_machine.specs.World.{World, unit_at}
-use Rattle.driver_machine.specs.Acts.{Act, Of, Sector, Deed, Taken, Nothing, after, after_all}
+use Rattle.driver_machine.specs.Acts.{Act, Taken, after, after_all}
 use Rattle.driver_machine.specs.Lines.{lines_of_all}
 use Rattle.driver_machine.specs.Events.{submit_acts, event_acts, next_event}
 use Rattle.driver_machine.specs.Guards.{IsSetUp}
 use Rattle.driver_machine.specs.Sound.{Sound, AtWork}
-use Rattle.driver_work.specs.Runs.{Run, Works, NoneOutstanding}
-use Rattle.driver_work.proofs.Calls.{submit_works, event_works}
-use Rattle.driver_invariant.proofs.Sound.{sound_after}
+use Rattle.driver_work.specs.Runs.{Run}
 use Rattle.driver_outcome.specs.Packs.{packs_after_all}
 use Rattle.driver_counts.proofs.Units.{setups_stay}
-use Rattle.driver_answers.specs.Waiting.{waiting}
 use Rattle.driver_answers.proofs.Waiting.{events_alone, submissions_alone}
 use Rattle.driver_runs.specs.Runs.{AreDeclared, Stay}
 use Rattle.driver_runs.proofs.Runs.{runs_keep}
-use Rattle.driver_trace.specs.Calls.{Stands, Ends, IsLeft}
 use Rattle.driver_trace.proofs.Inputted.{lines_play_nothing}
-use Rattle.driver_trace.proofs.Drains.{drain_left}
 use Rattle.waited_requests.specs.Sessions.{Part, MayPlay, IsPart, behind}
 use Rattle.waited_requests.specs.Waited.{with_packs}
 use Rattle.waited_requests.proofs.Waited.{answers_append}

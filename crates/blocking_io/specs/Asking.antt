@@ -1,6 +1,6 @@
 -- A REQUEST THAT IS WAITED FOR, as its callers see it: over the driver's world and the packs before and after.
 use Rattle.std.specs.Prelude.{◌≡◌, ℕ, ◌≤◌, false, IsTrue, List, [], ◌++◌, Some}
-use Rattle.pack_model.specs.Pack.{Pack, block_at}
+use Rattle.pack_model.specs.Pack.{block_at}
 use Rattle.subsystem_spec.specs.Requests as told
 use Rattle.subsystem_spec.specs.Requests.{IsRequest}
 use Rattle.trace_replay.specs.Moments.{Moment}
