@@ -1,2 +1,3 @@
-pub mod Turns
 pub mod Counting
+pub mod Doing
+pub mod Turns

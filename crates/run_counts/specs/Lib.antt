@@ -1,2 +1,3 @@
-pub mod Ends
 pub mod Counted
+pub mod Doings
+pub mod Ends
