@@ -29,17 +29,17 @@ use Rattle.run_counts.specs.Counted.{behind}
 use Rattle.run_counts.specs.Doings.{under_way_by, held_by, answers, doing_after, at_moment, doing_from, Does}
 
 -- LISTS OF DRIVES
-set_length : (ds : List Drive) (v : ℕ) (d : Drive) → length (set ds v d) ≡ length ds
+pub set_length : (ds : List Drive) (v : ℕ) (d : Drive) → length (set ds v d) ≡ length ds
 set_length [] v d = refl
 set_length (x ∷ ds) zero d = refl
 set_length (x ∷ ds) (suc v) d = ap (λ (n : ℕ). suc n) (set_length ds v d)
 
-set_here : (ds : List Drive) (u : ℕ) (d : Drive) → u < length ds → drive_at (set ds u d) u ≡ d
+pub set_here : (ds : List Drive) (u : ℕ) (d : Drive) → u < length ds → drive_at (set ds u d) u ≡ d
 set_here [] u d inside = absurd (omega (arith, inside))
 set_here (x ∷ ds) zero d inside = refl
 set_here (x ∷ ds) (suc u) d inside = set_here ds u d (omega (arith, inside))
 
-set_other : (ds : List Drive) (v : ℕ) (d : Drive) (u : ℕ) → v ≢ u → drive_at (set ds v d) u ≡ drive_at ds u
+pub set_other : (ds : List Drive) (v : ℕ) (d : Drive) (u : ℕ) → v ≢ u → drive_at (set ds v d) u ≡ drive_at ds u
 set_other [] v d u e = refl
 set_other (x ∷ ds) zero d zero e = absurd (e refl)
 set_other (x ∷ ds) zero d (suc u) e = refl
@@ -53,7 +53,7 @@ set_letter f (x ∷ ds) zero d (suc u) e = refl
 set_letter f (x ∷ ds) (suc v) d zero e = refl
 set_letter f (x ∷ ds) (suc v) d (suc u) e = set_letter f ds v d u e
 
-map_length : (h : Drive → Drive) (ds : List Drive) → length (map h ds) ≡ length ds
+pub map_length : (h : Drive → Drive) (ds : List Drive) → length (map h ds) ≡ length ds
 map_length h [] = refl
 map_length h (d ∷ ds) = ap (λ (n : ℕ). suc n) (map_length h ds)
 
@@ -87,7 +87,7 @@ shown_letters false true last k =
     closed_letters (is_full (headed (line_of last) (is_idle last) k.drives k.head) k.window k.event) (headed (line_of last) (is_idle last) k.drives k.head) k
 shown_letters false false last k = record { letters = λ u. refl; many = refl }
 
-turned_letters : (b : Bool) (o : Option Moment) (k : Known) → Letters k (cond b (turned_behind o k) k)
+pub turned_letters : (b : Bool) (o : Option Moment) (k : Known) → Letters k (cond b (turned_behind o k) k)
 turned_letters false o k = record { letters = λ u. refl; many = refl }
 turned_letters true None k = record { letters = λ u. refl; many = refl }
 turned_letters true (Some last) k =
@@ -97,15 +97,15 @@ turned_letters true (Some last) k =
     }
 
 -- A MOMENT keeps how many drives there are
-asked_many : (o : Option ℕ) (line : ℕ) (r : Asked) (write : Bool) (k : Known) → length (asked_at o line r write k).drives ≡ length k.drives
+pub asked_many : (o : Option ℕ) (line : ℕ) (r : Asked) (write : Bool) (k : Known) → length (asked_at o line r write k).drives ≡ length k.drives
 asked_many (Some place) line r write k = refl
 asked_many None line r write k = set_length k.drives r.unit _
 
-met_many : (o : Option ℕ) (line v id : ℕ) (k : Known) → length (met_at o line v id k).drives ≡ length k.drives
+pub met_many : (o : Option ℕ) (line v id : ℕ) (k : Known) → length (met_at o line v id k).drives ≡ length k.drives
 met_many (Some place) line v id k = refl
 met_many None line v id k = set_length k.drives v _
 
-heard_many : (m : Moment) (k : Known) → length (heard m k).drives ≡ length k.drives
+pub heard_many : (m : Moment) (k : Known) → length (heard m k).drives ≡ length k.drives
 heard_many (Played line (Ask r write)) k = asked_many (place_of k.ids r.id) line r write k
 heard_many (Played line (play.Change v c)) k = set_length k.drives v _
 heard_many (Played line Other) k = refl
@@ -132,10 +132,10 @@ met_reads : (f : Letter → Bool) (o : Option ℕ) (line v id : ℕ) (k : Known)
 met_reads f (Some place) line v id k u = refl
 met_reads f None line v id k u = set_letter f k.drives v _ u refl
 
-is_same : (v u : ℕ) → (v == u) ≡ true → v ≡ u
+pub is_same : (v u : ℕ) → (v == u) ≡ true → v ≡ u
 is_same v u e = grind (arith, nat_tests)
 
-is_other : (v u : ℕ) → (v == u) ≡ false → v ≢ u
+pub is_other : (v u : ℕ) → (v == u) ≡ false → v ≢ u
 is_other v u e is = grind (arith, nat_tests)
 
 told_here : (f : Letter → Bool) (by : Deed → Bool → Bool → Bool) → Reads f by → (place line u : ℕ) (d : Deed) (k : Known) → u < length k.drives

@@ -1,3 +1,4 @@
 pub mod Counted
 pub mod Doings
 pub mod Ends
+pub mod Travels
