@@ -2,6 +2,13 @@
 //! blocks that are marked.
 #![tactic(auto)]
 
+mod blocks;
+mod fault;
+mod formatting;
 mod station;
+mod survey;
+mod testing;
 
+pub use fault::FormatFault;
+pub use formatting::{FormatReport, format};
 pub use station::{Polled, Station};
