@@ -1,5 +1,5 @@
 -- A pack behind all stages is formatted, and one behind some of them is so in part.
-use Rattle.std.proofs.Common.{◌≡◌, ◌≢◌, ◌⊎◌, inl, inr, ℕ, zero, suc, ◌+◌, ◌-◌, ◌<◌, ◌≤◌, ◌==◌, ◌&&◌, ◌||◌, not, Bool, true, false, IsTrue, List, map, length, replicate, Option, None, Some, refl, sym, ap, ◌∙◌, subst, arith}
+use Rattle.std.proofs.Common.{◌≡◌, ◌⊎◌, inl, inr, ℕ, zero, suc, ◌+◌, ◌-◌, ◌<◌, ◌≤◌, ◌==◌, ◌&&◌, ◌||◌, not, Bool, true, false, List, length, replicate, Option, None, Some, refl, sym, ap, ◌∙◌, subst, arith}
 use Rattle.std.specs.Prelude.{nat_le, nat_lt, slice_get, if◌then◌else◌}
 use Rattle.std.proofs.lemmas.Bool.{cases_lt}
 use Rattle.std.proofs.lemmas.Bool.Decides.{Decides-eqb, Decides-ltb, nat_tests}
@@ -11,11 +11,11 @@ use Rattle.pack_geometry.specs.declared.DriveKind.TheVariants.{Rp06, Rm03, Rm05}
 use Rattle.pack_geometry.specs.Geometry.{copy_at, limit_of, place_at, replacement_at}
 use Rattle.pack_model.specs.Pack.{Pack, block_at, is_marked}
 use Rattle.pack_model.specs.Content.{bytes_at}
-use Rattle.pack_model.specs.Homes.{content_of, home_of, if_unmarked, index_in, replacement_home}
-use Rattle.pack_model.specs.PackTable.{IsTableOf, Tells}
+use Rattle.pack_model.specs.Homes.{content_of, index_in, replacement_home}
+use Rattle.pack_model.specs.PackTable.{IsTableOf}
 use Rattle.pack_model.specs.TableSpelling.{Table, IsTable, Spells}
 use Rattle.bad144_table.proofs.Positions.{index_listed}
-use Rattle.pack_format.specs.Formatted.{CanBeFormatted, Copy, Data, HasNew, IsChanged, IsFormatted, IsPartly, IsTested, IsWritten, Replacement, found, marked_blocks, table_for}
+use Rattle.pack_format.specs.Formatted.{CanBeFormatted, Copy, Data, IsChanged, IsFormatted, IsPartly, IsTested, IsWritten, Replacement, found, marked_blocks, table_for}
 use Rattle.pack_format.specs.Stages.{Fills, Stops, WritesCopies, copied, if_done, is_copy, one, ranged}
 use Rattle.pack_format.proofs.StageLaws.{at, eq_same, false_true, fills_next, fills_none, one_within, part_within, same_marks, stops_done, stops_then}
 use Rattle.pack_format.proofs.SurveyLaws.{among, and_both}
@@ -88,7 +88,6 @@ copies_stopped kind unit k block table bytes old mid new lt is spelled first sto
     spelled (λ x e. subst (λ (y : List ℕ). Spells y table) (sym e) spelled) first stop
 
 -- ---- the parts of a pack
-
 
 data_below : (kind : DriveKind) (sector k : ℕ) → sector < limit_of kind → sector < copy_at kind k
 data_below Rp06 sector k lt = omega (arith, lt)
@@ -349,6 +348,7 @@ module _ (kind : DriveKind) (serial unit n : ℕ) (table : Table) (old one two n
                 absurd (a.can.spares m (record { used = omega (arith, le); marked = ap (λ (x : ℕ). is_marked (old unit) (replacement_at kind x)) (sym e) ∙ marked; first = λ x less. all_below m (omega (arith, le)) x less })))
                 (λ unmarked. unmarked)
           ]
+
       least : (j : ℕ) → j < found kind (old unit) → is_marked (old unit) (replacement_at kind j) ≡ false
       least j lt = all_below (found kind (old unit)) (omega arith) j lt
 
@@ -363,7 +363,7 @@ module _ (kind : DriveKind) (serial unit n : ℕ) (table : Table) (old one two n
       (λ marked.
       let w = among (old unit) (limit_of kind) block lt marked in
       let listed : slice_get (table_for kind serial (old unit)).places w.0 ≡ Some (place_at kind block) =
-          slice_get-map (place_at kind) (marked_blocks kind (old unit)) w.0 ∙ ap (λ (o : Option ℕ). option_map (place_at kind) o) w.1 in
+      slice_get-map (place_at kind) (marked_blocks kind (old unit)) w.0 ∙ ap (λ (o : Option ℕ). option_map (place_at kind) o) w.1 in
       let index = index_listed (table_for kind serial (old unit)) (place_at kind block) w.0 valid listed in
       let small : w.0 < n = omega (arith, slice_get_within (marked_blocks kind (old unit)) w.0 block w.1, a.count) in
       let spare = spare_unmarked w.0 small in

@@ -1,10 +1,10 @@
 -- Stages of formatting: one block written, one stage behind another, and where a stage stops.
-use Rattle.std.proofs.Common.{◌≡◌, ◌≢◌, ◌⊎◌, inl, inr, ℕ, zero, suc, ◌+◌, ◌<◌, ◌≤◌, ◌==◌, ◌&&◌, ◌||◌, not, Bool, true, false, IsTrue, if◌then◌else◌, List, length, replicate, Result, Ok, Err, IsErr, refl, sym, ap, ◌∙◌, subst, arith}
+use Rattle.std.proofs.Common.{◌≡◌, ◌≢◌, ◌⊎◌, inl, inr, ℕ, ◌+◌, ◌<◌, ◌≤◌, ◌==◌, ◌&&◌, ◌||◌, not, Bool, true, false, IsTrue, if◌then◌else◌, List, length, Result, Ok, Err, refl, sym, ap, ◌∙◌, subst, arith}
 use Rattle.std.specs.Prelude.{OnErr, OnOk, nat_le, nat_lt, slice_index}
 use Rattle.std.proofs.lemmas.Bool.Decides.{Decides-eqb, nat_tests}
 use Rattle.pack_model.specs.Pack.{Pack, block_at, is_marked, with_pack, with_written, written}
 use Rattle.pack_model.proofs.PackLaws.{block_at-with_block_same, block_at-with_block_other}
-use Rattle.pack_format.specs.Polls.{IsOldOrNew, Polls, Sides, answer_for, moved}
+use Rattle.pack_format.specs.Polls.{IsOldOrNew, Polls, Sides, answer_for}
 use Rattle.pack_format.specs.Stages.{Fills, Stops, if_done, one}
 use Rattle.pack_format.specs.declared.station.Polled.{Polled}
 use Rattle.pack_format.specs.declared.station.Polled.TheVariants.{Clean, Marked}
@@ -168,8 +168,7 @@ pub holds_written : (unit block : ℕ) (bytes : List ℕ) (old new : ℕ → Pac
     → (is_marked (old unit) block ≡ false) × (new ≡ with_written old unit block bytes)
     → (block_at (new unit).image block ≡ bytes) × (is_marked (new unit) block ≡ false)
 holds_written unit block bytes old new long (unmarked, is) =
-    let fills = fills_written unit block bytes old new long unmarked is in
-    (
+    let fills = fills_written unit block bytes old new long unmarked is in (
       fills.sectors block ∙ ap (λ (b : Bool). if_done b bytes (block_at (old unit).image block)) (one_here (old unit) block unmarked),
       same_marks (new unit) (old unit) block fills.marks ∙ unmarked,
     )

@@ -1,11 +1,11 @@
 -- What the first reading has found, block by block, and what it comes to.
-use Rattle.std.proofs.Common.{◌≡◌, ◌≢◌, ◌⊎◌, inl, inr, ℕ, zero, suc, ◌+◌, ◌<◌, ◌≤◌, ◌&&◌, not, Bool, true, false, IsTrue, List, [], ◌∷◌, ◌++◌, map, length, length-append, get_or, Option, None, Some, refl, sym, ap, ◌∙◌, subst, arith}
+use Rattle.std.proofs.Common.{◌≡◌, ◌⊎◌, inl, inr, ℕ, zero, suc, ◌+◌, ◌<◌, ◌≤◌, ◌&&◌, not, Bool, true, false, List, [], ◌∷◌, ◌++◌, map, length, length-append, get_or, Option, None, Some, refl, sym, ap, ◌∙◌, subst, arith}
 use Rattle.std.specs.Prelude.{insert, nat_lt, slice_get, if◌then◌else◌}
 use Rattle.std.proofs.lemmas.Bool.Decides.{nat_tests}
 use Rattle.std.proofs.lemmas.Bool.{cases_lt}
 use Rattle.std.proofs.lemmas.List.{append-nil, length-map, map-append}
 use Rattle.std.proofs.lemmas.List.Edits.{get_or-insert_above, get_or-insert_at, insert_end, length-insert}
-use Rattle.std.proofs.lemmas.Option.{get_or_from_slice_get, slice_get-get_or, slice_get-map, slice_get_within}
+use Rattle.std.proofs.lemmas.Option.{get_or_from_slice_get, slice_get-get_or, slice_get_within}
 use Rattle.pack_geometry.specs.declared.DriveKind.{DriveKind}
 use Rattle.pack_geometry.specs.declared.DriveKind.TheVariants.{Rp06, Rm03, Rm05}
 use Rattle.pack_geometry.specs.declared.Place.{Place}
@@ -19,7 +19,6 @@ use Rattle.bad144_table.specs.declared.table.InsertFault.TheVariants as refused
 use Rattle.pack_format.specs.Faults.{IsWhy}
 use Rattle.pack_format.specs.Formatted.{CanBeFormatted, IsSpare, IsTooMany, if_on, marked_below}
 use Rattle.pack_format.specs.Surveys.{IsFirst, IsJudged, IsSurvey, all_marked, used_of}
-use Rattle.pack_format.specs.declared.fault.FormatFault.{FormatFault}
 use Rattle.pack_format.specs.declared.fault.FormatFault.TheVariants.{TooMany, Spare, NoCopy}
 use Rattle.pack_format.proofs.StageLaws.{at, false_true}
 
@@ -89,11 +88,10 @@ among pack (suc n) block lt marked =
           (λ m. (before.0, ap (λ (xs : List ℕ). slice_get xs before.0) (marked_more pack n m) ∙ kept (marked_below pack n) n before.0 block before.1))
           (λ u. (before.0, ap (λ (xs : List ℕ). slice_get xs before.0) (unmarked_more pack n u) ∙ before.1))
       | inr same ↦
-          let equal : n ≡ block = omega (arith, lt, same) in
-          (
+          let equal : n ≡ block = omega (arith, lt, same) in (
             length (marked_below pack n),
             ap (λ (xs : List ℕ). slice_get xs (length (marked_below pack n))) (marked_more pack n (ap (is_marked pack) equal ∙ marked))
-            ∙ last (marked_below pack n) n ∙ ap Some equal,
+                ∙ last (marked_below pack n) n ∙ ap Some equal,
           )
     ])
   where
@@ -101,6 +99,7 @@ among pack (suc n) block lt marked =
     kept [] x i y e = absurd (omega (arith, slice_get_within [] i y e))
     kept (z ∷ xs) x zero y e = e
     kept (z ∷ xs) x (suc i) y e = kept xs x i y e
+
     last : (xs : List ℕ) (x : ℕ) → slice_get (xs ++ x ∷ []) (length xs) ≡ Some x
     last [] x = refl
     last (z ∷ xs) x = last xs x

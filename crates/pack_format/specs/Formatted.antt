@@ -1,5 +1,5 @@
 -- A FORMATTED PACK, why a pack is not formatted, and what a formatting that stops leaves of it.
-use Rattle.std.specs.Prelude.{◌≡◌, ◌⊎◌, ℕ, zero, suc, ◌*◌, ◌<◌, ◌≤◌, Bool, true, false, List, [], ◌∷◌, ◌++◌, length, map, replicate, Some}
+use Rattle.std.specs.Prelude.{◌≡◌, ◌⊎◌, ℕ, zero, suc, ◌*◌, ◌<◌, Bool, true, false, List, [], ◌∷◌, ◌++◌, length, map, replicate, Some}
 use Rattle.pack_geometry.specs.declared.DriveKind.{DriveKind}
 use Rattle.pack_geometry.specs.Geometry.{block_count, limit_of, place_at, replacement_at, copy_at}
 use Rattle.pack_model.specs.Pack.{Pack, block_at, is_marked}

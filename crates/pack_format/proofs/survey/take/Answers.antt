@@ -1,4 +1,4 @@
-use Rattle.std.proofs.Common.{◌≡◌, ◌≤◌, ◌<◌, true, false, arith, rules, sym, ◌∙◌}
+use Rattle.std.proofs.Common.{◌≡◌, true, false, arith, rules, sym, ◌∙◌}
 use Rattle.pack_format.proofs.SurveyLaws.{not_off, survey_over, survey_same}
 use Rattle.pack_format.proofs.survey.take.Goals as goal
 

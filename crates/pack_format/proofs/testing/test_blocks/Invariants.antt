@@ -1,4 +1,4 @@
-use Rattle.std.proofs.Common.{◌≡◌, ◌≤◌, IsTrue, replicate}
+use Rattle.std.proofs.Common.{◌≤◌, IsTrue, replicate}
 use Rattle.pack_format.specs.Stages.{Fills, ranged}
 use Rattle.pack_format.specs.Stations.{IsAtRest}
 use Rattle.pack_format.proofs.testing.test_blocks.Given as goal

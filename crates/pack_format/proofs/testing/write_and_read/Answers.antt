@@ -1,5 +1,4 @@
-use Rattle.std.proofs.Common.{◌≡◌, ℕ, true, IsTrue, List, refl, sym, subst, rules}
-use Rattle.pack_model.specs.Pack.{Pack}
+use Rattle.std.proofs.Common.{◌≡◌, ℕ, List, refl}
 use Rattle.pack_format.proofs.PollLaws.{on_err}
 use Rattle.pack_format.proofs.StageLaws.{on_err_any, on_ok_any, fills_then_same, holds_clean, stops_done, stops_write}
 use Rattle.pack_format.proofs.testing.write_and_read.Goals as goal

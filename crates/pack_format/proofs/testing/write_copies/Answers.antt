@@ -1,8 +1,4 @@
-use Rattle.std.proofs.Common.{◌≡◌, ◌+◌, ◌==◌, ◌||◌, ℕ, Bool, true, List, refl, sym, ap, subst, ◌∙◌, rules, arith}
-use Rattle.pack_geometry.specs.Geometry.{copy_at}
-use Rattle.pack_model.specs.Pack.{Pack}
-use Rattle.pack_model.specs.TableSpelling.{Spells}
-use Rattle.pack_format.specs.Stages.{copied, is_copy, one}
+use Rattle.std.proofs.Common.{rules, arith}
 use Rattle.pack_format.proofs.FormatLaws.{copies_more, copies_none, copies_stopped}
 use Rattle.pack_format.proofs.PollLaws.{on_err}
 use Rattle.pack_format.proofs.testing.write_copies.Goals as goal

@@ -1,4 +1,4 @@
-use Rattle.std.proofs.Common.{◌≡◌, ◌≤◌, IsTrue}
+use Rattle.std.proofs.Common.{◌≤◌, IsTrue}
 use Rattle.pack_format.specs.Stages.{Fills, copied}
 use Rattle.pack_format.specs.Stations.{IsAtRest}
 use Rattle.pack_format.proofs.testing.write_copies.Given as goal
