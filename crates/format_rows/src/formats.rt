@@ -151,7 +151,10 @@ fn two_bad_blocks(rt: HostRuntime) -> Result<(), Fail> {
     assert_eq!(rt; copies_of_table(&mut packs)?, 5);
     let script = b"unit 0 rm03\nread 1 0 c 5 1\n";
     let ran = run_line(rt.alloc(), "play", script, &mut packs)?;
-    assert_eq!(rt; ran.out.taken(), b"ans 1 at 3 ok\nblk 0 fill 00\n".as_slice());
+    assert_eq!(rt;
+        ran.out.taken(),
+        b"ans 1 at 3 ok\nblk 0 fill 00\n".as_slice()
+    );
     assert!(rt; holds(ran.trace.taken(), b"rcom 131647 1\n"));
     Ok(())
 }
@@ -202,7 +205,10 @@ fn each_call_fails(rt: HostRuntime) -> Result<(), Fail> {
         let ran = run_line(rt.alloc(), "format 0 rm03 9", b"", &mut packs)?;
         assert_eq!(rt; ran.status, 6, "{number}");
         assert_eq!(rt; ran.out.taken(), b"".as_slice(), "{number}");
-        assert!(rt; is_filled(&mut packs, 0, first)? && is_filled(&mut packs, 1, second)?, "{number}");
+        assert!(rt;
+            is_filled(&mut packs, 0, first)? && is_filled(&mut packs, 1, second)?,
+            "{number}"
+        );
     }
     Ok(())
 }
@@ -229,6 +235,9 @@ fn words_and_length(rt: HostRuntime) -> Result<(), Fail> {
     packs.write(0, 131_680, &[0x55; 512])?;
     let ran = run_line(rt.alloc(), "format 0 rm03 9", b"", &mut packs)?;
     assert_eq!(rt; ran.status, 7);
-    assert_eq!(rt; ran.out.taken(), b"too long unit 0 length 67420672\n".as_slice());
+    assert_eq!(rt;
+        ran.out.taken(),
+        b"too long unit 0 length 67420672\n".as_slice()
+    );
     Ok(())
 }

@@ -42,10 +42,16 @@ fn replacement_is_read(rt: HostRuntime) -> Result<(), Fail> {
     packs.write(0, 131_647, &[0x33; 512])?;
     let script = b"unit 0 rm03\nread 1 0 c 5 1\n";
     let ran = run_line(rt.alloc(), "play", script, &mut packs)?;
-    assert_eq!(rt; ran.out.taken(), b"ans 1 at 3 ok\nblk 0 fill 00\n".as_slice());
+    assert_eq!(rt;
+        ran.out.taken(),
+        b"ans 1 at 3 ok\nblk 0 fill 00\n".as_slice()
+    );
     let _ = run_line(rt.alloc(), "bad144 mark 0 rm03", b"", &mut packs)?;
     let ran = run_line(rt.alloc(), "play", script, &mut packs)?;
-    assert_eq!(rt; ran.out.taken(), b"ans 1 at 3 ok\nblk 0 fill 33\n".as_slice());
+    assert_eq!(rt;
+        ran.out.taken(),
+        b"ans 1 at 3 ok\nblk 0 fill 33\n".as_slice()
+    );
     Ok(())
 }
 
@@ -79,6 +85,9 @@ fn too_long(rt: HostRuntime) -> Result<(), Fail> {
     packs.write(0, 131_680, &[0x55; 512])?;
     let ran = run_line(rt.alloc(), "bad144 mark 0 rm03", b"", &mut packs)?;
     assert_eq!(rt; ran.status, 7);
-    assert_eq!(rt; ran.out.taken(), b"too long unit 0 length 67420672\n".as_slice());
+    assert_eq!(rt;
+        ran.out.taken(),
+        b"too long unit 0 length 67420672\n".as_slice()
+    );
     Ok(())
 }
