@@ -1,5 +1,5 @@
 -- What a run of `format` comes to, by what the formatter answers.
-use Rattle.std.proofs.Common.{◌≡◌, ◌≢◌, ◌⊎◌, inl, inr, ℕ, Bool, IsTrue, List, ◌++◌, refl, sym, subst, arith}
+use Rattle.std.proofs.Common.{◌≡◌, ◌≢◌, ◌⊎◌, inl, inr, ℕ, Bool, IsTrue, List, ◌++◌, append-nil, refl, sym, subst, arith}
 use Rattle.pack_geometry.specs.declared.DriveKind.{DriveKind}
 use Rattle.pack_model.specs.Pack.{Pack}
 use Rattle.outside_traits.specs.Causes.{Rose}
@@ -24,6 +24,11 @@ only_memory (fault.Differs b a w r) e = absurd cc
 only_memory (fault.TooLong n) e = absurd cc
 only_memory fault.Store e = absurd cc
 only_memory fault.Memory e = refl
+
+-- where there was no memory nothing is printed
+pub told_nothing : (taken : List ℕ) (unit faults : ℕ) (f : FormatFault) → f ≡ fault.Memory → Told taken taken (format_text unit f) faults faults
+unfolding format_text
+told_nothing taken unit faults f e = subst (λ (h : FormatFault). Told taken taken (format_text unit h) faults faults) (sym e) (inl (sym (append-nil taken)))
 
 module _ {kind : DriveKind} {unit serial : ℕ} {tells : Bool} {old new : ℕ → Pack} {out_tells : Bool} {taken after : List ℕ} {faults faults_after : ℕ}
     (elsewhere : (other : ℕ) → other ≢ unit → IsTrue tells → new other ≡ old other) where
