@@ -5,6 +5,9 @@ use outside_traits::traits::Packs;
 use std::alloc::Global;
 use std::test::Fail;
 
+/// The command, for the RM03 of unit 0.
+const FORMAT: &str = "format 0 rm03 9";
+
 /// An RM03 on which so many blocks from 0 on and these others are marked: the status, the text, and the byte that fills block 1
 /// afterwards.
 struct Row {
@@ -107,15 +110,26 @@ fn is_filled(packs: &mut MemPacks, block: u32, fill: u8) -> Result<bool, Fail> {
     Ok(bytes == [fill; 512])
 }
 
+/// Whether a row holds.
+fn holds_row(alloc: Global, row: &Row) -> Result<bool, Fail> {
+    let mut packs = packs_of(alloc, 131_680, row.first, row.others, &[])?;
+    let ran = run_line(alloc, FORMAT, b"", &mut packs)?;
+    Ok(ran.is(row.status, row.text) && is_filled(&mut packs, 1, row.fill)?)
+}
+
+/// The first row that does not hold; "" where each does.
+fn other_row(alloc: Global) -> Result<&'static str, Fail> {
+    for row in &ROWS {
+        if !holds_row(alloc, row)? {
+            return Ok(row.name);
+        }
+    }
+    Ok("")
+}
+
 #[test]
 fn refused_and_formatted(rt: HostRuntime) -> Result<(), Fail> {
-    for row in ROWS {
-        let mut packs = packs_of(rt.alloc(), 131_680, row.first, row.others, &[])?;
-        let ran = run_line(rt.alloc(), "format 0 rm03 9", b"", &mut packs)?;
-        assert_eq!(rt; ran.status, row.status, "{}", row.name);
-        assert_eq!(rt; ran.out.taken(), row.text, "{}", row.name);
-        assert!(rt; is_filled(&mut packs, 1, row.fill)?, "{}", row.name);
-    }
+    assert_eq!(rt; other_row(rt.alloc())?, "");
     Ok(())
 }
 
@@ -139,37 +153,53 @@ fn copies_of_table(packs: &mut MemPacks) -> Result<u32, Fail> {
 
 /// Whether a text stands in another.
 fn holds(text: &[u8], part: &[u8]) -> bool {
-    text.windows(part.len()).any(|window| window == part)
+    for i in 0..text.len() {
+        if text.get(i..).unwrap_or(b"").starts_with(part) {
+            return true;
+        }
+    }
+    false
+}
+
+/// What is otherwise where blocks 5 and 160 are marked; "" where nothing is.
+fn with_bad_blocks(alloc: Global) -> Result<&'static str, Fail> {
+    let mut packs = packs_of(alloc, 131_680, 0, &[5, 160], &[])?;
+    if !run_line(alloc, FORMAT, b"", &mut packs)?.is(0, b"formatted bad 2\n") {
+        return Ok("the answer");
+    }
+    if copies_of_table(&mut packs)? != 5 {
+        return Ok("the copies");
+    }
+    let ran = run_line(alloc, "play", b"unit 0 rm03\nread 1 0 c 5 1\n", &mut packs)?;
+    if !ran.is(0, b"ans 1 at 3 ok\nblk 0 fill 00\n") {
+        return Ok("what is read");
+    }
+    if !holds(ran.trace.taken(), b"rcom 131647 1\n") {
+        return Ok("the trace");
+    }
+    Ok("")
 }
 
 #[test]
 fn two_bad_blocks(rt: HostRuntime) -> Result<(), Fail> {
-    let mut packs = packs_of(rt.alloc(), 131_680, 0, &[5, 160], &[])?;
-    let ran = run_line(rt.alloc(), "format 0 rm03 9", b"", &mut packs)?;
-    assert_eq!(rt; ran.out.taken(), b"formatted bad 2\n".as_slice());
-    assert_eq!(rt; ran.status, 0);
-    assert_eq!(rt; copies_of_table(&mut packs)?, 5);
-    let script = b"unit 0 rm03\nread 1 0 c 5 1\n";
-    let ran = run_line(rt.alloc(), "play", script, &mut packs)?;
-    assert_eq!(rt;
-        ran.out.taken(),
-        b"ans 1 at 3 ok\nblk 0 fill 00\n".as_slice()
-    );
-    assert!(rt; holds(ran.trace.taken(), b"rcom 131647 1\n"));
+    assert_eq!(rt; with_bad_blocks(rt.alloc())?, "");
     Ok(())
+}
+
+/// Whether a run that one call stops ends with 6 and prints nothing, and blocks 0 and 1 are then filled so.
+fn stops(alloc: Global, blocks: u32, fail: FailCall, first: u8, second: u8) -> Result<bool, Fail> {
+    let mut packs = packs_of(alloc, blocks, 0, &[], &[fail])?;
+    let ran = run_line(alloc, FORMAT, b"", &mut packs)?;
+    Ok(ran.is(6, b"") && is_filled(&mut packs, 0, first)? && is_filled(&mut packs, 1, second)?)
 }
 
 #[test]
 fn second_write_fails(rt: HostRuntime) -> Result<(), Fail> {
-    let fail = [FailCall {
+    let fail = FailCall {
         op: PackOp::Write,
         number: 2,
-    }];
-    let mut packs = packs_of(rt.alloc(), 131_680, 0, &[], &fail)?;
-    let ran = run_line(rt.alloc(), "format 0 rm03 9", b"", &mut packs)?;
-    assert_eq!(rt; ran.status, 6);
-    assert_eq!(rt; ran.out.taken(), b"".as_slice());
-    assert!(rt; is_filled(&mut packs, 0, 0xa5)?);
+    };
+    assert!(rt; stops(rt.alloc(), 131_680, fail, 0xa5, 0x77)?);
     Ok(())
 }
 
@@ -197,47 +227,64 @@ const FAILING: [(PackOp, u64, u8, u8); 17] = [
     (PackOp::Write, 5, 0x00, 0x00),
 ];
 
-/// Each call fails in turn, on an RM03 on which only two blocks can be written.
+/// The first of these calls that does not stop the run so, on an RM03 on which only two blocks can be written, or how many they are.
+fn other_stop(alloc: Global) -> Result<usize, Fail> {
+    for (i, (op, number, first, second)) in FAILING.iter().enumerate() {
+        let fail = FailCall {
+            op: *op,
+            number: *number,
+        };
+        if !stops(alloc, 2, fail, *first, *second)? {
+            return Ok(i);
+        }
+    }
+    Ok(FAILING.len())
+}
+
 #[test]
 fn each_call_fails(rt: HostRuntime) -> Result<(), Fail> {
-    for (op, number, first, second) in FAILING {
-        let mut packs = packs_of(rt.alloc(), 2, 0, &[], &[FailCall { op, number }])?;
-        let ran = run_line(rt.alloc(), "format 0 rm03 9", b"", &mut packs)?;
-        assert_eq!(rt; ran.status, 6, "{number}");
-        assert_eq!(rt; ran.out.taken(), b"".as_slice(), "{number}");
-        assert!(rt;
-            is_filled(&mut packs, 0, first)? && is_filled(&mut packs, 1, second)?,
-            "{number}"
-        );
-    }
+    assert_eq!(rt; other_stop(rt.alloc())?, FAILING.len());
     Ok(())
 }
 
 const USAGE: &[u8] = b"usage: hpsim play or bad144 list/add/fresh or exercise N\n";
 
-/// Words that are no shape of `format`, and an image that is longer than its pack.
-#[test]
-fn words_and_length(rt: HostRuntime) -> Result<(), Fail> {
-    for line in [
-        "format",
-        "format 0 rm03",
-        "format 32 rm03 9",
-        "format 0 rm02 9",
-        "format 0 rm03 4294967296",
-        "format 0 rm03 9 9",
-    ] {
-        let mut packs = packs_of(rt.alloc(), 2, 0, &[], &[])?;
-        let ran = run_line(rt.alloc(), line, b"", &mut packs)?;
-        assert_eq!(rt; ran.status, 2, "{line}");
-        assert_eq!(rt; ran.out.taken(), USAGE, "{line}");
+/// Words that are no shape of `format`.
+const NO_SHAPES: [&str; 6] = [
+    "format",
+    "format 0 rm03",
+    "format 32 rm03 9",
+    "format 0 rm02 9",
+    "format 0 rm03 4294967296",
+    "format 0 rm03 9 9",
+];
+
+/// The first of these that is not answered by the usage; "" where each is.
+fn other_words(alloc: Global) -> Result<&'static str, Fail> {
+    for line in NO_SHAPES {
+        let mut packs = packs_of(alloc, 2, 0, &[], &[])?;
+        if !run_line(alloc, line, b"", &mut packs)?.is(2, USAGE) {
+            return Ok(line);
+        }
     }
-    let mut packs = packs_of(rt.alloc(), 131_681, 0, &[], &[])?;
+    Ok("")
+}
+
+#[test]
+fn words_that_are_no_format(rt: HostRuntime) -> Result<(), Fail> {
+    assert_eq!(rt; other_words(rt.alloc())?, "");
+    Ok(())
+}
+
+/// Whether an image that is longer than its pack is refused.
+fn refuses_long(alloc: Global) -> Result<bool, Fail> {
+    let mut packs = packs_of(alloc, 131_681, 0, &[], &[])?;
     packs.write(0, 131_680, &[0x55; 512])?;
-    let ran = run_line(rt.alloc(), "format 0 rm03 9", b"", &mut packs)?;
-    assert_eq!(rt; ran.status, 7);
-    assert_eq!(rt;
-        ran.out.taken(),
-        b"too long unit 0 length 67420672\n".as_slice()
-    );
+    Ok(run_line(alloc, FORMAT, b"", &mut packs)?.is(7, b"too long unit 0 length 67420672\n"))
+}
+
+#[test]
+fn too_long(rt: HostRuntime) -> Result<(), Fail> {
+    assert!(rt; refuses_long(rt.alloc())?);
     Ok(())
 }

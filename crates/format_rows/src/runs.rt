@@ -14,6 +14,13 @@ pub(crate) struct Ran {
     pub(crate) trace: MemSink,
 }
 
+impl Ran {
+    /// Whether it ended with this status and printed just this.
+    pub(crate) fn is(&self, status: u8, text: &[u8]) -> bool {
+        self.status == status && self.out.taken() == text
+    }
+}
+
 /// Marks for these blocks, and for so many from block 0 on.
 fn marks_of(alloc: Global, first: u32, others: &[u32]) -> Result<Vec<u8>, Fail> {
     let mut marks = Vec::new(alloc);
