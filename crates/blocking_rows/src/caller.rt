@@ -1,7 +1,9 @@
 // Blocks of an RM03 are written and read back.
-ghost use Rattle.std.specs.Prelude.{◌≡◌, ◌≤◌, IfSome, OnOk};
+ghost use Rattle.std.specs.Prelude.{◌≡◌, ◌≤◌, IsTrue, IfSome, OnOk};
 ghost use Rattle.pack_model.specs.TableSpelling.{IsTable};
 ghost use Rattle.driver_machine.specs.Guards.{IsSetUp};
+ghost use Rattle.waited_requests.specs.Rest.{HasTables};
+ghost use Rattle.quiet_driver.specs.Quiet.{setup_of};
 ghost use Rattle.blocking_io.specs.Asking.{IsReady};
 
 use bad144_table::{BadTable, entries};
@@ -33,6 +35,7 @@ pub fn attached<P: Packs>(alloc: Global, packs: &mut P) -> Option<Subsystem>
     ensures ready { IfSome result (λ s. IsReady s) }
     ensures room { IfSome result (λ s. s.outstanding ≡ 1) }
     ensures unit { IfSome result (λ s. IsSetUp s.world 0) }
+    ensures tables { IfSome result (λ s. IsTrue (P.tells packs.new) → HasTables (setup_of s.world (P.held packs.new))) }
 {
     rests_law();
     let mut drive = Drive::new(DriveKind::Rm03, 0);
