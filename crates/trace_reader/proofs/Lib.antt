@@ -7,3 +7,4 @@ pub mod ReadingLaws
 pub mod RoundLaws
 pub mod FeedLaws
 pub mod GrammarLaws
+pub mod SoFarLaws

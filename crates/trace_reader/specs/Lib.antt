@@ -4,3 +4,4 @@ pub mod Knowing
 pub mod Lines
 pub mod Reading
 pub mod RoundTrip
+pub mod SoFar

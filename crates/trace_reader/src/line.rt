@@ -31,3 +31,10 @@ impl TraceLine {
         }
     }
 }
+
+/// A line of a trace, with its text, without LF.
+#[derive(Clone, Copy)]
+pub struct ReadLine<'a> {
+    pub line: TraceLine,
+    pub text: &'a [u8],
+}

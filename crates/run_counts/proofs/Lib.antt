@@ -1,0 +1,4 @@
+pub mod Counting
+pub mod Doing
+pub mod Following
+pub mod Turns

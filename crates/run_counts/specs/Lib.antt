@@ -1,0 +1,4 @@
+pub mod Counted
+pub mod Doings
+pub mod Ends
+pub mod Travels

@@ -1,0 +1,3 @@
+pub mod SeeLaws
+pub mod TextLaws
+pub mod UnitLaws

@@ -1,0 +1,3 @@
+pub mod Saids
+pub mod Plays
+pub mod Runs

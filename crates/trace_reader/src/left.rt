@@ -1,0 +1,157 @@
+// A trace that is read a line at a time.
+ghost use Rattle.std.specs.Prelude.{◌≡◌, ◌<◌, ◌≤◌, ◌==◌, ◌∷◌, ◌+◌, length, [], position, IfOk, IfErr, List};
+ghost use Rattle.script_reader.specs.Lines.{pieces_of};
+ghost use Rattle.trace_reader.specs.declared.line.TraceLine.{TraceLine};
+ghost use Rattle.trace_reader.specs.Grammar.{Refuses};
+ghost use Rattle.trace_reader.specs.Knowing.{Knows};
+ghost use Rattle.trace_reader.specs.Reading.{judged, standing};
+ghost use Rattle.trace_reader.specs.SoFar.{HasRead, Reads};
+
+use crate::asked::Asked;
+use crate::fault::{TraceFault, TraceKind};
+use crate::forms::line_of;
+use crate::line::{ReadLine, TraceLine};
+use script_reader::script::Script;
+use std::alloc::Global;
+use std::marker::Model;
+
+/// The longest trace, in bytes: 256 MiB.
+const LONGEST: usize = 268_435_456;
+
+/// Where LF stands first.
+fn first_feed(bytes: &[u8]) -> Option<usize>
+    ensures { result ≡ position (λ b. b == 10) bytes.now }
+{
+    bytes.iter().position(|byte| *byte == b'\n')
+}
+
+/// The first line of a text that is not empty, without LF, and what comes behind it.
+pub fn first_line(bytes: &[u8]) -> (&[u8], &[u8])
+    requires { 0 < length bytes.now }
+    ensures line { pieces_of bytes.now ≡ result.0.now ∷ pieces_of result.1.now }
+    ensures shorter { length result.1.now < length bytes.now }
+{
+    match first_feed(bytes) {
+        Some(at) => (&bytes[..at], &bytes[at + 1..]),
+        None => (bytes, &[]),
+    }
+}
+
+/// A line that was read, behind one of number `before`.
+fn standing(
+    script: &Script,
+    asked: &Asked,
+    before: u32,
+    line: TraceLine,
+) -> Result<TraceLine, TraceKind>
+    requires { Knows asked.now script.now.lines }
+    ensures { result ≡ standing script.now before line }
+{
+    if line.line() < before {
+        return Err(TraceKind::Order);
+    }
+    if asked.is_of_script(script, &line) {
+        Ok(line)
+    } else {
+        Err(TraceKind::Script)
+    }
+}
+
+/// What a text says, behind a line of number `before`.
+#[tactic(auto, unfolding(crate::specs::Reading::judged))]
+fn judged(script: &Script, asked: &Asked, before: u32, text: &[u8]) -> Result<TraceLine, TraceKind>
+    requires { Knows asked.now script.now.lines }
+    ensures { result ≡ judged script.now before text.now }
+{
+    match line_of(text) {
+        Ok(line) => standing(script, asked, before, line),
+        Err(_) => Err(TraceKind::Word),
+    }
+}
+
+/// The lines of a trace, one after another, beside the script of its run. It holds the requests of the script, and of the trace
+/// its place.
+#[derive(Drop)]
+pub struct TraceLines<'a> {
+    script: &'a Script,
+    asked: Asked,
+    bytes: &'a [u8],
+    rest: &'a [u8],
+    before: u32,
+    number: u64,
+}
+
+impl<'a> Model for TraceLines<'a> {
+    ghost use Rattle.std.specs.Prelude.{◌≤◌, ◌+◌, length};
+    ghost use Rattle.script_reader.specs.Lines.{pieces_of};
+    ghost use Rattle.trace_reader.specs.Knowing.{Knows};
+    ghost use Rattle.trace_reader.specs.SoFar.{Left};
+
+    ghost Value = { Left };
+
+    ghost view = { λ l. record {
+      script = l.script.now;
+      bytes = l.bytes.now;
+      texts = pieces_of l.rest.now;
+      before = l.before;
+      number = l.number;
+    } };
+
+    ghost invariant = { λ l. Knows l.asked l.script.now.lines × (length l.bytes.now ≤ 268435456) × (l.number + length l.rest.now ≤ length l.bytes.now + 1) };
+}
+
+impl<'a> TraceLines<'a> {
+    /// The lines of a trace's bytes, beside the script of its run. Refused at line 0 as Long exactly where there are more than
+    /// 2^28 bytes; Memory tells only that there was none.
+    pub fn new(
+        alloc: Global,
+        bytes: &'a [u8],
+        script: &'a Script,
+    ) -> Result<TraceLines<'a>, TraceFault>
+        ensures script { IfOk result (λ left. left.script ≡ script.now) }
+        ensures bytes { IfOk result (λ left. left.bytes ≡ bytes.now) }
+        ensures read { IfOk result (λ left. HasRead left []) }
+        ensures err { IfErr result (λ fault. Refuses script.now bytes.now fault) }
+    {
+        if bytes.len() > LONGEST {
+            return Err(TraceFault::Refused {
+                line: 0,
+                kind: TraceKind::Long,
+            });
+        }
+        let asked = Asked::new(alloc, script)?;
+        Ok(TraceLines {
+            script,
+            asked,
+            bytes,
+            rest: bytes,
+            before: 0,
+            number: 1,
+        })
+    }
+
+    /// The next line, with its text; None where none is left, and then the lines so far are all that the bytes spell. It is
+    /// refused exactly where the bytes spell no trace of the script and the lines so far are those before the first fault,
+    /// with that fault. Takes time in proportion to the line.
+    pub fn next(&mut self) -> Result<Option<ReadLine<'a>>, TraceFault>
+        ensures ok { IfOk result (λ found. Reads self.old self.new found) }
+        ensures err { IfErr result (λ fault. (lines : List TraceLine) → HasRead self.old lines → Refuses self.old.script self.old.bytes fault) }
+    {
+        if self.rest.is_empty() {
+            return Ok(None);
+        }
+        let (text, after) = first_line(self.rest);
+        match judged(self.script, &self.asked, self.before, text) {
+            Ok(line) => {
+                self.rest = after;
+                self.before = line.line();
+                self.number += 1;
+                Ok(Some(ReadLine { line, text }))
+            }
+            Err(kind) => Err(TraceFault::Refused {
+                line: self.number,
+                kind,
+            }),
+        }
+    }
+}
