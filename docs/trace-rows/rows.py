@@ -5,18 +5,20 @@
                                    and writes its answers and its trace into them; each answer is one line, with its bytes
                                    as runs `N*HH+..`, or `N*seqF` for N bytes of a sequence from F
     rows.py write [NAME..]         writes the crate `trace_rows` anew: each row as a script and as moments, the lines out of
-                                   place of `refused.txt`, and their proofs
+                                   place of `refused.txt`, and their proofs; and the texts of the tests of `hpsim_rows`, which
+                                   play the rows whole (but for examples, which `example_rows` plays)
 
-A row has a first line that says what it shows, and then sections. `[packs]` has lines `U table SERIAL BLOCK..`,
-`U mark BLOCK..` and `U block BLOCK HH`: all else on a pack is zeros. A row with a `[start]` begins where so
-many frames are taken; no program plays it. To try a trace of your own, write a row with `[script]`,
-`[packs]`, `[answers]` and `[trace]`, and check the crate: it proves that the trace is legal, or the check fails at the moment
-that no rule lets come.
+A row has a first line that says what it shows, and then sections. `[packs]` has lines `U table SERIAL BLOCK..`, `U mark BLOCK..`
+and `U block BLOCK HH`: all else on a pack is zeros. A row with an `[example]` has script, answers and trace of that script of
+`examples/`. One with a `[start]` begins where so many frames are taken; no program plays it. To try a trace of your own, write a
+row with `[script]`, `[packs]`, `[answers]` and `[trace]`, and check the crate: it proves that the trace is legal, or the check
+fails at the moment that no rule lets come.
 """
-import os, re, subprocess, sys, tempfile
+import itertools, os, re, subprocess, sys, tempfile
 
 HERE = os.path.dirname(os.path.abspath(__file__))
 CRATE = os.path.join(HERE, '..', '..', 'crates', 'trace_rows')
+EXAMPLES = os.path.join(HERE, '..', '..', 'examples')
 KINDS = {'rp06': (815, 19, 22, 'Rp06'), 'rm03': (823, 5, 32, 'Rm03'), 'rm05': (823, 19, 32, 'Rm05')}
 CODE = {'+400': 'Plus400', '-400': 'Minus400', '+800': 'Plus800', '-800': 'Minus800', '+1200': 'Plus1200', '-1200': 'Minus1200'}
 FAULT = {k: f'kind.{k.capitalize()}' for k in ('seek', 'opi', 'dte', 'hcrc', 'late')}
@@ -25,7 +27,7 @@ CAUSE = {k: k.capitalize() for k in ('offline', 'locked', 'unforwarded', 'fault'
 
 # ---- rows as files
 def read_row(name):
-    row = {'name': name, 'what': '', 'start': [], 'script': [], 'packs': [], 'answers': [], 'trace': []}
+    row = {'name': name, 'what': '', 'example': [], 'start': [], 'script': [], 'packs': [], 'answers': [], 'trace': []}
     part = None
     for line in open(f'{HERE}/rows/{name}.row').read().split('\n')[:-1]:
         if part is None and line.startswith('# '):
@@ -34,7 +36,25 @@ def read_row(name):
             part = line[1:-1]
         else:
             row[part].append(line)
+    if row['example']:
+        read_example(row, f"{EXAMPLES}/{row['example'][0]}")
     return row
+
+
+def read_example(row, path):
+    """the script, answers and trace of an example, without the comment at its head: each line's number is lower by that"""
+    lines = lambda suffix: open(path + suffix).read().split('\n')[:-1]
+    above = sum(1 for _ in itertools.takewhile(lambda line: line.startswith('#'), lines('.hps')))
+    row['script'] = lines('.hps')[above:]
+    row['trace'] = [lowered(line, 1, above) for line in lines('.trace')]
+    row['answers'] = [lowered(line, 1 if line.startswith('noise ') else 3, above) for line in answers_of(row, lines('.out'))]
+
+
+def lowered(line, place, above):
+    """the line with the number at this place lowered"""
+    words = line.split(' ')
+    words[place] = str(int(words[place]) - above)
+    return ' '.join(words)
 
 
 def write_row(row):
@@ -127,10 +147,28 @@ def requests_of(row):
     return out
 
 
+def answers_of(row, lines):
+    """what is printed, each answer as one line with its bytes as runs"""
+    answers, sizes, data = [], requests_of(row), b''
+    for line in lines:
+        f = line.split()
+        if f[0] == 'noise':
+            answers.append(line)
+        elif f[0] == 'ans':
+            answers.append(line)
+            data = b''
+        elif f[0] == 'blk':
+            count, last, _ = sizes[int(answers[-1].split()[1])]
+            want = last if int(f[1]) == count - 1 else 512
+            data += bytes([int(f[3], 16)]) * want if f[2] == 'fill' else bytes.fromhex(f[3])
+            answers[-1] = ' '.join(answers[-1].split()[:5]) + ' ' + runs_text(data)
+    return answers
+
+
 def run(program, names):
     for name in names:
         row = read_row(name)
-        if row['start']:
+        if row['start'] or row['example']:
             continue
         with tempfile.TemporaryDirectory() as folder:
             for unit, (blocks, marks, _) in packs_of(row).items():
@@ -150,18 +188,7 @@ def run(program, names):
                 sys.exit(f'{name}: status {done.returncode}: {done.stdout!r}')
             path = f'{folder}/hp.trace'
             row['trace'] = open(path).read().split('\n')[:-1] if os.path.exists(path) else []
-        row['answers'] = []
-        sizes = requests_of(row)
-        for line in done.stdout.decode().split('\n')[:-1]:
-            f = line.split()
-            if f[0] == 'ans':
-                row['answers'].append(line)
-                data = b''
-            elif f[0] == 'blk':
-                count, last, _ = sizes[int(row['answers'][-1].split()[1])]
-                want = last if int(f[1]) == count - 1 else 512
-                data += bytes([int(f[3], 16)]) * want if f[2] == 'fill' else bytes.fromhex(f[3])
-                row['answers'][-1] = ' '.join(row['answers'][-1].split()[:5]) + ' ' + runs_text(data)
+        row['answers'] = answers_of(row, done.stdout.decode().split('\n')[:-1])
         write_row(row)
 
 
@@ -243,7 +270,7 @@ def deed_term(f, answer):
 
 
 def told_term(line, answer=None):
-    """a line of a trace as a moment; an end line has its answer behind a colon, or is given it"""
+    """a line of a trace as a moment; an end line has its answer after a colon, or is given it"""
     text, _, words = line.partition(' : ')
     f = text.split()
     if f[0] == 'idle':
@@ -255,7 +282,7 @@ def told_term(line, answer=None):
 def moments_of(row):
     """the moments, and beside each its text"""
     sizes = requests_of(row)
-    answers = list(row['answers'])
+    answers = [line for line in row['answers'] if not line.startswith('noise ')]
     told = {}
     for line in row['trace']:
         number = int(line.split()[1])
@@ -381,7 +408,7 @@ def work_marks(row):
             continue
         begins = draining and not moments[i - 1].startswith('Played') and re.search(r' (Arrive|Intr|Attn|\(Sector .*)$', m) is not None
         if begins and m.endswith(' Attn'):
-            # an attention behind another line of one attend does not begin an event
+            # an attention after another line of one attend does not begin an event
             begins = began_apart(moments, i)
         out.append('refl' if begins else 'tt')
     return out
@@ -610,6 +637,8 @@ use Rattle.trace_replay.proofs.Following.{follow_on}
 """
 LIB_HEAD = """//! Rows of traces: scripts over packs with the traces that belong to them, each proved legal by computation, and lines out of
 //! place, each refused by its rule. The rows stand as text in `docs/trace-rows`, and `rows.py` there writes this crate anew.
+//!
+//! What is proved: 39 worked traces are legal, and each of 96 lines out of place is refused by its rule, by computation.
 #![tactic(auto)]
 
 """
@@ -650,6 +679,67 @@ unfolding repair.burst_byte
 returns-clause-repaired_beyond_the_end c = search arith
 """
 
+# ---- write: the texts of the tests
+PLAYED = os.path.join(HERE, '..', '..', 'crates', 'hpsim_rows', 'src', 'texts.rt')
+# A longer text is a test of its own.
+LONGEST = 8000
+# What the tests write to the replacements of unit 0.
+REPLACEMENTS = {340647: b'\x5a' * 512, 340646: b'\x6b' * 512}
+PLAYED_HEAD = """// The rows of `docs/trace-rows`, as `rows.py` there writes them.
+
+/// A script over unit 0 with a table of these entries and these blocks marked, what is printed, and the trace.
+pub(crate) struct Text {
+    pub(crate) name: &'static str,
+    pub(crate) entries: &'static [u8],
+    pub(crate) marks: &'static [u32],
+    pub(crate) script: &'static [u8],
+    pub(crate) out: &'static [u8],
+    pub(crate) trace: &'static [u8],
+}
+
+"""
+
+
+def literal(lines):
+    """lines as a Rust literal of bytes; none has a quote, a backslash or a byte that is not printed"""
+    assert all(' ' <= c <= '~' and c not in '"\\' for line in lines for c in line)
+    return 'b"' + ''.join(line + '\\n' for line in lines) + '"'
+
+
+def printed(row):
+    """the lines that are printed for the answers"""
+    out, sizes = [], requests_of(row)
+    for line in row['answers']:
+        f = line.split()
+        if f[0] == 'noise' or f[4] != 'ok' or len(f) < 6:
+            out.append(line)
+            continue
+        out.append(' '.join(f[:5]))
+        count, last, _ = sizes[int(f[1])]
+        data = bytes_of(f[5])
+        for k in range(count):
+            block = data[512 * k:512 * k + (last if k == count - 1 else 512)]
+            out.append(f'blk {k} fill {block[0]:02x}' if len(set(block)) == 1 else f'blk {k} hex {block.hex()}')
+    return out
+
+
+def text_of(row):
+    """a row as the tests have it"""
+    blocks, marks, table = packs_of(row).get(0, ({}, [], None))
+    assert all(blocks[int(f[2])] == REPLACEMENTS.get(int(f[2])) for f in map(str.split, row['packs']) if f[1] == 'block'), row['name']
+    entries = [f'0x{b:02X}' for c, t, s in table or [] for b in (c % 256, c // 256, s, t)]
+    fields = [('name', f'"{row["name"]}"'), ('entries', f"&[{', '.join(entries)}]"), ('marks', f"&[{', '.join(map(str, marks))}]"),
+              ('script', literal(row['script'])), ('out', literal(printed(row))), ('trace', literal(row['trace']))]
+    return '    Text {\n' + ''.join(f'        {name}: {value},\n' for name, value in fields) + '    },\n'
+
+
+def write_played(rows):
+    played = [r for r in rows if not r['start'] and not r['example'] and len(''.join(printed(r))) < LONGEST]
+    with open(PLAYED, 'w') as f:
+        f.write(PLAYED_HEAD + f'/// Each row.\npub(crate) const TEXTS: [Text; {len(played)}] = [\n' + ''.join(map(text_of, played)) + '];\n')
+    print(f'{len(played)} rows as tests')
+
+
 if __name__ == '__main__':
     args = sys.argv[1:]
     every = sorted(f[:-4] for f in os.listdir(f'{HERE}/rows'))
@@ -657,5 +747,6 @@ if __name__ == '__main__':
         run(args[1], args[2:] or every)
     elif args[:1] == ['write']:
         write(args[1:] or every)
+        write_played([read_row(name) for name in every])
     else:
         sys.exit(__doc__)

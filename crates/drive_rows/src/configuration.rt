@@ -94,6 +94,31 @@ const PACKS: [([bool; 5], [Option<u32>; 5], Option<u32>); 5] = [
     ([true; 5], [Some(1); 5], None),
 ];
 
+// Whether a drive is attached with the table of this serial number, or with none; its volume is valid then.
+fn is_attached(packs: &mut Copies, kind: DriveKind, wanted: Option<u32>) -> bool {
+    let mut drive = Drive::new(kind, 3);
+    let Ok(found) = attach(&mut drive, packs, 3) else {
+        return false;
+    };
+    let number = match &found.table {
+        Some(table) => Some(serial(table)),
+        None => None,
+    };
+    found.kind == kind
+        && number == wanted
+        && drive.read_register(Register::Of) == 0o010000
+        && drive.read_register(Register::Ds) & 0o100 != 0
+}
+
+// Whether an image is told to be too long, and none of its blocks is asked for.
+fn is_too_long(packs: &mut Copies, kind: DriveKind, length: u64) -> bool {
+    let mut drive = Drive::new(kind, 3);
+    let Err(fault) = attach(&mut drive, packs, 3) else {
+        return false;
+    };
+    fault == AttachFault::TooLong { length } && packs.asked == 0
+}
+
 #[test]
 fn attached_with_the_first_copy_that_is_good(rt: HostRuntime) {
     for (kind, length) in [
@@ -109,27 +134,10 @@ fn attached_with_the_first_copy_that_is_good(rt: HostRuntime) {
                 serials,
                 asked: 0,
             };
-            let mut drive = Drive::new(kind, 3);
-            let Ok(found) = attach(&mut drive, &mut packs, 3) else {
-                panic!(rt; "{wanted:?} is not attached")
-            };
-            assert!(rt; found.kind == kind);
-            let number = match &found.table {
-                Some(table) => Some(serial(table)),
-                None => None,
-            };
-            assert_eq!(rt; number, wanted);
-            assert!(rt; drive.read_register(Register::Of) == 0o010000);
-            assert!(rt; drive.read_register(Register::Ds) & 0o100 != 0);
-
+            assert!(rt; is_attached(&mut packs, kind, wanted), "{wanted:?}");
             packs.length = length + 1;
             packs.asked = 0;
-            let mut drive = Drive::new(kind, 3);
-            let Err(fault) = attach(&mut drive, &mut packs, 3) else {
-                panic!(rt; "an image that is too long is attached")
-            };
-            assert!(rt; fault == AttachFault::TooLong { length: length + 1 });
-            assert_eq!(rt; packs.asked, 0);
+            assert!(rt; is_too_long(&mut packs, kind, length + 1));
         }
     }
 }

@@ -247,7 +247,18 @@ const FUNCTIONS: [Done; 8] = [
     ),
 ];
 
-fn do_function(rt: &impl Abort, kind: DriveKind, row: Done) {
+// Whether three registers of a drive hold these words.
+fn shows(drive: &Drive, registers: [Register; 3], words: [u16; 3]) -> bool {
+    for i in 0..3usize {
+        if drive.read_register(registers[i]) != words[i] {
+            return false;
+        }
+    }
+    true
+}
+
+// Whether a function leaves a drive so.
+fn does_function(kind: DriveKind, row: Done) -> bool {
     let (function, dc, locked, left, arrived) = row;
     let mut drive = Drive::new(kind, 3);
     drive.go(Function::Pack);
@@ -256,15 +267,9 @@ fn do_function(rt: &impl Abort, kind: DriveKind, row: Done) {
     drive.write_register(Register::Da, 0o2007);
     drive.set_locked(locked);
     drive.go(function);
-    let [er1, ds, of] = left;
-    assert_eq!(rt; drive.read_register(Register::Er1), er1);
-    assert_eq!(rt; drive.read_register(Register::Ds), ds);
-    assert_eq!(rt; drive.read_register(Register::Of), of);
+    let is_left = shows(&drive, [Register::Er1, Register::Ds, Register::Of], left);
     drive.arrive();
-    let [ds, cc, la] = arrived;
-    assert_eq!(rt; drive.read_register(Register::Ds), ds);
-    assert_eq!(rt; drive.read_register(Register::Cc), cc);
-    assert_eq!(rt; drive.read_register(Register::La), la);
+    is_left && shows(&drive, [Register::Ds, Register::Cc, Register::La], arrived)
 }
 
 // The type word of each kind.
@@ -279,7 +284,7 @@ fn registers(rt: HostRuntime) {
     for (kind, word) in KINDS {
         assert_eq!(rt; Drive::new(kind, 3).read_register(Register::Dt), word);
         for row in FUNCTIONS {
-            do_function(&rt, kind, row);
+            assert!(rt; does_function(kind, row));
         }
     }
 }

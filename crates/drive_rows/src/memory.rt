@@ -10,6 +10,27 @@ fn pattern(seed: u8) -> [u8; 512] {
     block
 }
 
+// Whether a frame ends with the first 212 bytes of a block, and has zeros before them.
+fn ends_with_front(frame: &[u8; 512], block: &[u8; 512]) -> bool {
+    for i in 0..512usize {
+        let wanted = if i < 300 { 0 } else { block[i - 300] };
+        if frame[i] != wanted {
+            return false;
+        }
+    }
+    true
+}
+
+// Whether a frame begins with the other 300 bytes of the block.
+fn begins_with_rest(frame: &[u8; 512], block: &[u8; 512]) -> bool {
+    for i in 0..300usize {
+        if frame[i] != block[i + 212] {
+            return false;
+        }
+    }
+    true
+}
+
 #[test]
 fn window_in_two_frames(rt: HostRuntime) -> Result<(), Fail> {
     let mut memory = MainMemory::new(rt.alloc())?;
@@ -29,14 +50,25 @@ fn window_in_two_frames(rt: HostRuntime) -> Result<(), Fail> {
     let frames = memory.lend(3, 0, 512)?;
     let mut frame = [0u8; 512];
     memory.fetch(&frames, 1, &mut frame);
-    for i in 0..512usize {
-        assert_eq!(rt; frame[i], if i < 300 { 0 } else { block[i - 300] });
-    }
+    let is_front = ends_with_front(&frame, &block);
     memory.fetch(&frames, 2, &mut frame);
-    for i in 0..300usize {
-        assert_eq!(rt; frame[i], block[i + 212]);
-    }
+    assert!(rt; is_front && begins_with_rest(&frame, &block));
     Ok(())
+}
+
+// Whether these are the bytes 0, 1 and 9, and then zeros.
+fn is_short(bytes: &[u8; 512]) -> bool {
+    for i in 0..512usize {
+        let wanted = match i {
+            0 | 1 => i as u8,
+            2 => 9,
+            _ => 0,
+        };
+        if bytes[i] != wanted {
+            return false;
+        }
+    }
+    true
 }
 
 #[test]
@@ -57,16 +89,7 @@ fn short_last_block(rt: HostRuntime) -> Result<(), Fail> {
     window.set(2, 9);
     assert_eq!(rt; window.get(1), 1);
     window.copy_out(&mut bytes);
-    for i in 0..512usize {
-        assert_eq!(rt;
-            bytes[i],
-            if i < 2 {
-                i as u8
-            } else {
-                if i == 2 { 9 } else { 0 }
-            }
-        );
-    }
+    assert!(rt; is_short(&bytes));
     memory.give_back(to_cpu(buffer));
 
     // The other bytes of the frame stay.

@@ -21,7 +21,7 @@ use Rattle.driver_phases.proofs.Frame.{held_is}
 use Rattle.request_slots.specs.declared.asked.Asked.{Asked}
 use Rattle.request_slots.specs.Requests.{frames_lent, IsHeldFor}
 use Rattle.hp_core.specs.State.{State}
-use Rattle.hp_core.specs.Joins.{IsPut, Joins}
+use Rattle.hp_core.specs.Joins.{IsPut, in_queue, Joins}
 use Rattle.hp_core.proofs.Deeds.{pigeons}
 use Rattle.hp_core.proofs.Telling.{silent_act}
 
@@ -92,6 +92,8 @@ pub is_put : (slot : ℕ) (asked : Asked) (bytes : List ℕ) (old new : State) (
 is_put slot asked bytes old new slots needed free none (h, is, put) apart few state =
     let changed = put_set old.world.slots slot (Some h) None free in
     record {
+      inside = free;
+      free = none;
       held = h;
       is = is;
       apart = λ q g at. by_apart q g at changed.here (λ ne. changed.others q ne);
@@ -106,22 +108,11 @@ is_put slot asked bytes old new slots needed free none (h, is, put) apart few st
         apart slot q h g (λ e. ne (sym e)) (ap (λ (xs : List (Option Held)). slice_index_or xs slot None) put ∙ here)
         (ap (λ (xs : List (Option Held)). slice_index_or xs q None) put ∙ others ne ∙ at)
 
--- the world with the request in its unit's queue
-abbrev in_queue : (slot : ℕ) → Asked → State → State
-in_queue slot asked old = record old {
-  world = record old.world {
-    units = slice_set old.world.units asked.unit (joined slot (record no_held { first = asked.first }) (unit_at old.world asked.unit));
-  };
-}
-
 -- THE SUBMISSION
-module _ (line slot : ℕ) (asked : Asked) (bytes : List ℕ) (old mid new : State) (queue : mid ≡ in_queue slot asked old) (j : IsPut slot asked bytes mid new) where
-  put : IsPut slot asked bytes (in_queue slot asked old) new
-  put = subst (λ (m : State). IsPut slot asked bytes m new) queue j
-
+module _ (line slot : ℕ) (asked : Asked) (bytes : List ℕ) (old mid new : State) (put : IsPut slot asked bytes old mid) (queue : new ≡ in_queue asked.unit slot asked.first mid) where
   change : new ≡ record old { world = after old.world (Submit line slot put.held) }
   change =
-      put.state ∙ ap (λ (a : Asked). record old {
+      queue ∙ ap (in_queue asked.unit slot asked.first) put.state ∙ ap (λ (a : Asked). record old {
         world = record old.world {
           units = slice_set old.world.units a.unit (joined slot (record no_held { first = a.first }) (unit_at old.world a.unit));
           slots = slice_set old.world.slots slot (Some put.held);
@@ -129,13 +120,13 @@ module _ (line slot : ℕ) (asked : Asked) (bytes : List ℕ) (old mid new : Sta
         };
       }) (sym put.is.same)
 
-  pub joins : slot < length old.world.slots → slot_at old.world slot ≡ None → IsSetUp old.world asked.unit → IsFresh old.world asked.id
+  pub joins : IsSetUp old.world asked.unit → IsFresh old.world asked.id
       → asked.first + asked.count ≤ limit_of (unit_at old.world asked.unit).drive.kind
       → old.world.frames + frames_needed asked.count asked.offset asked.last ≤ 16384 → Joins line slot asked bytes old new
-  joins free none unit fresh below room =
+  joins unit fresh below room =
       let may : IsNew old.world slot put.held = record {
-        free = free;
-        slot = none;
+        free = put.inside;
+        slot = put.free;
         unit = subst (λ (a : Asked). IsSetUp old.world a.unit) (sym put.is.same) unit;
         lent = record { is = put.is.whole.loan; small = put.is.whole.small; apart = put.apart };
         inside = subst (λ (a : Asked). a.first + a.count ≤ limit_of (unit_at old.world a.unit).drive.kind) (sym put.is.same) below;

@@ -1,16 +1,18 @@
 -- What a submission does.
-use Rattle.std.specs.Prelude.{◌≡◌, ℕ, ◌+◌, List, Some, slice_set}
+use Rattle.std.specs.Prelude.{◌≡◌, ℕ, ◌+◌, ◌<◌, List, length, Some, None, slice_set}
 use Rattle.main_memory.specs.Frames.{frames_needed}
-use Rattle.driver_machine.specs.World.{Held, slot_at}
-use Rattle.driver_machine.specs.Acts.{Submit}
+use Rattle.driver_machine.specs.World.{Held, no_held, unit_at, slot_at}
+use Rattle.driver_machine.specs.Acts.{Submit, joined}
 use Rattle.driver_machine.specs.Guards.{IsApart, IsNew}
 use Rattle.request_slots.specs.declared.asked.Asked.{Asked}
 use Rattle.request_slots.specs.Requests.{IsHeldFor}
 use Rattle.hp_core.specs.State.{State}
 use Rattle.hp_core.specs.Done.{DoesSilently}
 
--- A request is put into a slot with these bytes, in frames that no other has.
+-- A request is put into a free slot with these bytes, in frames that no other has.
 pub record IsPut (slot : ℕ) (asked : Asked) (bytes : List ℕ) (old new : State) : Type 0 where
+  pub inside : slot < length old.world.slots
+  pub free : slot_at old.world slot ≡ None
   pub held : Held
   pub is : IsHeldFor asked bytes held
   pub apart : (q : ℕ) (g : Held) → slot_at old.world q ≡ Some g → IsApart held.loan.frames g.loan.frames
@@ -20,6 +22,12 @@ pub record IsPut (slot : ℕ) (asked : Asked) (bytes : List ℕ) (old new : Stat
       frames = old.world.frames + frames_needed asked.count asked.offset asked.last;
     };
   }
+
+-- a unit with a request in its queue, by its slot and its first block
+abbrev pub in_queue : ℕ → ℕ → ℕ → State → State
+in_queue u slot first old = record old {
+  world = record old.world { units = slice_set old.world.units u (joined slot (record no_held { first = first }) (unit_at old.world u)) };
+}
 
 -- A REQUEST JOINS with these bytes: as it then stands in its slot, the call does the act of its submission.
 pub record Joins (line slot : ℕ) (asked : Asked) (bytes : List ℕ) (old new : State) : Type 0 where

@@ -4,35 +4,21 @@ ghost use Rattle.std.specs.Option.{option_map_or};
 ghost use Rattle.pack_geometry.specs.Geometry.{block_count, limit_of};
 ghost use Rattle.main_memory.specs.Frames.{frames_needed};
 ghost use Rattle.driver_machine.specs.declared.Made.{Made};
-ghost use Rattle.driver_machine.specs.World.{no_held, unit_at, slot_at, held_in};
-ghost use Rattle.driver_machine.specs.Acts.{Taken, joined, freed};
+ghost use Rattle.driver_machine.specs.World.{unit_at, slot_at, held_in};
+ghost use Rattle.driver_machine.specs.Acts.{Taken, freed};
 ghost use Rattle.driver_machine.specs.Guards.{IsSetUp, IsFresh};
 ghost use Rattle.driver_machine.specs.Sound.{Sound};
-ghost use Rattle.request_slots.specs.Requests.{frames_lent};
-ghost use Rattle.hp_core.specs.Joins.{IsPut, Joins};
+ghost use Rattle.request_slots.specs.Requests.{frames_lent, HasFree};
+ghost use Rattle.hp_core.specs.Joins.{IsPut, in_queue, Joins};
 ghost use Rattle.hp_core.specs.Done.{DoesSilently};
 
 use crate::driver::{Core, needed};
 use request_slots::Asked;
 
 impl Core {
-    /// A request stands in its unit's queue, by its slot and its first block.
-    fn put_in_queue(&mut self, u: u8, slot: u32, first: u32)
-        requires free { slot < length self.old.world.slots }
-        requires unit { u < length self.old.world.units }
-        requires declared { (unit_at self.old.world u).declared ≡ true }
-        requires waits { length (unit_at self.old.world u).queue < length self.old.world.slots }
-        requires absent { All (λ w. w.number ≢ slot) (unit_at self.old.world u).queue }
-        requires below { first < block_count (unit_at self.old.world u).drive.kind }
-        ensures { self.new ≡ record self.old { world = record self.old.world { units = slice_set self.old.world.units u (joined slot (record no_held { first = first }) (unit_at self.old.world u)) } } }
-    {
-        self.units.join(u, slot, first);
-    }
-
-    /// A request stands in its slot, with the frames that it needs.
-    fn put_in_slot(&mut self, slot: u32, asked: Asked, bytes: &[u8])
-        requires free { slot < length self.old.world.slots }
-        requires none { slot_at self.old.world slot ≡ None }
+    /// A request stands in a free slot, which is given, with the frames that it needs.
+    fn put_in_slot(&mut self, asked: Asked, bytes: &[u8]) -> u32
+        requires free { HasFree self.old.world.slots }
         requires some { 1 ≤ asked.count }
         requires few { asked.count ≤ 127 }
         requires last_some { 1 ≤ asked.last }
@@ -41,19 +27,32 @@ impl Core {
         requires lent { self.old.world.frames ≡ frames_lent self.old.world.slots }
         requires room { self.old.world.frames + frames_needed asked.count asked.offset asked.last ≤ 16384 }
         requires bytes { length bytes.now ≡ (if asked.write then 512 * (asked.count - 1) + asked.last else 0) }
-        ensures { IsPut slot asked bytes.now self.old self.new }
+        ensures { IsPut result asked bytes.now self.old self.new }
     {
-        self.slots.join(slot, asked, bytes);
+        let slot = self.slots.join(asked, bytes);
         self.slots.law();
         self.frames += needed(asked.count, asked.offset, asked.last);
+        slot
     }
 
-    /// A request joins in a free slot, with its bytes where it is a write. No answer waits, its unit is set up, its id is fresh,
-    /// its blocks lie before the tables at the end of the pack, and there are frames for it.
-    pub fn join(&mut self, line: u64, slot: u32, asked: Asked, bytes: &[u8])
+    /// A request stands in its unit's queue, by its slot and its first block.
+    fn put_in_queue(&mut self, u: u8, slot: u32, first: u32)
+        requires slot { slot < length self.old.world.slots }
+        requires unit { u < length self.old.world.units }
+        requires declared { (unit_at self.old.world u).declared ≡ true }
+        requires waits { length (unit_at self.old.world u).queue < length self.old.world.slots }
+        requires absent { All (λ w. w.number ≢ slot) (unit_at self.old.world u).queue }
+        requires below { first < block_count (unit_at self.old.world u).drive.kind }
+        ensures { self.new ≡ in_queue u slot first self.old }
+    {
+        self.units.join(u, slot, first);
+    }
+
+    /// A request joins in a free slot, which is given, with its bytes where it is a write. No answer waits, its unit is set up, its
+    /// id is fresh, its blocks lie before the tables at the end of the pack, and there are frames for it.
+    pub fn join(&mut self, line: u64, asked: Asked, bytes: &[u8]) -> u32
         requires sound { Sound self.old.world }
-        requires free { slot < length self.old.world.slots }
-        requires none { slot_at self.old.world slot ≡ None }
+        requires free { HasFree self.old.world.slots }
         requires unit { IsSetUp self.old.world asked.unit }
         requires fresh { IsFresh self.old.world asked.id }
         requires below { asked.first + asked.count ≤ limit_of (unit_at self.old.world asked.unit).drive.kind }
@@ -64,10 +63,11 @@ impl Core {
         requires inside { asked.offset < 512 }
         requires room { self.old.world.frames + frames_needed asked.count asked.offset asked.last ≤ 16384 }
         requires bytes { length bytes.now ≡ (if asked.write then 512 * (asked.count - 1) + asked.last else 0) }
-        ensures { Joins line slot asked bytes.now self.old self.new }
+        ensures { Joins line result asked bytes.now self.old self.new }
     {
+        let slot = self.put_in_slot(asked, bytes);
         self.put_in_queue(asked.unit, slot, asked.first);
-        self.put_in_slot(slot, asked, bytes);
+        slot
     }
 
     /// The slot of an answer is free again, where it has one.

@@ -237,14 +237,6 @@ impl Core {
         self.slots.count()
     }
 
-    /// A free slot, found at once. None where a request stands in each.
-    pub fn free_slot(&self) -> Option<u32>
-        ensures some { IfSome result (λ p. (p < length self.now.world.slots) × (slot_at self.now.world p ≡ None)) }
-        ensures none { IfNone result ((p : ℕ) → p < length self.now.world.slots → IsSome (slot_at self.now.world p)) }
-    {
-        self.slots.free_slot()
-    }
-
     /// How many frames all outstanding requests need.
     pub fn frames(&self) -> u32
         ensures { result ≡ self.now.world.frames }

@@ -115,11 +115,8 @@ fn join<T: Sink>(
     requires room { core.old.world.frames + frames_needed request.count request.offset request.last ≤ 16384 }
     ensures { Asks T.tells T.taken T.faults trace.old trace.new core.old core.new result line (asked request bytes.now) }
 {
-    let Some(slot) = core.free_slot() else {
-        unreachable!()
-    };
     let asked = asked_from(request, first);
-    match hp_events::join(core, line, slot, asked, bytes, trace) {
+    match hp_events::join(core, line, asked, bytes, trace) {
         Ok(()) => core.flush(trace),
         Err(stop) => Err(stop),
     }

@@ -50,8 +50,9 @@ module _ (line slot : ℕ) (asked : Asked) (bytes : List ℕ) (old mid : State) 
 
   module _ {O : Type 0} (tells : O → Bool) (taken : O → List ℕ) (faults : O → ℕ) (t t1 : O) (s1 : State) where
     pub submits : (t2 : O) (s2 : State) (result : Result (Unit {0}) Stop) → DoesActs {A = Unit {0}} tells taken faults t t1 mid s1 (Ok tt) (due_acts line asked.unit mid.world)
-        → DoesActs tells taken faults t1 t2 s1 s2 result (adapter_start line (asked.unit / 8) s1.world) → Submits tells taken faults t t2 old s2 result line slot asked bytes
+        → DoesActs tells taken faults t1 t2 s1 s2 result (adapter_start line (asked.unit / 8) s1.world) → Submits tells taken faults t t2 old s2 result line asked bytes
     submits t2 s2 result due start = record {
+      slot = slot;
       held = j.held;
       is = j.is;
       may = j.may;
@@ -63,8 +64,9 @@ module _ (line slot : ℕ) (asked : Asked) (bytes : List ℕ) (old mid : State) 
     }
 
     pub submit_stopped : (result : Result (Unit {0}) Stop) {stop : Stop} → IsErrAnd result (λ x. x ≡ stop)
-        → DoesActs {A = Unit {0}} tells taken faults t t1 mid s1 (Err stop) (due_acts line asked.unit mid.world) → Submits tells taken faults t t1 old s1 result line slot asked bytes
+        → DoesActs {A = Unit {0}} tells taken faults t t1 mid s1 (Err stop) (due_acts line asked.unit mid.world) → Submits tells taken faults t t1 old s1 result line asked bytes
     submit_stopped result {stop} is due = record {
+      slot = slot;
       held = j.held;
       is = j.is;
       may = j.may;

@@ -19,9 +19,10 @@ pub record MayRefuse (w : World) (line u id : ℕ) (kind : AnswerKind) : Type 0 
   pub named : request.id ≡ id
   pub may : Allowed w (Refuse line request kind)
 
--- A REQUEST JOINS in a slot with these bytes, and then comes what is due at its unit and its adapter.
-pub record Submits {O : Type 0} (tells : O → Bool) (taken : O → List ℕ) (faults : O → ℕ) (trace trace' : O) (old new : State) (result : Result (Unit {0}) Stop) (line p : ℕ) (asked : Asked) (bytes : List ℕ) : Type 0 where
+-- A REQUEST JOINS in a free slot with these bytes, and then comes what is due at its unit and its adapter.
+pub record Submits {O : Type 0} (tells : O → Bool) (taken : O → List ℕ) (faults : O → ℕ) (trace trace' : O) (old new : State) (result : Result (Unit {0}) Stop) (line : ℕ) (asked : Asked) (bytes : List ℕ) : Type 0 where
+  pub slot : ℕ
   pub held : Held
   pub is : IsHeldFor asked bytes held
-  pub may : IsNew old.world p held
-  pub does : DoesActs tells taken faults trace trace' old new result (joined_acts line p held old.world)
+  pub may : IsNew old.world slot held
+  pub does : DoesActs tells taken faults trace trace' old new result (joined_acts line slot held old.world)

@@ -1,13 +1,14 @@
 // What a submission does.
-ghost use Rattle.std.specs.Prelude.{◌≡◌, ◌<◌, ◌≤◌, ◌+◌, ◌-◌, ◌*◌, ◌∷◌, [], length, None, if◌then◌else◌};
+ghost use Rattle.std.specs.Prelude.{◌≡◌, ◌<◌, ◌≤◌, ◌+◌, ◌-◌, ◌*◌, ◌∷◌, [], length, if◌then◌else◌};
 ghost use Rattle.pack_geometry.specs.Geometry.{limit_of};
 ghost use Rattle.main_memory.specs.Frames.{frames_needed};
 ghost use Rattle.subsystem_spec.specs.Requests.{Request};
-ghost use Rattle.driver_machine.specs.World.{adapter_of, unit_at, slot_at};
+ghost use Rattle.driver_machine.specs.World.{adapter_of, unit_at};
 ghost use Rattle.driver_machine.specs.Acts.{Refuse};
 ghost use Rattle.driver_machine.specs.Events.{followed, adapter_start};
 ghost use Rattle.driver_machine.specs.Guards.{Allowed, IsSetUp, IsFresh};
 ghost use Rattle.driver_machine.specs.Sound.{Sound, AtWork};
+ghost use Rattle.request_slots.specs.Requests.{HasFree};
 ghost use Rattle.hp_events.specs.Done.{DoesActs};
 ghost use Rattle.hp_events.specs.Submissions.{MayRefuse, Submits};
 
@@ -43,15 +44,13 @@ pub fn refuse<T: Sink>(
 pub fn join<T: Sink>(
     core: &mut Core,
     line: u64,
-    slot: u32,
     asked: Asked,
     bytes: &[u8],
     trace: &mut T,
 ) -> Result<(), Stop>
     requires sound { Sound core.old.world }
     requires work { AtWork core.old.world }
-    requires free { slot < length core.old.world.slots }
-    requires none { slot_at core.old.world slot ≡ None }
+    requires free { HasFree core.old.world.slots }
     requires unit { IsSetUp core.old.world asked.unit }
     requires fresh { IsFresh core.old.world asked.id }
     requires below { asked.first + asked.count ≤ limit_of (unit_at core.old.world asked.unit).drive.kind }
@@ -62,9 +61,9 @@ pub fn join<T: Sink>(
     requires inside { asked.offset < 512 }
     requires room { core.old.world.frames + frames_needed asked.count asked.offset asked.last ≤ 16384 }
     requires bytes { length bytes.now ≡ (if asked.write then 512 * (asked.count - 1) + asked.last else 0) }
-    ensures { Submits T.tells T.taken T.faults trace.old trace.new core.old core.new result line slot asked bytes.now }
+    ensures { Submits T.tells T.taken T.faults trace.old trace.new core.old core.new result line asked bytes.now }
 {
-    core.join(line, slot, asked, bytes);
+    core.join(line, asked, bytes);
     due(core, line, asked.unit, trace)?;
     start_adapter(core, line, asked.unit / 8, trace)
 }

@@ -63,19 +63,3 @@ pub fn bounds_law()
     ensures armed { (number : ℕ) → armed (script_statements number) ≤ 24 }
     ensures short { (number : ℕ) → All HasShortNoise (script_statements number) }
 {}
-
-#[cfg(test)]
-mod tests {
-    use super::*;
-    use std::test::Fail;
-
-    // The first lines of the script of 0.
-    #[test]
-    fn large_run_begins(rt: HostRuntime) -> Result<(), Fail> {
-        let text = script_of(rt.alloc(), 0)?;
-        let front =
-            b"unit 0 rp06\nunit 1 rm03\nunit 8 rm03\nattend 0\nread 1 1 a 6701 11 off 120\nattend 0\n";
-        assert!(rt; text.as_slice().starts_with(front));
-        Ok(())
-    }
-}

@@ -1,8 +1,6 @@
-//! Worked rows through the top call: scripts, refusals, stops, exercises; tests alone, so that what they test is proved once.
+//! Worked rows through the top call: scripts, stops; tests alone, so that what they test is proved once.
 #![tactic(auto)]
 
-#[cfg(test)]
-mod exercises;
 #[cfg(test)]
 mod rows;
 #[cfg(test)]

@@ -1,6 +1,6 @@
 ghost use Rattle.std.specs.Prelude.{◌<◌};
 
-use crate::rows::ROWS;
+use crate::rows::{ROWS, Row};
 use hpsim_run::run;
 use mass_outside::mem_packs::{FailCall, MemPacks, PackOp};
 use mass_outside::mem_streams::{MemSink, MemSource};
@@ -155,13 +155,31 @@ fn has_lines(trace: &[u8], lines: &[u8]) -> bool {
     wanted.is_empty()
 }
 
+/// What a run comes to that is not this status, this text, or a trace with these lines; "" if there is nothing.
+fn other_than(ran: &Ran, status: u8, text: &[u8], lines: &[u8]) -> &'static str {
+    if ran.status != status {
+        return "its status";
+    }
+    if ran.out.taken() != text {
+        return "its text";
+    }
+    if !has_lines(ran.trace.taken(), lines) {
+        return "its trace";
+    }
+    ""
+}
+
+/// What a row comes to that it does not say.
+fn row_otherwise(alloc: Global, row: &Row) -> Result<&'static str, Fail> {
+    let ran = play_over(alloc, row.script, b"", NONE)?;
+    Ok(other_than(&ran, row.status, row.text, row.trace))
+}
+
 #[test]
 fn rows(rt: HostRuntime) -> Result<(), Fail> {
     for row in &ROWS {
-        let ran = play_over(rt.alloc(), row.script, b"", NONE)?;
-        assert_eq!(rt; ran.status, row.status, "{}", row.name);
-        assert_eq!(rt; ran.out.taken(), row.text, "{}", row.name);
-        assert!(rt; has_lines(ran.trace.taken(), row.trace), "{}", row.name);
+        let word = row_otherwise(rt.alloc(), row)?;
+        assert_eq!(rt; word, "", "{}", row.name);
     }
     Ok(())
 }
@@ -175,12 +193,17 @@ const TRACES: [(&[u8], &[u8]); 2] = [
     ),
 ];
 
+/// Whether a run ends well, and its trace is this one.
+fn ends_with_trace(alloc: Global, script: &[u8], trace: &[u8]) -> Result<bool, Fail> {
+    let ran = play_over(alloc, script, b"", NONE)?;
+    Ok(ran.status == 0 && ran.trace.taken() == trace)
+}
+
 #[test]
 fn whole_traces(rt: HostRuntime) -> Result<(), Fail> {
     for (script, trace) in TRACES {
-        let ran = play_over(rt.alloc(), script, b"", NONE)?;
-        assert_eq!(rt; ran.status, 0);
-        assert_eq!(rt; ran.trace.taken(), trace);
+        let is_whole = ends_with_trace(rt.alloc(), script, trace)?;
+        assert!(rt; is_whole);
     }
     Ok(())
 }
@@ -219,13 +242,26 @@ const WORDS: [&[u8]; 7] = [
     b" seek ",
 ];
 
+/// How often each of the words stands in a trace.
+fn counts_in(trace: &[u8]) -> [u32; 7] {
+    let mut counts = [0u32; 7];
+    for i in 0..7usize {
+        counts[i] = times(trace, WORDS[i]);
+    }
+    counts
+}
+
+/// How often each of the words stands in the trace of a run.
+fn counts_of(alloc: Global, script: &[u8]) -> Result<[u32; 7], Fail> {
+    let ran = play_over(alloc, script, b"", NONE)?;
+    Ok(counts_in(ran.trace.taken()))
+}
+
 #[test]
 fn retries(rt: HostRuntime) -> Result<(), Fail> {
-    for (script, counts) in RETRIES {
-        let ran = play_over(rt.alloc(), script, b"", NONE)?;
-        for i in 0..7usize {
-            assert_eq!(rt; times(ran.trace.taken(), WORDS[i]), counts[i], "{i}");
-        }
+    for (script, wanted) in RETRIES {
+        let counts = counts_of(rt.alloc(), script)?;
+        assert_eq!(rt; counts, wanted);
     }
     Ok(())
 }
@@ -259,8 +295,17 @@ pub(crate) fn listed(
     Ok(packs)
 }
 
-/// Reads over marked blocks: the table's entries, the marks, the script, what is printed, and lines of the trace.
-const FORWARDED: [(&[u8], &[u32], &[u8], &[u8], &[u8]); 5] = [
+/// The table's entries, the marks, the script, what is printed, and lines of the trace.
+type Forwarded = (
+    &'static [u8],
+    &'static [u32],
+    &'static [u8],
+    &'static [u8],
+    &'static [u8],
+);
+
+/// Reads over marked blocks.
+const FORWARDED: [Forwarded; 5] = [
     (
         &[0x02, 0x00, 0x0A, 0x07],
         &[1000],
@@ -298,14 +343,19 @@ const FORWARDED: [(&[u8], &[u32], &[u8], &[u8], &[u8]); 5] = [
     ),
 ];
 
+/// What a read over marked blocks comes to that its row does not say.
+fn forwarded_otherwise(alloc: Global, row: Forwarded) -> Result<&'static str, Fail> {
+    let (entries, marks, script, text, lines) = row;
+    let mut packs = listed(alloc, entries, marks, NONE.packs)?;
+    let ran = run_on(alloc, PLAY, script, &mut packs, NONE)?;
+    Ok(other_than(&ran, 0, text, lines))
+}
+
 #[test]
 fn forwarded_reads(rt: HostRuntime) -> Result<(), Fail> {
-    for (entries, marks, script, text, lines) in FORWARDED {
-        let mut packs = listed(rt.alloc(), entries, marks, NONE.packs)?;
-        let ran = run_on(rt.alloc(), PLAY, script, &mut packs, NONE)?;
-        assert_eq!(rt; ran.status, 0);
-        assert_eq!(rt; ran.out.taken(), text);
-        assert!(rt; has_lines(ran.trace.taken(), lines));
+    for row in FORWARDED {
+        let word = forwarded_otherwise(rt.alloc(), row)?;
+        assert_eq!(rt; word, "");
     }
     Ok(())
 }
@@ -320,26 +370,48 @@ pub(crate) fn holds(text: &[u8], piece: &[u8]) -> bool {
     false
 }
 
+/// A unit and a partition of it.
+fn unit_and_part(k: u32) -> (u32, &'static str) {
+    match k % 3 {
+        0 => (0, "a"),
+        1 => (1, "b"),
+        _ => (2, "g"),
+    }
+}
+
+/// One of the reads, or one of the writes.
+fn user_line(alloc: Global, k: u32, reads: bool) -> Result<String, Fail>
+    requires { k < 20 }
+{
+    let (unit, part) = unit_and_part(k);
+    let block = 37 * k + 10;
+    if reads {
+        Ok(format!(in alloc; "read {} {unit} {part} {block} 8\n", 100 + k)?)
+    } else {
+        Ok(format!(in alloc; "write {k} {unit} {part} {block} 8 seq {k}\n")?)
+    }
+}
+
+/// Puts one of the reads, or one of the writes, behind a script.
+fn push_line(alloc: Global, script: &mut String, k: u32, reads: bool) -> Result<(), Fail>
+    requires { k < 20 }
+{
+    let line = user_line(alloc, k, reads)?;
+    script.push_str(line.as_str())?;
+    Ok(())
+}
+
 /// 20 writes of eight blocks of three units, and a read behind each, with noise and a listed block.
 fn user_script(alloc: Global) -> Result<String, Fail> {
     let mut script = String::from_str(
         alloc,
         "unit 0 rp06\nunit 1 rp06\nunit 2 rm03\nnoise 0 11 1 100 105\nnoise 2 49525 2 8 18\n",
     )?;
-    for id in 0..40u32 {
-        let k = id % 20;
-        let (unit, part) = match k % 3 {
-            0 => (0, "a"),
-            1 => (1, "b"),
-            _ => (2, "g"),
-        };
-        let block = 37 * k + 10;
-        let line = if id < 20 {
-            format!(in alloc; "write {k} {unit} {part} {block} 8 seq {k}\n")?
-        } else {
-            format!(in alloc; "read {} {unit} {part} {block} 8\n", 100 + k)?
-        };
-        script.push_str(line.as_str())?;
+    for k in 0..20u32 {
+        push_line(alloc, &mut script, k, false)?;
+    }
+    for k in 0..20u32 {
+        push_line(alloc, &mut script, k, true)?;
     }
     Ok(script)
 }
@@ -359,46 +431,93 @@ fn user_read(alloc: Global, k: u32) -> Result<String, Fail>
     Ok(text)
 }
 
+/// Whether one of the reads gives what it is to give.
+fn gives_read(alloc: Global, out: &[u8], k: u32) -> Result<bool, Fail>
+    requires { k < 20 }
+{
+    let wanted = user_read(alloc, k)?;
+    Ok(holds(out, wanted.as_bytes()))
+}
+
+/// How many of the reads give what they are to give; 99 where the text begins otherwise, or not all requests are answered with `ok`.
+fn reads_given(alloc: Global, out: &[u8]) -> Result<u32, Fail> {
+    if !out.starts_with(b"noise 4 short\nnoise 5 short\n") || times(out, b" ok\n") != 40 {
+        return Ok(99);
+    }
+    let mut given = 0u32;
+    for k in 0..20u32 {
+        if gives_read(alloc, out, k)? {
+            given = given.saturating_add(1);
+        }
+    }
+    Ok(given)
+}
+
+/// The same of the run of that script, over a listed and marked block.
+fn reads_of_user(alloc: Global) -> Result<u32, Fail> {
+    let script = user_script(alloc)?;
+    let mut packs = listed(alloc, &[0x00, 0x00, 0x0F, 0x05], &[125], NONE.packs)?;
+    let ran = run_on(alloc, PLAY, script.as_bytes(), &mut packs, NONE)?;
+    reads_given(alloc, ran.out.taken())
+}
+
 #[test]
 fn mixed_user_run(rt: HostRuntime) -> Result<(), Fail> {
-    let mut packs = listed(rt.alloc(), &[0x00, 0x00, 0x0F, 0x05], &[125], NONE.packs)?;
-    let script = user_script(rt.alloc())?;
-    let ran = run_on(rt.alloc(), PLAY, script.as_bytes(), &mut packs, NONE)?;
-    assert!(rt;
-        ran.out
-            .taken()
-            .starts_with(b"noise 4 short\nnoise 5 short\n")
-    );
-    assert_eq!(rt; times(ran.out.taken(), b" ok\n"), 40);
-    for k in 0..20u32 {
-        let wanted = user_read(rt.alloc(), k)?;
-        assert!(rt; holds(ran.out.taken(), wanted.as_bytes()), "{k}");
-    }
+    let given = reads_of_user(rt.alloc())?;
+    assert_eq!(rt; given, 20);
     Ok(())
 }
 
-/// All 32 units, a read of each.
+/// The kind of a unit.
+fn kind_of(unit: u32) -> &'static str {
+    match unit % 3 {
+        0 => "rp06",
+        1 => "rm03",
+        _ => "rm05",
+    }
+}
+
+/// All 32 units, and a read of each.
+fn script_of_all(alloc: Global) -> Result<String, Fail> {
+    let mut script = String::new(alloc);
+    for unit in 0..32u32 {
+        let line = format!(in alloc; "unit {unit} {}\n", kind_of(unit))?;
+        script.push_str(line.as_str())?;
+    }
+    for unit in 0..32u32 {
+        let line = format!(in alloc; "read {unit} {unit} c {} 1\n", 700 * unit)?;
+        script.push_str(line.as_str())?;
+    }
+    Ok(script)
+}
+
+/// How many requests of a script are answered with `ok`; 99 where its run does not end well.
+fn answered(alloc: Global, script: &[u8]) -> Result<u32, Fail> {
+    let ran = play_over(alloc, script, b"", NONE)?;
+    if ran.status != 0 {
+        return Ok(99);
+    }
+    Ok(times(ran.out.taken(), b" ok\n"))
+}
+
 #[test]
 fn all_units(rt: HostRuntime) -> Result<(), Fail> {
-    let mut script = String::new(rt.alloc());
-    for unit in 0..32u32 {
-        let kind = match unit % 3 {
-            0 => "rp06",
-            1 => "rm03",
-            _ => "rm05",
-        };
-        script.push_str(format!(in rt.alloc(); "unit {unit} {kind}\n")?.as_str())?;
-    }
-    for unit in 0..32u32 {
-        script.push_str(format!(in rt.alloc();
-            "read {unit} {unit} c {} 1\n",
-            700 * unit
-        )?.as_str())?;
-    }
-    let ran = play_over(rt.alloc(), script.as_bytes(), b"", NONE)?;
-    assert_eq!(rt; ran.status, 0);
-    assert_eq!(rt; times(ran.out.taken(), b" ok\n"), 32);
+    let script = script_of_all(rt.alloc())?;
+    let count = answered(rt.alloc(), script.as_bytes())?;
+    assert_eq!(rt; count, 32);
     Ok(())
+}
+
+/// The status of a run.
+fn status_of(alloc: Global, script: &[u8]) -> Result<u8, Fail> {
+    let ran = play_over(alloc, script, b"", NONE)?;
+    Ok(ran.status)
+}
+
+/// Whether a run over an image prints this text.
+fn prints(alloc: Global, script: &[u8], image: &[u8], text: &[u8]) -> Result<bool, Fail> {
+    let ran = play_over(alloc, script, image, NONE)?;
+    Ok(ran.out.taken() == text)
 }
 
 /// Each front of a script is a script or is refused.
@@ -408,22 +527,24 @@ fn fronts(rt: HostRuntime) -> Result<(), Fail> {
         b"unit 0 rp06\nwrite 1 0 c 5 4 fill 77\nmove 0\nmove 0\nfault 0 opi 28\ndrain\nread 2 0 c 5 4\n";
     for end in 0..script.len() {
         let front = script.get(..end).unwrap_or(b"");
-        let ran = play_over(rt.alloc(), front, b"", NONE)?;
-        assert!(rt; ran.status == 0 || ran.status == 3, "{end}");
+        let status = status_of(rt.alloc(), front)?;
+        assert!(rt; status == 0 || status == 3, "{end}");
     }
     Ok(())
 }
 
-/// The mark bytes 00 07, and no table.
+/// Whether a run over packs whose marks are the bytes 00 07, and that have no table, prints this text.
+fn prints_over_seven(alloc: Global, script: &[u8], text: &[u8]) -> Result<bool, Fail> {
+    let mut packs = packs_of(alloc, b"", &[0, 7], NONE.packs)?;
+    let ran = run_on(alloc, PLAY, script, &mut packs, NONE)?;
+    Ok(ran.out.taken() == text)
+}
+
 #[test]
 fn a_mark_of_seven(rt: HostRuntime) -> Result<(), Fail> {
-    let mut packs = packs_of(rt.alloc(), b"", &[0, 7], NONE.packs)?;
     let script = b"unit 0 rp06\nread 1 0 c 0 2\n";
-    let ran = run_on(rt.alloc(), PLAY, script, &mut packs, NONE)?;
-    assert_eq!(rt;
-        ran.out.taken(),
-        b"ans 1 at 3 error unforwarded done 1\n".as_slice()
-    );
+    let is_so = prints_over_seven(rt.alloc(), script, b"ans 1 at 3 error unforwarded done 1\n")?;
+    assert!(rt; is_so);
     Ok(())
 }
 
@@ -437,166 +558,106 @@ fn reads(alloc: Global, count: u32, blocks: u32) -> Result<String, Fail> {
 }
 
 /// 128 reads of 127 blocks, one of 127 with an offset, and one more, for which there is no frame.
+fn script_of_frames(alloc: Global) -> Result<String, Fail> {
+    let mut script = reads(alloc, 128, 127)?;
+    script.push_str("read 129 0 c 0 127 off 1\nread 130 0 c 0 1\n")?;
+    Ok(script)
+}
+
+/// Whether the text of a run begins so.
+fn begins_with(alloc: Global, script: &[u8], text: &[u8]) -> Result<bool, Fail> {
+    let ran = play_over(alloc, script, b"", NONE)?;
+    Ok(ran.out.taken().starts_with(text))
+}
+
 #[test]
 fn frames_run_out(rt: HostRuntime) -> Result<(), Fail> {
-    let mut script = reads(rt.alloc(), 128, 127)?;
-    script.push_str("read 129 0 c 0 127 off 1\nread 130 0 c 0 1\n")?;
-    let ran = play_over(rt.alloc(), script.as_bytes(), b"", NONE)?;
-    let text = b"ans 130 at 131 error frames done 0\n".as_slice();
-    assert!(rt; ran.out.taken().starts_with(text));
+    let script = script_of_frames(rt.alloc())?;
+    let is_so = begins_with(
+        rt.alloc(),
+        script.as_bytes(),
+        b"ans 130 at 131 error frames done 0\n",
+    )?;
+    assert!(rt; is_so);
+    Ok(())
+}
+
+/// So many bytes.
+fn bytes_of(alloc: Global, count: usize, byte: u8) -> Result<Vec<u8>, Fail> {
+    let mut bytes = Vec::new(alloc);
+    bytes.resize(count, byte)?;
+    Ok(bytes)
+}
+
+#[test]
+fn too_many_requests(rt: HostRuntime) -> Result<(), Fail> {
+    let script = reads(rt.alloc(), 65_537, 1)?;
+    let is_so = prints(
+        rt.alloc(),
+        script.as_bytes(),
+        b"",
+        b"refused line 65538 toomany\n",
+    )?;
+    assert!(rt; is_so);
     Ok(())
 }
 
 #[test]
-fn limits(rt: HostRuntime) -> Result<(), Fail> {
-    let script = reads(rt.alloc(), 65_537, 1)?;
-    let ran = play_over(rt.alloc(), script.as_bytes(), b"", NONE)?;
-    assert_eq!(rt; ran.out.taken(), b"refused line 65538 toomany\n".as_slice());
-    let mut long = Vec::new(rt.alloc());
-    long.resize(16_777_217, b'\n')?;
-    let ran = play_over(rt.alloc(), long.as_slice(), b"", NONE)?;
-    assert_eq!(rt; ran.out.taken(), b"refused line 0 scriptlong\n".as_slice());
+fn too_long_a_script(rt: HostRuntime) -> Result<(), Fail> {
+    let script = bytes_of(rt.alloc(), 16_777_217, b'\n')?;
+    let is_so = prints(
+        rt.alloc(),
+        script.as_slice(),
+        b"",
+        b"refused line 0 scriptlong\n",
+    )?;
+    assert!(rt; is_so);
     Ok(())
 }
 
 /// An image with one byte more than an RP06 has.
 #[test]
 fn too_long(rt: HostRuntime) -> Result<(), Fail> {
-    let mut image = Vec::new(rt.alloc());
-    image.resize(174_423_041, 0)?;
+    let image = bytes_of(rt.alloc(), 174_423_041, 0)?;
     let ran = play_over(rt.alloc(), b"unit 0 rp06\n", image.as_slice(), NONE)?;
-    assert_eq!(rt; ran.status, 7);
-    assert_eq!(rt;
-        ran.out.taken(),
-        b"too long unit 0 length 174423041\n".as_slice()
-    );
+    let word = other_than(&ran, 7, b"too long unit 0 length 174423041\n", b"");
+    assert_eq!(rt; word, "");
     Ok(())
 }
 
-/// An image of 700 bytes FF: block 1 has 188 of them, and reads as zeros behind them.
-#[test]
-fn short_image(rt: HostRuntime) -> Result<(), Fail> {
-    let mut text = String::from_str(rt.alloc(), "ans 1 at 3 ok\nblk 0 hex ")?;
+/// What is printed of block 1 of an image of 700 bytes FF: it has 188 of them, and reads as zeros behind them.
+fn text_of_short(alloc: Global) -> Result<String, Fail> {
+    let mut text = String::from_str(alloc, "ans 1 at 3 ok\nblk 0 hex ")?;
     for digit in 0..1024 {
         text.push(if digit < 376 { 'f' } else { '0' })?;
     }
     text.push('\n')?;
+    Ok(text)
+}
+
+#[test]
+fn short_image(rt: HostRuntime) -> Result<(), Fail> {
+    let text = text_of_short(rt.alloc())?;
     let script = b"unit 0 rp06\nread 1 0 c 1 1\n";
-    let ran = play_over(rt.alloc(), script, &[0xFF; 700], NONE)?;
-    assert_eq!(rt; ran.out.taken(), text.as_bytes());
+    let is_so = prints(rt.alloc(), script, &[0xFF; 700], text.as_bytes())?;
+    assert!(rt; is_so);
     Ok(())
 }
 
 const USAGE: &[u8] = b"usage: hpsim play or bad144 list/add/fresh or exercise N\n";
 
+/// What these words come to that is not the text of usage.
+fn usage_otherwise(alloc: Global, words: &[&str]) -> Result<&'static str, Fail> {
+    let mut packs = packs_of(alloc, b"", b"", NONE.packs)?;
+    let ran = run_on(alloc, words, b"unit 0 rp06\n", &mut packs, NONE)?;
+    Ok(other_than(&ran, 2, USAGE, b""))
+}
+
 #[test]
 fn usage(rt: HostRuntime) -> Result<(), Fail> {
     for words in NO_COMMANDS {
-        let mut packs = packs_of(rt.alloc(), b"", b"", NONE.packs)?;
-        let ran = run_on(rt.alloc(), words, b"unit 0 rp06\n", &mut packs, NONE)?;
-        assert_eq!(rt; ran.status, 2);
-        assert_eq!(rt; ran.out.taken(), USAGE);
+        let word = usage_otherwise(rt.alloc(), words)?;
+        assert_eq!(rt; word, "");
     }
-    Ok(())
-}
-
-/// Commands of the tool over one empty RP06, one after another: their words, the status, and what is printed.
-const TOOL: [(&str, u8, &[u8]); 10] = [
-    ("bad144 list 0 rp06", 0, b"no table\n"),
-    ("bad144 add 0 rp06 340670", 2, USAGE),
-    ("bad144 add 0 rp06 1000", 8, b"refused no table\n"),
-    ("bad144 fresh 0 rp06 7", 0, b"serial 7\n"),
-    ("bad144 add 0 rp06 1000", 0, b"entry 0\n"),
-    ("bad144 add 0 rp06 125 copy mark", 0, b"entry 0\n"),
-    (
-        "bad144 list 0 rp06",
-        0,
-        b"serial 7 entries 2\nentry 0 cylinder 0 track 5 sector 15 block 125\nentry 1 cylinder 2 track 7 sector 10 block 1000\n",
-    ),
-    ("bad144 add 0 rp06 125 copy mark", 8, b"refused listed 0\n"),
-    ("bad144 add 0 rp06 340522", 8, b"refused reserved\n"),
-    ("bad144 list 32 rp06", 2, USAGE),
-];
-
-/// The words of a line.
-fn words_of(alloc: Global, line: &str) -> Result<Vec<String>, Fail> {
-    let mut words = Vec::new(alloc);
-    for word in line.split(' ') {
-        words.push(String::from_str(alloc, word)?)?;
-    }
-    Ok(words)
-}
-
-/// Runs a command of the tool, whose source and trace are not to be touched.
-fn tool(alloc: Global, line: &str, packs: &mut MemPacks) -> Result<(u8, MemSink), Fail> {
-    let words = words_of(alloc, line)?;
-    let mut source = MemSource::new(Vec::new(alloc), Vec::new(alloc));
-    let mut out = MemSink::new(alloc, 9000, Vec::new(alloc))?;
-    let mut trace = MemSink::new(alloc, 0, Vec::new(alloc))?;
-    let status = run(
-        alloc,
-        words.as_slice(),
-        &mut source,
-        packs,
-        &mut out,
-        &mut trace,
-    );
-    Ok((status, out))
-}
-
-/// The entries of the table behind these commands: blocks 125 and 1000.
-const ENTRIES: [u8; 8] = [0x00, 0x00, 0x0f, 0x05, 0x02, 0x00, 0x0a, 0x07];
-
-/// How many copies of the table have the serial number 7 and these entries, and end with FF.
-fn copies_of_table(packs: &mut MemPacks) -> Result<u32, Fail> {
-    let mut count = 0u32;
-    let mut bytes = [0u8; 512];
-    for block in [340648, 340650, 340652, 340654, 340656] {
-        packs.read(0, block, &mut bytes)?;
-        let is_serial = bytes.starts_with(&[7, 0, 0, 0, 0, 0, 0, 0]);
-        let is_listed = bytes[8..].starts_with(&ENTRIES);
-        if is_serial && is_listed && bytes[511] == 0xff {
-            count = count.saturating_add(1);
-        }
-    }
-    Ok(count)
-}
-
-/// Adds one block after another from 3000 on, and answers how many commands came to status 0.
-fn add_blocks(alloc: Global, count: u32, packs: &mut MemPacks) -> Result<u32, Fail> {
-    let mut done = 0u32;
-    for before in 0..count {
-        let line = format!(in alloc; "bad144 add 0 rp06 {}", u64::from(before) + 3000)?;
-        let (status, _) = tool(alloc, line.as_str(), packs)?;
-        if status == 0 {
-            done = done.saturating_add(1);
-        }
-    }
-    Ok(done)
-}
-
-#[test]
-fn bad144_tool_run(rt: HostRuntime) -> Result<(), Fail> {
-    let mut packs = packs_of(rt.alloc(), b"", b"", NONE.packs)?;
-    for (line, status, text) in TOOL {
-        let (answer, out) = tool(rt.alloc(), line, &mut packs)?;
-        assert_eq!(rt; answer, status, "{line}");
-        assert_eq!(rt; out.taken(), text, "{line}");
-    }
-    assert_eq!(rt; copies_of_table(&mut packs)?, 5);
-    assert!(rt; packs.marked(0, 125)? && !packs.marked(0, 1000)?);
-    Ok(())
-}
-
-/// The next replacement is marked; and then all entries are used.
-#[test]
-fn no_replacement_left(rt: HostRuntime) -> Result<(), Fail> {
-    let mut packs = listed(rt.alloc(), &ENTRIES, &[340645], NONE.packs)?;
-    let (_, out) = tool(rt.alloc(), "bad144 add 0 rp06 2000", &mut packs)?;
-    assert_eq!(rt; out.taken(), b"refused spare 2\n".as_slice());
-    packs.set_mark(0, 340645, false)?;
-    assert_eq!(rt; add_blocks(rt.alloc(), 124, &mut packs)?, 124);
-    let (_, out) = tool(rt.alloc(), "bad144 add 0 rp06 2000", &mut packs)?;
-    assert_eq!(rt; out.taken(), b"refused full\n".as_slice());
     Ok(())
 }

@@ -1,1 +1,4 @@
+pub mod FormatLaws
 pub mod PollLaws
+pub mod StageLaws
+pub mod SurveyLaws

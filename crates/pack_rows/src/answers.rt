@@ -55,30 +55,83 @@ const BLOCKS: [(u32, &[u8], &str); 4] = [
     (126, b"\x00\x0f\xf0\xff", "blk 126 hex 000ff0ff\n"),
 ];
 
-#[test]
-fn lines(rt: HostRuntime) {
+/// Whether the line of an answer is this one.
+fn is_answered(line: u64, id: u32, outcome: Outcome, wanted: &str) -> bool {
+    answer_line(line, id, outcome).as_bytes() == wanted.as_bytes()
+}
+
+/// The first line of an answer that is another one; "" where none is.
+fn other_answer() -> &'static str {
     for (outcome, wanted) in &ANSWERS {
-        assert!(rt;
-            answer_line(4, 30, *outcome).as_bytes() == wanted.as_bytes(),
-            "{wanted}"
-        );
-    }
-    for (class, wanted) in &NOISES {
-        assert!(rt;
-            noise_line(7, *class).as_bytes() == wanted.as_bytes(),
-            "{wanted}"
-        );
-    }
-    let mut line = BlockLine::new();
-    for (k, bytes, wanted) in &BLOCKS {
-        if !bytes.is_empty() && bytes.len() <= 512 {
-            line.write(*k, bytes);
-            assert!(rt; line.as_bytes() == wanted.as_bytes(), "{wanted}");
+        if !is_answered(4, 30, *outcome, wanted) {
+            return wanted;
         }
     }
+    ""
+}
+
+/// Whether the line of noise is this one.
+fn is_classed(class: NoiseClass, wanted: &str) -> bool {
+    noise_line(7, class).as_bytes() == wanted.as_bytes()
+}
+
+/// The first line of noise that is another one; "" where none is.
+fn other_noise() -> &'static str {
+    for (class, wanted) in &NOISES {
+        if !is_classed(*class, wanted) {
+            return wanted;
+        }
+    }
+    ""
+}
+
+/// Whether the line of a block is this one, written where another one stood.
+fn is_block(line: &mut BlockLine, k: u32, bytes: &[u8], wanted: &str) -> bool
+    requires some { 1 ≤ length bytes.now }
+    requires few { length bytes.now ≤ 512 }
+{
+    line.write(k, bytes);
+    line.as_bytes() == wanted.as_bytes()
+}
+
+/// The first line of a block that is another one; "" where none is.
+fn other_block(line: &mut BlockLine) -> &'static str {
+    for (k, bytes, wanted) in &BLOCKS {
+        if !bytes.is_empty() && bytes.len() <= 512 && !is_block(line, *k, bytes, wanted) {
+            return wanted;
+        }
+    }
+    ""
+}
+
+/// Whether the line of a block that is one byte all through is this one.
+fn is_filled(fill: &mut FillLine, k: u32, byte: u8, wanted: &[u8]) -> bool {
+    fill.write(k, byte);
+    fill.as_bytes() == wanted
+}
+
+#[test]
+fn lines_of_answers(rt: HostRuntime) {
+    assert_eq!(rt; other_answer(), "");
+    let long = "ans 4294967295 at 18446744073709551615 eof\n";
+    assert!(rt; is_answered(u64::MAX, u32::MAX, Outcome::Eof, long));
+}
+
+#[test]
+fn lines_of_noise(rt: HostRuntime) {
+    assert_eq!(rt; other_noise(), "");
+}
+
+#[test]
+fn lines_of_blocks(rt: HostRuntime) {
+    let mut line = BlockLine::new();
+    let word = other_block(&mut line);
+    assert_eq!(rt; word, "");
+}
+
+#[test]
+fn lines_of_fills(rt: HostRuntime) {
     let mut fill = FillLine::new();
-    fill.write(126, 10);
-    assert!(rt; fill.as_bytes() == b"blk 126 fill 0a\n".as_slice());
-    let long = answer_line(u64::MAX, u32::MAX, Outcome::Eof);
-    assert!(rt; long.as_bytes() == b"ans 4294967295 at 18446744073709551615 eof\n".as_slice());
+    let is_so = is_filled(&mut fill, 126, 10, b"blk 126 fill 0a\n");
+    assert!(rt; is_so);
 }

@@ -1,6 +1,7 @@
 use mass_gather::*;
 use mass_outside::mem_streams::MemSink;
 use outside_traits::traits::{Sink, SinkFailed};
+use std::alloc::Global;
 use std::test::Fail;
 
 /// Pieces of these sizes are put to a sink with so much room, whose call of a number fails: whether all went well, and how
@@ -93,25 +94,43 @@ fn put_pieces<T: Sink>(
     gather.flush(sink)
 }
 
-#[test]
-fn pieces(rt: HostRuntime) -> Result<(), Fail> {
-    let alloc = rt.alloc();
+/// The text whose pieces are put.
+fn text(alloc: Global) -> Result<Vec<u8>, Fail> {
     let mut text = Vec::new(alloc);
     for i in 0..20000u32 {
         text.push((i % 251) as u8)?;
     }
+    Ok(text)
+}
+
+/// What comes of the pieces of a row that it does not say; "" if nothing does.
+fn otherwise(gather: &mut Gather, sink: &mut MemSink, text: &[u8], row: &Row) -> &'static str {
+    let well = put_pieces(gather, &row.sizes, text, sink).is_ok();
+    if well != row.well {
+        return "the answer";
+    }
+    if sink.taken() != &text[..row.came.min(text.len())] {
+        return "the bytes";
+    }
+    if !gather.is_empty() || gather.len() != 0 {
+        return "what is kept";
+    }
+    ""
+}
+
+/// The same of a new sink and a new gather.
+fn row_otherwise(alloc: Global, text: &[u8], row: &Row) -> Result<&'static str, Fail> {
+    let mut gather = Gather::new(alloc)?;
+    let mut sink = MemSink::new(alloc, row.room, Vec::from_slice(alloc, &[row.fail])?)?;
+    Ok(otherwise(&mut gather, &mut sink, text, row))
+}
+
+#[test]
+fn pieces(rt: HostRuntime) -> Result<(), Fail> {
+    let text = text(rt.alloc())?;
     for row in &ROWS {
-        let mut sink = MemSink::new(alloc, row.room, Vec::from_slice(alloc, &[row.fail])?)?;
-        let mut gather = Gather::new(alloc)?;
-        let well = put_pieces(&mut gather, &row.sizes, text.as_slice(), &mut sink).is_ok();
-        assert!(rt; well == row.well, "room {}, call {}", row.room, row.fail);
-        assert!(rt;
-            sink.taken() == &text[..row.came.min(text.len())],
-            "room {}, call {}",
-            row.room,
-            row.fail
-        );
-        assert!(rt; gather.is_empty() && gather.len() == 0);
+        let word = row_otherwise(rt.alloc(), text.as_slice(), row)?;
+        assert_eq!(rt; word, "", "room {}, call {}", row.room, row.fail);
     }
     Ok(())
 }

@@ -37,12 +37,44 @@ fn moved(packs: &mut MemPacks) -> Result<u32, Fail> {
     Ok(count)
 }
 
-/// A table of ten entries, to which a block below them is added while each write fails in turn: the moves up to that
-/// write were done, from the last replacement down, and the block is not marked.
-#[test]
-fn each_write_fails_in_turn(rt: HostRuntime) -> Result<(), Fail> {
-    // each turn makes the table by 5 and 10 times 6 writes, fills 11 replacements, and then adds the block
-    let mut fail = Vec::new(rt.alloc());
+/// Makes the table, with ten entries, and fills the replacements of these and one more.
+fn is_made(packs: &mut MemPacks) -> Result<bool, Fail> {
+    if fresh(packs, 0, DriveKind::Rm03, 7).is_err() {
+        return Ok(false);
+    }
+    for block in 0..10u32 {
+        if add(packs, 0, DriveKind::Rm03, 1000 + block, WAY).is_err() {
+            return Ok(false);
+        }
+    }
+    for j in 0..11u32 {
+        packs.write(0, replacement(DriveKind::Rm03, j), &[j as u8 + 1; 512])?;
+    }
+    Ok(true)
+}
+
+/// What is otherwise where write `n` of those that add the block fails; "" where nothing is.
+fn turn(packs: &mut MemPacks, n: u64) -> Result<&'static str, Fail>
+    requires { 1 ≤ n }
+{
+    if !is_made(packs)? {
+        return Ok("the table");
+    }
+    if add(packs, 0, DriveKind::Rm03, 999, WAY) != Err(ToolFault::Store) {
+        return Ok("the answer");
+    }
+    if moved(packs)? != (n - 1).min(10) as u32 {
+        return Ok("the moves");
+    }
+    if packs.marked(0, 999)? {
+        return Ok("the mark");
+    }
+    Ok("")
+}
+
+/// The writes that fail: each turn makes the table by 5 and 10 times 6 writes, fills 11 replacements, and then adds the block.
+fn each_write(alloc: Global) -> Result<Vec<FailCall>, Fail> {
+    let mut fail = Vec::new(alloc);
     let mut number = 0u64;
     for n in 1..=16u64 {
         number = number.saturating_add(76 + n);
@@ -51,20 +83,30 @@ fn each_write_fails_in_turn(rt: HostRuntime) -> Result<(), Fail> {
             number,
         })?;
     }
-    let mut packs = packs(rt.alloc(), fail)?;
+    Ok(fail)
+}
+
+/// A table of ten entries, to which a block below them is added while each write fails in turn: the moves up to that
+/// write were done, from the last replacement down, and the block is not marked.
+#[test]
+fn each_write_fails_in_turn(rt: HostRuntime) -> Result<(), Fail> {
+    let mut packs = packs(rt.alloc(), each_write(rt.alloc())?)?;
     for n in 1..=16u64 {
-        assert!(rt; fresh(&mut packs, 0, DriveKind::Rm03, 7).is_ok());
-        for block in 0..10u32 {
-            assert!(rt; add(&mut packs, 0, DriveKind::Rm03, 1000 + block, WAY).is_ok());
-        }
-        for j in 0..11u32 {
-            packs.write(0, replacement(DriveKind::Rm03, j), &[j as u8 + 1; 512])?;
-        }
-        assert!(rt; add(&mut packs, 0, DriveKind::Rm03, 999, WAY) == Err(ToolFault::Store));
-        assert_eq!(rt; moved(&mut packs)?, (n - 1).min(10) as u32, "write {n}");
-        assert!(rt; !packs.marked(0, 999)?);
+        let word = turn(&mut packs, n)?;
+        assert_eq!(rt; word, "", "write {n}");
     }
     Ok(())
+}
+
+/// Whether the lists are printed before and behind a table with one entry.
+fn is_listed(packs: &mut MemPacks, out: &mut MemSink) -> bool {
+    let kind = DriveKind::Rm03;
+    list(packs, 0, kind, out).is_ok()
+        && fresh(packs, 0, kind, 7).is_ok()
+        && add(packs, 0, kind, 1000, WAY).is_ok()
+        && list(packs, 0, kind, out).is_ok()
+        && out.taken()
+            == b"no table\nserial 7 entries 1\nentry 0 cylinder 6 track 1 sector 8 block 1000\n".as_slice()
 }
 
 /// The list of a pack's table, and of a pack whose image ends before its copies.
@@ -72,14 +114,8 @@ fn each_write_fails_in_turn(rt: HostRuntime) -> Result<(), Fail> {
 fn lists(rt: HostRuntime) -> Result<(), Fail> {
     let mut packs = packs(rt.alloc(), Vec::new(rt.alloc()))?;
     let mut out = MemSink::new(rt.alloc(), 200, Vec::new(rt.alloc()))?;
-    assert!(rt; list(&mut packs, 0, DriveKind::Rm03, &mut out).is_ok());
-    assert!(rt; fresh(&mut packs, 0, DriveKind::Rm03, 7).is_ok());
-    assert!(rt; add(&mut packs, 0, DriveKind::Rm03, 1000, WAY).is_ok());
-    assert!(rt; list(&mut packs, 0, DriveKind::Rm03, &mut out).is_ok());
-    assert_eq!(rt;
-        out.taken(),
-        b"no table\nserial 7 entries 1\nentry 0 cylinder 6 track 1 sector 8 block 1000\n".as_slice()
-    );
+    let is_so = is_listed(&mut packs, &mut out);
+    assert!(rt; is_so);
     Ok(())
 }
 

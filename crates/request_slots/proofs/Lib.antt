@@ -1,5 +1,5 @@
 pub mod FillLaws
-pub mod OrderLaws
+pub mod RoomLaws
 pub mod SlotLaws
 pub mod StepLaws
 pub mod StoreLaws

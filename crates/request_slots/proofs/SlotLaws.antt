@@ -158,14 +158,14 @@ pub record Replaced (slots after : List (Option Slot)) (p : ℕ) (slot new : Slo
   pub here : slot_in slots p ≡ Some slot
   pub there : after ≡ set slots p (Some new)
 
-pub replaced : {slots between after : List (Option Slot)} {p : ℕ} {slot new : Slot} → slot_in slots p ≡ Some slot → between ≡ set slots p None → after ≡ set between p (Some new)
-    → Replaced slots after p slot new
-replaced {slots} {between} {after} {p} {slot} {new} here taken put = record {
+pub replaced : {slots between after : List (Option Slot)} {p next : ℕ} {slot new : Slot} → slot_in slots p ≡ Some slot → between ≡ set slots p None → next ≡ p
+    → after ≡ set between next (Some new) → Replaced slots after p slot new
+replaced {slots} {between} {after} {p} {next} {slot} {new} here taken same put = record {
   here = here;
-  there = put ∙ ap (λ (xs : List (Option Slot)). set xs p (Some new)) taken ∙ set-set slots p None (Some new);
+  there = put ∙ ap (λ (q : ℕ). set between q (Some new)) same ∙ ap (λ (xs : List (Option Slot)). set xs p (Some new)) taken ∙ set-set slots p None (Some new);
 }
 
--- the slots where a slot was reslotd by one with the same buffer
+-- the slots where a slot was replaced by one with the same buffer
 pub kept-replaced : {m : Memory} {slots after : List (Option Slot)} {p : ℕ} {slot new : Slot} → IsKept m slots → Replaced slots after p slot new
     → loan_of new.buffer ≡ loan_of slot.buffer → new.asked ≡ slot.asked → IsKept m after
 kept-replaced {m} {slots} {after} {p} {slot} {new} kept r loan asked =

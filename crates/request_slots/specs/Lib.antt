@@ -1,4 +1,3 @@
 pub mod Lending
-pub mod Order
 pub mod Requests
 pub mod Stored

@@ -11,6 +11,10 @@ slot_at slots p = slice_index_or slots p None
 abbrev pub held_at : List (Option Held) → ℕ → Held
 held_at slots p = unwrap_or (slot_at slots p) no_held
 
+-- a slot is free
+abbrev pub HasFree : List (Option Held) → Type 0
+HasFree slots = (p : ℕ) × (p < length slots) × (slot_at slots p ≡ None)
+
 -- how many frames all requests in their slots have
 abbrev pub frames_lent : List (Option Held) → ℕ
 frames_lent [] = 0

@@ -1,6 +1,7 @@
 -- The slots as they stand in memory: which request each has, and who has its buffer.
-use Rattle.std.specs.Prelude.{◌≡◌, ◌≢◌, ℕ, ◌+◌, ◌≤◌, Bool, true, false, List, map, length, slice_index_or, Option, None, Some, is_some}
+use Rattle.std.specs.Prelude.{◌≡◌, ◌≢◌, ℕ, zero, suc, ◌+◌, ◌≤◌, Bool, true, false, List, [], ◌∷◌, map, length, slice_index_or, Option, None, Some}
 use Rattle.std.specs.Option.{option_map}
+use Rattle.slab.specs.Slab.{Slab}
 use Rattle.main_memory.specs.Blocks.{Loan, IsLoan}
 use Rattle.main_memory.specs.Memory.{Memory, IsMemory, IsLent, AreApart, blocks_of}
 use Rattle.driver_machine.specs.World.{Held}
@@ -22,6 +23,16 @@ is_on_bus (Adapter buffer) = true
 -- the slot of a number, if a request stands in it
 abbrev pub slot_in : List (Option Slot) → ℕ → Option Slot
 slot_in slots p = slice_index_or slots p None
+
+-- so many slots: those of a list, and empty ones behind them
+unfoldable pub filled_up : {T : Type 0} → ℕ → List (Option T) → List (Option T)
+filled_up zero slots = []
+filled_up (suc n) [] = None ∷ filled_up n []
+filled_up (suc n) (slot ∷ slots) = slot ∷ filled_up n slots
+
+-- all slots for which a slab has room
+abbrev pub all_slots : Slab Slot → List (Option Slot)
+all_slots slab = filled_up slab.capacity slab.slots
 
 -- a request in its slot, with the blocks that its buffer holds in this memory
 abbrev pub held_of : Memory → Slot → Held
@@ -50,9 +61,3 @@ pub record IsKept (memory : Memory) (slots : List (Option Slot)) : Type 0 where
   pub apart : (p q : ℕ) → (slot other : Slot) → p ≢ q → slot_in slots p ≡ Some slot → slot_in slots q ≡ Some other
       → AreApart (loan_of slot.buffer) (loan_of other.buffer)
   pub counted : length memory.free + frames_lent (as_seen memory slots) ≡ 16384
-
--- the free frames are counted, and the slots that are taken are told apart
-pub record IsStored (memory : Memory) (free : ℕ) (slots : List (Option Slot)) (taken : List Bool) : Type 0 where
-  pub kept : IsKept memory slots
-  pub left : free ≡ length memory.free
-  pub told : taken ≡ map is_some slots

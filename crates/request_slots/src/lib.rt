@@ -2,15 +2,14 @@
 //! a request is seen with the blocks that its buffer holds.
 //!
 //! What is proved: `Slots`: outstanding requests by slot, each seen with the blocks that its buffer holds, the last one perhaps
-//! short. `join` lends the frames and puts a write's blocks there; `load` hands an adapter a part of the buffer; `step`,
-//! `complete`, `repair`, `end` and `leave` change just that slot; `block` reads a block of it, and `fill` gives a byte only
-//! where a block is that byte all through. `free_slot` and `free_frames` are exact, and cost the same however many requests are
-//! outstanding; that no two requests share a frame is a law.
+//! short. `join` takes a free slot, lends the frames and puts a write's blocks there; `load` hands an adapter a part of the
+//! buffer; `step`, `complete`, `repair`, `end` and `leave` change just that slot; `block` reads a block of it, and `fill` gives a
+//! byte only where a block is that byte all through. That no two requests share a frame is a law. A free slot is found at once
+//! however many requests are outstanding, and a slot that was never taken is never touched: that is not proved.
 #![tactic(auto)]
 
 mod asked;
 mod fill;
-mod occupancy;
 mod slot;
 mod slots;
 

@@ -1,11 +1,13 @@
 // A slot: what the driver keeps of a request.
 ghost use Rattle.std.specs.Prelude.{◌≡◌, ◌<◌, true, None, Some, length, slice_set, IsSome, IfOk, replicate};
+ghost use Rattle.slab.specs.Slab.{HasRoomFor};
 ghost use Rattle.request_slots.specs.declared.slot.Slot.{Slot};
-ghost use Rattle.request_slots.specs.Stored.{slot_in};
+ghost use Rattle.request_slots.specs.Stored.{slot_in, all_slots};
 
 use crate::asked::Asked;
 use main_memory::{Buffer, Bus, Cpu};
 use outside_traits::traits::NoMemory;
+use slab::Slab;
 use std::alloc::Global;
 
 // Who has the buffer of a request.
@@ -26,57 +28,49 @@ pub struct Slot {
 }
 
 // So many free slots.
-pub fn free_slots(alloc: Global, count: u32) -> Result<Vec<Option<Slot>>, NoMemory>
-    ensures { IfOk result (λ slots. slots.items ≡ replicate count None) }
+pub fn free_slots(alloc: Global, count: u32) -> Result<Slab<Slot>, NoMemory>
+    ensures { IfOk result (λ slots. all_slots slots ≡ replicate count None) }
 {
-    let mut slots = match Vec::with_capacity(alloc, count as usize) {
-        Ok(slots) => slots,
-        Err(_) => return Err(NoMemory),
-    };
-    for _ in 0..count {
-        slots.push_reserved(None);
+    match Slab::with_capacity(alloc, count as usize) {
+        Ok(slots) if slots.capacity() == count as usize => Ok(slots),
+        _ => Err(NoMemory),
     }
-    Ok(slots)
 }
 
 // The slot of a number.
-pub fn slot_at(slots: &[Option<Slot>], number: u32) -> &Slot
-    requires { IsSome (slot_in slots.now number) }
-    ensures { slot_in slots.now number ≡ Some result.now }
+pub fn slot_at(slots: &Slab<Slot>, number: u32) -> &Slot
+    requires { IsSome (slot_in (all_slots slots.now) number) }
+    ensures { slot_in (all_slots slots.now) number ≡ Some result.now }
 {
-    match slots.get(number as usize) {
-        Some(Some(slot)) => slot,
-        _ => unreachable!(),
-    }
+    &slots[number as usize]
 }
 
-// Takes a slot out.
-pub fn take_slot(slots: &mut Vec<Option<Slot>>, number: u32) -> Slot
-    requires { IsSome (slot_in slots.old.items number) }
-    ensures slot { slot_in slots.old.items number ≡ Some result }
-    ensures rest { slots.new.items ≡ slice_set slots.old.items number None }
+// Takes a slot out. What is put in next has its number.
+pub fn take_slot(slots: &mut Slab<Slot>, number: u32) -> Slot
+    requires { IsSome (slot_in (all_slots slots.old) number) }
+    ensures slot { slot_in (all_slots slots.old) number ≡ Some result }
+    ensures rest { all_slots slots.new ≡ slice_set (all_slots slots.old) number None }
+    ensures next { slots.new.vacant_key ≡ number }
+    ensures room { HasRoomFor slots.new 1 }
 {
-    match slots[number as usize].take() {
-        Some(slot) => slot,
-        None => unreachable!(),
-    }
+    slots.remove(number as usize)
 }
 
 // The request in a slot has ended.
-pub fn end_slot(slots: &mut Vec<Option<Slot>>, number: u32)
-    requires { IsSome (slot_in slots.old.items number) }
-    ensures { (slot : Slot) × (slot_in slots.old.items number ≡ Some slot) × (slots.new.items ≡ slice_set slots.old.items number (Some (record slot { ended = true }))) }
+pub fn end_slot(slots: &mut Slab<Slot>, number: u32)
+    requires { IsSome (slot_in (all_slots slots.old) number) }
+    ensures { (slot : Slot) × (slot_in (all_slots slots.old) number ≡ Some slot) × (all_slots slots.new ≡ slice_set (all_slots slots.old) number (Some (record slot { ended = true }))) }
 {
-    match &mut slots[number as usize] {
-        Some(slot) => slot.ended = true,
-        None => unreachable!(),
-    }
+    slots[number as usize].ended = true;
 }
 
-// Puts a slot in.
-pub fn put_slot(slots: &mut Vec<Option<Slot>>, number: u32, slot: Slot)
-    requires { number < length slots.old.items }
-    ensures { slots.new.items ≡ slice_set slots.old.items number (Some slot) }
+// Puts a slot in, and gives its number.
+pub fn put_slot(slots: &mut Slab<Slot>, slot: Slot) -> usize
+    requires { HasRoomFor slots.old 1 }
+    ensures next { result ≡ slots.old.vacant_key }
+    ensures inside { result < length (all_slots slots.old) }
+    ensures free { slot_in (all_slots slots.old) result ≡ None }
+    ensures rest { all_slots slots.new ≡ slice_set (all_slots slots.old) result (Some slot) }
 {
-    slots[number as usize] = Some(slot);
+    slots.insert_reserved(slot)
 }

@@ -1,5 +1,5 @@
 // The slots themselves.
-ghost use Rattle.std.specs.Prelude.{◌≡◌, ◌≢◌, ◌≤◌, ◌<◌, ◌+◌, ◌-◌, ◌*◌, if◌then◌else◌, ℕ, true, false, min, None, Some, IsSome, IfOk, IfSome, IfNone, length, replicate, slice_set};
+ghost use Rattle.std.specs.Prelude.{◌≡◌, ◌≢◌, ◌≤◌, ◌<◌, ◌+◌, ◌-◌, ◌*◌, if◌then◌else◌, ℕ, true, false, min, None, Some, IsSome, IfOk, IfSome, length, replicate, slice_set};
 ghost use Rattle.main_memory.specs.Bytes.{filled, IsFill};
 ghost use Rattle.main_memory.specs.Frames.{frames_needed};
 ghost use Rattle.hardware_table.specs.Adapter.{loaded, completed};
@@ -7,17 +7,17 @@ ghost use Rattle.mba_adapter.specs.Loaded.{loaded_buffer};
 ghost use Rattle.driver_machine.specs.World.{Held, count_of, block_in};
 ghost use Rattle.driver_machine.specs.Acts.{repaired_at};
 ghost use Rattle.driver_machine.specs.Guards.{IsApart};
-ghost use Rattle.request_slots.specs.Requests.{slot_at, held_at, frames_lent, asked_of, IsWhole, IsHeldFor};
+ghost use Rattle.request_slots.specs.Requests.{slot_at, held_at, frames_lent, asked_of, IsWhole, HasFree, IsHeldFor};
 
 mod steps;
 
 use crate::asked::Asked;
 use crate::fill::{lend_filled, repair_block};
-use crate::occupancy::Occupancy;
 use crate::slot::{Holder, Slot, end_slot, free_slots, put_slot, slot_at, take_slot};
-use main_memory::{MainMemory, frames_of};
+use main_memory::MainMemory;
 use mba_adapter::{Adapter, Ended};
 use outside_traits::traits::NoMemory;
+use slab::Slab;
 use std::alloc::Global;
 use std::marker::Model;
 
@@ -28,9 +28,7 @@ const FRAMES: u32 = 16384;
 #[derive(Drop)]
 pub struct Slots {
     memory: MainMemory,
-    free: u32,
-    slots: Vec<Option<Slot>>,
-    occupancy: Occupancy,
+    slots: Slab<Slot>,
 }
 
 impl Model for Slots {
@@ -39,11 +37,11 @@ impl Model for Slots {
 
     ghost Value = { List (Option Held) };
 
-    ghost use Rattle.request_slots.specs.Stored.{as_seen, IsStored};
+    ghost use Rattle.request_slots.specs.Stored.{all_slots, as_seen, IsKept};
 
-    ghost view = { λ s. as_seen s.memory s.slots.items };
+    ghost view = { λ s. as_seen s.memory (all_slots s.slots) };
 
-    ghost invariant = { λ s. IsStored s.memory s.free s.slots.items s.occupancy };
+    ghost invariant = { λ s. IsKept s.memory (all_slots s.slots) };
 }
 
 impl Slots {
@@ -53,15 +51,8 @@ impl Slots {
         ensures { IfOk result (λ s. s ≡ replicate (min count 16384) None) }
     {
         let memory = MainMemory::new(alloc)?;
-        let count = count.min(FRAMES);
-        let slots = free_slots(alloc, count)?;
-        let occupancy = Occupancy::new(alloc, count)?;
-        Ok(Slots {
-            memory,
-            free: FRAMES,
-            slots,
-            occupancy,
-        })
+        let slots = free_slots(alloc, count.min(FRAMES))?;
+        Ok(Slots { memory, slots })
     }
 
     /// The law of slots: each request in its slot is whole, and has no frame of another one; no more frames are lent than
@@ -80,28 +71,12 @@ impl Slots {
     pub fn count(&self) -> u32
         ensures { result ≡ length self.now }
     {
-        self.slots.len() as u32
+        self.slots.capacity() as u32
     }
 
-    /// A free slot, found at once; none where a request stands in each.
-    pub fn free_slot(&self) -> Option<u32>
-        ensures some { IfSome result (λ p. (p < length self.now) × (slot_at self.now p ≡ None)) }
-        ensures none { IfNone result ((p : ℕ) → p < length self.now → IsSome (slot_at self.now p)) }
-    {
-        self.occupancy.free()
-    }
-
-    /// How many frames are free: those that are not lent to a request in its slot.
-    pub fn free_frames(&self) -> u32
-        ensures { result + frames_lent self.now ≡ 16384 }
-    {
-        self.free
-    }
-
-    /// Puts a request into a free slot, with a buffer. The bytes of a write go into the buffer.
-    pub fn join(&mut self, slot: u32, asked: Asked, bytes: &[u8])
-        requires free { slot < length self.old }
-        requires none { slot_at self.old slot ≡ None }
+    /// Puts a request into a free slot, with a buffer, and gives the slot. The bytes of a write go into the buffer.
+    pub fn join(&mut self, asked: Asked, bytes: &[u8]) -> u32
+        requires free { HasFree self.old }
         requires some { 1 ≤ asked.count }
         requires few { asked.count ≤ 127 }
         requires last_some { 1 ≤ asked.last }
@@ -109,17 +84,18 @@ impl Slots {
         requires inside { asked.offset < 512 }
         requires room { frames_lent self.old + frames_needed asked.count asked.offset asked.last ≤ 16384 }
         requires bytes { length bytes.now ≡ (if asked.write then 512 * (asked.count - 1) + asked.last else 0) }
-        ensures { (h : Held) × IsHeldFor asked bytes.now h × (self.new ≡ slice_set self.old slot (Some h)) }
+        ensures free { result < length self.old }
+        ensures none { slot_at self.old result ≡ None }
+        ensures joined { (h : Held) × IsHeldFor asked bytes.now h × (self.new ≡ slice_set self.old result (Some h)) }
     {
+        prove!(self.slots.len() < self.slots.capacity());
         let buffer = lend_filled(&mut self.memory, asked, bytes);
-        self.free -= frames_of(&buffer).len() as u32;
-        self.occupancy.take(slot);
         let joined = Slot {
             asked,
             ended: false,
             buffer: Holder::Driver(buffer),
         };
-        put_slot(&mut self.slots, slot, joined);
+        put_slot(&mut self.slots, joined) as u32
     }
 
     /// What the request in a slot asks.
@@ -127,7 +103,7 @@ impl Slots {
         requires { IsSome (slot_at self.now slot) }
         ensures { result ≡ asked_of (held_at self.now slot) }
     {
-        slot_at(self.slots.as_slice(), slot).asked
+        slot_at(&self.slots, slot).asked
     }
 
     /// Hands the buffer of a slot to an adapter, for a transfer of `count` of its blocks, from block `skip` on.
@@ -155,7 +131,7 @@ impl Slots {
             ended,
             buffer: Holder::Adapter(adapter.load(buffer, skip, count)),
         };
-        put_slot(&mut self.slots, slot, handed);
+        put_slot(&mut self.slots, handed);
     }
 
     /// Takes the data interrupt: gives the buffer of a slot back to the driver, and says how the transfer ended. The
@@ -184,7 +160,7 @@ impl Slots {
             ended,
             buffer: Holder::Driver(buffer),
         };
-        put_slot(&mut self.slots, slot, handed);
+        put_slot(&mut self.slots, handed);
         outcome
     }
 
@@ -213,7 +189,7 @@ impl Slots {
             ended,
             buffer: Holder::Driver(buffer),
         };
-        put_slot(&mut self.slots, slot, repaired);
+        put_slot(&mut self.slots, repaired);
     }
 
     /// The request in a slot has ended; it keeps its slot until it leaves.
@@ -232,7 +208,7 @@ impl Slots {
         requires inside { k < count_of (held_at self.now slot) }
         ensures { into.new ≡ filled 512 (block_in (held_at self.now slot) k) }
     {
-        let Holder::Driver(buffer) = &slot_at(self.slots.as_slice(), slot).buffer else {
+        let Holder::Driver(buffer) = &slot_at(&self.slots, slot).buffer else {
             unreachable!()
         };
         self.memory.fetch(buffer, k, into);
@@ -245,7 +221,7 @@ impl Slots {
         requires inside { k < count_of (held_at self.now slot) }
         ensures { IfSome result (λ byte. IsFill byte (block_in (held_at self.now slot) k)) }
     {
-        let Holder::Driver(buffer) = &slot_at(self.slots.as_slice(), slot).buffer else {
+        let Holder::Driver(buffer) = &slot_at(&self.slots, slot).buffer else {
             unreachable!()
         };
         self.memory.fill(buffer, k)
@@ -261,8 +237,6 @@ impl Slots {
         let Holder::Driver(buffer) = buffer else {
             unreachable!()
         };
-        self.free += frames_of(&buffer).len() as u32;
-        self.occupancy.give(slot);
         self.memory.give_back(buffer);
     }
 }

@@ -71,7 +71,7 @@ impl Slots {
         ensures never_again { IsTrue (P.tells packs.new) → IsTrue (P.tells packs.old) }
         ensures cause { HasCause (P.faults packs.old) (P.faults packs.new) result }
     {
-        let Holder::Adapter(buffer) = &slot_at(self.slots.as_slice(), slot).buffer else {
+        let Holder::Adapter(buffer) = &slot_at(&self.slots, slot).buffer else {
             unreachable!()
         };
         adapter.step_sector(drive, packs, unit, &mut self.memory, buffer, book)

@@ -1,12 +1,9 @@
-use Rattle.std.proofs.Common.{◌≡◌, List, Option, Some, ap, sym, ◌∙◌}
+use Rattle.std.proofs.Common.{ap, ◌∙◌}
 use Rattle.main_memory.specs.Bytes.{filled}
-use Rattle.request_slots.specs.declared.slot.Slot.{Slot}
-use Rattle.request_slots.specs.Stored.{loan_of, slot_in}
+use Rattle.request_slots.specs.Stored.{loan_of}
 use Rattle.request_slots.proofs.StoreLaws.{block_seen}
 use Rattle.request_slots.proofs.slots.Slots.block.Goals as goal
 
 pub returns : goal.returns
 returns c =
-    let here : slot_in c.self.inside.slots.items c.args.slot ≡ Some c.slot_at.result.now =
-    sym (ap (λ (slots : List (Option Slot)). slot_in slots c.args.slot) c.as_slice.ensures.value) ∙ c.slot_at.ensures in
-    c.fetch.ensures.block ∙ ap (filled 512) (block_seen c.self.inside.memory c.args.slot c.args.k c.self.invariant.kept c.self.view_is here (ap loan_of c.in-Driver.is) c.requires.inside)
+    c.fetch.ensures.block ∙ ap (filled 512) (block_seen c.self.inside.memory c.args.slot c.args.k c.self.invariant c.self.view_is c.slot_at.ensures (ap loan_of c.in-Driver.is) c.requires.inside)

@@ -1,17 +1,22 @@
 use Rattle.std.proofs.Common.{true, refl, ap, sym, ◌∙◌}
 use Rattle.driver_machine.specs.World.{Held}
-use Rattle.request_slots.specs.Stored.{loan_of}
-use Rattle.request_slots.proofs.SlotLaws.{replaced, as_seen-replaced, held_of-handed}
-use Rattle.request_slots.proofs.StoreLaws.{stored-replaced}
+use Rattle.request_slots.specs.declared.slot.Holder.TheVariants.{Adapter}
+use Rattle.request_slots.specs.Stored.{loan_of, all_slots}
+use Rattle.request_slots.proofs.SlotLaws.{Replaced, replaced, kept-replaced, as_seen-replaced, held_of-handed}
 use Rattle.request_slots.proofs.slots.Slots.load.Goals as goal
+
+-- the slot as it was, and with its buffer handed on
+handed : (c : goal.After-put_slot) → Replaced (all_slots c.self.inside.slots) (all_slots c.put_slot.new.slots) c.args.slot c.take_slot-ended.result (record c.take_slot-ended.result { buffer = Adapter c.load.result })
+handed c =
+    replaced c.take_slot-ended.ensures.slot c.take_slot-ended.ensures.rest (c.put_slot.ensures.next ∙ c.take_slot-ended.ensures.next) c.put_slot.ensures.rest
 
 pub invariant_of-self : goal.invariant_of-self
 invariant_of-self c =
-    stored-replaced c.self.invariant (replaced c.take_slot-ended.ensures.slot c.take_slot-ended.ensures.rest c.put_slot.ensures)
+    kept-replaced c.self.invariant (handed c)
     (c.load.ensures.same_buffer ∙ sym (ap loan_of c.in-Driver.is)) refl
 
 pub returns-clause-slots : goal.returns-clause-slots
 returns-clause-slots c =
-    as_seen-replaced c.self.inside.memory c.self.view_is (replaced c.take_slot-ended.ensures.slot c.take_slot-ended.ensures.rest c.put_slot.ensures)
+    as_seen-replaced c.self.inside.memory c.self.view_is (handed c)
     (λ (h : Held). record h { on_bus = true })
     (held_of-handed c.self.inside.memory c.take_slot-ended.result c.load.result true (c.load.ensures.same_buffer ∙ sym (ap loan_of c.in-Driver.is)))

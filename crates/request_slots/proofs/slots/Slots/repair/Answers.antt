@@ -1,22 +1,21 @@
-use Rattle.std.proofs.Common.{◌≡◌, List, Option, ap, sym, ◌∙◌, subst}
+use Rattle.std.proofs.Common.{◌≡◌, ap, sym, ◌∙◌, subst}
 use Rattle.request_slots.specs.declared.slot.Holder.{Holder}
 use Rattle.request_slots.specs.declared.slot.Holder.TheVariants.{Driver}
-use Rattle.request_slots.specs.declared.slot.Slot.{Slot}
-use Rattle.request_slots.specs.Stored.{loan_of, as_seen, IsStored}
+use Rattle.request_slots.specs.Stored.{loan_of, all_slots, as_seen, IsKept}
 use Rattle.request_slots.proofs.SlotLaws.{replaced}
-use Rattle.request_slots.proofs.StoreLaws.{put_back, repaired_stored, repaired_seen}
+use Rattle.request_slots.proofs.StoreLaws.{put_back, repaired_kept, repaired_seen}
 use Rattle.request_slots.proofs.slots.Slots.repair.Goals as goal
 
 -- the slot is put back as it was
-same_slots : (c : goal.After-put_slot) → c.put_slot.new.slots.items ≡ c.self.inside.slots.items
+same_slots : (c : goal.After-put_slot) → all_slots c.put_slot.new.slots ≡ all_slots c.self.inside.slots
 same_slots c =
-    put_back (replaced c.take_slot-ended.ensures.slot c.take_slot-ended.ensures.rest c.put_slot.ensures)
+    put_back (replaced c.take_slot-ended.ensures.slot c.take_slot-ended.ensures.rest (c.put_slot.ensures.next ∙ c.take_slot-ended.ensures.next) c.put_slot.ensures.rest)
     (ap (λ (h : Holder). record c.take_slot-ended.result { buffer = h }) (ap Driver c.repair_block-buffer.ensures.same_buffer ∙ sym c.in-Driver.is))
 
 pub invariant_of-self : goal.invariant_of-self
 invariant_of-self c =
-    subst (λ (slots : List (Option Slot)). IsStored c.repair_block-buffer.new.memory c.self.inside.free slots c.self.inside.occupancy) (sym (same_slots c))
-    (repaired_stored c.args.slot c.args.k c.args.at c.args.pattern c.self.invariant c.self.view_is c.take_slot-ended.ensures.slot (ap loan_of c.in-Driver.is) c.requires.inside c.repair_block-buffer.ensures.memory)
+    subst (IsKept c.repair_block-buffer.new.memory) (sym (same_slots c))
+    (repaired_kept c.args.slot c.args.k c.args.at c.args.pattern c.self.invariant c.self.view_is c.take_slot-ended.ensures.slot (ap loan_of c.in-Driver.is) c.requires.inside c.repair_block-buffer.ensures.memory)
 
 pub returns : goal.returns
 returns c =

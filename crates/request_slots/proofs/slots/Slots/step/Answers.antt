@@ -1,4 +1,4 @@
-use Rattle.std.proofs.Common.{◌≡◌, ◌<◌, List, Option, Some, sym, ap, ◌∙◌, subst, rules}
+use Rattle.std.proofs.Common.{◌≡◌, ◌<◌, List, Option, sym, ap, ◌∙◌, subst, rules}
 use Rattle.hardware_table.specs.Adapter.{next_window}
 use Rattle.hardware_table.specs.Moves.{was_read}
 use Rattle.main_memory.specs.Blocks.{Loan, size_at, span_of, bytes_in}
@@ -6,69 +6,65 @@ use Rattle.main_memory.specs.Memory.{IsMemory}
 use Rattle.mba_adapter.specs.Loaded.{loaded_buffer}
 use Rattle.driver_machine.specs.World.{Held, block_in}
 use Rattle.request_slots.specs.Requests.{held_at}
-use Rattle.request_slots.specs.declared.slot.Slot.{Slot}
-use Rattle.request_slots.specs.Stored.{loan_of, slot_in, as_seen, IsKept}
+use Rattle.request_slots.specs.Stored.{loan_of, all_slots, as_seen, IsKept}
 use Rattle.request_slots.proofs.SlotLaws.{loan_at}
 use Rattle.request_slots.proofs.StepLaws.{IsMoved, moved_block, length-moved_block, kept-same_frames, sound_step, shown_step, moves_as}
-use Rattle.request_slots.proofs.StoreLaws.{stored-same_frames}
 use Rattle.request_slots.proofs.slots.Slots.step.Goals as goal
 use Rattle.request_slots.proofs.slots.Slots.step.Given.{Over}
 
 -- the block that is moved is one of the buffer's
-moved : (g : Over) (c : goal.After-step_sector g) → IsMoved c.self.inside.slots.items c.args.slot c.in-Adapter.buffer (next_window c.args.adapter.now)
+moved : (g : Over) (c : goal.After-step_sector g) → IsMoved (all_slots c.self.inside.slots) c.args.slot c.in-Adapter.buffer (next_window c.args.adapter.now)
 moved g c =
-    let here : slot_in c.self.inside.slots.items c.args.slot ≡ Some c.slot_at.result.now =
-    sym (ap (λ (slots : List (Option Slot)). slot_in slots c.args.slot) c.as_slice.ensures.value) ∙ c.slot_at.ensures in
     let has : loan_of c.slot_at.result.now.buffer ≡ c.in-Adapter.buffer = ap loan_of c.in-Adapter.is in
     let loaded : c.in-Adapter.buffer ≡ loaded_buffer c.args.adapter.now =
-    sym has ∙ sym (loan_at c.self.inside.memory c.self.inside.slots.items c.args.slot c.slot_at.result.now c.self.view_is here) ∙ c.requires.loaded in
+    sym has ∙ sym (loan_at c.self.inside.memory (all_slots c.self.inside.slots) c.args.slot c.slot_at.result.now c.self.view_is c.slot_at.ensures) ∙ c.requires.loaded in
     record {
       slot = c.slot_at.result.now;
-      here = here;
+      here = c.slot_at.ensures;
       has = has;
       inside = subst (λ (l : Loan). next_window c.args.adapter.now < l.count) (sym loaded) c.step_sector.ensures.inside;
     }
 
 sound : (g : Over) (c : goal.After-step_sector g) → IsMemory c.step_sector.new.memory
 sound g c =
-    sound_step c.self.inside.memory c.self.inside.slots.items c.args.slot c.in-Adapter.buffer (next_window c.args.adapter.now) c.self.invariant.kept (moved g c) c.step_sector.new.memory
+    sound_step c.self.inside.memory (all_slots c.self.inside.slots) c.args.slot c.in-Adapter.buffer (next_window c.args.adapter.now) c.self.invariant (moved g c) c.step_sector.new.memory
     c.step_sector.result (was_read c.args.drive.now) c.step_sector.ensures.memory (search rules)
 
-kept : (g : Over) (c : goal.After-step_sector g) → IsKept c.step_sector.new.memory c.self.inside.slots.items
+kept : (g : Over) (c : goal.After-step_sector g) → IsKept c.step_sector.new.memory (all_slots c.self.inside.slots)
 kept g c =
-    kept-same_frames c.self.inside.memory c.step_sector.new.memory c.self.inside.slots.items c.self.invariant.kept c.step_sector.ensures.free (sound g c)
+    kept-same_frames c.self.inside.memory c.step_sector.new.memory (all_slots c.self.inside.slots) c.self.invariant c.step_sector.ensures.free (sound g c)
 
 pub invariant_of-self : goal.invariant_of-self
-invariant_of-self g c = stored-same_frames c.self.invariant c.step_sector.ensures.free (sound g c)
+invariant_of-self g c = kept g c
 
 pub returns-clause-slots : goal.returns-clause-slots
 returns-clause-slots g c =
     rw c.self.view_is at
-    (shown_step c.self.inside.memory c.self.inside.slots.items c.args.slot c.in-Adapter.buffer (next_window c.args.adapter.now) c.self.invariant.kept (moved g c) c.step_sector.new.memory
+    (shown_step c.self.inside.memory (all_slots c.self.inside.slots) c.args.slot c.in-Adapter.buffer (next_window c.args.adapter.now) c.self.invariant (moved g c) c.step_sector.new.memory
     c.step_sector.result (was_read c.args.drive.now) (sound g c) c.step_sector.ensures.free c.step_sector.ensures.memory)
 
 -- the block that is moved, before it is
 block_before : (g : Over) (c : goal.After-step_sector g) → bytes_in (span_of c.in-Adapter.buffer (next_window c.args.adapter.now)) c.self.inside.memory.bytes
     ≡ block_in (held_at c.args.self.now c.args.slot) (next_window c.args.adapter.now)
 block_before g c =
-    moved_block c.self.inside.memory c.self.inside.slots.items c.args.slot c.in-Adapter.buffer (next_window c.args.adapter.now) c.self.invariant.kept (moved g c)
+    moved_block c.self.inside.memory (all_slots c.self.inside.slots) c.args.slot c.in-Adapter.buffer (next_window c.args.adapter.now) c.self.invariant (moved g c)
     ∙ ap (λ (seen : List (Option Held)). block_in (held_at seen c.args.slot) (next_window c.args.adapter.now)) c.self.view_is
 
 -- and after it
 block_after : (g : Over) (c : goal.After-step_sector g) → bytes_in (span_of c.in-Adapter.buffer (next_window c.args.adapter.now)) c.step_sector.new.memory.bytes
-    ≡ block_in (held_at (as_seen c.step_sector.new.memory c.self.inside.slots.items) c.args.slot) (next_window c.args.adapter.now)
+    ≡ block_in (held_at (as_seen c.step_sector.new.memory (all_slots c.self.inside.slots)) c.args.slot) (next_window c.args.adapter.now)
 block_after g c =
-    moved_block c.step_sector.new.memory c.self.inside.slots.items c.args.slot c.in-Adapter.buffer (next_window c.args.adapter.now) (kept g c) (moved g c)
+    moved_block c.step_sector.new.memory (all_slots c.self.inside.slots) c.args.slot c.in-Adapter.buffer (next_window c.args.adapter.now) (kept g c) (moved g c)
 
 -- it is as long as that block of the request
 size_is : (g : Over) (c : goal.After-step_sector g) → size_at c.in-Adapter.buffer (next_window c.args.adapter.now) ≡ size_at (held_at c.args.self.now c.args.slot).loan (next_window c.args.adapter.now)
 size_is g c =
-    let at : IsMoved c.self.inside.slots.items c.args.slot c.in-Adapter.buffer (next_window c.args.adapter.now) = moved g c in
-    ap (λ (l : Loan). size_at l (next_window c.args.adapter.now)) (sym (loan_at c.self.inside.memory c.self.inside.slots.items c.args.slot at.slot c.self.view_is at.here ∙ at.has))
+    let at : IsMoved (all_slots c.self.inside.slots) c.args.slot c.in-Adapter.buffer (next_window c.args.adapter.now) = moved g c in
+    ap (λ (l : Loan). size_at l (next_window c.args.adapter.now)) (sym (loan_at c.self.inside.memory (all_slots c.self.inside.slots) c.args.slot at.slot c.self.view_is at.here ∙ at.has))
 
 pub returns-clause-size : goal.returns-clause-size
 returns-clause-size g c =
-    length-moved_block c.step_sector.new.memory c.self.inside.slots.items c.args.slot c.in-Adapter.buffer (next_window c.args.adapter.now) (kept g c) (moved g c) ∙ size_is g c
+    length-moved_block c.step_sector.new.memory (all_slots c.self.inside.slots) c.args.slot c.in-Adapter.buffer (next_window c.args.adapter.now) (kept g c) (moved g c) ∙ size_is g c
 
 pub returns-clause-moves : goal.returns-clause-moves
 returns-clause-moves g c =

@@ -1,0 +1,147 @@
+-- Sessions of requests, one behind the other.
+use Rattle.std.proofs.Common.{◌≡◌, inl, inr, ℕ, ◌==◌, not, List, [], ◌∷◌, ◌++◌, Option, refl, sym, ap, subst, ◌∙◌, append-nil, append_assoc}
+use Rattle.std.specs.Prelude.{slice_index}
+use Rattle.std.proofs.lemmas.Grind.{flat_map-append}
+use Rattle.pack_geometry.specs.declared.DriveKind.{DriveKind}
+use Rattle.pack_model.specs.Pack.{Pack}
+use Rattle.trace_replay.specs.Moments.{Moment}
+use Rattle.trace_replay.specs.Text.{trace_text, moment_text}
+use Rattle.trace_replay.specs.Packs.{Surface}
+use Rattle.trace_replay.specs.Replay.{Replay, AreLeft}
+use Rattle.run_promises.specs.Beginnings.{with_next}
+use Rattle.block_machine.specs.Stands.{Setup}
+use Rattle.driver_outcome.specs.Outcome.{IsFront}
+use Rattle.driver_outcome.specs.declared.Stop.{Stop}
+use Rattle.driver_outcome.specs.declared.Stop.TheVariants.{Store, Sink}
+use Rattle.driver_outcome.proofs.Joined.{front_more, front_of_front}
+use Rattle.driver_runs.specs.Runs.{Stay}
+use Rattle.driver_runs.specs.NextBlock.{HasNext}
+use Rattle.waited_requests.specs.Sessions.{Part, IsSession, behind, behind_all, waited, told_in}
+use Rattle.waited_requests.specs.Waited.{with_packs}
+use Rattle.quiet_driver.specs.Quiet.{StandsQuiet}
+use Rattle.blocking_io.specs.Calls.{Stage}
+use Rattle.blocking_io.specs.Asking.{setup_at}
+use Rattle.blocking_io.specs.Stopping.{Took, LeftAt, IsCut, begun}
+use Rattle.blocking_io.specs.Sessions.{Reaches, AnswersReach, SessionsJoin, StopsJoin, TwoThenStop}
+
+-- ---- PARTS
+session_append : (s : Replay) (xs ys : List Part) → IsSession s xs → IsSession (behind_all s xs) ys → IsSession s (xs ++ ys)
+session_append s [] ys one other = other
+session_append s (x ∷ xs) ys one other = (one.0, session_append (behind s x) xs ys one.1 other)
+
+behind_append : (s : Replay) (xs ys : List Part) → behind_all s (xs ++ ys) ≡ behind_all (behind_all s xs) ys
+behind_append s [] ys = refl
+behind_append s (x ∷ xs) ys = behind_append (behind s x) xs ys
+
+told_append : (xs ys : List Part) → told_in (xs ++ ys) ≡ told_in xs ++ told_in ys
+told_append [] ys = refl
+told_append (x ∷ xs) ys = ap (λ (ms : List Moment). x.told ++ ms) (told_append xs ys) ∙ sym (append_assoc x.told (told_in xs) (told_in ys))
+
+both_text : (xs ys : List Part) → trace_text (told_in (xs ++ ys)) ≡ trace_text (told_in xs) ++ trace_text (told_in ys)
+both_text xs ys = ap trace_text (told_append xs ys) ∙ flat_map-append moment_text (told_in xs) (told_in ys)
+
+more_text : (xs ys : List Part) (old mid : List ℕ) → mid ≡ old ++ trace_text (told_in xs) → mid ++ trace_text (told_in ys) ≡ old ++ trace_text (told_in (xs ++ ys))
+more_text xs ys old mid is =
+    ap (λ (text : List ℕ). text ++ trace_text (told_in ys)) is ∙ append_assoc old (trace_text (told_in xs)) (trace_text (told_in ys))
+    ∙ ap (λ (text : List ℕ). old ++ text) (sym (both_text xs ys))
+
+took_behind : (stop : Stop) (xs ys : List Part) (old mid new : List ℕ) → mid ≡ old ++ trace_text (told_in xs) → Took stop mid new (trace_text (told_in ys))
+    → Took stop old new (trace_text (told_in (xs ++ ys)))
+took_behind Sink xs ys old mid new is took = record {
+  least = front_of_front old mid new (subst (IsFront old) (sym is) (front_more old (trace_text (told_in xs)))) took.least;
+  most = subst (IsFront new) (more_text xs ys old mid is) took.most;
+}
+took_behind Store xs ys old mid new is took = took ∙ more_text xs ys old mid is
+
+-- ---- PACKS
+stay_both : (drives : ℕ → Option DriveKind) (old mid new : ℕ → Pack) → Stay drives old mid → Stay drives mid new → Stay drives old new
+stay_both drives old mid new one other = record {
+  beyond = λ unit kind is. other.beyond unit kind is ∙ one.beyond unit kind is;
+  marks = λ unit. other.marks unit ∙ one.marks unit;
+  others = λ unit none. other.others unit none ∙ one.others unit none;
+}
+
+left_both : (drives : ℕ → Option DriveKind) (old mid new : ℕ → Pack) (s : Surface) → Stay drives old mid → AreLeft drives mid new s → AreLeft drives old new s
+left_both drives old mid new s stay left = record {
+  sectors = left.sectors;
+  beyond = λ unit kind is. left.beyond unit kind is ∙ stay.beyond unit kind is;
+  marks = λ unit. left.marks unit ∙ stay.marks unit;
+  others = λ unit none. left.others unit none ∙ stay.others unit none;
+}
+
+next_both : (drives : ℕ → Option DriveKind) (old mid new : ℕ → Pack) (s : Replay) → Stay drives old mid → HasNext drives mid new s → HasNext drives old new s
+next_both drives old mid new s stay next = record {
+  unit = next.unit;
+  block = next.block;
+  kind = next.kind;
+  declared = next.declared;
+  next = record {
+    segment = next.next.segment;
+    left = next.next.left;
+    stage = next.next.stage;
+    some = next.next.some;
+    writes = next.next.writes;
+    is = next.next.is;
+    unmarked = sym (ap (λ (marks : List ℕ). not (slice_index marks next.block == 0)) (stay.marks next.unit)) ∙ next.next.unmarked;
+  };
+  packs = left_both drives old mid new (with_next s next.unit next.block) stay next.packs;
+}
+
+left_behind : (stop : Stop) (drives : ℕ → Option DriveKind) (old mid new : ℕ → Pack) (s : Replay) → Stay drives old mid → LeftAt stop drives mid new s → LeftAt stop drives old new s
+left_behind Sink drives old mid new s stay left = left_both drives old mid new s.surface stay left
+left_behind Store drives old mid new s stay (inl left) = inl (left_both drives old mid new s.surface stay left)
+left_behind Store drives old mid new s stay (inr next) = inr (next_both drives old mid new s stay next)
+
+-- ---- A REQUEST THAT IS ANSWERED
+pub answers_reach : AnswersReach
+answers_reach line r old new answers = record {
+  trace = λ t. answers.trace t ∙ ap (λ (ms : List Moment). old.taken ++ trace_text (answers.asked ++ ms)) (sym (append-nil answers.drained));
+  setup = answers.setup;
+  stays = answers.stays;
+  tables = λ t tables. (answers.mapped t tables).tables;
+  reaches = λ t tables s q. record {
+    session = ((answers.mapped t tables).follows s q).session;
+    stands = ((answers.mapped t tables).follows s q).stands;
+  };
+}
+
+-- ---- ONE BEHIND THE OTHER
+same_drives : (old mid : Stage) → setup_at mid ≡ with_packs (setup_at old) mid.held → (setup_at mid).drives ≡ (setup_at old).drives
+same_drives old mid is = ap (λ (z : Setup). z.drives) is
+
+pub sessions_join : SessionsJoin
+sessions_join xs ys old mid new first next still = record {
+  trace = λ t. next.trace t ∙ more_text xs ys old.taken mid.taken (first.trace (still.trace t));
+  setup = next.setup ∙ ap (λ (z : Setup). with_packs z new.held) first.setup;
+  stays = λ t. stay_both (setup_at old).drives old.held mid.held new.held (first.stays (still.packs t))
+      (subst (λ (drives : ℕ → Option DriveKind). Stay drives mid.held new.held) (same_drives old mid first.setup) (next.stays t));
+  tables = λ t tables. next.tables t (first.tables (still.packs t) tables);
+  reaches = λ t tables s q.
+      let one : Reaches xs mid s = first.reaches (still.packs t) tables s q in
+      let other : Reaches ys new (behind_all s xs) = next.reaches t (first.tables (still.packs t) tables) (behind_all s xs) one.stands in
+      record {
+        session = session_append s xs ys one.session other.session;
+        stands = subst (StandsQuiet new.held new.world) (sym (behind_append s xs ys)) other.stands;
+      };
+}
+
+pub stops_join : StopsJoin
+stops_join stop xs ys old mid new first next still = record {
+  trace = λ t. took_behind stop xs ys old.taken mid.taken new.taken (first.trace (still.trace t)) (next.trace t);
+  cut = λ t tables s q.
+      let one : Reaches xs mid s = first.reaches (still.packs t) tables s q in
+      let other : IsCut stop ys mid new (behind_all s xs) = next.cut t (first.tables (still.packs t) tables) (behind_all s xs) one.stands in
+      record {
+        session = session_append s xs ys one.session other.session;
+        packs = left_behind stop (setup_at old).drives old.held mid.held new.held (behind_all s (xs ++ ys)) (first.stays (still.packs t))
+            (subst (λ (z : Replay). LeftAt stop (setup_at old).drives mid.held new.held z) (sym (behind_append s xs ys))
+            (subst (λ (drives : ℕ → Option DriveKind). LeftAt stop drives mid.held new.held (behind_all (behind_all s xs) ys)) (same_drives old mid first.setup) other.packs));
+      };
+}
+
+pub two_then_stop : TwoThenStop
+two_then_stop stop l m n q r t old one two new first second third still later =
+    stops_join stop (waited l q first.asked first.drained) (waited m r second.asked second.drained ++ begun n t third.asked third.drained) old one new
+    (answers_reach l q old one first)
+    (stops_join stop (waited m r second.asked second.drained) (begun n t third.asked third.drained) one two new (answers_reach m r one two second) third.stops later)
+    (record { packs = λ z. still.packs (later.packs z); trace = λ z. still.trace (later.trace z) })

@@ -1,0 +1,10 @@
+mod Laying
+mod Blocks
+mod Taking
+mod Calling
+mod Waiting
+mod Ending
+mod Trying
+mod Stopped
+mod Readying
+pub mod Joined

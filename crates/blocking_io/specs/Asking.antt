@@ -1,0 +1,66 @@
+-- A REQUEST THAT IS WAITED FOR, as its callers see it: over the driver's world and the packs before and after.
+use Rattle.std.specs.Prelude.{◌≡◌, ℕ, ◌≤◌, false, IsTrue, List, [], ◌++◌, Some}
+use Rattle.pack_model.specs.Pack.{block_at}
+use Rattle.subsystem_spec.specs.Requests as told
+use Rattle.subsystem_spec.specs.Requests.{IsRequest}
+use Rattle.trace_replay.specs.Moments.{Moment}
+use Rattle.trace_replay.specs.Text.{trace_text}
+use Rattle.trace_replay.specs.Replay.{Replay, IsOver}
+use Rattle.block_machine.specs.Stands.{Setup, home_in}
+use Rattle.driver_machine.specs.Guards.{IsSetUp}
+use Rattle.driver_runs.specs.Runs.{Stay}
+use Rattle.waited_requests.specs.Sessions.{IsSession, behind_all, waited}
+use Rattle.waited_requests.specs.Rest.{HasTables}
+use Rattle.waited_requests.specs.Waited.{map_of, answer_in, map_behind, with_packs}
+use Rattle.quiet_driver.specs.Quiet.{IsQuiet, setup_of, StandsQuiet}
+use Rattle.hp_driver.specs.declared.request.Request.{Request}
+use Rattle.hp_driver.specs.Subsystem.{State, asked}
+use Rattle.blocking_io.specs.Given.{reached_by, bytes_by}
+use Rattle.blocking_io.specs.Calls.{Stage}
+
+-- BETWEEN TWO REQUESTS the driver is ready: it is quiet, and no call of it has failed.
+pub record IsReady (s : State) : Type 0 where
+  pub quiet : IsQuiet s.world
+  pub going : s.failed ≡ false
+
+-- WHAT MAY BE ASKED of a driver that is ready and has room for a request: a request to a unit that is set up, with just the bytes of a
+-- write and none for a read.
+pub record MayAsk (s : State) (r : Request) (bytes : List ℕ) : Type 0 where
+  pub ready : IsReady s
+  pub room : 1 ≤ s.outstanding
+  pub unit : IsSetUp s.world r.unit
+  pub request : IsRequest (asked r bytes)
+  pub none : r.write ≡ false → bytes ≡ []
+
+-- the drives and tables that the driver has, over the packs
+abbrev pub setup_at : Stage → Setup
+setup_at stage = setup_of stage.world stage.held
+
+-- THE LINES of a request that was waited for are those of one session, from each replay that stands for the driver before, and the replay
+-- behind it stands for the driver after; so requests follow one another, and nobody has to know what came before.
+pub record Follows (line : ℕ) (r : told.Request) (asked drained : List Moment) (old new : Stage) (s : Replay) : Type 0 where
+  pub session : IsSession s (waited line r asked drained)
+  pub over : IsOver (behind_all s (waited line r asked drained))
+  pub stands : StandsQuiet new.held new.world (behind_all s (waited line r asked drained))
+
+-- WHERE THE PACKS TELL what they hold, and the driver's tables are theirs: the answer is that of the map; what was given is given by it;
+-- the packs hold the map behind it; and what is no home of a data block is as it was.
+pub record IsMapped (line : ℕ) (r : told.Request) (asked drained : List Moment) (old new : Stage) : Type 0 where
+  pub follows : (s : Replay) → StandsQuiet old.held old.world s → Follows line r asked drained old new s
+  pub reached : new.given.reached ≡ reached_by (answer_in (setup_at old) r)
+  pub bytes : new.given.bytes ≡ bytes_by (answer_in (setup_at old) r) old.given.bytes
+  pub map : (unit block : ℕ) → map_of (setup_at new) unit block ≡ map_behind (setup_at old) r unit block
+  pub others : (unit sector : ℕ) → ((block : ℕ) → home_in (setup_at old) unit block ≡ Some sector → ⊥)
+      → block_at (new.held unit).image sector ≡ block_at (old.held unit).image sector
+  pub tables : HasTables (setup_at new)
+
+-- WHERE NOTHING STOPS IT. Units, kinds and tables of the driver stay; and of the packs, where they tell, what lies beyond their sectors,
+-- the marks, and those of other units.
+pub record Answers (line : ℕ) (r : told.Request) (old new : Stage) : Type 0 where
+  pub asked : List Moment
+  pub drained : List Moment
+  pub trace : IsTrue new.trace_tells → new.taken ≡ old.taken ++ trace_text (asked ++ drained)
+  pub units : (u : ℕ) → IsSetUp old.world u → IsSetUp new.world u
+  pub setup : setup_at new ≡ with_packs (setup_at old) new.held
+  pub stays : IsTrue new.packs_tell → Stay (setup_at old).drives old.held new.held
+  pub mapped : IsTrue new.packs_tell → HasTables (setup_at old) → IsMapped line r asked drained old new

@@ -1,0 +1,6 @@
+pub mod Given
+pub mod Taking
+pub mod Calls
+pub mod Asking
+pub mod Stopping
+pub mod Sessions

@@ -1,0 +1,50 @@
+-- REQUESTS ONE AFTER ANOTHER: what each is promised of the driver and the packs before it joins to what is promised of them all.
+use Rattle.std.specs.Prelude.{◌≡◌, ℕ, IsTrue, List, ◌++◌}
+use Rattle.subsystem_spec.specs.Requests.{Request}
+use Rattle.trace_replay.specs.Text.{trace_text}
+use Rattle.trace_replay.specs.Replay.{Replay}
+use Rattle.driver_outcome.specs.declared.Stop.{Stop}
+use Rattle.driver_runs.specs.Runs.{Stay}
+use Rattle.waited_requests.specs.Sessions.{Part, IsSession, behind_all, waited, told_in}
+use Rattle.waited_requests.specs.Rest.{HasTables}
+use Rattle.waited_requests.specs.Waited.{with_packs}
+use Rattle.quiet_driver.specs.Quiet.{StandsQuiet}
+use Rattle.blocking_io.specs.Calls.{Stage}
+use Rattle.blocking_io.specs.Asking.{setup_at, Answers}
+use Rattle.blocking_io.specs.Stopping.{StopsIn, begun, Stops}
+
+-- A SESSION THAT CAME TO ITS END, from each replay that stands for the driver before; the replay behind it stands for it after.
+pub record Reaches (parts : List Part) (new : Stage) (s : Replay) : Type 0 where
+  pub session : IsSession s parts
+  pub stands : StandsQuiet new.held new.world (behind_all s parts)
+
+pub record GoesOn (parts : List Part) (old new : Stage) : Type 0 where
+  pub trace : IsTrue new.trace_tells → new.taken ≡ old.taken ++ trace_text (told_in parts)
+  pub setup : setup_at new ≡ with_packs (setup_at old) new.held
+  pub stays : IsTrue new.packs_tell → Stay (setup_at old).drives old.held new.held
+  pub tables : IsTrue new.packs_tell → HasTables (setup_at old) → HasTables (setup_at new)
+  pub reaches : IsTrue new.packs_tell → HasTables (setup_at old) → (s : Replay) → StandsQuiet old.held old.world s → Reaches parts new s
+
+-- what tells at the end told before
+pub record StillTell (old new : Stage) : Type 0 where
+  pub packs : IsTrue new.packs_tell → IsTrue old.packs_tell
+  pub trace : IsTrue new.trace_tells → IsTrue old.trace_tells
+
+-- A request that is answered is such a session.
+abbrev pub AnswersReach : Type 0
+AnswersReach = (line : ℕ) (r : Request) (old new : Stage) (answers : Answers line r old new) → GoesOn (waited line r answers.asked answers.drained) old new
+
+-- Two of them are one,
+abbrev pub SessionsJoin : Type 0
+SessionsJoin = (first next : List Part) (old mid new : Stage) → GoesOn first old mid → GoesOn next mid new → StillTell mid new → GoesOn (first ++ next) old new
+
+-- and where the second one stops, so does the whole.
+abbrev pub StopsJoin : Type 0
+StopsJoin = (stop : Stop) (first next : List Part) (old mid new : Stage) → GoesOn first old mid → StopsIn stop next mid new → StillTell mid new
+    → StopsIn stop (first ++ next) old new
+
+-- So it is where two requests were answered and a third one stops.
+abbrev pub TwoThenStop : Type 0
+TwoThenStop = (stop : Stop) (l m n : ℕ) (q r t : Request) (old one two new : Stage) (first : Answers l q old one) (second : Answers m r one two) (third : Stops stop n t two new)
+    → StillTell one two → StillTell two new
+    → StopsIn stop (waited l q first.asked first.drained ++ (waited m r second.asked second.drained ++ begun n t third.asked third.drained)) old new

@@ -1,0 +1,214 @@
+// A request is submitted, drained, and its answer given.
+ghost use Rattle.std.specs.Prelude.{◌≡◌, ◌≤◌, ℕ, [], Bool, false, IsTrue, IfOk, IfErr, OnOk};
+ghost use Rattle.pack_model.specs.Pack.{Pack};
+ghost use Rattle.outside_traits.specs.Causes.{HasCause};
+ghost use Rattle.trace_replay.specs.Moments.{Idle};
+ghost use Rattle.trace_replay.specs.Text.{moment_text};
+ghost use Rattle.driver_outcome.specs.Outcome.{stop_in};
+ghost use Rattle.hp_core.specs.Done.{HasCauses};
+ghost use Rattle.hp_events.specs.Inputs.{input_of};
+ghost use Rattle.hp_driver.specs.Subsystem.{asked, IsAsked, IsThere};
+ghost use Rattle.blocking_io.specs.declared.reached.Reached.TheVariants.{Before};
+ghost use Rattle.blocking_io.specs.Calls.{stage, GivesSubmission, GivesEvent, SubmissionStops, EventStops, SaysText};
+ghost use Rattle.blocking_io.specs.Asking.{IsReady, MayAsk, Answers};
+ghost use Rattle.blocking_io.specs.Stopping.{Stops};
+
+use crate::answers::take_answers;
+use crate::reached::Reached;
+use driver_runs::next_block_law;
+use hp_driver::{Event, Request, Stop, Subsystem};
+use outside_traits::traits::{Packs, Sink};
+use outside_traits::whole::write_all;
+use run_promises::beginnings_law;
+use trace_lines::idle;
+
+/// Submits a request at a line, with the bytes of a write.
+fn submit<T: Sink>(
+    subsystem: &mut Subsystem,
+    line: u64,
+    request: Request,
+    from: &[u8],
+    reached: &mut Reached,
+    into: &mut [u8],
+    trace: &mut T,
+) -> Result<(), Stop>
+    requires going { subsystem.old.failed ≡ false }
+    requires none_waits { subsystem.old.world.answers ≡ [] }
+    requires asked { IsAsked subsystem.old request from.now }
+    ensures gives { OnOk result ((tells : Bool) → (held : ℕ → Pack) → GivesSubmission line (asked request from.now)
+        (stage (λ _. tells) (λ _. held) T.tells T.taken subsystem.old.world line trace.old reached.old into.old)
+        (stage (λ _. tells) (λ _. held) T.tells T.taken subsystem.new.world line trace.new reached.new into.new)) }
+    ensures stops { IfErr result (λ stop. (tells : Bool) → (held : ℕ → Pack) → SubmissionStops stop line (asked request from.now)
+        (stage (λ _. tells) (λ _. held) T.tells T.taken subsystem.old.world line trace.old reached.old into.old)
+        (stage (λ _. tells) (λ _. held) T.tells T.taken subsystem.new.world line trace.new reached.new into.new)) }
+    ensures going { OnOk result (subsystem.new.failed ≡ false) }
+    ensures outstanding { subsystem.new.outstanding ≡ subsystem.old.outstanding }
+    ensures never_again { IsTrue (T.tells trace.new) → IsTrue (T.tells trace.old) }
+    ensures cause { HasCause (T.faults trace.old) (T.faults trace.new) result }
+{
+    match subsystem.submit(line, request, from, trace) {
+        Ok(()) => {
+            take_answers(subsystem, reached, into);
+            Ok(())
+        }
+        Err(_) => Err(Stop::Sink),
+    }
+}
+
+/// An event happens at a line.
+fn happen<P: Packs, T: Sink>(
+    subsystem: &mut Subsystem,
+    line: u64,
+    event: Event,
+    reached: &mut Reached,
+    into: &mut [u8],
+    packs: &mut P,
+    trace: &mut T,
+) -> Result<(), Stop>
+    requires going { subsystem.old.failed ≡ false }
+    requires none_waits { subsystem.old.world.answers ≡ [] }
+    requires there { IsThere subsystem.old.world (input_of event) }
+    ensures gives { OnOk result (GivesEvent line (input_of event)
+        (stage P.tells P.held T.tells T.taken subsystem.old.world packs.old trace.old reached.old into.old)
+        (stage P.tells P.held T.tells T.taken subsystem.new.world packs.new trace.new reached.new into.new)) }
+    ensures stops { IfErr result (λ stop. EventStops stop line (input_of event)
+        (stage P.tells P.held T.tells T.taken subsystem.old.world packs.old trace.old reached.old into.old)
+        (stage P.tells P.held T.tells T.taken subsystem.new.world packs.new trace.new reached.new into.new)) }
+    ensures going { OnOk result (subsystem.new.failed ≡ false) }
+    ensures outstanding { subsystem.new.outstanding ≡ subsystem.old.outstanding }
+    ensures never_again { IsTrue (P.tells packs.new) → IsTrue (P.tells packs.old) }
+    ensures never_again_trace { IsTrue (T.tells trace.new) → IsTrue (T.tells trace.old) }
+    ensures causes { HasCauses (P.faults packs.old) (P.faults packs.new) (T.faults trace.old) (T.faults trace.new) (stop_in result) }
+{
+    subsystem.law();
+    match subsystem.event(line, event, packs, trace) {
+        Ok(()) => {
+            take_answers(subsystem, reached, into);
+            Ok(())
+        }
+        Err(stop) => Err(stop),
+    }
+}
+
+/// Says that a drain found nothing to do.
+fn say_idle<T: Sink>(line: u64, trace: &mut T) -> Result<(), Stop>
+    ensures says { SaysText T.tells T.taken trace.old trace.new result (moment_text (Idle line)) }
+    ensures cause { HasCause (T.faults trace.old) (T.faults trace.new) result }
+{
+    match write_all(trace, idle(line).as_bytes()) {
+        Ok(()) => Ok(()),
+        Err(_) => Err(Stop::Sink),
+    }
+}
+
+/// A request is submitted at a line and drained, with the bytes of a write, and its answer is given and taken. However the packs
+/// answer, that comes to its end.
+fn ask<P: Packs, T: Sink>(
+    subsystem: &mut Subsystem,
+    line: u64,
+    request: Request,
+    from: &[u8],
+    into: &mut [u8],
+    packs: &mut P,
+    trace: &mut T,
+) -> Result<Reached, Stop>
+    requires line { 1 ≤ line }
+    requires may { MayAsk subsystem.old request from.now }
+    ensures answers { IfOk result (λ reached. Answers line (asked request from.now)
+        (stage P.tells P.held T.tells T.taken subsystem.old.world packs.old trace.old (Before 0) into.old)
+        (stage P.tells P.held T.tells T.taken subsystem.new.world packs.new trace.new reached into.new)) }
+    ensures stops { IfErr result (λ stop. Stops stop line (asked request from.now)
+        (stage P.tells P.held T.tells T.taken subsystem.old.world packs.old trace.old (Before 0) into.old)
+        (stage P.tells P.held T.tells T.taken subsystem.new.world packs.new trace.new (Before 0) into.new)) }
+    ensures ready { OnOk result (IsReady subsystem.new) }
+    ensures outstanding { subsystem.new.outstanding ≡ subsystem.old.outstanding }
+    ensures never_again { IsTrue (P.tells packs.new) → IsTrue (P.tells packs.old) }
+    ensures never_again_trace { IsTrue (T.tells trace.new) → IsTrue (T.tells trace.old) }
+    ensures causes { HasCauses (P.faults packs.old) (P.faults packs.new) (T.faults trace.old) (T.faults trace.new) (stop_in result) }
+{
+    beginnings_law();
+    next_block_law();
+    subsystem.law();
+    let mut reached = Reached::Before { done: 0 };
+    submit(subsystem, line, request, from, &mut reached, into, trace)?;
+    subsystem.law();
+    let Some(first) = subsystem.next_event() else {
+        say_idle(line, trace)?;
+        return Ok(reached);
+    };
+    happen(subsystem, line, first, &mut reached, into, packs, trace)?;
+    for turn in 0..u64::MAX {
+        subsystem.law();
+        let Some(event) = subsystem.next_event() else {
+            return Ok(reached);
+        };
+        happen(subsystem, line, event, &mut reached, into, packs, trace)?;
+    }
+    unreachable!()
+}
+
+/// Reads the blocks of a request into a buffer, at a line from 1 on: submits it to a driver that is ready, drains it, and gives what
+/// was answered. Behind it the driver is ready again. Where the packs tell what they hold, and the driver's tables are theirs: all
+/// blocks were read where all can be used, and the buffer has their bytes, as far as it has room; else just those before the first
+/// that can't, and the buffer stays, as it does where the partition refuses the request; and the packs hold what they held.
+///
+/// `Store` comes only where the packs' count of faults rose, `Sink` only where the trace's did. The trace took a front of the lines
+/// then, and the packs are as they leave them. No further call may follow, and of the buffer nothing is said.
+pub fn ask_read<P: Packs, T: Sink>(
+    subsystem: &mut Subsystem,
+    line: u64,
+    request: Request,
+    into: &mut [u8],
+    packs: &mut P,
+    trace: &mut T,
+) -> Result<Reached, Stop>
+    requires line { 1 ≤ line }
+    requires reads { request.write ≡ false }
+    requires may { MayAsk subsystem.old request [] }
+    ensures answers { IfOk result (λ reached. Answers line (asked request [])
+        (stage P.tells P.held T.tells T.taken subsystem.old.world packs.old trace.old (Before 0) into.old)
+        (stage P.tells P.held T.tells T.taken subsystem.new.world packs.new trace.new reached into.new)) }
+    ensures stops { IfErr result (λ stop. Stops stop line (asked request [])
+        (stage P.tells P.held T.tells T.taken subsystem.old.world packs.old trace.old (Before 0) into.old)
+        (stage P.tells P.held T.tells T.taken subsystem.new.world packs.new trace.new (Before 0) into.new)) }
+    ensures ready { OnOk result (IsReady subsystem.new) }
+    ensures outstanding { subsystem.new.outstanding ≡ subsystem.old.outstanding }
+    ensures never_again { IsTrue (P.tells packs.new) → IsTrue (P.tells packs.old) }
+    ensures never_again_trace { IsTrue (T.tells trace.new) → IsTrue (T.tells trace.old) }
+    ensures causes { HasCauses (P.faults packs.old) (P.faults packs.new) (T.faults trace.old) (T.faults trace.new) (stop_in result) }
+{
+    ask(subsystem, line, request, &[], into, packs, trace)
+}
+
+/// Writes the blocks of a request, at a line from 1 on: submits it to a driver that is ready, drains it, and takes the answer. Behind
+/// it the driver is ready again. Where the packs tell what they hold, and the driver's tables are theirs: all blocks were replaced
+/// where all can be used, and else just those before the first that can't; none where the partition refuses the request; and nothing
+/// else.
+///
+/// `Store` comes only where the packs' count of faults rose, `Sink` only where the trace's did. The trace took a front of the lines
+/// then, and the packs are as they leave them; at `Store` the next block of the write may be there too. No further call may follow.
+pub fn ask_write<P: Packs, T: Sink>(
+    subsystem: &mut Subsystem,
+    line: u64,
+    request: Request,
+    from: &[u8],
+    packs: &mut P,
+    trace: &mut T,
+) -> Result<Reached, Stop>
+    requires line { 1 ≤ line }
+    requires may { MayAsk subsystem.old request from.now }
+    ensures answers { IfOk result (λ reached. Answers line (asked request from.now)
+        (stage P.tells P.held T.tells T.taken subsystem.old.world packs.old trace.old (Before 0) [])
+        (stage P.tells P.held T.tells T.taken subsystem.new.world packs.new trace.new reached [])) }
+    ensures stops { IfErr result (λ stop. Stops stop line (asked request from.now)
+        (stage P.tells P.held T.tells T.taken subsystem.old.world packs.old trace.old (Before 0) [])
+        (stage P.tells P.held T.tells T.taken subsystem.new.world packs.new trace.new (Before 0) [])) }
+    ensures ready { OnOk result (IsReady subsystem.new) }
+    ensures outstanding { subsystem.new.outstanding ≡ subsystem.old.outstanding }
+    ensures never_again { IsTrue (P.tells packs.new) → IsTrue (P.tells packs.old) }
+    ensures never_again_trace { IsTrue (T.tells trace.new) → IsTrue (T.tells trace.old) }
+    ensures causes { HasCauses (P.faults packs.old) (P.faults packs.new) (T.faults trace.old) (T.faults trace.new) (stop_in result) }
+{
+    let mut none = [];
+    ask(subsystem, line, request, from, &mut none, packs, trace)
+}

@@ -1,0 +1,102 @@
+// The status of each end, in the working folder.
+use crate::words::end_here;
+use hpsim_main::{TRACE_NAME, end_status, words_of};
+use mass_outside::file_sink::FileSink;
+use mass_outside::mem_streams::SureSink;
+use mass_outside::os_folder::OsFolder;
+use std::io::ErrorKind;
+use std::os::unix::fs::FileExt;
+use std::test::Fail;
+use std::{fs, io};
+
+/// A command, its script, the status of its end and what it prints. Unit 22 has no files, and the image of unit 21 is a byte too
+/// long.
+const ENDS: [(&str, &[u8], u8, &str); 7] = [
+    (
+        "play",
+        b"unit 22 rp06\nread 1 22 c 0 1\n",
+        0,
+        "ans 1 at 3 ok\nblk 0 fill 00\n",
+    ),
+    ("bad144 fresh 22 rp06 7", b"", 0, "serial 7\n"),
+    ("bad144 list 22 rp06", b"", 0, "serial 7 entries 0\n"),
+    (
+        "--help",
+        b"",
+        2,
+        "usage: hpsim play or bad144 list/add/fresh or exercise N\n",
+    ),
+    (
+        "play",
+        b"unit 22 rp06\nread 1 22 c 0\n",
+        3,
+        "refused line 2 word\n",
+    ),
+    (
+        "play",
+        b"unit 21 rp06\n",
+        7,
+        "too long unit 21 length 174423041\n",
+    ),
+    (
+        "bad144 add 21 rp06 5",
+        b"",
+        7,
+        "too long unit 21 length 174423041\n",
+    ),
+];
+
+/// The first of these commands that ends otherwise, or their number.
+fn first_other(rt: &HostRuntime) -> Result<usize, Fail> {
+    for (i, (line, script, status, text)) in ENDS.iter().enumerate() {
+        let end = end_here(rt, line, script, &mut FileSink::new(rt, TRACE_NAME))?;
+        if !end.is(*status, text) {
+            return Ok(i);
+        }
+    }
+    Ok(ENDS.len())
+}
+
+/// Whether a file of the working folder begins so.
+fn starts(rt: &HostRuntime, name: &str, text: &str) -> io::Result<bool> {
+    Ok(fs::read_to_string(rt, name)?.as_str().starts_with(text))
+}
+
+#[test]
+fn each_status(rt: HostRuntime) -> Result<(), Fail> {
+    fs::create(&rt, "hp21.dsk")?.write_all_at(&[1], 174_423_040)?;
+    let other = first_other(&rt)?;
+    let traced = starts(&rt, "hp.trace", "cmd 2 22 1 search 0 19\n")?;
+    for name in ["hp21.dsk", "hp22.dsk", "hp.trace"] {
+        fs::remove_file(&rt, name)?;
+    }
+    assert_eq!(rt; (other, traced), (ENDS.len(), true));
+    Ok(())
+}
+
+/// The status where the words could not be had.
+fn without_words(rt: &HostRuntime, kind: ErrorKind) -> (u8, usize) {
+    let words = words_of(rt.alloc(), Err(io::Error::from(kind)));
+    let script = b"".as_slice();
+    let mut said = Vec::new(rt.alloc());
+    let status = end_status(
+        rt.alloc(),
+        words,
+        OsFolder::new(rt),
+        script,
+        &mut said,
+        &mut SureSink::new(),
+    );
+    (status, said.len())
+}
+
+/// Words that are no text are no command, which is answered by the usage; and there may be no memory for words.
+#[test]
+fn words_that_are_none(rt: HostRuntime) -> Result<(), Fail> {
+    let ends = [
+        without_words(&rt, ErrorKind::InvalidData),
+        without_words(&rt, ErrorKind::OutOfMemory),
+    ];
+    assert_eq!(rt; ends, [(2, 57), (9, 0)]);
+    Ok(())
+}

@@ -1,0 +1,30 @@
+use Rattle.std.proofs.Common.{ℕ, ◌&&◌, Bool, rules, sym, ap, ◌∙◌}
+use Rattle.pack_model.specs.Pack.{Pack, is_marked}
+use Rattle.pack_format.specs.Surveys.{all_marked}
+use Rattle.pack_format.proofs.SurveyLaws.{all_more, all_none}
+use Rattle.pack_format.proofs.survey.read_copies.Goals as goal
+
+pub loop-k-init : goal.loop-k-init
+loop-k-init g c = record {
+  rest = search rules;
+  all = λ t. sym (all_none c.args.kind (g.P.Packs.held c.args.packs.now c.args.unit));
+  same = search rules;
+  never_again = search rules;
+  later = search rules;
+}
+
+pub loop-k-preserved : goal.loop-k-preserved
+loop-k-preserved g c = record {
+  rest = search rules;
+  all =
+      λ t.
+      let told = c.in_ok-marked.ensures.never_again t in
+      ap (λ (b : Bool). b && c.in_ok-marked.marked) (c.loop-k.invariant.all told)
+      ∙ ap (λ (b : Bool). all_marked c.args.kind (g.P.Packs.held c.args.packs.now c.args.unit) c.loop-k.k && b)
+      (c.in_ok-marked.ensures.answer t ∙ ap (λ (h : ℕ → Pack). is_marked (h c.args.unit) c.copy_block.result) (c.loop-k.invariant.same told)
+      ∙ ap (λ (n : ℕ). is_marked (g.P.Packs.held c.args.packs.now c.args.unit) n) c.copy_block.ensures)
+      ∙ sym (all_more c.args.kind (g.P.Packs.held c.args.packs.now c.args.unit) c.loop-k.k);
+  same = λ t. c.in_ok-marked.ensures.same t ∙ c.loop-k.invariant.same (c.in_ok-marked.ensures.never_again t);
+  never_again = λ t. c.loop-k.invariant.never_again (c.in_ok-marked.ensures.never_again t);
+  later = search rules;
+}

@@ -1,0 +1,30 @@
+use Rattle.std.proofs.Common.{ℕ, rules, ap, ◌∙◌}
+use Rattle.pack_model.specs.Pack.{Pack, is_marked}
+use Rattle.pack_format.proofs.SurveyLaws.{survey_none}
+use Rattle.pack_format.proofs.survey.read_data.Goals as goal
+
+pub loop-block-init : goal.loop-block-init
+loop-block-init g c = record {
+  rest = search rules;
+  survey = λ t. survey_none c.args.kind c.args.serial (g.P.Packs.held c.args.packs.now c.args.unit) c.empty_table.result c.empty_table.ensures;
+  counted = search rules;
+  kind = search rules;
+  same = search rules;
+  never_again = search rules;
+  later = search rules;
+}
+
+pub loop-block-preserved : goal.loop-block-preserved
+loop-block-preserved g c = record {
+  rest = search rules;
+  survey =
+      λ t.
+      let told = c.in_ok-marked.ensures.never_again t in
+      c.take.ensures.survey c.args.serial (g.P.Packs.held c.args.packs.now c.args.unit) (c.loop-block.invariant.survey told)
+      (c.in_ok-marked.ensures.answer t ∙ ap (λ (h : ℕ → Pack). is_marked (h c.args.unit) c.loop-block.block) (c.loop-block.invariant.same told));
+  counted = c.take.ensures.counted;
+  kind = c.take.ensures.kind;
+  same = λ t. c.in_ok-marked.ensures.same t ∙ c.loop-block.invariant.same (c.in_ok-marked.ensures.never_again t);
+  never_again = λ t. c.loop-block.invariant.never_again (c.in_ok-marked.ensures.never_again t);
+  later = search rules;
+}

@@ -1,0 +1,44 @@
+-- Why a pack is not formatted, and what that leaves of it.
+use Rattle.std.specs.Prelude.{◌≡◌, ◌≢◌, ◌⊎◌, ℕ, ◌<◌, ◌≤◌, Result, IsErrOf, length}
+use Rattle.pack_geometry.specs.declared.DriveKind.{DriveKind}
+use Rattle.pack_model.specs.Pack.{Pack}
+use Rattle.outside_traits.specs.Causes.{Rose}
+use Rattle.pack_format.specs.Formatted.{HasNoCopy, IsPartly, IsSpare, IsTooLong, IsTooMany, found}
+use Rattle.pack_format.specs.declared.fault.FormatFault.{FormatFault}
+use Rattle.pack_format.specs.declared.fault.FormatFault.TheVariants.{Memory, TooLong, TooMany, Spare, NoCopy, Differs, Store}
+
+-- the reason of each refusal, by what the pack held; each comes where those before it do not. Over packs that tell, no byte comes back
+-- otherwise than it was written.
+abbrev pub IsWhy : DriveKind → Pack → FormatFault → Type 0
+IsWhy kind pack (TooLong size) = IsTooLong kind pack × (size ≡ length pack.image)
+IsWhy kind pack (TooMany number) = ¬ (IsTooLong kind pack) × IsTooMany kind pack × (number ≡ found kind pack)
+IsWhy kind pack (Spare index) = ¬ (IsTooLong kind pack) × ¬ (IsTooMany kind pack) × IsSpare kind pack index
+IsWhy kind pack NoCopy = ¬ (IsTooLong kind pack) × ¬ (IsTooMany kind pack) × ((index : ℕ) → ¬ (IsSpare kind pack index)) × HasNoCopy kind pack
+IsWhy kind pack (Differs block at wrote read) = ⊥
+IsWhy kind pack Memory = ¬ (IsTooLong kind pack)
+IsWhy kind pack Store = Unit {0}
+
+-- what it leaves of all packs: a refusal, and want of memory, change nothing
+abbrev pub Leaves : DriveKind → (serial unit : ℕ) → (old new : ℕ → Pack) → FormatFault → Type 0
+Leaves kind serial unit old new Store = (new ≡ old) ⊎ IsPartly kind serial (old unit) (new unit)
+Leaves kind serial unit old new (Differs block at wrote read) = ⊥
+Leaves kind serial unit old new (TooLong size) = new ≡ old
+Leaves kind serial unit old new (TooMany number) = new ≡ old
+Leaves kind serial unit old new (Spare index) = new ≡ old
+Leaves kind serial unit old new NoCopy = new ≡ old
+Leaves kind serial unit old new Memory = new ≡ old
+
+-- what is said of a fault whatever the packs tell: the byte that came back is another one
+abbrev pub IsFault : FormatFault → Type 0
+IsFault (Differs block at wrote read) = (at < 512) × (wrote ≢ read)
+IsFault (TooLong size) = Unit {0}
+IsFault (TooMany number) = Unit {0}
+IsFault (Spare index) = Unit {0}
+IsFault NoCopy = Unit {0}
+IsFault Memory = Unit {0}
+IsFault Store = Unit {0}
+
+-- the packs fail only where their count of faults rose, which never falls
+pub record IsCaused {T : Type 0} (before now : ℕ) (result : Result T FormatFault) : Type 0 where
+  pub later : before ≤ now
+  pub store : IsErrOf result Store → Rose before now

@@ -1,0 +1,85 @@
+-- A FORMATTED PACK, why a pack is not formatted, and what a formatting that stops leaves of it.
+use Rattle.std.specs.Prelude.{◌≡◌, ◌⊎◌, ℕ, zero, suc, ◌*◌, ◌<◌, Bool, true, false, List, [], ◌∷◌, ◌++◌, length, map, replicate, Some}
+use Rattle.pack_geometry.specs.declared.DriveKind.{DriveKind}
+use Rattle.pack_geometry.specs.Geometry.{block_count, limit_of, place_at, replacement_at, copy_at}
+use Rattle.pack_model.specs.Pack.{Pack, block_at, is_marked}
+use Rattle.pack_model.specs.PackTable.{IsTableOf}
+use Rattle.pack_model.specs.TableSpelling.{Table, Spells}
+use Rattle.pack_model.specs.Homes.{content_of}
+
+-- the marked blocks below a number, in ascending order
+abbrev pub if_on : Bool → ℕ → List ℕ
+if_on true block = block ∷ []
+if_on false block = []
+
+unfoldable pub marked_below : Pack → ℕ → List ℕ
+marked_below pack zero = []
+marked_below pack (suc block) = marked_below pack block ++ if_on (is_marked pack block) block
+
+-- THE MARKED DATA BLOCKS, how many they are, and the table that lists them
+abbrev pub marked_blocks : DriveKind → Pack → List ℕ
+marked_blocks kind pack = marked_below pack (limit_of kind)
+
+abbrev pub found : DriveKind → Pack → ℕ
+found kind pack = length (marked_blocks kind pack)
+
+abbrev pub table_for : DriveKind → (serial : ℕ) → Pack → Table
+table_for kind serial pack = record { kind = kind; serial = serial; places = map (place_at kind) (marked_blocks kind pack) }
+
+-- WHY A PACK IS NOT FORMATTED
+abbrev pub IsTooLong : DriveKind → Pack → Type 0
+IsTooLong kind pack = 512 * block_count kind < length pack.image
+
+abbrev pub IsTooMany : DriveKind → Pack → Type 0
+IsTooMany kind pack = 126 < found kind pack
+
+-- the first replacement that an entry would use and that is marked
+pub record IsSpare (kind : DriveKind) (pack : Pack) (index : ℕ) : Type 0 where
+  pub used : index < found kind pack
+  pub marked : is_marked pack (replacement_at kind index) ≡ true
+  pub first : (i : ℕ) → i < index → is_marked pack (replacement_at kind i) ≡ false
+
+abbrev pub HasNoCopy : DriveKind → Pack → Type 0
+HasNoCopy kind pack = (k : ℕ) → k < 5 → is_marked pack (copy_at kind k) ≡ true
+
+-- NOTHING IS IN THE WAY
+pub record CanBeFormatted (kind : DriveKind) (pack : Pack) : Type 0 where
+  pub fits : ¬ (IsTooLong kind pack)
+  pub few : ¬ (IsTooMany kind pack)
+  pub spares : (index : ℕ) → ¬ (IsSpare kind pack index)
+  pub copy : ¬ (HasNoCopy kind pack)
+
+-- THE SECTORS THAT FORMATTING WRITES: unmarked data blocks, replacements that an entry uses, and unmarked copies of the table
+pub data IsWritten (kind : DriveKind) (pack : Pack) (sector : ℕ) : Type 0 where
+  Data : sector < limit_of kind → is_marked pack sector ≡ false → IsWritten kind pack sector
+  Replacement : (index : ℕ) → index < found kind pack → sector ≡ replacement_at kind index → is_marked pack sector ≡ false → IsWritten kind pack sector
+  Copy : (k : ℕ) → k < 5 → sector ≡ copy_at kind k → is_marked pack sector ≡ false → IsWritten kind pack sector
+
+-- FORMATTED: nothing was in the way; each unmarked copy spells the table, which is the pack's; each data block has a home, and zeros for its
+-- content; marks stay, and so does every sector that is not written, as marked copies and replacements that no entry uses.
+pub record IsFormatted (kind : DriveKind) (serial : ℕ) (old new : Pack) : Type 0 where
+  pub can : CanBeFormatted kind old
+  pub copies : (k : ℕ) → k < 5 → is_marked old (copy_at kind k) ≡ false → Spells (block_at new.image (copy_at kind k)) (table_for kind serial old)
+  pub table_is : IsTableOf kind new (Some (table_for kind serial old))
+  pub content : (block : ℕ) → block < limit_of kind → content_of kind (Some (table_for kind serial old)) new block ≡ Some (replicate 512 0)
+  pub marks : new.marks ≡ old.marks
+  pub others : (sector : ℕ) → ¬ (IsWritten kind old sector) → block_at new.image sector ≡ block_at old.image sector
+
+-- WHERE IT STOPPED each sector has what it had, or is one that formatting writes. Then a copy spells the table, and another has 512 bytes A5
+-- or 512 zeros.
+abbrev pub IsTested : List ℕ → Type 0
+IsTested bytes = (bytes ≡ replicate 512 165) ⊎ (bytes ≡ replicate 512 0)
+
+abbrev pub HasNew : (kind : DriveKind) (serial : ℕ) (pack : Pack) (sector : ℕ) → List ℕ → IsWritten kind pack sector → Type 0
+HasNew kind serial pack sector bytes (Data _ _) = IsTested bytes
+HasNew kind serial pack sector bytes (Replacement _ _ _ _) = IsTested bytes
+HasNew kind serial pack sector bytes (Copy _ _ _ _) = Spells bytes (table_for kind serial pack)
+
+pub record IsChanged (kind : DriveKind) (serial : ℕ) (pack : Pack) (sector : ℕ) (bytes : List ℕ) : Type 0 where
+  pub written : IsWritten kind pack sector
+  pub new : HasNew kind serial pack sector bytes written
+
+pub record IsPartly (kind : DriveKind) (serial : ℕ) (old new : Pack) : Type 0 where
+  pub can : CanBeFormatted kind old
+  pub sectors : (sector : ℕ) → (block_at new.image sector ≡ block_at old.image sector) ⊎ IsChanged kind serial old sector (block_at new.image sector)
+  pub marks : new.marks ≡ old.marks

@@ -1,0 +1,59 @@
+use outside_traits::traits::{NoMemory, StoreFailed};
+use thiserror::Error;
+
+/// Why a pack was not formatted.
+#[derive(Debug, Drop, PartialEq, Eq, Error)]
+pub enum FormatFault {
+    /// There was no memory. Nothing was written.
+    #[error("there is no memory")]
+    Memory,
+    /// The image has so many bytes, more than the pack.
+    #[error("{length} bytes are too many")]
+    TooLong {
+        length: u64,
+    },
+    /// So many data blocks are marked, more than the 126 that a table lists.
+    #[error("{found} marked blocks are too many")]
+    TooMany {
+        found: u32,
+    },
+    /// This replacement would be used, and is marked.
+    #[error("replacement {0} is marked")]
+    Spare(u8),
+    /// All five copies of the table are marked.
+    #[error("no copy is unmarked")]
+    NoCopy,
+    /// A byte of a block came back otherwise than it was written; `at` is its place in the block.
+    #[error("byte {at} of block {block} was written as {wrote} and read as {read}")]
+    Differs {
+        block: u32,
+        at: u16,
+        wrote: u8,
+        read: u8,
+    },
+    /// A call on the packs failed.
+    #[error("the packs failed")]
+    Store,
+}
+
+impl From<StoreFailed> for FormatFault {
+    ghost use Rattle.std.specs.Prelude.{◌≡◌};
+    ghost use Rattle.pack_format.specs.declared.fault.FormatFault.TheVariants.{Store};
+
+    ghost from_gives = { λ _ e. e ≡ Store };
+
+    fn from(_: StoreFailed) -> FormatFault {
+        FormatFault::Store
+    }
+}
+
+impl From<NoMemory> for FormatFault {
+    ghost use Rattle.std.specs.Prelude.{◌≡◌};
+    ghost use Rattle.pack_format.specs.declared.fault.FormatFault.TheVariants.{Memory};
+
+    ghost from_gives = { λ _ e. e ≡ Memory };
+
+    fn from(_: NoMemory) -> FormatFault {
+        FormatFault::Memory
+    }
+}

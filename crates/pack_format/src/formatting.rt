@@ -1,0 +1,104 @@
+//! Formatting a pack.
+ghost use Rattle.std.specs.Prelude.{◌≡◌, ◌≢◌, ℕ, ◌<◌, IfOk, IfErr, IsTrue, OnErr, OnOk};
+ghost use Rattle.pack_format.specs.Faults.{IsCaused, IsFault, IsWhy, Leaves};
+ghost use Rattle.pack_format.specs.Formatted.{CanBeFormatted, IsFormatted, IsPartly, IsTooLong, found, table_for};
+ghost use Rattle.pack_format.specs.Stages.{IsStop};
+ghost use Rattle.pack_format.specs.Stations.{IsAtRest};
+
+use crate::fault::FormatFault;
+use crate::station::Station;
+use crate::survey::first_reading;
+use crate::testing::{test_blocks, write_copies};
+use bad144_table::{BadTable, entries};
+use outside_traits::traits::Packs;
+use pack_geometry::{DriveKind, blocks, copy_block, data_limit};
+use std::alloc::Global;
+
+/// What formatting a pack came to.
+#[derive(Clone, Copy, Debug, PartialEq, Eq)]
+pub struct FormatReport {
+    /// How many data blocks are marked, and so listed.
+    pub bad: u8,
+}
+
+/// Looks whether the image is no longer than the pack.
+fn check_length<P: Packs>(packs: &mut P, unit: u8, kind: DriveKind) -> Result<(), FormatFault>
+    requires { unit < 32 }
+    ensures fits { OnOk result (IsTrue (P.tells packs.new) → ¬ (IsTooLong kind (P.held packs.old unit))) }
+    ensures why { IfErr result (λ fault. IsTrue (P.tells packs.new) → IsWhy kind (P.held packs.old unit) fault) }
+    ensures fault { IfErr result IsFault }
+    ensures same { IsTrue (P.tells packs.new) → P.held packs.new ≡ P.held packs.old }
+    ensures never_again { IsTrue (P.tells packs.new) → IsTrue (P.tells packs.old) }
+    ensures cause { IsCaused (P.faults packs.old) (P.faults packs.new) result }
+{
+    let length = packs.length(unit)?;
+    if length > 512 * u64::from(blocks(kind)) {
+        return Err(FormatFault::TooLong { length });
+    }
+    Ok(())
+}
+
+/// Tests the data blocks and the replacements that a table uses, and writes it to its copies.
+fn write_blocks<P: Packs>(
+    station: &mut Station,
+    packs: &mut P,
+    unit: u8,
+    kind: DriveKind,
+    table: &BadTable,
+) -> Result<(), FormatFault>
+    requires unit { unit < 32 }
+    requires rest { IsAtRest kind station.old.drive station.old.adapter station.old.memory station.old.book }
+    requires can { IsTrue (P.tells packs.old) → CanBeFormatted kind (P.held packs.old unit) }
+    requires table { IsTrue (P.tells packs.old) → table.now ≡ table_for kind table.now.serial (P.held packs.old unit) }
+    ensures formatted { OnOk result (IsTrue (P.tells packs.new) → IsFormatted kind table.now.serial (P.held packs.old unit) (P.held packs.new unit)) }
+    ensures partly { OnErr result (IsTrue (P.tells packs.new) → IsPartly kind table.now.serial (P.held packs.old unit) (P.held packs.new unit)) }
+    ensures elsewhere { (other : ℕ) → other ≢ unit → IsTrue (P.tells packs.new) → P.held packs.new other ≡ P.held packs.old other }
+    ensures stop { IfErr result (IsStop (P.tells packs.new)) }
+    ensures never_again { IsTrue (P.tells packs.new) → IsTrue (P.tells packs.old) }
+    ensures cause { IsCaused (P.faults packs.old) (P.faults packs.new) result }
+{
+    let limit = data_limit(kind);
+    let track = copy_block(kind, 0);
+    let spares = u32::from(entries(table));
+    test_blocks(station, packs, unit, kind, 0, limit)?;
+    test_blocks(station, packs, unit, kind, track - spares, track)?;
+    write_copies(station, packs, unit, kind, table)
+}
+
+/// Formats a unit's pack.
+///
+/// First every data block, replacement and copy is read. Then each data block that is not marked, and each replacement
+/// that the table will use, by rising block number, is written with 512 bytes A5, read back, written with zeros and read
+/// back. Last a table with this serial number, which lists the marked data blocks, is written to each copy that is not
+/// marked, and read back.
+///
+/// The refusals come in this order, and change nothing: TooLong exactly where the image is longer than the pack; TooMany
+/// exactly where more than 126 data blocks are marked; Spare with the first replacement that would be used and is marked;
+/// NoCopy exactly where all five copies are marked. Differs never comes over packs that tell. Store comes only where the
+/// packs' count of faults rose. After Differs and Store only data blocks, used replacements and copies that are not marked
+/// may have changed, the first two to 512 bytes A5 or zeros. Memory comes before any write.
+pub fn format<P: Packs>(
+    alloc: Global,
+    packs: &mut P,
+    unit: u8,
+    kind: DriveKind,
+    serial: u32,
+) -> Result<FormatReport, FormatFault>
+    requires { unit < 32 }
+    ensures formatted { IfOk result (λ report. IsTrue (P.tells packs.new) →
+        IsFormatted kind serial (P.held packs.old unit) (P.held packs.new unit) × (report.bad ≡ found kind (P.held packs.old unit))) }
+    ensures elsewhere { (other : ℕ) → other ≢ unit → IsTrue (P.tells packs.new) → P.held packs.new other ≡ P.held packs.old other }
+    ensures why { IfErr result (λ fault. IsTrue (P.tells packs.new) → IsWhy kind (P.held packs.old unit) fault) }
+    ensures left { IfErr result (λ fault. IsTrue (P.tells packs.new) → Leaves kind serial unit (P.held packs.old) (P.held packs.new) fault) }
+    ensures fault { IfErr result IsFault }
+    ensures never_again { IsTrue (P.tells packs.new) → IsTrue (P.tells packs.old) }
+    ensures cause { IsCaused (P.faults packs.old) (P.faults packs.new) result }
+{
+    check_length(packs, unit, kind)?;
+    let mut station = Station::new(alloc, kind)?;
+    let table = first_reading(&mut station, packs, unit, kind, serial)?;
+    write_blocks(&mut station, packs, unit, kind, &table)?;
+    Ok(FormatReport {
+        bad: entries(&table),
+    })
+}

@@ -1,0 +1,228 @@
+//! The first reading of all blocks.
+ghost use Rattle.std.specs.Prelude.{◌≡◌, ◌<◌, ◌≤◌, ◌+◌, ℕ, true, IsTrue, IfErr, IfOk, OnErr, OnOk, [], length};
+ghost use Rattle.outside_traits.specs.Causes.{HasCause};
+ghost use Rattle.pack_geometry.specs.Geometry.{block_count, limit_of, replacement_at};
+ghost use Rattle.pack_model.specs.Pack.{Pack, is_marked};
+ghost use Rattle.pack_format.specs.Faults.{IsCaused, IsFault, IsWhy};
+ghost use Rattle.pack_format.specs.Formatted.{CanBeFormatted, IsTooLong, table_for};
+ghost use Rattle.pack_format.specs.Polls.{answer_for};
+ghost use Rattle.pack_format.specs.Stations.{IsAtRest};
+ghost use Rattle.pack_format.specs.Surveys.{IsFirst, IsJudged, IsRefusal, IsSurvey, all_marked, used_of};
+ghost use Rattle.pack_geometry.specs.declared.DriveKind.{DriveKind};
+
+use crate::fault::FormatFault;
+use crate::station::{Polled, Station};
+use bad144_table::{BadTable, empty_table, insert};
+use outside_traits::traits::{Packs, StoreFailed};
+use pack_geometry::{DriveKind, copy_block, data_limit, place_of, replacement};
+
+/// The marked data blocks so far: how many they are, and the table that lists them, where they are at most 126.
+#[derive(Drop)]
+struct Survey {
+    found: u32,
+    table: BadTable,
+}
+
+/// Whether a poll says that the block is marked.
+fn is_mark(polled: Polled) -> bool
+    ensures { polled ≡ answer_for result }
+{
+    match polled {
+        Polled::Marked => true,
+        Polled::Clean => false,
+    }
+}
+
+/// Reads a block; true where it is marked.
+fn poll_mark<P: Packs>(
+    station: &mut Station,
+    packs: &mut P,
+    unit: u8,
+    kind: DriveKind,
+    block: u32,
+) -> Result<bool, StoreFailed>
+    requires unit { unit < 32 }
+    requires rest { IsAtRest kind station.old.drive station.old.adapter station.old.memory station.old.book }
+    requires block { block < block_count kind }
+    ensures answer { IfOk result (λ marked. IsTrue (P.tells packs.new) → marked ≡ is_marked (P.held packs.old unit) block) }
+    ensures rest { OnOk result (IsAtRest kind station.new.drive station.new.adapter station.new.memory station.new.book) }
+    ensures same { IsTrue (P.tells packs.new) → P.held packs.new ≡ P.held packs.old }
+    ensures never_again { IsTrue (P.tells packs.new) → IsTrue (P.tells packs.old) }
+    ensures cause { HasCause (P.faults packs.old) (P.faults packs.new) result }
+{
+    let mut bytes = [0u8; 512];
+    let polled = station.poll_read(packs, unit, kind, block, &mut bytes)?;
+    Ok(is_mark(polled))
+}
+
+/// Lists a marked data block above all that are listed, which are fewer than 126, so that it is not refused.
+fn list(table: &mut BadTable, kind: DriveKind, block: u32)
+    requires data_block { block < limit_of kind }
+    requires kind { table.old.kind ≡ kind }
+    ensures survey { (serial number : ℕ) → (pack : Pack) → IsSurvey kind serial pack block number table.old → is_marked pack block ≡ true → number < 126
+        → IsSurvey kind serial pack (block + 1) (number + 1) table.new }
+    ensures kind { table.new.kind ≡ kind }
+{
+    match insert(table, place_of(kind, block)) {
+        Ok(_) => {}
+        Err(_) => {}
+    }
+}
+
+/// Takes a data block into the survey of those below it.
+fn take(survey: &mut Survey, kind: DriveKind, block: u32, marked: bool)
+    requires data_block { block < limit_of kind }
+    requires counted { survey.old.found ≤ block }
+    requires kind { survey.old.table.kind ≡ kind }
+    ensures survey { (serial : ℕ) → (pack : Pack) → IsSurvey kind serial pack block survey.old.found survey.old.table → marked ≡ is_marked pack block
+        → IsSurvey kind serial pack (block + 1) survey.new.found survey.new.table }
+    ensures counted { survey.new.found ≤ block + 1 }
+    ensures kind { survey.new.table.kind ≡ kind }
+{
+    if !marked {
+        return;
+    }
+    survey.found += 1;
+    if survey.found > 126 {
+        return;
+    }
+    list(&mut survey.table, kind, block);
+}
+
+/// Reads the data blocks.
+fn read_data<P: Packs>(
+    station: &mut Station,
+    packs: &mut P,
+    unit: u8,
+    kind: DriveKind,
+    serial: u32,
+) -> Result<Survey, StoreFailed>
+    requires unit { unit < 32 }
+    requires rest { IsAtRest kind station.old.drive station.old.adapter station.old.memory station.old.book }
+    ensures survey { IfOk result (λ survey. IsTrue (P.tells packs.new) →
+        IsSurvey kind serial (P.held packs.old unit) (limit_of kind) survey.found survey.table) }
+    ensures rest { OnOk result (IsAtRest kind station.new.drive station.new.adapter station.new.memory station.new.book) }
+    ensures same { IsTrue (P.tells packs.new) → P.held packs.new ≡ P.held packs.old }
+    ensures never_again { IsTrue (P.tells packs.new) → IsTrue (P.tells packs.old) }
+    ensures cause { HasCause (P.faults packs.old) (P.faults packs.new) result }
+{
+    let mut survey = Survey {
+        found: 0,
+        table: empty_table(kind, serial),
+    };
+    for block in 0..data_limit(kind) {
+        let marked = poll_mark(station, packs, unit, kind, block)?;
+        take(&mut survey, kind, block, marked);
+    }
+    Ok(survey)
+}
+
+/// The first marked replacement of those so far, and this one.
+fn or_this(first: Option<u8>, i: u8, marked: bool) -> Option<u8>
+    ensures { (kind : DriveKind) → (pack : Pack) → IsFirst kind pack i first → marked ≡ is_marked pack (replacement_at kind i) → IsFirst kind pack (i + 1) result }
+{
+    match first {
+        Some(before) => Some(before),
+        None if marked => Some(i),
+        None => None,
+    }
+}
+
+/// Reads the replacements; gives the first that is marked.
+fn read_replacements<P: Packs>(
+    station: &mut Station,
+    packs: &mut P,
+    unit: u8,
+    kind: DriveKind,
+) -> Result<Option<u8>, StoreFailed>
+    requires unit { unit < 32 }
+    requires rest { IsAtRest kind station.old.drive station.old.adapter station.old.memory station.old.book }
+    ensures first { IfOk result (λ first. IsTrue (P.tells packs.new) → IsFirst kind (P.held packs.old unit) 126 first) }
+    ensures rest { OnOk result (IsAtRest kind station.new.drive station.new.adapter station.new.memory station.new.book) }
+    ensures same { IsTrue (P.tells packs.new) → P.held packs.new ≡ P.held packs.old }
+    ensures never_again { IsTrue (P.tells packs.new) → IsTrue (P.tells packs.old) }
+    ensures cause { HasCause (P.faults packs.old) (P.faults packs.new) result }
+{
+    let mut first = None;
+    for i in 0..126u8 {
+        let marked = poll_mark(station, packs, unit, kind, replacement(kind, u32::from(i)))?;
+        first = or_this(first, i, marked);
+    }
+    Ok(first)
+}
+
+/// Reads the copies of the table; true where all five are marked.
+fn read_copies<P: Packs>(
+    station: &mut Station,
+    packs: &mut P,
+    unit: u8,
+    kind: DriveKind,
+) -> Result<bool, StoreFailed>
+    requires unit { unit < 32 }
+    requires rest { IsAtRest kind station.old.drive station.old.adapter station.old.memory station.old.book }
+    ensures all { IfOk result (λ all. IsTrue (P.tells packs.new) → all ≡ all_marked kind (P.held packs.old unit) 5) }
+    ensures rest { OnOk result (IsAtRest kind station.new.drive station.new.adapter station.new.memory station.new.book) }
+    ensures same { IsTrue (P.tells packs.new) → P.held packs.new ≡ P.held packs.old }
+    ensures never_again { IsTrue (P.tells packs.new) → IsTrue (P.tells packs.old) }
+    ensures cause { HasCause (P.faults packs.old) (P.faults packs.new) result }
+{
+    let mut all = true;
+    for k in 0..5u32 {
+        let marked = poll_mark(station, packs, unit, kind, copy_block(kind, k))?;
+        all &= marked;
+    }
+    Ok(all)
+}
+
+/// The first marked replacement, where an entry would use it.
+fn used(found: u32, spare: Option<u8>) -> Option<u8>
+    ensures { result ≡ used_of found spare }
+{
+    match spare {
+        Some(i) if u32::from(i) < found => Some(i),
+        _ => None,
+    }
+}
+
+/// Whether nothing is in the way: too many marked blocks, a marked replacement that would be used, or no copy.
+fn judge(found: u32, spare: Option<u8>, no_copy: bool) -> Result<(), FormatFault>
+    ensures ok { OnOk result ((kind : DriveKind) → (pack : Pack) → IsJudged kind pack found spare no_copy → CanBeFormatted kind pack) }
+    ensures why { IfErr result (λ fault. (kind : DriveKind) → (pack : Pack) → IsJudged kind pack found spare no_copy → IsWhy kind pack fault) }
+    ensures refusal { IfErr result IsRefusal }
+{
+    if found > 126 {
+        return Err(FormatFault::TooMany { found });
+    }
+    match used(found, spare) {
+        Some(i) => Err(FormatFault::Spare(i)),
+        None if no_copy => Err(FormatFault::NoCopy),
+        None => Ok(()),
+    }
+}
+
+/// Reads every data block, replacement and copy, and gives the table of the marked data blocks where nothing is in the way.
+pub(crate) fn first_reading<P: Packs>(
+    station: &mut Station,
+    packs: &mut P,
+    unit: u8,
+    kind: DriveKind,
+    serial: u32,
+) -> Result<BadTable, FormatFault>
+    requires unit { unit < 32 }
+    requires rest { IsAtRest kind station.old.drive station.old.adapter station.old.memory station.old.book }
+    requires fits { IsTrue (P.tells packs.old) → ¬ (IsTooLong kind (P.held packs.old unit)) }
+    ensures table { IfOk result (λ table. IsTrue (P.tells packs.new) → table ≡ table_for kind serial (P.held packs.old unit)) }
+    ensures can { OnOk result (IsTrue (P.tells packs.new) → CanBeFormatted kind (P.held packs.old unit)) }
+    ensures why { IfErr result (λ fault. IsTrue (P.tells packs.new) → IsWhy kind (P.held packs.old unit) fault) }
+    ensures fault { IfErr result IsFault }
+    ensures rest { OnOk result (IsAtRest kind station.new.drive station.new.adapter station.new.memory station.new.book) }
+    ensures same { IsTrue (P.tells packs.new) → P.held packs.new ≡ P.held packs.old }
+    ensures never_again { IsTrue (P.tells packs.new) → IsTrue (P.tells packs.old) }
+    ensures cause { IsCaused (P.faults packs.old) (P.faults packs.new) result }
+{
+    let survey = read_data(station, packs, unit, kind, serial)?;
+    let spare = read_replacements(station, packs, unit, kind)?;
+    let no_copy = read_copies(station, packs, unit, kind)?;
+    judge(survey.found, spare, no_copy)?;
+    Ok(survey.table)
+}

@@ -1,0 +1,151 @@
+-- THE TEXT OF A DRAWING: what stands behind a text with each piece more.
+use Rattle.std.specs.Prelude.{◌≡◌, ℕ, ◌==◌, nat_le, min, Bool, ◌&&◌, if◌then◌else◌, List, [], ◌∷◌, ◌++◌, Option, Some, None, fold, slice_range, codes, decimal}
+use denote.Ref.{Bor}
+use Rattle.picture_markup.specs.declared.pieces.Element.{Element}
+use Rattle.picture_markup.specs.declared.pieces.Element.TheVariants as element
+use Rattle.picture_markup.specs.declared.pieces.Start.{Start}
+use Rattle.picture_markup.specs.declared.pieces.Start.TheVariants as start
+use Rattle.picture_markup.specs.declared.pieces.Point.{Point}
+use Rattle.picture_markup.specs.declared.pieces.Route.{Route}
+use Rattle.picture_markup.specs.declared.pieces.Route.TheVariants as route
+use Rattle.picture_markup.specs.declared.pieces.Piece.{Piece}
+use Rattle.picture_markup.specs.declared.pieces.Piece.TheVariants as piece
+use Rattle.picture_markup.specs.Nesting.{Drawn, drawn}
+
+-- WORDS: the signs of elements are written out, and what is not printing is a question mark
+abbrev pub is_printing : ℕ → Bool
+is_printing b = nat_le 32 b && nat_le b 126
+
+abbrev pub escaped : ℕ → List ℕ
+escaped b =
+    if b == 38
+    then codes "&amp;"
+    else if b == 60
+    then codes "&lt;"
+    else if b == 62 then codes "&gt;" else if is_printing b then b ∷ [] else codes "?"
+
+abbrev pub with_byte : List ℕ → ℕ → List ℕ
+with_byte text b = text ++ escaped b
+
+abbrev pub with_words : List ℕ → List ℕ → List ℕ
+with_words bytes text = fold with_byte text bytes
+
+-- A COORDINATE is below 20,000
+abbrev pub with_place : ℕ → List ℕ → List ℕ
+with_place n text = text ++ decimal (min n 19999)
+
+-- AN ATTRIBUTE
+abbrev pub with_class : List ℕ → List ℕ → List ℕ
+with_class class text = text ++ codes " class=\"" ++ class ++ codes "\""
+
+abbrev pub with_key : List ℕ → ℕ → List ℕ → List ℕ
+with_key key n text = with_place n (text ++ codes " " ++ key ++ codes "=\"") ++ codes "\""
+
+-- a letter of a path or what else stands in front of a coordinate, and in front of a point
+abbrev pub with_leg : List ℕ → ℕ → List ℕ → List ℕ
+with_leg letter n text = with_place n (text ++ letter)
+
+abbrev pub with_point : List ℕ → Point → List ℕ → List ℕ
+with_point letter p text = with_leg (codes " ") p.y (with_leg letter p.x text)
+
+-- THE WAY OF A PATH
+abbrev pub with_route : Route → List ℕ → List ℕ
+with_route (route.Across from to) text = with_leg (codes "H") to (with_point (codes "M") from text)
+with_route (route.TwoAcross from to lower) text =
+    with_leg (codes "H") to (with_point (codes "M") (record { x = from.x; y = lower })
+    (with_leg (codes "H") to (with_point (codes "M") from text)))
+with_route (route.Down from to) text = with_leg (codes "V") to (with_point (codes "M") from text)
+with_route (route.Line from to) text = with_point (codes "L") to (with_point (codes "M") from text)
+with_route (route.Bracket from width) text = with_leg (codes "v-4h") width (with_point (codes "M") from text)
+with_route (route.Tick from) text = with_point (codes "M") from text ++ codes "v12"
+with_route (route.Sign from way) text = with_point (codes "M") from text ++ way.now
+
+-- ELEMENTS WITH NOTHING IN THEM
+abbrev pub with_fill : Option (Bor (List ℕ)) → List ℕ → List ℕ
+with_fill None text = text
+with_fill (Some name) text = text ++ codes " fill=\"url(#" ++ name.now ++ codes ")\""
+
+abbrev pub with_rect : List ℕ → Point → ℕ → ℕ → Option (Bor (List ℕ)) → List ℕ → List ℕ
+with_rect class corner width height fill text =
+    with_fill fill (with_key (codes "height") height (with_key (codes "width") width
+    (with_key (codes "y") corner.y (with_key (codes "x") corner.x (with_class class (text ++ codes "<rect"))))))
+    ++ codes "/>\n"
+
+abbrev pub with_circle : List ℕ → Point → ℕ → List ℕ → List ℕ
+with_circle class middle radius text =
+    with_key (codes "r") radius (with_key (codes "cy") middle.y (with_key (codes "cx") middle.x
+    (with_class class (text ++ codes "<circle"))))
+    ++ codes "/>\n"
+
+abbrev pub with_path : List ℕ → Route → List ℕ → List ℕ
+with_path class way text =
+    with_route way (with_class class (text ++ codes "<path") ++ codes " d=\"") ++ codes "\"/>\n"
+
+-- points, each behind the first after a blank
+abbrev pub with_next : List ℕ → Point → List ℕ
+with_next text p = with_leg (codes ",") p.y (with_leg (codes " ") p.x text)
+
+abbrev pub with_points : List Point → List ℕ → List ℕ
+with_points [] text = text
+with_points (p ∷ points) text = fold with_next (with_leg (codes ",") p.y (with_leg [] p.x text)) points
+
+abbrev pub with_polyline : List ℕ → List Point → List ℕ → List ℕ
+with_polyline class points text =
+    with_points points (with_class class (text ++ codes "<polyline") ++ codes " points=\"") ++ codes "\"/>\n"
+
+-- THE START OF AN ELEMENT, AND ITS END
+unfoldable pub svg_front : List ℕ
+svg_front = codes "<svg xmlns=\"http://www.w3.org/2000/svg\""
+
+unfoldable pub svg_back : List ℕ
+svg_back = codes "\" role=\"graphics-document document\" aria-labelledby=\"t d\">\n"
+
+abbrev pub with_svg : ℕ → ℕ → List ℕ → List ℕ
+with_svg width height text =
+    with_leg (codes " ") height (with_leg (codes " viewBox=\"0 0 ") width
+    (with_key (codes "height") height (with_key (codes "width") width (text ++ svg_front))))
+    ++ svg_back
+
+abbrev pub with_start : Start → List ℕ → List ℕ
+with_start (start.Svg width height) text = with_svg width height text
+with_start start.Group text = text ++ codes "<g>"
+with_start start.Title text = text ++ codes "<title>"
+with_start start.Caption text = text ++ codes "<title id=\"t\">"
+with_start start.Desc text = text ++ codes "<desc id=\"d\">"
+with_start (start.Text class x y) text =
+    with_key (codes "y") y (with_key (codes "x") x (with_class class.now (text ++ codes "<text"))) ++ codes ">"
+with_start (start.Upwards x y) text =
+    with_leg (codes " ") y (with_leg (codes " transform=\"translate(") x (with_class (codes "m") (text ++ codes "<text")))
+    ++ codes ")rotate(-90)\">"
+
+abbrev pub with_end : Element → List ℕ → List ℕ
+with_end element.Svg text = text ++ codes "</svg>\n"
+with_end element.Group text = text ++ codes "</g>\n"
+with_end element.Title text = text ++ codes "</title>\n"
+with_end element.Desc text = text ++ codes "</desc>\n"
+with_end element.Text text = text ++ codes "</text>\n"
+
+-- A PIECE MORE
+abbrev pub with_piece : List Point → List ℕ → Piece → List ℕ
+with_piece points text (piece.Start s) = with_start s text
+with_piece points text (piece.End e) = with_end e text
+with_piece points text (piece.Word word) = with_words word.now text
+with_piece points text (piece.Number n) = text ++ decimal n
+with_piece points text (piece.Said bytes) = with_words bytes.now text
+with_piece points text (piece.Told line) = with_words line.now text
+with_piece points text piece.Feed = text ++ codes "\n"
+with_piece points text (piece.Rect class corner width height fill) = with_rect class.now corner width height fill text
+with_piece points text (piece.Circle class middle radius) = with_circle class.now middle radius text
+with_piece points text (piece.Path class way) = with_path class.now way text
+with_piece points text (piece.Polyline class from to) = with_polyline class.now (slice_range points from to) text
+with_piece points text (piece.Fixed line) = text ++ line.now ++ codes "\n"
+
+abbrev pub text_of : List Point → List Piece → List ℕ
+text_of points pieces = fold (with_piece points) [] pieces
+
+-- A DRAWING IS WRITTEN AS A TEXT
+pub record IsWritten (d : Drawn) (text : List ℕ) : Type 0 where
+  pub pieces : List Piece
+  pub points : List Point
+  pub text_is : text ≡ text_of points pieces
+  pub drawn_is : drawn pieces ≡ d

@@ -1,0 +1,116 @@
+//! A run as a picture shows it.
+
+ghost use Rattle.std.specs.Prelude.{◌≡◌, ◌==◌, ◌++◌, IfOk, OnOk};
+ghost use Rattle.picture_sheet.specs.Units.{has_request, is_drawn, unit_drawn, units_shown};
+
+use drive_pictures::Request;
+use run_picture::{Column, Run, Window};
+use std::alloc::{AllocError, Global};
+
+/// A line of the script or of the trace that speaks of a drive, in a column of one event.
+#[derive(Clone, Copy)]
+pub struct Note<'a> {
+    /// Its column, from 0.
+    pub column: usize,
+    /// The drive.
+    pub unit: u8,
+    /// Its text, without its end.
+    pub text: &'a [u8],
+}
+
+/// A run as a picture shows it.
+#[derive(Clone, Copy)]
+pub struct Sheet<'a> {
+    /// What stands above it; empty for none.
+    pub caption: &'a [u8],
+    /// The run, finished.
+    pub run: &'a Run,
+    /// The events that are shown, as the run has them in columns.
+    pub window: Window,
+    /// Of each column the text of the script's line at which it begins; empty where it is not known.
+    pub texts: &'a [&'a [u8]],
+    /// Where a column is one event, the lines that speak of a drive, as they came; else none.
+    pub notes: &'a [Note<'a>],
+}
+
+/// Some request is of a unit.
+fn has_request(requests: &[Request], unit: u8) -> bool
+    ensures { result ≡ has_request requests.now unit }
+{
+    requests.iter().any(|request| request.unit == unit)
+}
+
+/// A drive is drawn: something is shown, and some request is of it.
+fn is_drawn(sheet: &Sheet<'_>, unit: u8) -> bool
+    ensures { result ≡ is_drawn sheet.now unit }
+{
+    !sheet.run.columns().is_empty() && has_request(sheet.run.requests(), unit)
+}
+
+/// A drive stands behind others, if it is drawn.
+fn push_drawn(sheet: &Sheet<'_>, units: &mut Vec<u8>, unit: u8) -> Result<(), AllocError>
+    ensures { OnOk result (units.new.items ≡ units.old.items ++ unit_drawn sheet.now unit) }
+{
+    if is_drawn(sheet, unit) {
+        units.push(unit)?;
+    }
+    Ok(())
+}
+
+impl<'a> Sheet<'a> {
+    /// What stands above the picture.
+    pub fn title(&self) -> &'a [u8] {
+        if self.caption.is_empty() {
+            b"A run of hpsim"
+        } else {
+            self.caption
+        }
+    }
+
+    /// The columns.
+    pub fn columns(&self) -> &'a [Column] {
+        self.run.columns()
+    }
+
+    /// The first event of a column; for one behind the last, the end.
+    pub fn head(&self, column: usize) -> u64 {
+        let events = self.window.per.saturating_mul(column as u64);
+        self.window
+            .first
+            .saturating_add(events)
+            .min(self.window.last)
+    }
+
+    /// The column of an event; the first and the last edge for those before and behind.
+    pub fn column_of(&self, event: u64) -> usize {
+        let columns = self.columns().len() as u64;
+        let column = event.saturating_sub(self.window.first) / self.window.per.max(1);
+        column.min(columns) as usize
+    }
+
+    /// A column is one event.
+    pub fn is_by_event(&self) -> bool
+        ensures { result ≡ (self.now.window.per == 1) }
+    {
+        self.window.per == 1
+    }
+
+    /// The units that have requests, where anything is shown.
+    pub fn units(&self, alloc: Global) -> Result<Vec<u8>, AllocError>
+        ensures { IfOk result (λ units. units.items ≡ units_shown self.now) }
+    {
+        let mut units = Vec::new(alloc);
+        for unit in 0..32u8 {
+            push_drawn(self, &mut units, unit)?;
+        }
+        Ok(units)
+    }
+
+    /// Where the arm of a drive is before the first column.
+    pub fn arm_before(&self, unit: u8) -> u32 {
+        match self.run.start().get(usize::from(unit)) {
+            Some(drive) => drive.arm.cylinder,
+            None => 0,
+        }
+    }
+}

@@ -1,0 +1,122 @@
+//! The answers at a glance, of a whole run, in sentences.
+
+use crate::sheet::Sheet;
+use drive_pictures::{Outcome, Request};
+
+/// Words, and a number behind them.
+#[derive(Clone, Copy)]
+pub struct Phrase {
+    pub word: &'static str,
+    pub number: u64,
+}
+
+/// A sentence: two phrases or three, and its end.
+#[derive(Clone, Copy)]
+pub struct Sentence {
+    pub first: Phrase,
+    pub second: Phrase,
+    pub third: Option<Phrase>,
+    pub end: &'static str,
+}
+
+/// How many requests were answered ok.
+fn count_ok(requests: &[Request]) -> u64 {
+    let mut count: u64 = 0;
+    for request in requests.iter() {
+        if request.outcome == Outcome::Ok {
+            count = count.saturating_add(1);
+        }
+    }
+    count
+}
+
+/// How many were served out of the order asked.
+fn count_turned(requests: &[Request]) -> u64 {
+    let mut count: u64 = 0;
+    for request in requests.iter() {
+        if request.is_out_of_order() {
+            count = count.saturating_add(1);
+        }
+    }
+    count
+}
+
+/// What became of the requests.
+fn of_requests(sheet: &Sheet<'_>) -> Sentence {
+    let requests = sheet.run.requests();
+    Sentence {
+        first: Phrase {
+            word: "Requests: ",
+            number: requests.len() as u64,
+        },
+        second: Phrase {
+            word: "; ok: ",
+            number: count_ok(requests),
+        },
+        third: Some(Phrase {
+            word: "; served out of the order asked: ",
+            number: count_turned(requests),
+        }),
+        end: ".",
+    }
+}
+
+/// How many events there were.
+fn of_events(sheet: &Sheet<'_>) -> Sentence {
+    Sentence {
+        first: Phrase {
+            word: "Events: ",
+            number: sheet.run.events(),
+        },
+        second: Phrase {
+            word: "; to a column: ",
+            number: sheet.window.per,
+        },
+        third: None,
+        end: ".",
+    }
+}
+
+/// How many drives positioned at once.
+fn of_positioning(sheet: &Sheet<'_>) -> Sentence {
+    let glance = sheet.run.glance();
+    Sentence {
+        first: Phrase {
+            word: "Drives positioning at once: at most ",
+            number: glance.most as u64,
+        },
+        second: Phrase {
+            word: ", first at line ",
+            number: u64::from(glance.most_line),
+        },
+        third: None,
+        end: ".",
+    }
+}
+
+/// How often sectors moved, and another drive positioned meanwhile.
+fn of_moving(sheet: &Sheet<'_>) -> Sentence {
+    let glance = sheet.run.glance();
+    Sentence {
+        first: Phrase {
+            word: "Sectors moved after ",
+            number: glance.moving,
+        },
+        second: Phrase {
+            word: " events; after ",
+            number: glance.both,
+        },
+        third: None,
+        end: " of them another drive was positioning.",
+    }
+}
+
+/// The four sentences.
+pub fn sentences(sheet: &Sheet<'_>) -> [Sentence; 4] {
+    [
+        of_requests(sheet),
+        of_events(sheet),
+        of_positioning(sheet),
+        of_moving(sheet),
+    ]
+}
