@@ -34,9 +34,9 @@ pub record IsRead (limit : ℕ) (source bytes : List ℕ) : Type 0 where
   pub end : (rest ≡ []) ⊎ (limit < length bytes)
 
 -- A SCRIPT as it is stored
-pub record Loads (text : List ℕ) (stored : Stored) : Type 0 where
-  pub text : stored.text ≡ text
-  pub spells : Spells all_verbs text (lines_in stored) stored.count
+pub record Loads (bytes : List ℕ) (stored : Stored) : Type 0 where
+  pub text : stored.text ≡ bytes
+  pub spells : Spells all_verbs bytes (lines_in stored) stored.count
 
 -- A REFUSAL of a script says its first fault
 abbrev pub RefusesScript : ViewFault → List ℕ → Type 0

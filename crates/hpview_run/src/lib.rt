@@ -6,13 +6,14 @@
 //! Only tested, in `hpview_rows`: the exact text of pictures and charts.
 #![tactic(auto)]
 
+mod command;
 mod draw;
 mod load;
 mod sources;
 mod status;
 mod text;
-mod view;
+
 mod words;
 
 pub use status::Status;
-pub use view::view;
+pub use command::view;

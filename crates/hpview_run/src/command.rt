@@ -1,14 +1,14 @@
-ghost use Rattle.std.specs.Prelude.{◌≡◌, ◌⊎◌, ◌↔◌, ℕ, ◌-◌, IsTrue, IfOk, IfErr, IsErrOf, None, Some};
+ghost use Rattle.std.specs.Prelude.{◌≡◌, ◌≢◌, ◌⊎◌, ◌↔◌, ℕ, ◌-◌, IsTrue, List, IfOk, IfErr, IsErrOf, None, Some};
 ghost use Rattle.outside_traits.specs.Causes.{Rose};
 ghost use Rattle.hpview_run.specs.declared.words.Command.{Command};
 ghost use Rattle.hpview_run.specs.declared.status.Status.TheVariants.{Done, Usage, Refused, SourceFailed, SinkFailed, OutOfMemory};
 ghost use Rattle.hpview_run.specs.Drawing.{Draws, HasDrawn, TellsRefusal, Told};
-ghost use Rattle.hpview_run.specs.Loading.{RefusesScript, RefusesTrace};
+ghost use Rattle.hpview_run.specs.Loading.{Loads, RefusesScript, RefusesTrace};
 ghost use Rattle.hpview_run.specs.Statuses.{status_code, IsViewStatus, IsViewCode};
 ghost use Rattle.hpview_run.specs.Words.{command_of as the_command, usage_text};
 
 use crate::draw::draw;
-use crate::load::ViewFault;
+use crate::load::{Loaded, ViewFault};
 use crate::sources::{load_script, load_trace};
 use crate::status::Status;
 use crate::text::{script_refusal, trace_refusal, usage};
@@ -18,6 +18,36 @@ use outside_traits::whole::write_all;
 use run_lines::script_law;
 use run_view::view_run;
 use std::alloc::Global;
+
+/// What is drawn of the run of a script and of the bytes of its trace.
+fn draw_run(
+    alloc: Global,
+    command: Command,
+    loaded: &Loaded,
+    bytes: &[u8],
+) -> Result<Vec<u8>, ViewFault>
+    requires { Loads loaded.now.text.items loaded.now.script }
+    ensures ok { IfOk result (λ picture. Draws command loaded.now.text.items bytes.now picture.items) }
+    ensures trace_refused { IfErr result (λ fault. RefusesTrace fault loaded.now.text.items bytes.now) }
+    ensures script { IfErr result (λ fault. (text : List ℕ) → RefusesScript fault text) }
+    ensures inside { IfErr result (λ fault. fault ≢ ViewFault.Failed) }
+{
+    script_law();
+    match view_run(
+        alloc,
+        &loaded.script,
+        loaded.text.as_slice(),
+        bytes,
+        command.from.saturating_sub(1),
+        command.to,
+    ) {
+        Ok(view) => match draw(alloc, command.form, loaded.text.as_slice(), &view) {
+            Ok(picture) => Ok(picture),
+            Err(_) => Err(ViewFault::Memory),
+        },
+        Err(fault) => Err(ViewFault::from(fault)),
+    }
+}
 
 /// What is drawn of the run that two sources tell of.
 fn drawn<S: Source, T: Source>(
@@ -31,22 +61,11 @@ fn drawn<S: Source, T: Source>(
     ensures trace_refused { IfErr result (λ fault. IsTrue (S.tells script.new) → IsTrue (T.tells trace.new) → RefusesTrace fault (S.left script.old) (T.left trace.old)) }
     ensures failed { IsErrOf result ViewFault.Failed → Rose (S.faults script.old) (S.faults script.new) ⊎ Rose (T.faults trace.old) (T.faults trace.new) }
 {
-    script_law();
     let loaded = load_script(alloc, script)?;
     let bytes = load_trace(alloc, trace)?;
-    match view_run(
-        alloc,
-        &loaded.script,
-        loaded.text.as_slice(),
-        bytes.as_slice(),
-        command.from.saturating_sub(1),
-        command.to,
-    ) {
-        Ok(view) => match draw(alloc, command.form, loaded.text.as_slice(), &view) {
-            Ok(picture) => Ok(picture),
-            Err(_) => Err(ViewFault::Memory),
-        },
-        Err(fault) => Err(ViewFault::from(fault)),
+    match draw_run(alloc, command, &loaded, bytes.as_slice()) {
+        Ok(picture) => Ok(picture),
+        Err(fault) => Err(fault),
     }
 }
 
