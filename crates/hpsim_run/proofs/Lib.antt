@@ -1,5 +1,6 @@
 pub mod LoadLaws
 mod PlayLaws
+pub mod FormatLaws
 pub mod ToolLaws
 pub mod WordLaws
 pub mod SoFar

@@ -21,7 +21,7 @@ use Rattle.script_meaning.specs.Meaning.{meaning}
 use Rattle.event_player.specs.Plays.{IsTooLong}
 use Rattle.event_player.specs.Stops.{Leaves}
 use Rattle.hpsim_run.specs.declared.status.Status.{Status}
-use Rattle.hpsim_run.specs.declared.status.Status.TheVariants.{Done, Usage, Refused, SourceFailed, SinkFailed, PacksFailed, TooLong, ToolRefused, OutOfMemory}
+use Rattle.hpsim_run.specs.declared.status.Status.TheVariants.{Done, Usage, Refused, SourceFailed, SinkFailed, PacksFailed, TooLong, ToolRefused, OutOfMemory, FormatRefused}
 use Rattle.hpsim_run.specs.Statuses.{status_code, IsPlayCode, IsPlayStatus}
 
 -- bytes spell one script
@@ -52,6 +52,7 @@ play_status TooLong is = inr (inr (inr (inr (inr (inl refl)))))
 play_status OutOfMemory is = inr (inr (inr (inr (inr (inr refl)))))
 play_status Usage is = absurd is
 play_status ToolRefused is = absurd is
+play_status FormatRefused is = absurd is
 
 pub play_code : (status : Status) (code : ℕ) → code ≡ status_code status → IsPlayStatus status → IsPlayCode code
 play_code status code is play = subst IsPlayCode (sym is) (play_status status play)

@@ -22,7 +22,7 @@ use Rattle.hpsim_run.specs.Tools.{RunsAdd, RunsAdded, RunsFresh, RunsList, RunsM
 use Rattle.hpsim_run.specs.Words.{Told}
 
 -- nothing was put behind what was taken
-nothing_more : (mid after : List ℕ) (faults faults_after : ℕ) → Told mid after [] faults faults_after → after ≡ mid
+pub nothing_more : (mid after : List ℕ) (faults faults_after : ℕ) → Told mid after [] faults faults_after → after ≡ mid
 nothing_more mid after faults faults_after (inl all) = all ∙ append-nil mid
 nothing_more mid after faults faults_after (inr (rose, (n, front))) = front ∙ ap (λ (text : List ℕ). mid ++ text) (take_nothing n) ∙ append-nil mid
   where

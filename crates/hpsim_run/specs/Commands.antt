@@ -10,7 +10,7 @@ use Rattle.mass_text.specs.Numbers.{number_of}
 use Rattle.mass_text.specs.declared.numbers.Radix.TheVariants.{Decimal}
 use Rattle.bad144_tool.specs.declared.edit.AddWay.{AddWay}
 use Rattle.hpsim_run.specs.declared.words.Command.{Command}
-use Rattle.hpsim_run.specs.declared.words.Command.TheVariants.{Play, ListTable, AddBlock, FreshTable, MarkBlocks, Exercise}
+use Rattle.hpsim_run.specs.declared.words.Command.TheVariants.{Play, ListTable, AddBlock, FreshTable, MarkBlocks, Exercise, FormatPack}
 
 -- a unit is 0 to 31, a block one of the drive's, a serial number is below 2^32, and the number of an exercise below 2^64; all are decimal
 abbrev pub unit_named : List ℕ → Option ℕ
@@ -98,13 +98,27 @@ abbrev pub exercise_named : Option ℕ → Option Command
 exercise_named None = None
 exercise_named (Some number) = Some (Exercise number)
 
--- THE COMMAND of the words: `play`, one of `bad144`, or `exercise`
+-- `format U KIND SERIAL`
+abbrev pub format_named : Option ℕ → Option DriveKind → Option ℕ → Option Command
+format_named None kind serial = None
+format_named (Some unit) None serial = None
+format_named (Some unit) (Some kind) None = None
+format_named (Some unit) (Some kind) (Some serial) = Some (FormatPack unit kind serial)
+
+abbrev pub pack_named : List ℕ → List ℕ → List ℕ → List (List ℕ) → Option Command
+pack_named unit kind serial [] = format_named (unit_named unit) (kind_named kind) (serial_named serial)
+pack_named unit kind serial (word ∷ words) = None
+
+-- THE COMMAND of the words: `play`, one of `bad144`, `exercise`, or `format`
 abbrev pub command_named : List (List ℕ) → Option Command
 command_named [] = None
 command_named (word ∷ []) = if bytes_eq word (codes "play") then Some Play else None
 command_named (word ∷ number ∷ []) = if bytes_eq word (codes "exercise") then exercise_named (number_named number) else None
 command_named (tool ∷ verb ∷ unit ∷ []) = None
-command_named (tool ∷ verb ∷ unit ∷ kind ∷ words) = if bytes_eq tool (codes "bad144") then tool_named verb unit kind words else None
+command_named (tool ∷ verb ∷ unit ∷ kind ∷ words) =
+    if bytes_eq tool (codes "bad144") then tool_named verb unit kind words
+    else if bytes_eq tool (codes "format") then pack_named verb unit kind words
+    else None
 
 -- the numbers of a command are in their ranges
 abbrev pub IsValid : Command → Type 0
@@ -114,3 +128,4 @@ IsValid (AddBlock unit kind block way) = (unit < 32) × (block < block_count kin
 IsValid (FreshTable unit kind serial) = unit < 32
 IsValid (MarkBlocks unit kind) = unit < 32
 IsValid (Exercise number) = number < 2 ^ 64
+IsValid (FormatPack unit kind serial) = unit < 32

@@ -3,9 +3,9 @@ use Rattle.std.specs.Prelude.{◌≡◌, ◌⊎◌, ℕ, Option, None, Some}
 use Rattle.pack_geometry.specs.declared.DriveKind.{DriveKind}
 use Rattle.bad144_tool.specs.declared.edit.AddWay.{AddWay}
 use Rattle.hpsim_run.specs.declared.words.Command.{Command}
-use Rattle.hpsim_run.specs.declared.words.Command.TheVariants.{Play, ListTable, AddBlock, FreshTable, MarkBlocks, Exercise}
+use Rattle.hpsim_run.specs.declared.words.Command.TheVariants.{Play, ListTable, AddBlock, FreshTable, MarkBlocks, Exercise, FormatPack}
 use Rattle.hpsim_run.specs.declared.status.Status.{Status}
-use Rattle.hpsim_run.specs.declared.status.Status.TheVariants.{Done, Usage, Refused, SourceFailed, SinkFailed, PacksFailed, TooLong, ToolRefused, OutOfMemory}
+use Rattle.hpsim_run.specs.declared.status.Status.TheVariants.{Done, Usage, Refused, SourceFailed, SinkFailed, PacksFailed, TooLong, ToolRefused, OutOfMemory, FormatRefused}
 
 abbrev pub status_code : Status → ℕ
 status_code Done = 0
@@ -17,8 +17,9 @@ status_code PacksFailed = 6
 status_code TooLong = 7
 status_code ToolRefused = 8
 status_code OutOfMemory = 9
+status_code FormatRefused = 11
 
--- the statuses of `play`, of the commands of `bad144` without and with refusals of their own, and of `exercise`
+-- the statuses of `play`, of the commands of `bad144` without and with refusals of their own, of `exercise`, and of `format`
 abbrev pub IsPlayCode : ℕ → Type 0
 IsPlayCode code = (code ≡ status_code Done) ⊎ (code ≡ status_code Refused) ⊎ (code ≡ status_code SourceFailed) ⊎ (code ≡ status_code SinkFailed)
     ⊎ (code ≡ status_code PacksFailed) ⊎ (code ≡ status_code TooLong) ⊎ (code ≡ status_code OutOfMemory)
@@ -32,6 +33,10 @@ IsChangeCode code = (code ≡ status_code Done) ⊎ (code ≡ status_code SinkFa
 abbrev pub IsExerciseCode : ℕ → Type 0
 IsExerciseCode code = (code ≡ status_code Done) ⊎ (code ≡ status_code SinkFailed) ⊎ (code ≡ status_code OutOfMemory)
 
+abbrev pub IsFormatCode : ℕ → Type 0
+IsFormatCode code = (code ≡ status_code Done) ⊎ (code ≡ status_code SinkFailed) ⊎ (code ≡ status_code PacksFailed) ⊎ (code ≡ status_code TooLong)
+    ⊎ (code ≡ status_code OutOfMemory) ⊎ (code ≡ status_code FormatRefused)
+
 -- EACH COMMAND has its statuses, and words that are none have the usage's.
 pub record IsStatusOf (command : Option Command) (code : ℕ) : Type 0 where
   pub none : command ≡ None → code ≡ status_code Usage
@@ -41,6 +46,7 @@ pub record IsStatusOf (command : Option Command) (code : ℕ) : Type 0 where
   pub fresh : (unit serial : ℕ) (kind : DriveKind) → command ≡ Some (FreshTable unit kind serial) → IsToolCode code
   pub mark : (unit : ℕ) (kind : DriveKind) → command ≡ Some (MarkBlocks unit kind) → IsChangeCode code
   pub exercise : (number : ℕ) → command ≡ Some (Exercise number) → IsExerciseCode code
+  pub format : (unit serial : ℕ) (kind : DriveKind) → command ≡ Some (FormatPack unit kind serial) → IsFormatCode code
 
 -- a status of `play`
 abbrev pub IsPlayStatus : Status → Type 0
@@ -53,3 +59,4 @@ IsPlayStatus OutOfMemory = Unit {0}
 IsPlayStatus Usage = ⊥
 IsPlayStatus TooLong = Unit {0}
 IsPlayStatus ToolRefused = ⊥
+IsPlayStatus FormatRefused = ⊥

@@ -6,6 +6,7 @@ ghost use Rattle.script_reader.specs.Words.{all_verbs};
 ghost use Rattle.script_meaning.specs.Meaning.{meaning};
 ghost use Rattle.event_player.specs.Plays.{IsTooLong};
 ghost use Rattle.hpsim_run.specs.Exercises.{RunsExercise};
+ghost use Rattle.hpsim_run.specs.Formats.{RunsFormat};
 ghost use Rattle.hpsim_run.specs.Headline.{Headline, HasStopped, SpellNone, TellsRefusal, TellsTooLong, longest};
 ghost use Rattle.event_player.specs.declared.play.PlayFault.TheVariants.{Store as StoreFault, Sink as SinkFault};
 ghost use Rattle.hpsim_run.specs.Statuses.{status_code, IsPlayStatus, IsStatusOf};
@@ -14,10 +15,11 @@ ghost use Rattle.hpsim_run.specs.Tools.{RunsAdd, RunsFresh, RunsList, RunsMark};
 ghost use Rattle.hpsim_run.specs.Words.{command_of as the_command, usage_text, Told};
 ghost use Rattle.pack_geometry.specs.declared.DriveKind.{DriveKind};
 ghost use Rattle.bad144_tool.specs.declared.edit.AddWay.{AddWay};
-ghost use Rattle.hpsim_run.specs.declared.words.Command.TheVariants.{Play, ListTable, AddBlock, FreshTable, MarkBlocks, Exercise};
+ghost use Rattle.hpsim_run.specs.declared.words.Command.TheVariants.{Play, ListTable, AddBlock, FreshTable, MarkBlocks, Exercise, FormatPack};
 ghost use Rattle.hpsim_run.specs.declared.status.Status.TheVariants.{Done, Usage, Refused, SourceFailed, SinkFailed, PacksFailed, TooLong, OutOfMemory};
 
 use crate::exercise::run_exercise;
+use crate::formats::run_format;
 use crate::load::{LoadFault, load};
 use crate::status::Status;
 use crate::text::{refusal, too_long, usage};
@@ -99,6 +101,7 @@ fn run_play<S: Source, P: Packs, O: Sink, T: Sink>(
 /// `trace`. `bad144 list U KIND`, `bad144 add U KIND BLOCK [copy] [mark]` and `bad144 fresh U KIND SERIAL` list a
 /// pack's bad-sector table, add a block to it, and write an empty one; `bad144 mark U KIND` marks the data blocks that the
 /// table lists. They read no script.
+/// `format U KIND SERIAL` tests every block of a pack through the drive, and writes a table of its marked blocks.
 /// `exercise N` plays the script of a number over empty packs of its own, and prints its tally; its trace goes to `trace`.
 ///
 /// | code | status | comes | printed on `out` |
@@ -109,9 +112,10 @@ fn run_play<S: Source, P: Packs, O: Sink, T: Sink>(
 /// | 4 | SourceFailed | only where the source's count of faults rose | nothing |
 /// | 5 | SinkFailed | only where the count of `out` or of `trace` rose | nothing further |
 /// | 6 | PacksFailed | only where the packs' count rose | nothing further |
-/// | 7 | TooLong | only where the image of a declared unit, or of the unit of a `bad144` command, is longer than its pack, and there unless 4, 6 or 9 comes | `too long unit U length L` |
+/// | 7 | TooLong | only where the image of a declared unit, or of the unit of a `bad144` command or of `format`, is longer than its pack, and there unless 4, 6 or 9 comes | `too long unit U length L` |
 /// | 8 | ToolRefused | only where `bad144 add` is refused, or `bad144 mark` finds no table, and there unless 6 or 7 comes | `refused no table`, `refused reserved`, `refused listed I`, `refused full`, `refused spare I` |
-/// | 9 | OutOfMemory | there was no memory, before the first line was played; only of `play` and `exercise` | nothing |
+/// | 9 | OutOfMemory | there was no memory, before the first line was played or the first block written; only of `play`, `exercise` and `format` | nothing |
+/// | 11 | FormatRefused | only where `format` refuses the pack, and there unless 6, 7 or 9 comes | `refused too many K`, `refused spare I`, `refused no copy`, `refused differs B` |
 pub fn run<S: Source, P: Packs, O: Sink, T: Sink>(
     alloc: Global,
     words: &[String],
@@ -172,6 +176,11 @@ pub fn run<S: Source, P: Packs, O: Sink, T: Sink>(
         RunsMark kind unit result (P.tells packs.new) (P.held packs.old) (P.held packs.new)
         (O.tells out.new) (O.taken out.old) (O.taken out.new) (O.faults out.old) (O.faults out.new) }
 
+    // The formatter.
+    ensures format { (unit serial : ℕ) → (kind : DriveKind) → the_command words.now ≡ Some (FormatPack unit kind serial) →
+        RunsFormat kind unit serial result (P.tells packs.new) (P.held packs.old) (P.held packs.new)
+        (O.tells out.new) (O.taken out.old) (O.taken out.new) (O.faults out.old) (O.faults out.new) }
+
     // The exercise, which leaves the packs that are handed in alone.
     ensures exercise { (number : ℕ) → the_command words.now ≡ Some (Exercise number) →
         RunsExercise number result (O.tells out.new) (O.taken out.old) (O.taken out.new) (O.faults out.old) (O.faults out.new)
@@ -212,5 +221,8 @@ pub fn run<S: Source, P: Packs, O: Sink, T: Sink>(
         }
         Some(Command::MarkBlocks { unit, kind }) => run_mark(packs, out, unit, kind).code(),
         Some(Command::Exercise { number }) => run_exercise(alloc, number, out, trace).code(),
+        Some(Command::FormatPack { unit, kind, serial }) => {
+            run_format(alloc, packs, out, unit, kind, serial).code()
+        }
     }
 }

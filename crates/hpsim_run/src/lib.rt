@@ -1,7 +1,7 @@
 //! The command of the program: what its words, source, packs and sinks come to, and its status.
 //!
 //! What is proved: `run`, the top call: the headline for `play` and status 0 (`Headline`, `Promises`), and for 5 and 6 what
-//! stands after the stop (`HasStopped`); what `bad144` did to a pack, and what `exercise` came to, for each status; for each
+//! stands after the stop (`HasStopped`); what `bad144` did to a pack, and what `format` and `exercise` came to, for each status; for each
 //! other status its cause; what refusals print and leave; no other status; completeness. Each clause hangs on the objects that
 //! it speaks of alone. `Status::code` has the numbers.
 //!
@@ -10,6 +10,7 @@
 
 mod command;
 mod exercise;
+mod formats;
 mod load;
 mod status;
 mod text;

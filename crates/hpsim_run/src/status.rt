@@ -22,6 +22,8 @@ pub enum Status {
     ToolRefused,
     /// There was no memory.
     OutOfMemory,
+    /// The formatter refused the pack.
+    FormatRefused,
 }
 
 impl Status {
@@ -39,6 +41,7 @@ impl Status {
             Status::TooLong => 7,
             Status::ToolRefused => 8,
             Status::OutOfMemory => 9,
+            Status::FormatRefused => 11,
         }
     }
 }

@@ -64,7 +64,7 @@ pub fn usage() -> LineBuf
 }
 
 /// Puts a name and a number, and ends the line.
-fn numbered(name: &str, value: u64) -> LineBuf
+pub(crate) fn numbered(name: &str, value: u64) -> LineBuf
     requires { length name.now ≤ 100 }
     ensures { result ≡ name.now ++ decimal value ++ 10 ∷ [] }
 {
@@ -77,7 +77,7 @@ fn numbered(name: &str, value: u64) -> LineBuf
 }
 
 /// A text without a number, as a line.
-fn plain(words: &str) -> LineBuf
+pub(crate) fn plain(words: &str) -> LineBuf
     requires { length words.now ≤ 100 }
     ensures { result ≡ words.now ++ 10 ∷ [] }
 {

@@ -1,7 +1,7 @@
 ghost use Rattle.std.specs.Prelude.{◌≡◌, ◌<◌, ◌-◌, ◌+◌, ◌^◌, map, IfSome, IfOk, Some, None};
 ghost use Rattle.std.specs.String.{string_bytes};
 ghost use Rattle.pack_geometry.specs.Geometry.{block_count};
-ghost use Rattle.hpsim_run.specs.Commands.{IsValid, add_named, block_named, both_named, one_named, command_named, exercise_named, fresh_named, kind_named, list_named, mark_named, number_named, serial_named, tool_named, unit_named, way_named};
+ghost use Rattle.hpsim_run.specs.Commands.{IsValid, add_named, block_named, both_named, one_named, command_named, exercise_named, format_named, fresh_named, kind_named, list_named, mark_named, number_named, pack_named, serial_named, tool_named, unit_named, way_named};
 
 use bad144_tool::AddWay;
 use mass_text::{Radix, number};
@@ -38,6 +38,12 @@ pub enum Command {
     /// The script of a number is played, and its tally is printed.
     Exercise {
         number: u64,
+    },
+    /// A unit's pack is tested and formatted.
+    FormatPack {
+        unit: u8,
+        kind: DriveKind,
+        serial: u32,
     },
 }
 
@@ -243,6 +249,33 @@ fn tool_command(verb: &str, unit: &str, kind: &str, rest: &[String]) -> Option<C
     }
 }
 
+fn format_command(unit: &str, kind: &str, serial: &str) -> Option<Command>
+    ensures named { result ≡ format_named (unit_named unit.now) (kind_named kind.now) (serial_named serial.now) }
+    ensures valid { IfSome result IsValid }
+{
+    let Some(unit) = unit_in(unit) else {
+        return None;
+    };
+    let Some(kind) = kind_in(kind) else {
+        return None;
+    };
+    let Some(serial) = serial_in(serial) else {
+        return None;
+    };
+    Some(Command::FormatPack { unit, kind, serial })
+}
+
+/// The command `format`, by the words behind it.
+fn pack_command(unit: &str, kind: &str, serial: &str, rest: &[String]) -> Option<Command>
+    ensures named { result ≡ pack_named unit.now kind.now serial.now (map string_bytes rest.now) }
+    ensures valid { IfSome result IsValid }
+{
+    match rest {
+        [] => format_command(unit, kind, serial),
+        [_, ..] => None,
+    }
+}
+
 /// The command that the words name; None where they name none.
 pub fn command_of(words: &[String]) -> Option<Command>
     ensures named { result ≡ command_named (map string_bytes words.now) }
@@ -258,6 +291,9 @@ pub fn command_of(words: &[String]) -> Option<Command>
         [tool, verb, unit, kind, rest @ ..] => {
             if tool.as_str() == "bad144" {
                 return tool_command(verb.as_str(), unit.as_str(), kind.as_str(), rest);
+            }
+            if tool.as_str() == "format" {
+                return pack_command(verb.as_str(), unit.as_str(), kind.as_str(), rest);
             }
             None
         }

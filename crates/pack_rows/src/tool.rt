@@ -54,16 +54,14 @@ fn is_made(packs: &mut MemPacks) -> Result<bool, Fail> {
 }
 
 /// What is otherwise where write `n` of those that add the block fails; "" where nothing is.
-fn turn(packs: &mut MemPacks, n: u64) -> Result<&'static str, Fail>
-    requires { 1 ≤ n }
-{
+fn turn(packs: &mut MemPacks, n: u64) -> Result<&'static str, Fail> {
     if !is_made(packs)? {
         return Ok("the table");
     }
     if add(packs, 0, DriveKind::Rm03, 999, WAY) != Err(ToolFault::Store) {
         return Ok("the answer");
     }
-    if moved(packs)? != (n - 1).min(10) as u32 {
+    if moved(packs)? != n.saturating_sub(1).min(10) as u32 {
         return Ok("the moves");
     }
     if packs.marked(0, 999)? {

@@ -25,4 +25,5 @@ returns-in-Some-Play-clause-statuses g c = record {
   fresh = search rules;
   mark = search rules;
   exercise = search rules;
+  format = search rules;
 }

@@ -1,0 +1,120 @@
+-- What a run of `format` comes to, by what the formatter answers.
+use Rattle.std.proofs.Common.{◌≡◌, ◌≢◌, ◌⊎◌, inl, inr, ℕ, Bool, IsTrue, List, ◌++◌, append-nil, refl, sym, subst, arith}
+use Rattle.pack_geometry.specs.declared.DriveKind.{DriveKind}
+use Rattle.pack_model.specs.Pack.{Pack}
+use Rattle.outside_traits.specs.Causes.{Rose}
+use Rattle.outside_traits.specs.Puts.{TakesFront}
+use Rattle.pack_format.specs.Faults.{IsWhy, Leaves}
+use Rattle.pack_format.specs.Formatted.{IsFormatted, found}
+use Rattle.pack_format.specs.declared.fault.FormatFault.{FormatFault}
+use Rattle.pack_format.specs.declared.fault.FormatFault.TheVariants as fault
+use Rattle.hpsim_run.specs.Formats.{RunsFormat, format_status, format_text, formatted_text}
+use Rattle.hpsim_run.specs.Statuses.{status_code}
+use Rattle.hpsim_run.specs.Words.{Told}
+use Rattle.hpsim_run.specs.declared.status.Status.{Status}
+use Rattle.hpsim_run.specs.declared.status.Status.TheVariants.{OutOfMemory}
+use Rattle.hpsim_run.proofs.ToolLaws.{nothing_more}
+
+-- only want of memory has that status
+pub only_memory : (f : FormatFault) → format_status f ≡ OutOfMemory → f ≡ fault.Memory
+only_memory (fault.TooMany n) e = absurd cc
+only_memory (fault.Spare i) e = absurd cc
+only_memory fault.NoCopy e = absurd cc
+only_memory (fault.Differs b a w r) e = absurd cc
+only_memory (fault.TooLong n) e = absurd cc
+only_memory fault.Store e = absurd cc
+only_memory fault.Memory e = refl
+
+-- where there was no memory nothing is printed
+pub told_nothing : (taken : List ℕ) (unit faults : ℕ) (f : FormatFault) → f ≡ fault.Memory → Told taken taken (format_text unit f) faults faults
+unfolding format_text
+told_nothing taken unit faults f e = subst (λ (h : FormatFault). Told taken taken (format_text unit h) faults faults) (sym e) (inl (sym (append-nil taken)))
+
+module _ {kind : DriveKind} {unit serial : ℕ} {tells : Bool} {old new : ℕ → Pack} {out_tells : Bool} {taken after : List ℕ} {faults faults_after : ℕ}
+    (elsewhere : (other : ℕ) → other ≢ unit → IsTrue tells → new other ≡ old other) where
+  refusal : (f : FormatFault) → status_code (format_status f) ≡ 11 → (IsTrue tells → IsWhy kind (old unit) f) → (IsTrue tells → new ≡ old)
+      → (IsTrue out_tells → Told taken after (format_text unit f) faults faults_after)
+      → RunsFormat kind unit serial (status_code (format_status f)) tells old new out_tells taken after faults faults_after
+  refusal f code why left told = record {
+    statuses = inr (inr (inr (inr (inr code))));
+    formatted = λ e. absurd (elim e [ inl e ↦ omega (arith, e, code) | inr e ↦ omega (arith, e, code) ]);
+    stopped = λ e. absurd (omega (arith, e, code));
+    silent = λ e. absurd (elim e [ inl e ↦ omega (arith, e, code) | inr e ↦ omega (arith, e, code) ]);
+    refused = λ e. record { why = f; status = refl; is = why; told = told };
+    unchanged = λ e. left;
+    fits = λ e. absurd (omega (arith, e, code));
+    elsewhere = elsewhere;
+  }
+
+  fault_run : (f : FormatFault) → (IsTrue tells → IsWhy kind (old unit) f) → (IsTrue tells → Leaves kind serial unit old new f)
+      → (IsTrue out_tells → Told taken after (format_text unit f) faults faults_after)
+      → RunsFormat kind unit serial (status_code (format_status f)) tells old new out_tells taken after faults faults_after
+  unfolding format_text
+  fault_run (fault.TooMany n) why left told = refusal (fault.TooMany n) refl why left told
+  fault_run (fault.Spare i) why left told = refusal (fault.Spare i) refl why left told
+  fault_run fault.NoCopy why left told = refusal fault.NoCopy refl why left told
+  fault_run (fault.Differs b a w r) why left told = refusal (fault.Differs b a w r) refl why (λ t. absurd (left t)) told
+  fault_run (fault.TooLong n) why left told = record {
+    statuses = inr (inr (inr (inl refl)));
+    formatted = λ e. absurd (elim e [ inl e ↦ omega (arith, e) | inr e ↦ omega (arith, e) ]);
+    stopped = λ e. absurd (omega (arith, e));
+    silent = λ e. absurd (elim e [ inl e ↦ omega (arith, e) | inr e ↦ omega (arith, e) ]);
+    refused = λ e. record { why = fault.TooLong n; status = refl; is = why; told = told };
+    unchanged = λ e. left;
+    fits = λ e. absurd (omega (arith, e));
+    elsewhere = elsewhere;
+  }
+  fault_run fault.Store why left told = record {
+    statuses = inr (inr (inl refl));
+    formatted = λ e. absurd (elim e [ inl e ↦ omega (arith, e) | inr e ↦ omega (arith, e) ]);
+    stopped = λ e. left;
+    silent = λ e t. nothing_more taken after faults faults_after (told t);
+    refused = λ e. absurd (elim e [ inl e ↦ omega (arith, e) | inr e ↦ omega (arith, e) ]);
+    unchanged = λ e. absurd (elim e [ inl e ↦ omega (arith, e) | inr (inl e) ↦ omega (arith, e) | inr (inr e) ↦ omega (arith, e) ]);
+    fits = λ e. absurd (omega (arith, e));
+    elsewhere = elsewhere;
+  }
+  fault_run fault.Memory why left told = record {
+    statuses = inr (inr (inr (inr (inl refl))));
+    formatted = λ e. absurd (elim e [ inl e ↦ omega (arith, e) | inr e ↦ omega (arith, e) ]);
+    stopped = λ e. absurd (omega (arith, e));
+    silent = λ e t. nothing_more taken after faults faults_after (told t);
+    refused = λ e. absurd (elim e [ inl e ↦ omega (arith, e) | inr e ↦ omega (arith, e) ]);
+    unchanged = λ e. left;
+    fits = λ e. why;
+    elsewhere = elsewhere;
+  }
+
+  pub format_fault : {status : Status} (f : FormatFault) → status ≡ format_status f → (IsTrue tells → IsWhy kind (old unit) f)
+      → (IsTrue tells → Leaves kind serial unit old new f) → (IsTrue out_tells → Told taken after (format_text unit f) faults faults_after)
+      → RunsFormat kind unit serial (status_code status) tells old new out_tells taken after faults faults_after
+  format_fault f e why left told =
+      subst (λ (s : Status). RunsFormat kind unit serial (status_code s) tells old new out_tells taken after faults faults_after) (sym e) (fault_run f why left told)
+
+  -- the pack was formatted, and the sink took its text;
+  pub format_done : (count : ℕ) → (IsTrue tells → IsFormatted kind serial (old unit) (new unit) × (count ≡ found kind (old unit)))
+      → (IsTrue out_tells → after ≡ taken ++ formatted_text count) → RunsFormat kind unit serial 0 tells old new out_tells taken after faults faults_after
+  format_done count done told = record {
+    statuses = inl refl;
+    formatted = λ e. record { count = count; done = done; told = λ e. told; front = λ e. absurd (omega (arith, e)) };
+    stopped = λ e. absurd (omega (arith, e));
+    silent = λ e. absurd (elim e [ inl e ↦ omega (arith, e) | inr e ↦ omega (arith, e) ]);
+    refused = λ e. absurd (elim e [ inl e ↦ omega (arith, e) | inr e ↦ omega (arith, e) ]);
+    unchanged = λ e. absurd (elim e [ inl e ↦ omega (arith, e) | inr (inl e) ↦ omega (arith, e) | inr (inr e) ↦ omega (arith, e) ]);
+    fits = λ e. absurd (omega (arith, e));
+    elsewhere = elsewhere;
+  }
+
+  -- or it failed, and took a front of it.
+  pub format_cut : (count : ℕ) → (IsTrue tells → IsFormatted kind serial (old unit) (new unit) × (count ≡ found kind (old unit))) → Rose faults faults_after
+      → (IsTrue out_tells → TakesFront taken after (formatted_text count)) → RunsFormat kind unit serial 5 tells old new out_tells taken after faults faults_after
+  format_cut count done rose front = record {
+    statuses = inr (inl refl);
+    formatted = λ e. record { count = count; done = done; told = λ e. absurd (omega (arith, e)); front = λ e. (rose, front) };
+    stopped = λ e. absurd (omega (arith, e));
+    silent = λ e. absurd (elim e [ inl e ↦ omega (arith, e) | inr e ↦ omega (arith, e) ]);
+    refused = λ e. absurd (elim e [ inl e ↦ omega (arith, e) | inr e ↦ omega (arith, e) ]);
+    unchanged = λ e. absurd (elim e [ inl e ↦ omega (arith, e) | inr (inl e) ↦ omega (arith, e) | inr (inr e) ↦ omega (arith, e) ]);
+    fits = λ e. absurd (omega (arith, e));
+    elsewhere = elsewhere;
+  }

@@ -1,0 +1,16 @@
+//! A drive of a run over the columns: the requests in hand or asked for, what it does, its marks, its totals, and the way of its
+//! arm.
+//!
+//! What is proved: `draw_unit` leaves the elements that are open as they were, and the lines of the run that it tells in
+//! tooltips are those that speak of the drive, each once.
+//!
+//! Only tested, as pictures byte for byte: what is drawn, and where.
+#![tactic(auto)]
+
+mod arm;
+mod lane;
+mod marks;
+mod ribbon;
+
+pub use lane::draw_unit;
+pub use ribbon::pattern_of;
