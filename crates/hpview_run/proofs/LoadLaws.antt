@@ -86,6 +86,7 @@ draws_of command text trace bytes picture r d = record {
   loads = d.loads;
   view = d.view;
   views = view_of d.stored trace bytes _ _ d.view r d.views;
+  drawn = d.drawn;
 }
 
 pub refuses_of : (fault : ViewFault) (text trace bytes : List ℕ) → IsRead 268435456 trace bytes → RefusesTrace fault text bytes → RefusesTrace fault text trace

@@ -1,4 +1,7 @@
 // A run is drawn.
+ghost use Rattle.std.specs.Prelude.{IfOk};
+ghost use Rattle.hpview_run.specs.Drawing.{IsDrawn};
+
 use crate::words::Form;
 use picture_chart::chart;
 use picture_sheet::Sheet;
@@ -12,7 +15,9 @@ pub(crate) fn draw(
     form: Form,
     text: &[u8],
     view: &View<'_>,
-) -> Result<Vec<u8>, AllocError> {
+) -> Result<Vec<u8>, AllocError>
+    ensures { IfOk result (λ picture. IsDrawn form view.now picture.items) }
+{
     let sheet = Sheet {
         caption: caption_of(text),
         run: &view.run,
@@ -21,7 +26,13 @@ pub(crate) fn draw(
         notes: view.notes.as_slice(),
     };
     match form {
-        Form::Svg => svg(alloc, &sheet),
-        Form::Chart => chart(alloc, &sheet),
+        Form::Svg => {
+            let picture = svg(alloc, &sheet)?;
+            Ok(picture)
+        }
+        Form::Chart => {
+            let picture = chart(alloc, &sheet)?;
+            Ok(picture)
+        }
     }
 }
