@@ -1,5 +1,9 @@
 //! The driver where it is quiet: it stands for a replay at rest over its packs, whatever these hold, and its calls follow from any such
 //! replay, whatever led to it. The functions here do nothing: each stands for a law.
+//!
+//! What is proved: `rests_law`: a driver with no request outstanding, no answer waiting and nothing that hinders stands for a replay at
+//! rest over any packs; a new driver is quiet. `calls_law`: a submission and its drain follow from each such replay, and after a
+//! request that is waited for the driver is quiet again, and stands for the replay after it.
 #![tactic(auto)]
 
 ghost use Rattle.quiet_driver.specs.Quiet.{QuietRests, NewIsQuiet};

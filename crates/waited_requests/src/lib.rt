@@ -1,5 +1,9 @@
 //! One request at a time, waited for: from a replay at rest, whatever the heads and registers are, it has one answer, which what the packs
-//! hold gives by itself; and the replay behind it rests again. The function here does nothing: it stands for a law.
+//! hold gives by itself; and the replay after it rests again. The function here does nothing: it stands for a law.
+//!
+//! What is proved: `waited_law`: from a replay at rest over packs with its tables, a request that is submitted and drained has just
+//! the answer that its partition and the map of contents give; the homes hold the map after it, all other sectors stay, and the replay
+//! after it rests again. The start of a script rests.
 #![tactic(auto)]
 
 ghost use Rattle.waited_requests.specs.Rest.{StartRests};
