@@ -1,4 +1,5 @@
-//! Worked rows through the top call: scripts, stops; tests alone, so that what they test is proved once.
+//! Worked rows through the top call: the rows of `docs/trace-rows` played whole, refused scripts, stops; tests alone, so that what
+//! they test is proved once. `rows.py` there writes the texts.
 #![tactic(auto)]
 
 #[cfg(test)]
@@ -7,3 +8,5 @@ mod rows;
 mod runs;
 #[cfg(test)]
 mod stops;
+#[cfg(test)]
+mod texts;

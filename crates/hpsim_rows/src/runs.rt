@@ -1,6 +1,7 @@
 ghost use Rattle.std.specs.Prelude.{◌<◌};
 
 use crate::rows::{ROWS, Row};
+use crate::texts::{TEXTS, Text};
 use hpsim_run::run;
 use mass_outside::mem_packs::{FailCall, MemPacks, PackOp};
 use mass_outside::mem_streams::{MemSink, MemSource};
@@ -54,7 +55,7 @@ pub(crate) struct Ran {
     pub(crate) trace: MemSink,
 }
 
-/// Unit 0 with an image and its marks, and three units with empty ones.
+/// Unit 0 with an image and its marks, and units with empty ones.
 pub(crate) fn packs_of(
     alloc: Global,
     image: &[u8],
@@ -68,7 +69,7 @@ pub(crate) fn packs_of(
         marks: Vec::from_slice(alloc, marks)?,
         blocks: 340670,
     })?;
-    for unit in [1u8, 2, 8] {
+    for unit in [1u8, 2, 8, 9] {
         images.push(Image {
             unit,
             bytes: Vec::new(alloc),
@@ -127,44 +128,13 @@ pub(crate) fn play_over(
     run_on(alloc, PLAY, script, &mut packs, faults)
 }
 
-/// Where a line ends, or where the text does.
-fn line_end(text: &[u8]) -> usize {
-    for (i, byte) in text.iter().enumerate() {
-        if *byte == b'\n' {
-            return i;
-        }
-    }
-    text.len()
-}
-
-/// Whether the lines stand in a trace, in this order.
-fn has_lines(trace: &[u8], lines: &[u8]) -> bool {
-    let mut wanted = lines;
-    let mut rest = trace;
-    for _ in 0..trace.len() {
-        let end = line_end(wanted);
-        let here = line_end(rest);
-        if rest.get(..here) == wanted.get(..end) {
-            wanted = wanted.get(end.saturating_add(1)..).unwrap_or(b"");
-        }
-        rest = rest.get(here.saturating_add(1)..).unwrap_or(b"");
-        if wanted.is_empty() || rest.is_empty() {
-            break;
-        }
-    }
-    wanted.is_empty()
-}
-
-/// What a run comes to that is not this status, this text, or a trace with these lines; "" if there is nothing.
-fn other_than(ran: &Ran, status: u8, text: &[u8], lines: &[u8]) -> &'static str {
+/// What a run comes to that is not this status or this text; "" if there is nothing.
+fn other_than(ran: &Ran, status: u8, text: &[u8]) -> &'static str {
     if ran.status != status {
         return "its status";
     }
     if ran.out.taken() != text {
         return "its text";
-    }
-    if !has_lines(ran.trace.taken(), lines) {
-        return "its trace";
     }
     ""
 }
@@ -172,7 +142,7 @@ fn other_than(ran: &Ran, status: u8, text: &[u8], lines: &[u8]) -> &'static str 
 /// What a row comes to that it does not say.
 fn row_otherwise(alloc: Global, row: &Row) -> Result<&'static str, Fail> {
     let ran = play_over(alloc, row.script, b"", NONE)?;
-    Ok(other_than(&ran, row.status, row.text, row.trace))
+    Ok(other_than(&ran, row.status, row.text))
 }
 
 #[test]
@@ -184,14 +154,18 @@ fn rows(rt: HostRuntime) -> Result<(), Fail> {
     Ok(())
 }
 
-/// Traces that are printed whole.
-const TRACES: [(&[u8], &[u8]); 2] = [
-    (b"", b"idle 1\n"),
+/// Scripts over empty packs, and their traces.
+const TRACES: [(&[u8], &[u8]); 3] = [
+    (b"unit 0 rp06\nread 1 0 c 0 1", FIRST_READ),
+    (b"unit 0 rp06\r\nread 1 0 c 0 1\r\n", FIRST_READ),
     (
-        b"unit 0 rp06\nread 1 0 c 0 1",
-        b"cmd 2 0 1 search 0 19\narrive 3 0 1\nattn 3 0 1\ncmd 3 0 1 rcom 0 1\nsector 3 0 1 0 clean\nintr 3 0 1\nend 3 0 1\n",
+        b"unit 0 rp06\narrive 0\nmove 0\nattend 0\ndrain\n",
+        b"idle 2\nidle 3\nidle 4\nidle 5\nidle 6\n",
     ),
 ];
+
+const FIRST_READ: &[u8] =
+    b"cmd 2 0 1 search 0 19\narrive 3 0 1\nattn 3 0 1\ncmd 3 0 1 rcom 0 1\nsector 3 0 1 0 clean\nintr 3 0 1\nend 3 0 1\n";
 
 /// Whether a run ends well, and its trace is this one.
 fn ends_with_trace(alloc: Global, script: &[u8], trace: &[u8]) -> Result<bool, Fail> {
@@ -218,52 +192,6 @@ pub(crate) fn times(trace: &[u8], word: &[u8]) -> u32 {
         }
     }
     count
-}
-
-/// Noise that shows, until an offset helps or the tries run out: how often each command and each failure is told.
-pub(crate) const RETRIES: [(&[u8], [u32; 7]); 2] = [
-    (
-        b"unit 0 rp06\nnoise 0 5 27 0 7 14\nread 1 0 c 5 1\n",
-        [28, 27, 27, 3, 12, 12, 0],
-    ),
-    (
-        b"unit 0 rp06\nnoise 0 5 until -400 0 7 14\nread 1 0 c 5 1\n",
-        [18, 17, 17, 2, 2, 2, 0],
-    ),
-];
-
-const WORDS: [&[u8]; 7] = [
-    b" rcom ",
-    b"try ",
-    b" dclr\n",
-    b" recal\n",
-    b" offset ",
-    b" rtc\n",
-    b" seek ",
-];
-
-/// How often each of the words stands in a trace.
-fn counts_in(trace: &[u8]) -> [u32; 7] {
-    let mut counts = [0u32; 7];
-    for i in 0..7usize {
-        counts[i] = times(trace, WORDS[i]);
-    }
-    counts
-}
-
-/// How often each of the words stands in the trace of a run.
-fn counts_of(alloc: Global, script: &[u8]) -> Result<[u32; 7], Fail> {
-    let ran = play_over(alloc, script, b"", NONE)?;
-    Ok(counts_in(ran.trace.taken()))
-}
-
-#[test]
-fn retries(rt: HostRuntime) -> Result<(), Fail> {
-    for (script, wanted) in RETRIES {
-        let counts = counts_of(rt.alloc(), script)?;
-        assert_eq!(rt; counts, wanted);
-    }
-    Ok(())
 }
 
 /// Unit 0 with a table of serial number 1 that has these entries, if it has any, and with these blocks marked. The first two
@@ -295,67 +223,30 @@ pub(crate) fn listed(
     Ok(packs)
 }
 
-/// The table's entries, the marks, the script, what is printed, and lines of the trace.
-type Forwarded = (
-    &'static [u8],
-    &'static [u32],
-    &'static [u8],
-    &'static [u8],
-    &'static [u8],
-);
+/// The packs of a row of traces: most are empty.
+fn packs_under(alloc: Global, row: &Text) -> Result<MemPacks, Fail> {
+    if row.entries.is_empty() && row.marks.is_empty() {
+        packs_of(alloc, b"", b"", NONE.packs)
+    } else {
+        listed(alloc, row.entries, row.marks, NONE.packs)
+    }
+}
 
-/// Reads over marked blocks.
-const FORWARDED: [Forwarded; 5] = [
-    (
-        &[0x02, 0x00, 0x0A, 0x07],
-        &[1000],
-        b"unit 0 rp06\nread 1 0 c 998 5\n",
-        b"ans 1 at 3 ok\nblk 0 fill 00\nblk 1 fill 00\nblk 2 fill 5a\nblk 3 fill 00\nblk 4 fill 00\n",
-        b"cmd 2 0 1 search 2 5\ncmd 3 0 1 rcom 998 5\nsector 3 0 1 1000 mark\ncmd 3 0 1 dclr\ncmd 3 0 1 rcom 340647 1\ncmd 3 0 1 rcom 1001 2\n",
-    ),
-    (
-        &[0x02, 0x00, 0x0A, 0x07, 0x02, 0x00, 0x0B, 0x07],
-        &[1000, 1001],
-        b"unit 0 rp06\nunit 1 rm03\nnoise 0 340646 1 8\nread 1 0 c 999 4\nread 2 1 c 160 1\narrive 0\nattend 0\nmove 0\nmove 0\narrive 1\nattend 0\nmove 0\nattend 0\n",
-        b"noise 3 short\nans 1 at 14 ok\nblk 0 fill 00\nblk 1 fill 5a\nblk 2 fill 6b\nblk 3 fill 00\nans 2 at 14 ok\nblk 0 fill 00\n",
-        b"",
-    ),
-    (
-        &[],
-        &[1000],
-        b"unit 0 rp06\nread 1 0 c 998 5\n",
-        b"ans 1 at 3 error unforwarded done 2\n",
-        b"",
-    ),
-    (
-        &[0x02, 0x00, 0x0A, 0x07],
-        &[1000, 340647],
-        b"unit 0 rp06\nread 1 0 c 998 5\n",
-        b"ans 1 at 3 error unforwarded done 2\n",
-        b"",
-    ),
-    (
-        &[0x02, 0x00, 0x0A, 0x07],
-        &[],
-        b"unit 0 rp06\nread 1 0 c 998 5\n",
-        b"ans 1 at 3 ok\nblk 0 fill 00\nblk 1 fill 00\nblk 2 fill 00\nblk 3 fill 00\nblk 4 fill 00\n",
-        b"",
-    ),
-];
-
-/// What a read over marked blocks comes to that its row does not say.
-fn forwarded_otherwise(alloc: Global, row: Forwarded) -> Result<&'static str, Fail> {
-    let (entries, marks, script, text, lines) = row;
-    let mut packs = listed(alloc, entries, marks, NONE.packs)?;
-    let ran = run_on(alloc, PLAY, script, &mut packs, NONE)?;
-    Ok(other_than(&ran, 0, text, lines))
+/// What a row of traces comes to that it does not say.
+fn text_otherwise(alloc: Global, row: &Text) -> Result<&'static str, Fail> {
+    let mut packs = packs_under(alloc, row)?;
+    let ran = run_on(alloc, PLAY, row.script, &mut packs, NONE)?;
+    if ran.trace.taken() != row.trace {
+        return Ok("its trace");
+    }
+    Ok(other_than(&ran, 0, row.out))
 }
 
 #[test]
-fn forwarded_reads(rt: HostRuntime) -> Result<(), Fail> {
-    for row in FORWARDED {
-        let word = forwarded_otherwise(rt.alloc(), row)?;
-        assert_eq!(rt; word, "");
+fn texts(rt: HostRuntime) -> Result<(), Fail> {
+    for row in &TEXTS {
+        let word = text_otherwise(rt.alloc(), row)?;
+        assert_eq!(rt; word, "", "{}", row.name);
     }
     Ok(())
 }
@@ -620,7 +511,7 @@ fn too_long_a_script(rt: HostRuntime) -> Result<(), Fail> {
 fn too_long(rt: HostRuntime) -> Result<(), Fail> {
     let image = bytes_of(rt.alloc(), 174_423_041, 0)?;
     let ran = play_over(rt.alloc(), b"unit 0 rp06\n", image.as_slice(), NONE)?;
-    let word = other_than(&ran, 7, b"too long unit 0 length 174423041\n", b"");
+    let word = other_than(&ran, 7, b"too long unit 0 length 174423041\n");
     assert_eq!(rt; word, "");
     Ok(())
 }
@@ -650,7 +541,7 @@ const USAGE: &[u8] = b"usage: hpsim play or bad144 list/add/fresh or exercise N\
 fn usage_otherwise(alloc: Global, words: &[&str]) -> Result<&'static str, Fail> {
     let mut packs = packs_of(alloc, b"", b"", NONE.packs)?;
     let ran = run_on(alloc, words, b"unit 0 rp06\n", &mut packs, NONE)?;
-    Ok(other_than(&ran, 2, USAGE, b""))
+    Ok(other_than(&ran, 2, USAGE))
 }
 
 #[test]

@@ -1,7 +1,5 @@
 // Runs that stop: a call fails, or a sink has no room.
-use crate::runs::{
-    Faults, NONE, PLAY, RETRIES, Ran, holds, listed, packs_of, play_over, run_on, times,
-};
+use crate::runs::{Faults, NONE, PLAY, Ran, holds, listed, packs_of, play_over, run_on, times};
 use mass_outside::mem_packs::{FailCall, MemPacks, PackOp};
 use outside_traits::traits::Packs;
 use std::alloc::Global;
@@ -272,7 +270,7 @@ fn sectors_told(alloc: Global, script: &[u8], faults: Faults) -> Result<Option<u
 /// A read that is retried 27 times, over packs whose reads fail, one in each run: each number of sectors is told before some failure.
 #[test]
 fn retries_over_failing_packs(rt: HostRuntime) -> Result<(), Fail> {
-    let script = RETRIES[0].0;
+    let script = b"unit 0 rp06\nnoise 0 5 27 0 7 14\nread 1 0 c 5 1\n";
     let mut told = 0u32;
     for number in 1..60u64 {
         let faults = failing(Operation::Packs(PackOp::Read), number);
