@@ -60,7 +60,7 @@ impl Tally {
         ensures requests { self.new.requests ≡ self.old.requests }
     {
         self.answers = self.answers.saturating_add(1);
-        self.ok = self.ok.saturating_add(u64::from(is_ok(outcome)));
+        self.ok = self.ok.saturating_add(u64::from(is_ok(kind)));
     }
 
     /// Counts a piece of the answer text.
