@@ -5,12 +5,8 @@
 //! each deed leaves; the acts of each event; the lines that they tell; the invariant.
 #![tactic(auto)]
 
-ghost use Rattle.std.specs.Prelude.{◌≡◌};
-ghost use Rattle.driver_machine.specs.Refusals.{refuses};
-
 use drive_registers::OffsetCode;
 use hardware_table::Moved;
-
 pub use subsystem_spec::{Answer, AnswerKind, Cause};
 
 /// An answer that waits to be taken, and the slot of its request; one that was refused at its submission has none.
@@ -59,15 +55,4 @@ pub enum Phase {
     Transferring,
     /// Inside an event a task is due.
     Due { task: Task },
-}
-
-/// An answer to a request that was refused at its submission.
-pub fn is_refusal(kind: AnswerKind) -> bool
-    ensures { result ≡ refuses kind }
-{
-    match kind {
-        AnswerKind::Eof => true,
-        AnswerKind::Error { cause, done: _ } => matches!(cause, Cause::Partition | Cause::Frames),
-        AnswerKind::ReadOk { .. } | AnswerKind::WriteOk => false,
-    }
 }
