@@ -16,13 +16,11 @@ ghost use Rattle.answer_lines.specs.Laws.{TextsJoin, SilentSayNothing, BytesAreC
 mod blocks;
 mod fills;
 mod lines;
-mod outcome;
 mod words;
 
 pub use blocks::BlockLine;
 pub use fills::FillLine;
 pub use lines::{answer_line, noise_line};
-pub use outcome::{Cause, Outcome};
 
 /// The text of moments in a row is that of each in a row, and of a moment that makes no answer and arms no noise it is empty.
 /// The bytes of a read are cut into blocks of 512 bytes, the last one perhaps short, and in one way only: so the text of a read

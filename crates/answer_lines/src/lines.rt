@@ -4,17 +4,17 @@ ghost use Rattle.hardware_table.specs.Noise.{LiveNoise};
 ghost use Rattle.trace_replay.specs.Script.{Noise};
 ghost use Rattle.trace_replay.specs.Moments.{Played};
 ghost use Rattle.answer_lines.specs.AnswerText.{answer_line, noise_text, said_text};
-ghost use Rattle.answer_lines.specs.Outcomes.{answer_of};
+ghost use Rattle.subsystem_spec.specs.Answers.{answer_of};
 
-use crate::outcome::Outcome;
-use crate::words::{class_word, put_outcome};
+use crate::words::{class_word, put_answer};
 use fire_code::NoiseClass;
 use mass_text::{Radix, numeral_law};
 use short_line::ShortLine;
+use subsystem_spec::AnswerKind;
 
 /// The line of the answer to the request of an id, which came at a line of the script.
-pub fn answer_line(line: u64, id: u32, outcome: Outcome) -> ShortLine
-    ensures { (bytes : List ℕ) → result ≡ answer_line line id (answer_of bytes outcome) }
+pub fn answer_line(line: u64, id: u32, kind: AnswerKind) -> ShortLine
+    ensures { (bytes : List ℕ) → result ≡ answer_line line id (answer_of bytes kind) }
 {
     numeral_law(Radix::Decimal);
     let mut text = ShortLine::new();
@@ -23,7 +23,7 @@ pub fn answer_line(line: u64, id: u32, outcome: Outcome) -> ShortLine
     text.put(" at ");
     text.put_number(line);
     text.put(" ");
-    put_outcome(&mut text, outcome);
+    put_answer(&mut text, kind);
     text.put("\n");
     text
 }

@@ -1,11 +1,11 @@
 ghost use Rattle.std.specs.Prelude.{◌≡◌, ◌≤◌, ◌+◌, ◌++◌, ℕ, List, length};
-ghost use Rattle.answer_lines.specs.AnswerText.{answer_words, cause_word, class_word, error_words};
-ghost use Rattle.answer_lines.specs.Outcomes.{answer_of, cause_of};
+ghost use Rattle.subsystem_spec.specs.Answers.{answer_of, error_told};
+ghost use Rattle.answer_lines.specs.AnswerText.{answer_words, class_word, error_words};
 
-use crate::outcome::{Cause, Outcome};
 use fire_code::NoiseClass;
 use mass_text::{Radix, numeral_law};
 use short_line::ShortLine;
+use subsystem_spec::{AnswerKind, Cause};
 
 /// The word of a class of noise.
 pub(crate) fn class_word(class: NoiseClass) -> &'static str
@@ -19,21 +19,8 @@ pub(crate) fn class_word(class: NoiseClass) -> &'static str
     }
 }
 
-/// The word of a cause.
-fn cause_word(cause: Cause) -> &'static str
-    ensures word { result.now ≡ cause_word (cause_of cause) }
-    ensures short { length result.now ≤ 11 }
-{
-    match cause {
-        Cause::Offline => "offline",
-        Cause::Locked => "locked",
-        Cause::Unforwarded => "unforwarded",
-        Cause::Fault => "fault",
-    }
-}
-
-/// Puts an error, and how many blocks were done.
-fn put_error(text: &mut ShortLine, cause: &str, done: u32)
+/// Puts an error by its word, and how many blocks were done.
+fn put_word(text: &mut ShortLine, cause: &str, done: u32)
     requires room { length text.old ≤ 100 }
     requires short { length cause.now ≤ 11 }
     ensures text { text.new ≡ text.old ++ error_words cause.now done }
@@ -46,17 +33,31 @@ fn put_error(text: &mut ShortLine, cause: &str, done: u32)
     text.put_number(u64::from(done));
 }
 
-/// Puts how a request was answered. Which bytes a read gives makes no difference.
-pub(crate) fn put_outcome(text: &mut ShortLine, outcome: Outcome)
+/// Puts an error when its first `done` blocks were done; a request that is refused has done nothing.
+fn put_error(text: &mut ShortLine, cause: Cause, done: u32)
     requires room { length text.old ≤ 100 }
-    ensures text { (bytes : List ℕ) → text.new ≡ text.old ++ answer_words (answer_of bytes outcome) }
+    ensures text { text.new ≡ text.old ++ answer_words (error_told cause done) }
     ensures room { length text.new ≤ length text.old + 60 }
 {
-    match outcome {
-        Outcome::ReadOk | Outcome::WriteOk => text.put("ok"),
-        Outcome::Eof => text.put("eof"),
-        Outcome::Partition => put_error(text, "partition", 0),
-        Outcome::Frames => put_error(text, "frames", 0),
-        Outcome::Failed { cause, done } => put_error(text, cause_word(cause), done),
+    match cause {
+        Cause::Partition => put_word(text, "partition", 0),
+        Cause::Frames => put_word(text, "frames", 0),
+        Cause::Offline => put_word(text, "offline", done),
+        Cause::Locked => put_word(text, "locked", done),
+        Cause::Unforwarded => put_word(text, "unforwarded", done),
+        Cause::Fault { .. } => put_word(text, "fault", done),
+    }
+}
+
+/// Puts how a request was answered. Which bytes a read gives makes no difference.
+pub(crate) fn put_answer(text: &mut ShortLine, kind: AnswerKind)
+    requires room { length text.old ≤ 100 }
+    ensures text { (bytes : List ℕ) → text.new ≡ text.old ++ answer_words (answer_of bytes kind) }
+    ensures room { length text.new ≤ length text.old + 60 }
+{
+    match kind {
+        AnswerKind::ReadOk { .. } | AnswerKind::WriteOk => text.put("ok"),
+        AnswerKind::Eof => text.put("eof"),
+        AnswerKind::Error { cause, done } => put_error(text, cause, done),
     }
 }

@@ -1,8 +1,8 @@
 ghost use Rattle.std.specs.Prelude.{◌≡◌, ℕ, ◌%◌, ◌^◌, List, [], ◌∷◌, sum};
-ghost use Rattle.answer_lines.specs.Outcomes.{answer_of};
+ghost use Rattle.subsystem_spec.specs.Answers.{answer_of};
 ghost use Rattle.answer_tally.specs.Counting.{Counts, is_done, tally_by};
 
-use answer_lines::Outcome;
+use subsystem_spec::AnswerKind;
 
 /// The counts of a run. A count of 64 bits stands still at its last value.
 #[derive(Clone, Copy, Debug, PartialEq, Eq)]
@@ -20,12 +20,12 @@ pub struct Tally {
 }
 
 /// Whether a request was answered ok: a read or a write.
-fn is_ok(outcome: Outcome) -> bool
-    ensures { (bytes : List ℕ) → result ≡ is_done (answer_of bytes outcome) }
+fn is_ok(kind: AnswerKind) -> bool
+    ensures { (bytes : List ℕ) → result ≡ is_done (answer_of bytes kind) }
 {
-    match outcome {
-        Outcome::ReadOk | Outcome::WriteOk => true,
-        Outcome::Eof | Outcome::Partition | Outcome::Frames | Outcome::Failed { .. } => false,
+    match kind {
+        AnswerKind::ReadOk { .. } | AnswerKind::WriteOk => true,
+        AnswerKind::Eof | AnswerKind::Error { .. } => false,
     }
 }
 
@@ -55,12 +55,12 @@ impl Tally {
     }
 
     /// Counts an answer.
-    pub fn count_answer(&mut self, outcome: Outcome)
-        ensures counts { (line id : ℕ) → (bytes : List ℕ) → Counts (record { line = line; id = id; answer = answer_of bytes outcome } ∷ []) [] self.old self.new }
+    pub fn count_answer(&mut self, kind: AnswerKind)
+        ensures counts { (line id : ℕ) → (bytes : List ℕ) → Counts (record { line = line; id = id; answer = answer_of bytes kind } ∷ []) [] self.old self.new }
         ensures requests { self.new.requests ≡ self.old.requests }
     {
         self.answers = self.answers.saturating_add(1);
-        self.ok = self.ok.saturating_add(u64::from(is_ok(outcome)));
+        self.ok = self.ok.saturating_add(u64::from(is_ok(kind)));
     }
 
     /// Counts a piece of the answer text.

@@ -8,9 +8,9 @@ use Rattle.partitions.specs.declared.Admission.TheVariants.{Outside}
 use Rattle.pack_model.specs.TableSpelling.{Table}
 use Rattle.transfer_engine.specs.State.{TransferState, segment_of}
 use Rattle.transfer_engine.specs.Calls.{entry_for}
-use Rattle.driver_machine.specs.declared.AnswerKind.{AnswerKind}
-use Rattle.driver_machine.specs.declared.AnswerKind.TheVariants.{Error}
-use Rattle.driver_machine.specs.declared.Cause.TheVariants as cause
+use Rattle.subsystem_spec.specs.declared.answers.AnswerKind.{AnswerKind}
+use Rattle.subsystem_spec.specs.declared.answers.AnswerKind.TheVariants.{Error}
+use Rattle.subsystem_spec.specs.declared.answers.Cause.TheVariants as cause
 use Rattle.driver_machine.specs.declared.Made.{Made}
 use Rattle.driver_machine.specs.declared.Task.{Task}
 use Rattle.driver_machine.specs.declared.Task.TheVariants.{Judge}

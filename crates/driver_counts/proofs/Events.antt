@@ -5,7 +5,7 @@ use Rattle.disksort.specs.declared.Waiter.{Waiter}
 use Rattle.subsystem_spec.specs.Requests.{Request}
 use Rattle.trace_replay.specs.Script as script
 use Rattle.trace_replay.specs.Script.{Input}
-use Rattle.driver_machine.specs.declared.AnswerKind.{AnswerKind}
+use Rattle.subsystem_spec.specs.declared.answers.AnswerKind.{AnswerKind}
 use Rattle.driver_machine.specs.World.{World, Held, unit_at, adapter_at, held_in, slot_in_hand, unit_on, unit_of, adapter_of}
 use Rattle.driver_machine.specs.Acts as deed
 use Rattle.driver_machine.specs.Acts.{Act, Refuse, Submit, Of, Change, Nothing, Taken, Deed, Tried, after, after_all}

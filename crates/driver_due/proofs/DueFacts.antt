@@ -10,8 +10,8 @@ use Rattle.seek_engine.specs.declared.Position.{Position}
 use Rattle.seek_engine.specs.declared.Position.TheVariants as position
 use Rattle.transfer_engine.specs.State.{segment_of}
 use Rattle.transfer_engine.specs.Calls.{entry_for}
-use Rattle.driver_machine.specs.declared.AnswerKind.TheVariants.{Error}
-use Rattle.driver_machine.specs.declared.Cause.TheVariants as cause
+use Rattle.subsystem_spec.specs.declared.answers.AnswerKind.TheVariants.{Error}
+use Rattle.subsystem_spec.specs.declared.answers.Cause.TheVariants as cause
 use Rattle.driver_machine.specs.declared.RetryStep.{RetryStep}
 use Rattle.driver_machine.specs.declared.Task.{Task}
 use Rattle.driver_machine.specs.declared.Task.TheVariants.{Clear, Judge, Steps, Command, GiveUp}

@@ -1,32 +1,19 @@
 -- The lines of the trace that each act tells, with the answers that they make.
 use Rattle.std.specs.Prelude.{ℕ, List, [], ◌∷◌, ◌++◌}
 use Rattle.subsystem_spec.specs.Requests as told
+use Rattle.subsystem_spec.specs.Answers.{answer_of}
 use Rattle.trace_replay.specs.Moments as moment
 use Rattle.trace_replay.specs.Moments.{Moment, Told, Idle}
-use Rattle.driver_machine.specs.declared.AnswerKind.{AnswerKind}
-use Rattle.driver_machine.specs.declared.AnswerKind.TheVariants as answer
-use Rattle.driver_machine.specs.declared.Cause.{Cause}
-use Rattle.driver_machine.specs.declared.Cause.TheVariants as cause
+use Rattle.subsystem_spec.specs.declared.answers.AnswerKind.{AnswerKind}
 use Rattle.driver_machine.specs.declared.RetryStep.{RetryStep}
 use Rattle.driver_machine.specs.declared.RetryStep.TheVariants as step
 use Rattle.driver_machine.specs.World.{World, Held, unit_at, held_in, slot_in_hand, bytes_in}
 use Rattle.driver_machine.specs.Acts.{Act, Refuse, Submit, Of, Change, Nothing, Taken, Deed, after}
 use Rattle.driver_machine.specs.Acts as deed
 
--- an error, and an answer with the bytes of the request's buffer
-abbrev pub error_told : Cause → ℕ → told.Answer
-error_told cause.Partition done = told.OutsidePartition
-error_told cause.Frames done = told.NoFrames
-error_told cause.Offline done = told.Failed told.Offline done
-error_told cause.Locked done = told.Failed told.Locked done
-error_told cause.Unforwarded done = told.Failed told.Unforwarded done
-error_told (cause.Fault attempts) done = told.Failed told.Fault done
-
+-- an answer with the bytes of the request's buffer
 abbrev pub answer_told : AnswerKind → List (List ℕ) → told.Answer
-answer_told (answer.ReadOk count last) blocks = told.ReadOk (bytes_in blocks)
-answer_told answer.WriteOk blocks = told.WriteOk
-answer_told answer.Eof blocks = told.EndOfPartition
-answer_told (answer.Error why done) blocks = error_told why done
+answer_told kind blocks = answer_of (bytes_in blocks) kind
 
 abbrev pub step_told : RetryStep → moment.Deed
 step_told step.Recalibrate = moment.Recal

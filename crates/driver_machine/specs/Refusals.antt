@@ -1,9 +1,9 @@
 -- The answers to requests that are refused at their submission.
 use Rattle.std.specs.Prelude.{Bool, true, false}
-use Rattle.driver_machine.specs.declared.AnswerKind.{AnswerKind}
-use Rattle.driver_machine.specs.declared.AnswerKind.TheVariants.{Eof, Error}
-use Rattle.driver_machine.specs.declared.Cause.{Cause}
-use Rattle.driver_machine.specs.declared.Cause.TheVariants.{Partition, Frames}
+use Rattle.subsystem_spec.specs.declared.answers.AnswerKind.{AnswerKind}
+use Rattle.subsystem_spec.specs.declared.answers.AnswerKind.TheVariants.{Eof, Error}
+use Rattle.subsystem_spec.specs.declared.answers.Cause.{Cause}
+use Rattle.subsystem_spec.specs.declared.answers.Cause.TheVariants.{Partition, Frames}
 
 abbrev pub refuses_by : Cause → Bool
 refuses_by Partition = true

@@ -21,8 +21,8 @@ use Rattle.disksort.specs.declared.Waiter.{Waiter}
 use Rattle.subsystem_spec.specs.ServiceOrder.{IsInOrder}
 use Rattle.transfer_engine.specs.State.{TransferState, segment_of}
 use Rattle.transfer_engine.specs.State as engine
-use Rattle.driver_machine.specs.declared.AnswerKind.{AnswerKind}
-use Rattle.driver_machine.specs.declared.AnswerKind.TheVariants.{ReadOk, WriteOk, Eof, Error}
+use Rattle.subsystem_spec.specs.declared.answers.AnswerKind.{AnswerKind}
+use Rattle.subsystem_spec.specs.declared.answers.AnswerKind.TheVariants.{ReadOk, WriteOk, Eof, Error}
 use Rattle.driver_machine.specs.declared.Made.{Made}
 use Rattle.driver_machine.specs.declared.Task.{Task}
 use Rattle.driver_machine.specs.declared.Task.TheVariants.{Clear, Judge, Steps, Command, GiveUp}

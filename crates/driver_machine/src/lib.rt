@@ -5,49 +5,9 @@
 //! each deed leaves; the acts of each event; the lines that they tell; the invariant.
 #![tactic(auto)]
 
-ghost use Rattle.std.specs.Prelude.{◌≡◌};
-ghost use Rattle.driver_machine.specs.Refusals.{refuses};
-
 use drive_registers::OffsetCode;
 use hardware_table::Moved;
-
-/// Why a request ended with an error.
-#[derive(Clone, Copy, Debug, PartialEq, Eq)]
-pub enum Cause {
-    /// It reaches beyond its partition.
-    Partition,
-    /// The frames that it needs are not there.
-    Frames,
-    /// A command was due, or a sector was tried, while the unit was offline.
-    Offline,
-    /// It writes, and its transfer command was due while the unit was locked.
-    Locked,
-    /// A sector is marked bad, and nothing stands for it.
-    Unforwarded,
-    /// All tries at one sector failed; `attempts` is 28.
-    Fault { attempts: u32 },
-}
-
-/// How a request ended.
-#[derive(Clone, Copy, Debug, PartialEq, Eq)]
-pub enum AnswerKind {
-    /// All its blocks, `count` of them, were read; the last one has `last` bytes.
-    ReadOk { count: u32, last: u32 },
-    /// All its blocks were written.
-    WriteOk,
-    /// It begins at the very end of its partition.
-    Eof,
-    /// It ended with an error when its first `done` blocks were done; `done` is below its count.
-    Error { cause: Cause, done: u32 },
-}
-
-/// The answer to a request: its id, the number of the line at which it ended, and how.
-#[derive(Clone, Copy, Debug, PartialEq, Eq)]
-pub struct Answer {
-    pub id: u32,
-    pub at: u64,
-    pub kind: AnswerKind,
-}
+pub use subsystem_spec::{Answer, AnswerKind, Cause};
 
 /// An answer that waits to be taken, and the slot of its request; one that was refused at its submission has none.
 #[derive(Clone, Copy, Debug, PartialEq, Eq)]
@@ -95,15 +55,4 @@ pub enum Phase {
     Transferring,
     /// Inside an event a task is due.
     Due { task: Task },
-}
-
-/// An answer to a request that was refused at its submission.
-pub fn is_refusal(kind: AnswerKind) -> bool
-    ensures { result ≡ refuses kind }
-{
-    match kind {
-        AnswerKind::Eof => true,
-        AnswerKind::Error { cause, done: _ } => matches!(cause, Cause::Partition | Cause::Frames),
-        AnswerKind::ReadOk { .. } | AnswerKind::WriteOk => false,
-    }
 }

@@ -10,12 +10,16 @@
 ghost use Rattle.std.specs.Prelude.{◌≡◌};
 ghost use Rattle.driver_outcome.specs.Outcome.{OneThenOther, StoppedBefore, NothingDone};
 
+use thiserror::Error;
+
 /// What stopped a call: the packs failed, or the trace.
-#[derive(Clone, Copy, Debug, PartialEq, Eq)]
+#[derive(Clone, Copy, Debug, PartialEq, Eq, Error)]
 pub enum Stop {
     /// A call of the packs failed.
+    #[error("the packs failed")]
     Store,
     /// A call of the trace failed.
+    #[error("the trace failed")]
     Sink,
 }
 

@@ -25,8 +25,8 @@ use Rattle.driver_machine.specs.declared.Phase.{Phase}
 use Rattle.driver_machine.specs.declared.Task.TheVariants.{Clear, Judge, Steps, Command, GiveUp}
 use Rattle.driver_machine.specs.declared.Phase.TheVariants as phases
 use Rattle.driver_machine.specs.declared.Phase.TheVariants.{Positioning, Queued, Transferring, Due}
-use Rattle.driver_machine.specs.declared.AnswerKind.{AnswerKind}
-use Rattle.driver_machine.specs.declared.AnswerKind.TheVariants as answer
+use Rattle.subsystem_spec.specs.declared.answers.AnswerKind.{AnswerKind}
+use Rattle.subsystem_spec.specs.declared.answers.AnswerKind.TheVariants as answer
 use Rattle.driver_machine.specs.World.{World, UnitView, AdapterView, Held, slot_in_hand, transfer_of, bytes_in, frames_of, adapter_of, unit_at, adapter_at, held_in}
 use Rattle.driver_machine.specs.Guards.{IsHeldFor, InHand}
 use Rattle.driver_machine.specs.Due.{done_with}

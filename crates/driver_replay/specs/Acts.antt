@@ -11,7 +11,7 @@ use Rattle.trace_replay.specs.Script.{Input}
 use Rattle.trace_replay.specs.Packs.{Surface, sector_of_block}
 use Rattle.trace_replay.specs.Service.{in_hand, cylinder_of}
 use Rattle.trace_replay.specs.Replay.{Replay, Refused, new_replay, submission, replay_played}
-use Rattle.driver_machine.specs.declared.AnswerKind.{AnswerKind}
+use Rattle.subsystem_spec.specs.declared.answers.AnswerKind.{AnswerKind}
 use Rattle.driver_machine.specs.World.{World, Held, Setup, new_unit, new_world, unit_at}
 use Rattle.driver_machine.specs.Acts.{Refuse, Submit, Of, Change, Nothing, Taken, Sector, Tried, after}
 use Rattle.driver_machine.specs.Events.{refusal_of}

@@ -7,7 +7,7 @@ use Rattle.trace_replay.specs.Script as script
 use Rattle.trace_replay.specs.Script.{Input}
 use Rattle.trace_replay.specs.Replay.{Replay, new_replay, after_moment, after_moments}
 use Rattle.trace_replay.proofs.Kept.{moments_all, starts}
-use Rattle.driver_machine.specs.declared.AnswerKind.{AnswerKind}
+use Rattle.subsystem_spec.specs.declared.answers.AnswerKind.{AnswerKind}
 use Rattle.driver_machine.specs.World.{World, Held}
 use Rattle.driver_machine.specs.Acts.{Tried, Taken}
 use Rattle.driver_machine.specs.Events.{submit_by, submit_acts, refusal_of, event_acts}

@@ -12,10 +12,10 @@ use Rattle.mass_gather.proofs.GatherLaws.{gathers_nothing, gathers_join, gathers
 use Rattle.trace_replay.specs.Moments.{Answered}
 use Rattle.main_memory.specs.Blocks.{size_at}
 use Rattle.main_memory.specs.Bytes.{filled, IsFill}
-use Rattle.driver_machine.specs.declared.Answer.{Answer}
-use Rattle.driver_machine.specs.declared.AnswerKind.{AnswerKind}
-use Rattle.driver_machine.specs.declared.AnswerKind.TheVariants.{ReadOk, WriteOk, Eof, Error}
-use Rattle.driver_machine.specs.declared.Cause.TheVariants.{Partition, Frames, Offline, Locked, Unforwarded, Fault}
+use Rattle.subsystem_spec.specs.declared.answers.Answer.{Answer}
+use Rattle.subsystem_spec.specs.declared.answers.AnswerKind.{AnswerKind}
+use Rattle.subsystem_spec.specs.declared.answers.AnswerKind.TheVariants.{ReadOk, WriteOk, Eof, Error}
+use Rattle.subsystem_spec.specs.declared.answers.Cause.TheVariants.{Partition, Frames, Offline, Locked, Unforwarded, Fault}
 use Rattle.driver_machine.specs.declared.Made.{Made}
 use Rattle.driver_machine.specs.World.{World, Held, held_in, slot_at, block_in, bytes_in}
 use Rattle.driver_machine.specs.Acts.{Taken, after, after_all}

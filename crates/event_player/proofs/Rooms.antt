@@ -12,7 +12,7 @@ use Rattle.trace_replay.specs.Script as script
 use Rattle.trace_replay.specs.Script.{Script, Input, Statement, Declares, Plays, Line, IsScript, IsStatement, IsInput, drives_of, ids_of, with_id, AreApart}
 use Rattle.driver_machine.specs.World.{World, Held}
 use Rattle.driver_machine.specs.Acts.{Act, after_all}
-use Rattle.driver_machine.specs.declared.AnswerKind.{AnswerKind}
+use Rattle.subsystem_spec.specs.declared.answers.AnswerKind.{AnswerKind}
 use Rattle.driver_machine.specs.Events.{submit_by, submit_acts, event_acts, refusal_of, next_event}
 use Rattle.driver_slots.proofs.Sizes.{sizes_all}
 use Rattle.driver_slots.proofs.Lists.{Contains-later, Contains-cases}

@@ -26,7 +26,7 @@ use Rattle.answer_tally.specs.declared.tally.Tally.{Tally}
 use Rattle.answer_tally.specs.Counting.{Counts}
 use Rattle.hp_events.specs.declared.drain.Event.{Event}
 use Rattle.hp_events.specs.declared.drain.Event.TheVariants as event
-use Rattle.hp_driver.specs.declared.request.Request as driver
+use Rattle.subsystem_spec.specs.declared.request.Request as driver
 use Rattle.hp_events.specs.Inputs.{input_of}
 use Rattle.hp_driver.specs.Subsystem.{State, IsThere, asked}
 use Rattle.event_player.specs.Playing.{HasRun}

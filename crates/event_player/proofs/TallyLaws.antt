@@ -2,7 +2,7 @@
 use Rattle.std.proofs.Common.{◌≡◌, ℕ, ◌+◌, ◌<◌, List, [], ◌∷◌, ◌++◌, length, map, take, refl, sym, ap, ◌∙◌, append-nil, append_assoc, slice_index_or}
 use Rattle.std.specs.List.{flat_map}
 use Rattle.trace_replay.specs.Moments.{Answered}
-use Rattle.driver_machine.specs.declared.Answer.{Answer}
+use Rattle.subsystem_spec.specs.declared.answers.Answer.{Answer}
 use Rattle.driver_machine.specs.World.{World}
 use Rattle.driver_machine.specs.Acts.{Taken, after}
 use Rattle.driver_machine.specs.Sound.{Sound}

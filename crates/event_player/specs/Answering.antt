@@ -1,8 +1,8 @@
 -- The oldest answer that waits, as it is said.
 use Rattle.std.specs.Prelude.{◌≡◌, ℕ, ◌≤◌, List, [], ◌∷◌, length, Some, slice_index_or}
 use Rattle.trace_replay.specs.Moments.{Answered}
-use Rattle.driver_machine.specs.declared.Answer.{Answer}
-use Rattle.driver_machine.specs.declared.AnswerKind.{AnswerKind}
+use Rattle.subsystem_spec.specs.declared.answers.Answer.{Answer}
+use Rattle.subsystem_spec.specs.declared.answers.AnswerKind.{AnswerKind}
 use Rattle.driver_machine.specs.declared.Made.{Made}
 use Rattle.driver_machine.specs.World.{World}
 use Rattle.driver_machine.specs.Lines.{answer_told}

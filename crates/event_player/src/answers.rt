@@ -3,59 +3,18 @@ ghost use Rattle.std.specs.Prelude.{◌≡◌, ◌+◌, ◌==◌, ◌<◌, ◌�
 ghost use Rattle.outside_traits.specs.Puts.{Puts};
 ghost use Rattle.mass_gather.specs.Gathers.{Gathers};
 ghost use Rattle.answer_lines.specs.AnswerText.{block_text};
-ghost use Rattle.answer_lines.specs.Outcomes.{answer_of};
 ghost use Rattle.answer_tally.specs.Counting.{Counts};
 ghost use Rattle.driver_answers.specs.Waiting.{waiting};
-ghost use Rattle.driver_machine.specs.declared.AnswerKind.TheVariants.{ReadOk};
-ghost use Rattle.driver_machine.specs.World.{bytes_in};
-ghost use Rattle.driver_machine.specs.Lines.{answer_told, error_told};
+ghost use Rattle.subsystem_spec.specs.declared.answers.AnswerKind.TheVariants.{ReadOk};
 ghost use Rattle.one_run.specs.Steps.{all_taken};
 ghost use Rattle.event_player.specs.Answering.{first_blocks, first_told, first_text, first_rest, IsFirst, IsFirstKind, HasBlock};
 ghost use Rattle.event_player.specs.Steps.{waiting_text};
 
 use crate::desk::Desk;
-use answer_lines::{Outcome, answer_line};
+use answer_lines::answer_line;
 use driver_answers::taken_law;
-use hp_driver::{Answer, AnswerKind, Cause, Subsystem};
+use hp_driver::{Answer, AnswerKind, Subsystem};
 use outside_traits::traits::{Sink, SinkFailed};
-
-/// How an error is said; `done` blocks were done.
-fn error_outcome(cause: Cause, done: u32) -> Outcome
-    ensures { (bytes : List ℕ) → answer_of bytes result ≡ error_told cause done }
-{
-    match cause {
-        Cause::Partition => Outcome::Partition,
-        Cause::Frames => Outcome::Frames,
-        Cause::Offline => Outcome::Failed {
-            cause: answer_lines::Cause::Offline,
-            done,
-        },
-        Cause::Locked => Outcome::Failed {
-            cause: answer_lines::Cause::Locked,
-            done,
-        },
-        Cause::Unforwarded => Outcome::Failed {
-            cause: answer_lines::Cause::Unforwarded,
-            done,
-        },
-        Cause::Fault { .. } => Outcome::Failed {
-            cause: answer_lines::Cause::Fault,
-            done,
-        },
-    }
-}
-
-/// How an answer is said.
-fn outcome(kind: AnswerKind) -> Outcome
-    ensures { (blocks : List (List ℕ)) → answer_of (bytes_in blocks) result ≡ answer_told kind blocks }
-{
-    match kind {
-        AnswerKind::ReadOk { .. } => Outcome::ReadOk,
-        AnswerKind::WriteOk => Outcome::WriteOk,
-        AnswerKind::Eof => Outcome::Eof,
-        AnswerKind::Error { cause, done } => error_outcome(cause, done),
-    }
-}
 
 /// How many bytes block `k` of `count` has, of which the last one has `last`.
 fn block_size(k: u32, count: u32, last: u32) -> u32
@@ -166,8 +125,8 @@ fn gather_answer<O: Sink>(
     ensures counts { OnOk result (Counts (first_told subsystem.now.world answer ∷ []) (first_text subsystem.now.world answer) desk.old.tally desk.new.tally) }
     ensures requests { desk.new.tally.requests ≡ desk.old.tally.requests }
 {
-    let line = answer_line(answer.at, answer.id, outcome(answer.kind));
-    desk.tally.count_answer(outcome(answer.kind));
+    let line = answer_line(answer.at, answer.id, answer.kind);
+    desk.tally.count_answer(answer.kind);
     desk.put(line.as_bytes(), out)?;
     gather_rest(subsystem, answer.kind, desk, out)
 }

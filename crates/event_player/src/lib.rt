@@ -21,3 +21,6 @@ mod desk;
 mod drains;
 pub mod play;
 mod player;
+
+pub use script_reader::fault::{ReadFault, ScriptKind};
+pub use script_reader::script::{Script, read_script};

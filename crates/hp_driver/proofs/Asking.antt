@@ -5,7 +5,7 @@ use Rattle.std.proofs.lemmas.Option.{none-some, same_Some}
 use Rattle.pack_geometry.specs.declared.DriveKind.{DriveKind}
 use Rattle.subsystem_spec.specs.Requests as told
 use Rattle.subsystem_spec.specs.Requests.{first_block}
-use Rattle.driver_machine.specs.declared.AnswerKind.{AnswerKind}
+use Rattle.subsystem_spec.specs.declared.answers.AnswerKind.{AnswerKind}
 use Rattle.driver_machine.specs.World.{World, Held, no_held, unit_at, pieces, adapter_of}
 use Rattle.driver_machine.specs.Acts.{Act, Refuse}
 use Rattle.driver_machine.specs.Events.{refusal_of, submit_by, submit_acts, joined_acts, followed, adapter_start}
@@ -18,7 +18,7 @@ use Rattle.request_slots.specs.declared.asked.Asked.{Asked}
 use Rattle.request_slots.specs.Requests as slots
 use Rattle.hp_core.specs.State.{State}
 use Rattle.hp_events.specs.Submissions.{MayRefuse}
-use Rattle.hp_driver.specs.declared.request.Request.{Request}
+use Rattle.subsystem_spec.specs.declared.request.Request.{Request}
 use Rattle.hp_driver.specs.Subsystem as subsystem
 use Rattle.hp_driver.specs.Subsystem.{seen, asked, Submits, IsAsked}
 use Rattle.hp_driver.specs.Calls.{Stands, SendsActs, Asks, MayAsk, asked_at}

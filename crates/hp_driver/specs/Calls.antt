@@ -18,7 +18,7 @@ use Rattle.driver_counts.specs.Counts.{in_use}
 use Rattle.driver_trace.specs.Noises.{AllFlip}
 use Rattle.hp_core.specs.State.{State}
 use Rattle.hp_core.specs.Done.{HasCauses}
-use Rattle.hp_driver.specs.declared.request.Request.{Request}
+use Rattle.subsystem_spec.specs.declared.request.Request.{Request}
 use Rattle.hp_driver.specs.Subsystem.{seen, asked, is_move, Submits, Comes}
 
 -- some acts ran, and left this world

@@ -8,7 +8,7 @@ use Rattle.trace_replay.specs.Moments.{Moment}
 use Rattle.trace_replay.specs.Replay.{Replay, after_moments}
 use Rattle.trace_replay.specs.Script as script
 use Rattle.trace_replay.specs.Script.{Input}
-use Rattle.driver_machine.specs.declared.AnswerKind.TheVariants.{ReadOk}
+use Rattle.subsystem_spec.specs.declared.answers.AnswerKind.TheVariants.{ReadOk}
 use Rattle.driver_machine.specs.declared.Made.{Made}
 use Rattle.driver_machine.specs.World.{World, Held, unit_at, slot_at}
 use Rattle.driver_machine.specs.Acts.{Tried}
@@ -25,7 +25,7 @@ use Rattle.driver_trace.specs.Calls.{IsReadOf}
 use Rattle.driver_trace.specs.Noises.{AllFlip}
 use Rattle.driver_trace.specs.Runs.{IsDraining}
 use Rattle.driver_drains.specs.Drains.{CanStart, AreAsked, Falls}
-use Rattle.hp_driver.specs.declared.request.Request.{Request}
+use Rattle.subsystem_spec.specs.declared.request.Request.{Request}
 
 -- its world, how many requests may be outstanding at once, and whether one of its calls has failed
 pub record State : Type 0 where

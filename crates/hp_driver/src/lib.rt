@@ -19,5 +19,5 @@ pub use driver_machine::{Answer, AnswerKind, Cause};
 pub use driver_outcome::Stop;
 pub use hp_core::UnitSetup;
 pub use hp_events::Event;
-pub use request::Request;
 pub use subsystem::Subsystem;
+pub use subsystem_spec::Request;

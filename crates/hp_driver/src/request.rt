@@ -1,22 +1,8 @@
-// What is asked of the driver.
+// How many frames a request needs.
 ghost use Rattle.std.specs.Prelude.{◌≡◌, ◌<◌, ◌≤◌};
 ghost use Rattle.main_memory.specs.Frames.{frames_needed};
 
-use partitions::Part;
-
-/// A request: to read or write `count` blocks of a unit, 1 to 127, from block `block` of its partition on. Its buffer begins
-/// `offset` bytes into its first frame, 0 to 511, and `last` bytes of its last block are asked for, 1 to 512.
-#[derive(Clone, Copy, Debug, PartialEq, Eq)]
-pub struct Request {
-    pub id: u32,
-    pub unit: u8,
-    pub part: Part,
-    pub block: u32,
-    pub count: u32,
-    pub write: bool,
-    pub offset: u32,
-    pub last: u32,
-}
+use subsystem_spec::Request;
 
 /// How many frames the buffer of a request needs.
 pub(crate) fn frames_for(request: Request) -> u32

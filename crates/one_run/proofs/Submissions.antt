@@ -14,7 +14,7 @@ use Rattle.trace_replay.specs.Packs.{surface_of}
 use Rattle.trace_replay.specs.Replay.{Replay, all_units, after_moments}
 use Rattle.trace_replay.specs.Runs.{start_of}
 use Rattle.trace_bounds.specs.Drains.{IsOf}
-use Rattle.driver_machine.specs.declared.AnswerKind.{AnswerKind}
+use Rattle.subsystem_spec.specs.declared.answers.AnswerKind.{AnswerKind}
 use Rattle.driver_machine.specs.World.{World, Held, unit_at}
 use Rattle.driver_machine.specs.Acts.{Act, after_all}
 use Rattle.driver_machine.specs.Events.{refusal_of, submit_by, submit_acts}

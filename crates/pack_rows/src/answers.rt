@@ -2,38 +2,51 @@ ghost use Rattle.std.specs.Prelude.{◌≤◌, length};
 
 use answer_lines::*;
 use fire_code::NoiseClass;
+use subsystem_spec::{AnswerKind, Cause};
 
-/// An outcome, and the line that tells it at line 4 of the script for request 30.
-const ANSWERS: [(Outcome, &str); 9] = [
-    (Outcome::ReadOk, "ans 30 at 4 ok\n"),
-    (Outcome::WriteOk, "ans 30 at 4 ok\n"),
-    (Outcome::Eof, "ans 30 at 4 eof\n"),
-    (Outcome::Partition, "ans 30 at 4 error partition done 0\n"),
-    (Outcome::Frames, "ans 30 at 4 error frames done 0\n"),
+/// How a request was answered, and the line that tells it at line 4 of the script for request 30.
+const ANSWERS: [(AnswerKind, &str); 9] = [
+    (AnswerKind::ReadOk { count: 2, last: 7 }, "ans 30 at 4 ok\n"),
+    (AnswerKind::WriteOk, "ans 30 at 4 ok\n"),
+    (AnswerKind::Eof, "ans 30 at 4 eof\n"),
     (
-        Outcome::Failed {
+        AnswerKind::Error {
+            cause: Cause::Partition,
+            done: 0,
+        },
+        "ans 30 at 4 error partition done 0\n",
+    ),
+    (
+        AnswerKind::Error {
+            cause: Cause::Frames,
+            done: 0,
+        },
+        "ans 30 at 4 error frames done 0\n",
+    ),
+    (
+        AnswerKind::Error {
             cause: Cause::Offline,
             done: 0,
         },
         "ans 30 at 4 error offline done 0\n",
     ),
     (
-        Outcome::Failed {
+        AnswerKind::Error {
             cause: Cause::Locked,
             done: 1,
         },
         "ans 30 at 4 error locked done 1\n",
     ),
     (
-        Outcome::Failed {
+        AnswerKind::Error {
             cause: Cause::Unforwarded,
             done: 12,
         },
         "ans 30 at 4 error unforwarded done 12\n",
     ),
     (
-        Outcome::Failed {
-            cause: Cause::Fault,
+        AnswerKind::Error {
+            cause: Cause::Fault { attempts: 28 },
             done: 126,
         },
         "ans 30 at 4 error fault done 126\n",
@@ -56,14 +69,14 @@ const BLOCKS: [(u32, &[u8], &str); 4] = [
 ];
 
 /// Whether the line of an answer is this one.
-fn is_answered(line: u64, id: u32, outcome: Outcome, wanted: &str) -> bool {
-    answer_line(line, id, outcome).as_bytes() == wanted.as_bytes()
+fn is_answered(line: u64, id: u32, kind: AnswerKind, wanted: &str) -> bool {
+    answer_line(line, id, kind).as_bytes() == wanted.as_bytes()
 }
 
 /// The first line of an answer that is another one; "" where none is.
 fn other_answer() -> &'static str {
-    for (outcome, wanted) in &ANSWERS {
-        if !is_answered(4, 30, *outcome, wanted) {
+    for (kind, wanted) in &ANSWERS {
+        if !is_answered(4, 30, *kind, wanted) {
             return wanted;
         }
     }
@@ -114,7 +127,7 @@ fn is_filled(fill: &mut FillLine, k: u32, byte: u8, wanted: &[u8]) -> bool {
 fn lines_of_answers(rt: HostRuntime) {
     assert_eq!(rt; other_answer(), "");
     let long = "ans 4294967295 at 18446744073709551615 eof\n";
-    assert!(rt; is_answered(u64::MAX, u32::MAX, Outcome::Eof, long));
+    assert!(rt; is_answered(u64::MAX, u32::MAX, AnswerKind::Eof, long));
 }
 
 #[test]

@@ -1,6 +1,5 @@
-use Rattle.std.proofs.Common.{◌≡◌, [], ◌∷◌, refl, ap, ◌∙◌}
+use Rattle.std.proofs.Common.{◌≡◌, [], ◌∷◌, refl, ◌∙◌}
 use Rattle.std.proofs.lemmas.Result.{on_ok_weaker}
-use Rattle.subsystem_spec.specs.Requests.{Answer as Told}
 use Rattle.answer_lines.specs.AnswerText.{answer_line}
 use Rattle.driver_machine.specs.World.{bytes_in}
 use Rattle.driver_machine.specs.Lines.{answer_told}
@@ -16,7 +15,7 @@ returns-in_err-put-clause-gathers g c =
     let a = c.args.answer in
     let blocks = first_blocks w w.answers in
     let line : c.as_bytes.result.now ≡ answer_line a.at a.id (answer_told a.kind blocks) =
-    c.as_bytes.ensures.text ∙ c.answer_line-line.ensures (bytes_in blocks) ∙ ap (λ (told : Told). answer_line a.at a.id told) (c.outcome.ensures blocks) in
+    c.as_bytes.ensures.text ∙ c.answer_line-line.ensures (bytes_in blocks) in
     stopped (first_rest w a.kind) c.from_residual.result c.from_residual.ensures.0 (gathers_same (answer_line a.at a.id (answer_told a.kind blocks)) c.in_err-put.ensures.gathers line)
 
 pub returns-clause-gathers : goal.returns-clause-gathers
@@ -25,7 +24,7 @@ returns-clause-gathers g c =
     let a = c.args.answer in
     let blocks = first_blocks w w.answers in
     let line : c.as_bytes.result.now ≡ answer_line a.at a.id (answer_told a.kind blocks) =
-    c.as_bytes.ensures.text ∙ c.answer_line-line.ensures (bytes_in blocks) ∙ ap (λ (told : Told). answer_line a.at a.id told) (c.outcome.ensures blocks) in
+    c.as_bytes.ensures.text ∙ c.answer_line-line.ensures (bytes_in blocks) in
     both_gathered g.O.Sink.tells g.O.Sink.taken g.O.Sink.faults c.args.out.now c.put.new.out c.gather_rest.new.out c.args.desk.now.gather c.put.new.self.gather c.gather_rest.new.desk.gather
     (answer_line a.at a.id (answer_told a.kind blocks)) (first_rest w a.kind) c.gather_rest.result
     (gathers_same (answer_line a.at a.id (answer_told a.kind blocks)) c.in_ok-put.ensures.gathers line) c.gather_rest.ensures.gathers
@@ -36,11 +35,10 @@ returns-clause-counts g c =
     let a = c.args.answer in
     let blocks = first_blocks w w.answers in
     let line : c.as_bytes.result.now ≡ answer_line a.at a.id (answer_told a.kind blocks) =
-    c.as_bytes.ensures.text ∙ c.answer_line-line.ensures (bytes_in blocks) ∙ ap (λ (told : Told). answer_line a.at a.id told) (c.outcome.ensures blocks) in
+    c.as_bytes.ensures.text ∙ c.answer_line-line.ensures (bytes_in blocks) in
     on_ok_weaker c.gather_rest.result
     (λ rest. answer_counted c.args.desk.now.tally c.count_answer.new.self c.put.new.self.tally c.gather_rest.new.desk.tally (first_told w a) (answer_line a.at a.id (answer_told a.kind blocks))
     (first_rest w a.kind)
-    (counts_same c.args.desk.now.tally c.count_answer.new.self _ (first_told w a ∷ []) [] [] (c.count_answer.ensures.counts a.at a.id (bytes_in blocks))
-    (ap (λ (told : Told). record { line = a.at; id = a.id; answer = told } ∷ []) (c.outcome-2.ensures blocks)) refl)
+    (c.count_answer.ensures.counts a.at a.id (bytes_in blocks))
     (counts_same c.count_answer.new.self c.put.new.self.tally [] [] c.as_bytes.result.now (answer_line a.at a.id (answer_told a.kind blocks)) c.in_ok-put.ensures.counts refl line) rest)
     c.gather_rest.ensures.counts

@@ -1,7 +1,7 @@
 use Rattle.std.proofs.Common.{[], arith, refl, sym, ap, ◌∙◌, ◌<◌, length, take}
 use Rattle.std.specs.Prelude.{Ok}
 use Rattle.std.proofs.lemmas.List.{take_all}
-use Rattle.driver_machine.specs.declared.AnswerKind.TheVariants.{ReadOk}
+use Rattle.subsystem_spec.specs.declared.answers.AnswerKind.TheVariants.{ReadOk}
 use Rattle.answer_lines.specs.AnswerText.{block_texts}
 use Rattle.mass_gather.proofs.GatherLaws.{gathers_nothing}
 use Rattle.answer_tally.proofs.CountLaws.{counts_none, counts_same}

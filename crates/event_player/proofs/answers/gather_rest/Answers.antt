@@ -1,5 +1,5 @@
 use Rattle.std.proofs.Common.{[], OnOk, subst, sym}
-use Rattle.driver_machine.specs.declared.AnswerKind.{AnswerKind}
+use Rattle.subsystem_spec.specs.declared.answers.AnswerKind.{AnswerKind}
 use Rattle.answer_tally.specs.Counting.{Counts}
 use Rattle.event_player.specs.Answering.{first_rest}
 use Rattle.event_player.proofs.answers.gather_rest.Goals as goal

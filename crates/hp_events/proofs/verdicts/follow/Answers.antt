@@ -1,6 +1,6 @@
 use Rattle.std.proofs.Common.{◌+◌, ap, ◌∙◌}
 use Rattle.hardware_table.specs.declared.Moved.{Moved}
-use Rattle.driver_machine.specs.declared.Cause.TheVariants.{Offline}
+use Rattle.subsystem_spec.specs.declared.answers.Cause.TheVariants.{Offline}
 use Rattle.driver_machine.specs.World.{unit_at}
 use Rattle.driver_machine.specs.Due.{judged}
 use Rattle.hp_events.specs.Hand.{hand_at}

@@ -1,6 +1,6 @@
 use Rattle.std.proofs.Common.{ℕ, sym, ap, ◌∙◌}
 use Rattle.std.specs.Prelude.{Option}
-use Rattle.driver_machine.specs.declared.Cause.TheVariants.{Unforwarded}
+use Rattle.subsystem_spec.specs.declared.answers.Cause.TheVariants.{Unforwarded}
 use Rattle.driver_machine.specs.World.{unit_at}
 use Rattle.driver_machine.specs.Due.{forward_by}
 use Rattle.hp_events.proofs.One.{told, silent, some_moved}
