@@ -24,33 +24,6 @@ use Rattle.trace_replay.specs.Moments.{Deed}
 use Rattle.trace_replay.specs.Conversation.{Hand, Segment, OwnBlocks, Replacement, start_of}
 use Rattle.trace_replay.proofs.Histories.{Open}
 
--- ---- partitions lie among the data blocks
-pub part_inside : (kind : DriveKind) (part : Part) → first_of kind part + size_of kind part ≤ limit_of kind
-part_inside Rp06 A = omega arith
-part_inside Rp06 B = omega arith
-part_inside Rp06 C = omega arith
-part_inside Rp06 D = omega arith
-part_inside Rp06 E = omega arith
-part_inside Rp06 F = omega arith
-part_inside Rp06 G = omega arith
-part_inside Rp06 H = omega arith
-part_inside Rm03 A = omega arith
-part_inside Rm03 B = omega arith
-part_inside Rm03 C = omega arith
-part_inside Rm03 D = omega arith
-part_inside Rm03 E = omega arith
-part_inside Rm03 F = omega arith
-part_inside Rm03 G = omega arith
-part_inside Rm03 H = omega arith
-part_inside Rm05 A = omega arith
-part_inside Rm05 B = omega arith
-part_inside Rm05 C = omega arith
-part_inside Rm05 D = omega arith
-part_inside Rm05 E = omega arith
-part_inside Rm05 F = omega arith
-part_inside Rm05 G = omega arith
-part_inside Rm05 H = omega arith
-
 -- ---- no two blocks of a unit share a home
 room_at : (drive : Option DriveKind) (pack : model.Pack) (table : Option Table) → IsTableAt drive pack table → length (places_of table) ≤ 126
 room_at None pack table is = rw is (omega arith)
