@@ -2,7 +2,7 @@
 use Rattle.std.proofs.Common.{◌≡◌, ℕ, ◌<◌, ◌≤◌, ◌+◌, true, false, List, length, Option, None, Some, refl, sym, ap, ◌∙◌, arith}
 use Rattle.std.proofs.lemmas.Option.{none-some}
 use Rattle.pack_geometry.specs.declared.DriveKind.{DriveKind}
-use Rattle.pack_geometry.specs.declared.DriveKind.TheVariants.{Rp06, Rm03, Rm05}
+use Rattle.pack_geometry.specs.declared.DriveKind.TheVariants.{Rp06}
 use Rattle.pack_geometry.specs.Geometry.{limit_of, place_at, replacement_at}
 use Rattle.pack_model.specs.Pack as model
 use Rattle.pack_model.specs.TableSpelling.{Table}
@@ -10,9 +10,6 @@ use Rattle.pack_model.specs.PackTable.{IsTableAt, AreTablesOf, places_of}
 use Rattle.pack_model.specs.Homes.{home_of, index_in}
 use Rattle.pack_model.proofs.HomeLaws.{homes_apart}
 use Rattle.pack_model.proofs.PackTableLaws.{table_room}
-use Rattle.partitions.specs.declared.Part.{Part}
-use Rattle.partitions.specs.declared.Part.TheVariants.{A, B, C, D, E, F, G, H}
-use Rattle.partitions.specs.Partitions.{first_of, size_of}
 use Rattle.block_machine.specs.Stands.{Setup, home_at, home_in}
 use Rattle.std.specs.Prelude.{unwrap_or}
 use Rattle.std.proofs.lemmas.Bool.{lt-ltb}
