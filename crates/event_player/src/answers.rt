@@ -9,7 +9,7 @@ ghost use Rattle.driver_answers.specs.Waiting.{waiting};
 ghost use Rattle.driver_machine.specs.declared.AnswerKind.TheVariants.{ReadOk};
 ghost use Rattle.driver_machine.specs.World.{bytes_in};
 ghost use Rattle.driver_machine.specs.Lines.{answer_told, error_told};
-ghost use Rattle.one_run.specs.Steps.{all_taken};
+ghost use Rattle.driver_answers.specs.Waiting.{all_taken};
 ghost use Rattle.event_player.specs.Answering.{first_blocks, first_told, first_text, first_rest, IsFirst, IsFirstKind, HasBlock};
 ghost use Rattle.event_player.specs.Steps.{waiting_text};
 
