@@ -2,7 +2,7 @@
 use Rattle.std.proofs.Common.{◌≡◌, ℕ, ◌<◌, ◌≤◌, ◌+◌, true, false, List, length, Option, None, Some, refl, sym, ap, ◌∙◌, arith}
 use Rattle.std.proofs.lemmas.Option.{none-some}
 use Rattle.pack_geometry.specs.declared.DriveKind.{DriveKind}
-use Rattle.pack_geometry.specs.declared.DriveKind.TheVariants.{Rp06, Rm03, Rm05}
+use Rattle.pack_geometry.specs.declared.DriveKind.TheVariants.{Rp06}
 use Rattle.pack_geometry.specs.Geometry.{limit_of, place_at, replacement_at}
 use Rattle.pack_model.specs.Pack as model
 use Rattle.pack_model.specs.TableSpelling.{Table}
@@ -10,9 +10,6 @@ use Rattle.pack_model.specs.PackTable.{IsTableAt, AreTablesOf, places_of}
 use Rattle.pack_model.specs.Homes.{home_of, index_in}
 use Rattle.pack_model.proofs.HomeLaws.{homes_apart}
 use Rattle.pack_model.proofs.PackTableLaws.{table_room}
-use Rattle.partitions.specs.declared.Part.{Part}
-use Rattle.partitions.specs.declared.Part.TheVariants.{A, B, C, D, E, F, G, H}
-use Rattle.partitions.specs.Partitions.{first_of, size_of}
 use Rattle.block_machine.specs.Stands.{Setup, home_at, home_in}
 use Rattle.std.specs.Prelude.{unwrap_or}
 use Rattle.std.proofs.lemmas.Bool.{lt-ltb}
@@ -23,33 +20,6 @@ use Rattle.trace_replay.specs.History.{WasMarked}
 use Rattle.trace_replay.specs.Moments.{Deed}
 use Rattle.trace_replay.specs.Conversation.{Hand, Segment, OwnBlocks, Replacement, start_of}
 use Rattle.trace_replay.proofs.Histories.{Open}
-
--- ---- partitions lie among the data blocks
-pub part_inside : (kind : DriveKind) (part : Part) → first_of kind part + size_of kind part ≤ limit_of kind
-part_inside Rp06 A = omega arith
-part_inside Rp06 B = omega arith
-part_inside Rp06 C = omega arith
-part_inside Rp06 D = omega arith
-part_inside Rp06 E = omega arith
-part_inside Rp06 F = omega arith
-part_inside Rp06 G = omega arith
-part_inside Rp06 H = omega arith
-part_inside Rm03 A = omega arith
-part_inside Rm03 B = omega arith
-part_inside Rm03 C = omega arith
-part_inside Rm03 D = omega arith
-part_inside Rm03 E = omega arith
-part_inside Rm03 F = omega arith
-part_inside Rm03 G = omega arith
-part_inside Rm03 H = omega arith
-part_inside Rm05 A = omega arith
-part_inside Rm05 B = omega arith
-part_inside Rm05 C = omega arith
-part_inside Rm05 D = omega arith
-part_inside Rm05 E = omega arith
-part_inside Rm05 F = omega arith
-part_inside Rm05 G = omega arith
-part_inside Rm05 H = omega arith
 
 -- ---- no two blocks of a unit share a home
 room_at : (drive : Option DriveKind) (pack : model.Pack) (table : Option Table) → IsTableAt drive pack table → length (places_of table) ≤ 126

@@ -24,7 +24,7 @@ use Rattle.trace_replay.proofs.Kept.{UnitFits, head_stays}
 use Rattle.block_machine.specs.Machine.{Blocks, blocks_done}
 use Rattle.block_machine.specs.Stands.{HandStands, LastStands, StageStands, UnitStands}
 use Rattle.block_machine.proofs.Blocks.{begun_blocks}
-use Rattle.block_machine.proofs.Homes.{part_inside}
+use Rattle.partitions.proofs.Ends.{part_ends}
 use Rattle.block_machine.proofs.Hands.{begins, fewer_sure}
 use Rattle.block_machine.proofs.Tried.{no}
 
@@ -46,7 +46,7 @@ by_tests first size block count false false frames is met = absurd (omega (arith
 pub joined_inside : (kind : DriveKind) (r : Request) (frames : Bool) → submission_by (admission kind r.part r.block r.count) frames ≡ Joined → first_block kind r + r.count ≤ limit_of kind
 joined_inside kind r frames met =
     together (first_of kind r.part) (size_of kind r.part) r.block r.count (limit_of kind)
-    (by_tests (first_of kind r.part) (size_of kind r.part) r.block r.count (r.block == size_of kind r.part) (nat_le (r.block + r.count) (size_of kind r.part)) frames refl met) (part_inside kind r.part)
+    (by_tests (first_of kind r.part) (size_of kind r.part) r.block r.count (r.block == size_of kind r.part) (nat_le (r.block + r.count) (size_of kind r.part)) frames refl met) (part_ends kind r.part)
   where
     together : (first size block count limit : ℕ) → block + count ≤ size → first + size ≤ limit → first + block + count ≤ limit
     together first size block count limit a b = omega arith

@@ -13,7 +13,7 @@ use Rattle.driver_outcome.specs.declared.Stop.TheVariants as stop
 use Rattle.driver_trace.specs.Noises.{AllFlip}
 use Rattle.hp_driver.specs.Subsystem.{Submits, Comes, State, seen, IsThere, is_move}
 use Rattle.blocking_io.specs.Given.{Given, gives_all}
-use Rattle.blocking_io.specs.Taking.{all_taken}
+use Rattle.driver_answers.specs.Waiting.{all_taken}
 use Rattle.blocking_io.specs.Calls.{GivesSubmission, GivesEvent, TellsFront, SubmissionStops, EventStops}
 
 pub submission_given : {O : Type 0} (tells : O → Bool) (taken : O → List ℕ) (trace trace' : O) (line : ℕ) (r : Request) (old : World) (mid new : State) (given given' : Given)

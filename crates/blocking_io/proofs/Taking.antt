@@ -9,31 +9,12 @@ use Rattle.driver_machine.specs.World.{World}
 use Rattle.driver_machine.specs.Acts.{Taken, after, after_all}
 use Rattle.driver_machine.specs.Lines.{answer_told}
 use Rattle.driver_machine.specs.Sound.{Sound}
-use Rattle.driver_answers.specs.Waiting.{told_by, waiting, TakingDrops}
+use Rattle.driver_answers.specs.Waiting.{told_by, waiting, takings, all_taken, TakingDrops}
+use Rattle.driver_answers.proofs.Taking.{some_first, nothing_taken}
 use Rattle.hp_driver.specs.Subsystem.{State, IsOldest}
 use Rattle.blocking_io.specs.declared.reached.Reached.{Reached}
 use Rattle.blocking_io.specs.Given.{Given, gives_all, reached_by, bytes_by}
-use Rattle.blocking_io.specs.Taking.{takings, all_taken, blocks_of, oldest_blocks, IsOldestKind}
-
-some_first : (xs : List Made) (made : Made) (rest : List Made) → xs ≡ made ∷ rest → 0 < length xs
-some_first xs made rest is = subst (λ (ys : List Made). 0 < length ys) (sym is) (omega arith)
-
--- WHAT EACH TAKING KEEPS is kept when all are taken, and none waits behind the last.
-pub taken_by : (P : World → Type 0) → ((x : World) → 0 < length x.answers → P x → P (after x Taken)) → (answers : List Made) (w : World)
-    → w.answers ≡ answers → P w → P (after_all w (takings answers))
-taken_by P step [] w is holds = holds
-taken_by P step (made ∷ rest) w is holds =
-    taken_by P step rest (after w Taken) (ap (λ (xs : List Made). drop 1 xs) is) (step w (some_first w.answers made rest is) holds)
-
-taken_none : (answers : List Made) (w : World) → w.answers ≡ answers → (after_all w (takings answers)).answers ≡ []
-taken_none [] w is = is
-taken_none (made ∷ rest) w is = taken_none rest (after w Taken) (ap (λ (xs : List Made). drop 1 xs) is)
-
-pub none_waits : (w : World) → (all_taken w).answers ≡ []
-none_waits w = taken_none w.answers w refl
-
-pub nothing_taken : (w : World) → w.answers ≡ [] → all_taken w ≡ w
-nothing_taken w none = ap (λ (xs : List Made). after_all w (takings xs)) none
+use Rattle.blocking_io.specs.Taking.{blocks_of, oldest_blocks, IsOldestKind}
 
 pub one_taken : (w : World) (made : Made) → IsOldest w made → all_taken w ≡ all_taken (after w Taken)
 one_taken w made oldest = ap (λ (xs : List Made). after_all w (takings xs)) oldest.first

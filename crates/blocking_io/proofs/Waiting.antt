@@ -34,9 +34,9 @@ use Rattle.quiet_driver.proofs.Setups.{setup_stays}
 use Rattle.quiet_driver.proofs.Counting.{Waits, Drains, Fewer, first_fewer, later_fewer, waits_taken, drains_taken}
 use Rattle.quiet_driver.proofs.Starting.{submitted_waits}
 use Rattle.blocking_io.specs.Given.{Given, gives, gives_all}
-use Rattle.blocking_io.specs.Taking.{takings, all_taken}
+use Rattle.driver_answers.specs.Waiting.{takings, all_taken}
 use Rattle.blocking_io.specs.Calls.{Stage, GivesSubmission, GivesEvent}
-use Rattle.blocking_io.proofs.Taking.{taken_by, none_waits}
+use Rattle.driver_answers.proofs.Taking.{taken_by, none_waits}
 
 -- ---- answers one list behind the other
 gives_append : (xs ys : List Answered) (g : Given) → gives_all (xs ++ ys) g ≡ gives_all ys (gives_all xs g)

@@ -3,17 +3,8 @@ use Rattle.std.specs.Prelude.{◌≡◌, ℕ, ◌≤◌, List, [], ◌∷◌, le
 use Rattle.subsystem_spec.specs.declared.answers.AnswerKind.{AnswerKind}
 use Rattle.driver_machine.specs.declared.Made.{Made}
 use Rattle.driver_machine.specs.World.{World}
-use Rattle.driver_machine.specs.Acts.{Act, Taken, after_all}
 use Rattle.driver_answers.specs.Waiting.{blocks_for}
 use Rattle.hp_driver.specs.Subsystem.{IsOldest, Reads}
-
--- each answer that waits is taken
-abbrev pub takings : List Made → List Act
-takings [] = []
-takings (made ∷ rest) = Taken ∷ takings rest
-
-abbrev pub all_taken : World → World
-all_taken w = after_all w (takings w.answers)
 
 -- the blocks that the request of the oldest one has
 abbrev pub blocks_of : World → List Made → List (List ℕ)

@@ -1,3 +1,4 @@
 pub mod Ids
 pub mod Parts
 pub mod Waiting
+pub mod Taking

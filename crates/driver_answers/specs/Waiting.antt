@@ -58,6 +58,17 @@ TakingDrops = (w : World) → Sound w → 0 < length w.answers → waiting (afte
 abbrev pub TakingLeaves : Type 0
 TakingLeaves = (w : World) → (after w Taken).answers ≡ drop 1 w.answers
 
+-- EACH ANSWER THAT WAITS is taken, the oldest first; then none waits.
+abbrev pub takings : List Made → List Act
+takings [] = []
+takings (made ∷ rest) = Taken ∷ takings rest
+
+abbrev pub all_taken : World → World
+all_taken w = after_all w (takings w.answers)
+
+abbrev pub NoneWaits : Type 0
+NoneWaits = (w : World) → (all_taken w).answers ≡ []
+
 -- No event and no submission takes an answer,
 abbrev pub EventsTakeNone : Type 0
 EventsTakeNone = (w : World) (line : ℕ) (input : Input) (tried : Tried) → AreNoTakings (event_acts line input tried w)

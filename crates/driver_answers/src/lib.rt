@@ -12,7 +12,7 @@
 #![tactic(auto)]
 
 ghost use Rattle.driver_answers.specs.Ids.{StartsOfNone, ActsAdd, RunsAdd, EventsAddNone, SubmissionsAdd, TakingAddsNone, NoOthers, OthersAreFresh};
-ghost use Rattle.driver_answers.specs.Waiting.{ActsAnswer, RunsAnswer, RunsAlone, TakingDrops, TakingLeaves, EventsTakeNone, SubmissionsTakeNone, EventsAnswer, EventsAlone, SubmissionsAlone};
+ghost use Rattle.driver_answers.specs.Waiting.{ActsAnswer, RunsAnswer, RunsAlone, TakingDrops, TakingLeaves, NoneWaits, EventsTakeNone, SubmissionsTakeNone, EventsAnswer, EventsAlone, SubmissionsAlone};
 
 /// An act that takes no answer adds those of its lines behind those that wait, with their ids and blocks; so do runs.
 pub fn act_law()
@@ -21,10 +21,11 @@ pub fn act_law()
     ensures alone { RunsAlone }
 {}
 
-/// The taking takes the first answer, and the others wait as they did.
+/// The taking takes the first answer, and the others wait as they did; where each one is taken, none waits.
 pub fn taken_law()
     ensures waiting { TakingDrops }
     ensures answers { TakingLeaves }
+    ensures all { NoneWaits }
 {}
 
 /// No event and no submission takes an answer; so behind an event those of its lines wait behind those that did, and behind a

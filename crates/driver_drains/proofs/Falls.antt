@@ -71,21 +71,36 @@ fall_from start ms w acts idle asked follows some tells =
 pub scripts_can_start : ScriptsCanStart
 scripts_can_start drives tables surface = record { idle = starts_idle drives tables surface; consistent = starts_consistent drives tables surface }
 
-pub falls_from : DrainsFallFrom
-falls_from start line input tried moments held w can asked far is may on =
+-- WHAT A LATER EVENT MEETS in the replay
+goes_at : (start : Replay) (line : ℕ) (input : Input) (moments : List Moment) (held : ℕ → Pack) (w : World) → CanStart start
+    → IsDraining start line moments held w → next_event w ≡ Some input → GoesOn line input held w (after_moments start moments)
+goes_at start line input moments held w can far is =
+    let s : Replay = after_moments start moments in
+    let consistent : IsConsistent s = moments_consistent start moments far.follows can.consistent in
+    drain_goes_on line input held w s far.ends far.work far.there is
+    (subst (λ (b : Bool). WorkMay b s) (drain_between line input held w s far.ends far.work is) consistent.event.at_work)
+
+-- it leaves fewer, where the sector that it tries is that of the surface,
+pub falls_on : (start : Replay) (line : ℕ) (input : Input) (tried : Tried) (moments : List Moment) (held : ℕ → Pack) (w : World) → CanStart start
+    → AreAsked start.there moments → IsDraining start line moments held w → next_event w ≡ Some input → work.MayCome w input tried
+    → IsTriedOn w (after_moments start moments) input tried
+    → Falls (after_moments start moments) (after_moments start (moments ++ lines_of_all w (event_acts line input tried w)))
+falls_on start line input tried moments held w can asked far is may on =
     let s : Replay = after_moments start moments in
     let acts : List Act = event_acts line input tried w in
     let works : Works w acts = event_works sound_after line input tried w far.ends.over.rests.sound far.work may in
-    let between : s.event.between ≡ true = drain_between line input held w s far.ends far.work is in
-    let consistent : IsConsistent s = moments_consistent start moments far.follows can.consistent in
-    let goes : GoesOn line input held w s =
-    drain_goes_on line input held w s far.ends far.work far.there is (subst (λ (b : Bool). WorkMay b s) between consistent.event.at_work) in
+    let goes : GoesOn line input held w s = goes_at start line input moments held w can far is in
     let next : work.CanCome w input = next_can w input goes.rests.sound is in
-    let tried_so : IsTriedOn w s input tried = tried_on input tried held w s goes.rests.shows goes.packs on in
-    let told : IsTold line true held w s acts = event_goes line true input tried held w s next goes.rests goes.packs tried_so works.run in
+    let told : IsTold line true held w s acts = event_goes line true input tried held w s next goes.rests goes.packs on works.run in
     fall_from start moments w acts can.idle asked (follows_append start moments (lines_of_all w acts) far.follows told.follows)
-    (something_told line true input tried held w s next goes.rests goes.packs tried_so works.run)
-    (λ m. λ comes. events_tell start moments m can.idle far.follows between comes)
+    (something_told line true input tried held w s next goes.rests goes.packs on works.run)
+    (λ m. λ comes. events_tell start moments m can.idle far.follows (drain_between line input held w s far.ends far.work is) comes)
+
+-- as one that is read from the packs is.
+pub falls_from : DrainsFallFrom
+falls_from start line input tried moments held w can asked far is may on =
+    let goes : GoesOn line input held w (after_moments start moments) = goes_at start line input moments held w can far is in
+    falls_on start line input tried moments held w can asked far is may (tried_on input tried held w (after_moments start moments) goes.rests.shows goes.packs on)
 
 -- so it is from the start of a script
 pub drains_fall : DrainsFall

@@ -24,9 +24,8 @@ use Rattle.driver_work.specs.Runs.{Run}
 use Rattle.driver_work.proofs.Next.{next_can}
 use Rattle.driver_invariant.proofs.Sound.{sound_after}
 use Rattle.driver_outcome.specs.Packs.{packs_after_all}
-use Rattle.driver_trace.specs.Calls.{Ends, IsTold, IsLeft, AreThere, IsReadOf}
+use Rattle.driver_trace.specs.Calls.{Ends, IsTold, IsLeft, AreThere, IsTriedOn}
 use Rattle.driver_trace.specs.Runs.{IsSoFar, IsDraining}
-use Rattle.driver_trace.proofs.ReadSectors.{tried_on}
 use Rattle.driver_trace.proofs.Drains.{GoesOn, drain_goes_on, drain_between, drain_begins, drain_idle, event_goes, call_left, drain_left, none_outstanding}
 
 -- THE UNITS that are set up stay so.
@@ -176,7 +175,7 @@ module _ (drives : ℕ → Option DriveKind) (tables : ℕ → Option Table) (su
   -- its first event,
   pub drain_starts : (line next : ℕ) (input : Input) (tried : Tried) (moments : List Moment) (held : ℕ → Pack) (w : World)
       → IsSoFar (new_replay drives tables surface) line moments held w → line < next → next_event w ≡ Some input
-      → IsReadOf w held input tried
+      → IsTriedOn w (after_moment (after_moments (new_replay drives tables surface) moments) (Played next script.Drain)) input tried
       → Run w (event_acts next input tried w) → AtWork (after_all w (event_acts next input tried w))
       → IsDraining (new_replay drives tables surface) next (moments ++ Played next script.Drain ∷ lines_of_all w (event_acts next input tried w))
       (packs_after_all w held (event_acts next input tried w)) (after_all w (event_acts next input tried w))
@@ -185,8 +184,7 @@ module _ (drives : ℕ → Option DriveKind) (tables : ℕ → Option Table) (su
       let acts : List Act = event_acts next input tried w in
       let goes : GoesOn next input held w (after_moment s (Played next script.Drain)) = drain_begins next input held w s far.left.stands far.there is in
       let told : IsTold next true held w (after_moment s (Played next script.Drain)) acts =
-      event_goes next true input tried held w (after_moment s (Played next script.Drain)) (next_can w input far.left.stands.sound is) goes.rests goes.packs
-      (tried_on input tried held w (after_moment s (Played next script.Drain)) goes.rests.shows goes.packs on) run in
+      event_goes next true input tried held w (after_moment s (Played next script.Drain)) (next_can w input far.left.stands.sound is) goes.rests goes.packs on run in
       let at : after_moments (new_replay drives tables surface) (moments ++ Played next script.Drain ∷ lines_of_all w acts)
       ≡ after_moments (after_moment s (Played next script.Drain)) (lines_of_all w acts) =
       moments_append (new_replay drives tables surface) moments (Played next script.Drain ∷ lines_of_all w acts) in
@@ -202,7 +200,7 @@ module _ (drives : ℕ → Option DriveKind) (tables : ℕ → Option Table) (su
   -- each of the others,
   pub drain_continues : (line : ℕ) (input : Input) (tried : Tried) (moments : List Moment) (held : ℕ → Pack) (w : World)
       → IsDraining (new_replay drives tables surface) line moments held w → next_event w ≡ Some input
-      → IsReadOf w held input tried
+      → IsTriedOn w (after_moments (new_replay drives tables surface) moments) input tried
       → Run w (event_acts line input tried w) → AtWork (after_all w (event_acts line input tried w))
       → IsDraining (new_replay drives tables surface) line (moments ++ lines_of_all w (event_acts line input tried w))
       (packs_after_all w held (event_acts line input tried w)) (after_all w (event_acts line input tried w))
@@ -213,8 +211,7 @@ module _ (drives : ℕ → Option DriveKind) (tables : ℕ → Option Table) (su
       is_conserved drives tables surface moments far.follows (inr (drain_between line input held w s far.ends far.work is)) in
       let goes : GoesOn line input held w s = drain_goes_on line input held w s far.ends far.work far.there is at_work in
       let told : IsTold line true held w s acts =
-      event_goes line true input tried held w s (next_can w input goes.rests.sound is) goes.rests goes.packs
-      (tried_on input tried held w s goes.rests.shows goes.packs on) run in
+      event_goes line true input tried held w s (next_can w input goes.rests.sound is) goes.rests goes.packs on run in
       let at : after_moments (new_replay drives tables surface) (moments ++ lines_of_all w acts) ≡ after_moments s (lines_of_all w acts) =
       moments_append (new_replay drives tables surface) moments (lines_of_all w acts) in
       record {

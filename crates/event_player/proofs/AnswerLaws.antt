@@ -29,7 +29,7 @@ use Rattle.answer_lines.specs.Blocks.{AreBlocks, blocks_in, joined}
 use Rattle.answer_lines.proofs.BlockLaws.{blocks_in-joined}
 use Rattle.answer_lines.proofs.TextLaws.{one_more}
 use Rattle.hp_driver.specs.Subsystem.{State, IsOldest}
-use Rattle.one_run.specs.Steps.{takings, all_taken}
+use Rattle.driver_answers.specs.Waiting.{takings, all_taken}
 use Rattle.event_player.specs.Answering.{first_blocks, first_told, first_text, first_rest, IsFirst, IsFirstKind, HasBlock}
 use Rattle.event_player.specs.Steps.{waiting_text}
 

@@ -17,7 +17,7 @@ use Rattle.answer_tally.specs.declared.tally.Tally.{Tally}
 use Rattle.answer_tally.specs.Counting.{Counts}
 use Rattle.answer_tally.proofs.CountLaws.{more_counted, counts_on}
 use Rattle.hp_driver.specs.Subsystem.{Submits, Comes, State, seen, is_move}
-use Rattle.one_run.specs.Steps.{all_taken}
+use Rattle.driver_answers.specs.Waiting.{all_taken}
 use Rattle.event_player.specs.declared.play.PlayFault.TheVariants as faults
 use Rattle.event_player.specs.Faults.{from_stop}
 use Rattle.event_player.specs.Steps.{Stage, PlaysEvent, waiting_text}

@@ -18,7 +18,7 @@ use Rattle.driver_trace.specs.Runs.{with_call}
 use Rattle.answer_lines.specs.AnswerText.{out_text}
 use Rattle.answer_tally.specs.Counting.{CountsAll}
 use Rattle.answer_tally.proofs.CountLaws.{counts_none, counts_more}
-use Rattle.one_run.specs.Steps.{all_taken}
+use Rattle.driver_answers.specs.Waiting.{all_taken}
 use Rattle.event_player.specs.Playing.{HasRun}
 use Rattle.event_player.specs.Steps.{Stage, PlaysEvent, HasDrained, EndsDraining, GoesOnDraining, PlaysDrain}
 use Rattle.event_player.proofs.Bounds.{blocks_few}

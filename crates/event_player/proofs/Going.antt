@@ -33,7 +33,7 @@ use Rattle.driver_drains.specs.Drains.{Falls}
 use Rattle.driver_drains.proofs.Asked.{lines_ask_nothing, calls_ask}
 use Rattle.driver_drains.proofs.Falls.{first_events_fall, drains_fall}
 use Rattle.hp_driver.specs.Subsystem.{IsThere}
-use Rattle.one_run.specs.Steps.{all_taken}
+use Rattle.driver_answers.specs.Waiting.{all_taken}
 use Rattle.event_player.specs.Playing.{HasRun}
 use Rattle.event_player.specs.Steps.{HasDrained}
 use Rattle.one_run.proofs.Taking.{runs_wait, so_far_taken, draining_taken, kept_taken}

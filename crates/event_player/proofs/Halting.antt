@@ -28,7 +28,8 @@ use Rattle.hp_events.specs.declared.drain.Event.TheVariants as event
 use Rattle.hardware_table.specs.declared.NoiseSpan.{NoiseSpan}
 use Rattle.hp_events.specs.Inputs.{input_of}
 use Rattle.hp_driver.specs.Subsystem.{State, IsThere}
-use Rattle.one_run.specs.Steps.{all_taken, tables_in, AreSetFor}
+use Rattle.driver_answers.specs.Waiting.{all_taken}
+use Rattle.one_run.specs.Steps.{tables_in, AreSetFor}
 use Rattle.event_player.specs.declared.play.PlayFault.{PlayFault}
 use Rattle.event_player.specs.declared.play.PlayFault.TheVariants as faults
 use Rattle.event_player.specs.Playing.{HasRun}

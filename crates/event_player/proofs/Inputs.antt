@@ -25,8 +25,8 @@ use Rattle.answer_tally.specs.declared.tally.Tally.{Tally}
 use Rattle.answer_tally.specs.Counting.{Counts, CountsAll}
 use Rattle.answer_tally.proofs.CountLaws.{counts_none, counts_both, counts_same}
 use Rattle.hp_driver.specs.Subsystem.{IsThere}
-use Rattle.one_run.specs.Steps.{all_taken}
-use Rattle.one_run.proofs.Taking.{none_waits}
+use Rattle.driver_answers.specs.Waiting.{all_taken}
+use Rattle.driver_answers.proofs.Taking.{none_waits}
 use Rattle.event_player.specs.Playing.{HasRun}
 use Rattle.event_player.specs.Steps.{Stage, PlaysActs, PlaysEvent, PlaysSubmission, PlaysInput, waiting_text}
 use Rattle.event_player.proofs.Texts.{said_lines}

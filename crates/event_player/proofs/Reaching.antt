@@ -15,8 +15,8 @@ use Rattle.driver_trace.proofs.Inputted.{calls_are_played, lines_play_nothing}
 use Rattle.driver_reach.specs.Reach.{AsksBelow, AskBelow, IsWithinReach, StayFrom}
 use Rattle.driver_reach.proofs.Blocks.{next_blocks_stay}
 use Rattle.driver_reach.proofs.Calls.{answers_keep_reach}
-use Rattle.one_run.specs.Steps.{all_taken}
-use Rattle.one_run.proofs.Taking.{taken_by}
+use Rattle.driver_answers.specs.Waiting.{all_taken}
+use Rattle.driver_answers.proofs.Taking.{taken_by}
 
 -- WHAT IS ASKED by first inputs, and by later ones
 pub ask_parts : (ends : ℕ → ℕ) (drives : ℕ → Option DriveKind) (first later : List Numbered) → AskBelow ends drives (first ++ later)

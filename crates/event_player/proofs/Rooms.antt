@@ -25,10 +25,11 @@ use Rattle.driver_answers.specs.Ids.{AreOf}
 use Rattle.driver_answers.proofs.Ids.{events_add_none, taking_adds_none, no_others}
 use Rattle.driver_answers.proofs.Ids as ids
 use Rattle.hp_driver.specs.Subsystem.{State}
-use Rattle.one_run.specs.Steps.{takings, all_taken, AreUnits}
+use Rattle.driver_answers.specs.Waiting.{takings, all_taken}
+use Rattle.one_run.specs.Steps.{AreUnits}
 use Rattle.event_player.specs.Playing.{counted, one_request, one_noise, one_fault}
 use Rattle.event_player.specs.Steps.{Stage, PlaysEvent, PlaysSubmission, Ready, Brings, MayAsk, MayPlay}
-use Rattle.one_run.proofs.Taking.{taken_by, none_waits}
+use Rattle.driver_answers.proofs.Taking.{taken_by, none_waits}
 use Rattle.one_run.proofs.Fitting.{within_more, units_stay, few_lines, Found, found, set_up, may_turn, may_strike, may_arm}
 use Rattle.one_run.proofs.Rooms.{nothing_armed}
 

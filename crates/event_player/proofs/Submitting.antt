@@ -10,7 +10,7 @@ use Rattle.driver_answers.specs.Waiting.{waiting}
 use Rattle.answer_tally.specs.declared.tally.Tally.{Tally}
 use Rattle.answer_tally.specs.Counting.{Counts}
 use Rattle.hp_driver.specs.Subsystem.{Submits, State, seen}
-use Rattle.one_run.specs.Steps.{all_taken}
+use Rattle.driver_answers.specs.Waiting.{all_taken}
 use Rattle.event_player.specs.Steps.{PlaysSubmission, waiting_text}
 
 pub submits_plays : {O : Type 0} (tells : O → Bool) (taken : O → List ℕ) (trace trace' : O) (line : ℕ) (r : Request) (old mid new : State) (out_tells out_tells' : Bool) (said said' : List ℕ)

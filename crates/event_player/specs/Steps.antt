@@ -37,7 +37,8 @@ use Rattle.answer_tally.specs.Counting.{Counts, CountsAll}
 use Rattle.hp_driver.specs.Subsystem.{State, IsThere}
 use Rattle.event_player.specs.declared.play.PlayFault.{PlayFault}
 use Rattle.event_player.specs.declared.play.PlayFault.TheVariants as faults
-use Rattle.one_run.specs.Steps.{AreUnits, all_taken}
+use Rattle.driver_answers.specs.Waiting.{all_taken}
+use Rattle.one_run.specs.Steps.{AreUnits}
 use Rattle.event_player.specs.Playing.{HasRun, counted, one_request, one_noise, one_fault}
 
 -- THE ANSWERS THAT WAIT: their text

@@ -5,8 +5,8 @@ ghost use Rattle.mass_gather.specs.Gathers.{Gathers};
 ghost use Rattle.answer_lines.specs.AnswerText.{block_text};
 ghost use Rattle.answer_tally.specs.Counting.{Counts};
 ghost use Rattle.driver_answers.specs.Waiting.{waiting};
+ghost use Rattle.driver_answers.specs.Waiting.{all_taken};
 ghost use Rattle.subsystem_spec.specs.declared.answers.AnswerKind.TheVariants.{ReadOk};
-ghost use Rattle.one_run.specs.Steps.{all_taken};
 ghost use Rattle.event_player.specs.Answering.{first_blocks, first_told, first_text, first_rest, IsFirst, IsFirstKind, HasBlock};
 ghost use Rattle.event_player.specs.Steps.{waiting_text};
 

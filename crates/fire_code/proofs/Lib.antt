@@ -22,3 +22,4 @@ pub mod Residues
 pub mod Clocks
 pub mod Repairs
 pub mod Periods
+pub mod Verdicts

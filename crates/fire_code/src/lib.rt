@@ -18,7 +18,7 @@
 ghost use Rattle.std.specs.Prelude.{◌≡◌, ◌≢◌, ◌<◌, ◌^◌, ◌*◌, ◌≤◌, ◌+◌, ◌-◌, ◌%◌, ◌==◌, ℕ, List, take, cond, ◌↔◌, IsTrue, All, SomeIff, bit_xor, slice_index};
 ghost use Rattle.fire_code.specs.Remainder.{remainder as the_remainder, power as the_power};
 ghost use Rattle.fire_code.specs.Burst.{IsShortBurst, IsBurst, IsUncorrectable, places_of};
-ghost use Rattle.fire_code.specs.Verdict.{Judges, Names};
+ghost use Rattle.fire_code.specs.Verdict.{Judges, Names, verdict_of};
 ghost use Rattle.fire_code.specs.Word.{IsData, bit_of_word, word_remainder};
 ghost use Rattle.fire_code.specs.Repair.{burst_byte};
 ghost use Rattle.fire_code.specs.Noise.{IsNoise, IsAlias, IsFlipped, Classes};
@@ -257,14 +257,16 @@ pub fn data_law(bytes: &[u8; 512])
 }
 
 /// The burst law: no short burst has the remainder zero, and two different ones have different remainders. Hence a
-/// remainder has one verdict and noise one class, and a short burst is named by the verdict on its remainder; an
-/// exclusive or of each byte of the data with that of the burst restores it; and places that are flipped twice are as
-/// they were. A burst begins in the word. Powers of x repeat after each 21 * 2047 = 42,987, and not before.
+/// remainder has just one verdict, which a search of all places and patterns finds, and noise one class; a short burst
+/// is named by the verdict on its remainder; an exclusive or of each byte of the data with that of the burst restores
+/// it; and places that are flipped twice are as they were. A burst begins in the word. Powers of x repeat after each
+/// 21 * 2047 = 42,987, and not before.
 pub fn burst_law()
     ensures not_zero { (places : List ℕ) → IsShortBurst places → the_remainder places ≢ 0 }
     ensures apart { (places others : List ℕ) → IsShortBurst places → IsShortBurst others
         → the_remainder places ≡ the_remainder others → places ≡ others }
     ensures verdict { (one other : Verdict) (r : ℕ) → Judges one r → Judges other r → one ≡ other }
+    ensures found { (r : ℕ) → Judges (verdict_of r) r }
     ensures class { (one other : NoiseClass) (places : List ℕ) → Classes one places → Classes other places
         → one ≡ other }
     ensures named { (v : Verdict) (places : List ℕ) → IsShortBurst places → Judges v (the_remainder places)

@@ -27,13 +27,15 @@ use Rattle.driver_trace.proofs.Runs.{drain_finds_nothing, drain_ends}
 use Rattle.driver_trace.proofs.Inputted.{calls_are_played, lines_play_nothing}
 use Rattle.driver_runs.proofs.Runs.{events_keep}
 use Rattle.driver_drains.proofs.Asked.{calls_ask, lines_ask_nothing}
+use Rattle.driver_trace.proofs.Calls.{drain_starts_on, drain_goes_further}
+use Rattle.driver_drains.proofs.Falls.{scripts_can_start, falls_on}
 use Rattle.driver_counts.specs.Counts.{noises_of, faults_of}
 use Rattle.driver_counts.proofs.Events.{events_add}
 use Rattle.driver_answers.proofs.Ids.{events_add_none}
-use Rattle.one_run.specs.Steps.{Behind, Drained, IsFarIn, HasRoom, DrainsEnd, all_taken}
+use Rattle.driver_answers.specs.Waiting.{all_taken}
+use Rattle.one_run.specs.Steps.{Behind, Drained, IsFarIn, HasRoom, DrainsEnd}
 use Rattle.one_run.proofs.Taking.{runs_wait, draining_taken, kept_taken}
 use Rattle.one_run.proofs.Tries.{Tries, tries}
-use Rattle.one_run.proofs.Goes.{drain_starts_on, drain_goes, drain_falls}
 use Rattle.one_run.proofs.Fitting.{within_more}
 use Rattle.one_run.proofs.Rooms.{room_behind, nothing_armed}
 
@@ -121,7 +123,7 @@ module _ (script : Script) (tables : ℕ → Option Table) (old : ℕ → Pack) 
           far = record {
             draining = draining_taken start line (b.moments ++ lines_of_all w acts) (packs_after_all w b.held acts) (after_all w acts)
                 (runs_wait w acts sound works.run (inl b.room.none_waits))
-                (drain_goes (drives_of script) tables (surface_of old) line input found.tried b.moments b.held w far is found.may found.on);
+                (drain_goes_further (drives_of script) tables (surface_of old) line input found.tried b.moments b.held w far is found.may found.on);
             kept = kept_taken (drives_of script) old (packs_after_all w b.held acts) (after_all w acts) works.sound
                 (events_keep (drives_of script) old b.held w line input found.tried sound far.work found.may b.far.kept);
             plays = lines_play_nothing b.moments w acts ∙ b.far.plays;
@@ -129,7 +131,9 @@ module _ (script : Script) (tables : ℕ → Option Table) (old : ℕ → Pack) 
           };
           room = room_in line input w found.tried sound can b.room works far.work found.may;
         };
-        fewer = drain_falls (drives_of script) tables (surface_of old) line input found.tried b.moments b.held w b.far.asked far is found.may found.on;
+        fewer =
+            (falls_on start line input found.tried b.moments b.held w (scripts_can_start (drives_of script) tables (surface_of old)) b.far.asked far is
+            found.may found.on).fewer;
       }
 
   -- Where none can come it is over.

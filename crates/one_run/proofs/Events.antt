@@ -18,15 +18,16 @@ use Rattle.driver_outcome.specs.Packs.{packs_after_all}
 use Rattle.driver_trace.specs.Calls.{Stands}
 use Rattle.driver_trace.specs.Runs.{IsOfUnits, with_call}
 use Rattle.driver_trace.proofs.Inputted.{calls_are_played}
+use Rattle.driver_trace.proofs.Calls.{event_goes_on}
 use Rattle.driver_runs.proofs.Runs.{events_keep}
 use Rattle.driver_drains.proofs.Asked.{calls_ask}
 use Rattle.driver_counts.specs.Counts.{noises_of, faults_of}
 use Rattle.driver_counts.proofs.Events.{events_add}
 use Rattle.driver_answers.proofs.Ids.{events_add_none}
-use Rattle.one_run.specs.Steps.{Behind, all_taken}
+use Rattle.driver_answers.specs.Waiting.{all_taken}
+use Rattle.one_run.specs.Steps.{Behind}
 use Rattle.one_run.proofs.Taking.{runs_wait, so_far_taken, kept_taken}
 use Rattle.one_run.proofs.Tries.{IsAllowed, Tries, tries}
-use Rattle.one_run.proofs.Goes.{event_goes_on}
 use Rattle.one_run.proofs.Fitting.{within_more}
 use Rattle.one_run.proofs.Rooms.{room_behind, few_noises, few_faults, asks_nothing}
 

@@ -1,6 +1,5 @@
 pub mod Verdicts
 pub mod Tries
-pub mod Goes
 pub mod Taking
 pub mod Fitting
 pub mod Rooms

@@ -13,8 +13,9 @@ use Rattle.driver_counts.proofs.Acts.{takings_add, capacity_stays}
 use Rattle.driver_answers.specs.Ids.{AreOf}
 use Rattle.driver_answers.proofs.Ids.{taking_adds_none}
 use Rattle.driver_trace.specs.Runs.{IsOfUnits}
-use Rattle.one_run.specs.Steps.{HasRoom, takings, all_taken}
-use Rattle.one_run.proofs.Taking.{taken_by, none_waits}
+use Rattle.driver_answers.specs.Waiting.{takings, all_taken}
+use Rattle.one_run.specs.Steps.{HasRoom}
+use Rattle.driver_answers.proofs.Taking.{taken_by, none_waits}
 use Rattle.one_run.proofs.Fitting.{units_stay, set_up, may_turn, may_strike, may_arm}
 use Rattle.one_run.proofs.Tries.{IsAllowed}
 

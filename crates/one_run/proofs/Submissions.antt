@@ -35,7 +35,8 @@ use Rattle.driver_counts.specs.Counts.{in_use}
 use Rattle.driver_counts.proofs.Events.{submissions_add}
 use Rattle.driver_answers.specs.Ids.{AreOf}
 use Rattle.driver_answers.proofs.Ids as ids
-use Rattle.one_run.specs.Steps.{Behind, HasPlace, all_taken}
+use Rattle.driver_answers.specs.Waiting.{all_taken}
+use Rattle.one_run.specs.Steps.{Behind, HasPlace}
 use Rattle.one_run.proofs.Taking.{runs_wait, so_far_taken, kept_taken}
 use Rattle.one_run.proofs.Fitting.{within_more, Found, found}
 use Rattle.one_run.proofs.Rooms.{room_behind}

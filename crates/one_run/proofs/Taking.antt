@@ -7,7 +7,6 @@ use Rattle.trace_replay.specs.Script as script
 use Rattle.trace_replay.specs.Script.{Input}
 use Rattle.trace_replay.specs.Replay.{Replay}
 use Rattle.disksort.specs.declared.Waiter.{Waiter}
-use Rattle.driver_machine.specs.declared.Made.{Made}
 use Rattle.driver_machine.specs.World.{World, unit_at}
 use Rattle.driver_machine.specs.Acts.{Act, Refuse, Submit, Of, Change, Nothing, Taken, changed, after, after_all}
 use Rattle.driver_machine.specs.Guards.{Allowed, InHand, IsSetUp}
@@ -25,27 +24,8 @@ use Rattle.driver_trace.proofs.Calls.{answers_go}
 use Rattle.driver_runs.specs.Runs.{IsKept}
 use Rattle.driver_runs.proofs.Runs.{answers_keep}
 use Rattle.driver_counts.proofs.Units.{setups_stay}
-use Rattle.one_run.specs.Steps.{takings, all_taken}
-
-some_first : (xs : List Made) (made : Made) (rest : List Made) → xs ≡ made ∷ rest → 0 < length xs
-some_first xs made rest is = subst (λ (ys : List Made). 0 < length ys) (sym is) (omega arith)
-
--- WHAT EACH TAKING KEEPS is kept when all are taken, and none waits behind the last.
-pub taken_by : (P : World → Type 0) → ((x : World) → 0 < length x.answers → P x → P (after x Taken)) → (answers : List Made) (w : World)
-    → w.answers ≡ answers → P w → P (after_all w (takings answers))
-taken_by P step [] w is holds = holds
-taken_by P step (made ∷ rest) w is holds =
-    taken_by P step rest (after w Taken) (ap (λ (xs : List Made). drop 1 xs) is) (step w (some_first w.answers made rest is) holds)
-
-taken_none : (answers : List Made) (w : World) → w.answers ≡ answers → (after_all w (takings answers)).answers ≡ []
-taken_none [] w is = is
-taken_none (made ∷ rest) w is = taken_none rest (after w Taken) (ap (λ (xs : List Made). drop 1 xs) is)
-
-pub none_waits : (w : World) → (all_taken w).answers ≡ []
-none_waits w = taken_none w.answers w refl
-
-pub nothing_taken : (w : World) → w.answers ≡ [] → all_taken w ≡ w
-nothing_taken w none = ap (λ (xs : List Made). after_all w (takings xs)) none
+use Rattle.driver_answers.specs.Waiting.{all_taken}
+use Rattle.driver_answers.proofs.Taking.{taken_by, nothing_taken}
 
 -- A UNIT IS THERE, where an answer waits.
 abbrev pub Waits : World → Type 0

@@ -9,9 +9,7 @@ use Rattle.trace_replay.specs.Moments.{Moment, played}
 use Rattle.trace_replay.specs.Script as says
 use Rattle.trace_replay.specs.Script.{Script, Input, Numbered, IsInput, drives_of, Statement, Plays, with_id}
 use Rattle.trace_replay.specs.Runs.{start_of}
-use Rattle.driver_machine.specs.declared.Made.{Made}
 use Rattle.driver_machine.specs.World.{World, Held, Setup, new_world, unit_at}
-use Rattle.driver_machine.specs.Acts.{Act, Taken, after_all}
 use Rattle.driver_machine.specs.Events.{next_event, refusal_of}
 use Rattle.driver_machine.specs.Guards.{IsSetUp, IsHeldFor, IsFresh}
 use Rattle.driver_machine.specs.Sound.{Sound}
@@ -23,14 +21,6 @@ use Rattle.driver_runs.specs.Runs.{IsKept}
 use Rattle.driver_drains.specs.Drains.{AreAsked}
 use Rattle.driver_counts.specs.Counts.{IsWithin, in_use}
 use Rattle.driver_answers.specs.Ids.{AreOf}
-
--- THE ANSWERS THAT WAIT: each is taken, the oldest first.
-abbrev pub takings : List Made → List Act
-takings [] = []
-takings (made ∷ rest) = Taken ∷ takings rest
-
-abbrev pub all_taken : World → World
-all_taken w = after_all w (takings w.answers)
 
 -- THE UNITS are set up as the script declares them.
 abbrev pub AreUnits : Script → World → Type 0

@@ -146,3 +146,8 @@ pub fn admit(kind: DriveKind, part: Part, block: u32, count: u32) -> Admission
         }
     }
 }
+
+/// Each partition ends at or below its drive's limit.
+pub fn partitions_law()
+    ensures data_blocks { (kind : DriveKind) (part : Part) → first_of kind part + size_of kind part ≤ limit_of kind }
+{}
