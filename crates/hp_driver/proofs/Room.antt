@@ -10,7 +10,7 @@ use Rattle.request_slots.specs.Requests.{frames_lent, HasFree}
 use Rattle.hp_core.specs.Joins.{MayJoin}
 use Rattle.driver_counts.specs.Counts.{in_use}
 use Rattle.driver_counts.proofs.Slots.{free_where_room, all_lent_are_needed}
-use Rattle.hp_driver.specs.declared.request.Request.{Request}
+use Rattle.subsystem_spec.specs.declared.request.Request.{Request}
 use Rattle.hp_driver.specs.Calls.{MayAsk, asked_at}
 
 -- each request needs a frame at least
