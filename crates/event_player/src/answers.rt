@@ -5,11 +5,10 @@ ghost use Rattle.mass_gather.specs.Gathers.{Gathers};
 ghost use Rattle.answer_lines.specs.AnswerText.{block_text};
 ghost use Rattle.answer_lines.specs.Outcomes.{answer_of};
 ghost use Rattle.answer_tally.specs.Counting.{Counts};
-ghost use Rattle.driver_answers.specs.Waiting.{waiting};
+ghost use Rattle.driver_answers.specs.Waiting.{waiting, all_taken};
 ghost use Rattle.driver_machine.specs.declared.AnswerKind.TheVariants.{ReadOk};
 ghost use Rattle.driver_machine.specs.World.{bytes_in};
 ghost use Rattle.driver_machine.specs.Lines.{answer_told, error_told};
-ghost use Rattle.driver_answers.specs.Waiting.{all_taken};
 ghost use Rattle.event_player.specs.Answering.{first_blocks, first_told, first_text, first_rest, IsFirst, IsFirstKind, HasBlock};
 ghost use Rattle.event_player.specs.Steps.{waiting_text};
 
