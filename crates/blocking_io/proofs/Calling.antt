@@ -5,7 +5,7 @@ use Rattle.subsystem_spec.specs.Requests.{Request}
 use Rattle.trace_replay.specs.Script.{Input}
 use Rattle.driver_machine.specs.World.{World}
 use Rattle.driver_machine.specs.Events.{submit_acts, event_acts}
-use Rattle.driver_answers.specs.Waiting.{waiting}
+use Rattle.driver_answers.specs.Waiting.{waiting, all_taken}
 use Rattle.driver_machine.specs.Acts.{Act}
 use Rattle.driver_outcome.specs.Outcome.{StopsAtTrace}
 use Rattle.driver_outcome.specs.declared.Stop.{Stop}
@@ -13,7 +13,6 @@ use Rattle.driver_outcome.specs.declared.Stop.TheVariants as stop
 use Rattle.driver_trace.specs.Noises.{AllFlip}
 use Rattle.hp_driver.specs.Subsystem.{Submits, Comes, State, seen, IsThere, is_move}
 use Rattle.blocking_io.specs.Given.{Given, gives_all}
-use Rattle.driver_answers.specs.Waiting.{all_taken}
 use Rattle.blocking_io.specs.Calls.{GivesSubmission, GivesEvent, TellsFront, SubmissionStops, EventStops}
 
 pub submission_given : {O : Type 0} (tells : O → Bool) (taken : O → List ℕ) (trace trace' : O) (line : ℕ) (r : Request) (old : World) (mid new : State) (given given' : Given)

@@ -15,13 +15,12 @@ use Rattle.driver_outcome.specs.Packs.{ReadAll, packs_after_all}
 use Rattle.driver_outcome.specs.Outcome.{IsFront, IsNextBlock}
 use Rattle.driver_outcome.specs.declared.Stop.{Stop}
 use Rattle.driver_outcome.specs.declared.Stop.TheVariants.{Store, Sink}
-use Rattle.driver_answers.specs.Waiting.{waiting}
+use Rattle.driver_answers.specs.Waiting.{waiting, all_taken}
 use Rattle.driver_trace.specs.Calls.{IsReadOf}
 use Rattle.driver_trace.specs.Noises.{AllFlip}
 use Rattle.hp_driver.specs.Subsystem.{IsThere, is_move}
 use Rattle.blocking_io.specs.declared.reached.Reached.{Reached}
 use Rattle.blocking_io.specs.Given.{Given, gives_all}
-use Rattle.driver_answers.specs.Waiting.{all_taken}
 
 -- WHAT IS WORKED ON: the driver's world, what the packs hold, the text that the trace took, whether these two tell, and what is given
 pub record Stage : Type 0 where

@@ -3,9 +3,8 @@ ghost use Rattle.std.specs.Prelude.{◌≡◌, ◌+◌, ◌*◌, ◌^◌, ◌==�
 ghost use Rattle.subsystem_spec.specs.declared.answers.AnswerKind.TheVariants.{ReadOk};
 ghost use Rattle.driver_machine.specs.World.{bytes_in};
 ghost use Rattle.driver_machine.specs.Lines.{answer_told};
-ghost use Rattle.driver_answers.specs.Waiting.{waiting};
+ghost use Rattle.driver_answers.specs.Waiting.{waiting, all_taken};
 ghost use Rattle.blocking_io.specs.Given.{laid, laid_at, bytes_by, gives_all, Given};
-ghost use Rattle.driver_answers.specs.Waiting.{all_taken};
 ghost use Rattle.blocking_io.specs.Taking.{oldest_blocks, IsOldestKind, HasBlock};
 
 use crate::reached::{Reached, reached_by};

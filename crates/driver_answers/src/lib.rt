@@ -6,7 +6,7 @@
 //!
 //! What is proved: `act_law`: an act that takes no answer leaves those that waited, and after them just the answers of its
 //! lines, with their ids and the bytes of their blocks; so do runs. `taken_law`: the taking takes the first one, and the others
-//! wait as they did. `calls_law`: no event and no submission takes an answer; so after a submission, and after an event before
+//! wait as they did; none waits where each is taken. `calls_law`: no event and no submission takes an answer; so after a submission, and after an event before
 //! which none waited, just the answers of its lines wait. `ids_law`: from the start on each request in a slot has an id that
 //! was submitted.
 #![tactic(auto)]

@@ -23,13 +23,12 @@ use Rattle.driver_machine.specs.Lines.{answer_told}
 use Rattle.driver_machine.specs.Refusals.{refuses}
 use Rattle.driver_machine.specs.Sound.{Sound, SlotOk, IsGiven, IsMade}
 use Rattle.driver_slots.proofs.Lists.{Contains-first}
-use Rattle.driver_answers.specs.Waiting.{blocks_for, told_by, waiting, TakingDrops}
+use Rattle.driver_answers.specs.Waiting.{blocks_for, told_by, waiting, TakingDrops, takings, all_taken}
 use Rattle.answer_lines.specs.AnswerText.{answer_text, block_text, block_texts, blocks_text}
 use Rattle.answer_lines.specs.Blocks.{AreBlocks, blocks_in, joined}
 use Rattle.answer_lines.proofs.BlockLaws.{blocks_in-joined}
 use Rattle.answer_lines.proofs.TextLaws.{one_more}
 use Rattle.hp_driver.specs.Subsystem.{State, IsOldest}
-use Rattle.driver_answers.specs.Waiting.{takings, all_taken}
 use Rattle.event_player.specs.Answering.{first_blocks, first_told, first_text, first_rest, IsFirst, IsFirstKind, HasBlock}
 use Rattle.event_player.specs.Steps.{waiting_text}
 

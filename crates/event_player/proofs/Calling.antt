@@ -12,12 +12,11 @@ use Rattle.driver_outcome.specs.Outcome.{StopsAtTrace}
 use Rattle.driver_outcome.specs.declared.Stop.{Stop}
 use Rattle.driver_outcome.specs.declared.Stop.TheVariants as stop
 use Rattle.driver_trace.specs.Noises.{AllFlip}
-use Rattle.driver_answers.specs.Waiting.{waiting}
+use Rattle.driver_answers.specs.Waiting.{waiting, all_taken}
 use Rattle.answer_tally.specs.declared.tally.Tally.{Tally}
 use Rattle.answer_tally.specs.Counting.{Counts}
 use Rattle.answer_tally.proofs.CountLaws.{more_counted, counts_on}
 use Rattle.hp_driver.specs.Subsystem.{Submits, Comes, State, seen, is_move}
-use Rattle.driver_answers.specs.Waiting.{all_taken}
 use Rattle.event_player.specs.declared.play.PlayFault.TheVariants as faults
 use Rattle.event_player.specs.Faults.{from_stop}
 use Rattle.event_player.specs.Steps.{Stage, PlaysEvent, waiting_text}

@@ -18,14 +18,13 @@ use Rattle.driver_machine.specs.Events.{submit_acts, event_acts}
 use Rattle.driver_outcome.specs.Packs.{packs_after_all}
 use Rattle.driver_trace.specs.Runs.{with_call}
 use Rattle.driver_trace.proofs.Inputted.{lines_play_nothing}
-use Rattle.driver_answers.specs.Waiting.{waiting}
+use Rattle.driver_answers.specs.Waiting.{waiting, all_taken}
 use Rattle.driver_answers.proofs.Waiting.{events_alone, submissions_alone}
 use Rattle.answer_lines.specs.AnswerText.{answer_text, said_text, out_text}
 use Rattle.answer_tally.specs.declared.tally.Tally.{Tally}
 use Rattle.answer_tally.specs.Counting.{Counts, CountsAll}
 use Rattle.answer_tally.proofs.CountLaws.{counts_none, counts_both, counts_same}
 use Rattle.hp_driver.specs.Subsystem.{IsThere}
-use Rattle.driver_answers.specs.Waiting.{all_taken}
 use Rattle.driver_answers.proofs.Taking.{none_waits}
 use Rattle.event_player.specs.Playing.{HasRun}
 use Rattle.event_player.specs.Steps.{Stage, PlaysActs, PlaysEvent, PlaysSubmission, PlaysInput, waiting_text}

@@ -6,11 +6,10 @@ use Rattle.driver_machine.specs.World.{World}
 use Rattle.driver_machine.specs.Events.{submit_acts}
 use Rattle.driver_machine.specs.Sound.{Sound, AtWork}
 use Rattle.driver_outcome.specs.Outcome.{Does}
-use Rattle.driver_answers.specs.Waiting.{waiting}
+use Rattle.driver_answers.specs.Waiting.{waiting, all_taken}
 use Rattle.answer_tally.specs.declared.tally.Tally.{Tally}
 use Rattle.answer_tally.specs.Counting.{Counts}
 use Rattle.hp_driver.specs.Subsystem.{Submits, State, seen}
-use Rattle.driver_answers.specs.Waiting.{all_taken}
 use Rattle.event_player.specs.Steps.{PlaysSubmission, waiting_text}
 
 pub submits_plays : {O : Type 0} (tells : O → Bool) (taken : O → List ℕ) (trace trace' : O) (line : ℕ) (r : Request) (old mid new : State) (out_tells out_tells' : Bool) (said said' : List ℕ)

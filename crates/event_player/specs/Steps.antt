@@ -30,14 +30,13 @@ use Rattle.driver_reach.specs.Reach.{AskBelow, TablesBelow, IsWithinReach}
 use Rattle.driver_drains.specs.Drains.{AreAsked}
 use Rattle.driver_counts.specs.Counts.{IsWithin, in_use}
 use Rattle.driver_answers.specs.Ids.{AreOf}
-use Rattle.driver_answers.specs.Waiting.{waiting}
+use Rattle.driver_answers.specs.Waiting.{waiting, all_taken}
 use Rattle.answer_lines.specs.AnswerText.{answer_text, out_text}
 use Rattle.answer_tally.specs.declared.tally.Tally.{Tally}
 use Rattle.answer_tally.specs.Counting.{Counts, CountsAll}
 use Rattle.hp_driver.specs.Subsystem.{State, IsThere}
 use Rattle.event_player.specs.declared.play.PlayFault.{PlayFault}
 use Rattle.event_player.specs.declared.play.PlayFault.TheVariants as faults
-use Rattle.driver_answers.specs.Waiting.{all_taken}
 use Rattle.one_run.specs.Steps.{AreUnits}
 use Rattle.event_player.specs.Playing.{HasRun, counted, one_request, one_noise, one_fault}
 

@@ -8,7 +8,8 @@
 //! What is proved: `encode` gives the one check that makes a word right; `syndrome` is the word's remainder, a sum over places;
 //! `judge` is exact for every data and check, and names just the burst that was applied to a right word; `class_of`, `apply`,
 //! `Noise::new` exact; `judge_noise` is the verdict on any right word with these places flipped. `burst_law`: no short burst
-//! has remainder zero, two different ones have different remainders, and powers of x repeat after 42,987 steps and not before.
+//! has remainder zero, two different ones have different remainders, each remainder has just one verdict, and powers of x repeat
+//! after 42,987 steps and not before.
 //! The three tables are proved equal to the definition by functions over them (`tables`, `logarithms`); the plain program has
 //! the same contracts.
 //!

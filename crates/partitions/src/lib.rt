@@ -2,6 +2,7 @@
 //! own: a pack that another system divided has its own.
 //!
 //! What is proved: `part_of`, `part_range` and `admit` are exact for each kind; a range inside has data blocks only.
+//! `partitions_law`: each partition ends at or below the limit.
 #![tactic(auto)]
 
 ghost use Rattle.std.specs.Prelude.{◌≡◌, ◌<◌, ◌≤◌, ◌+◌, ◌↔◌, ◌⊎◌, ℕ, IsSome};
