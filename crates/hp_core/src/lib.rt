@@ -13,7 +13,6 @@ mod driver;
 mod ends;
 mod moves;
 mod puts;
-mod puts_more;
 mod quiet;
 mod sectors;
 mod start;
