@@ -1,5 +1,5 @@
 -- THE REQUESTS THAT A PICTURE SHOWS: those that meet its events.
-use Rattle.std.specs.Prelude.{ℕ, ◌==◌, nat_le, nat_lt, max, Bool, not, ◌&&◌, ◌||◌, if◌then◌else◌, List, length, take, filter, fold, count_by, unwrap_or, Option, Some, None}
+use Rattle.std.specs.Prelude.{ℕ, ◌==◌, nat_le, nat_lt, max, Bool, not, ◌&&◌, ◌||◌, if◌then◌else◌, List, [], ◌∷◌, ◌++◌, length, fold, count_by, unwrap_or, Option, Some, None}
 use Rattle.drive_pictures.specs.declared.arms.Path.{Path}
 use Rattle.drive_pictures.specs.declared.cells.Cell.{Cell}
 use Rattle.drive_pictures.specs.declared.requests.Request.{Request}
@@ -16,18 +16,18 @@ is_shown sheet r =
 abbrev pub shown_count : Sheet → ℕ
 shown_count sheet = count_by (is_shown sheet) sheet.run.now.requests
 
--- LISTED are all, where they are few; else the first 64 with trouble
+-- LISTED are all, where they are few; else those with trouble: the first 64 of them
 abbrev pub is_few : ℕ → Bool
 is_few count = nat_le count 64
 
 unfoldable pub is_listed : Sheet → Bool → Request → Bool
 is_listed sheet few r = is_shown sheet r && (few || r.trouble)
 
-unfoldable pub first_listed : List Request → List Request
-first_listed requests = take 64 requests
+unfoldable pub listed_with : Sheet → Bool → List Request → Request → List Request
+listed_with sheet few listed r = if is_listed sheet few r && nat_lt (length listed) 64 then listed ++ r ∷ [] else listed
 
 abbrev pub listed : Sheet → Bool → List Request
-listed sheet few = first_listed (filter (is_listed sheet few) sheet.run.now.requests)
+listed sheet few = fold (listed_with sheet few) [] sheet.run.now.requests
 
 -- THE HIGHEST CYLINDER of a unit: of its arm before the columns and in them, and of its requests
 abbrev pub highest_in : Option Path → ℕ → ℕ

@@ -9,8 +9,8 @@ use Rattle.picture_sheet.specs.declared.summary.Sentence.{Sentence}
 
 -- words, and a number behind them
 pub record IsPhrase (word : List ℕ) (number : ℕ) (phrase : Phrase) : Type 0 where
-  pub word : phrase.word.now ≡ word
-  pub number : phrase.number ≡ number
+  pub words : phrase.word.now ≡ word
+  pub count : phrase.number ≡ number
 
 unfoldable pub was_ok : Request → Bool
 was_ok r = is_ok r.outcome

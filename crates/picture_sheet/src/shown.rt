@@ -1,7 +1,7 @@
 //! The requests that are shown.
 
 ghost use Rattle.std.specs.Prelude.{◌≡◌, ◌≤◌, fold, length, IfOk, OnOk};
-ghost use Rattle.picture_sheet.specs.Requests.{is_shown, shown_count, is_few, is_listed, first_listed, listed, highest_in, with_column, with_request, top_of};
+ghost use Rattle.picture_sheet.specs.Requests.{is_shown, shown_count, is_few, is_listed, listed_with, listed, highest_in, with_column, with_request, top_of};
 ghost use Rattle.picture_sheet.specs.Window.{arm_before};
 
 use crate::sheet::Sheet;
@@ -53,15 +53,29 @@ fn is_listed(sheet: &Sheet<'_>, few: bool, request: &Request) -> bool
     is_shown(sheet, request) && (few || request.trouble)
 }
 
+/// A request stands behind those that are listed, if it is wanted and there is room.
+#[tactic(auto, unfolding(crate::specs::Requests::listed_with))]
+fn list_request(
+    listed: &mut Vec<Request>,
+    sheet: &Sheet<'_>,
+    few: bool,
+    request: &Request,
+) -> Result<(), AllocError>
+    ensures { OnOk result (listed.new.items ≡ listed_with sheet.now few listed.old.items request.now) }
+{
+    if is_listed(sheet, few, request) && listed.len() < MOST {
+        listed.push(*request)?;
+    }
+    Ok(())
+}
+
 /// The requests that are listed.
 fn list(alloc: Global, sheet: &Sheet<'_>, few: bool) -> Result<Vec<Request>, AllocError>
     ensures { IfOk result (λ requests. requests.items ≡ listed sheet.now few) }
 {
     let mut listed = Vec::new(alloc);
     for request in sheet.run.requests().iter() {
-        if listed.len() < MOST && is_listed(sheet, few, request) {
-            listed.push(*request)?;
-        }
+        list_request(&mut listed, sheet, few, request)?;
     }
     Ok(listed)
 }
