@@ -1,5 +1,5 @@
 -- What the end of an event does to the most of an adapter.
-use Rattle.std.proofs.Common.{◌≡◌, ℕ, zero, suc, ◌+◌, ◌-◌, ◌*◌, ◌<◌, max, Bool, true, false, cond, List, [], ◌∷◌, ◌++◌, map, take, drop, fold, Option, Some, None, refl, sym, ap, ◌∙◌, arith}
+use Rattle.std.proofs.Common.{◌≡◌, ℕ, zero, suc, ◌+◌, ◌-◌, ◌*◌, ◌<◌, max, Bool, true, false, cond, List, [], ◌∷◌, map, take, drop, fold, Option, Some, None, refl, ap, ◌∙◌, arith}
 use Rattle.std.specs.Prelude.{not, ◌&&◌, slice_index}
 use Rattle.std.specs.List.{slice_range}
 use Rattle.std.proofs.lemmas.List.{take-map, drop-map}
@@ -11,11 +11,10 @@ use Rattle.drive_pictures.specs.Events.{line_of, is_idle}
 use Rattle.run_picture.specs.declared.columns.Column.{Column}
 use Rattle.run_picture.specs.declared.columns.Head.{Head}
 use Rattle.run_picture.specs.Columns.{headed, is_before, is_inside, is_full, together, most_together}
-use Rattle.run_picture.specs.Fold.{Known, heard, event_counted_in, event_ended, shown_by, column_closed, ended_behind, finished, step}
+use Rattle.run_picture.specs.Fold.{Known, heard, event_counted_in, event_ended, shown_by, column_closed, ended_behind, step}
 use Rattle.run_picture.specs.Positioning.{positions, positioning}
 use Rattle.run_counts.specs.Adapters.{at_once_on, is_event_shown, with_most, most_on, IsMostOn}
 use Rattle.run_counts.specs.Counted.{behind}
-use Rattle.run_counts.specs.Ends.{event_ends}
 use Rattle.run_counts.proofs.Turns.{heard_still, Gathers, gathered}
 
 -- one of the four adapters

@@ -1,14 +1,12 @@
 -- What a moment leaves as it was, and where an event ends.
-use Rattle.std.proofs.Common.{◌≡◌, ℕ, Bool, true, false, cond, List, [], ◌∷◌, ◌++◌, fold, Option, Some, None, Result, Ok, Err, refl, sym, ap, ◌∙◌, subst}
+use Rattle.std.proofs.Common.{◌≡◌, ℕ, Bool, true, false, cond, List, [], ◌∷◌, ◌++◌, fold, Option, Some, None, refl, sym, ap, ◌∙◌}
 use Rattle.std.proofs.lemmas.List.Sums.{fold-append}
 use Rattle.drive_pictures.specs.declared.moments.Moment.{Moment}
 use Rattle.drive_pictures.specs.declared.moments.Moment.TheVariants.{Played, Told, Idle}
 use Rattle.drive_pictures.specs.declared.moments.Play.TheVariants.{Ask, Other}
 use Rattle.drive_pictures.specs.declared.moments.Play.TheVariants as play
 use Rattle.drive_pictures.specs.Events.{begins}
-use Rattle.run_picture.specs.declared.acts.Glance.{Glance}
-use Rattle.run_picture.specs.declared.columns.Window.{Window}
-use Rattle.run_picture.specs.Fold.{Known, heard, asked_at, met_at, told_at, told, turned, turned_behind, event_ended, event_begun, step, finished}
+use Rattle.run_picture.specs.Fold.{Known, heard, asked_at, met_at, told_at, turned, turned_behind, event_ended, event_begun, step, finished}
 use Rattle.run_picture.specs.Places.{place_of}
 use Rattle.script_reader.specs.declared.statement.Request.{Request as Asked}
 use Rattle.trace_lines.specs.declared.telling.Told.{Told as Deed}
