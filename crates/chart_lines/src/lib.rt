@@ -1,9 +1,7 @@
 //! The lines of a chart for a terminal.
 //!
-//! What is proved: a `ChartLine` has at most 100 printing characters, whatever is put; `text_of`: the text of such lines is a
-//! chart, each line ended by LF.
-//!
-//! Only tested: what stands on a line.
+//! What is proved: a `ChartLine` has at most 100 printing characters, and each call puts just its text behind what stands there,
+//! as far as there is room; `text_of`: the text of lines is each of them, ended by LF.
 #![tactic(auto)]
 
 mod line;

@@ -1,7 +1,7 @@
 //! A line of a chart.
 
-ghost use Rattle.std.specs.Prelude.{◌≡◌, ◌<◌, ◌≤◌, ◌∷◌, [], ◌++◌, true, length, IfOk, OnOk};
-ghost use Rattle.chart_lines.specs.Charts.{is_plain, plain_of, are_plain, ended, IsChartLine, IsChart};
+ghost use Rattle.std.specs.Prelude.{◌≡◌, ◌-◌, ◌∷◌, [], ◌++◌, true, length, decimal, IfOk, OnOk};
+ghost use Rattle.chart_lines.specs.Charts.{is_plain, plain_of, ended, with_text, fitted, blanks, at_left, at_right, is_blank, text_of, IsChartLine, IsChart};
 
 use arrayvec::ArrayVec;
 use itoa::Buffer;
@@ -18,14 +18,14 @@ pub struct ChartLine {
 }
 
 impl Model for ChartLine {
-    ghost use Rattle.std.specs.Prelude.{◌≡◌, true, ℕ, List};
-    ghost use Rattle.chart_lines.specs.Charts.{are_plain};
+    ghost use Rattle.std.specs.Prelude.{ℕ, List};
+    ghost use Rattle.chart_lines.specs.Charts.{IsChartLine};
 
     ghost Value = { List ℕ };
 
     ghost view = { λ line. line.text.items };
 
-    ghost invariant = { λ line. are_plain line.text.items ≡ true };
+    ghost invariant = { λ line. IsChartLine line.text.items };
 }
 
 /// A byte as it is printed; one that is not printing is a question mark.
@@ -41,7 +41,7 @@ fn plain(byte: u8) -> u8
 
 /// A text where it fits into so many characters, else a plus.
 fn fitting(text: &[u8], width: usize) -> &[u8]
-    ensures { length text.now ≤ width → result.now ≡ text.now }
+    ensures { result.now ≡ fitted width text.now }
 {
     if text.len() <= width { text } else { b"+" }
 }
@@ -58,7 +58,7 @@ impl ChartLine {
 
     /// Puts a byte, where there is room.
     pub fn put_byte(&mut self, byte: u8)
-        ensures { length self.old < 100 → self.new ≡ self.old ++ plain_of byte ∷ [] }
+        ensures { self.new ≡ with_text self.old (byte ∷ []) }
     {
         if self.text.len() < WIDEST {
             self.text.push(plain(byte));
@@ -66,60 +66,87 @@ impl ChartLine {
     }
 
     /// Puts the front of some bytes for which there is room.
-    pub fn put(&mut self, bytes: &[u8]) {
+    pub fn put(&mut self, bytes: &[u8])
+        ensures { self.new ≡ with_text self.old bytes.now }
+    {
+        let _ = &self.text;
         for byte in bytes.iter() {
             self.put_byte(*byte);
         }
     }
 
     /// Puts a number.
-    pub fn put_number(&mut self, number: u64) {
+    pub fn put_number(&mut self, number: u64)
+        ensures { self.new ≡ with_text self.old (decimal number) }
+    {
         let mut buffer = Buffer::new();
         self.put(buffer.format(number).as_bytes());
     }
 
     /// Puts blanks.
-    fn put_blanks(&mut self, count: usize) {
+    fn put_blanks(&mut self, count: usize)
+        ensures { self.new ≡ with_text self.old (blanks count) }
+    {
+        let _ = &self.text;
         for _ in 0..count {
             self.put_byte(b' ');
         }
     }
 
     /// Puts blanks up to a place.
-    pub fn fill_to(&mut self, place: usize) {
+    pub fn fill_to(&mut self, place: usize)
+        ensures { self.new ≡ with_text self.old (blanks (place - length self.old)) }
+    {
         let count = place.saturating_sub(self.text.len());
         self.put_blanks(count);
     }
 
     /// Puts a text at the left of so many characters; a plus where it does not fit.
-    pub fn put_left(&mut self, text: &[u8], width: usize) {
+    pub fn put_left(&mut self, text: &[u8], width: usize)
+        ensures { self.new ≡ with_text self.old (at_left width text.now) }
+    {
         let text = fitting(text, width);
         self.put(text);
         self.put_blanks(width.saturating_sub(text.len()));
     }
 
     /// Puts a text at the right of so many characters; a plus where it does not fit.
-    pub fn put_right(&mut self, text: &[u8], width: usize) {
+    pub fn put_right(&mut self, text: &[u8], width: usize)
+        ensures { self.new ≡ with_text self.old (at_right width text.now) }
+    {
         let text = fitting(text, width);
         self.put_blanks(width.saturating_sub(text.len()));
         self.put(text);
     }
 
-    /// Puts a number at the right of so many characters, behind a blank.
-    pub fn put_count(&mut self, number: u64, width: usize) {
+    /// Puts a number at the right of so many characters.
+    fn put_number_right(&mut self, number: u64, width: usize)
+        ensures { self.new ≡ with_text self.old (at_right width (decimal number)) }
+    {
         let mut buffer = Buffer::new();
-        self.put_byte(b' ');
         self.put_right(buffer.format(number).as_bytes(), width);
     }
 
+    /// Puts a number at the right of so many characters, behind a blank.
+    pub fn put_count(&mut self, number: u64, width: usize)
+        ensures { self.new ≡ with_text self.old (32 ∷ at_right width (decimal number)) }
+    {
+        self.put_byte(b' ');
+        self.put_number_right(number, width);
+    }
+
     /// Puts a number at the left of so many characters.
-    pub fn put_event(&mut self, number: u64, width: usize) {
+    pub fn put_event(&mut self, number: u64, width: usize)
+        ensures { self.new ≡ with_text self.old (at_left width (decimal number)) }
+    {
         let mut buffer = Buffer::new();
         self.put_left(buffer.format(number).as_bytes(), width);
     }
 
     /// Nothing stands on it but blanks.
-    pub fn is_blank(&self) -> bool {
+    pub fn is_blank(&self) -> bool
+        ensures { result ≡ is_blank self.now }
+    {
         self.text.iter().all(|byte| *byte == b' ')
     }
 
@@ -145,7 +172,8 @@ fn put_ended(text: &mut Vec<u8>, line: &ChartLine) -> Result<(), AllocError>
 
 /// The text of lines, each ended.
 pub fn text_of(alloc: Global, lines: &[ChartLine]) -> Result<Vec<u8>, AllocError>
-    ensures { IfOk result (λ text. IsChart text.items) }
+    ensures text { IfOk result (λ text. text.items ≡ text_of lines.now) }
+    ensures chart { IfOk result (λ text. IsChart text.items) }
 {
     let mut text = Vec::new(alloc);
     for line in lines.iter() {

@@ -1,13 +1,11 @@
-//! What stands around the drives of a picture: the script's lines above the columns, the events below them, and each adapter: who
-//! holds it, and how many of its drives position.
+//! What stands around the drives of a picture: the script's lines above the columns, the events below them, and each adapter.
 //!
 //! What is proved: each call leaves the elements that are open as they were, and tells no line of the run in a tooltip.
 //!
 //! Only tested, as pictures byte for byte: what is drawn, and where.
 #![tactic(auto)]
 
-mod adapter;
 mod axes;
 
-pub use adapter::draw_adapter;
 pub use axes::{draw_events, draw_lines};
+pub use picture_adapters::draw_adapter;

@@ -4,11 +4,11 @@ ghost use Rattle.std.specs.Prelude.{◌≡◌, OnOk};
 ghost use Rattle.picture_markup.specs.Nesting.{told};
 ghost use Rattle.picture_sheet.specs.Notes.{lines_shown};
 
-use crate::arm::draw_arm;
-use crate::marks::draw_marks;
-use crate::ribbon::draw_ribbon;
 use drive_pictures::{Drive, Outcome, Request};
+use picture_arms::draw_arm;
+use picture_marks::draw_marks;
 use picture_markup::{Markup, Route};
+use picture_motion::draw_ribbon;
 use picture_scene::{
     LABEL, Lane, Scene, Stretch, add, at, begin_group, begin_span, cell_at, end_group, end_title,
     part_of, stretches, sub, width_of,

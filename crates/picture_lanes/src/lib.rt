@@ -1,5 +1,4 @@
-//! A drive of a run over the columns: the requests in hand or asked for, what it does, its marks, its totals, and the way of its
-//! arm.
+//! A drive of a run over the columns: the requests in hand or asked for, how it moved, its marks, and its totals.
 //!
 //! What is proved: `draw_unit` leaves the elements that are open as they were, and the lines of the run that it tells in
 //! tooltips are those that speak of the drive, each once.
@@ -7,10 +6,7 @@
 //! Only tested, as pictures byte for byte: what is drawn, and where.
 #![tactic(auto)]
 
-mod arm;
 mod lane;
-mod marks;
-mod ribbon;
 
 pub use lane::draw_unit;
-pub use ribbon::pattern_of;
+pub use picture_motion::pattern_of;

@@ -1,5 +1,8 @@
 //! The letters of a drive in a column.
 
+ghost use Rattle.std.specs.Prelude.{◌≡◌};
+ghost use Rattle.picture_sheet.specs.Letters.{holding, waiting, count_of};
+
 use drive_pictures::{Letter, Tally};
 
 /// The letters, in their order.
@@ -18,7 +21,9 @@ pub static LETTERS: [Letter; 11] = [
 ];
 
 /// The events of a column behind which a drive positions or has arrived, or is ready.
-fn before_moving(tally: &Tally) -> u64 {
+fn before_moving(tally: &Tally) -> u64
+    ensures { result ≡ waiting tally.now }
+{
     tally
         .seeks
         .saturating_add(tally.turns)
@@ -29,7 +34,9 @@ fn before_moving(tally: &Tally) -> u64 {
 }
 
 /// The events of a column behind which a drive holds its adapter.
-pub fn holding(tally: &Tally) -> u64 {
+pub fn holding(tally: &Tally) -> u64
+    ensures { result ≡ holding tally.now }
+{
     tally
         .moves
         .saturating_add(tally.retries)
@@ -38,7 +45,9 @@ pub fn holding(tally: &Tally) -> u64 {
 }
 
 /// Behind how many of a column's events, which are so many, a letter stands.
-pub fn count_of(tally: &Tally, events: u64, letter: Letter) -> u64 {
+pub fn count_of(tally: &Tally, events: u64, letter: Letter) -> u64
+    ensures { result ≡ count_of tally.now events letter }
+{
     match letter {
         Letter::Idle => events
             .saturating_sub(before_moving(tally))

@@ -1,10 +1,12 @@
 //! What the pictures of a run show: the events of a window in columns, the drives and the requests that are in them, and the words
 //! for what is seen of both.
 //!
-//! What is proved: `Sheet::units`: the drives that are shown are those that have requests, by their number; where a column is one
-//! event. No call fails but for want of memory.
+//! What is proved: `Sheet`: its title, its columns, at which event each begins and which one an event is in, and the drives that are
+//! shown: those that have requests, by their number; `Shown`: which requests are listed; `top_of`: the highest cylinder of a unit;
+//! behind how many of a column's events a letter stands; `sentences`: which words and numbers they say; and each word and sign.
+//! No call fails but for want of memory.
 //!
-//! Only tested, as pictures byte for byte: which requests are listed, the letters of a column, words and sentences.
+//! Only tested, as pictures byte for byte: the letter that leads a column.
 #![tactic(auto)]
 
 mod cells;

@@ -1,6 +1,7 @@
 //! A run as a picture shows it.
 
 ghost use Rattle.std.specs.Prelude.{◌≡◌, ◌==◌, ◌++◌, IfOk, OnOk};
+ghost use Rattle.picture_sheet.specs.Window.{no_caption, title_of, head_of, column_of, arm_before};
 ghost use Rattle.picture_sheet.specs.Units.{has_request, is_drawn, unit_drawn, units_shown};
 
 use drive_pictures::Request;
@@ -59,7 +60,10 @@ fn push_drawn(sheet: &Sheet<'_>, units: &mut Vec<u8>, unit: u8) -> Result<(), Al
 
 impl<'a> Sheet<'a> {
     /// What stands above the picture.
-    pub fn title(&self) -> &'a [u8] {
+    #[tactic(auto, unfolding(crate::specs::Window::no_caption))]
+    pub fn title(&self) -> &'a [u8]
+        ensures { result.now ≡ title_of self.now }
+    {
         if self.caption.is_empty() {
             b"A run of hpsim"
         } else {
@@ -68,12 +72,16 @@ impl<'a> Sheet<'a> {
     }
 
     /// The columns.
-    pub fn columns(&self) -> &'a [Column] {
+    pub fn columns(&self) -> &'a [Column]
+        ensures { result.now ≡ self.now.run.now.columns }
+    {
         self.run.columns()
     }
 
     /// The first event of a column; for one behind the last, the end.
-    pub fn head(&self, column: usize) -> u64 {
+    pub fn head(&self, column: usize) -> u64
+        ensures { result ≡ head_of self.now column }
+    {
         let events = self.window.per.saturating_mul(column as u64);
         self.window
             .first
@@ -82,7 +90,9 @@ impl<'a> Sheet<'a> {
     }
 
     /// The column of an event; the first and the last edge for those before and behind.
-    pub fn column_of(&self, event: u64) -> usize {
+    pub fn column_of(&self, event: u64) -> usize
+        ensures { result ≡ column_of self.now event }
+    {
         let columns = self.columns().len() as u64;
         let column = event.saturating_sub(self.window.first) / self.window.per.max(1);
         column.min(columns) as usize
@@ -107,7 +117,9 @@ impl<'a> Sheet<'a> {
     }
 
     /// Where the arm of a drive is before the first column.
-    pub fn arm_before(&self, unit: u8) -> u32 {
+    pub fn arm_before(&self, unit: u8) -> u32
+        ensures { result ≡ arm_before self.now unit }
+    {
         match self.run.start().get(usize::from(unit)) {
             Some(drive) => drive.arm.cylinder,
             None => 0,

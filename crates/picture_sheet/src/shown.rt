@@ -1,7 +1,12 @@
 //! The requests that are shown.
 
+ghost use Rattle.std.specs.Prelude.{◌≡◌, ◌≤◌, fold, length, IfOk, OnOk};
+ghost use Rattle.picture_sheet.specs.Requests.{is_shown, shown_count, is_few, is_listed, listed_with, listed, highest_in, with_column, with_request, top_of};
+ghost use Rattle.picture_sheet.specs.Window.{arm_before};
+
 use crate::sheet::Sheet;
 use drive_pictures::{Cell, Request};
+use run_picture::Column;
 use std::alloc::{AllocError, Global};
 
 /// The most requests that are listed.
@@ -16,7 +21,10 @@ pub struct Shown {
 }
 
 /// A request meets the events that are shown.
-pub fn is_shown(sheet: &Sheet<'_>, request: &Request) -> bool {
+#[tactic(auto, unfolding(crate::specs::Requests::is_shown))]
+pub fn is_shown(sheet: &Sheet<'_>, request: &Request) -> bool
+    ensures { result ≡ is_shown sheet.now request.now }
+{
     let ended = match request.ended {
         Some(event) => event,
         None => sheet.run.events(),
@@ -25,51 +33,118 @@ pub fn is_shown(sheet: &Sheet<'_>, request: &Request) -> bool {
 }
 
 /// How many requests are shown.
-fn count_shown(sheet: &Sheet<'_>) -> usize {
+fn count_shown(sheet: &Sheet<'_>) -> usize
+    ensures { result ≡ shown_count sheet.now }
+{
     let mut count: usize = 0;
     for request in sheet.run.requests().iter() {
         if is_shown(sheet, request) {
-            count = count.saturating_add(1);
+            count += 1;
         }
     }
     count
 }
 
+/// A request is listed, if there is room.
+#[tactic(auto, unfolding(crate::specs::Requests::is_listed))]
+fn is_listed(sheet: &Sheet<'_>, few: bool, request: &Request) -> bool
+    ensures { result ≡ is_listed sheet.now few request.now }
+{
+    is_shown(sheet, request) && (few || request.trouble)
+}
+
+/// A request stands behind those that are listed, if it is wanted and there is room.
+#[tactic(auto, unfolding(crate::specs::Requests::listed_with))]
+fn list_request(
+    listed: &mut Vec<Request>,
+    sheet: &Sheet<'_>,
+    few: bool,
+    request: &Request,
+) -> Result<(), AllocError>
+    ensures { OnOk result (listed.new.items ≡ listed_with sheet.now few listed.old.items request.now) }
+{
+    if is_listed(sheet, few, request) && listed.len() < MOST {
+        listed.push(*request)?;
+    }
+    Ok(())
+}
+
+/// The requests that are listed.
+fn list(alloc: Global, sheet: &Sheet<'_>, few: bool) -> Result<Vec<Request>, AllocError>
+    ensures { IfOk result (λ requests. requests.items ≡ listed sheet.now few) }
+{
+    let mut listed = Vec::new(alloc);
+    for request in sheet.run.requests().iter() {
+        list_request(&mut listed, sheet, few, request)?;
+    }
+    Ok(listed)
+}
+
 impl Shown {
     /// The requests that a sheet shows. Where they are more than 64, the first 64 with trouble are listed.
-    pub fn new(alloc: Global, sheet: &Sheet<'_>) -> Result<Shown, AllocError> {
+    pub fn new(alloc: Global, sheet: &Sheet<'_>) -> Result<Shown, AllocError>
+        ensures count { IfOk result (λ shown. shown.count ≡ shown_count sheet.now) }
+        ensures few { IfOk result (λ shown. shown.few ≡ is_few (shown_count sheet.now)) }
+        ensures listed { IfOk result (λ shown. shown.listed.items ≡ listed sheet.now (is_few (shown_count sheet.now))) }
+    {
         let count = count_shown(sheet);
         let few = count <= MOST;
-        let mut listed = Vec::new(alloc);
-        for request in sheet.run.requests().iter() {
-            if listed.len() < MOST && is_shown(sheet, request) && (few || request.trouble) {
-                listed.push(*request)?;
-            }
-        }
+        let listed = list(alloc, sheet, few)?;
         Ok(Shown { count, few, listed })
     }
 }
 
 /// The highest cylinder where an arm was in a column.
-fn highest_in(cell: &Cell) -> u32 {
+fn highest_in(cell: &Cell) -> u32
+    ensures { result ≡ highest_in cell.now.path cell.now.cylinder }
+{
     match cell.path {
         Some(path) => path.highest.max(cell.cylinder),
         None => cell.cylinder,
     }
 }
 
-/// The highest cylinder of a unit: of its arm, and of its requests.
-pub fn top_of(sheet: &Sheet<'_>, unit: u8) -> u32 {
+/// The higher of a cylinder and where a unit's arm was in a column.
+#[tactic(auto, unfolding(crate::specs::Requests::with_column))]
+fn with_column(unit: u8, top: u32, column: &Column) -> u32
+    ensures { result ≡ with_column unit top column.now }
+{
+    match column.drives.get(usize::from(unit)) {
+        Some(drive) => top.max(highest_in(&drive.cell)),
+        None => top,
+    }
+}
+
+/// The higher of a cylinder and a request's, where it is of a unit and is shown.
+#[tactic(auto, unfolding(crate::specs::Requests::with_request))]
+fn with_request(sheet: &Sheet<'_>, unit: u8, top: u32, request: &Request) -> u32
+    ensures { result ≡ with_request sheet.now unit top request.now }
+{
+    if request.unit == unit && is_shown(sheet, request) {
+        top.max(request.cylinder.unwrap_or(0))
+    } else {
+        top
+    }
+}
+
+/// The highest cylinder of a unit's arm.
+fn top_of_arm(sheet: &Sheet<'_>, unit: u8) -> u32
+    ensures { result ≡ fold (with_column unit) (arm_before sheet.now unit) sheet.now.run.now.columns }
+{
     let mut top = sheet.arm_before(unit);
     for column in sheet.columns().iter() {
-        if let Some(drive) = column.drives.get(usize::from(unit)) {
-            top = top.max(highest_in(&drive.cell));
-        }
+        top = with_column(unit, top, column);
     }
+    top
+}
+
+/// The highest cylinder of a unit: of its arm, and of its requests.
+pub fn top_of(sheet: &Sheet<'_>, unit: u8) -> u32
+    ensures { result ≡ top_of sheet.now unit }
+{
+    let mut top = top_of_arm(sheet, unit);
     for request in sheet.run.requests().iter() {
-        if request.unit == unit && is_shown(sheet, request) {
-            top = top.max(request.cylinder.unwrap_or(0));
-        }
+        top = with_request(sheet, unit, top, request);
     }
     top
 }

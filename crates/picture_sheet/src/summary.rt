@@ -1,5 +1,8 @@
 //! The answers at a glance, of a whole run, in sentences.
 
+ghost use Rattle.std.specs.Prelude.{◌≡◌, count_by};
+ghost use Rattle.picture_sheet.specs.Sentences.{was_ok, was_turned, SaysRequests, SaysEvents, SaysPositioning, SaysMoving, SumUp};
+
 use crate::sheet::Sheet;
 use drive_pictures::{Outcome, Request};
 
@@ -19,30 +22,52 @@ pub struct Sentence {
     pub end: &'static str,
 }
 
+/// A request was answered ok.
+#[tactic(auto, unfolding(crate::specs::Sentences::was_ok))]
+fn was_ok(request: &Request) -> bool
+    ensures { result ≡ was_ok request.now }
+{
+    matches!(request.outcome, Outcome::Ok)
+}
+
 /// How many requests were answered ok.
-fn count_ok(requests: &[Request]) -> u64 {
-    let mut count: u64 = 0;
+fn count_ok(requests: &[Request]) -> usize
+    ensures { result ≡ count_by was_ok requests.now }
+{
+    let mut count: usize = 0;
     for request in requests.iter() {
-        if request.outcome == Outcome::Ok {
-            count = count.saturating_add(1);
+        if was_ok(request) {
+            count += 1;
         }
     }
     count
 }
 
+/// A request was served out of the order asked.
+#[tactic(auto, unfolding(crate::specs::Sentences::was_turned))]
+fn was_turned(request: &Request) -> bool
+    ensures { result ≡ was_turned request.now }
+{
+    request.is_out_of_order()
+}
+
 /// How many were served out of the order asked.
-fn count_turned(requests: &[Request]) -> u64 {
-    let mut count: u64 = 0;
+fn count_turned(requests: &[Request]) -> usize
+    ensures { result ≡ count_by was_turned requests.now }
+{
+    let mut count: usize = 0;
     for request in requests.iter() {
-        if request.is_out_of_order() {
-            count = count.saturating_add(1);
+        if was_turned(request) {
+            count += 1;
         }
     }
     count
 }
 
 /// What became of the requests.
-fn of_requests(sheet: &Sheet<'_>) -> Sentence {
+fn of_requests(sheet: &Sheet<'_>) -> Sentence
+    ensures { SaysRequests sheet.now result }
+{
     let requests = sheet.run.requests();
     Sentence {
         first: Phrase {
@@ -51,18 +76,20 @@ fn of_requests(sheet: &Sheet<'_>) -> Sentence {
         },
         second: Phrase {
             word: "; ok: ",
-            number: count_ok(requests),
+            number: count_ok(requests) as u64,
         },
         third: Some(Phrase {
             word: "; served out of the order asked: ",
-            number: count_turned(requests),
+            number: count_turned(requests) as u64,
         }),
         end: ".",
     }
 }
 
 /// How many events there were.
-fn of_events(sheet: &Sheet<'_>) -> Sentence {
+fn of_events(sheet: &Sheet<'_>) -> Sentence
+    ensures { SaysEvents sheet.now result }
+{
     Sentence {
         first: Phrase {
             word: "Events: ",
@@ -78,7 +105,9 @@ fn of_events(sheet: &Sheet<'_>) -> Sentence {
 }
 
 /// How many drives positioned at once.
-fn of_positioning(sheet: &Sheet<'_>) -> Sentence {
+fn of_positioning(sheet: &Sheet<'_>) -> Sentence
+    ensures { SaysPositioning sheet.now result }
+{
     let glance = sheet.run.glance();
     Sentence {
         first: Phrase {
@@ -95,7 +124,9 @@ fn of_positioning(sheet: &Sheet<'_>) -> Sentence {
 }
 
 /// How often sectors moved, and another drive positioned meanwhile.
-fn of_moving(sheet: &Sheet<'_>) -> Sentence {
+fn of_moving(sheet: &Sheet<'_>) -> Sentence
+    ensures { SaysMoving sheet.now result }
+{
     let glance = sheet.run.glance();
     Sentence {
         first: Phrase {
@@ -112,7 +143,9 @@ fn of_moving(sheet: &Sheet<'_>) -> Sentence {
 }
 
 /// The four sentences.
-pub fn sentences(sheet: &Sheet<'_>) -> [Sentence; 4] {
+pub fn sentences(sheet: &Sheet<'_>) -> [Sentence; 4]
+    ensures { SumUp sheet.now result }
+{
     [
         of_requests(sheet),
         of_events(sheet),

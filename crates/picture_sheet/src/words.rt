@@ -1,10 +1,15 @@
 //! The words and signs of a picture.
 
+ghost use Rattle.std.specs.Prelude.{◌≡◌};
+ghost use Rattle.picture_sheet.specs.Words.{kind_word, outcome_word, letter_sign, mark_sign};
+
 use drive_pictures::{Letter, Mark, Outcome};
 use pack_geometry::DriveKind;
 
 /// The word of a drive's kind; none where no script declares it.
-pub fn kind_word(kind: Option<DriveKind>) -> &'static str {
+pub fn kind_word(kind: Option<DriveKind>) -> &'static str
+    ensures { result.now ≡ kind_word kind }
+{
     match kind {
         Some(DriveKind::Rp06) => "rp06",
         Some(DriveKind::Rm03) => "rm03",
@@ -14,7 +19,9 @@ pub fn kind_word(kind: Option<DriveKind>) -> &'static str {
 }
 
 /// The word of an answer.
-pub fn outcome_word(outcome: Outcome) -> &'static str {
+pub fn outcome_word(outcome: Outcome) -> &'static str
+    ensures { result.now ≡ outcome_word outcome }
+{
     match outcome {
         Outcome::Open => "open",
         Outcome::Ok => "ok",
@@ -31,7 +38,9 @@ pub fn outcome_word(outcome: Outcome) -> &'static str {
 }
 
 /// The sign of a letter.
-pub fn letter_sign(letter: Letter) -> &'static str {
+pub fn letter_sign(letter: Letter) -> &'static str
+    ensures { result.now ≡ letter_sign letter }
+{
     match letter {
         Letter::Idle => ".",
         Letter::Seeks => "S",
@@ -48,7 +57,9 @@ pub fn letter_sign(letter: Letter) -> &'static str {
 }
 
 /// The sign of a mark.
-pub fn mark_sign(mark: Mark) -> &'static str {
+pub fn mark_sign(mark: Mark) -> &'static str
+    ensures { result.now ≡ mark_sign mark }
+{
     match mark {
         Mark::Blank => " ",
         Mark::AttentionUp => "'",

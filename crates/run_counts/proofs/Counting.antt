@@ -1,9 +1,8 @@
 -- What the end of an event does to each count.
-use Rattle.std.proofs.Common.{◌≡◌, ℕ, zero, suc, ◌+◌, ◌<◌, ◌==◌, max, min, Bool, true, false, cond, List, [], ◌∷◌, ◌++◌, map, fold, set, get_or, Option, Some, None, Result, Ok, Err, refl, sym, ap, ◌∙◌, subst, arith}
+use Rattle.std.proofs.Common.{◌≡◌, ℕ, zero, suc, ◌==◌, max, Bool, true, false, cond, List, [], ◌∷◌, map, fold, set, Option, Some, None, Result, Ok, Err, refl, sym, ap, ◌∙◌, arith}
 use Rattle.std.specs.Prelude.{nat_lt, ◌&&◌, ◌||◌}
 use Rattle.std.proofs.lemmas.Bool.Decides.{nat_tests}
 use Rattle.drive_pictures.specs.declared.drives.Drive.{Drive}
-use Rattle.drive_pictures.specs.declared.drives.Times.{Times}
 use Rattle.drive_pictures.specs.declared.moments.Moment.{Moment}
 use Rattle.drive_pictures.specs.declared.moments.Moment.TheVariants.{Played, Told, Idle}
 use Rattle.drive_pictures.specs.declared.moments.Play.TheVariants.{Ask, Other}
@@ -11,21 +10,21 @@ use Rattle.drive_pictures.specs.declared.moments.Play.TheVariants as play
 use Rattle.drive_pictures.specs.declared.requests.Outcome.{Outcome}
 use Rattle.drive_pictures.specs.declared.requests.Request.{Request}
 use Rattle.drive_pictures.specs.Counts.{plus}
-use Rattle.drive_pictures.specs.Drives.{new_drive, counted, event_counted, unseen, cleared}
+use Rattle.drive_pictures.specs.Drives.{counted, event_counted, unseen, cleared}
 use Rattle.drive_pictures.specs.Events.{line_of, is_idle}
 use Rattle.drive_pictures.specs.Requests.{is_refused}
 use Rattle.run_picture.specs.declared.acts.Glance.{Glance}
 use Rattle.run_picture.specs.declared.columns.Head.{Head}
 use Rattle.run_picture.specs.Columns.{headed, is_before, is_inside, is_full}
-use Rattle.run_picture.specs.Fold.{Known, heard, asked_at, asked_with, admitted, drive_asked, drive_at, request_at, met_at, told_at, place_in, drive_after, drive_end, changed_at, event_counted_in, event_ended, event_begun, event_shown, shown_by, column_closed, column_with, ended_behind, finished, glance_after, is_most, more_if, step, run_from}
+use Rattle.run_picture.specs.Fold.{Known, heard, asked_at, admitted, drive_asked, drive_at, request_at, met_at, told_at, place_in, drive_after, drive_end, event_counted_in, event_ended, shown_by, column_closed, ended_behind, glance_after, more_if, step}
 use Rattle.run_picture.specs.Places.{place_of}
-use Rattle.run_picture.specs.Positioning.{positioning, moving}
+use Rattle.run_picture.specs.Positioning.{positioning}
 use Rattle.script_reader.specs.declared.statement.Request.{Request as Asked}
 use Rattle.trace_lines.specs.declared.telling.Told.{Told as Deed}
 use Rattle.trace_lines.specs.declared.telling.Told.TheVariants as deed
 use Rattle.run_counts.specs.Counted.{IsBefore, Counts, at_once, is_moving, drive_behind}
 use Rattle.run_counts.specs.Ends.{event_ends}
-use Rattle.run_counts.proofs.Turns.{Still, heard_still, step_before, Gathers, gathered}
+use Rattle.run_counts.proofs.Turns.{heard_still, step_before, Gathers, gathered}
 
 -- THE COLUMNS leave what is seen at a glance, and each drive's times
 pub record Times_still (old new : Known) : Type 0 where

@@ -1,5 +1,5 @@
 -- What each moment does to the letter of a drive.
-use Rattle.std.proofs.Common.{◌≡◌, ◌≢◌, ℕ, zero, suc, ◌+◌, ◌-◌, ◌<◌, ◌==◌, Bool, true, false, not, cond, List, [], ◌∷◌, ◌++◌, length, map, fold, set, get_or, Option, Some, None, Result, Ok, Err, refl, sym, ap, ◌∙◌, subst, arith}
+use Rattle.std.proofs.Common.{◌≡◌, ◌≢◌, ℕ, zero, suc, ◌-◌, ◌<◌, ◌==◌, Bool, true, false, not, cond, List, [], ◌∷◌, length, map, fold, set, Option, Some, None, Result, Ok, Err, refl, sym, ap, ◌∙◌, subst, arith}
 use Rattle.std.specs.Prelude.{nat_lt}
 use Rattle.std.proofs.lemmas.Bool.Decides.{nat_tests}
 use Rattle.hardware_table.specs.declared.Moved.{Moved}
@@ -13,19 +13,18 @@ use Rattle.drive_pictures.specs.declared.moments.Play.TheVariants.{Ask, Other}
 use Rattle.drive_pictures.specs.declared.moments.Play.TheVariants as play
 use Rattle.drive_pictures.specs.declared.requests.Outcome.{Outcome}
 use Rattle.drive_pictures.specs.declared.requests.Request.{Request}
-use Rattle.drive_pictures.specs.Drives.{new_drive, event_counted, unseen, cleared, asked_letter, going, letter_behind}
+use Rattle.drive_pictures.specs.Drives.{event_counted, unseen, cleared, asked_letter}
 use Rattle.drive_pictures.specs.Events.{begins, line_of, is_idle}
 use Rattle.drive_pictures.specs.Letters.{is_positioning, is_holding}
 use Rattle.drive_pictures.specs.Requests.{is_refused}
-use Rattle.drive_pictures.specs.Trials.{transfer_letter, verdict_letter, verdict_trial, in_hand}
+use Rattle.drive_pictures.specs.Trials.{verdict_letter, verdict_trial, in_hand}
 use Rattle.run_picture.specs.declared.columns.Head.{Head}
 use Rattle.run_picture.specs.Columns.{headed, is_before, is_inside, is_full}
-use Rattle.run_picture.specs.Fold.{Known, heard, asked_at, admitted, drive_asked, drive_at, request_at, met_at, told_at, place_in, drive_after, drive_end, event_counted_in, event_ended, event_begun, shown_by, column_closed, turned, turned_behind, step}
+use Rattle.run_picture.specs.Fold.{Known, heard, asked_at, admitted, drive_asked, drive_at, request_at, met_at, told_at, place_in, drive_after, drive_end, event_counted_in, event_ended, shown_by, column_closed, turned_behind, step}
 use Rattle.run_picture.specs.Places.{place_of}
 use Rattle.script_reader.specs.declared.statement.Request.{Request as Asked}
 use Rattle.trace_lines.specs.declared.telling.Told.{Told as Deed}
 use Rattle.trace_lines.specs.declared.telling.Told.TheVariants as deed
-use Rattle.run_counts.specs.Counted.{behind}
 use Rattle.run_counts.specs.Doings.{under_way_by, held_by, answers, doing_after, at_moment, doing_from, Does}
 
 -- LISTS OF DRIVES

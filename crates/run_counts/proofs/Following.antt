@@ -1,5 +1,5 @@
 -- What only a drive's own deeds change, over all moments of a run.
-use Rattle.std.proofs.Common.{◌≡◌, ◌≢◌, ℕ, zero, suc, ◌+◌, ◌-◌, ◌*◌, ◌/◌, ◌^◌, ◌<◌, ◌≤◌, ◌==◌, min, Bool, true, false, not, cond, List, [], ◌∷◌, ◌++◌, length, map, fold, set, get_or, Option, Some, None, Result, Ok, Err, refl, sym, ap, ◌∙◌, subst, arith}
+use Rattle.std.proofs.Common.{◌≡◌, ℕ, zero, suc, ◌+◌, ◌-◌, ◌^◌, ◌<◌, ◌≤◌, ◌==◌, min, Bool, true, false, not, cond, List, [], ◌∷◌, ◌++◌, length, map, fold, set, Option, Some, None, Result, Ok, Err, refl, sym, ap, ◌∙◌, subst, arith}
 use Rattle.pack_geometry.specs.declared.DriveKind.{DriveKind}
 use Rattle.hardware_table.specs.declared.Moved.{Moved}
 use Rattle.hardware_table.specs.declared.Moved.TheVariants as verdict
@@ -13,19 +13,19 @@ use Rattle.drive_pictures.specs.declared.moments.Play.TheVariants as play
 use Rattle.drive_pictures.specs.declared.requests.Outcome.{Outcome}
 use Rattle.drive_pictures.specs.declared.requests.Request.{Request}
 use Rattle.drive_pictures.specs.Counts.{plus, apart}
-use Rattle.drive_pictures.specs.Drives.{new_drive, event_counted, unseen, cleared, met, changed, cylinder_blocks, verdict_arm}
+use Rattle.drive_pictures.specs.Drives.{event_counted, unseen, cleared, met, changed, verdict_arm}
 use Rattle.drive_pictures.specs.Events.{begins, line_of, is_idle}
 use Rattle.drive_pictures.specs.Requests.{is_refused}
 use Rattle.run_picture.specs.declared.columns.Head.{Head}
 use Rattle.run_picture.specs.Columns.{headed, is_before, is_inside, is_full}
-use Rattle.run_picture.specs.Fold.{Known, heard, asked_at, admitted, drive_asked, drive_at, request_at, met_at, told_at, place_in, drive_after, drive_end, event_counted_in, event_ended, event_begun, shown_by, column_closed, turned, turned_behind, step}
+use Rattle.run_picture.specs.Fold.{Known, heard, asked_at, admitted, drive_asked, drive_at, request_at, met_at, place_in, drive_after, drive_end, event_counted_in, event_ended, shown_by, column_closed, turned_behind, step}
 use Rattle.run_picture.specs.Places.{place_of}
 use Rattle.script_reader.specs.declared.statement.Request.{Request as Asked}
 use Rattle.trace_lines.specs.declared.telling.Told.{Told as Deed}
 use Rattle.trace_lines.specs.declared.telling.Told.TheVariants as deed
 use Rattle.run_counts.specs.Doings.{answers, at_moment}
-use Rattle.run_counts.specs.Travels.{Aim, aimed, sector_stop, stop_by, at_stop, stop_list, deed_of, stop_in, aim_after, stops_from, way_over, aim_of, Travels, served_by, follows_after, follows_from, Serves}
-use Rattle.run_counts.proofs.Doing.{set_here, set_other, map_length, turned_letters, met_many, heard_many, is_same, is_other}
+use Rattle.run_counts.specs.Travels.{Aim, aimed, sector_stop, stop_by, at_stop, stop_list, stop_in, aim_after, stops_from, way_over, Travels, served_by, follows_after, follows_from, Serves}
+use Rattle.run_counts.proofs.Doing.{set_here, set_other, turned_letters, met_many, heard_many, is_same, is_other}
 
 -- SOMETHING OF A DRIVE that its own deeds alone change
 pub record Follows {A : Type 0} (p : Drive → A) (by : Deed → Bool → A → A) : Type 0 where

@@ -1,4 +1,5 @@
 pub mod Counting
 pub mod Doing
 pub mod Following
+pub mod OnAdapters
 pub mod Turns

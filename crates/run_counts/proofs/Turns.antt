@@ -1,39 +1,39 @@
 -- What a moment leaves as it was, and where an event ends.
-use Rattle.std.proofs.Common.{◌≡◌, ℕ, Bool, true, false, cond, List, [], ◌∷◌, ◌++◌, fold, Option, Some, None, Result, Ok, Err, refl, sym, ap, ◌∙◌, subst}
+use Rattle.std.proofs.Common.{◌≡◌, ℕ, Bool, true, false, cond, List, [], ◌∷◌, ◌++◌, fold, Option, Some, None, refl, sym, ap, ◌∙◌}
 use Rattle.std.proofs.lemmas.List.Sums.{fold-append}
 use Rattle.drive_pictures.specs.declared.moments.Moment.{Moment}
 use Rattle.drive_pictures.specs.declared.moments.Moment.TheVariants.{Played, Told, Idle}
 use Rattle.drive_pictures.specs.declared.moments.Play.TheVariants.{Ask, Other}
 use Rattle.drive_pictures.specs.declared.moments.Play.TheVariants as play
 use Rattle.drive_pictures.specs.Events.{begins}
-use Rattle.run_picture.specs.declared.acts.Glance.{Glance}
-use Rattle.run_picture.specs.declared.columns.Window.{Window}
-use Rattle.run_picture.specs.Fold.{Known, heard, asked_at, met_at, told_at, told, turned, turned_behind, event_ended, event_begun, step, finished}
+use Rattle.run_picture.specs.Fold.{Known, heard, asked_at, met_at, told_at, turned, turned_behind, event_ended, event_begun, step, finished}
 use Rattle.run_picture.specs.Places.{place_of}
 use Rattle.script_reader.specs.declared.statement.Request.{Request as Asked}
 use Rattle.trace_lines.specs.declared.telling.Told.{Told as Deed}
 use Rattle.run_counts.specs.Ends.{ends_from}
 
--- A MOMENT leaves the event, what is seen at a glance, and the moment before it
+-- A MOMENT leaves the event, what is seen at a glance, the columns, and the moment before it
 pub record Still (old new : Known) : Type 0 where
   pub before : new.before ≡ old.before
   pub event : new.event ≡ old.event
   pub glance : new.glance ≡ old.glance
+  pub head : new.head ≡ old.head
+  pub columns : new.columns ≡ old.columns
 
 asked_still : (o : Option ℕ) (line : ℕ) (r : Asked) (write : Bool) (k : Known) → Still k (asked_at o line r write k)
-asked_still None line r write k = record { before = refl; event = refl; glance = refl }
-asked_still (Some place) line r write k = record { before = refl; event = refl; glance = refl }
+asked_still None line r write k = record { before = refl; event = refl; glance = refl; head = refl; columns = refl }
+asked_still (Some place) line r write k = record { before = refl; event = refl; glance = refl; head = refl; columns = refl }
 
 told_still : (o : Option ℕ) (place line u id : ℕ) (d : Deed) (k : Known) → Still k (told_at place line u d (met_at o line u id k))
-told_still None place line u id d k = record { before = refl; event = refl; glance = refl }
-told_still (Some there) place line u id d k = record { before = refl; event = refl; glance = refl }
+told_still None place line u id d k = record { before = refl; event = refl; glance = refl; head = refl; columns = refl }
+told_still (Some there) place line u id d k = record { before = refl; event = refl; glance = refl; head = refl; columns = refl }
 
 pub heard_still : (m : Moment) (k : Known) → Still k (heard m k)
 heard_still (Played line (Ask r write)) k = asked_still (place_of k.ids r.id) line r write k
-heard_still (Played line (play.Change u c)) k = record { before = refl; event = refl; glance = refl }
-heard_still (Played line Other) k = record { before = refl; event = refl; glance = refl }
+heard_still (Played line (play.Change u c)) k = record { before = refl; event = refl; glance = refl; head = refl; columns = refl }
+heard_still (Played line Other) k = record { before = refl; event = refl; glance = refl; head = refl; columns = refl }
 heard_still (Told line u id d) k = told_still (place_of k.ids id) _ line u id d k
-heard_still (Idle line) k = record { before = refl; event = refl; glance = refl }
+heard_still (Idle line) k = record { before = refl; event = refl; glance = refl; head = refl; columns = refl }
 
 pub step_before : (m : Moment) (k : Known) → (step k m).before ≡ Some m
 step_before m k = (heard_still m (record (turned m k) { before = Some m })).before

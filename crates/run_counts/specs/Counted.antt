@@ -1,10 +1,9 @@
 -- WHAT IS COUNTED OF A RUN, over the ends of its events.
-use Rattle.std.specs.Prelude.{◌≡◌, ℕ, ◌<◌, nat_lt, max, Bool, ◌&&◌, List, length, fold, Option, None}
+use Rattle.std.specs.Prelude.{◌≡◌, ℕ, nat_lt, max, Bool, ◌&&◌, List, fold, None}
 use Rattle.drive_pictures.specs.declared.drives.Drive.{Drive}
 use Rattle.drive_pictures.specs.declared.moments.Moment.{Moment}
-use Rattle.drive_pictures.specs.Counts.{plus}
 use Rattle.drive_pictures.specs.Drives.{counted}
-use Rattle.run_picture.specs.Fold.{Known, drive_at, more_if, run_from, step, events_in}
+use Rattle.run_picture.specs.Fold.{Known, drive_at, more_if, run_from, step}
 use Rattle.run_picture.specs.Positioning.{positioning, moving}
 use Rattle.run_counts.specs.Ends.{event_ends}
 

@@ -1,5 +1,5 @@
 -- WHAT A DRIVE DOES, by its own lines.
-use Rattle.std.specs.Prelude.{◌≡◌, ℕ, ◌<◌, ◌==◌, Bool, true, false, not, if◌then◌else◌, List, [], ◌∷◌, length, Option, Some}
+use Rattle.std.specs.Prelude.{◌≡◌, ℕ, ◌==◌, Bool, true, false, not, if◌then◌else◌, List, [], ◌∷◌, Some}
 use Rattle.drive_pictures.specs.declared.moments.Moment.{Moment}
 use Rattle.drive_pictures.specs.declared.moments.Moment.TheVariants.{Played, Told, Idle}
 use Rattle.drive_pictures.specs.Letters.{is_positioning, is_holding}

@@ -1,3 +1,4 @@
+pub mod Adapters
 pub mod Counted
 pub mod Doings
 pub mod Ends

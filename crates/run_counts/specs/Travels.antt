@@ -1,5 +1,5 @@
 -- HOW FAR AN ARM MOVED, and how many requests were served, by a drive's own lines.
-use Rattle.std.specs.Prelude.{◌≡◌, ℕ, ◌+◌, ◌-◌, ◌/◌, ◌<◌, ◌==◌, ◌^◌, min, Bool, true, false, if◌then◌else◌, List, [], ◌∷◌, ◌++◌, length, Option, Some, None}
+use Rattle.std.specs.Prelude.{◌≡◌, ℕ, ◌+◌, ◌-◌, ◌/◌, ◌==◌, ◌^◌, min, Bool, if◌then◌else◌, List, [], ◌∷◌, ◌++◌, Option, Some, None}
 use Rattle.pack_geometry.specs.declared.DriveKind.{DriveKind}
 use Rattle.hardware_table.specs.declared.Moved.{Moved}
 use Rattle.hardware_table.specs.declared.Moved.TheVariants as verdict
@@ -9,7 +9,7 @@ use Rattle.drive_pictures.specs.Counts.{plus, apart}
 use Rattle.drive_pictures.specs.Drives.{cylinder_blocks}
 use Rattle.run_picture.specs.Fold.{Known, drive_at, step}
 use Rattle.trace_lines.specs.declared.telling.Told.{Told as Deed}
-use Rattle.trace_lines.specs.declared.telling.Told.TheVariants.{Search, Seek, Recal, Offset, Centre, Clear, Pack, Transfer, Arrive, Sector, Intr, Try, Attn, End}
+use Rattle.trace_lines.specs.declared.telling.Told.TheVariants.{Search, Seek, Recal, Offset, Arrive, Sector, End}
 use Rattle.run_counts.specs.Counted.{behind}
 use Rattle.run_counts.specs.Doings.{answers, at_moment}
 

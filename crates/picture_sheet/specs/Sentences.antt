@@ -1,0 +1,51 @@
+-- THE SENTENCES OF A RUN, each of the whole run.
+use Rattle.std.specs.Prelude.{◌≡◌, ℕ, Bool, List, [], ◌∷◌, length, codes, count_by, MatchOption}
+use Rattle.drive_pictures.specs.declared.requests.Request.{Request}
+use Rattle.drive_pictures.specs.Requests.{is_ok, is_out_of_order}
+use Rattle.run_picture.specs.Fold.{events_in}
+use Rattle.picture_sheet.specs.declared.sheet.Sheet.{Sheet}
+use Rattle.picture_sheet.specs.declared.summary.Phrase.{Phrase}
+use Rattle.picture_sheet.specs.declared.summary.Sentence.{Sentence}
+
+-- words, and a number behind them
+pub record IsPhrase (word : List ℕ) (number : ℕ) (phrase : Phrase) : Type 0 where
+  pub words : phrase.word.now ≡ word
+  pub count : phrase.number ≡ number
+
+unfoldable pub was_ok : Request → Bool
+was_ok r = is_ok r.outcome
+
+unfoldable pub was_turned : Request → Bool
+was_turned r = is_out_of_order r
+
+-- what became of the requests: how many, how many of them ok, how many out of order
+pub record SaysRequests (sheet : Sheet) (s : Sentence) : Type 0 where
+  pub all : IsPhrase (codes "Requests: ") (length sheet.run.now.requests) s.first
+  pub ok : IsPhrase (codes "; ok: ") (count_by was_ok sheet.run.now.requests) s.second
+  pub turned : MatchOption s.third ⊥ (IsPhrase (codes "; served out of the order asked: ") (count_by was_turned sheet.run.now.requests))
+  pub stop : s.end.now ≡ codes "."
+
+pub record SaysEvents (sheet : Sheet) (s : Sentence) : Type 0 where
+  pub events : IsPhrase (codes "Events: ") (events_in sheet.run.now.before sheet.run.now.event) s.first
+  pub per : IsPhrase (codes "; to a column: ") sheet.window.per s.second
+  pub two : MatchOption s.third (Unit {0}) (λ phrase. ⊥)
+  pub stop : s.end.now ≡ codes "."
+
+-- the most drives that positioned at once, and where first
+pub record SaysPositioning (sheet : Sheet) (s : Sentence) : Type 0 where
+  pub most : IsPhrase (codes "Drives positioning at once: at most ") sheet.run.now.glance.most s.first
+  pub line : IsPhrase (codes ", first at line ") sheet.run.now.glance.most_line s.second
+  pub two : MatchOption s.third (Unit {0}) (λ phrase. ⊥)
+  pub stop : s.end.now ≡ codes "."
+
+-- how often sectors moved, and how often another drive positioned meanwhile
+pub record SaysMoving (sheet : Sheet) (s : Sentence) : Type 0 where
+  pub moving : IsPhrase (codes "Sectors moved after ") sheet.run.now.glance.moving s.first
+  pub both : IsPhrase (codes " events; after ") sheet.run.now.glance.both s.second
+  pub two : MatchOption s.third (Unit {0}) (λ phrase. ⊥)
+  pub stop : s.end.now ≡ codes " of them another drive was positioning."
+
+-- the four, in this order
+abbrev pub SumUp : Sheet → List Sentence → Type 0
+SumUp sheet (a ∷ b ∷ c ∷ d ∷ []) = SaysRequests sheet a × SaysEvents sheet b × SaysPositioning sheet c × SaysMoving sheet d
+SumUp sheet sentences = ⊥

@@ -1,0 +1,22 @@
+-- THE COLUMNS OF A PICTURE: equally many events each, from the first that is shown.
+use Rattle.std.specs.Prelude.{ℕ, ◌+◌, ◌-◌, ◌*◌, ◌/◌, ◌==◌, min, max, if◌then◌else◌, List, length, codes}
+use Rattle.run_picture.specs.Fold.{drive_at}
+use Rattle.picture_sheet.specs.declared.sheet.Sheet.{Sheet}
+
+-- what stands above a run whose script has no caption
+unfoldable pub no_caption : List ℕ
+no_caption = codes "A run of hpsim"
+
+abbrev pub title_of : Sheet → List ℕ
+title_of sheet = if length sheet.caption.now == 0 then no_caption else sheet.caption.now
+
+-- the first event of a column; and the column of an event, at most the one behind the last
+abbrev pub head_of : Sheet → ℕ → ℕ
+head_of sheet column = min (sheet.window.first + sheet.window.per * column) sheet.window.last
+
+abbrev pub column_of : Sheet → ℕ → ℕ
+column_of sheet event = min ((event - sheet.window.first) / max sheet.window.per 1) (length sheet.run.now.columns)
+
+-- where an arm is before the first column
+abbrev pub arm_before : Sheet → ℕ → ℕ
+arm_before sheet unit = (drive_at sheet.run.now.start unit).arm.cylinder
