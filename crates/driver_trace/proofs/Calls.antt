@@ -10,12 +10,8 @@ use Rattle.trace_replay.specs.Script as script
 use Rattle.trace_replay.specs.Script.{Input}
 use Rattle.trace_replay.specs.Replay.{Replay, new_replay, are_at_work, after_moment, after_moments}
 use Rattle.trace_replay.proofs.Kept.{moments_all, starts}
-<<<<<<< HEAD
-use Rattle.subsystem_spec.specs.declared.answers.AnswerKind.{AnswerKind}
-=======
 use Rattle.trace_work.proofs.Conserved.{is_conserved}
 use Rattle.subsystem_spec.specs.declared.answers.AnswerKind.{AnswerKind}
->>>>>>> 01bfd62d3dfc77fed9e41db1a3a493ddc4f497b0
 use Rattle.driver_machine.specs.World.{World, Held}
 use Rattle.driver_machine.specs.Acts.{Tried, Taken, after_all}
 use Rattle.driver_machine.specs.Lines.{lines_of_all}
