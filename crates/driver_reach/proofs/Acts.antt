@@ -1,14 +1,15 @@
 -- An act keeps the reach, and what lies beyond it.
-use Rattle.std.proofs.Common.{◌≡◌, inl, inr, ℕ, ◌+◌, ◌*◌, ◌<◌, ◌≤◌, List, [], ◌∷◌, drop, length, get_or-set_same, get_or-set_other, Option, Some, None, refl, sym, ap, subst, ◌∙◌}
+use Rattle.std.proofs.Common.{◌≡◌, inl, inr, ℕ, ◌+◌, ◌*◌, ◌<◌, ◌≤◌, ◌&&◌, Bool, true, false, List, [], ◌∷◌, drop, length, get_or-set_same, get_or-set_other, Option, Some, None, refl, sym, ap, subst, ◌∙◌}
 use Rattle.std.specs.Prelude.{slice_index_or, slice_set, unwrap_or}
-use Rattle.std.proofs.lemmas.Bool.{cases_eq}
+use Rattle.std.proofs.lemmas.Bool.{cases_eq, false≢true}
 use Rattle.std.proofs.lemmas.Option.{same_Some}
 use Rattle.pack_geometry.specs.declared.DriveKind.{DriveKind}
 use Rattle.pack_geometry.specs.Geometry.{block_count}
 use Rattle.pack_model.specs.Pack.{Pack}
 use Rattle.main_memory.specs.Bytes.{filled}
 use Rattle.main_memory.specs.Blocks.{Loan}
-use Rattle.hardware_table.specs.Moves.{was_written}
+use Rattle.hardware_table.specs.Drive.{is_writing}
+use Rattle.hardware_table.specs.Moves.{has_bytes, was_written}
 use Rattle.trace_replay.specs.Script as script
 use Rattle.trace_replay.specs.Script.{Input}
 use Rattle.driver_machine.specs.World.{World, Held, no_held, unit_at, held_in, slot_in_hand}
@@ -26,7 +27,11 @@ use Rattle.driver_runs.proofs.Acts.{beyond_by, is_inside}
 use Rattle.driver_reach.specs.Reach.{Reaches, StayFrom, JoinsBelow, ActsKeepReach}
 use Rattle.driver_reach.proofs.Blocks.{next_in_reach}
 
--- THE PACKS: a sector that is tried lies within the reach.
+both_writes : (b c : Bool) → b && c ≡ true → c ≡ true
+both_writes true c is = is
+both_writes false c is = absurd (false≢true is)
+
+-- THE PACKS: a sector that is written lies within the reach.
 deed_stays : (ends : ℕ → ℕ) (line u id : ℕ) (d : Deed) (w : World) (held : ℕ → Pack) (unit : ℕ) → Sound w → Allowed w (Of line u id d) → Reaches ends w
     → drop (512 * ends unit) (packs_after w held (Of line u id d) unit).image ≡ drop (512 * ends unit) (held unit).image
 deed_stays ends line u id (deed.Sector block t) w held unit sound allowed reaches =
@@ -34,7 +39,8 @@ deed_stays ends line u id (deed.Sector block t) w held unit sound allowed reache
     (λ given. (
       (is_inside w line u id block t sound allowed given).long,
       λ same. subst (λ (k : ℕ). block < ends k) (sym same) (subst (λ (b : ℕ). b < ends u) (sym allowed.1.1)
-          (next_in_reach ends w u id sound allowed.0 (set_up w u sound allowed.0.unit allowed.0.some).declared reaches allowed.1.0)),
+          (next_in_reach ends w u id sound allowed.0 (set_up w u sound allowed.0.unit allowed.0.some).declared reaches allowed.1.0
+          (both_writes (has_bytes t.verdict) (is_writing (unit_at w u).drive.work) given))),
     ))
 deed_stays ends line u id d w held unit sound allowed reaches = refl
 
@@ -48,7 +54,7 @@ packs_stay ends w Taken held sound allowed reaches unit = refl
 
 -- THE SLOTS
 abbrev Below : (ℕ → ℕ) → Held → Type 0
-Below ends h = h.first + h.loan.count ≤ ends h.unit
+Below ends h = h.write ≡ true → h.first + h.loan.count ≤ ends h.unit
 
 abbrev AreBelow : (ℕ → ℕ) → List (Option Held) → Type 0
 AreBelow ends slots = (p : ℕ) (h : Held) → slice_index_or slots p None ≡ Some h → Below ends h
@@ -63,8 +69,9 @@ set_below ends slots p new less here there q g e = elim (cases_eq q p) [
   | inr other ↦ there q g (sym (get_or-set_other slots p q (Some new) None other) ∙ e)
 ]
 
-same_below : (ends : ℕ → ℕ) (h g : Held) → g.first ≡ h.first → g.loan ≡ h.loan → g.unit ≡ h.unit → Below ends h → Below ends g
-same_below ends h g first loan unit below =
+same_below : (ends : ℕ → ℕ) (h g : Held) → g.first ≡ h.first → g.loan ≡ h.loan → g.unit ≡ h.unit → g.write ≡ h.write → Below ends h → Below ends g
+same_below ends h g first loan unit write asked writes =
+    let below : h.first + h.loan.count ≤ ends h.unit = asked (sym write ∙ writes) in
     subst (λ (f : ℕ). f + g.loan.count ≤ ends g.unit) (sym first)
     (subst (λ (l : Loan). h.first + l.count ≤ ends g.unit) (sym loan) (subst (λ (u : ℕ). h.first + h.loan.count ≤ ends u) (sym unit) below))
 
@@ -75,7 +82,7 @@ deed_below ends w line u id d i are =
     let was : held_in w p ≡ i.held = ap (λ (o : Option Held). unwrap_or o no_held) i.slot in
     let same = effect_same line u p d (scene_of w u) in
     set_below ends w.slots p new.held (slot_there w.slots p i.held i.slot)
-    (same_below ends (held_in w p) new.held same.first same.loan same.unit (subst (Below ends) (sym was) (are p i.held i.slot))) are
+    (same_below ends (held_in w p) new.held same.first same.loan same.unit same.write (subst (Below ends) (sym was) (are p i.held i.slot))) are
 
 changed_below : (ends : ℕ → ℕ) (w : World) (input : Input) → MayChange w input → AreBelow ends w.slots → AreBelow ends (after w (Change input)).slots
 changed_below ends w (script.Turn u sector) may are = are
@@ -97,9 +104,9 @@ act_below ends w Taken allowed joins are = λ p h e. are p h (freed_was w.answer
 act_reaches : (ends : ℕ → ℕ) (w : World) (act : Act) → Allowed w act → JoinsBelow ends act → Reaches ends w → Reaches ends (after w act)
 act_reaches ends w act allowed joins reaches = record {
   requests = act_below ends w act allowed joins reaches.requests;
-  tables = λ unit table declared is.
+  tables = λ unit table declared is some.
       let set = setups_stay w (act ∷ []) unit in
-      subst (λ (k : DriveKind). block_count k ≤ ends unit) (sym set.kind) (reaches.tables unit table (sym set.declared ∙ declared) (sym set.table ∙ is));
+      subst (λ (k : DriveKind). block_count k ≤ ends unit) (sym set.kind) (reaches.tables unit table (sym set.declared ∙ declared) (sym set.table ∙ is) some);
 }
 
 pub acts_keep_reach : ActsKeepReach

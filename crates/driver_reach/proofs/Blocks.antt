@@ -1,11 +1,13 @@
--- A block that a transfer comes to lies below the end of its request, or is a replacement.
-use Rattle.std.proofs.Common.{◌≡◌, ℕ, ◌+◌, ◌*◌, ◌<◌, ◌≤◌, true, false, List, drop, length, Option, Some, None, refl, sym, ap, subst, arith, ◌∙◌}
-use Rattle.std.specs.Prelude.{slice_get, slice_index_or}
+-- A block that a write comes to lies below the end of its request, or is a replacement.
+use Rattle.std.proofs.Common.{◌≡◌, ℕ, ◌+◌, ◌*◌, ◌<◌, ◌≤◌, Bool, true, false, List, drop, length, Option, Some, None, refl, sym, ap, subst, arith, ◌∙◌}
+use Rattle.std.specs.Prelude.{if◌then◌else◌, slice_get, slice_index_or}
 use Rattle.std.proofs.lemmas.Option.{none-some}
 use Rattle.pack_geometry.specs.Geometry.{block_count, place_at}
 use Rattle.pack_model.specs.Pack.{Pack}
 use Rattle.pack_model.specs.PackTable.{places_of}
 use Rattle.pack_model.specs.TableSpelling.{Table}
+use Rattle.hardware_table.specs.Drive.{is_writing}
+use Rattle.hardware_table.specs.declared.Work.TheVariants as work
 use Rattle.hardware_table.specs.Adapter.{AdapterState, next_block, next_window}
 use Rattle.main_memory.specs.Bytes.{filled}
 use Rattle.main_memory.proofs.ByteLaws.{length-filled}
@@ -53,36 +55,45 @@ segment_reached v h k top begun below tables less = by_index (transfer_of v).ind
         omega (arith, all, inside)
 
 -- THE NEXT BLOCK of a transfer that is under way
-next_reached : (u : ℕ) (s : Scene) (top : ℕ) → SceneOk u s → IsBusyFor s.adapter.state (drive_of u) false → s.held.first + s.held.loan.count ≤ top
-    → ((table : Table) → s.unit.table ≡ Some table → block_count s.unit.drive.kind ≤ top) → next_block s.adapter.state < top
-next_reached u s top ok may below tables =
+reaches_some : (first count top : ℕ) → 1 ≤ count → first + count ≤ top → 0 < top
+reaches_some first count top some below = omega (arith, some, below)
+
+next_reached : (u : ℕ) (s : Scene) (top : ℕ) → SceneOk u s → IsBusyFor s.adapter.state (drive_of u) false → is_writing s.unit.drive.work ≡ true
+    → (s.held.write ≡ true → s.held.first + s.held.loan.count ≤ top)
+    → ((table : Table) → s.unit.table ≡ Some table → 0 < top → block_count s.unit.drive.kind ≤ top) → next_block s.adapter.state < top
+next_reached u s top ok may writing asked tables =
     let a : AdapterState = s.adapter.state in
     let has = transfer_at u false s ok may in
     let is : IsPhase u s.unit s.adapter s.held Transferring = phase_is u s Transferring ok has.phase in
     let count : a.count ≡ (segment_of (transfer_of s.unit)).count = ap (λ (x : Segment). x.count) has.segment in
     let block : a.block ≡ (segment_of (transfer_of s.unit)).block = ap (λ (x : Segment). x.block) has.segment in
     let less : a.moved < (segment_of (transfer_of s.unit)).count = subst (λ n. a.moved < n) count (moved_less a ok.adapter may.busy may.completion) in
-    subst (λ n. n + a.moved < top) (sym block) (segment_reached s.unit s.held a.moved top is.0 below tables less)
+    let works : s.unit.drive.work ≡ work.Transfer a.write = is.1.work ∙ ap (λ (done : Bool). if done then work.Ready else work.Transfer a.write) may.completion in
+    let writes : s.held.write ≡ true = sym (ap is_writing works ∙ has.write) ∙ writing in
+    let below : s.held.first + s.held.loan.count ≤ top = asked writes in
+    subst (λ n. n + a.moved < top) (sym block)
+    (segment_reached s.unit s.held a.moved top is.0 below (λ table given. tables table given (reaches_some s.held.first s.held.loan.count top ok.loan.some below)) less)
 
 -- of a request in hand
 hand_below : (ends : ℕ → ℕ) (w : World) (u id : ℕ) → Sound w → InHand w u id → Reaches ends w
+    → (held_in w (slot_in_hand (unit_at w u))).write ≡ true
     → (held_in w (slot_in_hand (unit_at w u))).first + (held_in w (slot_in_hand (unit_at w u))).loan.count ≤ ends u
 hand_below ends w u id sound hand reaches =
     let out : IsOutstanding w u (slice_index_or (unit_at w u).queue 0 (record { number = 0; cylinder = 0 })) = head_out w u (sound.each_unit u hand.unit) hand.some in
-    subst (λ (h : Held). h.first + h.loan.count ≤ ends u) (sym (held_is w (slot_in_hand (unit_at w u)) out.held out.slot))
-    (subst (λ (k : ℕ). out.held.first + out.held.loan.count ≤ ends k) out.unit (reaches.requests (slot_in_hand (unit_at w u)) out.held out.slot))
+    subst (λ (h : Held). h.write ≡ true → h.first + h.loan.count ≤ ends u) (sym (held_is w (slot_in_hand (unit_at w u)) out.held out.slot))
+    (subst (λ (k : ℕ). out.held.write ≡ true → out.held.first + out.held.loan.count ≤ ends k) out.unit (reaches.requests (slot_in_hand (unit_at w u)) out.held out.slot))
 
 pub next_in_reach : (ends : ℕ → ℕ) (w : World) (u id : ℕ) → Sound w → InHand w u id → (unit_at w u).declared ≡ true → Reaches ends w
-    → IsBusyFor (adapter_at w (adapter_of u)).state (drive_of u) false → next_block (adapter_at w (adapter_of u)).state < ends u
-next_in_reach ends w u id sound hand declared reaches busy =
-    next_reached u (scene_of w u) (ends u) (scene_ok w u id sound hand) busy (hand_below ends w u id sound hand reaches) (λ table is. reaches.tables u table declared is)
+    → IsBusyFor (adapter_at w (adapter_of u)).state (drive_of u) false → is_writing (unit_at w u).drive.work ≡ true → next_block (adapter_at w (adapter_of u)).state < ends u
+next_in_reach ends w u id sound hand declared reaches busy writing =
+    next_reached u (scene_of w u) (ends u) (scene_ok w u id sound hand) busy writing (hand_below ends w u id sound hand reaches) (λ table is. reaches.tables u table declared is)
 
 -- WHERE THE PACKS FAILED at a block that was to be written
 pub next_blocks_stay : NextBlocksStay
 next_blocks_stay ends held left w sound reaches n unit =
     ap (λ (f : ℕ → Pack). drop (512 * ends unit) (f unit).image) n.is
     ∙ written_beyond held n.unit block (filled 512 piece) unit (ends unit) (length-filled 512 piece (piece_few w n.unit hand.held.id sound hand n.busy))
-    (λ same. subst (λ (k : ℕ). block < ends k) (sym same) (next_in_reach ends w n.unit hand.held.id sound hand (set_up w n.unit sound small some).declared reaches n.busy))
+    (λ same. subst (λ (k : ℕ). block < ends k) (sym same) (next_in_reach ends w n.unit hand.held.id sound hand (set_up w n.unit sound small some).declared reaches n.busy n.writes))
   where
     block : ℕ
     block = next_block (adapter_at w (adapter_of n.unit)).state

@@ -50,19 +50,19 @@ answers_keep_reach ends old held w sound some within = acts_keep_reach ends old 
 -- A SUBMISSION. A request that joins is on a unit that is declared.
 kind_below : (ends : ℕ → ℕ) (drives : ℕ → Option DriveKind) (w : World) (r : Request) (unit : ℕ) (drive : Option DriveKind) → drives unit ≡ drive → unit ≡ r.unit
     → AreDeclared drives w → (unit_at w unit).declared ≡ true → AsksBelow ends drives (script.Submit r)
-    → first_block (unit_at w unit).drive.kind r + r.count ≤ ends unit
-kind_below ends drives w r unit None is same declared on asks = absurd (false≢true (sym (declared.others unit is) ∙ on))
-kind_below ends drives w r unit (Some kind) is same declared on asks =
+    → is_some r.written ≡ true → first_block (unit_at w unit).drive.kind r + r.count ≤ ends unit
+kind_below ends drives w r unit None is same declared on asks writes = absurd (false≢true (sym (declared.others unit is) ∙ on))
+kind_below ends drives w r unit (Some kind) is same declared on asks writes =
     subst (λ (k : DriveKind). first_block k r + r.count ≤ ends unit) (sym (declared.kinds unit kind is))
-    (subst (λ (u : ℕ). first_block kind r + r.count ≤ ends u) (sym same) (asks kind (subst (λ (u : ℕ). drives u ≡ Some kind) same is)))
+    (subst (λ (u : ℕ). first_block kind r + r.count ≤ ends u) (sym same) (asks kind (subst (λ (u : ℕ). drives u ≡ Some kind) same is) writes))
 
 held_below : (ends : ℕ → ℕ) (h : Held) (first count : ℕ) → h.first ≡ first → h.loan.count ≡ count → first + count ≤ ends h.unit → h.first + h.loan.count ≤ ends h.unit
 held_below ends h first count is many below =
     subst (λ (f : ℕ). f + h.loan.count ≤ ends h.unit) (sym is) (subst (λ (n : ℕ). first + n ≤ ends h.unit) (sym many) below)
 
 -- one that is refused leaves no trace of its slot
-none_below : (ends : ℕ → ℕ) → no_held.first + no_held.loan.count ≤ ends no_held.unit
-none_below ends = omega arith
+none_below : (ends : ℕ → ℕ) → no_held.write ≡ true → no_held.first + no_held.loan.count ≤ ends no_held.unit
+none_below ends writes = omega arith
 
 joins_below : (ends : ℕ → ℕ) (drives : ℕ → Option DriveKind) (w : World) (line p : ℕ) (r : Request) (h : Held) → MaySubmit w r p h
     → (refusal_of r w ≡ None → IsHeldFor (unit_at w h.unit).drive.kind r h) → AreDeclared drives w → AsksBelow ends drives (script.Submit r)
@@ -74,8 +74,8 @@ joins_below ends drives w line p r h may is declared asks = by_refusal (refusal_
         let held : IsHeldFor (unit_at w h.unit).drive.kind r h = is met in
         let new : IsNew w p h = may.new met in
         all_submitted (JoinsBelow ends) (none_join ends) r line p h w (λ kind. tt)
-        (held_below ends h (first_block (unit_at w h.unit).drive.kind r) r.count held.first held.count
-        (kind_below ends drives w r h.unit (drives h.unit) refl held.unit declared new.unit.declared asks))
+        (λ writes. held_below ends h (first_block (unit_at w h.unit).drive.kind r) r.count held.first held.count
+        (kind_below ends drives w r h.unit (drives h.unit) refl held.unit declared new.unit.declared asks (sym held.write ∙ writes)))
     by_refusal (Some kind) met =
         let all : AreAll (JoinsBelow ends) (submit_by (refusal_of r w) r line p no_held w) =
         all_submitted (JoinsBelow ends) (none_join ends) r line p no_held w (λ k. tt) (none_below ends) in
@@ -106,11 +106,11 @@ starts_within_reach ends drives tables held setups outstanding noises are set de
     record {
       reaches = record {
         requests = λ p h e. absurd (none-some h (sym (replicate_at outstanding p None) ∙ e));
-        tables = λ unit table on is.
+        tables = λ unit table on is some.
             let is_set = set unit (record { unit = is_small w unit sound on; declared = on }) in
             subst (λ (k : DriveKind). block_count k ≤ ends unit) (sym (ap (λ (v : UnitView). v.drive.kind) is_set))
             (table_below ends unit (drives unit) table (declared unit ∙ on)
-            (λ kind there. below unit kind table there (sym (ap (λ (v : UnitView). v.table) is_set) ∙ is)));
+            (λ kind there. below unit kind table there (sym (ap (λ (v : UnitView). v.table) is_set) ∙ is) some));
       };
       packs = λ unit. refl;
     }

@@ -1,4 +1,4 @@
--- How far the writes of a run reach: what an image has from there on stays.
+-- How far the writes of a run reach: what an image has from there on stays, and reads reach nowhere.
 use Rattle.std.specs.Prelude.{◌≡◌, ℕ, ◌+◌, ◌*◌, ◌<◌, ◌≤◌, true, List, [], ◌∷◌, drop, length, Option, Some, None, is_some}
 use Rattle.pack_geometry.specs.declared.DriveKind.{DriveKind}
 use Rattle.pack_geometry.specs.Geometry.{block_count}
@@ -19,27 +19,27 @@ use Rattle.driver_outcome.specs.Packs.{packs_after, packs_after_all}
 use Rattle.driver_replay.specs.Acts.{AreSetUp}
 use Rattle.driver_runs.specs.Runs.{AreDeclared}
 
--- WHAT IS ASKED ends below these blocks, one for each unit: each request does, on the drive of its unit;
+-- WHAT IS WRITTEN ends below these blocks, one for each unit: each request that writes does, on the drive of its unit; a read is free;
 abbrev pub AsksBelow : (ends : ℕ → ℕ) (drives : ℕ → Option DriveKind) → Input → Type 0
-AsksBelow ends drives (script.Submit r) = (kind : DriveKind) → drives r.unit ≡ Some kind → first_block kind r + r.count ≤ ends r.unit
+AsksBelow ends drives (script.Submit r) = (kind : DriveKind) → drives r.unit ≡ Some kind → is_some r.written ≡ true → first_block kind r + r.count ≤ ends r.unit
 AsksBelow ends drives input = Unit {0}
 
 abbrev pub AskBelow : (ends : ℕ → ℕ) (drives : ℕ → Option DriveKind) → List Numbered → Type 0
 AskBelow ends drives [] = Unit {0}
 AskBelow ends drives (next ∷ inputs) = AsksBelow ends drives next.input × AskBelow ends drives inputs
 
--- and where a pack has a table the whole drive does, at whose end the replacements are.
+-- and where something may be written to a pack that has a table the whole drive does, at whose end the replacements are.
 abbrev pub TablesBelow : (ends : ℕ → ℕ) (drives : ℕ → Option DriveKind) (tables : ℕ → Option Table) → Type 0
 TablesBelow ends drives tables =
-    (unit : ℕ) (kind : DriveKind) (table : Table) → drives unit ≡ Some kind → tables unit ≡ Some table → block_count kind ≤ ends unit
+    (unit : ℕ) (kind : DriveKind) (table : Table) → drives unit ≡ Some kind → tables unit ≡ Some table → 0 < ends unit → block_count kind ≤ ends unit
 
 -- THE REACH of the driver: so it is of the requests in its slots, and of the units that are set up.
 pub record Reaches (ends : ℕ → ℕ) (w : World) : Type 0 where
-  pub requests : (p : ℕ) (h : Held) → slot_at w p ≡ Some h → h.first + h.loan.count ≤ ends h.unit
-  pub tables : (unit : ℕ) (table : Table) → (unit_at w unit).declared ≡ true → (unit_at w unit).table ≡ Some table
+  pub requests : (p : ℕ) (h : Held) → slot_at w p ≡ Some h → h.write ≡ true → h.first + h.loan.count ≤ ends h.unit
+  pub tables : (unit : ℕ) (table : Table) → (unit_at w unit).declared ≡ true → (unit_at w unit).table ≡ Some table → 0 < ends unit
       → block_count (unit_at w unit).drive.kind ≤ ends unit
 
--- WHAT LIES BEYOND, from these blocks on, stays.
+-- WHAT LIES BEYOND, from these blocks on, stays: of a unit to which nothing is written the whole image.
 abbrev pub StayFrom : (ends : ℕ → ℕ) (old new : ℕ → Pack) → Type 0
 StayFrom ends old new = (unit : ℕ) → drop (512 * ends unit) (new unit).image ≡ drop (512 * ends unit) (old unit).image
 
@@ -57,7 +57,7 @@ StartsWithinReach = (ends : ℕ → ℕ) (drives : ℕ → Option DriveKind) (ta
 
 -- An act keeps it; of a request that joins it has to be so.
 abbrev pub JoinsBelow : (ends : ℕ → ℕ) → Act → Type 0
-JoinsBelow ends (Submit line p h) = h.first + h.loan.count ≤ ends h.unit
+JoinsBelow ends (Submit line p h) = h.write ≡ true → h.first + h.loan.count ≤ ends h.unit
 JoinsBelow ends act = Unit {0}
 
 abbrev pub ActsKeepReach : Type 0

@@ -1,7 +1,7 @@
-//! How far the writes of a run reach: where each request ends below some block of its unit, what the image has from that block
-//! on stays. The functions here do nothing: each stands for a law.
+//! How far the writes of a run reach: where each request that writes ends below some block of its unit, what the image has from that
+//! block on stays; where none does, the whole image. The functions here do nothing: each stands for a law.
 //!
-//! Defined in `specs/`: what is asked ends below some block of each unit (`AskBelow`), and where a pack has a table the whole
+//! Defined in `specs/`: what is written ends below some block of each unit (`AskBelow`), and where a pack has a table the whole
 //! drive does (`TablesBelow`).
 //!
 //! What is proved: `calls_law`: from the start on each act, event, submission and taking of an answer keeps what images have
@@ -10,7 +10,7 @@
 
 ghost use Rattle.driver_reach.specs.Reach.{StartsWithinReach, ActsKeepReach, EventsKeepReach, SubmissionsKeepReach, AnswersKeepReach, NextBlocksStay};
 
-/// From the start of a run on each call keeps what images have from the ends of all requests on.
+/// From the start of a run on each call keeps what images have from the ends of all writes on.
 pub fn calls_law()
     ensures start { StartsWithinReach }
     ensures act { ActsKeepReach }

@@ -64,8 +64,8 @@ each_low s w = step_by AsksLow s w (record { fault = tt; drain = tt; noise = tt 
 ask_one : (drives : ℕ → Option DriveKind) (st : Said) (n : ℕ) (inputs : List Numbered) → AsksLow st → AskBelow room_on drives inputs
     → AskBelow room_on drives (with_input n (statement_of st) inputs)
 ask_one drives (says.Unit u kind) n inputs low below = below
-ask_one drives (says.Read r) n inputs low below = ((λ kind there. low_on kind r.part r.block r.count (room_on r.unit) low.part low.below), below)
-ask_one drives (says.Write r content) n inputs low below = ((λ kind there. low_on kind r.part r.block r.count (room_on r.unit) low.part low.below), below)
+ask_one drives (says.Read r) n inputs low below = ((λ kind there writes. low_on kind r.part r.block r.count (room_on r.unit) low.part low.below), below)
+ask_one drives (says.Write r content) n inputs low below = ((λ kind there writes. low_on kind r.part r.block r.count (room_on r.unit) low.part low.below), below)
 ask_one drives (says.Arrive u) n inputs low below = (tt, below)
 ask_one drives (says.Turn u sector) n inputs low below = (tt, below)
 ask_one drives (says.Move a) n inputs low below = (tt, below)
