@@ -12,13 +12,14 @@ ghost use Rattle.hp_events.specs.Submissions.{MayRefuse};
 ghost use Rattle.hp_driver.specs.Subsystem.{asked};
 ghost use Rattle.hp_driver.specs.Calls.{Stands, SendsActs, MayAsk, asked_at, Asks};
 
-use crate::request::{Request, frames_for};
+use crate::request::frames_for;
 use driver_machine::{AnswerKind, Cause};
 use driver_outcome::Stop;
 use hp_core::Core;
 use outside_traits::traits::Sink;
 use partitions::{Admission, admit};
 use request_slots::Asked;
+use subsystem_spec::Request;
 
 /// How many frames there are.
 const FRAMES: u32 = 16384;

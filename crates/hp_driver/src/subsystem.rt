@@ -18,7 +18,6 @@ ghost use Rattle.trace_bounds.specs.Commands.{CommandsAreBounded};
 ghost use Rattle.hp_events.specs.Inputs.{input_of};
 ghost use Rattle.hp_driver.specs.Subsystem.{asked, IsAsked, Submits, IsThere, is_move, Comes, LeavesFewer, IsOldest, Reads, sink_in};
 
-use crate::request::Request;
 use crate::{events, submission};
 use driver_drains::falls_law;
 use driver_machine::Answer;
@@ -29,6 +28,7 @@ use outside_traits::traits::{NoMemory, Packs, Sink, SinkFailed};
 use pack_geometry::DriveKind;
 use std::alloc::Global;
 use std::marker::Model;
+use subsystem_spec::Request;
 use trace_bounds::commands_law;
 
 /// The disks, their adapters, and the requests that are outstanding. Nothing is allocated once it is made.
