@@ -5,7 +5,7 @@ use Rattle.pack_model.specs.Pack.{Pack}
 use Rattle.pack_model.specs.TableSpelling.{Table}
 use Rattle.pack_model.specs.Homes.{home_of}
 use Rattle.subsystem_spec.specs.Requests.{Request, Answer, Failed, Offline, Locked, Unforwarded, Fault, first_block}
-use Rattle.trace_replay.specs.Script.{Script, Submit, drives_of, inputs_of, ids_of}
+use Rattle.trace_replay.specs.Script.{Script, Submit, Drain, drives_of, inputs_of, ids_of}
 use Rattle.trace_replay.specs.Moments.{Moment, Played, Told, End, played, answers_in}
 use Rattle.trace_replay.specs.Service.{in_hand}
 use Rattle.trace_replay.specs.Conditions.{online_behind, locked_behind}
@@ -61,13 +61,16 @@ pub record Promises (script : Script) (tables : ℕ → Option Table) (old new :
       → is_refusal answer ≡ false → commands_in (lines_of unit before) ≤ 300 * (in_hand ((after_moments (start_of script tables old) before).units unit).service).count
   pub drains : (before drained after : List Moment) → moments ≡ before ++ (drained ++ after) → played drained ≡ []
       → events_in drained ≤ 200 * blocks_outstanding (after_moments (start_of script tables old) before)
-  -- each event of a drain has at least one of these lines: where one event is over and the next has begun, nothing else comes
+  -- each event of a drain has at least one of these lines: nothing else comes where one event is over and the next has begun, nor behind
+  -- the line of the script that drains, where requests are outstanding
   pub events : (moment : Moment) (before after : List Moment) → moments ≡ before ++ moment ∷ after
       → (after_moments (start_of script tables old) before).event.between ≡ true → events_in (moment ∷ []) ≡ 1
+  pub first_events : (line : ℕ) (moment : Moment) (before after : List Moment) → moments ≡ before ++ Played line Drain ∷ moment ∷ after
+      → 1 ≤ (after_moments (start_of script tables old) before).outstanding → events_in (moment ∷ []) ≡ 1
   -- a request that is answered ok and met nothing but clean sectors took one transfer command, and at most one search
   pub undisturbed : (line unit id : ℕ) (answer : Answer) (before after : List Moment) → moments ≡ before ++ Told line unit id (End answer) ∷ after
       → IsOk answer → AreClean (lines_of unit before) → (transfers_in (lines_of unit before) ≡ 1) × (searches_in (lines_of unit before) ≤ 1)
   -- what is no home of a data block, each mark and each other pack stays
   pub rest : RestStays script tables old new
-  -- no other trace is a legal run of this script over these packs
-  pub only : (other : ℕ → Pack) (others : List Moment) → IsLegalRun script tables old other others → others ≡ moments
+  -- no other trace is a legal run of this script over these packs, with whatever tables
+  pub only : (others : ℕ → Option Table) (other : ℕ → Pack) (told : List Moment) → IsLegalRun script others old other told → (others ≡ tables) × (told ≡ moments)

@@ -19,6 +19,7 @@ ghost use Rattle.run_promises.specs.Beginnings.{BeginningsKeep, FrontsKeep, Next
 ghost use Rattle.run_promises.specs.Promises.{Promises};
 
 use block_machine::{answers_law, last_write_law, once_law, packs_law, refusals_law, step_law};
+use pack_model::pack_table_law;
 use trace_bounds::{commands_law, drain_law};
 use trace_replay::{bounds_law, cause_law, one_trace_law};
 use trace_work::{consistent_law, told_causes_law};
@@ -39,6 +40,7 @@ pub fn promises_law()
     drain_law();
     bounds_law();
     one_trace_law();
+    pack_table_law();
 }
 
 /// The law of a run that was begun, however it goes on: its answers so far are legal and have their causes, and where the packs are left

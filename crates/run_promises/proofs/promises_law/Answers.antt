@@ -1,8 +1,8 @@
 use Rattle.std.proofs.Common.{◌≡◌, ℕ, List, [], ◌∷◌, ◌++◌, Option, subst}
 use Rattle.pack_model.specs.Pack.{Pack}
 use Rattle.pack_model.specs.TableSpelling.{Table}
-use Rattle.trace_replay.specs.Moments.{Moment, Told, End}
-use Rattle.trace_replay.specs.Script.{Script, drives_of}
+use Rattle.trace_replay.specs.Moments.{Moment, Played, Told, End}
+use Rattle.trace_replay.specs.Script.{Script, Drain, drives_of}
 use Rattle.trace_replay.specs.Packs.{surface_of}
 use Rattle.trace_replay.specs.Replay.{Follows, after_moments}
 use Rattle.trace_replay.proofs.Following.{follow_on}
@@ -52,8 +52,14 @@ returns c script tables old new moments run = record {
   drains = λ before drained after e none. c.drain_law.ensures.run script tables old new before drained after (same run e) none;
   events = λ moment before after e between. c.drain_law.ensures.tells (start_of script tables old) before moment (c.drain_law.ensures.start (drives_of script) tables (surface_of old)) (fronts before (moment ∷ after) (same run e)).0 between
       (fronts before (moment ∷ after) (same run e)).1.0;
+  first_events = λ line moment before after e some. c.drain_law.ensures.begins (start_of script tables old) before line moment (c.drain_law.ensures.start (drives_of script) tables (surface_of old))
+      (fronts before (Played line Drain ∷ moment ∷ after) (same run e)).0 (fronts before (Played line Drain ∷ moment ∷ after) (same run e)).1.0 some
+      (fronts before (Played line Drain ∷ moment ∷ after) (same run e)).1.1.0;
   undisturbed = λ line unit id answer before after e ok clean. c.bounds_law.ensures (drives_of script) tables (surface_of old) before line unit id answer
       (run_asks script tables old new before (Told line unit id (End answer) ∷ after) (same run e)) (first_end before after (Told line unit id (End answer)) (same run e)) ok clean;
   rest = c.packs_law.ensures script tables old new moments run;
-  only = λ other others is. c.one_trace_law.ensures.run script tables old other new others moments is run;
+  only = λ others other told is. only_by others other told is (c.pack_table_law.ensures.all_once (drives_of script) old others tables is.tables_read run.tables_read);
 }
+  where
+    only_by : (others : ℕ → Option Table) (other : ℕ → Pack) (told : List Moment) → IsLegalRun script others old other told → others ≡ tables → (others ≡ tables) × (told ≡ moments)
+    only_by others other told is e = (e, c.one_trace_law.ensures.run script tables old other new told moments (subst (λ (ts : ℕ → Option Table). IsLegalRun script ts old other told) e is) run)
