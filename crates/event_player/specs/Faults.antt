@@ -35,15 +35,15 @@ IsLongFor script tells packs fault.Sink = Unit {0}
 
 -- where nothing was played all is as it was
 pub record AreUntouched {O T : Type 0} (tells : Bool) (old new : ℕ → Pack) (out out' : O) (trace trace' : T) : Type 0 where
-  pub packs : IsTrue tells → new ≡ old
-  pub out : out' ≡ out
-  pub trace : trace' ≡ trace
+  pub same : IsTrue tells → new ≡ old
+  pub silent : out' ≡ out
+  pub untraced : trace' ≡ trace
 
 -- an object that tells now told before
 pub record HaveTold (packs packs' out out' trace trace' : Bool) : Type 0 where
-  pub packs : IsTrue packs' → IsTrue packs
-  pub out : IsTrue out' → IsTrue out
-  pub trace : IsTrue trace' → IsTrue trace
+  pub never_again : IsTrue packs' → IsTrue packs
+  pub never_again_out : IsTrue out' → IsTrue out
+  pub never_again_trace : IsTrue trace' → IsTrue trace
 
 -- the packs or a sink failed only where its count of faults rose; no count falls
 pub record Rise {T : Type 0} (packs packs' out out' trace trace' : ℕ) (result : Result T PlayFault) : Type 0 where

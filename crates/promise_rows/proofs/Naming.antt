@@ -12,6 +12,7 @@ use Rattle.subsystem_spec.specs.Requests.{Request, first_block}
 use Rattle.trace_replay.specs.Moments.{Told}
 use Rattle.trace_replay.specs.Script as says
 use Rattle.trace_replay.specs.Script.{Input, Numbered, drives_of, inputs_of}
+use Rattle.trace_bounds.specs.Drains.{event_by}
 use Rattle.driver_reach.specs.Reach.{AsksBelow, AskBelow, TablesBelow}
 use Rattle.promise_rows.specs.Naming.{LaterUnitNamed, FittingLengthNamed, FirstEventUntold, OtherRunByOtherTables, NoneWrites, WritesTo, ReadsLengthen, TwoLinesUnderWay, MarkGoneBehindAFailure}
 
@@ -37,14 +38,14 @@ pub other_run_by_other_tables : OtherRunByOtherTables
 other_run_by_other_tables script tables others old new left moments told promises run other = other (promises.only others left told run).1
 
 -- WHERE NOTHING IS WRITTEN to a unit, what is asked ends below no block of it, and below a bound on each other one.
-ends_at : ℕ → ℕ → ℕ → ℕ
+abbrev ends_at : ℕ → ℕ → ℕ → ℕ
 ends_at unit top u = if u == unit then 0 else top
 
-end_of : (ℕ → Option DriveKind) → Input → ℕ
+abbrev end_of : (ℕ → Option DriveKind) → Input → ℕ
 end_of drives (says.Submit r) = first_block (unwrap_or (drives r.unit) Rp06) r + r.count
 end_of drives input = 0
 
-bound : (ℕ → Option DriveKind) → List Numbered → ℕ
+abbrev bound : (ℕ → Option DriveKind) → List Numbered → ℕ
 bound drives [] = 1000000
 bound drives (next ∷ inputs) = end_of drives next.input + bound drives inputs
 

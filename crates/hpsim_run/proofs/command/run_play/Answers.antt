@@ -37,10 +37,10 @@ returns-in-Err-TooLong-clause-runs g c = runs_too_long _ _ c.in-Ok.ensures.taken
       length_is = c.in-Err-TooLong.length;
       spelled = λ t. c.in-Ok.ensures.ok t;
       is = long_parts _ _ _ _ _ _ c.in-Err-TooLong.field-0-is c.in-Err-TooLong.ensures.too_long;
-      told = λ t. told_from g.O.Sink.taken g.O.Sink.faults _ _ _ _ _ (c.in-Err-TooLong.ensures.untouched (long_before _ _ _ c.in-Err-TooLong.field-0-is)).out
+      told = λ t. told_from g.O.Sink.taken g.O.Sink.faults _ _ _ _ _ (c.in-Err-TooLong.ensures.untouched (long_before _ _ _ c.in-Err-TooLong.field-0-is)).silent
           (told_of c.write_all-in-Err-TooLong.result _ _ _ _ _ _ _ _ c.as_bytes-in-Err-TooLong.ensures.text c.too_long.ensures c.write_all-in-Err-TooLong.ensures.bytes c.write_all-in-Err-TooLong.ensures.front c.write_all-in-Err-TooLong.ensures.cause t);
     })
-    (c.in-Err-TooLong.ensures.untouched (long_before _ _ _ c.in-Err-TooLong.field-0-is)).packs
+    (c.in-Err-TooLong.ensures.untouched (long_before _ _ _ c.in-Err-TooLong.field-0-is)).same
 
 pub returns-in-Err-Sink-clause-runs : goal.returns-in-Err-Sink-clause-runs
 returns-in-Err-Sink-clause-runs g c = runs_sink _ _ c.in-Ok.ensures.taken
