@@ -7,6 +7,7 @@ use Rattle.script_reader.specs.Known.{Numbered}
 use Rattle.script_reader.specs.Words.{all_verbs}
 use Rattle.script_reader.proofs.ReadingLaws.{one_script}
 use Rattle.script_meaning.specs.Meaning.{meaning}
+use Rattle.event_player.specs.declared.play.PlayFault.{PlayFault}
 use Rattle.event_player.specs.declared.play.PlayFault.TheVariants as faults
 use Rattle.event_player.specs.Plays.{IsTooLong}
 use Rattle.hpsim_run.specs.Outside.{Outside}
@@ -45,7 +46,7 @@ module _ (old new : Outside) (read : IsRead old new) where
     ];
   }
 
-  abbrev Stop : Rattle.event_player.specs.declared.play.PlayFault.PlayFault → Type 0
+  abbrev Stop : PlayFault → Type 0
   Stop fault = HasStopped fault new.source_tells old.left new.left new.packs_tell old.held new.held new.out_tells old.said new.said new.trace_tells old.taken new.taken
 
   pub runs_sink : (s : Stop faults.Sink) → (IsTrue new.packs_tell → (unit n : ℕ) → ¬ (IsTooLong (meaning s.lines s.count) old.held unit n))
