@@ -15,6 +15,7 @@ use Rattle.hardware_table.specs.declared.Moved.{Moved}
 use Rattle.hardware_table.specs.declared.Moved.TheVariants as verdict
 use Rattle.hardware_table.specs.Drive.{DriveState, is_ready}
 use Rattle.mba_adapter.specs.Loaded.{loaded_buffer}
+use Rattle.request_slots.specs.Steps.{MayStep}
 use Rattle.transfer_engine.specs.declared.job.Job.{Job}
 use Rattle.transfer_engine.specs.declared.job.Segment.{Segment}
 use Rattle.transfer_engine.specs.State.{TransferState, IsJob, segment_by, segment_of}
@@ -339,10 +340,7 @@ module _ (w : World) (line u id : ℕ) (s : Sound w) where
 
   -- A SECTOR is moved by a transfer that is under way.
   pub record IsUnderWayFor : Type 0 where
-    pub bus : (held_in w (slot_in_hand (unit_at w u))).on_bus ≡ true
-    pub loaded : (held_in w (slot_in_hand (unit_at w u))).loan ≡ loaded_buffer (adapter_at w (adapter_of u)).state
-    pub transfer : (unit_at w u).drive.work ≡ work.Transfer (adapter_at w (adapter_of u)).state.write
-    pub block : next_block (adapter_at w (adapter_of u)).state < block_count (unit_at w u).drive.kind
+    pub may : MayStep w.slots (slot_in_hand (unit_at w u)) (adapter_at w (adapter_of u)).state (unit_at w u).drive
     pub segment : (adapter_at w (adapter_of u)).state.block ≡ (segment_of (transfer_of (unit_at w u))).block
     pub small : next_block (adapter_at w (adapter_of u)).state < 2 ^ 32
 
@@ -358,10 +356,15 @@ module _ (w : World) (line u id : ℕ) (s : Sound w) where
       let inside : next_block a < block_count (unit_at w u).drive.kind =
       subst (λ n. n + a.moved < block_count (unit_at w u).drive.kind) (sym block) (block_below (unit_at w u) (scene_of w u).held a.moved is.0 less) in
       record {
-        bus = has.on_bus;
-        loaded = sym has.loan;
-        transfer = is.1.work ∙ ap (λ (b : Bool). if b then work.Ready else work.Transfer a.write) busy.completion;
-        block = inside;
+        may = record {
+          there = hand_there i;
+          bus = has.on_bus;
+          loaded = sym has.loan;
+          busy = busy.busy;
+          under_way = busy.completion;
+          transfer = is.1.work ∙ ap (λ (b : Bool). if b then work.Ready else work.Transfer a.write) busy.completion;
+          block = inside;
+        };
         segment = block;
         small = below (next_block a) (block_count (unit_at w u).drive.kind) (2 ^ 32) inside (few_blocks (unit_at w u).drive.kind);
       }

@@ -21,7 +21,7 @@ use Rattle.driver_phases.proofs.Frame.{held_is}
 use Rattle.request_slots.specs.declared.asked.Asked.{Asked}
 use Rattle.request_slots.specs.Requests.{frames_lent, IsHeldFor}
 use Rattle.hp_core.specs.State.{State}
-use Rattle.hp_core.specs.Joins.{IsPut, in_queue, Joins}
+use Rattle.hp_core.specs.Joins.{MayJoin, IsPut, in_queue, Joins}
 use Rattle.hp_core.proofs.Deeds.{pigeons}
 use Rattle.hp_core.proofs.Telling.{silent_act}
 
@@ -120,22 +120,20 @@ module _ (line slot : ℕ) (asked : Asked) (bytes : List ℕ) (old mid new : Sta
         };
       }) (sym put.is.same)
 
-  pub joins : IsSetUp old.world asked.unit → IsFresh old.world asked.id
-      → asked.first + asked.count ≤ limit_of (unit_at old.world asked.unit).drive.kind
-      → old.world.frames + frames_needed asked.count asked.offset asked.last ≤ 16384 → Joins line slot asked bytes old new
-  joins unit fresh below room =
+  pub joins : MayJoin old.world asked bytes → Joins line slot asked bytes old new
+  joins can =
       let may : IsNew old.world slot put.held = record {
         free = put.inside;
         slot = put.free;
-        unit = subst (λ (a : Asked). IsSetUp old.world a.unit) (sym put.is.same) unit;
+        unit = subst (λ (a : Asked). IsSetUp old.world a.unit) (sym put.is.same) can.unit;
         lent = record { is = put.is.whole.loan; small = put.is.whole.small; apart = put.apart };
-        inside = subst (λ (a : Asked). a.first + a.count ≤ limit_of (unit_at old.world a.unit).drive.kind) (sym put.is.same) below;
-        room = subst (λ (a : Asked). old.world.frames + frames_needed a.count a.offset a.last ≤ 16384) (sym put.is.same) room;
+        inside = subst (λ (a : Asked). a.first + a.count ≤ limit_of (unit_at old.world a.unit).drive.kind) (sym put.is.same) can.below;
+        room = subst (λ (a : Asked). old.world.frames + frames_needed a.count a.offset a.last ≤ 16384) (sym put.is.same) can.room;
         size = put.is.whole.size;
         whole = λ k lt. put.is.whole.bytes k lt;
         on_bus = put.is.on_bus;
         going_on = put.is.ended;
-        fresh = subst (λ (a : Asked). IsFresh old.world a.id) (sym put.is.same) fresh;
+        fresh = subst (λ (a : Asked). IsFresh old.world a.id) (sym put.is.same) can.fresh;
       } in
       record {
         held = put.held;

@@ -1,18 +1,15 @@
 // One sector of a transfer.
-ghost use Rattle.std.specs.Prelude.{◌≡◌, ◌<◌, ◌^◌, true, false, IsTrue, IfOk, OnErr, IsSome, Some, length, slice_set, if◌then◌else◌};
-ghost use Rattle.pack_geometry.specs.Geometry.{block_count};
-ghost use Rattle.outside_traits.specs.Causes.{HasCause};
+ghost use Rattle.std.specs.Prelude.{◌≡◌, ◌<◌, ◌^◌, false, IfOk, OnErr, Some, length, slice_set, if◌then◌else◌};
 ghost use Rattle.main_memory.specs.Blocks.{size_at};
-ghost use Rattle.hardware_table.specs.declared.Work.TheVariants.{Transfer};
 ghost use Rattle.hardware_table.specs.Moves.{was_read};
 ghost use Rattle.hardware_table.specs.Adapter.{next_block, next_window, stepped, drive_stepped};
-ghost use Rattle.drive_model.specs.Move.{MovesSector, IsOldOrNew};
-ghost use Rattle.mba_adapter.specs.Loaded.{loaded_buffer};
+ghost use Rattle.drive_model.specs.Move.{MovesSector};
 ghost use Rattle.transfer_engine.specs.State.{segment_of};
-ghost use Rattle.driver_machine.specs.World.{unit_at, adapter_at, slot_at, held_in, slot_in_hand, adapter_of, drive_of, transfer_of, block_in, with_block_in};
+ghost use Rattle.driver_machine.specs.World.{unit_at, adapter_at, held_in, slot_in_hand, adapter_of, drive_of, transfer_of, block_in, with_block_in};
 ghost use Rattle.driver_machine.specs.Acts.{with_drive, with_state};
 ghost use Rattle.driver_machine.specs.Guards.{InHand, IsBusyFor};
 ghost use Rattle.driver_machine.specs.Sound.{Sound};
+ghost use Rattle.request_slots.specs.Steps.{MayStep, step_site, FailsAtPacks};
 ghost use Rattle.hp_core.specs.Done.{TriesSector};
 
 use crate::driver::Core;
@@ -32,19 +29,13 @@ impl Core {
         requires unit { u < length self.old.world.units }
         requires adapter { adapter_of u < length self.old.world.adapters }
         requires slot { slot ≡ slot_in_hand (unit_at self.old.world u) }
-        requires there { IsSome (slot_at self.old.world (slot_in_hand (unit_at self.old.world u))) }
-        requires bus { (held_in self.old.world (slot_in_hand (unit_at self.old.world u))).on_bus ≡ true }
-        requires busy { (adapter_at self.old.world (adapter_of u)).state.busy ≡ true }
-        requires under_way { (adapter_at self.old.world (adapter_of u)).state.completion ≡ false }
-        requires loaded { (held_in self.old.world (slot_in_hand (unit_at self.old.world u))).loan ≡ loaded_buffer (adapter_at self.old.world (adapter_of u)).state }
-        requires transfer { (unit_at self.old.world u).drive.work ≡ Transfer (adapter_at self.old.world (adapter_of u)).state.write }
-        requires block { next_block (adapter_at self.old.world (adapter_of u)).state < block_count (unit_at self.old.world u).drive.kind }
+        requires may { MayStep self.old.world.slots slot (adapter_at self.old.world (adapter_of u)).state (unit_at self.old.world u).drive }
 
         // The verdict, and the bytes that moved.
         ensures moves { let a = (adapter_at self.old.world (adapter_of u)).state in let p = slot_in_hand (unit_at self.old.world u) in
             IfOk result (λ v. MovesSector u (next_block a) (unit_at self.old.world u).drive (size_at (held_in self.old.world p).loan (next_window a)) (P.tells packs.new)
-            (record { book = self.old.world.book; held = P.held packs.old; window = block_in (held_in self.old.world p) (next_window a) })
-            (record { book = self.new.world.book; held = P.held packs.new; window = block_in (held_in self.new.world p) (next_window a) }) v) }
+            (step_site self.old.world.book (P.held packs.old) self.old.world.slots p a)
+            (step_site self.new.world.book (P.held packs.new) self.new.world.slots p a) v) }
         ensures units { IfOk result (λ v. self.new.world.units ≡ slice_set self.old.world.units u
             (with_drive (drive_stepped v (adapter_at self.old.world (adapter_of u)).state) (unit_at self.old.world u))) }
         ensures adapters { IfOk result (λ v. self.new.world.adapters ≡ slice_set self.old.world.adapters (adapter_of u)
@@ -61,11 +52,9 @@ impl Core {
 
         // A failure.
         ensures unchanged { OnErr result (self.new ≡ self.old) }
-        ensures old_or_new { let a = (adapter_at self.old.world (adapter_of u)).state in let p = slot_in_hand (unit_at self.old.world u) in
-            OnErr result (IsOldOrNew u (next_block a) (unit_at self.old.world u).drive (P.tells packs.new)
-            (record { book = self.old.world.book; held = P.held packs.old; window = block_in (held_in self.old.world p) (next_window a) }) (P.held packs.new)) }
-        ensures never_again { IsTrue (P.tells packs.new) → IsTrue (P.tells packs.old) }
-        ensures cause { HasCause (P.faults packs.old) (P.faults packs.new) result }
+        ensures failure { let a = (adapter_at self.old.world (adapter_of u)).state in let p = slot_in_hand (unit_at self.old.world u) in
+            FailsAtPacks P.tells P.held P.faults packs.old packs.new u a (unit_at self.old.world u).drive
+            (step_site self.old.world.book (P.held packs.old) self.old.world.slots p a) result }
     {
         let channel = &mut self.channels[usize::from(u / 8)];
         self.units.move_sector(

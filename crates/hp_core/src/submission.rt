@@ -1,15 +1,14 @@
 // A request joins, and an answer is taken.
 ghost use Rattle.std.specs.Prelude.{◌≡◌, ◌≢◌, ◌≤◌, ◌<◌, ◌+◌, ◌-◌, ◌*◌, ◌∷◌, ℕ, [], true, false, All, None, Some, IsSome, Option, drop, if◌then◌else◌, length, slice_set};
 ghost use Rattle.std.specs.Option.{option_map_or};
-ghost use Rattle.pack_geometry.specs.Geometry.{block_count, limit_of};
+ghost use Rattle.pack_geometry.specs.Geometry.{block_count};
 ghost use Rattle.main_memory.specs.Frames.{frames_needed};
 ghost use Rattle.driver_machine.specs.declared.Made.{Made};
 ghost use Rattle.driver_machine.specs.World.{unit_at, slot_at, held_in};
 ghost use Rattle.driver_machine.specs.Acts.{Taken, freed};
-ghost use Rattle.driver_machine.specs.Guards.{IsSetUp, IsFresh};
 ghost use Rattle.driver_machine.specs.Sound.{Sound};
-ghost use Rattle.request_slots.specs.Requests.{frames_lent, HasFree};
-ghost use Rattle.hp_core.specs.Joins.{IsPut, in_queue, Joins};
+ghost use Rattle.request_slots.specs.Requests.{frames_lent, HasFree, IsAskable};
+ghost use Rattle.hp_core.specs.Joins.{MayJoin, IsPut, in_queue, Joins};
 ghost use Rattle.hp_core.specs.Done.{DoesSilently};
 
 use crate::driver::{Core, needed};
@@ -19,14 +18,9 @@ impl Core {
     /// A request stands in a free slot, which is given, with the frames that it needs.
     fn put_in_slot(&mut self, asked: Asked, bytes: &[u8]) -> u32
         requires free { HasFree self.old.world.slots }
-        requires some { 1 ≤ asked.count }
-        requires few { asked.count ≤ 127 }
-        requires last_some { 1 ≤ asked.last }
-        requires last_few { asked.last ≤ 512 }
-        requires inside { asked.offset < 512 }
+        requires asked { IsAskable asked bytes.now }
         requires lent { self.old.world.frames ≡ frames_lent self.old.world.slots }
         requires room { self.old.world.frames + frames_needed asked.count asked.offset asked.last ≤ 16384 }
-        requires bytes { length bytes.now ≡ (if asked.write then 512 * (asked.count - 1) + asked.last else 0) }
         ensures { IsPut result asked bytes.now self.old self.new }
     {
         let slot = self.slots.join(asked, bytes);
@@ -48,21 +42,10 @@ impl Core {
         self.units.join(u, slot, first);
     }
 
-    /// A request joins in a free slot, which is given, with its bytes where it is a write. No answer waits, its unit is set up, its
-    /// id is fresh, its blocks lie before the tables at the end of the pack, and there are frames for it.
+    /// A request joins in a free slot, which is given, with its bytes where it is a write.
     pub fn join(&mut self, line: u64, asked: Asked, bytes: &[u8]) -> u32
         requires sound { Sound self.old.world }
-        requires free { HasFree self.old.world.slots }
-        requires unit { IsSetUp self.old.world asked.unit }
-        requires fresh { IsFresh self.old.world asked.id }
-        requires below { asked.first + asked.count ≤ limit_of (unit_at self.old.world asked.unit).drive.kind }
-        requires some { 1 ≤ asked.count }
-        requires few { asked.count ≤ 127 }
-        requires last_some { 1 ≤ asked.last }
-        requires last_few { asked.last ≤ 512 }
-        requires inside { asked.offset < 512 }
-        requires room { self.old.world.frames + frames_needed asked.count asked.offset asked.last ≤ 16384 }
-        requires bytes { length bytes.now ≡ (if asked.write then 512 * (asked.count - 1) + asked.last else 0) }
+        requires may { MayJoin self.old.world asked bytes.now }
         ensures { Joins line result asked bytes.now self.old self.new }
     {
         let slot = self.put_in_slot(asked, bytes);

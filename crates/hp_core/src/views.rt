@@ -23,16 +23,8 @@ use transfer_engine::Segment;
 
 // The units.
 impl Core {
-    /// How many units there are, set up or not.
-    pub fn unit_count(&self) -> u32
-        requires { Sound self.now.world }
-        ensures { result ≡ length self.now.world.units }
-    {
-        self.units.count()
-    }
-
     /// Whether a unit is set up.
-    pub fn is_declared(&self, u: u8) -> bool
+    pub(crate) fn is_declared(&self, u: u8) -> bool
         requires { u < length self.now.world.units }
         ensures { result ≡ (unit_at self.now.world u).declared }
     {
@@ -252,17 +244,6 @@ impl Core {
         self.slots.asked(slot)
     }
 
-    /// Whether an answer waits.
-    pub fn waits(&self) -> bool
-        ensures some { result ≡ true → 0 < length self.now.world.answers }
-        ensures none { result ≡ false → self.now.world.answers ≡ [] }
-    {
-        match self.answers.first() {
-            Some(_) => true,
-            None => false,
-        }
-    }
-
     /// The oldest answer. None where none waits.
     pub fn first_answer(&self) -> Option<Made>
         ensures some { IfSome result (λ made. self.now.world.answers ≡ made ∷ drop 1 self.now.world.answers) }
@@ -289,12 +270,5 @@ impl Core {
         ensures { IfSome result (λ byte. IsFill byte (block_in (held_in self.now.world slot) k)) }
     {
         self.slots.fill(slot, k)
-    }
-
-    /// Whether no text of the trace is kept.
-    pub fn kept_is_empty(&self) -> bool
-        ensures { result ≡ (length self.now.kept == 0) }
-    {
-        self.gather.is_empty()
     }
 }

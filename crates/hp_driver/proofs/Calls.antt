@@ -1,6 +1,7 @@
 -- Parts of a call: acts whose lines are sent, conditions, and the move of a sector.
 use Rattle.std.proofs.Common.{◌≡◌, ℕ, ◌≤◌, Bool, true, false, List, [], ◌∷◌, ◌++◌, Some, None, refl, sym, ap, ◌∙◌, subst, arith}
 use Rattle.std.specs.Prelude.{Result, Ok, Err, IfErr, OnOk}
+use Rattle.std.specs.Result.{IsErrAnd}
 use Rattle.std.proofs.lemmas.List.{append-nil}
 use Rattle.pack_model.specs.Pack.{Pack, empty_pack}
 use Rattle.outside_traits.specs.Causes.{HasCause, Rose}
@@ -68,16 +69,21 @@ module _ {O : Type 0} (tells : O → Bool) (taken : O → List ℕ) (faults : O 
   }
 
   -- ACTS that stopped
-  pub acts_stopped : (trace trace' : O) (new : State) (stop : Stop) → DoesActs {A = Unit {0}} tells taken faults trace trace' old new (Err stop) acts
+  stopped_at : (trace trace' : O) (new : State) (stop : Stop) → DoesActs {A = Unit {0}} tells taken faults trace trace' old new (Err stop) acts
       → SendsActs tells taken faults trace trace' old new (Err stop) acts
-  acts_stopped trace trace' new Sink is = record {
+  stopped_at trace trace' new Sink is = record {
     outcome = λ packs held. front_taken packs acts old.world new.world held held (taken trace) (taken trace') old.kept new.kept none (tells trace') (is.outcome packs held);
     stop = is.stop;
     never_again = is.never_again;
     cause = is.cause;
     sent = tt;
   }
-  acts_stopped trace trace' new Store is = absurd (let e = is.stop in cc)
+  stopped_at trace trace' new Store is = absurd (let e = is.stop in cc)
+
+  pub acts_stopped : (trace trace' : O) (new : State) (result : Result (Unit {0}) Stop) {stop : Stop} → IsErrAnd result (λ x. x ≡ stop)
+      → DoesActs {A = Unit {0}} tells taken faults trace trace' old new (Err stop) acts → SendsActs tells taken faults trace trace' old new result acts
+  acts_stopped trace trace' new (Ok x) is does = absurd is
+  acts_stopped trace trace' new (Err e) is does = stopped_at trace trace' new e (subst (λ (s : Stop). DoesActs {A = Unit {0}} tells taken faults trace trace' old new (Err s) acts) (sym is) does)
 
 -- AN ACT WITHOUT A LINE keeps no text.
 pub silent_kept : (old new : State) (act : Act) → lines_of old.world act ≡ [] → DoesSilently old new act → new.kept ≡ old.kept

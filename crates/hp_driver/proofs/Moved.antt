@@ -1,6 +1,7 @@
 -- A move, and then what it told is sent.
 use Rattle.std.proofs.Common.{◌≡◌, ℕ, Bool, List, [], ◌++◌, Some, refl, sym, ◌∙◌, subst}
 use Rattle.std.specs.Prelude.{Result, Ok, Err, IfErr, OnOk}
+use Rattle.std.specs.Result.{IsErrAnd}
 use Rattle.pack_model.specs.Pack.{Pack}
 use Rattle.outside_traits.specs.Causes.{HasCause}
 use Rattle.trace_replay.specs.Script.{MoveAt}
@@ -68,10 +69,10 @@ module _ {O Q : Type 0} (holds : Q → Bool) (held : Q → ℕ → Pack) (packs_
         causes = move_causes (packs_faults packs) (packs_faults packs') (faults trace) (faults mid_trace) (faults trace') x result is.causes sends.gathers.cause sends.stop;
       }
 
-  pub moved_stopped : (trace trace' : O) (new : State) (stop : Stop)
+  stopped_at : (trace trace' : O) (new : State) (stop : Stop)
       → DoesMove holds held packs_faults tells taken faults packs packs' trace trace' old new (Err stop) line a
       → Happens holds held packs_faults tells taken faults packs packs' trace trace' old new (Err stop) line (MoveAt a)
-  moved_stopped trace trace' new stop is =
+  stopped_at trace trace' new stop is =
       let outcome : Outcome (record { packs = holds packs'; trace = tells trace' }) (move_acts line a is.tried old.world) (seen old.world (held packs) (taken trace)) (seen new.world (held packs') (taken trace')) (Some stop) =
       by_stop stop is.outcome is.kept in
       record {
@@ -97,3 +98,10 @@ module _ {O Q : Type 0} (holds : Q → Bool) (held : Q → ℕ → Pack) (packs_
           → Outcome (record { packs = holds packs'; trace = tells trace' }) (move_acts line a is.tried old.world) (seen old.world (held packs) (taken trace)) (seen new.world (held packs') (taken trace')) (Some stop)
       by_stop Sink o kept = front_taken (holds packs') (move_acts line a is.tried old.world) old.world new.world (held packs) (held packs') (taken trace) (taken trace') old.kept new.kept stands.sent (tells trace') o
       by_stop Store o kept = packs_stopped (holds packs') (move_acts line a is.tried old.world) old.world new.world (held packs) (held packs') (taken trace) (taken trace') old.kept new.kept stands.sent (tells trace') (kept refl ∙ stands.sent) o
+
+  pub moved_stopped : (trace trace' : O) (new : State) (result : Result (Unit {0}) Stop) {stop : Stop} → IsErrAnd result (λ x. x ≡ stop)
+      → DoesMove holds held packs_faults tells taken faults packs packs' trace trace' old new (Err stop) line a
+      → Happens holds held packs_faults tells taken faults packs packs' trace trace' old new result line (MoveAt a)
+  moved_stopped trace trace' new (Ok x) is does = absurd is
+  moved_stopped trace trace' new (Err e) is does =
+      stopped_at trace trace' new e (subst (λ (s : Stop). DoesMove holds held packs_faults tells taken faults packs packs' trace trace' old new (Err s) line a) (sym is) does)

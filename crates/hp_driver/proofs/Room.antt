@@ -1,13 +1,17 @@
 -- Where a further request may be asked, and there are frames for it, a slot is free: each request has a frame at least.
 use Rattle.std.proofs.Common.{◌≡◌, ℕ, suc, ◌+◌, ◌-◌, ◌*◌, ◌/◌, ◌<◌, ◌≤◌, List, [], ◌∷◌, length, Option, Some, None, refl, arith}
 use Rattle.std.specs.Prelude.{min, slice_index_or}
+use Rattle.pack_geometry.specs.Geometry.{limit_of}
 use Rattle.main_memory.specs.Blocks.{IsLoan}
 use Rattle.main_memory.specs.Frames.{frames_needed}
-use Rattle.driver_machine.specs.World.{World, Held}
+use Rattle.driver_machine.specs.World.{World, Held, unit_at}
 use Rattle.driver_machine.specs.Sound.{Sound}
 use Rattle.request_slots.specs.Requests.{frames_lent, HasFree}
+use Rattle.hp_core.specs.Joins.{MayJoin}
 use Rattle.driver_counts.specs.Counts.{in_use}
 use Rattle.driver_counts.proofs.Slots.{free_where_room, all_lent_are_needed}
+use Rattle.hp_driver.specs.declared.request.Request.{Request}
+use Rattle.hp_driver.specs.Calls.{MayAsk, asked_at}
 
 -- each request needs a frame at least
 pub some_frames : (count offset last : ℕ) → 1 ≤ last → 1 ≤ frames_needed count offset last
@@ -30,7 +34,7 @@ few_requests (Some h ∷ slots) loans =
     more frames uses lent some few = omega (arith, some, few)
 
 -- A SLOT IS FREE
-pub one_free : (w : World) (outstanding count offset last : ℕ) → Sound w → w.answers ≡ [] → length w.slots ≡ min outstanding 16384
+one_free : (w : World) (outstanding count offset last : ℕ) → Sound w → w.answers ≡ [] → length w.slots ≡ min outstanding 16384
     → in_use w.slots < outstanding → 1 ≤ last → w.frames + frames_needed count offset last ≤ 16384 → HasFree w.slots
 unfolding AreLoans
 one_free w outstanding count offset last sound none size room some fits =
@@ -41,3 +45,22 @@ one_free w outstanding count offset last sound none size room some fits =
     enough : (uses slots outstanding lent frames needed : ℕ) → slots ≡ min outstanding 16384 → uses < outstanding → uses ≤ lent → frames ≡ lent → 1 ≤ needed → frames + needed ≤ 16384
         → uses < slots
     enough uses slots outstanding lent frames needed size room few same some fits = omega (arith, size, room, few, same, some, fits)
+
+-- so a request for which there are frames may join
+pub may_join : (w : World) (r : Request) (first : ℕ) (bytes : List ℕ) → Sound w → w.answers ≡ [] → MayAsk w r bytes
+    → first + r.count ≤ limit_of (unit_at w r.unit).drive.kind → w.frames + frames_needed r.count r.offset r.last ≤ 16384 → MayJoin w (asked_at r first) bytes
+may_join w r first bytes sound none may inside room = record {
+  free = one_free w may.most r.count r.offset r.last sound none may.slots may.room may.request.ends room;
+  unit = may.unit;
+  fresh = may.fresh;
+  below = inside;
+  room = room;
+  is = record {
+    some = may.request.some;
+    few = may.request.few;
+    last_some = may.request.ends;
+    last_few = may.request.in_block;
+    inside = may.request.in_frame;
+    size = may.size;
+  };
+}

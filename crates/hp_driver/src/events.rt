@@ -17,10 +17,8 @@ fn arrive<T: Sink>(core: &mut Core, line: u64, unit: u8, trace: &mut T) -> Resul
     requires unit { unit < 32 }
     ensures { SendsActs T.tells T.taken T.faults trace.old trace.new core.old core.new result (arrive_acts line unit core.old.world) }
 {
-    match hp_events::arrive(core, line, unit, trace) {
-        Ok(()) => core.flush(trace),
-        Err(stop) => Err(stop),
-    }
+    hp_events::arrive(core, line, unit, trace)?;
+    core.flush(trace)
 }
 
 /// An adapter's interrupt is delivered.
@@ -29,10 +27,8 @@ fn attend<T: Sink>(core: &mut Core, line: u64, adapter: u8, trace: &mut T) -> Re
     requires adapter { adapter < 4 }
     ensures { SendsActs T.tells T.taken T.faults trace.old trace.new core.old core.new result (attend_acts line adapter core.old.world) }
 {
-    match hp_events::attend(core, line, adapter, trace) {
-        Ok(()) => core.flush(trace),
-        Err(stop) => Err(stop),
-    }
+    hp_events::attend(core, line, adapter, trace)?;
+    core.flush(trace)
 }
 
 /// A sector is tried. Where the packs fail nothing is told.
@@ -47,10 +43,8 @@ fn move_sector<P: Packs, T: Sink>(
     requires adapter { adapter < 4 }
     ensures { Happens P.tells P.held P.faults T.tells T.taken T.faults packs.old packs.new trace.old trace.new core.old core.new result line (script.MoveAt adapter) }
 {
-    match hp_events::move_sector(core, line, adapter, packs, trace) {
-        Ok(()) => core.flush(trace),
-        Err(stop) => Err(stop),
-    }
+    hp_events::move_sector(core, line, adapter, packs, trace)?;
+    core.flush(trace)
 }
 
 /// An event happens at a line of the script.

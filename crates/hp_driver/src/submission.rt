@@ -91,10 +91,8 @@ fn refuse<T: Sink>(
         → SendsActs T.tells T.taken T.faults trace.old trace.new core.old core.new result
         (followed (Refuse line r kind ∷ []) (adapter_start line (adapter_of r.unit)) core.old.world) }
 {
-    match hp_events::refuse(core, line, unit, id, kind, trace) {
-        Ok(()) => core.flush(trace),
-        Err(stop) => Err(stop),
-    }
+    hp_events::refuse(core, line, unit, id, kind, trace)?;
+    core.flush(trace)
 }
 
 /// A request joins in a free slot, of which there is one, from this block of its pack on.
@@ -116,10 +114,8 @@ fn join<T: Sink>(
     ensures { Asks T.tells T.taken T.faults trace.old trace.new core.old core.new result line (asked request bytes.now) }
 {
     let asked = asked_from(request, first);
-    match hp_events::join(core, line, asked, bytes, trace) {
-        Ok(()) => core.flush(trace),
-        Err(stop) => Err(stop),
-    }
+    hp_events::join(core, line, asked, bytes, trace)?;
+    core.flush(trace)
 }
 
 /// A request is submitted: it is refused, or joins in a free slot.

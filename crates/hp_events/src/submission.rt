@@ -1,14 +1,12 @@
 // What a submission does.
-ghost use Rattle.std.specs.Prelude.{◌≡◌, ◌<◌, ◌≤◌, ◌+◌, ◌-◌, ◌*◌, ◌∷◌, [], length, if◌then◌else◌};
-ghost use Rattle.pack_geometry.specs.Geometry.{limit_of};
-ghost use Rattle.main_memory.specs.Frames.{frames_needed};
+ghost use Rattle.std.specs.Prelude.{◌≡◌, ◌∷◌, []};
 ghost use Rattle.subsystem_spec.specs.Requests.{Request};
-ghost use Rattle.driver_machine.specs.World.{adapter_of, unit_at};
+ghost use Rattle.driver_machine.specs.World.{adapter_of};
 ghost use Rattle.driver_machine.specs.Acts.{Refuse};
 ghost use Rattle.driver_machine.specs.Events.{followed, adapter_start};
-ghost use Rattle.driver_machine.specs.Guards.{Allowed, IsSetUp, IsFresh};
+ghost use Rattle.driver_machine.specs.Guards.{Allowed};
 ghost use Rattle.driver_machine.specs.Sound.{Sound, AtWork};
-ghost use Rattle.request_slots.specs.Requests.{HasFree};
+ghost use Rattle.hp_core.specs.Joins.{MayJoin};
 ghost use Rattle.hp_events.specs.Done.{DoesActs};
 ghost use Rattle.hp_events.specs.Submissions.{MayRefuse, Submits};
 
@@ -39,8 +37,7 @@ pub fn refuse<T: Sink>(
 }
 
 /// A request joins in a free slot, with its bytes where it is a write; what is due at its unit is done, and its adapter is started.
-/// No answer waits, no task is due anywhere, the unit is set up, the id is fresh, the blocks lie before the tables at the end of the
-/// pack, and there are frames for it. Stops where the trace fails.
+/// No task is due anywhere. Stops where the trace fails.
 pub fn join<T: Sink>(
     core: &mut Core,
     line: u64,
@@ -50,17 +47,7 @@ pub fn join<T: Sink>(
 ) -> Result<(), Stop>
     requires sound { Sound core.old.world }
     requires work { AtWork core.old.world }
-    requires free { HasFree core.old.world.slots }
-    requires unit { IsSetUp core.old.world asked.unit }
-    requires fresh { IsFresh core.old.world asked.id }
-    requires below { asked.first + asked.count ≤ limit_of (unit_at core.old.world asked.unit).drive.kind }
-    requires some { 1 ≤ asked.count }
-    requires few { asked.count ≤ 127 }
-    requires last_some { 1 ≤ asked.last }
-    requires last_few { asked.last ≤ 512 }
-    requires inside { asked.offset < 512 }
-    requires room { core.old.world.frames + frames_needed asked.count asked.offset asked.last ≤ 16384 }
-    requires bytes { length bytes.now ≡ (if asked.write then 512 * (asked.count - 1) + asked.last else 0) }
+    requires may { MayJoin core.old.world asked bytes.now }
     ensures { Submits T.tells T.taken T.faults trace.old trace.new core.old core.new result line asked bytes.now }
 {
     core.join(line, asked, bytes);

@@ -1,3 +1,4 @@
 pub mod Lending
 pub mod Requests
+pub mod Steps
 pub mod Stored

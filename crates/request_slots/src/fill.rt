@@ -6,6 +6,7 @@ ghost use Rattle.main_memory.specs.Blocks.{Loan, IsLoan, size_of, span_of, bytes
 ghost use Rattle.main_memory.specs.Memory.{IsMemory, IsLent, AreApart, with_block, blocks_of};
 ghost use Rattle.ecc_repair.specs.Repaired.{repaired};
 ghost use Rattle.driver_machine.specs.World.{pieces};
+ghost use Rattle.request_slots.specs.Requests.{IsAskable};
 ghost use Rattle.request_slots.specs.Lending.{HasLent, Stores};
 
 use crate::asked::Asked;
@@ -77,13 +78,8 @@ fn fill(memory: &mut MainMemory, buffer: &Buffer<Cpu>, bytes: &[u8])
 
 // Lends a buffer for a request, with the bytes of a write in it.
 pub fn lend_filled(memory: &mut MainMemory, asked: Asked, bytes: &[u8]) -> Buffer<Cpu>
-    requires some { 1 ≤ asked.count }
-    requires few { asked.count ≤ 127 }
-    requires last_some { 1 ≤ asked.last }
-    requires last_few { asked.last ≤ 512 }
-    requires inside { asked.offset < 512 }
+    requires asked { IsAskable asked bytes.now }
     requires room { frames_needed asked.count asked.offset asked.last ≤ length memory.old.free }
-    requires bytes { length bytes.now ≡ (if asked.write then 512 * (asked.count - 1) + asked.last else 0) }
     ensures lent { HasLent memory.old memory.new result asked }
     ensures content { asked.write ≡ true → blocks_of result memory.new ≡ pieces asked.count bytes.now }
 {

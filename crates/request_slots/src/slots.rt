@@ -7,7 +7,7 @@ ghost use Rattle.mba_adapter.specs.Loaded.{loaded_buffer};
 ghost use Rattle.driver_machine.specs.World.{Held, count_of, block_in};
 ghost use Rattle.driver_machine.specs.Acts.{repaired_at};
 ghost use Rattle.driver_machine.specs.Guards.{IsApart};
-ghost use Rattle.request_slots.specs.Requests.{slot_at, held_at, frames_lent, asked_of, IsWhole, HasFree, IsHeldFor};
+ghost use Rattle.request_slots.specs.Requests.{slot_at, held_at, frames_lent, asked_of, IsAskable, IsWhole, HasFree, IsHeldFor};
 
 mod steps;
 
@@ -77,13 +77,8 @@ impl Slots {
     /// Puts a request into a free slot, with a buffer, and gives the slot. The bytes of a write go into the buffer.
     pub fn join(&mut self, asked: Asked, bytes: &[u8]) -> u32
         requires free { HasFree self.old }
-        requires some { 1 ≤ asked.count }
-        requires few { asked.count ≤ 127 }
-        requires last_some { 1 ≤ asked.last }
-        requires last_few { asked.last ≤ 512 }
-        requires inside { asked.offset < 512 }
+        requires asked { IsAskable asked bytes.now }
         requires room { frames_lent self.old + frames_needed asked.count asked.offset asked.last ≤ 16384 }
-        requires bytes { length bytes.now ≡ (if asked.write then 512 * (asked.count - 1) + asked.last else 0) }
         ensures free { result < length self.old }
         ensures none { slot_at self.old result ≡ None }
         ensures joined { (h : Held) × IsHeldFor asked bytes.now h × (self.new ≡ slice_set self.old result (Some h)) }

@@ -69,13 +69,6 @@ impl UnitBank {
         let _units = &self.units;
     }
 
-    /// How many units there are, set up or not.
-    pub fn count(&self) -> u32
-        ensures { result ≡ length self.now }
-    {
-        self.units.len() as u32
-    }
-
     /// A unit, to be looked at.
     pub fn unit(&self, u: u8) -> &DiskUnit
         requires { u < length self.now }

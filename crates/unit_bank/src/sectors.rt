@@ -1,16 +1,13 @@
 // One sector of a transfer.
-ghost use Rattle.std.specs.Prelude.{◌≡◌, ◌<◌, true, false, IsTrue, IfOk, OnErr, IsSome, Some, length, slice_set, if◌then◌else◌};
-ghost use Rattle.pack_geometry.specs.Geometry.{block_count};
-ghost use Rattle.outside_traits.specs.Causes.{HasCause};
+ghost use Rattle.std.specs.Prelude.{◌≡◌, ◌<◌, IfOk, OnErr, Some, length, slice_set, if◌then◌else◌};
 ghost use Rattle.main_memory.specs.Blocks.{size_at};
-ghost use Rattle.hardware_table.specs.declared.Work.TheVariants.{Transfer};
 ghost use Rattle.hardware_table.specs.Moves.{was_read};
 ghost use Rattle.hardware_table.specs.Adapter.{next_block, next_window, stepped, drive_stepped};
-ghost use Rattle.drive_model.specs.Move.{MovesSector, IsOldOrNew};
-ghost use Rattle.mba_adapter.specs.Loaded.{loaded_buffer};
+ghost use Rattle.drive_model.specs.Move.{MovesSector};
 ghost use Rattle.driver_machine.specs.World.{block_in, with_block_in};
 ghost use Rattle.driver_machine.specs.Acts.{with_drive};
-ghost use Rattle.request_slots.specs.Requests.{slot_at, held_at};
+ghost use Rattle.request_slots.specs.Requests.{held_at};
+ghost use Rattle.request_slots.specs.Steps.{MayStep, step_site, FailsAtPacks};
 ghost use Rattle.unit_bank.specs.Row.{unit_in};
 
 use crate::bank::UnitBank;
@@ -32,19 +29,13 @@ impl UnitBank {
         book: &mut NoiseBook,
     ) -> Result<Moved, StoreFailed>
         requires unit { u < length self.old }
-        requires there { IsSome (slot_at slots.old slot) }
-        requires bus { (held_at slots.old slot).on_bus ≡ true }
-        requires loaded { (held_at slots.old slot).loan ≡ loaded_buffer adapter.old }
-        requires busy { adapter.old.busy ≡ true }
-        requires under_way { adapter.old.completion ≡ false }
-        requires transfer { (unit_in self.old u).drive.work ≡ Transfer adapter.old.write }
-        requires block { next_block adapter.old < block_count (unit_in self.old u).drive.kind }
+        requires may { MayStep slots.old slot adapter.old (unit_in self.old u).drive }
 
         // The verdict, and the bytes that moved: those of the next block of that slot.
-        ensures moves { let h = held_at slots.old slot in let k = next_window adapter.old in
-            IfOk result (λ v. MovesSector u (next_block adapter.old) (unit_in self.old u).drive (size_at h.loan k) (P.tells packs.new)
-            (record { book = book.old; held = P.held packs.old; window = block_in h k })
-            (record { book = book.new; held = P.held packs.new; window = block_in (held_at slots.new slot) k }) v) }
+        ensures moves { IfOk result (λ v. MovesSector u (next_block adapter.old) (unit_in self.old u).drive
+            (size_at (held_at slots.old slot).loan (next_window adapter.old)) (P.tells packs.new)
+            (step_site book.old (P.held packs.old) slots.old slot adapter.old)
+            (step_site book.new (P.held packs.new) slots.new slot adapter.old) v) }
         ensures adapter { IfOk result (λ v. adapter.new ≡ stepped v adapter.old) }
         ensures units { IfOk result (λ v. self.new ≡ slice_set self.old u (with_drive (drive_stepped v adapter.old) (unit_in self.old u))) }
 
@@ -59,12 +50,8 @@ impl UnitBank {
         // A failure.
         ensures unchanged { OnErr result ((self.new ≡ self.old) × (slots.new ≡ slots.old)
             × (adapter.new ≡ adapter.old) × (book.new ≡ book.old)) }
-        ensures old_or_new { let k = next_window adapter.old in
-            OnErr result (IsOldOrNew u (next_block adapter.old) (unit_in self.old u).drive (P.tells packs.new)
-            (record { book = book.old; held = P.held packs.old; window = block_in (held_at slots.old slot) k })
-            (P.held packs.new)) }
-        ensures never_again { IsTrue (P.tells packs.new) → IsTrue (P.tells packs.old) }
-        ensures cause { HasCause (P.faults packs.old) (P.faults packs.new) result }
+        ensures failure { FailsAtPacks P.tells P.held P.faults packs.old packs.new u adapter.old (unit_in self.old u).drive
+            (step_site book.old (P.held packs.old) slots.old slot adapter.old) result }
     {
         slots.step(
             slot,

@@ -1,15 +1,12 @@
 // One step of the transfer of a request.
-ghost use Rattle.std.specs.Prelude.{◌≡◌, ◌<◌, true, false, IsTrue, IfOk, IsOk, OnErr, IsSome, Some, if◌then◌else◌, length, slice_set};
-ghost use Rattle.pack_geometry.specs.Geometry.{block_count};
-ghost use Rattle.outside_traits.specs.Causes.{HasCause};
+ghost use Rattle.std.specs.Prelude.{◌≡◌, ◌<◌, IfOk, IsOk, OnErr, IsSome, Some, if◌then◌else◌, length, slice_set};
 ghost use Rattle.main_memory.specs.Blocks.{size_at};
-ghost use Rattle.hardware_table.specs.declared.Work.TheVariants.{Transfer};
 ghost use Rattle.hardware_table.specs.Moves.{stop_of, was_read};
 ghost use Rattle.hardware_table.specs.Adapter.{next_block, next_window, stepped, drive_stepped};
-ghost use Rattle.drive_model.specs.Move.{MovesSector, IsOldOrNew};
-ghost use Rattle.mba_adapter.specs.Loaded.{loaded_buffer};
+ghost use Rattle.drive_model.specs.Move.{MovesSector};
 ghost use Rattle.driver_machine.specs.World.{block_in, with_block_in};
-ghost use Rattle.request_slots.specs.Requests.{slot_at, held_at};
+ghost use Rattle.request_slots.specs.Requests.{held_at};
+ghost use Rattle.request_slots.specs.Steps.{MayStep, step_site, FailsAtPacks};
 
 use crate::slot::{Holder, slot_at};
 use crate::slots::Slots;
@@ -33,20 +30,14 @@ impl Slots {
         unit: u8,
         book: &mut NoiseBook,
     ) -> Result<Moved, StoreFailed>
-        requires there { IsSome (slot_at self.old slot) }
-        requires bus { (held_at self.old slot).on_bus ≡ true }
-        requires loaded { (held_at self.old slot).loan ≡ loaded_buffer adapter.old }
         requires unit { unit < 32 }
-        requires busy { adapter.old.busy ≡ true }
-        requires under_way { adapter.old.completion ≡ false }
-        requires transfer { drive.old.work ≡ Transfer adapter.old.write }
-        requires block { next_block adapter.old < block_count drive.old.kind }
+        requires may { MayStep self.old slot adapter.old drive.old }
 
         // The verdict, and the bytes that moved: those of the next block of that slot.
-        ensures moves { let h = held_at self.old slot in let k = next_window adapter.old in
-            IfOk result (λ v. MovesSector unit (next_block adapter.old) drive.old (size_at h.loan k) (P.tells packs.new)
-            (record { book = book.old; held = P.held packs.old; window = block_in h k })
-            (record { book = book.new; held = P.held packs.new; window = block_in (held_at self.new slot) k }) v) }
+        ensures moves { IfOk result (λ v. MovesSector unit (next_block adapter.old) drive.old
+            (size_at (held_at self.old slot).loan (next_window adapter.old)) (P.tells packs.new)
+            (step_site book.old (P.held packs.old) self.old slot adapter.old)
+            (step_site book.new (P.held packs.new) self.new slot adapter.old) v) }
         ensures adapter { IfOk result (λ v. adapter.new ≡ stepped v adapter.old) }
         ensures drive { IfOk result (λ v. drive.new ≡ drive_stepped v adapter.old drive.old) }
 
@@ -64,12 +55,8 @@ impl Slots {
         // A failure.
         ensures unchanged { OnErr result ((self.new ≡ self.old)
             × (adapter.new ≡ adapter.old) × (drive.new ≡ drive.old) × (book.new ≡ book.old)) }
-        ensures old_or_new { let k = next_window adapter.old in
-            OnErr result (IsOldOrNew unit (next_block adapter.old) drive.old (P.tells packs.new)
-            (record { book = book.old; held = P.held packs.old; window = block_in (held_at self.old slot) k })
-            (P.held packs.new)) }
-        ensures never_again { IsTrue (P.tells packs.new) → IsTrue (P.tells packs.old) }
-        ensures cause { HasCause (P.faults packs.old) (P.faults packs.new) result }
+        ensures failure { FailsAtPacks P.tells P.held P.faults packs.old packs.new unit adapter.old drive.old
+            (step_site book.old (P.held packs.old) self.old slot adapter.old) result }
     {
         let Holder::Adapter(buffer) = &slot_at(&self.slots, slot).buffer else {
             unreachable!()

@@ -1,9 +1,9 @@
 use Rattle.hp_driver.proofs.Moved.{moved_sent, moved_stopped}
 use Rattle.hp_driver.proofs.events.move_sector.Goals as goal
 
-pub returns-in-Ok : goal.returns-in-Ok
-returns-in-Ok g c =
-    moved_sent _ _ _ _ _ _ _ _ _ _ _ c.requires.stands _ _ _ _ _ c.in-Ok.field-0 _ c.in-Ok.ensures c.flush.ensures.sends c.flush.ensures.empty
+pub returns : goal.returns
+returns g c =
+    moved_sent _ _ _ _ _ _ _ _ _ _ _ c.requires.stands _ _ _ _ _ _ _ c.in_ok-move_sector.ensures c.flush.ensures.sends c.flush.ensures.empty
 
-pub returns-in-Err : goal.returns-in-Err
-returns-in-Err g c = moved_stopped _ _ _ _ _ _ _ _ _ _ _ c.requires.stands _ _ _ _ c.in-Err.ensures
+pub returns-in_err-move_sector : goal.returns-in_err-move_sector
+returns-in_err-move_sector g c = moved_stopped _ _ _ _ _ _ _ _ _ _ _ c.requires.stands _ _ _ _ c.from_residual.ensures.1 c.in_err-move_sector.ensures

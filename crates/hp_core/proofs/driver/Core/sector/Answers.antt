@@ -1,5 +1,8 @@
+use Rattle.std.proofs.Common.{ℕ, sym, subst}
+use Rattle.driver_machine.specs.World.{unit_at, adapter_at, adapter_of}
+use Rattle.request_slots.specs.Steps.{MayStep}
 use Rattle.hp_core.proofs.Tries.{Stepped, named_in, sector_told, sector_stopped}
-use Rattle.hp_core.proofs.Deeds.{there, adapter_there, hand_there, under_way}
+use Rattle.hp_core.proofs.Deeds.{there, adapter_there, under_way}
 use Rattle.hp_core.proofs.driver.Core.sector.Goals as goal
 
 pub hand-slot-requires-clause-unit : goal.hand-slot-requires-clause-unit
@@ -17,26 +20,10 @@ put_sector-requires-clause-unit g c = there _ c.args.line _ _ c.requires.sound c
 pub put_sector-requires-clause-adapter : goal.put_sector-requires-clause-adapter
 put_sector-requires-clause-adapter g c = adapter_there _ c.args.line _ _ c.requires.sound c.requires.in_hand
 
-pub put_sector-requires-clause-there : goal.put_sector-requires-clause-there
-put_sector-requires-clause-there g c = hand_there _ c.args.line _ _ c.requires.sound c.requires.in_hand
-
-pub put_sector-requires-clause-busy : goal.put_sector-requires-clause-busy
-put_sector-requires-clause-busy g c = c.requires.busy.busy
-
-pub put_sector-requires-clause-under_way : goal.put_sector-requires-clause-under_way
-put_sector-requires-clause-under_way g c = c.requires.busy.completion
-
-pub put_sector-requires-clause-bus : goal.put_sector-requires-clause-bus
-put_sector-requires-clause-bus g c = (under_way _ c.args.line _ _ c.requires.sound c.requires.in_hand c.requires.busy).bus
-
-pub put_sector-requires-clause-loaded : goal.put_sector-requires-clause-loaded
-put_sector-requires-clause-loaded g c = (under_way _ c.args.line _ _ c.requires.sound c.requires.in_hand c.requires.busy).loaded
-
-pub put_sector-requires-clause-transfer : goal.put_sector-requires-clause-transfer
-put_sector-requires-clause-transfer g c = (under_way _ c.args.line _ _ c.requires.sound c.requires.in_hand c.requires.busy).transfer
-
-pub put_sector-requires-clause-block : goal.put_sector-requires-clause-block
-put_sector-requires-clause-block g c = (under_way _ c.args.line _ _ c.requires.sound c.requires.in_hand c.requires.busy).block
+pub put_sector-requires-clause-may : goal.put_sector-requires-clause-may
+put_sector-requires-clause-may g c =
+    subst (λ (p : ℕ). MayStep c.args.self.now.world.slots p (adapter_at c.args.self.now.world (adapter_of c.args.u)).state (unit_at c.args.self.now.world c.args.u).drive) (sym c.hand-slot.ensures)
+    (under_way _ c.args.line _ _ c.requires.sound c.requires.in_hand c.requires.busy).may
 
 pub next_block-block-requires-clause-unit : goal.next_block-block-requires-clause-unit
 next_block-block-requires-clause-unit g c = there _ c.args.line _ _ c.requires.sound c.requires.in_hand
@@ -64,9 +51,9 @@ returns-in-Ok g c =
     sector_told _ _ g.P.Packs.faults _ _ g.T.Sink.faults _ _ _ _ _ c.put_sector.new.self _ _ _ _ _ _ _ c.in-Ok.verdict c.requires.in_hand
     (named_in c.args.self.now.world _ _ _ c.asked-id.ensures c.hand-slot.ensures) c.requires.busy c.next_block-block.ensures s c.put_sector.ensures.kept
     c.tell_sector.ensures
-    c.put_sector.ensures.never_again c.put_sector.ensures.cause.later
+    c.put_sector.ensures.failure.never_again c.put_sector.ensures.failure.cause.later
 
 pub returns-in-Err : goal.returns-in-Err
 returns-in-Err g c =
-    sector_stopped _ _ g.P.Packs.faults _ _ g.T.Sink.faults _ _ _ _ _ _ _ _ c.requires.busy c.in-Err.ensures.unchanged c.in-Err.ensures.old_or_new
-    c.put_sector.ensures.never_again c.put_sector.ensures.cause.later c.in-Err.ensures.cause.failed
+    sector_stopped _ _ g.P.Packs.faults _ _ g.T.Sink.faults _ _ _ _ _ _ _ _ c.requires.busy c.in-Err.ensures.unchanged c.in-Err.ensures.failure.old_or_new
+    c.in-Err.ensures.failure.never_again c.in-Err.ensures.failure.cause.later c.in-Err.ensures.failure.cause.failed

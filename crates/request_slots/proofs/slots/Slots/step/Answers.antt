@@ -17,7 +17,7 @@ moved : (g : Over) (c : goal.After-step_sector g) → IsMoved (all_slots c.self.
 moved g c =
     let has : loan_of c.slot_at.result.now.buffer ≡ c.in-Adapter.buffer = ap loan_of c.in-Adapter.is in
     let loaded : c.in-Adapter.buffer ≡ loaded_buffer c.args.adapter.now =
-    sym has ∙ sym (loan_at c.self.inside.memory (all_slots c.self.inside.slots) c.args.slot c.slot_at.result.now c.self.view_is c.slot_at.ensures) ∙ c.requires.loaded in
+    sym has ∙ sym (loan_at c.self.inside.memory (all_slots c.self.inside.slots) c.args.slot c.slot_at.result.now c.self.view_is c.slot_at.ensures) ∙ c.requires.may.loaded in
     record {
       slot = c.slot_at.result.now;
       here = c.slot_at.ensures;
@@ -70,5 +70,9 @@ pub returns-clause-moves : goal.returns-clause-moves
 returns-clause-moves g c =
     moves_as c.step_sector.result _ _ _ _ _ _ _ _ (size_is g c) (block_before g c) (block_after g c) c.step_sector.ensures.moves
 
-pub returns-clause-old_or_new : goal.returns-clause-old_or_new
-returns-clause-old_or_new g c = rw (block_before g c) at c.step_sector.ensures.old_or_new
+pub returns-clause-failure : goal.returns-clause-failure
+returns-clause-failure g c = record {
+  old_or_new = rw (block_before g c) at c.step_sector.ensures.old_or_new;
+  never_again = c.step_sector.ensures.never_again;
+  cause = c.step_sector.ensures.cause;
+}
