@@ -23,7 +23,7 @@ use Rattle.one_run.proofs.Attached as one
 use Rattle.one_run.proofs.Attached.{IsSetupOf, AreAttached, HasDrive, attached_more, attached_still, is_first, drive_there, drives_same, drives-append, first_none, first_some, none_or_some, set_for_script}
 use Rattle.event_player.specs.declared.play.PlayFault.{PlayFault}
 use Rattle.event_player.specs.declared.play.PlayFault.TheVariants as faults
-use Rattle.event_player.specs.Plays.{IsTooLong}
+use Rattle.event_player.specs.Plays.{IsTooLong, NamesTooLong}
 use Rattle.event_player.specs.Faults.{IsLongFor}
 use Rattle.event_player.specs.Attaching.{IsSet, IsFoundLong, HasRoom, Adds, RefusesLine}
 use Rattle.event_player.proofs.CountLaws.{lines_before, lines_more, lines_all, lines_parted}
@@ -79,15 +79,6 @@ none_long script packs setups told unit n long =
     let more = long.more in
     omega (arith, fits, is, more)
 
--- and one that was refused at its line is
-pub refused_at : (script : Script) (packs : ℕ → Pack) (u : ℕ) (kind : DriveKind) (fault : PlayFault) → drives_of script u ≡ Some kind
-    → IsFoundLong (packs u) u kind fault → IsLongFor script packs fault
-refused_at script packs u kind faults.Memory there long = tt
-refused_at script packs u kind (faults.TooLong other n) there long =
-    subst (λ (k : ℕ). IsTooLong script packs k n) (sym long.0) (record { kind = kind; declared = there; is = long.1; more = long.2 })
-refused_at script packs u kind faults.Store there long = tt
-refused_at script packs u kind faults.Sink there long = tt
-
 -- THE LINES of a script, parted at one of them
 pub lines_split : (s : Stored) (i : ℕ) (line : Kept) → i < length s.lines → line ≡ slice_index_or s.lines i line
     → (meaning_of s).lines ≡ lines_before s i ++ line_of (seen s.text line) ∷ map line_of (map (seen s.text) (drop (suc i) s.lines))
@@ -122,25 +113,25 @@ adds_by text tells packs (says.Lock u) old new a = a
 adds_by text tells packs (says.Unlock u) old new a = a
 adds_by text tells packs says.Drain old new a = a
 
-abbrev RefusedBy : (ℕ → Pack) → Statement → PlayFault → Type 0
-RefusedBy packs (Declares u kind) fault = IsFoundLong (packs u) u kind fault
-RefusedBy packs (Plays input) fault = ⊥
+abbrev RefusedBy : Bool → (ℕ → Pack) → Statement → PlayFault → Type 0
+RefusedBy tells packs (Declares u kind) fault = IsFoundLong tells (packs u) u kind fault
+RefusedBy tells packs (Plays input) fault = ⊥
 
-refused_by : (text : List ℕ) (packs : ℕ → Pack) (st : StoredStatement) (fault : PlayFault) → RefusesLine packs st fault → RefusedBy packs (meant text st) fault
-refused_by text packs (says.Unit u kind) fault r = r
-refused_by text packs (says.Read q) fault r = r
-refused_by text packs (says.Write q content) fault r = r
-refused_by text packs (says.Arrive u) fault r = r
-refused_by text packs (says.Turn u sector) fault r = r
-refused_by text packs (says.Move m) fault r = r
-refused_by text packs (says.Attend m) fault r = r
-refused_by text packs (says.Noise u block span places) fault r = r
-refused_by text packs (says.Fault u what times) fault r = r
-refused_by text packs (says.Offline u) fault r = r
-refused_by text packs (says.Online u) fault r = r
-refused_by text packs (says.Lock u) fault r = r
-refused_by text packs (says.Unlock u) fault r = r
-refused_by text packs says.Drain fault r = r
+refused_by : (text : List ℕ) (tells : Bool) (packs : ℕ → Pack) (st : StoredStatement) (fault : PlayFault) → RefusesLine tells packs st fault → RefusedBy tells packs (meant text st) fault
+refused_by text tells packs (says.Unit u kind) fault r = r
+refused_by text tells packs (says.Read q) fault r = r
+refused_by text tells packs (says.Write q content) fault r = r
+refused_by text tells packs (says.Arrive u) fault r = r
+refused_by text tells packs (says.Turn u sector) fault r = r
+refused_by text tells packs (says.Move m) fault r = r
+refused_by text tells packs (says.Attend m) fault r = r
+refused_by text tells packs (says.Noise u block span places) fault r = r
+refused_by text tells packs (says.Fault u what times) fault r = r
+refused_by text tells packs (says.Offline u) fault r = r
+refused_by text tells packs (says.Online u) fault r = r
+refused_by text tells packs (says.Lock u) fault r = r
+refused_by text tells packs (says.Unlock u) fault r = r
+refused_by text tells packs says.Drain fault r = r
 
 room_by : (text : List ℕ) (st : StoredStatement) → ((u : ℕ) (kind : DriveKind) → meant text st ≡ Declares u kind → u < 32) → HasRoom st
 room_by text (says.Unit u kind) room = room u kind refl
@@ -198,18 +189,37 @@ module _ (s : Stored) (i : ℕ) (line : Kept) (lt : i < length s.lines) (is : li
       (told_line (line_of (seen s.text line)) tells first (lines_before s i) old new t
       (subst (λ (p : ℕ → Pack). AddsBy tells p (meant s.text line.statement) old new) same (adds_by s.text tells packs line.statement old new adds)) a told)
 
-  pub long_at : (packs first : ℕ → Pack) (fault : PlayFault) → AreUnitsFirst (meaning_of s).lines → packs ≡ first → RefusesLine packs line.statement fault
-      → IsLongFor (meaning_of s) first fault
-  long_at packs first fault units same refuses =
-      at (meant s.text line.statement) refl (subst (λ (p : ℕ → Pack). RefusedBy p (meant s.text line.statement) fault) same (refused_by s.text packs line.statement fault refuses))
+  -- a unit that is refused at the line is the first one whose image is too long
+  pub long_at : (tells : Bool) (packs first : ℕ → Pack) (old : List Setup) (fault : PlayFault) → AreUnitsFirst (meaning_of s).lines → (IsTrue tells → packs ≡ first)
+      → (IsTrue tells → AreTold first (lines_before s i) old) → RefusesLine tells packs line.statement fault → IsLongFor (meaning_of s) tells first fault
+  long_at tells packs first old fault units same told refuses = at (meant s.text line.statement) refl fault (refused_by s.text tells packs line.statement fault refuses)
     where
-      at : (st : Statement) → meant s.text line.statement ≡ st → RefusedBy first st fault → IsLongFor (meaning_of s) first fault
-      at (Declares u kind) e long =
-          refused_at (meaning_of s) first u kind fault
-          (ap (λ (lines : List Line). drives_in lines u) (lines_split s i line lt is)
-          ∙ drive_there (lines_before s i) (map line_of (map (seen s.text) (drop (suc i) s.lines))) (line_of (seen s.text line)) u kind e (first_at units u kind e).none)
-          long
-      at (Plays input) e none = absurd none
+      behind : List Line
+      behind = map line_of (map (seen s.text) (drop (suc i) s.lines))
+
+      named : (u n : ℕ) (kind : DriveKind) → meant s.text line.statement ≡ Declares u kind → 512 * block_count kind < n → (IsTrue tells → n ≡ length (packs u).image)
+          → NamesTooLong (meaning_of s) tells first u n
+      named u n kind e more size = record {
+        kind = kind;
+        before = lines_before s i;
+        line = line_of (seen s.text line);
+        after = behind;
+        lines = lines_split s i line lt is;
+        declares = e;
+        declared = ap (λ (lines : List Line). drives_in lines u) (lines_split s i line lt is)
+            ∙ drive_there (lines_before s i) behind (line_of (seen s.text line)) u kind e (first_at units u kind e).none;
+        more = more;
+        is = λ t. size t ∙ ap (λ (p : ℕ → Pack). length (p u).image) (same t);
+        first = λ t other its there. (told t).fits other its there;
+      }
+
+      at : (st : Statement) → meant s.text line.statement ≡ st → (stop : PlayFault) → RefusedBy tells packs st stop → IsLongFor (meaning_of s) tells first stop
+      at (Declares u kind) e faults.Memory long = tt
+      at (Declares u kind) e (faults.TooLong other n) long =
+          subst (λ (k : ℕ). NamesTooLong (meaning_of s) tells first k n) (sym long.0) (named u n kind e long.1 long.2)
+      at (Declares u kind) e faults.Store long = tt
+      at (Declares u kind) e faults.Sink long = tt
+      at (Plays input) e stop none = absurd none
 
 -- what holds of the fault that a call gave holds of the one that is handed on
 pub at_fault : {T : Type 0} (result : Result T PlayFault) {fault : PlayFault} (P : PlayFault → Type 0) → IsErrAnd result (λ x. x ≡ fault) → P fault → IfErr result P

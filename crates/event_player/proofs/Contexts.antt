@@ -35,7 +35,7 @@ use Rattle.event_player.specs.Steps.{Stage, HasDrained}
 use Rattle.event_player.specs.Stops.{IsBetween, AreBehind, IsNext, HasDrainedTold, EventStops, SubmissionStops, SubmissionTellsFront, SubmissionSaysFront, StopsAtSink, Stopped}
 use Rattle.event_player.proofs.Going.{event_goes, submission_goes, drain_empty, drain_first, drain_more}
 use Rattle.event_player.proofs.Inputs.{with_said, waiting_said}
-use Rattle.event_player.proofs.Stopping.{Context, EventContext, Whole, opens_none, opens_line, move_is, event_stops, stops_by, stops_at_sink, tells_stop, says_stop}
+use Rattle.event_player.proofs.Stopping.{Context, EventContext, Whole, same_beyond, opens_none, opens_line, move_is, event_stops, stops_by, stops_at_sink, tells_stop, says_stop}
 
 -- A RUN SO FAR, and a drain
 pub whole_run : (script : Script) (tables : ℕ → Option Table) (first held : ℕ → Pack) (line : ℕ) (done : List Line) (w : World) (moments : List Moment)
@@ -43,6 +43,7 @@ pub whole_run : (script : Script) (tables : ℕ → Option Table) (first held : 
 whole_run script tables first held line done w moments run = record {
   follows = run.so_far.follows;
   behind = packs_are_left (drives_of script) first held (start_of script tables first) line moments w run.so_far run.kept;
+  reach = λ ends below tables_below. (run.reach ends below tables_below).packs;
 }
 
 drained_shows : (w : World) (s : Replay) → ShowsAll w s → ShowsAll w (drained s)
@@ -86,6 +87,7 @@ whole_drained script tables first held line done w moments run =
         marks = run.kept.packs.marks;
         others = run.kept.packs.others;
       };
+      reach = λ ends below tables_below. (run.reach ends below tables_below).packs;
     }
 
 -- a front of a text that was taken
@@ -162,7 +164,8 @@ module _ (script : Script) (tables : ℕ → Option Table) (first : ℕ → Pack
       → StopsAtSink script tables first new.held new.out_tells said new.said new.trace_tells taken new.taken
   opening_stops new follows same still_traced still untold between =
       stops_by (line_context old.out_tells (old.said ++ said_text (Played line input)) old.tally (λ t. t) (λ t. refl)) [] new refl follows
-      (inl (tt, subst (λ (held : ℕ → Pack). AreBehind script tables first held told.moments) (sym same) whole.behind)) still_traced
+      (inl (tt, subst (λ (held : ℕ → Pack). AreBehind script tables first held told.moments) (sym same) whole.behind))
+      (same_beyond (line_context old.out_tells (old.said ++ said_text (Played line input)) old.tally (λ t. t) (λ t. refl)) new.held same) still_traced
       (λ t. subst (IsBetween old.taken (old.taken ++ [])) (sym untold) (record { least = front_same old.taken; most = front_more old.taken [] }))
       (λ t. record {
         least = subst (λ (text : List ℕ). IsFront text new.said) (told.out (still t)) (between t).least;
@@ -190,7 +193,7 @@ module _ (script : Script) (tables : ℕ → Option Table) (first : ℕ → Pack
       tells_stop context (submit_acts r line e.slot e.held old.world) new e.tells
       (whole_run script tables first _ line _ _ _
       (submission_goes script tables first last line e.slot r e.held old.held done old.world told.moments less none e.may e.is is.some of told.run)).follows
-      (inl (submission_quiet r line e.slot e.held old.world e.tells.done e.tells.left e.tells.all, same_behind same)) still_traced still
+      (inl (submission_quiet r line e.slot e.held old.world e.tells.done e.tells.left e.tells.all, same_behind same)) (same_beyond context new.held same) still_traced still
   submission_sink same (inr e) =
       says_stop context (submit_acts r line e.plays.slot e.plays.held old.world) new e.text
       (whole_run script tables first _ line _ _ _
@@ -198,7 +201,7 @@ module _ (script : Script) (tables : ℕ → Option Table) (first : ℕ → Pack
       (inl (
         submission_quiet r line e.plays.slot e.plays.held old.world (submit_acts r line e.plays.slot e.plays.held old.world) [] (sym (append-nil (submit_acts r line e.plays.slot e.plays.held old.world))),
         same_behind same,
-      )) still_traced still e.plays.plays.trace
+      )) (same_beyond context new.held same) still_traced still e.plays.plays.trace
       (λ t. e.plays.plays.out t ∙ ap (λ (xs : List ℕ). old.said ++ xs) (waiting_said old.world (submit_acts r line e.plays.slot e.plays.held old.world)
       (submissions_alone old.world line e.plays.slot r e.plays.held e.plays.plays.sound e.plays.plays.work e.plays.may)))
       e.said
@@ -240,7 +243,7 @@ module _ (script : Script) (tables : ℕ → Option Table) (first : ℕ → Pack
       stops_at_sink drain_context (Idle line ∷ []) new refl
       (whole_run script tables first old.held line _ _ _ (drain_empty script tables first last line old.held done old.world told.moments less over told.run)).follows
       (inl ((tt, tt), subst (λ (held : ℕ → Pack). AreBehind script tables first held told.moments) (sym same) (whole_run script tables first old.held last done old.world told.moments told.run).behind))
-      still_traced still
+      (same_beyond drain_context new.held same) still_traced still
       (λ t. subst (λ (text : List ℕ). IsBetween old.taken (old.taken ++ text) new.taken) (sym (append-nil (moment_text (Idle line)))) (between_by old.taken new.taken (moment_text (Idle line)) (front t)))
       (λ t. subst (IsBetween old.said (old.said ++ [])) (sym unsaid) (record { least = front_same old.said; most = front_more old.said [] }))
       (inr unsaid)

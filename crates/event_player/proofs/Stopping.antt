@@ -1,5 +1,5 @@
 -- A call that stopped behind a run so far leaves what playing leaves.
-use Rattle.std.proofs.Common.{◌≡◌, ◌⊎◌, inl, inr, ℕ, ◌≤◌, Bool, true, false, IsTrue, List, [], ◌∷◌, ◌++◌, drop, Option, refl, sym, ap, subst, arith, ◌∙◌, append-nil, append_assoc}
+use Rattle.std.proofs.Common.{◌≡◌, ◌⊎◌, inl, inr, ℕ, ◌≤◌, Bool, true, false, IsTrue, List, [], ◌∷◌, ◌++◌, ◌*◌, length, drop, Option, refl, sym, ap, subst, arith, ◌∙◌, append-nil, append_assoc}
 use Rattle.std.proofs.lemmas.Bool.{false≢true}
 use Rattle.std.proofs.lemmas.Grind.{flat_map-append}
 use Rattle.disksort.specs.declared.Waiter.{Waiter}
@@ -22,7 +22,7 @@ use Rattle.driver_outcome.specs.Outcome.{IsFront}
 use Rattle.driver_outcome.specs.Packs.{ReadAll, packs_after_all}
 use Rattle.driver_outcome.proofs.Joined.{front_same, front_more, front_of_front}
 use Rattle.driver_runs.specs.Runs.{AreDeclared}
-use Rattle.driver_reach.specs.Reach.{AskBelow, TablesBelow, IsWithinReach}
+use Rattle.driver_reach.specs.Reach.{AskBelow, TablesBelow, IsWithinReach, StayFrom}
 use Rattle.driver_trace.specs.Calls.{IsReadOf}
 use Rattle.driver_trace.specs.Noises.{AllFlip}
 use Rattle.driver_trace.specs.Within.{ShowsAll}
@@ -34,6 +34,7 @@ use Rattle.hp_driver.specs.Subsystem.{IsThere, is_move}
 use Rattle.hp_driver.proofs.Moves.{tried_by_rules, read_from}
 use Rattle.event_player.specs.declared.play.PlayFault.{PlayFault}
 use Rattle.event_player.specs.declared.play.PlayFault.TheVariants as faults
+use Rattle.event_player.specs.Plays.{StaysBeyond}
 use Rattle.event_player.specs.Steps.{Stage}
 use Rattle.run_promises.specs.Beginnings.{AreNoSectors}
 use Rattle.event_player.specs.Stops.{IsBetween, lines_told, only_played, SaysOneSector, AreBehind, StopsAtSink, StopsAtStore, IsAtMove, TellsFront, EventTellsFront, EventSaysFront, MoveFails, EventStops, Stopped}
@@ -61,12 +62,19 @@ pub record IsOpening (opening : List Moment) : Type 0 where
   pub only : (ms : List Moment) → only_played (opening ++ ms) ≡ opening ++ only_played ms
   pub answers : (ms : List Moment) → answers_in (opening ++ ms) ≡ answers_in ms
   pub quiet : (ms : List Moment) → AreNoSectors ms → AreNoSectors (opening ++ ms)
+  pub one : length (played opening) ≤ 1
 
 pub opens_none : IsOpening []
-opens_none = record { plays = λ ms. refl; told = λ ms. refl; text = λ ms. refl; only = λ ms. refl; answers = λ ms. refl; quiet = λ ms none. none }
+opens_none = record { plays = λ ms. refl; told = λ ms. refl; text = λ ms. refl; only = λ ms. refl; answers = λ ms. refl; quiet = λ ms none. none; one = omega arith }
 
 pub opens_line : (line : ℕ) (input : Input) → IsOpening (Played line input ∷ [])
-opens_line line input = record { plays = λ ms. refl; told = λ ms. refl; text = λ ms. refl; only = λ ms. refl; answers = λ ms. refl; quiet = λ ms none. (tt, none) }
+opens_line line input = record { plays = λ ms. refl; told = λ ms. refl; text = λ ms. refl; only = λ ms. refl; answers = λ ms. refl; quiet = λ ms none. (tt, none); one = omega arith }
+
+-- A RUN done whole: it follows, and the packs are as it leaves them.
+pub record Whole (script : Script) (tables : ℕ → Option Table) (first held : ℕ → Pack) (moments : List Moment) : Type 0 where
+  pub follows : Follows (start_of script tables first) moments
+  pub behind : AreBehind script tables first held moments
+  pub reach : (ends : ℕ → ℕ) → AskBelow ends (drives_of script) (played moments) → TablesBelow ends (drives_of script) tables → StayFrom ends first held
 
 -- WHERE A CALL BEGINS: behind moments that follow, with the packs and the texts that they leave; what is said as the line is played
 -- is said.
@@ -141,20 +149,38 @@ module _ {script : Script} {tables : ℕ → Option Table} {first : ℕ → Pack
       ctx.inputs ∙ ap (λ (ns : List Numbered). played ctx.done ++ ns) ctx.opened ∙ sym (append_assoc (played ctx.done) (played opening) ctx.rest)
       ∙ ap (λ (ns : List Numbered). ns ++ ctx.rest) (sym behind)
 
+  one_line : (lines : List Moment) → played lines ≡ [] → length (played (opening ++ lines)) ≤ 1
+  one_line lines none =
+      subst (λ (ns : List Numbered). length ns ≤ 1)
+      (sym (ctx.opens.plays lines ∙ ap (λ (ns : List Numbered). played opening ++ ns) none ∙ append-nil (played opening))) ctx.opens.one
+
+  -- WHAT LIES BEYOND all writes stays, where the packs are as they were, and behind the whole call.
+  pub same_beyond : (left : ℕ → Pack) → left ≡ now.held → StaysBeyond script tables first left
+  same_beyond left same ends below tables_below unit =
+      ap (λ (packs : ℕ → Pack). drop (512 * ends unit) (packs unit).image) same
+      ∙ (ctx.reach ends (ask_parts ends (drives_of script) (played ctx.done) ctx.later (subst (AskBelow ends (drives_of script)) ctx.inputs below)).0 tables_below).packs unit
+
+  pub whole_beyond : (lines : List Moment) (left held : ℕ → Pack) → played lines ≡ [] → left ≡ held → Whole script tables first held (ctx.done ++ (opening ++ lines))
+      → StaysBeyond script tables first left
+  whole_beyond lines left held none same whole ends below tables_below unit =
+      ap (λ (packs : ℕ → Pack). drop (512 * ends unit) (packs unit).image) same
+      ∙ whole.reach ends (ask_parts ends (drives_of script) (played (ctx.done ++ (opening ++ lines))) ctx.rest (subst (AskBelow ends (drives_of script)) (inputs_are lines none) below)).0 tables_below unit
+
   -- A SINK FAILED in a call that told these lines, or was to.
   pub stops_by : (lines : List Moment) (new : Stage) → played lines ≡ [] → Follows (start_of script tables first) (ctx.done ++ (opening ++ lines))
       → (AreNoSectors lines × AreBehind script tables first new.held ctx.done) ⊎ (SaysOneSector lines × AreBehind script tables first new.held (ctx.done ++ (opening ++ lines)))
-      → (IsTrue new.trace_tells → IsTrue now.trace_tells)
+      → StaysBeyond script tables first new.held → (IsTrue new.trace_tells → IsTrue now.trace_tells)
       → (IsTrue new.trace_tells → IsBetween now.taken (now.taken ++ trace_text lines) new.taken)
       → (IsTrue new.out_tells → IsBetween (said ++ out_text ctx.done) (said ++ out_text (ctx.done ++ (opening ++ lines))) new.said)
       → (IsTrue new.trace_tells → new.taken ≡ now.taken ++ trace_text lines) ⊎ (IsTrue new.out_tells → new.said ≡ said ++ out_text (ctx.done ++ opening))
       → StopsAtSink script tables first new.held new.out_tells said new.said new.trace_tells taken new.taken
-  stops_by lines new none follows packs still_traced trace out order = record {
+  stops_by lines new none follows packs beyond still_traced trace out order = record {
     done = ctx.done;
     under = opening ++ lines;
     later = ctx.rest;
-    came = record { follows = follows; inputs = inputs_are lines none };
+    came = record { follows = follows; inputs = inputs_are lines none; one = one_line lines none };
     packs = packs_by packs;
+    reach = beyond;
     trace = λ t. record {
       least = subst (λ (text : List ℕ). IsFront text new.taken) (ctx.trace (still_traced t)) (trace t).least;
       most = subst (IsFront new.taken) (trace_is lines (ctx.trace (still_traced t))) (trace t).most;
@@ -179,13 +205,13 @@ module _ {script : Script} {tables : ℕ → Option Table} {first : ℕ → Pack
 
   pub stops_at_sink : (lines : List Moment) (new : Stage) → played lines ≡ [] → Follows (start_of script tables first) (ctx.done ++ (opening ++ lines))
       → (AreNoSectors lines × AreBehind script tables first new.held ctx.done) ⊎ (SaysOneSector lines × AreBehind script tables first new.held (ctx.done ++ (opening ++ lines)))
-      → (IsTrue new.trace_tells → IsTrue now.trace_tells) → (IsTrue new.out_tells → IsTrue now.out_tells)
+      → StaysBeyond script tables first new.held → (IsTrue new.trace_tells → IsTrue now.trace_tells) → (IsTrue new.out_tells → IsTrue now.out_tells)
       → (IsTrue new.trace_tells → IsBetween now.taken (now.taken ++ trace_text lines) new.taken)
       → (IsTrue new.out_tells → IsBetween now.said (now.said ++ out_text lines) new.said)
       → (IsTrue new.trace_tells → new.taken ≡ now.taken ++ trace_text lines) ⊎ (new.said ≡ now.said)
       → StopsAtSink script tables first new.held new.out_tells said new.said new.trace_tells taken new.taken
-  stops_at_sink lines new none follows packs still_traced still trace out order =
-      stops_by lines new none follows packs still_traced trace
+  stops_at_sink lines new none follows packs beyond still_traced still trace out order =
+      stops_by lines new none follows packs beyond still_traced trace
       (λ t. record {
         least = front_of_front (said ++ out_text ctx.done) now.said new.said (said_front (ctx.out (still t))) (out t).least;
         most = subst (IsFront new.said) (out_is lines (ctx.out (still t))) (out t).most;
@@ -209,11 +235,11 @@ module _ {script : Script} {tables : ℕ → Option Table} {first : ℕ → Pack
       → Follows (start_of script tables first) (ctx.done ++ (opening ++ lines_of_all now.world acts))
       → (AreNoSectors (lines_of_all now.world tells.done) × AreBehind script tables first new.held ctx.done)
       ⊎ (SaysOneSector (lines_of_all now.world tells.done) × AreBehind script tables first new.held (ctx.done ++ (opening ++ lines_of_all now.world tells.done)))
-      → (IsTrue new.trace_tells → IsTrue now.trace_tells) → (IsTrue new.out_tells → IsTrue now.out_tells)
+      → StaysBeyond script tables first new.held → (IsTrue new.trace_tells → IsTrue now.trace_tells) → (IsTrue new.out_tells → IsTrue now.out_tells)
       → StopsAtSink script tables first new.held new.out_tells said new.said new.trace_tells taken new.taken
-  tells_stop acts new tells follows packs still_traced still =
+  tells_stop acts new tells follows packs beyond still_traced still =
       stops_at_sink (lines_of_all now.world tells.done) new (lines_play_nothing [] now.world tells.done)
-      (front_follows acts tells.done tells.left tells.all follows) packs still_traced still tells.trace
+      (front_follows acts tells.done tells.left tells.all follows) packs beyond still_traced still tells.trace
       (λ t. subst (IsBetween now.said (now.said ++ out_text (lines_of_all now.world tells.done))) (sym tells.out)
       (record { least = front_same now.said; most = front_more now.said (out_text (lines_of_all now.world tells.done)) }))
       (inr tells.out)
@@ -222,12 +248,12 @@ module _ {script : Script} {tables : ℕ → Option Table} {first : ℕ → Pack
   pub says_stop : (acts : List Act) (new : Stage) (text : List ℕ) → Follows (start_of script tables first) (ctx.done ++ (opening ++ lines_of_all now.world acts))
       → (AreNoSectors (lines_of_all now.world acts) × AreBehind script tables first new.held ctx.done)
       ⊎ (SaysOneSector (lines_of_all now.world acts) × AreBehind script tables first new.held (ctx.done ++ (opening ++ lines_of_all now.world acts)))
-      → (IsTrue new.trace_tells → IsTrue now.trace_tells) → (IsTrue new.out_tells → IsTrue now.out_tells)
+      → StaysBeyond script tables first new.held → (IsTrue new.trace_tells → IsTrue now.trace_tells) → (IsTrue new.out_tells → IsTrue now.out_tells)
       → (IsTrue new.trace_tells → new.taken ≡ now.taken ++ trace_text (lines_of_all now.world acts))
       → (IsTrue new.out_tells → text ≡ now.said ++ out_text (lines_of_all now.world acts)) → (IsTrue new.out_tells → IsBetween now.said text new.said)
       → StopsAtSink script tables first new.held new.out_tells said new.said new.trace_tells taken new.taken
-  says_stop acts new text follows packs still_traced still trace whole between =
-      stops_at_sink (lines_of_all now.world acts) new (lines_play_nothing [] now.world acts) follows packs still_traced still
+  says_stop acts new text follows packs beyond still_traced still trace whole between =
+      stops_at_sink (lines_of_all now.world acts) new (lines_play_nothing [] now.world acts) follows packs beyond still_traced still
       (λ t. subst (IsBetween now.taken (now.taken ++ trace_text (lines_of_all now.world acts))) (sym (trace t))
       (record { least = front_more now.taken (trace_text (lines_of_all now.world acts)); most = front_same (now.taken ++ trace_text (lines_of_all now.world acts)) }))
       (λ t. subst (λ (most : List ℕ). IsBetween now.said most new.said) (whole t) (between t))
@@ -332,10 +358,6 @@ no_move (says.MoveAt a) is = absurd (false≢true (sym is))
 no_move input is = tt
 
 -- WHERE AN EVENT BEGINS: done whole it would follow, and the packs would be as it leaves them.
-pub record Whole (script : Script) (tables : ℕ → Option Table) (first held : ℕ → Pack) (moments : List Moment) : Type 0 where
-  pub follows : Follows (start_of script tables first) moments
-  pub behind : AreBehind script tables first held moments
-
 pub record EventContext (script : Script) (tables : ℕ → Option Table) (first : ℕ → Pack) (said taken : List ℕ) (now : Stage) (opening : List Moment) (line : ℕ) (input : Input) : Type 0 where
   pub ctx : Context script tables first said taken now opening
   pub sound : Sound now.world
@@ -358,7 +380,7 @@ module _ {script : Script} {tables : ℕ → Option Table} {first : ℕ → Pack
   still_tells is there same e =
       let may : MayCome now.world input e.tried × IsReadOf now.world now.held input e.tried = still_may input e.tried now.world now.held is there in
       tells_stop at.ctx (event_acts line input e.tried now.world) new e.tells (at.goes e.tried may.0 may.1).follows
-      (inl (event_quiet line input e.tried now.world e.tells.done e.tells.left (no_move input is) e.tells.all, same_behind same)) still_traced still
+      (inl (event_quiet line input e.tried now.world e.tells.done e.tells.left (no_move input is) e.tells.all, same_behind same)) (same_beyond at.ctx new.held same) still_traced still
 
   says_by : ((is_move input ≡ false) × AreBehind script tables first new.held at.ctx.done) ⊎ (is_move input ≡ true) → now.world.answers ≡ [] → EventSaysFront line input now new → Sink
   says_by packs none e =
@@ -367,7 +389,9 @@ module _ {script : Script} {tables : ℕ → Option Table} {first : ℕ → Pack
       at.goes e.plays.tried e.plays.may (e.plays.reads told) in
       let text : IsTrue new.out_tells → e.text ≡ now.said ++ out_text (lines_of_all now.world acts) =
       λ t. e.plays.plays.out t ∙ ap (λ (xs : List ℕ). now.said ++ xs) (event_said line input now (record new { world = e.world; said = e.text; tally = e.tally }) none e.plays) in
-      says_stop at.ctx acts new e.text whole.follows (packs_by packs) still_traced still e.plays.plays.trace text e.said
+      says_stop at.ctx acts new e.text whole.follows (packs_by packs)
+      (whole_beyond at.ctx (lines_of_all now.world acts) new.held (packs_after_all now.world now.held acts) (lines_play_nothing [] now.world acts) (e.plays.packs told) whole)
+      still_traced still e.plays.plays.trace text e.said
     where
       packs_by : ((is_move input ≡ false) × AreBehind script tables first new.held at.ctx.done) ⊎ (is_move input ≡ true)
           → (AreNoSectors (lines_of_all now.world (event_acts line input e.plays.tried now.world)) × AreBehind script tables first new.held at.ctx.done)
@@ -397,7 +421,8 @@ module _ {script : Script} {tables : ℕ → Option Table} {first : ℕ → Pack
       none_done none =
           stops_at_sink (unopened at.ctx (at.silent moves)) [] new refl
           (subst (Follows (start_of script tables first)) (sym (append-nil at.ctx.done)) at.ctx.follows)
-          (inl (tt, same_behind (e.tells.packs told ∙ ap (λ (done : List Act). packs_after_all now.world now.held done) none))) still_traced still
+          (inl (tt, same_behind (e.tells.packs told ∙ ap (λ (done : List Act). packs_after_all now.world now.held done) none)))
+          (same_beyond at.ctx new.held (e.tells.packs told ∙ ap (λ (done : List Act). packs_after_all now.world now.held done) none)) still_traced still
           (λ t. subst (λ (done : List Act). IsBetween now.taken (now.taken ++ trace_text (lines_of_all now.world done)) new.taken) none (e.tells.trace t))
           (λ t. subst (IsBetween now.said (now.said ++ [])) (sym e.tells.out) (record { least = front_same now.said; most = front_more now.said [] }))
           (inr e.tells.out)
@@ -412,6 +437,8 @@ module _ {script : Script} {tables : ℕ → Option Table} {first : ℕ → Pack
             subst (λ (held : ℕ → Pack). AreBehind script tables first held (at.ctx.done ++ (opening ++ lines_of_all now.world e.tells.done))) (sym (e.tells.packs told))
                 (subst (λ (done : List Act). AreBehind script tables first (packs_after_all now.world now.held done) (at.ctx.done ++ (opening ++ lines_of_all now.world done))) (sym all) whole.behind),
           ))
+          (whole_beyond at.ctx (lines_of_all now.world acts) new.held (packs_after_all now.world now.held acts) (lines_play_nothing [] now.world acts)
+          (e.tells.packs told ∙ ap (λ (done : List Act). packs_after_all now.world now.held done) all) whole)
           still_traced still
 
       by : (e.tells.done ≡ []) ⊎ (e.tells.done ≡ acts) → Sink
@@ -437,6 +464,7 @@ module _ {script : Script} {tables : ℕ → Option Table} {first : ℕ → Pack
         came = record {
           follows = subst (Follows (start_of script tables first)) (sym (append-nil at.ctx.done)) at.ctx.follows;
           inputs = at.ctx.inputs ∙ ap (λ (ms : List Moment). played ms ++ at.ctx.later) (sym (append-nil at.ctx.done));
+          one = omega arith;
         };
         world = now.world;
         sound = at.sound;

@@ -20,10 +20,10 @@ pub record IsSet (tells : Bool) (packs : ℕ → Pack) (unit : ℕ) (kind : Driv
   pub fits : IsTrue tells → length (packs unit).image ≤ 512 * block_count kind
   pub table_is : IsTrue tells → IsTableOf kind (packs unit) s.table
 
--- a pack that is refused at a unit has more bytes than a drive of its kind
-abbrev pub IsFoundLong : Pack → ℕ → DriveKind → PlayFault → Type 0
-IsFoundLong pack unit kind (faults.TooLong other long) = (other ≡ unit) × (long ≡ length pack.image) × (512 * block_count kind < long)
-IsFoundLong pack unit kind fault = Unit {0}
+-- a pack that is refused at a unit has more bytes than a drive of its kind: those of its image, where the packs tell
+abbrev pub IsFoundLong : Bool → Pack → ℕ → DriveKind → PlayFault → Type 0
+IsFoundLong tells pack unit kind (faults.TooLong other long) = (other ≡ unit) × (512 * block_count kind < long) × (IsTrue tells → long ≡ length pack.image)
+IsFoundLong tells pack unit kind fault = Unit {0}
 
 -- ONE LINE. A unit that it declares is one of the 32;
 abbrev pub HasRoom : {D N : Type 0} → Statement D N → Type 0
@@ -36,6 +36,6 @@ Adds tells packs (says.Unit unit kind) old new = (s : Setup) × (new ≡ old ++ 
 Adds tells packs statement old new = new ≡ old
 
 -- and only a unit is refused, whose pack is too long.
-abbrev pub RefusesLine : {D N : Type 0} → (ℕ → Pack) → Statement D N → PlayFault → Type 0
-RefusesLine packs (says.Unit unit kind) fault = IsFoundLong (packs unit) unit kind fault
-RefusesLine packs statement fault = ⊥
+abbrev pub RefusesLine : {D N : Type 0} → Bool → (ℕ → Pack) → Statement D N → PlayFault → Type 0
+RefusesLine tells packs (says.Unit unit kind) fault = IsFoundLong tells (packs unit) unit kind fault
+RefusesLine tells packs statement fault = ⊥

@@ -31,7 +31,7 @@ counted one [] = 0
 counted one (line ∷ lines) = one line.statement + counted one lines
 
 -- THE RUN SO FAR, behind the first lines: its moments play these, the replay behind them stands for the driver, what is no sector
--- stayed, each request asks for some blocks of a unit that is there, and what images have from the ends of all requests on stayed.
+-- stayed, each request asks for some blocks of a unit that is there, and what images have from the ends of all writes on stayed.
 pub record HasRun (script : Script) (tables : ℕ → Option Table) (old held : ℕ → Pack) (line : ℕ) (done : List Line) (w : World) (moments : List Moment) : Type 0 where
   pub so_far : IsSoFar (start_of script tables old) line moments held w
   pub kept : IsKept (drives_of script) old held w

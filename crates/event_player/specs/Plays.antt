@@ -1,11 +1,11 @@
 -- What a script comes to that was played to its end.
-use Rattle.std.specs.Prelude.{◌≡◌, ℕ, ◌<◌, ◌*◌, Bool, IsTrue, List, ◌++◌, length, Option, Some}
+use Rattle.std.specs.Prelude.{◌≡◌, ℕ, ◌<◌, ◌≤◌, ◌*◌, Bool, IsTrue, List, ◌∷◌, ◌++◌, length, Option, Some}
 use Rattle.pack_geometry.specs.declared.DriveKind.{DriveKind}
 use Rattle.pack_geometry.specs.Geometry.{block_count}
 use Rattle.pack_model.specs.Pack.{Pack}
 use Rattle.pack_model.specs.TableSpelling.{Table}
 use Rattle.trace_replay.specs.Moments.{Moment}
-use Rattle.trace_replay.specs.Script.{Script, drives_of, inputs_of}
+use Rattle.trace_replay.specs.Script.{Script, Line, Declares, drives_in, drives_of, inputs_of}
 use Rattle.trace_replay.specs.Runs.{IsLegalRun}
 use Rattle.trace_replay.specs.Text.{trace_text}
 use Rattle.driver_reach.specs.Reach.{AskBelow, TablesBelow, StayFrom}
@@ -14,14 +14,18 @@ use Rattle.answer_tally.specs.declared.tally.Tally.{Tally}
 use Rattle.answer_tally.specs.Counting.{tally_of}
 use Rattle.event_player.specs.Playing.{counted, one_request}
 
+-- WHAT LIES BEYOND the ends of all writes stayed: of a unit to which nothing is written the whole image.
+abbrev pub StaysBeyond : Script → (ℕ → Option Table) → (old new : ℕ → Pack) → Type 0
+StaysBeyond script tables old new = (ends : ℕ → ℕ) → AskBelow ends (drives_of script) (inputs_of script) → TablesBelow ends (drives_of script) tables → StayFrom ends old new
+
 -- A LEGAL RUN of the script over the packs, from what they held first to what they hold now, with the tables of these packs. Where the
 -- sink for the answers tells, it took just the text of the run's answers and noises; where the trace tells, it took just the run's lines.
--- What images have from the ends of all requests on stayed.
+-- What images have beyond all writes stayed.
 pub record Plays (script : Script) (old new : ℕ → Pack) (out_tells : Bool) (said said' : List ℕ) (trace_tells : Bool) (taken taken' : List ℕ) : Type 0 where
   pub tables : ℕ → Option Table
   pub moments : List Moment
   pub run : IsLegalRun script tables old new moments
-  pub reach : (ends : ℕ → ℕ) → AskBelow ends (drives_of script) (inputs_of script) → TablesBelow ends (drives_of script) tables → StayFrom ends old new
+  pub reach : StaysBeyond script tables old new
   pub out : IsTrue out_tells → said' ≡ said ++ out_text moments
   pub trace : IsTrue trace_tells → taken' ≡ taken ++ trace_text moments
 
@@ -36,3 +40,17 @@ pub record IsTooLong (script : Script) (packs : ℕ → Pack) (unit length_is : 
   pub declared : drives_of script unit ≡ Some kind
   pub is : length_is ≡ length (packs unit).image
   pub more : 512 * block_count kind < length_is
+
+-- one that is NAMED so: a line declares its unit, and the length is more than its drive has; where the packs tell, it is the length of the
+-- image, and the images of all units that are declared before fit
+pub record NamesTooLong (script : Script) (tells : Bool) (packs : ℕ → Pack) (unit length_is : ℕ) : Type 0 where
+  pub kind : DriveKind
+  pub before : List Line
+  pub line : Line
+  pub after : List Line
+  pub lines : script.lines ≡ before ++ line ∷ after
+  pub declares : line.statement ≡ Declares unit kind
+  pub declared : drives_of script unit ≡ Some kind
+  pub more : 512 * block_count kind < length_is
+  pub is : IsTrue tells → length_is ≡ length (packs unit).image
+  pub first : IsTrue tells → (other : ℕ) (its : DriveKind) → drives_in before other ≡ Some its → length (packs other).image ≤ 512 * block_count its

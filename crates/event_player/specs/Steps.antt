@@ -129,7 +129,7 @@ abbrev pub PlaysDrain : ℕ → Stage → Stage → Type 0
 PlaysDrain line old new = (script : Script) (tables : ℕ → Option Table) (first : ℕ → Pack) (last : ℕ) (done : List Line) (moments : List Moment)
     → last < line → HasRun script tables first old.held last done old.world moments → Drains script tables first done moments line old new
 
--- IN A DRAIN, behind one of its events: the moments follow, what is no sector stayed, so did what lies beyond all requests, and the line of
+-- IN A DRAIN, behind one of its events: the moments follow, what is no sector stayed, so did what lies beyond all writes, and the line of
 -- the drain is played.
 pub record HasDrained (script : Script) (tables : ℕ → Option Table) (first held : ℕ → Pack) (line : ℕ) (done : List Line) (w : World) (moments : List Moment) : Type 0 where
   pub draining : IsDraining (start_of script tables first) line moments held w

@@ -1,5 +1,5 @@
 -- What playing leaves where a sink or the packs failed.
-use Rattle.std.specs.Prelude.{◌≡◌, ◌⊎◌, ℕ, ◌+◌, ◌<◌, ◌≤◌, Bool, true, false, IsTrue, List, [], ◌∷◌, ◌++◌, Option, None, Some}
+use Rattle.std.specs.Prelude.{◌≡◌, ◌⊎◌, ℕ, ◌+◌, ◌<◌, ◌≤◌, Bool, true, false, IsTrue, List, [], ◌∷◌, ◌++◌, length, Option, None, Some}
 use Rattle.pack_model.specs.Pack.{Pack}
 use Rattle.pack_model.specs.PackTable.{AreTablesOf}
 use Rattle.pack_model.specs.TableSpelling.{Table}
@@ -19,7 +19,6 @@ use Rattle.driver_work.specs.Runs.{Run, MaySubmit}
 use Rattle.driver_outcome.specs.Outcome.{IsFront, IsNextBlock}
 use Rattle.driver_outcome.specs.Packs.{ReadAll, packs_after_all}
 use Rattle.driver_runs.specs.Runs.{AreDeclared}
-use Rattle.driver_reach.specs.Reach.{AskBelow, TablesBelow, StayFrom}
 use Rattle.driver_trace.specs.Noises.{AllFlip}
 use Rattle.driver_trace.specs.Within.{ShowsAll}
 use Rattle.answer_lines.specs.AnswerText.{out_text}
@@ -28,6 +27,7 @@ use Rattle.hp_driver.specs.Subsystem.{is_move}
 use Rattle.run_promises.specs.Beginnings.{AreNoSectors}
 use Rattle.event_player.specs.declared.play.PlayFault.{PlayFault}
 use Rattle.event_player.specs.declared.play.PlayFault.TheVariants as faults
+use Rattle.event_player.specs.Plays.{StaysBeyond}
 use Rattle.event_player.specs.Playing.{HasRun, HasTold}
 use Rattle.event_player.specs.Steps.{Stage, PlaysEvent, PlaysSubmission, HasDrained}
 
@@ -56,20 +56,23 @@ pub record SaysOneSector (moments : List Moment) : Type 0 where
 abbrev pub AreBehind : Script → (ℕ → Option Table) → (first left : ℕ → Pack) → List Moment → Type 0
 AreBehind script tables first left moments = AreLeft (drives_of script) first left (after_moments (start_of script tables first) moments).surface
 
--- HOW FAR IT CAME: what was done to its end, and the one event under way as far as it came. The moments follow from the start, and
--- play the first inputs of the script.
+-- HOW FAR IT CAME: what was done to its end, and the one event under way as far as it came, of one line of the script at most. The moments
+-- follow from the start, and play the first inputs of the script.
 pub record CameTo (script : Script) (tables : ℕ → Option Table) (first : ℕ → Pack) (done under : List Moment) (later : List Numbered) : Type 0 where
   pub follows : Follows (start_of script tables first) (done ++ under)
   pub inputs : inputs_of script ≡ played (done ++ under) ++ later
+  pub one : length (played under) ≤ 1
 
 -- A SINK FAILED. The packs are as before the event, which told of no sector; or behind it, which was a move. Each sink took all that was
--- said before the event, and a front of what the event said; no answer of it was written before all its lines were.
+-- said before the event, and a front of what the event said; no answer of it was written before all its lines were. What images have
+-- beyond all writes stayed.
 pub record StopsAtSink (script : Script) (tables : ℕ → Option Table) (first left : ℕ → Pack) (out_tells : Bool) (said said' : List ℕ) (trace_tells : Bool) (taken taken' : List ℕ) : Type 0 where
   pub done : List Moment
   pub under : List Moment
   pub later : List Numbered
   pub came : CameTo script tables first done under later
   pub packs : (AreNoSectors under × AreBehind script tables first left done) ⊎ (SaysOneSector under × AreBehind script tables first left (done ++ under))
+  pub reach : StaysBeyond script tables first left
   pub trace : IsTrue trace_tells → IsBetween (taken ++ trace_text done) (taken ++ trace_text (done ++ under)) taken'
   pub out : IsTrue out_tells → IsBetween (said ++ out_text done) (said ++ out_text (done ++ under)) said'
   pub lines_first : (IsTrue trace_tells → taken' ≡ taken ++ trace_text (done ++ under)) ⊎ (IsTrue out_tells → said' ≡ said ++ out_text (done ++ only_played under))
@@ -88,7 +91,7 @@ IsAtMove w s later a = IsMoveLine a later ⊎ ((IsDrainLine later ⊎ IsTrue s.e
 
 -- THE PACKS FAILED, at a move, which did nothing else: all that was said before is taken. The packs are as before, but for one block
 -- at most, the next one of a write whose transfer is under way; the driver's world is that which the replay shows, of the units that are
--- declared. What images have from the ends of all requests on stayed.
+-- declared. What images have beyond all writes stayed.
 pub record StopsAtStore (script : Script) (tables : ℕ → Option Table) (first left : ℕ → Pack) (out_tells : Bool) (said said' : List ℕ) (trace_tells : Bool) (taken taken' : List ℕ) : Type 0 where
   pub done : List Moment
   pub later : List Numbered
@@ -102,7 +105,7 @@ pub record StopsAtStore (script : Script) (tables : ℕ → Option Table) (first
   pub held : ℕ → Pack
   pub behind : AreBehind script tables first held done
   pub packs : (left ≡ held) ⊎ IsNextBlock world held left
-  pub reach : (ends : ℕ → ℕ) → AskBelow ends (drives_of script) (inputs_of script) → TablesBelow ends (drives_of script) tables → StayFrom ends first left
+  pub reach : StaysBeyond script tables first left
   pub trace : IsTrue trace_tells → taken' ≡ taken ++ trace_text done
   pub out : IsTrue out_tells → said' ≡ said ++ out_text done
 

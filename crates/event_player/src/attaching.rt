@@ -42,7 +42,7 @@ fn table_law(table: &Option<BadTable>)
 fn attach_unit<P: Packs>(unit: u8, kind: DriveKind, packs: &mut P) -> Result<UnitSetup, PlayFault>
     requires unit { unit < 32 }
     ensures set { IfOk result (λ s. IsSet (P.tells packs.new) (P.held packs.old) unit kind (setup_of s)) }
-    ensures long { IfErr result (λ fault. IsTrue (P.tells packs.new) → IsFoundLong (P.held packs.old unit) unit kind fault) }
+    ensures long { IfErr result (IsFoundLong (P.tells packs.new) (P.held packs.old unit) unit kind) }
     ensures same { IsTrue (P.tells packs.new) → P.held packs.new ≡ P.held packs.old }
     ensures never_again { IsTrue (P.tells packs.new) → IsTrue (P.tells packs.old) }
     ensures later { P.faults packs.old ≤ P.faults packs.new }
@@ -72,7 +72,7 @@ fn attach_line<P: Packs>(
 ) -> Result<(), PlayFault>
     requires room { HasRoom line.now.statement }
     ensures adds { OnOk result (Adds (P.tells packs.new) (P.held packs.old) line.now.statement (setups_of units.old.items) (setups_of units.new.items)) }
-    ensures refuses { IfErr result (λ fault. IsTrue (P.tells packs.new) → RefusesLine (P.held packs.old) line.now.statement fault) }
+    ensures refuses { IfErr result (RefusesLine (P.tells packs.new) (P.held packs.old) line.now.statement) }
     ensures same { IsTrue (P.tells packs.new) → P.held packs.new ≡ P.held packs.old }
     ensures never_again { IsTrue (P.tells packs.new) → IsTrue (P.tells packs.old) }
     ensures later { P.faults packs.old ≤ P.faults packs.new }
@@ -105,7 +105,7 @@ pub fn attach_units<P: Packs>(
     ensures tables { IfOk result (λ units. IsTrue (P.tells packs.new)
         → AreTablesOf (drives_of (meaning_of script.now)) (P.held packs.old) (tables_in (setups_of units.items))) }
     ensures fits { OnOk result (IsTrue (P.tells packs.new) → (unit n : ℕ) → ¬ (IsTooLong (meaning_of script.now) (P.held packs.old) unit n)) }
-    ensures too_long { IfErr result (λ fault. IsTrue (P.tells packs.new) → IsLongFor (meaning_of script.now) (P.held packs.old) fault) }
+    ensures too_long { IfErr result (IsLongFor (meaning_of script.now) (P.tells packs.new) (P.held packs.old)) }
     ensures same { IsTrue (P.tells packs.new) → P.held packs.new ≡ P.held packs.old }
     ensures never_again { IsTrue (P.tells packs.new) → IsTrue (P.tells packs.old) }
     ensures later { P.faults packs.old ≤ P.faults packs.new }

@@ -7,8 +7,8 @@ ghost use Rattle.script_reader.specs.Stored.{lines_in};
 ghost use Rattle.script_reader.specs.Words.{all_verbs};
 ghost use Rattle.script_meaning.specs.Meaning.{meaning_of};
 ghost use Rattle.answer_tally.specs.Counting.{tally_by};
-ghost use Rattle.event_player.specs.Plays.{Plays, Tallied, IsTooLong};
-ghost use Rattle.event_player.specs.Faults.{IsPlaying, IsBefore, IsLongFor};
+ghost use Rattle.event_player.specs.Plays.{Tallied, IsTooLong};
+ghost use Rattle.event_player.specs.Faults.{IsPlaying, IsBefore, IsLongFor, AreUntouched, HaveTold, Rise};
 ghost use Rattle.event_player.specs.Playing.{counted, one_request};
 ghost use Rattle.event_player.specs.Steps.{stage, Ready, PlaysScript, HasCauses};
 ghost use Rattle.event_player.specs.Stops.{StopsScript, Leaves};
@@ -166,7 +166,7 @@ fn play_lines<P: Packs, O: Sink, T: Sink>(
 /// Plays a script line by line, and behind its last line a drain, whose number is the number of lines plus one. The answers of
 /// each submission and event go to `out` behind it, and its lines to `trace`.
 ///
-/// The units are attached first, in the order of their lines. TooLong tells a declared unit whose image has more bytes than the
+/// The units are attached first, in the order of their lines. TooLong tells the first unit whose image has more bytes than the
 /// blocks of its drive. Store comes only where the packs' count of faults rose in this call, and Sink only where that of
 /// `out` or of `trace` rose; Memory only before the first line is played, with the packs, `out` and `trace` as they were.
 ///
@@ -182,26 +182,16 @@ pub fn play<P: Packs, O: Sink, T: Sink>(
     trace: &mut T,
 ) -> Result<Tally, PlayFault>
     requires good { Spells all_verbs script.now.text (lines_in script.now) script.now.count }
-    ensures played { OnOk result (IsTrue (P.tells packs.new) → Plays (meaning_of script.now) (P.held packs.old) (P.held packs.new)
-        (O.tells out.new) (O.taken out.old) (O.taken out.new) (T.tells trace.new) (T.taken trace.old) (T.taken trace.new)) }
     ensures tallied { IfOk result (λ tally. IsTrue (P.tells packs.new) → Tallied (meaning_of script.now) (P.held packs.old) (P.held packs.new)
         (O.tells out.new) (O.taken out.old) (O.taken out.new) (T.tells trace.new) (T.taken trace.old) (T.taken trace.new) tally) }
     ensures requests { IfOk result (λ tally. tally.requests ≡ counted one_request (meaning_of script.now).lines) }
     ensures stopped { IfErr result (λ fault. IsTrue (P.tells packs.new) → Leaves fault (meaning_of script.now) (P.held packs.old) (P.held packs.new)
         (O.tells out.new) (O.taken out.old) (O.taken out.new) (T.tells trace.new) (T.taken trace.old) (T.taken trace.new)) }
     ensures fits { IsPlaying result → IsTrue (P.tells packs.new) → (unit n : ℕ) → ¬ (IsTooLong (meaning_of script.now) (P.held packs.old) unit n) }
-    ensures too_long { IfErr result (λ fault. IsTrue (P.tells packs.new) → IsLongFor (meaning_of script.now) (P.held packs.old) fault) }
-    ensures never_again { IsTrue (P.tells packs.new) → IsTrue (P.tells packs.old) }
-    ensures never_again_out { IsTrue (O.tells out.new) → IsTrue (O.tells out.old) }
-    ensures never_again_trace { IsTrue (T.tells trace.new) → IsTrue (T.tells trace.old) }
-    ensures later { P.faults packs.old ≤ P.faults packs.new }
-    ensures later_out { O.faults out.old ≤ O.faults out.new }
-    ensures later_trace { T.faults trace.old ≤ T.faults trace.new }
-    ensures store { IsErrOf result PlayFault.Store → Rose (P.faults packs.old) (P.faults packs.new) }
-    ensures sink { IsErrOf result PlayFault.Sink → Rose (O.faults out.old) (O.faults out.new) ⊎ Rose (T.faults trace.old) (T.faults trace.new) }
-    ensures same { IsBefore result → IsTrue (P.tells packs.new) → P.held packs.new ≡ P.held packs.old }
-    ensures silent { IsBefore result → out.new ≡ out.old }
-    ensures untraced { IsBefore result → trace.new ≡ trace.old }
+    ensures too_long { IfErr result (IsLongFor (meaning_of script.now) (P.tells packs.new) (P.held packs.old)) }
+    ensures told { HaveTold (P.tells packs.old) (P.tells packs.new) (O.tells out.old) (O.tells out.new) (T.tells trace.old) (T.tells trace.new) }
+    ensures causes { Rise (P.faults packs.old) (P.faults packs.new) (O.faults out.old) (O.faults out.new) (T.faults trace.old) (T.faults trace.new) result }
+    ensures untouched { IsBefore result → AreUntouched (P.tells packs.new) (P.held packs.old) (P.held packs.new) out.old out.new trace.old trace.new }
 {
     meaning_law();
     let units = attach_units(alloc, script, packs)?;

@@ -6,3 +6,4 @@ pub mod WordLaws
 pub mod SoFar
 mod Standing
 mod TheRunLaws
+mod PlayRuns

@@ -4,6 +4,7 @@ use Rattle.outside_traits.specs.Causes.{HasCause}
 use Rattle.outside_traits.specs.Puts.{TakesFront}
 use Rattle.pack_model.specs.Pack.{Pack}
 use Rattle.script_reader.specs.declared.fault.ScriptKind.{ScriptKind}
+use Rattle.script_reader.specs.Words.{all_verbs}
 use Rattle.script_reader.specs.Grammar.{IsRefused}
 use Rattle.trace_replay.specs.Script.{Script}
 use Rattle.event_player.specs.declared.play.PlayFault.{PlayFault}
@@ -14,48 +15,8 @@ use Rattle.hpsim_run.specs.declared.load.LoadFault.TheVariants as loading
 use Rattle.hpsim_run.specs.Headline.{SpellNone}
 use Rattle.hpsim_run.specs.Loading.{RefusesAll}
 use Rattle.hpsim_run.specs.Words.{Told, refusal_text}
-use Rattle.script_reader.specs.Grammar.{Spells}
-use Rattle.script_reader.specs.Known.{Numbered}
-use Rattle.script_reader.specs.Words.{all_verbs}
-use Rattle.script_meaning.specs.Meaning.{meaning}
-use Rattle.event_player.specs.Plays.{IsTooLong}
+use Rattle.event_player.specs.Plays.{NamesTooLong}
 use Rattle.event_player.specs.Stops.{Leaves}
-use Rattle.hpsim_run.specs.declared.status.Status.{Status}
-use Rattle.hpsim_run.specs.declared.status.Status.TheVariants.{Done, Usage, Refused, SourceFailed, SinkFailed, PacksFailed, TooLong, ToolRefused, OutOfMemory, FormatRefused}
-use Rattle.hpsim_run.specs.Statuses.{status_code, IsPlayCode, IsPlayStatus}
-
--- bytes spell one script
-abbrev pub OneScript : Type 0
-OneScript = (bytes : List ℕ) (lines others : List Numbered) (count other : ℕ) → Spells all_verbs bytes lines count → Spells all_verbs bytes others other
-    → (lines ≡ others) × (count ≡ other)
-
--- where no image is too long for the script that was read, none is for what the bytes spell
-pub none_long : (bytes : List ℕ) (lines others : List Numbered) (count other unit n : ℕ) (packs : ℕ → Pack) → OneScript
-    → Spells all_verbs bytes lines count → Spells all_verbs bytes others other
-    → ((unit n : ℕ) → ¬ (IsTooLong (meaning others other) packs unit n)) → IsTooLong (meaning lines count) packs unit n → ⊥
-none_long bytes lines others count other unit n packs one spelled read none is =
-    let e = one bytes lines others count other spelled read in
-    none unit n (subst (λ (c : ℕ). IsTooLong (meaning others c) packs unit n) e.1 (subst (λ (ls : List Numbered). IsTooLong (meaning ls count) packs unit n) e.0 is))
-
--- each status has its number
-pub coded : {status other : Status} (code : ℕ) → code ≡ status_code status → status ≡ other → code ≡ status_code other
-coded code is e = subst (λ (s : Status). code ≡ status_code s) e is
-
--- a status of `play` has one of its numbers
-play_status : (status : Status) → IsPlayStatus status → IsPlayCode (status_code status)
-play_status Done is = inl refl
-play_status Refused is = inr (inl refl)
-play_status SourceFailed is = inr (inr (inl refl))
-play_status SinkFailed is = inr (inr (inr (inl refl)))
-play_status PacksFailed is = inr (inr (inr (inr (inl refl))))
-play_status TooLong is = inr (inr (inr (inr (inr (inl refl)))))
-play_status OutOfMemory is = inr (inr (inr (inr (inr (inr refl)))))
-play_status Usage is = absurd is
-play_status ToolRefused is = absurd is
-play_status FormatRefused is = absurd is
-
-pub play_code : (status : Status) (code : ℕ) → code ≡ status_code status → IsPlayStatus status → IsPlayCode code
-play_code status code is play = subst IsPlayCode (sym is) (play_status status play)
 
 -- a text that was written whole, or whose sink failed
 written : {T E : Type 0} (result : Result T E) (taken after text : List ℕ) (faults faults_after : ℕ) (tells : Bool)
@@ -77,9 +38,9 @@ pub refused_parts : (left : List ℕ) (fault : LoadFault) (line : ℕ) (kind : S
 refused_parts left fault line kind e is = subst (λ (f : LoadFault). RefusesAll f left) e is
 
 -- an image that is too long
-pub long_parts : (script : Script) (packs : ℕ → Pack) (fault : PlayFault) (unit length_is : ℕ) → fault ≡ faults.TooLong unit length_is
-    → IsLongFor script packs fault → IsTooLong script packs unit length_is
-long_parts script packs fault unit length_is e is = subst (λ (f : PlayFault). IsLongFor script packs f) e is
+pub long_parts : (script : Script) (tells : Bool) (packs : ℕ → Pack) (fault : PlayFault) (unit length_is : ℕ) → fault ≡ faults.TooLong unit length_is
+    → IsLongFor script tells packs fault → NamesTooLong script tells packs unit length_is
+long_parts script tells packs fault unit length_is e is = subst (λ (f : PlayFault). IsLongFor script tells packs f) e is
 
 -- a sink that failed did so in playing
 pub sink_plays : (fault : PlayFault) → fault ≡ faults.Sink → IsPlaying (Err fault)
@@ -104,3 +65,7 @@ pub left_by : (fault other : PlayFault) (script : Script) (first left : ℕ → 
     → Leaves fault script first left out_tells said said' trace_tells taken taken' → Leaves other script first left out_tells said said' trace_tells taken taken'
 left_by fault other script first left out_tells said said' trace_tells taken taken' e is =
     subst (λ (f : PlayFault). Leaves f script first left out_tells said said' trace_tells taken taken') e is
+
+-- nor where there was no memory
+pub memory_before : (fault : PlayFault) → fault ≡ faults.Memory → IsBefore (Err fault)
+memory_before fault e = subst (λ (f : PlayFault). IsBefore (Err f)) (sym e) tt

@@ -22,8 +22,10 @@ use Rattle.block_machine.specs.Stands.{AreGiven}
 use Rattle.block_machine.proofs.Runs.{each_beginning, script_ids}
 use Rattle.event_player.specs.declared.play.PlayFault.{PlayFault}
 use Rattle.event_player.specs.declared.play.PlayFault.TheVariants as faults
-use Rattle.event_player.specs.Stops.{AreBehind, CameTo, SaysOneSector}
-use Rattle.run_promises.specs.Beginnings.{IsBegun, AreNoSectors, BeginningsKeep, FrontsKeep, PromisesSoFar}
+use Rattle.driver_outcome.specs.Outcome.{IsNextBlock}
+use Rattle.driver_runs.specs.NextBlock.{HasNext, NextBlocksShow}
+use Rattle.event_player.specs.Stops.{AreBehind, CameTo, SaysOneSector, StopsPlaying}
+use Rattle.run_promises.specs.Beginnings.{IsBegun, AreNoSectors, BeginningsKeep, FrontsKeep, NextBlocksKeep, PromisesSoFar}
 use Rattle.hpsim_run.specs.SoFar.{KeepsSoFar, HoldSoFar, HoldTaken, Keeps}
 use Rattle.hpsim_run.proofs.Standing.{Found, found, stand_silent}
 
@@ -176,15 +178,36 @@ hold_taken script tables first left said said' done under (inr moved) = record {
   hold = moved.1;
 }
 
-pub keeps : BeginningsKeep → FrontsKeep → (fault : PlayFault) (script : Script) (first left : ℕ → Pack) (out_tells : Bool) (said said' : List ℕ) (trace_tells : Bool) (taken taken' : List ℕ)
+-- THE PACKS FAILED: with the block that may be new, and without it
+left_keeps : BeginningsKeep → FrontsKeep → NextBlocksKeep → NextBlocksShow → (script : Script) (good : IsScript script) (first left : ℕ → Pack) (out_tells : Bool) (said said' : List ℕ) (trace_tells : Bool) (taken taken' : List ℕ)
+    → (is : StopsPlaying faults.Store script first left out_tells said said' trace_tells taken taken') → PromisesSoFar script is.tables first left is.stopped.done
+left_keeps keep fronts next shows script good first left out_tells said said' trace_tells taken taken' is = by is.stopped.packs
+  where
+    without : PromisesSoFar script is.tables first is.stopped.held is.stopped.done
+    without = hold_done keep fronts script good is.tables first is.stopped.held is.read is.stopped.done [] is.stopped.later is.stopped.came is.stopped.behind
+
+    begun_so : IsBegun script is.tables first is.stopped.done
+    begun_so = subst (IsBegun script is.tables first) (append-nil is.stopped.done)
+        (begun keep fronts script good is.tables first left is.read is.stopped.done [] is.stopped.later is.stopped.came)
+
+    by : (left ≡ is.stopped.held) ⊎ IsNextBlock is.stopped.world is.stopped.held left → PromisesSoFar script is.tables first left is.stopped.done
+    by (inl same) = subst (λ (packs : ℕ → Pack). PromisesSoFar script is.tables first packs is.stopped.done) (sym same) without
+    by (inr block) =
+        let has : HasNext (drives_of script) first left (after_moments (start_of script is.tables first) is.stopped.done) =
+        shows (drives_of script) first is.stopped.held left (after_moments (start_of script is.tables first) is.stopped.done) is.stopped.world is.stopped.sound is.stopped.shows
+        is.stopped.declared is.stopped.behind block in
+        next script is.tables first left is.stopped.done has.unit has.block has.kind begun_so has.declared has.next has.packs
+
+pub keeps : BeginningsKeep → FrontsKeep → NextBlocksKeep → NextBlocksShow → (fault : PlayFault) (script : Script) (first left : ℕ → Pack) (out_tells : Bool) (said said' : List ℕ) (trace_tells : Bool) (taken taken' : List ℕ)
     → IsScript script → Keeps fault script first left out_tells said said' trace_tells taken taken'
-keeps keep fronts faults.Memory script first left out_tells said said' trace_tells taken taken' good = tt
-keeps keep fronts (faults.TooLong u n) script first left out_tells said said' trace_tells taken taken' good = tt
-keeps keep fronts faults.Store script first left out_tells said said' trace_tells taken taken' good = λ is. (
+keeps keep fronts next shows faults.Memory script first left out_tells said said' trace_tells taken taken' good = tt
+keeps keep fronts next shows (faults.TooLong u n) script first left out_tells said said' trace_tells taken taken' good = tt
+keeps keep fronts next shows faults.Store script first left out_tells said said' trace_tells taken taken' good = λ is. (
   keeps_so_far script good is.tables first is.read is.stopped.done [] is.stopped.later is.stopped.came,
   hold_done keep fronts script good is.tables first is.stopped.held is.read is.stopped.done [] is.stopped.later is.stopped.came is.stopped.behind,
+  left_keeps keep fronts next shows script good first left out_tells said said' trace_tells taken taken' is,
 )
-keeps keep fronts faults.Sink script first left out_tells said said' trace_tells taken taken' good = λ is.
+keeps keep fronts next shows faults.Sink script first left out_tells said said' trace_tells taken taken' good = λ is.
     let hold : HoldSoFar script is.tables first left is.stopped.done is.stopped.under =
     hold_so_far keep fronts script good is.tables first left is.read is.stopped.done is.stopped.under is.stopped.later is.stopped.came is.stopped.packs in (
       keeps_so_far script good is.tables first is.read is.stopped.done is.stopped.under is.stopped.later is.stopped.came,

@@ -8,7 +8,7 @@ use Rattle.script_reader.specs.declared.fault.ScriptKind.{ScriptKind}
 use Rattle.script_meaning.specs.Meaning.{meaning}
 use Rattle.run_promises.specs.Promises.{Promises}
 use Rattle.event_player.specs.declared.play.PlayFault.{PlayFault}
-use Rattle.event_player.specs.Plays.{Plays, IsTooLong}
+use Rattle.event_player.specs.Plays.{Plays, IsTooLong, NamesTooLong}
 use Rattle.event_player.specs.Stops.{Leaves}
 use Rattle.hpsim_run.specs.SoFar.{Keeps}
 use Rattle.hpsim_run.specs.Words.{refusal_text, Told as TextTold}
@@ -54,8 +54,8 @@ pub record TellsRefusal (source_tells : Bool) (left : List ℕ) (tells : Bool) (
   pub first : IsTrue source_tells → IsRefused all_verbs left line kind
   pub told : IsTrue tells → TextTold taken taken_after (refusal_text line kind) faults faults_after
 
--- An image that is too long. Where source and packs tell, the bytes spell a script that declares the unit, and its image is too long;
--- where the sink tells, the text was taken, or the sink failed.
+-- An image that is too long. Where the source tells, its bytes spell these lines; they declare the unit, and where the packs tell it is the
+-- first one whose image is too long; where the sink tells, the text was taken, or the sink failed.
 pub record TellsTooLong (source_tells : Bool) (left : List ℕ) (packs_tell : Bool) (packs : ℕ → Pack) (tells : Bool) (taken taken_after : List ℕ)
     (faults faults_after : ℕ) : Type 0 where
   pub lines : List Numbered
@@ -63,5 +63,5 @@ pub record TellsTooLong (source_tells : Bool) (left : List ℕ) (packs_tell : Bo
   pub unit : ℕ
   pub length_is : ℕ
   pub spelled : IsTrue source_tells → Spells all_verbs left lines count
-  pub is : IsTrue packs_tell → IsTooLong (meaning lines count) packs unit length_is
+  pub is : NamesTooLong (meaning lines count) packs_tell packs unit length_is
   pub told : IsTrue tells → TextTold taken taken_after (too_long_text unit length_is) faults faults_after

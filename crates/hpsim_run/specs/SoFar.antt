@@ -53,10 +53,12 @@ pub record HoldTaken (script : Script) (tables : ℕ → Option Table) (first le
   pub stand : StandIn said said' done front rest
   pub hold : PromisesSoFar script tables first left (done ++ front)
 
--- All this is promised of whatever was done and of the event under way, as far as it came.
+-- All this is promised of whatever was done and of the event under way, as far as it came. Where the packs failed it is so of the packs
+-- that are left, with the one block that may be new, and of those without it.
 abbrev pub Keeps : (fault : PlayFault) (script : Script) (first left : ℕ → Pack) (out_tells : Bool) (said said' : List ℕ) (trace_tells : Bool) (taken taken' : List ℕ) → Type 0
 Keeps faults.Store script first left out_tells said said' trace_tells taken taken' = (is : StopsPlaying faults.Store script first left out_tells said said' trace_tells taken taken')
     → KeepsSoFar script is.tables first (is.stopped.done ++ []) × PromisesSoFar script is.tables first is.stopped.held is.stopped.done
+    × PromisesSoFar script is.tables first left is.stopped.done
 Keeps faults.Sink script first left out_tells said said' trace_tells taken taken' = (is : StopsPlaying faults.Sink script first left out_tells said said' trace_tells taken taken')
     → KeepsSoFar script is.tables first (is.stopped.done ++ is.stopped.under) × HoldSoFar script is.tables first left is.stopped.done is.stopped.under
     × HoldTaken script is.tables first left said said' is.stopped.done is.stopped.under

@@ -47,16 +47,3 @@ pub record IsStatusOf (command : Option Command) (code : ℕ) : Type 0 where
   pub mark : (unit : ℕ) (kind : DriveKind) → command ≡ Some (MarkBlocks unit kind) → IsChangeCode code
   pub exercise : (number : ℕ) → command ≡ Some (Exercise number) → IsExerciseCode code
   pub format : (unit serial : ℕ) (kind : DriveKind) → command ≡ Some (FormatPack unit kind serial) → IsFormatCode code
-
--- a status of `play`
-abbrev pub IsPlayStatus : Status → Type 0
-IsPlayStatus Done = Unit {0}
-IsPlayStatus Refused = Unit {0}
-IsPlayStatus SourceFailed = Unit {0}
-IsPlayStatus SinkFailed = Unit {0}
-IsPlayStatus PacksFailed = Unit {0}
-IsPlayStatus OutOfMemory = Unit {0}
-IsPlayStatus Usage = ⊥
-IsPlayStatus TooLong = Unit {0}
-IsPlayStatus ToolRefused = ⊥
-IsPlayStatus FormatRefused = ⊥

@@ -1,2 +1,4 @@
 mod Playing
+mod Naming
+mod Headers
 mod Others

@@ -1,2 +1,4 @@
 pub mod Playing
+pub mod Naming
+pub mod Headers
 pub mod Others

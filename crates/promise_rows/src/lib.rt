@@ -2,6 +2,8 @@
 #![tactic(auto)]
 
 ghost use Rattle.promise_rows.specs.Playing.{AlwaysAFault, AnswersKeptBack, BlockBeforeItsEvent, BlockBehindAStop, BlockOfNoUnit, NoiseLineUncounted, ShortLastBlockWhole};
+ghost use Rattle.promise_rows.specs.Naming.{LaterUnitNamed, FittingLengthNamed, FirstEventUntold, OtherRunByOtherTables, ReadsLengthen, TwoLinesUnderWay, MarkGoneBehindAFailure};
+ghost use Rattle.promise_rows.specs.Headers.{HeadersAreAsTheDriveHasThem};
 ghost use Rattle.promise_rows.specs.Others.{DoneWhereTheTextWasNotTaken, FaultThatPrints, HandedInPacksPlayed, PlayedAsRefusedByTheTool};
 
 /// Of `play`: no fault without its cause, no answer left out, no block that no request wrote, no line of noise that is not counted,
@@ -23,4 +25,22 @@ pub fn other_rows()
     ensures done_where_the_text_was_not_taken { DoneWhereTheTextWasNotTaken }
     ensures fault_that_prints { FaultThatPrints }
     ensures handed_in_packs_played { HandedInPacksPlayed }
+{}
+
+/// Of `play` too: the unit that is named as too long is the first one, with a length that does not fit; the first event of a drain is told;
+/// no other tables have another run; reads lengthen no image; one line of the script at most is under way at a stop; and the packs that
+/// are left by a failure have their marks.
+pub fn naming_rows()
+    ensures later_unit_named { LaterUnitNamed }
+    ensures fitting_length_named { FittingLengthNamed }
+    ensures first_event_untold { FirstEventUntold }
+    ensures other_run_by_other_tables { OtherRunByOtherTables }
+    ensures reads_lengthen { ReadsLengthen }
+    ensures two_lines_under_way { TwoLinesUnderWay }
+    ensures mark_gone_behind_a_failure { MarkGoneBehindAFailure }
+{}
+
+/// A header's fault is the drive's: the header of a marked block shows the fault whose error bit the drive sets at a marked sector.
+pub fn header_rows()
+    ensures { HeadersAreAsTheDriveHasThem }
 {}

@@ -47,9 +47,10 @@ returns-in_err-attach_line-clause-too_long g c =
     let lt : i < length s.lines = subst (λ (xs : List Kept). i < length xs) c.lines-line-items.ensures c.loop-line-test.true in
     let is : line ≡ slice_index_or s.lines i line = subst (λ (xs : List Kept). line ≡ slice_index_or xs i line) c.lines-line-items.ensures c.line-item.is in
     let units = (c.meaning_law.ensures.read s.text s c.requires.good).units in
-    at_fault _ _ c.from_residual.ensures.1 (λ t.
-    long_at s i line lt is (g.P.Packs.held c.loop-line.packs) (g.P.Packs.held c.args.packs.now) _ units
-    (c.loop-line.invariant.same (c.in_err-attach_line.ensures.never_again t)) (c.in_err-attach_line.ensures.refuses t))
+    at_fault _ _ c.from_residual.ensures.1
+    (long_at s i line lt is (g.P.Packs.tells c.attach_line.new.packs) (g.P.Packs.held c.loop-line.packs) (g.P.Packs.held c.args.packs.now) _ _ units
+    (λ t. c.loop-line.invariant.same (c.in_err-attach_line.ensures.never_again t)) (λ t. c.loop-line.invariant.told (c.in_err-attach_line.ensures.never_again t))
+    c.in_err-attach_line.ensures.refuses)
 
 pub returns-clause-set : goal.returns-clause-set
 returns-clause-set g c =

@@ -1,4 +1,4 @@
-use Rattle.std.proofs.Common.{ℕ, [], ◌≡◌, refl, ap, sym, subst, ◌∙◌, IfOk, IfErr, OnOk}
+use Rattle.std.proofs.Common.{ℕ, Bool, [], ◌≡◌, refl, ap, sym, subst, ◌∙◌, IfOk, IfErr, OnOk}
 use Rattle.std.specs.Prelude.{Result, Ok, Err}
 use Rattle.pack_model.specs.Pack.{Pack}
 use Rattle.trace_replay.specs.Script.{Script}
@@ -30,16 +30,12 @@ never_before (Err (fault.TooLong u n)) causes before = causes.too_long u n refl
 never_before (Err fault.Store) causes before = before
 never_before (Err fault.Sink) causes before = before
 
-never_long : (X : Type 0) {a b c d e f : ℕ} (result : Result Tally PlayFault) → HasCauses a b c d e f result → (s : Script) (packs : ℕ → Pack) → IfErr result (λ stop. X → IsLongFor s packs stop)
-never_long X (Ok x) causes s packs = tt
-never_long X (Err fault.Memory) causes s packs = λ x. tt
-never_long X (Err (fault.TooLong u n)) causes s packs = λ x. absurd (causes.too_long u n refl)
-never_long X (Err fault.Store) causes s packs = λ x. tt
-never_long X (Err fault.Sink) causes s packs = λ x. tt
-
-ok_of : {P : Tally → Type 0} {B : Type 0} (result : Result Tally PlayFault) → IfOk result P → ((x : Tally) → P x → B) → OnOk result B
-ok_of (Ok x) holds gives = gives x holds
-ok_of (Err e) holds gives = tt
+never_long : {a b c d e f : ℕ} (result : Result Tally PlayFault) → HasCauses a b c d e f result → (s : Script) (tells : Bool) (packs : ℕ → Pack) → IfErr result (IsLongFor s tells packs)
+never_long (Ok x) causes s tells packs = tt
+never_long (Err fault.Memory) causes s tells packs = tt
+never_long (Err (fault.TooLong u n)) causes s tells packs = absurd (causes.too_long u n refl)
+never_long (Err fault.Store) causes s tells packs = tt
+never_long (Err fault.Sink) causes s tells packs = tt
 
 pub play_lines-requires-clause-ready : goal.play_lines-requires-clause-ready
 play_lines-requires-clause-ready g c =
@@ -67,9 +63,6 @@ returns-clause-tallied g c =
     (units.tables (lines.never_again t)) (units.same (lines.never_again t)) c.in_ok-subsystem.ensures refl
     (c.in_ok-bench.ensures.tally ∙ ap (λ (n : ℕ). tally_by n [] []) (c.from.ensures ∙ c.count_requests-requests.ensures.count)) (plays t))
 
-pub returns-clause-played : goal.returns-clause-played
-returns-clause-played g c = ok_of c.play_lines.result (returns-clause-tallied g c) (λ tally tallied t. (tallied t).plays)
-
 pub returns-clause-stopped : goal.returns-clause-stopped
 returns-clause-stopped g c =
     let units = c.in_ok-units.ensures in
@@ -82,13 +75,7 @@ returns-clause-stopped g c =
     (units.tables (lines.never_again t)) (units.same (lines.never_again t)) c.in_ok-subsystem.ensures refl (stops t))
 
 pub returns-clause-too_long : goal.returns-clause-too_long
-returns-clause-too_long g c = never_long _ c.play_lines.result c.play_lines.ensures.causes _ _
+returns-clause-too_long g c = never_long c.play_lines.result c.play_lines.ensures.causes _ _ _
 
-pub returns-clause-same : goal.returns-clause-same
-returns-clause-same g c = λ before. absurd (never_before c.play_lines.result c.play_lines.ensures.causes before)
-
-pub returns-clause-silent : goal.returns-clause-silent
-returns-clause-silent g c = λ before. absurd (never_before c.play_lines.result c.play_lines.ensures.causes before)
-
-pub returns-clause-untraced : goal.returns-clause-untraced
-returns-clause-untraced g c = λ before. absurd (never_before c.play_lines.result c.play_lines.ensures.causes before)
+pub returns-clause-untouched : goal.returns-clause-untouched
+returns-clause-untouched g c = λ before. absurd (never_before c.play_lines.result c.play_lines.ensures.causes before)

@@ -28,7 +28,7 @@ unreachable-requires-in-Err-Store g c =
     (λ bytes ls os k o. c.grammar_law.ensures.one_script all_verbs bytes ls os k o) in
     never_fails c.args.number c.in-Err-Store.field-0 (meaning_of c.in-Ok-read_script.script) _ _ _ _ _ _ _ _ _ c.play.new.packs.outside
     c.in-Err-Store.field-0-is same c.in-Ok-new.ensures.empty (c.in-Err-Store.ensures.stopped refl) c.outside_law.ensures refl
-    (subst (λ outside. Rose (faults_of outside) (faults_of c.play.new.packs.outside)) c.in-Ok-new.ensures.inside (c.in-Err-Store.ensures.store (ap {B = Result Tally PlayFault} (λ (fault : PlayFault). Err fault) c.in-Err-Store.field-0-is)))
+    (subst (λ outside. Rose (faults_of outside) (faults_of c.play.new.packs.outside)) c.in-Ok-new.ensures.inside (c.in-Err-Store.ensures.causes.store (ap {B = Result Tally PlayFault} (λ (fault : PlayFault). Err fault) c.in-Err-Store.field-0-is)))
 
 pub returns-in-Ok-play-clause-done : goal.returns-in-Ok-play-clause-done
 returns-in-Ok-play-clause-done g c =
