@@ -1,4 +1,3 @@
 pub mod FormatLaws
-pub mod PollLaws
-pub mod StageLaws
+pub mod RefusalLaws
 pub mod SurveyLaws
