@@ -1,11 +1,11 @@
 -- Stages of formatting: one block written, one stage behind another, and where a stage stops.
 use Rattle.std.proofs.Common.{◌≡◌, ◌≢◌, ◌⊎◌, inl, inr, ℕ, ◌+◌, ◌<◌, ◌≤◌, ◌==◌, ◌&&◌, ◌||◌, not, Bool, true, false, IsTrue, if◌then◌else◌, List, length, Result, Ok, Err, refl, sym, ap, ◌∙◌, subst, arith}
-use Rattle.std.specs.Prelude.{OnErr, OnOk, nat_le, nat_lt, slice_index}
+use Rattle.std.specs.Prelude.{OnErr, OnOk, slice_index}
 use Rattle.std.proofs.lemmas.Bool.Decides.{Decides-eqb, nat_tests}
 use Rattle.pack_model.specs.Pack.{Pack, block_at, is_marked, with_pack, with_written, written}
 use Rattle.pack_model.proofs.PackLaws.{block_at-with_block_same, block_at-with_block_other}
 use Rattle.block_polls.specs.Polls.{IsOldOrNew, Polls, Sides, answer_for}
-use Rattle.block_tests.specs.Stages.{Fills, IsTested, Reaches, Stops, between, if_done, one, ranged, unmarked_of}
+use Rattle.block_tests.specs.Stages.{Fills, Reaches, Stops, between, if_done, one, ranged, unmarked_of}
 use Rattle.block_polls.specs.declared.station.Polled.{Polled}
 use Rattle.block_polls.specs.declared.station.Polled.TheVariants.{Clean, Marked}
 

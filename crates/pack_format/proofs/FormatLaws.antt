@@ -1,5 +1,5 @@
 -- A pack behind all stages is formatted, and one behind some of them is so in part.
-use Rattle.std.proofs.Common.{◌≡◌, ◌⊎◌, inl, inr, ℕ, zero, suc, ◌+◌, ◌-◌, ◌<◌, ◌≤◌, ◌&&◌, Bool, true, false, List, length, replicate, Option, None, Some, refl, sym, ap, ◌∙◌, subst, arith}
+use Rattle.std.proofs.Common.{◌≡◌, ◌⊎◌, inl, inr, ℕ, zero, suc, ◌-◌, ◌<◌, ◌≤◌, ◌&&◌, Bool, true, false, List, length, replicate, Option, None, Some, refl, sym, ap, ◌∙◌, subst, arith}
 use Rattle.std.specs.Prelude.{nat_le, nat_lt, slice_get, if◌then◌else◌}
 use Rattle.std.proofs.lemmas.Bool.{cases_lt}
 use Rattle.std.proofs.lemmas.Bool.Decides.{Decides-ltb, nat_tests}
@@ -18,7 +18,7 @@ use Rattle.bad144_table.proofs.Positions.{index_listed}
 use Rattle.block_tests.specs.Stages.{Fills, IsTested, Reaches, between, copied, is_copy, ranged}
 use Rattle.block_tests.proofs.CopyLaws.{copy_here, which_copy}
 use Rattle.block_tests.proofs.StageLaws.{at, false_true, fill_off, fill_on, same_marks}
-use Rattle.pack_format.specs.Formatted.{CanBeFormatted, Copy, Data, Holds, IsChanged, IsFormatted, IsPartly, IsWritten, IsZeros, Replacement, found, marked_blocks, table_for}
+use Rattle.pack_format.specs.Formatted.{CanBeFormatted, Copy, Data, Holds, IsFormatted, IsPartly, IsWritten, IsZeros, Replacement, found, marked_blocks, table_for}
 use Rattle.pack_format.proofs.SurveyLaws.{among}
 
 -- ---- the parts of a pack

@@ -1,8 +1,8 @@
-use Rattle.std.proofs.Common.{◌≡◌, ◌-◌, ℕ, IsTrue, ap, length, arith}
+use Rattle.std.proofs.Common.{◌≡◌, ◌-◌, IsTrue, length, arith}
 use Rattle.block_polls.proofs.PollLaws.{on_err}
 use Rattle.block_tests.proofs.StageLaws.{on_err_then, on_ok_then}
-use Rattle.pack_format.specs.Formatted.{CanBeFormatted, IsFormatted, IsPartly, table_for}
-use Rattle.pack_format.proofs.FormatLaws.{AreSet, formatted, partly_copies, partly_data, partly_spares, set_of}
+use Rattle.pack_format.specs.Formatted.{IsFormatted, IsPartly}
+use Rattle.pack_format.proofs.FormatLaws.{formatted, partly_copies, partly_data, partly_spares, set_of}
 use Rattle.pack_format.proofs.formatting.write_blocks.Goals as goal
 
 pub returns-in_err-test_blocks-clause-partly : goal.returns-in_err-test_blocks-clause-partly
