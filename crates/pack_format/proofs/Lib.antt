@@ -1,3 +1,4 @@
+pub mod AloneLaws
 pub mod FormatLaws
 pub mod RefusalLaws
 pub mod SurveyLaws

@@ -1,9 +1,10 @@
-//! What the reasons of refusals come to.
-ghost use Rattle.std.specs.Prelude.{◌≡◌, ◌⊎◌};
+//! What the reasons of refusals come to, and what formatting leaves alone.
+ghost use Rattle.std.specs.Prelude.{◌≡◌, ◌≢◌, ◌⊎◌, ℕ, ◌<◌, ◌≤◌, true};
+ghost use Rattle.pack_geometry.specs.Geometry.{copy_at, replacement_at};
 ghost use Rattle.pack_geometry.specs.declared.DriveKind.{DriveKind};
-ghost use Rattle.pack_model.specs.Pack.{Pack};
+ghost use Rattle.pack_model.specs.Pack.{Pack, block_at, is_marked};
 ghost use Rattle.pack_format.specs.Faults.{IsWhy};
-ghost use Rattle.pack_format.specs.Formatted.{CanBeFormatted};
+ghost use Rattle.pack_format.specs.Formatted.{CanBeFormatted, Holds, IsFormatted, IsPartly, IsWritten, IsZeros, found};
 ghost use Rattle.pack_format.specs.declared.fault.FormatFault.{FormatFault};
 ghost use Rattle.pack_format.specs.declared.fault.FormatFault.TheVariants.{Memory, Store};
 
@@ -14,4 +15,17 @@ pub fn refusals_law()
         → (fault ≡ Memory) ⊎ (fault ≡ Store) }
     ensures one { (kind : DriveKind) → (pack : Pack) → (fault other : FormatFault) → IsWhy kind pack fault → IsWhy kind pack other
         → (fault ≡ Memory) ⊎ (fault ≡ Store) ⊎ (other ≡ Memory) ⊎ (other ≡ Store) ⊎ (other ≡ fault) }
+{}
+
+/// The law of what is left alone, so that these wrong packs are none that `format` leaves: a marked sector that was written; a
+/// replacement that was, though no entry uses it; and, where it stopped, a copy of the table that was, while a block before the
+/// copies still lacked its zeros.
+pub fn left_alone_law()
+    ensures marked { (kind : DriveKind) → (serial sector : ℕ) → (old new : Pack) → IsFormatted kind serial old new → is_marked old sector ≡ true
+        → block_at new.image sector ≡ block_at old.image sector }
+    ensures spares { (kind : DriveKind) → (serial i : ℕ) → (old new : Pack) → IsFormatted kind serial old new → found kind old ≤ i → i < 126
+        → block_at new.image (replacement_at kind i) ≡ block_at old.image (replacement_at kind i) }
+    ensures last { (kind : DriveKind) → (serial k sector : ℕ) → (old new : Pack) → IsPartly kind serial old new
+        → block_at new.image (copy_at kind k) ≢ block_at old.image (copy_at kind k) → sector < copy_at kind 0 → (written : IsWritten kind old sector)
+        → Holds IsZeros kind serial old sector (block_at new.image sector) written }
 {}

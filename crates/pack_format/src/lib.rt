@@ -5,7 +5,7 @@
 //! blocks, and each data block has a home and zeros for its content; marks, every other sector and every other unit stay. Each
 //! refusal has its reason and comes just where nothing before it is in the way, so that no pack is refused for two reasons
 //! (`refusals_law`). Formatting goes by rising number, and what a failure leaves is said by the sector that it reached
-//! (`IsPartly`): so no copy of the table is written before the last block is tested.
+//! (`IsPartly`): so no copy of the table is written before the last block is tested (`left_alone_law`).
 //!
 //! Only tested, in `format_rows`: that A5 is written first, that blocks are read back, texts, and that memory suffices.
 #![tactic(auto)]
@@ -17,4 +17,4 @@ mod survey;
 
 pub use fault::FormatFault;
 pub use formatting::{FormatReport, format};
-pub use laws::refusals_law;
+pub use laws::{left_alone_law, refusals_law};
