@@ -107,9 +107,9 @@ same_side set pack old sector marks (inr e) = inr (same_marks pack old sector ma
 
 -- a sector that is not written is of no set, or marked
 side : (set : ℕ → Bool) (pack : Pack) (sector : ℕ) → (set sector ≡ true → is_marked pack sector ≡ false → ⊥) → (set sector ≡ false) ⊎ (is_marked pack sector ≡ true)
-side set pack sector no =
+side set pack sector unwritten =
     at (set sector)
-    (λ is. at (is_marked pack sector) (λ marked. inr marked) (λ unmarked. absurd (no is unmarked)))
+    (λ is. at (is_marked pack sector) (λ marked. inr marked) (λ unmarked. absurd (unwritten is unmarked)))
     (λ off. inl off)
 
 module _ (kind : DriveKind) (serial unit n limit from to : ℕ) (table : Table) (old : ℕ → Pack) (s : AreSet kind serial n limit from to table (old unit)) where
@@ -171,13 +171,13 @@ module _ (kind : DriveKind) (serial unit n limit from to : ℕ) (table : Table) 
 
   -- what is not written is of no set, or marked
   not_data : (sector : ℕ) → (IsWritten kind (old unit) sector → ⊥) → (data_set sector ≡ false) ⊎ (is_marked (old unit) sector ≡ true)
-  not_data sector no = side data_set (old unit) sector (λ is unmarked. no (Data (data_of sector is) unmarked))
+  not_data sector unwritten = side data_set (old unit) sector (λ is unmarked. unwritten (Data (data_of sector is) unmarked))
 
   not_spare : (sector : ℕ) → (IsWritten kind (old unit) sector → ⊥) → (spare_set sector ≡ false) ⊎ (is_marked (old unit) sector ≡ true)
-  not_spare sector no = side spare_set (old unit) sector (λ is unmarked. let w = spare_of sector is in no (Replacement w.0 (omega (arith, w.1, number)) w.2 unmarked))
+  not_spare sector unwritten = side spare_set (old unit) sector (λ is unmarked. let w = spare_of sector is in unwritten (Replacement w.0 (omega (arith, w.1, number)) w.2 unmarked))
 
   not_copy : (sector : ℕ) → (IsWritten kind (old unit) sector → ⊥) → (copy_set sector ≡ false) ⊎ (is_marked (old unit) sector ≡ true)
-  not_copy sector no = side copy_set (old unit) sector (λ is unmarked. let w = copy_of sector is in no (Copy w.0 w.1 w.2 unmarked))
+  not_copy sector unwritten = side copy_set (old unit) sector (λ is unmarked. let w = copy_of sector is in unwritten (Copy w.0 w.1 w.2 unmarked))
 
   -- the first stage stopped
   module _ (new : ℕ → Pack) (r : Reaches unit (between 0 limit) (replicate 512 0) IsTested old new) where
@@ -197,7 +197,7 @@ module _ (kind : DriveKind) (serial unit n limit from to : ℕ) (table : Table) 
         | inr struck ↦ inr (record { written = Data (data_of r.reached r.among) struck.0; new = struck.1 })
       ];
       behind = r.behind;
-      others = λ sector no. r.kept sector (not_data sector no);
+      others = λ sector unwritten. r.kept sector (not_data sector unwritten);
       marks = r.marks;
     }
 
@@ -246,7 +246,7 @@ module _ (kind : DriveKind) (serial unit n limit from to : ℕ) (table : Table) 
               })
         ];
         behind = λ sector lt. r.behind sector lt ∙ one_above sector (omega (arith, lt, above_data_blocks));
-        others = λ sector no. r.kept sector (same_side spare_set (one unit) (old unit) sector first.marks (not_spare sector no)) ∙ one_same sector (not_data sector no);
+        others = λ sector unwritten. r.kept sector (same_side spare_set (one unit) (old unit) sector first.marks (not_spare sector unwritten)) ∙ one_same sector (not_data sector unwritten);
         marks = r.marks ∙ first.marks;
       }
 
@@ -269,9 +269,9 @@ module _ (kind : DriveKind) (serial unit n limit from to : ℕ) (table : Table) 
           ∙ one_above sector (omega (arith, le, (copy_above 0).0))
 
       two_same : (sector : ℕ) → (IsWritten kind (old unit) sector → ⊥) → block_at (two unit).image sector ≡ block_at (old unit).image sector
-      two_same sector no =
-          fill_off unit (between from to) (replicate 512 0) one two sector second (same_side spare_set (one unit) (old unit) sector first.marks (not_spare sector no))
-          ∙ one_same sector (not_data sector no)
+      two_same sector unwritten =
+          fill_off unit (between from to) (replicate 512 0) one two sector second (same_side spare_set (one unit) (old unit) sector first.marks (not_spare sector unwritten))
+          ∙ one_same sector (not_data sector unwritten)
 
       -- and the third stopped
       module _ (new : ℕ → Pack) (bytes : List ℕ) (spelled : Spells bytes table) (r : Reaches unit (is_copy kind 5) bytes (λ x. x ≡ bytes) two new) where
@@ -308,7 +308,7 @@ module _ (kind : DriveKind) (serial unit n limit from to : ℕ) (table : Table) 
                 })
           ];
           behind = λ sector lt. r.behind sector lt ∙ two_above sector (omega (arith, lt, above_all));
-          others = λ sector no. r.kept sector (same_side copy_set (two unit) (old unit) sector (second.marks ∙ first.marks) (not_copy sector no)) ∙ two_same sector no;
+          others = λ sector unwritten. r.kept sector (same_side copy_set (two unit) (old unit) sector (second.marks ∙ first.marks) (not_copy sector unwritten)) ∙ two_same sector unwritten;
           marks = r.marks ∙ second.marks ∙ first.marks;
         }
 
@@ -403,8 +403,8 @@ module _ (kind : DriveKind) (serial unit n limit from to : ℕ) (table : Table) 
           table_is = table_now;
           content = content_now;
           marks = all_marks;
-          others = λ sector no.
+          others = λ sector unwritten.
               fill_off unit (λ m. is_copy kind 5 m) bytes two new sector third
-              (same_side copy_set (two unit) (old unit) sector (second.marks ∙ first.marks) (not_copy sector no))
-              ∙ two_same sector no;
+              (same_side copy_set (two unit) (old unit) sector (second.marks ∙ first.marks) (not_copy sector unwritten))
+              ∙ two_same sector unwritten;
         }
