@@ -67,6 +67,33 @@ fn write_blocks<P: Packs>(
     write_copies(station, packs, unit, kind, &bytes)
 }
 
+/// Formats a pack whose image is no longer than the pack, through a station.
+fn format_through<P: Packs>(
+    station: &mut Station,
+    packs: &mut P,
+    unit: u8,
+    kind: DriveKind,
+    serial: u32,
+) -> Result<FormatReport, FormatFault>
+    requires unit { unit < 32 }
+    requires rest { IsAtRest kind station.old }
+    requires fits { IsTrue (P.tells packs.old) → ¬ (IsTooLong kind (P.held packs.old unit)) }
+    ensures formatted { IfOk result (λ report. IsTrue (P.tells packs.new) →
+        IsFormatted kind serial (P.held packs.old unit) (P.held packs.new unit) × (report.bad ≡ found kind (P.held packs.old unit))) }
+    ensures elsewhere { (other : ℕ) → other ≢ unit → IsTrue (P.tells packs.new) → P.held packs.new other ≡ P.held packs.old other }
+    ensures why { IfErr result (λ fault. IsTrue (P.tells packs.new) → IsWhy kind (P.held packs.old unit) fault) }
+    ensures left { IfErr result (λ fault. IsTrue (P.tells packs.new) → Leaves kind serial unit (P.held packs.old) (P.held packs.new) fault) }
+    ensures fault { IfErr result IsFault }
+    ensures never_again { IsTrue (P.tells packs.new) → IsTrue (P.tells packs.old) }
+    ensures cause { IsCaused (P.faults packs.old) (P.faults packs.new) result }
+{
+    let table = first_reading(station, packs, unit, kind, serial)?;
+    write_blocks(station, packs, unit, kind, &table)?;
+    Ok(FormatReport {
+        bad: entries(&table),
+    })
+}
+
 /// Formats a unit's pack.
 ///
 /// First every data block, replacement and copy is read. Then each data block that is not marked, and each replacement
@@ -98,9 +125,5 @@ pub fn format<P: Packs>(
 {
     check_length(packs, unit, kind)?;
     let mut station = Station::new(alloc, kind)?;
-    let table = first_reading(&mut station, packs, unit, kind, serial)?;
-    write_blocks(&mut station, packs, unit, kind, &table)?;
-    Ok(FormatReport {
-        bad: entries(&table),
-    })
+    format_through(&mut station, packs, unit, kind, serial)
 }

@@ -1,6 +1,8 @@
-//! What the reasons of refusals come to, and what formatting leaves alone.
-ghost use Rattle.std.specs.Prelude.{◌≡◌, ◌≢◌, ◌⊎◌, ℕ, ◌<◌, ◌≤◌, true};
-ghost use Rattle.pack_geometry.specs.Geometry.{copy_at, replacement_at};
+//! What the reasons of refusals come to, what formatting leaves alone, and which tables it writes.
+ghost use Rattle.std.specs.Prelude.{◌≡◌, ◌≢◌, ◌⊎◌, ℕ, ◌+◌, ◌*◌, ◌<◌, ◌≤◌, true, false, List, length, All, AllPairs};
+ghost use Rattle.pack_geometry.specs.Geometry.{IsInside, block_number, copy_at, replacement_at};
+ghost use Rattle.pack_geometry.specs.declared.Place.{Place};
+ghost use Rattle.pack_model.specs.TableSpelling.{table_text};
 ghost use Rattle.pack_geometry.specs.declared.DriveKind.{DriveKind};
 ghost use Rattle.pack_model.specs.Pack.{Pack, block_at, is_marked};
 ghost use Rattle.pack_format.specs.Faults.{IsWhy};
@@ -28,4 +30,15 @@ pub fn left_alone_law()
     ensures last { (kind : DriveKind) → (serial k sector : ℕ) → (old new : Pack) → IsPartly kind serial old new
         → block_at new.image (copy_at kind k) ≢ block_at old.image (copy_at kind k) → sector < copy_at kind 0 → (written : IsWritten kind old sector)
         → Holds IsZeros kind serial old sector (block_at new.image sector) written }
+{}
+
+/// The law of the table, so that no pack that `format` leaves has such a text in an unmarked copy: entries out of order, or the
+/// serial number with its two words swapped.
+pub fn table_law()
+    ensures order { (kind : DriveKind) → (serial number k : ℕ) → (old new : Pack) → (places : List Place) → IsFormatted kind serial old new → k < 5
+        → is_marked old (copy_at kind k) ≡ false → block_at new.image (copy_at kind k) ≡ table_text number places → length places ≤ 126
+        → All (IsInside kind) places → AllPairs (λ p q. block_number kind p < block_number kind q) places }
+    ensures halves { (kind : DriveKind) → (low high k : ℕ) → (old new : Pack) → (places : List Place) → IsFormatted kind (low + 65536 * high) old new → k < 5
+        → is_marked old (copy_at kind k) ≡ false → low < 65536 → high < 65536 → low ≢ high
+        → block_at new.image (copy_at kind k) ≢ table_text (high + 65536 * low) places }
 {}

@@ -17,4 +17,4 @@ mod survey;
 
 pub use fault::FormatFault;
 pub use formatting::{FormatReport, format};
-pub use laws::{left_alone_law, refusals_law};
+pub use laws::{left_alone_law, refusals_law, table_law};
