@@ -1,28 +1,20 @@
 -- How formatting ends: the fault of a test of blocks as one of formatting, and what was read before any write.
-use Rattle.std.proofs.Common.{◌≡◌, ◌≢◌, ◌⊎◌, inl, inr, ℕ, ◌≤◌, Bool, IsTrue, Result, Ok, Err, sym, ap, ◌∙◌, subst, arith}
-use Rattle.std.specs.Prelude.{IfErr, IfOk, IsErrAnd, IsErrOf}
-use Rattle.outside_traits.specs.Causes.{Rose}
+use Rattle.std.proofs.Common.{◌≡◌, inl, inr, ℕ, Bool, IsTrue, Result, Ok, Err, sym, subst}
+use Rattle.std.specs.Prelude.{IfErr, IfOk, IsErrAnd}
 use Rattle.pack_geometry.specs.declared.DriveKind.{DriveKind}
 use Rattle.pack_model.specs.Pack.{Pack}
-use Rattle.block_tests.specs.TestFaults.{IsStop, IsTestCaused}
+use Rattle.block_tests.specs.TestFaults.{IsStop}
 use Rattle.block_tests.specs.declared.fault.TestFault.{TestFault}
 use Rattle.block_tests.specs.declared.fault.TestFault.TheVariants as test
-use Rattle.pack_format.specs.Faults.{IsCaused, IsFault, IsWhy, Leaves, from_test}
+use Rattle.pack_format.specs.Faults.{IsFault, IsWhy, Leaves, from_test}
 use Rattle.pack_format.specs.Formatted.{IsFormatted, IsPartly, found}
 use Rattle.pack_format.specs.declared.fault.FormatFault.{FormatFault}
+use Rattle.pack_format.specs.declared.formatting.FormatReport.{FormatReport}
 use Rattle.pack_format.specs.declared.fault.FormatFault.TheVariants.{Memory, TooLong, TooMany, Spare, NoCopy, Differs, Store}
 
 pub at_error : {T E : Type 0} (result : Result T E) {e : E} (P : E → Type 0) → IsErrAnd result (λ x. x ≡ e) → P e → IfErr result P
 at_error (Ok v) P is p = tt
 at_error (Err x) P is p = subst P (sym is) p
-
-pub ok_then : {T E : Type 0} (P Q : T → Type 0) (result : Result T E) → IfOk result P → ((x : T) → P x → Q x) → IfOk result Q
-ok_then P Q (Ok v) p f = f v p
-ok_then P Q (Err e) p f = tt
-
-pub err_then : {T E : Type 0} (P Q : E → Type 0) (result : Result T E) → IfErr result P → ((x : E) → P x → Q x) → IfErr result Q
-err_then P Q (Ok v) p f = tt
-err_then P Q (Err e) p f = f e p
 
 -- a test that stopped
 pub why_of : (kind : DriveKind) (pack : Pack) (told : Bool) (f : TestFault) → IsStop told f → IsTrue told → IsWhy kind pack (from_test f)
@@ -53,3 +45,21 @@ left_alone kind serial unit old new pack NoCopy why same = same
 left_alone kind serial unit old new pack (Differs block at wrote read) why same = absurd why
 left_alone kind serial unit old new pack Memory why same = same
 left_alone kind serial unit old new pack Store why same = inl same
+
+-- what was done behind a step that changed nothing
+pub formatted_behind : {E : Type 0} (kind : DriveKind) (serial unit : ℕ) (old mid new : ℕ → Pack) (told : Type 0) (result : Result FormatReport E) → (told → mid ≡ old)
+    → IfOk result (λ report. told → IsFormatted kind serial (mid unit) (new unit) × (report.bad ≡ found kind (mid unit)))
+    → IfOk result (λ report. told → IsFormatted kind serial (old unit) (new unit) × (report.bad ≡ found kind (old unit)))
+formatted_behind kind serial unit old mid new told (Ok report) same formatted =
+    λ t. subst (λ (h : ℕ → Pack). IsFormatted kind serial (h unit) (new unit) × (report.bad ≡ found kind (h unit))) (same t) (formatted t)
+formatted_behind kind serial unit old mid new told (Err f) same formatted = tt
+
+pub why_behind : {T : Type 0} (kind : DriveKind) (unit : ℕ) (old mid : ℕ → Pack) (told : Type 0) (result : Result T FormatFault) → (told → mid ≡ old)
+    → IfErr result (λ fault. told → IsWhy kind (mid unit) fault) → IfErr result (λ fault. told → IsWhy kind (old unit) fault)
+why_behind kind unit old mid told (Ok v) same why = tt
+why_behind kind unit old mid told (Err f) same why = λ t. subst (λ (h : ℕ → Pack). IsWhy kind (h unit) f) (same t) (why t)
+
+pub leaves_behind : {T : Type 0} (kind : DriveKind) (serial unit : ℕ) (old mid new : ℕ → Pack) (told : Type 0) (result : Result T FormatFault) → (told → mid ≡ old)
+    → IfErr result (λ fault. told → Leaves kind serial unit mid new fault) → IfErr result (λ fault. told → Leaves kind serial unit old new fault)
+leaves_behind kind serial unit old mid new told (Ok v) same leaves = tt
+leaves_behind kind serial unit old mid new told (Err f) same leaves = λ t. subst (λ (h : ℕ → Pack). Leaves kind serial unit h new f) (same t) (leaves t)
