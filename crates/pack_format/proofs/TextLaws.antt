@@ -17,11 +17,11 @@ same_places : (number : ℕ) (places : List Place) (bytes : List ℕ) (t : Table
 same_places number places bytes t text room inside spelled =
     let d : Place = place_in bytes 0 in
     let none_more : length t.places < length places → ⊥ = λ less.
-        listed_is_no_end t.kind number places (length t.places) d less (inside (length t.places) d less)
-        (subst (λ (b : List ℕ). IsEnd b (length t.places)) text (spelled_end bytes t (length t.places) spelled (omega arith) (omega (arith, room, less)))) in
+    listed_is_no_end t.kind number places (length t.places) d less (inside (length t.places) d less)
+    (subst (λ (b : List ℕ). IsEnd b (length t.places)) text (spelled_end bytes t (length t.places) spelled (omega arith) (omega (arith, room, less)))) in
     let none_less : length places < length t.places → ⊥ = λ less.
-        spelled_no_end bytes t (length places) spelled less
-        (subst (λ (b : List ℕ). IsEnd b (length places)) (sym text) (unlisted_is_end number places (length places) room (omega arith) (omega (arith, spelled.valid.room, less)))) in
+    spelled_no_end bytes t (length places) spelled less
+    (subst (λ (b : List ℕ). IsEnd b (length places)) (sym text) (unlisted_is_end number places (length places) room (omega arith) (omega (arith, spelled.valid.room, less)))) in
     let long : length t.places ≡ length places = omega (arith, none_more, none_less) in
     same_lists t.places places long
     (λ k e small.
