@@ -1,4 +1,6 @@
+pub mod AloneLaws
+pub mod EndLaws
 pub mod FormatLaws
-pub mod PollLaws
-pub mod StageLaws
+pub mod RefusalLaws
 pub mod SurveyLaws
+pub mod TextLaws

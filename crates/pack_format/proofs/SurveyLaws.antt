@@ -20,7 +20,7 @@ use Rattle.pack_format.specs.Faults.{IsWhy}
 use Rattle.pack_format.specs.Formatted.{CanBeFormatted, IsSpare, IsTooMany, if_on, marked_below}
 use Rattle.pack_format.specs.Surveys.{IsFirst, IsJudged, IsSurvey, all_marked, used_of}
 use Rattle.pack_format.specs.declared.fault.FormatFault.TheVariants.{TooMany, Spare, NoCopy}
-use Rattle.pack_format.proofs.StageLaws.{at, false_true}
+use Rattle.block_tests.proofs.StageLaws.{at, false_true}
 
 pub not_off : (b : Bool) → not b ≡ true → b ≡ false
 not_off true e = absurd (false_true e)

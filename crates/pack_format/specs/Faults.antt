@@ -3,9 +3,16 @@ use Rattle.std.specs.Prelude.{◌≡◌, ◌≢◌, ◌⊎◌, ℕ, ◌<◌, ◌
 use Rattle.pack_geometry.specs.declared.DriveKind.{DriveKind}
 use Rattle.pack_model.specs.Pack.{Pack}
 use Rattle.outside_traits.specs.Causes.{Rose}
+use Rattle.block_tests.specs.declared.fault.TestFault.{TestFault}
+use Rattle.block_tests.specs.declared.fault.TestFault.TheVariants as test
 use Rattle.pack_format.specs.Formatted.{HasNoCopy, IsPartly, IsSpare, IsTooLong, IsTooMany, found}
 use Rattle.pack_format.specs.declared.fault.FormatFault.{FormatFault}
 use Rattle.pack_format.specs.declared.fault.FormatFault.TheVariants.{Memory, TooLong, TooMany, Spare, NoCopy, Differs, Store}
+
+-- a test of blocks that stops ends the formatting
+abbrev pub from_test : TestFault → FormatFault
+from_test (test.Differs block at wrote read) = Differs block at wrote read
+from_test test.Store = Store
 
 -- the reason of each refusal, by what the pack held; each comes where those before it do not. Over packs that tell, no byte comes back
 -- otherwise than it was written.

@@ -6,6 +6,7 @@ use Rattle.pack_model.specs.Pack.{Pack, block_at, is_marked}
 use Rattle.pack_model.specs.PackTable.{IsTableOf}
 use Rattle.pack_model.specs.TableSpelling.{Table, Spells}
 use Rattle.pack_model.specs.Homes.{content_of}
+use Rattle.block_tests.specs.Stages.{IsTested}
 
 -- the marked blocks below a number, in ascending order
 abbrev pub if_on : Bool → ℕ → List ℕ
@@ -65,21 +66,27 @@ pub record IsFormatted (kind : DriveKind) (serial : ℕ) (old new : Pack) : Type
   pub marks : new.marks ≡ old.marks
   pub others : (sector : ℕ) → ¬ (IsWritten kind old sector) → block_at new.image sector ≡ block_at old.image sector
 
--- WHERE IT STOPPED each sector has what it had, or is one that formatting writes. Then a copy spells the table, and another has 512 bytes A5
--- or 512 zeros.
-abbrev pub IsTested : List ℕ → Type 0
-IsTested bytes = (bytes ≡ replicate 512 165) ⊎ (bytes ≡ replicate 512 0)
+-- what a sector that is written has: the table in a copy, and in another such bytes
+abbrev pub Holds : (Such : List ℕ → Type 0) (kind : DriveKind) (serial : ℕ) (pack : Pack) (sector : ℕ) → List ℕ → IsWritten kind pack sector → Type 0
+Holds Such kind serial pack sector bytes (Data _ _) = Such bytes
+Holds Such kind serial pack sector bytes (Replacement _ _ _ _) = Such bytes
+Holds Such kind serial pack sector bytes (Copy _ _ _ _) = Spells bytes (table_for kind serial pack)
 
-abbrev pub HasNew : (kind : DriveKind) (serial : ℕ) (pack : Pack) (sector : ℕ) → List ℕ → IsWritten kind pack sector → Type 0
-HasNew kind serial pack sector bytes (Data _ _) = IsTested bytes
-HasNew kind serial pack sector bytes (Replacement _ _ _ _) = IsTested bytes
-HasNew kind serial pack sector bytes (Copy _ _ _ _) = Spells bytes (table_for kind serial pack)
+abbrev pub IsZeros : List ℕ → Type 0
+IsZeros bytes = bytes ≡ replicate 512 0
 
 pub record IsChanged (kind : DriveKind) (serial : ℕ) (pack : Pack) (sector : ℕ) (bytes : List ℕ) : Type 0 where
   pub written : IsWritten kind pack sector
-  pub new : HasNew kind serial pack sector bytes written
+  pub new : Holds IsTested kind serial pack sector bytes written
 
+-- WHERE IT STOPPED. Formatting goes by rising number: over the data blocks, the replacements, and last the copies. So there is one sector
+-- that it reached. Each one before it that is written is done: zeros, or the table in a copy. It has itself what it had, or was changed: to A5
+-- or zeros, or the table in a copy. Each one behind it has what it had, and so has each sector that is not written; marks stay.
 pub record IsPartly (kind : DriveKind) (serial : ℕ) (old new : Pack) : Type 0 where
   pub can : CanBeFormatted kind old
-  pub sectors : (sector : ℕ) → (block_at new.image sector ≡ block_at old.image sector) ⊎ IsChanged kind serial old sector (block_at new.image sector)
+  pub reached : ℕ
+  pub done : (sector : ℕ) → sector < reached → (written : IsWritten kind old sector) → Holds IsZeros kind serial old sector (block_at new.image sector) written
+  pub under_way : (block_at new.image reached ≡ block_at old.image reached) ⊎ IsChanged kind serial old reached (block_at new.image reached)
+  pub behind : (sector : ℕ) → reached < sector → block_at new.image sector ≡ block_at old.image sector
+  pub others : (sector : ℕ) → ¬ (IsWritten kind old sector) → block_at new.image sector ≡ block_at old.image sector
   pub marks : new.marks ≡ old.marks

@@ -1,15 +1,15 @@
 //! Formatting a pack.
 ghost use Rattle.std.specs.Prelude.{◌≡◌, ◌≢◌, ℕ, ◌<◌, IfOk, IfErr, IsTrue, OnErr, OnOk};
+ghost use Rattle.block_polls.specs.Stations.{IsAtRest};
+ghost use Rattle.block_tests.specs.TestFaults.{IsStop, IsTestCaused};
 ghost use Rattle.pack_format.specs.Faults.{IsCaused, IsFault, IsWhy, Leaves};
 ghost use Rattle.pack_format.specs.Formatted.{CanBeFormatted, IsFormatted, IsPartly, IsTooLong, found, table_for};
-ghost use Rattle.pack_format.specs.Stages.{IsStop};
-ghost use Rattle.pack_format.specs.Stations.{IsAtRest};
 
 use crate::fault::FormatFault;
-use crate::station::Station;
 use crate::survey::first_reading;
-use crate::testing::{test_blocks, write_copies};
-use bad144_table::{BadTable, entries};
+use bad144_table::{BadTable, entries, write_table};
+use block_polls::Station;
+use block_tests::{TestFault, test_blocks, write_copies};
 use outside_traits::traits::Packs;
 use pack_geometry::{DriveKind, blocks, copy_block, data_limit};
 use std::alloc::Global;
@@ -45,9 +45,9 @@ fn write_blocks<P: Packs>(
     unit: u8,
     kind: DriveKind,
     table: &BadTable,
-) -> Result<(), FormatFault>
+) -> Result<(), TestFault>
     requires unit { unit < 32 }
-    requires rest { IsAtRest kind station.old.drive station.old.adapter station.old.memory station.old.book }
+    requires rest { IsAtRest kind station.old }
     requires can { IsTrue (P.tells packs.old) → CanBeFormatted kind (P.held packs.old unit) }
     requires table { IsTrue (P.tells packs.old) → table.now ≡ table_for kind table.now.serial (P.held packs.old unit) }
     ensures formatted { OnOk result (IsTrue (P.tells packs.new) → IsFormatted kind table.now.serial (P.held packs.old unit) (P.held packs.new unit)) }
@@ -55,14 +55,43 @@ fn write_blocks<P: Packs>(
     ensures elsewhere { (other : ℕ) → other ≢ unit → IsTrue (P.tells packs.new) → P.held packs.new other ≡ P.held packs.old other }
     ensures stop { IfErr result (IsStop (P.tells packs.new)) }
     ensures never_again { IsTrue (P.tells packs.new) → IsTrue (P.tells packs.old) }
-    ensures cause { IsCaused (P.faults packs.old) (P.faults packs.new) result }
+    ensures cause { IsTestCaused (P.faults packs.old) (P.faults packs.new) result }
 {
     let limit = data_limit(kind);
     let track = copy_block(kind, 0);
     let spares = u32::from(entries(table));
+    let mut bytes = [0u8; 512];
+    write_table(table, &mut bytes);
     test_blocks(station, packs, unit, kind, 0, limit)?;
     test_blocks(station, packs, unit, kind, track - spares, track)?;
-    write_copies(station, packs, unit, kind, table)
+    write_copies(station, packs, unit, kind, &bytes)
+}
+
+/// Formats a pack whose image is no longer than the pack, through a station.
+fn format_through<P: Packs>(
+    station: &mut Station,
+    packs: &mut P,
+    unit: u8,
+    kind: DriveKind,
+    serial: u32,
+) -> Result<FormatReport, FormatFault>
+    requires unit { unit < 32 }
+    requires rest { IsAtRest kind station.old }
+    requires fits { IsTrue (P.tells packs.old) → ¬ (IsTooLong kind (P.held packs.old unit)) }
+    ensures formatted { IfOk result (λ report. IsTrue (P.tells packs.new) →
+        IsFormatted kind serial (P.held packs.old unit) (P.held packs.new unit) × (report.bad ≡ found kind (P.held packs.old unit))) }
+    ensures elsewhere { (other : ℕ) → other ≢ unit → IsTrue (P.tells packs.new) → P.held packs.new other ≡ P.held packs.old other }
+    ensures why { IfErr result (λ fault. IsTrue (P.tells packs.new) → IsWhy kind (P.held packs.old unit) fault) }
+    ensures left { IfErr result (λ fault. IsTrue (P.tells packs.new) → Leaves kind serial unit (P.held packs.old) (P.held packs.new) fault) }
+    ensures fault { IfErr result IsFault }
+    ensures never_again { IsTrue (P.tells packs.new) → IsTrue (P.tells packs.old) }
+    ensures cause { IsCaused (P.faults packs.old) (P.faults packs.new) result }
+{
+    let table = first_reading(station, packs, unit, kind, serial)?;
+    write_blocks(station, packs, unit, kind, &table)?;
+    Ok(FormatReport {
+        bad: entries(&table),
+    })
 }
 
 /// Formats a unit's pack.
@@ -75,8 +104,8 @@ fn write_blocks<P: Packs>(
 /// The refusals come in this order, and change nothing: TooLong exactly where the image is longer than the pack; TooMany
 /// exactly where more than 126 data blocks are marked; Spare with the first replacement that would be used and is marked;
 /// NoCopy exactly where all five copies are marked. Differs never comes over packs that tell. Store comes only where the
-/// packs' count of faults rose. After Differs and Store only data blocks, used replacements and copies that are not marked
-/// may have changed, the first two to 512 bytes A5 or zeros. Memory comes before any write.
+/// packs' count of faults rose, and leaves a front of what is written: up to one sector all is done, that one has what it had,
+/// or A5, zeros or the table, and none behind it was begun. Memory comes before any write.
 pub fn format<P: Packs>(
     alloc: Global,
     packs: &mut P,
@@ -96,9 +125,5 @@ pub fn format<P: Packs>(
 {
     check_length(packs, unit, kind)?;
     let mut station = Station::new(alloc, kind)?;
-    let table = first_reading(&mut station, packs, unit, kind, serial)?;
-    write_blocks(&mut station, packs, unit, kind, &table)?;
-    Ok(FormatReport {
-        bad: entries(&table),
-    })
+    format_through(&mut station, packs, unit, kind, serial)
 }

@@ -3,19 +3,18 @@
 //!
 //! What is proved: `format` leaves a formatted pack (`IsFormatted`): each unmarked copy spells the table of the marked data
 //! blocks, and each data block has a home and zeros for its content; marks, every other sector and every other unit stay. Each
-//! refusal has its reason and comes just where nothing before it is in the way; what a failure leaves is said sector by sector
-//! (`IsPartly`). One poll of `Station` reads or writes a block just as the pack holds it, or says that it is marked (`Polls`).
+//! refusal has its reason and comes just where nothing before it is in the way, so that no pack is refused for two reasons
+//! (`refusals_law`). Formatting goes by rising number, and what a failure leaves is said by the sector that it reached
+//! (`IsPartly`): so no copy of the table is written before the last block is tested (`left_alone_law`).
 //!
 //! Only tested, in `format_rows`: that A5 is written first, that blocks are read back, texts, and that memory suffices.
 #![tactic(auto)]
 
-mod blocks;
 mod fault;
 mod formatting;
-mod station;
+mod laws;
 mod survey;
-mod testing;
 
 pub use fault::FormatFault;
 pub use formatting::{FormatReport, format};
-pub use station::{Polled, Station};
+pub use laws::{left_alone_law, refusals_law, table_law};

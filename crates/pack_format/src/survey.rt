@@ -5,14 +5,14 @@ ghost use Rattle.pack_geometry.specs.Geometry.{block_count, limit_of, replacemen
 ghost use Rattle.pack_model.specs.Pack.{Pack, is_marked};
 ghost use Rattle.pack_format.specs.Faults.{IsCaused, IsFault, IsWhy};
 ghost use Rattle.pack_format.specs.Formatted.{CanBeFormatted, IsTooLong, table_for};
-ghost use Rattle.pack_format.specs.Polls.{answer_for};
-ghost use Rattle.pack_format.specs.Stations.{IsAtRest};
+ghost use Rattle.block_polls.specs.Polls.{answer_for};
+ghost use Rattle.block_polls.specs.Stations.{IsAtRest};
 ghost use Rattle.pack_format.specs.Surveys.{IsFirst, IsJudged, IsRefusal, IsSurvey, all_marked, used_of};
 ghost use Rattle.pack_geometry.specs.declared.DriveKind.{DriveKind};
 
 use crate::fault::FormatFault;
-use crate::station::{Polled, Station};
 use bad144_table::{BadTable, empty_table, insert};
+use block_polls::{Polled, Station};
 use outside_traits::traits::{Packs, StoreFailed};
 use pack_geometry::{DriveKind, copy_block, data_limit, place_of, replacement};
 
@@ -42,10 +42,10 @@ fn poll_mark<P: Packs>(
     block: u32,
 ) -> Result<bool, StoreFailed>
     requires unit { unit < 32 }
-    requires rest { IsAtRest kind station.old.drive station.old.adapter station.old.memory station.old.book }
+    requires rest { IsAtRest kind station.old }
     requires block { block < block_count kind }
     ensures answer { IfOk result (λ marked. IsTrue (P.tells packs.new) → marked ≡ is_marked (P.held packs.old unit) block) }
-    ensures rest { OnOk result (IsAtRest kind station.new.drive station.new.adapter station.new.memory station.new.book) }
+    ensures rest { OnOk result (IsAtRest kind station.new) }
     ensures same { IsTrue (P.tells packs.new) → P.held packs.new ≡ P.held packs.old }
     ensures never_again { IsTrue (P.tells packs.new) → IsTrue (P.tells packs.old) }
     ensures cause { HasCause (P.faults packs.old) (P.faults packs.new) result }
@@ -98,10 +98,10 @@ fn read_data<P: Packs>(
     serial: u32,
 ) -> Result<Survey, StoreFailed>
     requires unit { unit < 32 }
-    requires rest { IsAtRest kind station.old.drive station.old.adapter station.old.memory station.old.book }
+    requires rest { IsAtRest kind station.old }
     ensures survey { IfOk result (λ survey. IsTrue (P.tells packs.new) →
         IsSurvey kind serial (P.held packs.old unit) (limit_of kind) survey.found survey.table) }
-    ensures rest { OnOk result (IsAtRest kind station.new.drive station.new.adapter station.new.memory station.new.book) }
+    ensures rest { OnOk result (IsAtRest kind station.new) }
     ensures same { IsTrue (P.tells packs.new) → P.held packs.new ≡ P.held packs.old }
     ensures never_again { IsTrue (P.tells packs.new) → IsTrue (P.tells packs.old) }
     ensures cause { HasCause (P.faults packs.old) (P.faults packs.new) result }
@@ -136,9 +136,9 @@ fn read_replacements<P: Packs>(
     kind: DriveKind,
 ) -> Result<Option<u8>, StoreFailed>
     requires unit { unit < 32 }
-    requires rest { IsAtRest kind station.old.drive station.old.adapter station.old.memory station.old.book }
+    requires rest { IsAtRest kind station.old }
     ensures first { IfOk result (λ first. IsTrue (P.tells packs.new) → IsFirst kind (P.held packs.old unit) 126 first) }
-    ensures rest { OnOk result (IsAtRest kind station.new.drive station.new.adapter station.new.memory station.new.book) }
+    ensures rest { OnOk result (IsAtRest kind station.new) }
     ensures same { IsTrue (P.tells packs.new) → P.held packs.new ≡ P.held packs.old }
     ensures never_again { IsTrue (P.tells packs.new) → IsTrue (P.tells packs.old) }
     ensures cause { HasCause (P.faults packs.old) (P.faults packs.new) result }
@@ -159,9 +159,9 @@ fn read_copies<P: Packs>(
     kind: DriveKind,
 ) -> Result<bool, StoreFailed>
     requires unit { unit < 32 }
-    requires rest { IsAtRest kind station.old.drive station.old.adapter station.old.memory station.old.book }
+    requires rest { IsAtRest kind station.old }
     ensures all { IfOk result (λ all. IsTrue (P.tells packs.new) → all ≡ all_marked kind (P.held packs.old unit) 5) }
-    ensures rest { OnOk result (IsAtRest kind station.new.drive station.new.adapter station.new.memory station.new.book) }
+    ensures rest { OnOk result (IsAtRest kind station.new) }
     ensures same { IsTrue (P.tells packs.new) → P.held packs.new ≡ P.held packs.old }
     ensures never_again { IsTrue (P.tells packs.new) → IsTrue (P.tells packs.old) }
     ensures cause { HasCause (P.faults packs.old) (P.faults packs.new) result }
@@ -209,13 +209,13 @@ pub(crate) fn first_reading<P: Packs>(
     serial: u32,
 ) -> Result<BadTable, FormatFault>
     requires unit { unit < 32 }
-    requires rest { IsAtRest kind station.old.drive station.old.adapter station.old.memory station.old.book }
+    requires rest { IsAtRest kind station.old }
     requires fits { IsTrue (P.tells packs.old) → ¬ (IsTooLong kind (P.held packs.old unit)) }
     ensures table { IfOk result (λ table. IsTrue (P.tells packs.new) → table ≡ table_for kind serial (P.held packs.old unit)) }
     ensures can { OnOk result (IsTrue (P.tells packs.new) → CanBeFormatted kind (P.held packs.old unit)) }
     ensures why { IfErr result (λ fault. IsTrue (P.tells packs.new) → IsWhy kind (P.held packs.old unit) fault) }
     ensures fault { IfErr result IsFault }
-    ensures rest { OnOk result (IsAtRest kind station.new.drive station.new.adapter station.new.memory station.new.book) }
+    ensures rest { OnOk result (IsAtRest kind station.new) }
     ensures same { IsTrue (P.tells packs.new) → P.held packs.new ≡ P.held packs.old }
     ensures never_again { IsTrue (P.tells packs.new) → IsTrue (P.tells packs.old) }
     ensures cause { IsCaused (P.faults packs.old) (P.faults packs.new) result }

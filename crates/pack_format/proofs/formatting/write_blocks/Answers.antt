@@ -1,8 +1,8 @@
-use Rattle.std.proofs.Common.{◌≡◌, ◌-◌, ℕ, IsTrue, ap, length, arith}
+use Rattle.std.proofs.Common.{◌≡◌, ◌-◌, IsTrue, length, arith}
+use Rattle.block_polls.proofs.PollLaws.{on_err}
+use Rattle.block_tests.proofs.StageLaws.{on_err_then, on_ok_then}
 use Rattle.pack_format.specs.Formatted.{IsFormatted, IsPartly}
-use Rattle.pack_format.proofs.FormatLaws.{all_formatted, partly, stopped_copies, stopped_data, stopped_spares}
-use Rattle.pack_format.proofs.PollLaws.{on_err}
-use Rattle.pack_format.proofs.StageLaws.{on_err_then, on_ok_then}
+use Rattle.pack_format.proofs.FormatLaws.{formatted, partly_copies, partly_data, partly_spares, set_of}
 use Rattle.pack_format.proofs.formatting.write_blocks.Goals as goal
 
 pub returns-in_err-test_blocks-clause-partly : goal.returns-in_err-test_blocks-clause-partly
@@ -10,9 +10,10 @@ returns-in_err-test_blocks-clause-partly g c =
     on_err _ c.from_residual.ensures.0
     (λ t.
     let told = c.in_err-test_blocks.ensures.never_again t in
-    partly c.args.kind c.args.table.now.serial c.args.unit _ _ (c.requires.can told)
-    (stopped_data c.args.kind c.args.table.now.serial c.args.unit 0 c.data_limit-limit.result 0 0 c.args.table.now (g.P.Packs.held c.args.packs.now) (g.P.Packs.held c.args.packs.now)
-    (c.requires.can told) (c.requires.table told) c.data_limit-limit.ensures _ (c.in_err-test_blocks.ensures.stops t)))
+    let count : c.from-spares.result ≡ length c.args.table.now.places = omega arith in
+    partly_data _ _ c.args.unit _ _ _ _ _ (g.P.Packs.held c.args.packs.now)
+    (set_of (c.requires.can told) (c.requires.table told) count c.data_limit-limit.ensures c.copy_block-track.ensures)
+    _ (c.in_err-test_blocks.ensures.stops t))
 
 pub returns-in_err-test_blocks-2-clause-partly : goal.returns-in_err-test_blocks-2-clause-partly
 returns-in_err-test_blocks-2-clause-partly g c =
@@ -21,11 +22,9 @@ returns-in_err-test_blocks-2-clause-partly g c =
     let count : c.from-spares.result ≡ length c.args.table.now.places = omega arith in
     let before = c.in_err-test_blocks-2.ensures.never_again t in
     let told = c.in_ok-test_blocks.ensures.never_again before in
-    partly c.args.kind c.args.table.now.serial c.args.unit _ _ (c.requires.can told)
-    (stopped_spares c.args.kind c.args.table.now.serial c.args.unit c.from-spares.result c.data_limit-limit.result (c.copy_block-track.result - c.from-spares.result) c.copy_block-track.result c.args.table.now
-    (g.P.Packs.held c.args.packs.now) (g.P.Packs.held c.test_blocks.new.packs)
-    (c.requires.can told) (c.requires.table told) c.data_limit-limit.ensures _ (c.in_ok-test_blocks.ensures.fills before) count
-    (ap (λ (n : ℕ). n - c.from-spares.result) c.copy_block-track.ensures) c.copy_block-track.ensures (c.in_err-test_blocks-2.ensures.stops t)))
+    partly_spares _ _ c.args.unit _ _ _ _ _ (g.P.Packs.held c.args.packs.now)
+    (set_of (c.requires.can told) (c.requires.table told) count c.data_limit-limit.ensures c.copy_block-track.ensures)
+    _ (c.in_ok-test_blocks.ensures.fills before) _ (c.in_err-test_blocks-2.ensures.stops t))
 
 pub returns-clause-formatted : goal.returns-clause-formatted
 returns-clause-formatted g c =
@@ -36,11 +35,9 @@ returns-clause-formatted g c =
     let last = c.write_copies.ensures.never_again t in
     let before = c.in_ok-test_blocks-2.ensures.never_again last in
     let told = c.in_ok-test_blocks.ensures.never_again before in
-    all_formatted c.args.kind c.args.table.now.serial c.args.unit c.from-spares.result c.data_limit-limit.result (c.copy_block-track.result - c.from-spares.result) c.copy_block-track.result c.args.table.now
-    (g.P.Packs.held c.args.packs.now) (g.P.Packs.held c.test_blocks.new.packs) (g.P.Packs.held c.test_blocks-2.new.packs) _
-    (c.requires.can told) (c.requires.table told) c.data_limit-limit.ensures count
-    (ap (λ (n : ℕ). n - c.from-spares.result) c.copy_block-track.ensures) c.copy_block-track.ensures
-    (c.in_ok-test_blocks.ensures.fills before) (c.in_ok-test_blocks-2.ensures.fills last) (copies t))
+    formatted _ _ c.args.unit _ _ _ _ _ (g.P.Packs.held c.args.packs.now)
+    (set_of (c.requires.can told) (c.requires.table told) count c.data_limit-limit.ensures c.copy_block-track.ensures)
+    _ (c.in_ok-test_blocks.ensures.fills before) _ (c.in_ok-test_blocks-2.ensures.fills last) _ _ c.write_table.ensures (copies t))
 
 pub returns-clause-partly : goal.returns-clause-partly
 returns-clause-partly g c =
@@ -51,8 +48,6 @@ returns-clause-partly g c =
     let last = c.write_copies.ensures.never_again t in
     let before = c.in_ok-test_blocks-2.ensures.never_again last in
     let told = c.in_ok-test_blocks.ensures.never_again before in
-    partly c.args.kind c.args.table.now.serial c.args.unit _ _ (c.requires.can told)
-    (stopped_copies c.args.kind c.args.table.now.serial c.args.unit c.from-spares.result c.data_limit-limit.result (c.copy_block-track.result - c.from-spares.result) c.copy_block-track.result c.args.table.now
-    (g.P.Packs.held c.args.packs.now) (g.P.Packs.held c.test_blocks.new.packs)
-    (c.requires.can told) (c.requires.table told) c.data_limit-limit.ensures (g.P.Packs.held c.test_blocks-2.new.packs) _ (c.in_ok-test_blocks.ensures.fills before) count
-    (ap (λ (n : ℕ). n - c.from-spares.result) c.copy_block-track.ensures) c.copy_block-track.ensures (c.in_ok-test_blocks-2.ensures.fills last) (stops t)))
+    partly_copies _ _ c.args.unit _ _ _ _ _ (g.P.Packs.held c.args.packs.now)
+    (set_of (c.requires.can told) (c.requires.table told) count c.data_limit-limit.ensures c.copy_block-track.ensures)
+    _ (c.in_ok-test_blocks.ensures.fills before) _ (c.in_ok-test_blocks-2.ensures.fills last) _ _ c.write_table.ensures (stops t))

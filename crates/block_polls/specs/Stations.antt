@@ -1,0 +1,43 @@
+-- A good drive with an adapter and a frame of memory, between two polls and within one.
+use Rattle.std.specs.Prelude.{◌≡◌, ℕ, ◌<◌, Bool, true, false, [], length}
+use Rattle.pack_geometry.specs.declared.DriveKind.{DriveKind}
+use Rattle.hardware_table.specs.declared.Work.{Work}
+use Rattle.hardware_table.specs.declared.Work.TheVariants.{Ready}
+use Rattle.hardware_table.specs.Adapter.{AdapterState}
+use Rattle.hardware_table.specs.Drive.{DriveState, none_armed}
+use Rattle.main_memory.specs.Blocks.{Loan}
+use Rattle.mba_adapter.specs.Loaded.{loaded_buffer}
+use Rattle.block_polls.specs.declared.station.Station.{Station}
+
+-- a drive of this kind that is online and unlocked, with no fault armed, and does this
+pub record Does (kind : DriveKind) (work : Work) (d : DriveState) : Type 0 where
+  pub kind_is : d.kind ≡ kind
+  pub work_is : d.work ≡ work
+  pub online : d.online ≡ true
+  pub unlocked : d.locked ≡ false
+  pub none : d.armed ≡ none_armed
+
+-- A STATION AT REST: the drive is good and ready, the adapter free, no noise live, and a frame of memory is free
+pub record IsAtRest (kind : DriveKind) (station : Station) : Type 0 where
+  pub drive : Does kind Ready station.drive
+  pub free : station.adapter.busy ≡ false
+  pub frame : 0 < length station.memory.free
+  pub quiet : station.book.live ≡ []
+
+-- a buffer that is one whole frame
+pub record IsFrame (loan : Loan) : Type 0 where
+  pub count : loan.count ≡ 1
+  pub offset : loan.offset ≡ 0
+  pub last : loan.last ≡ 512
+  pub frames : length loan.frames ≡ 1
+
+-- a transfer between a block and that frame is started, and the sector has not been tried
+pub record IsStarted (loan : Loan) (block : ℕ) (write : Bool) (a : AdapterState) : Type 0 where
+  pub loaded : loan ≡ loaded_buffer a
+  pub busy : a.busy ≡ true
+  pub under_way : a.completion ≡ false
+  pub first : a.skip ≡ 0
+  pub none_moved : a.moved ≡ 0
+  pub block_is : a.block ≡ block
+  pub write_is : a.write ≡ write
+  pub bytes : a.byte_count ≡ 512

@@ -1,0 +1,61 @@
+-- What the tests of blocks have done with a unit.
+use Rattle.std.specs.Prelude.{◌≡◌, ◌≢◌, ◌⊎◌, ◌==◌, ◌&&◌, ◌||◌, nat_le, nat_lt, not, ℕ, zero, suc, ◌<◌, Bool, true, false, List, replicate}
+use Rattle.pack_geometry.specs.declared.DriveKind.{DriveKind}
+use Rattle.pack_geometry.specs.Geometry.{copy_at}
+use Rattle.pack_model.specs.Pack.{Pack, block_at, is_marked}
+
+-- the blocks of a range, and the first copies of the table
+abbrev pub between : ℕ → ℕ → ℕ → Bool
+between from to sector = nat_le from sector && nat_lt sector to
+
+unfoldable pub is_copy : DriveKind → ℕ → ℕ → Bool
+is_copy kind zero sector = false
+is_copy kind (suc k) sector = is_copy kind k sector || (sector == copy_at kind k)
+
+-- the unmarked ones of a set; this one block, where it is unmarked; and those of these sets
+abbrev pub unmarked_of : Pack → (ℕ → Bool) → ℕ → Bool
+unmarked_of pack set sector = set sector && not (is_marked pack sector)
+
+abbrev pub one : Pack → ℕ → ℕ → Bool
+one pack block sector = (sector == block) && not (is_marked pack sector)
+
+abbrev pub ranged : Pack → ℕ → ℕ → ℕ → Bool
+ranged pack from to sector = (nat_le from sector && nat_lt sector to) && not (is_marked pack sector)
+
+abbrev pub copied : DriveKind → Pack → ℕ → ℕ → Bool
+copied kind pack count sector = is_copy kind count sector && not (is_marked pack sector)
+
+-- these bytes where the sector was done, and else what it had
+abbrev pub if_done : Bool → List ℕ → List ℕ → List ℕ
+if_done true bytes had = bytes
+if_done false bytes had = had
+
+-- A STAGE. The sectors of a set have these bytes, and every other sector what it had; marks stay, and so does each other unit.
+pub record Fills (unit : ℕ) (done : ℕ → Bool) (bytes : List ℕ) (old new : ℕ → Pack) : Type 0 where
+  pub sectors : (sector : ℕ) → block_at (new unit).image sector ≡ if_done (done sector) bytes (block_at (old unit).image sector)
+  pub marks : (new unit).marks ≡ (old unit).marks
+  pub others : (other : ℕ) → other ≢ unit → new other ≡ old other
+
+-- ONE BLOCK WHERE ITS TEST STOPPED. Every sector has what it had, or is of the set and has such bytes.
+pub record Stops (unit : ℕ) (done : ℕ → Bool) (Such : List ℕ → Type 0) (old new : ℕ → Pack) : Type 0 where
+  pub sectors : (sector : ℕ) → (block_at (new unit).image sector ≡ block_at (old unit).image sector)
+      ⊎ ((done sector ≡ true) × Such (block_at (new unit).image sector))
+  pub marks : (new unit).marks ≡ (old unit).marks
+  pub others : (other : ℕ) → other ≢ unit → new other ≡ old other
+
+-- A STAGE THAT STOPPED, at one block of its set: the unmarked ones before that are done, and none behind it was begun. It has itself
+-- what it had, or such bytes where it is unmarked. Every sector that is marked, or is none of the set, has what it had.
+pub record Reaches (unit : ℕ) (set : ℕ → Bool) (bytes : List ℕ) (Such : List ℕ → Type 0) (old new : ℕ → Pack) : Type 0 where
+  pub reached : ℕ
+  pub among : set reached ≡ true
+  pub done : (sector : ℕ) → sector < reached → set sector ≡ true → is_marked (old unit) sector ≡ false → block_at (new unit).image sector ≡ bytes
+  pub under_way : (block_at (new unit).image reached ≡ block_at (old unit).image reached)
+      ⊎ ((is_marked (old unit) reached ≡ false) × Such (block_at (new unit).image reached))
+  pub behind : (sector : ℕ) → reached < sector → block_at (new unit).image sector ≡ block_at (old unit).image sector
+  pub kept : (sector : ℕ) → (set sector ≡ false) ⊎ (is_marked (old unit) sector ≡ true) → block_at (new unit).image sector ≡ block_at (old unit).image sector
+  pub marks : (new unit).marks ≡ (old unit).marks
+  pub others : (other : ℕ) → other ≢ unit → new other ≡ old other
+
+-- what a test leaves in a block, wherever it stops: 512 bytes A5, or 512 zeros
+abbrev pub IsTested : List ℕ → Type 0
+IsTested bytes = (bytes ≡ replicate 512 165) ⊎ (bytes ≡ replicate 512 0)

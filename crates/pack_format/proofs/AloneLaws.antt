@@ -1,0 +1,49 @@
+-- What formatting leaves alone.
+use Rattle.std.proofs.Common.{◌≡◌, ◌≢◌, ◌⊎◌, inl, inr, ℕ, ◌<◌, ◌≤◌, true, sym, ◌∙◌, arith}
+use Rattle.std.proofs.lemmas.Bool.{cases_lt}
+use Rattle.pack_geometry.specs.declared.DriveKind.{DriveKind}
+use Rattle.pack_geometry.specs.declared.DriveKind.TheVariants.{Rp06, Rm03, Rm05}
+use Rattle.pack_geometry.specs.Geometry.{copy_at, limit_of, replacement_at}
+use Rattle.pack_model.specs.Pack.{Pack, block_at, is_marked}
+use Rattle.block_tests.proofs.StageLaws.{false_true}
+use Rattle.pack_format.specs.Formatted.{Copy, Data, Holds, IsFormatted, IsPartly, IsWritten, IsZeros, Replacement, found}
+
+marked_written : (kind : DriveKind) (sector : ℕ) (old : Pack) → is_marked old sector ≡ true → IsWritten kind old sector → ⊥
+marked_written kind sector old marked (Data within unmarked) = false_true (sym unmarked ∙ marked)
+marked_written kind sector old marked (Replacement i less is unmarked) = false_true (sym unmarked ∙ marked)
+marked_written kind sector old marked (Copy k less is unmarked) = false_true (sym unmarked ∙ marked)
+
+pub marked_alone : (kind : DriveKind) (serial sector : ℕ) (old new : Pack) → IsFormatted kind serial old new → is_marked old sector ≡ true
+    → block_at new.image sector ≡ block_at old.image sector
+marked_alone kind serial sector old new f marked = f.others sector (marked_written kind sector old marked)
+
+spare_place : (kind : DriveKind) (i : ℕ) → i < 126 → (limit_of kind ≤ replacement_at kind i) × (replacement_at kind i < copy_at kind 0)
+spare_place Rp06 i lt = (omega (arith, lt), omega (arith, lt))
+spare_place Rm03 i lt = (omega (arith, lt), omega (arith, lt))
+spare_place Rm05 i lt = (omega (arith, lt), omega (arith, lt))
+
+spares_apart : (kind : DriveKind) (i j : ℕ) → i < 126 → j < i → replacement_at kind i < replacement_at kind j
+spares_apart Rp06 i j lt less = omega (arith, lt, less)
+spares_apart Rm03 i j lt less = omega (arith, lt, less)
+spares_apart Rm05 i j lt less = omega (arith, lt, less)
+
+pub copies_above : (kind : DriveKind) (k : ℕ) → copy_at kind 0 ≤ copy_at kind k
+copies_above kind k = omega arith
+
+spare_written : (kind : DriveKind) (i : ℕ) (old : Pack) → found kind old ≤ i → i < 126 → IsWritten kind old (replacement_at kind i) → ⊥
+spare_written kind i old le lt (Data within unmarked) = omega (arith, within, (spare_place kind i lt).0)
+spare_written kind i old le lt (Replacement j less is unmarked) = let apart = spares_apart kind i j lt (omega (arith, less, le)) in omega (arith, is, apart)
+spare_written kind i old le lt (Copy k less is unmarked) = omega (arith, is, (spare_place kind i lt).1, copies_above kind k)
+
+pub spare_alone : (kind : DriveKind) (serial i : ℕ) (old new : Pack) → IsFormatted kind serial old new → found kind old ≤ i → i < 126
+    → block_at new.image (replacement_at kind i) ≡ block_at old.image (replacement_at kind i)
+spare_alone kind serial i old new f le lt = f.others (replacement_at kind i) (spare_written kind i old le lt)
+
+pub copies_last : (kind : DriveKind) (serial k sector : ℕ) (old new : Pack) → IsPartly kind serial old new
+    → block_at new.image (copy_at kind k) ≢ block_at old.image (copy_at kind k) → sector < copy_at kind 0 → (written : IsWritten kind old sector)
+    → Holds IsZeros kind serial old sector (block_at new.image sector) written
+copies_last kind serial k sector old new p changed below written =
+    elim (cases_lt p.reached (copy_at kind k)) [
+      | inl less ↦ absurd (changed (p.behind (copy_at kind k) less))
+      | inr le ↦ p.done sector (omega (arith, le, below, copies_above kind k)) written
+    ]

@@ -1,0 +1,65 @@
+-- How formatting ends: the fault of a test of blocks as one of formatting, and what was read before any write.
+use Rattle.std.proofs.Common.{◌≡◌, inl, inr, ℕ, Bool, IsTrue, Result, Ok, Err, sym, subst}
+use Rattle.std.specs.Prelude.{IfErr, IfOk, IsErrAnd}
+use Rattle.pack_geometry.specs.declared.DriveKind.{DriveKind}
+use Rattle.pack_model.specs.Pack.{Pack}
+use Rattle.block_tests.specs.TestFaults.{IsStop}
+use Rattle.block_tests.specs.declared.fault.TestFault.{TestFault}
+use Rattle.block_tests.specs.declared.fault.TestFault.TheVariants as test
+use Rattle.pack_format.specs.Faults.{IsFault, IsWhy, Leaves, from_test}
+use Rattle.pack_format.specs.Formatted.{IsFormatted, IsPartly, found}
+use Rattle.pack_format.specs.declared.fault.FormatFault.{FormatFault}
+use Rattle.pack_format.specs.declared.formatting.FormatReport.{FormatReport}
+use Rattle.pack_format.specs.declared.fault.FormatFault.TheVariants.{Memory, TooLong, TooMany, Spare, NoCopy, Differs, Store}
+
+pub at_error : {T E : Type 0} (result : Result T E) {e : E} (P : E → Type 0) → IsErrAnd result (λ x. x ≡ e) → P e → IfErr result P
+at_error (Ok v) P is p = tt
+at_error (Err x) P is p = subst P (sym is) p
+
+-- a test that stopped
+pub why_of : (kind : DriveKind) (pack : Pack) (told : Bool) (f : TestFault) → IsStop told f → IsTrue told → IsWhy kind pack (from_test f)
+why_of kind pack told (test.Differs block at wrote read) stop t = absurd (stop.0 t)
+why_of kind pack told test.Store stop t = tt
+
+left_of : (kind : DriveKind) (serial unit : ℕ) (old new : ℕ → Pack) (told : Bool) (f : TestFault) → IsStop told f → IsTrue told
+    → IsPartly kind serial (old unit) (new unit) → Leaves kind serial unit old new (from_test f)
+left_of kind serial unit old new told (test.Differs block at wrote read) stop t partly = absurd (stop.0 t)
+left_of kind serial unit old new told test.Store stop t partly = inr partly
+
+pub left_behind : (kind : DriveKind) (serial number unit : ℕ) (old mid new : ℕ → Pack) (told : Bool) (f : TestFault) → IsStop told f → IsTrue told → number ≡ serial
+    → mid ≡ old → IsPartly kind number (mid unit) (new unit) → Leaves kind serial unit old new (from_test f)
+left_behind kind serial number unit old mid new told f stop t serial_is same partly =
+    subst (λ (h : ℕ → Pack). Leaves kind serial unit h new (from_test f)) same
+    (left_of kind serial unit mid new told f stop t (subst (λ (n : ℕ). IsPartly kind n (mid unit) (new unit)) serial_is partly))
+
+pub fault_of : (told : Bool) (f : TestFault) → IsStop told f → IsFault (from_test f)
+fault_of told (test.Differs block at wrote read) stop = (stop.1, stop.2)
+fault_of told test.Store stop = tt
+
+-- what changed nothing
+pub left_alone : (kind : DriveKind) (serial unit : ℕ) (old new : ℕ → Pack) (pack : Pack) (f : FormatFault) → IsWhy kind pack f → new ≡ old → Leaves kind serial unit old new f
+left_alone kind serial unit old new pack (TooLong size) why same = same
+left_alone kind serial unit old new pack (TooMany number) why same = same
+left_alone kind serial unit old new pack (Spare index) why same = same
+left_alone kind serial unit old new pack NoCopy why same = same
+left_alone kind serial unit old new pack (Differs block at wrote read) why same = absurd why
+left_alone kind serial unit old new pack Memory why same = same
+left_alone kind serial unit old new pack Store why same = inl same
+
+-- what was done behind a step that changed nothing
+pub formatted_behind : {E : Type 0} (kind : DriveKind) (serial unit : ℕ) (old mid new : ℕ → Pack) (told : Type 0) (result : Result FormatReport E) → (told → mid ≡ old)
+    → IfOk result (λ report. told → IsFormatted kind serial (mid unit) (new unit) × (report.bad ≡ found kind (mid unit)))
+    → IfOk result (λ report. told → IsFormatted kind serial (old unit) (new unit) × (report.bad ≡ found kind (old unit)))
+formatted_behind kind serial unit old mid new told (Ok report) same formatted =
+    λ t. subst (λ (h : ℕ → Pack). IsFormatted kind serial (h unit) (new unit) × (report.bad ≡ found kind (h unit))) (same t) (formatted t)
+formatted_behind kind serial unit old mid new told (Err f) same formatted = tt
+
+pub why_behind : {T : Type 0} (kind : DriveKind) (unit : ℕ) (old mid : ℕ → Pack) (told : Type 0) (result : Result T FormatFault) → (told → mid ≡ old)
+    → IfErr result (λ fault. told → IsWhy kind (mid unit) fault) → IfErr result (λ fault. told → IsWhy kind (old unit) fault)
+why_behind kind unit old mid told (Ok v) same why = tt
+why_behind kind unit old mid told (Err f) same why = λ t. subst (λ (h : ℕ → Pack). IsWhy kind (h unit) f) (same t) (why t)
+
+pub leaves_behind : {T : Type 0} (kind : DriveKind) (serial unit : ℕ) (old mid new : ℕ → Pack) (told : Type 0) (result : Result T FormatFault) → (told → mid ≡ old)
+    → IfErr result (λ fault. told → Leaves kind serial unit mid new fault) → IfErr result (λ fault. told → Leaves kind serial unit old new fault)
+leaves_behind kind serial unit old mid new told (Ok v) same leaves = tt
+leaves_behind kind serial unit old mid new told (Err f) same leaves = λ t. subst (λ (h : ℕ → Pack). Leaves kind serial unit h new f) (same t) (leaves t)
