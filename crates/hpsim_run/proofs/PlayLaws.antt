@@ -1,5 +1,5 @@
 -- What a run of `play` comes to.
-use Rattle.std.proofs.Common.{◌≡◌, ◌⊎◌, inl, inr, ℕ, ◌++◌, List, [], Bool, IsTrue, Result, Ok, Err, OnOk, OnErr, refl, subst, sym}
+use Rattle.std.proofs.Common.{◌≡◌, ◌⊎◌, inl, inr, ℕ, ◌++◌, List, [], Bool, IsTrue, Result, Ok, Err, OnOk, OnErr, refl, ap, subst, sym}
 use Rattle.outside_traits.specs.Causes.{HasCause}
 use Rattle.outside_traits.specs.Puts.{TakesFront}
 use Rattle.pack_model.specs.Pack.{Pack}
@@ -69,3 +69,7 @@ left_by fault other script first left out_tells said said' trace_tells taken tak
 -- nor where there was no memory
 pub memory_before : (fault : PlayFault) → fault ≡ faults.Memory → IsBefore (Err fault)
 memory_before fault e = subst (λ (f : PlayFault). IsBefore (Err f)) (sym e) tt
+
+-- a fault by its name
+pub err_is : {T E : Type 0} {fault other : E} → fault ≡ other → ◌≡◌ {A = Result T E} (Err fault) (Err other)
+err_is {T} {E} e = ap {B = Result T E} (λ (x : E). Err x) e

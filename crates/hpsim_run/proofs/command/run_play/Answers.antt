@@ -1,10 +1,7 @@
-use Rattle.std.proofs.Common.{Result, Err, ap, refl, sym, ◌≡◌}
-use Rattle.answer_tally.specs.declared.tally.Tally.{Tally}
-use Rattle.event_player.specs.declared.play.PlayFault.{PlayFault}
+use Rattle.std.proofs.Common.{refl, sym, ◌≡◌}
 use Rattle.event_player.specs.declared.play.PlayFault.TheVariants as faults
-use Rattle.script_reader.specs.Stored.{Stored, lines_in}
-use Rattle.hpsim_run.specs.declared.load.LoadFault.{LoadFault}
-use Rattle.hpsim_run.proofs.PlayLaws.{told_of, told_from, refused_parts, refusal_is, long_parts, long_before, memory_before, sink_plays, left_by}
+use Rattle.script_reader.specs.Stored.{lines_in}
+use Rattle.hpsim_run.proofs.PlayLaws.{told_of, told_from, refused_parts, refusal_is, long_parts, long_before, sink_plays, left_by, err_is}
 use Rattle.hpsim_run.proofs.PlayRuns.{runs_done, runs_sink, runs_store, runs_refused, runs_too_long, runs_unread, runs_memory}
 use Rattle.hpsim_run.proofs.SoFar.{keeps}
 use Rattle.hpsim_run.proofs.command.run_play.Goals as goal
@@ -55,7 +52,7 @@ returns-in-Err-Sink-clause-runs g c = runs_sink _ _ c.in-Ok.ensures.taken
           faults.Sink _ _ _ _ _ _ _ _ _ (c.meaning_law.ensures.read c.in-Ok.script.text c.in-Ok.script c.in-Ok.ensures.spells);
     })
     (c.in-Err-Sink.ensures.fits (sink_plays _ c.in-Err-Sink.field-0-is))
-    (c.in-Err-Sink.ensures.causes.sink (ap {B = Result Tally PlayFault} (λ (fault : PlayFault). Err fault) c.in-Err-Sink.field-0-is))
+    (c.in-Err-Sink.ensures.causes.sink (err_is c.in-Err-Sink.field-0-is))
 
 pub returns-in-Err-Store-clause-runs : goal.returns-in-Err-Store-clause-runs
 returns-in-Err-Store-clause-runs g c = runs_store _ _ c.in-Ok.ensures.taken
@@ -68,15 +65,11 @@ returns-in-Err-Store-clause-runs g c = runs_store _ _ c.in-Ok.ensures.taken
       keeps = λ t. keeps c.beginnings_law.ensures.begun c.beginnings_law.ensures.fronts c.beginnings_law.ensures.next c.next_block_law.ensures
           faults.Store _ _ _ _ _ _ _ _ _ (c.meaning_law.ensures.read c.in-Ok.script.text c.in-Ok.script c.in-Ok.ensures.spells);
     })
-    (c.in-Err-Store.ensures.causes.store (ap {B = Result Tally PlayFault} (λ (fault : PlayFault). Err fault) c.in-Err-Store.field-0-is))
+    (c.in-Err-Store.ensures.causes.store (err_is c.in-Err-Store.field-0-is))
 
 pub returns-in-Err-Failed-clause-runs : goal.returns-in-Err-Failed-clause-runs
 returns-in-Err-Failed-clause-runs g c = runs_unread _ _ c.in-Err-Failed.ensures.taken
-    (c.in-Err-Failed.ensures.failed (ap {B = Result Stored LoadFault} (λ (fault : LoadFault). Err fault) c.in-Err-Failed.field-0-is))
+    (c.in-Err-Failed.ensures.failed (err_is c.in-Err-Failed.field-0-is))
 
 pub returns-in-Err-Memory-clause-runs : goal.returns-in-Err-Memory-clause-runs
 returns-in-Err-Memory-clause-runs g c = runs_memory _ _ c.in-Err-Memory.ensures.taken (λ t. refl)
-
-pub returns-in-Err-Memory-play-clause-runs : goal.returns-in-Err-Memory-play-clause-runs
-returns-in-Err-Memory-play-clause-runs g c = runs_memory _ _ c.in-Ok.ensures.taken
-    (c.in-Err-Memory-play.ensures.untouched (memory_before _ c.in-Err-Memory-play.field-0-is)).same
