@@ -1,11 +1,11 @@
 -- A header's fault and the drive's row for a marked sector
-use Rattle.std.proofs.Common.{◌≡◌, ℕ, ◌^◌, ◌<◌, Bool, true, false, Option, None, refl, ap, arith, ◌∙◌}
+use Rattle.std.proofs.Common.{◌≡◌, ℕ, ◌^◌, ◌<◌, true, false, Option, refl, ap, arith, ◌∙◌}
 use Rattle.pack_geometry.specs.declared.DriveKind.{DriveKind}
 use Rattle.pack_geometry.specs.declared.DriveKind.TheVariants.{Rp06, Rm03, Rm05}
 use Rattle.pack_geometry.specs.Geometry.{block_count, place_at}
 use Rattle.hardware_table.specs.Drive.{DriveState}
 use Rattle.hardware_table.specs.Moves.{with_mark_bits}
-use Rattle.sector_format.specs.Headers.{header_at, fault_of, fault_as_marked}
+use Rattle.sector_format.specs.Headers.{fault_as_marked}
 use Rattle.sector_format.specs.declared.HeaderFault.{HeaderFault}
 use Rattle.sector_format.proofs.HeaderLaws.{shown}
 use Rattle.promise_rows.specs.Headers.{with_header_bit, HeadersAreAsTheDriveHasThem}
