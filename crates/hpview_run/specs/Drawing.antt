@@ -50,6 +50,12 @@ pub record HasDrawn (command : Command) (tells : Bool) (text : List ℕ) (trace_
   pub draws : IsTrue tells → IsTrue trace_tells → Draws command text trace picture
   pub told : IsTrue out_tells → taken' ≡ taken ++ picture
 
+-- THE SINK FAILED under the picture, and took a front of it.
+pub record HasStopped (command : Command) (tells : Bool) (text : List ℕ) (trace_tells : Bool) (trace : List ℕ) (out_tells : Bool) (taken taken' : List ℕ) : Type 0 where
+  pub picture : List ℕ
+  pub draws : IsTrue tells → IsTrue trace_tells → Draws command text trace picture
+  pub told : IsTrue out_tells → TakesFront taken taken' picture
+
 -- IT IS REFUSED: the script, or the trace beside it, with the first fault
 pub record ScriptRefused (tells : Bool) (text : List ℕ) (out_tells : Bool) (taken taken' : List ℕ) (faults faults' : ℕ) : Type 0 where
   pub line : ℕ

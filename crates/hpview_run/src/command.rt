@@ -2,7 +2,7 @@ ghost use Rattle.std.specs.Prelude.{◌≡◌, ◌≢◌, ◌⊎◌, ◌↔◌, 
 ghost use Rattle.outside_traits.specs.Causes.{Rose};
 ghost use Rattle.hpview_run.specs.declared.words.Command.{Command};
 ghost use Rattle.hpview_run.specs.declared.status.Status.TheVariants.{Done, Usage, Refused, SourceFailed, SinkFailed, OutOfMemory};
-ghost use Rattle.hpview_run.specs.Drawing.{Draws, HasDrawn, TellsRefusal, Told};
+ghost use Rattle.hpview_run.specs.Drawing.{Draws, HasDrawn, HasStopped, TellsRefusal, Told};
 ghost use Rattle.hpview_run.specs.Loading.{Loads, RefusesScript, RefusesTrace};
 ghost use Rattle.hpview_run.specs.Statuses.{status_code, IsViewStatus, IsViewCode};
 ghost use Rattle.hpview_run.specs.Words.{command_of as the_command, usage_text};
@@ -79,6 +79,7 @@ fn run_command<S: Source, T: Source, O: Sink>(
 ) -> Status
     ensures statuses { IsViewStatus result }
     ensures done { result ≡ Done → HasDrawn command (S.tells script.new) (S.left script.old) (T.tells trace.new) (T.left trace.old) (O.tells out.new) (O.taken out.old) (O.taken out.new) }
+    ensures stopped { result ≡ SinkFailed → HasStopped command (S.tells script.new) (S.left script.old) (T.tells trace.new) (T.left trace.old) (O.tells out.new) (O.taken out.old) (O.taken out.new) }
     ensures refused { result ≡ Refused → TellsRefusal (S.tells script.new) (S.left script.old) (T.tells trace.new) (T.left trace.old)
         (O.tells out.new) (O.taken out.old) (O.taken out.new) (O.faults out.old) (O.faults out.new) }
     ensures source { result ≡ SourceFailed → Rose (S.faults script.old) (S.faults script.new) ⊎ Rose (T.faults trace.old) (T.faults trace.new) }
@@ -113,7 +114,7 @@ fn run_command<S: Source, T: Source, O: Sink>(
 /// | 2 | Usage | exactly where the words are no command | the usage |
 /// | 3 | Refused | only where the script's bytes spell none, or the trace's spell none of the script | `refused line L KIND`, or `refused trace line L KIND` |
 /// | 4 | SourceFailed | only where a source's count of faults rose | nothing |
-/// | 5 | SinkFailed | only where the count of `out` rose | nothing further |
+/// | 5 | SinkFailed | only where the count of `out` rose | a front of the picture |
 /// | 9 | OutOfMemory | there was no memory | nothing |
 pub fn view<S: Source, T: Source, O: Sink>(
     alloc: Global,
@@ -127,6 +128,8 @@ pub fn view<S: Source, T: Source, O: Sink>(
     ensures statuses { IsViewCode result }
     ensures done { (command : Command) → the_command words.now ≡ Some command → result ≡ status_code Done →
         HasDrawn command (S.tells script.new) (S.left script.old) (T.tells trace.new) (T.left trace.old) (O.tells out.new) (O.taken out.old) (O.taken out.new) }
+    ensures stopped { (command : Command) → the_command words.now ≡ Some command → result ≡ status_code SinkFailed →
+        HasStopped command (S.tells script.new) (S.left script.old) (T.tells trace.new) (T.left trace.old) (O.tells out.new) (O.taken out.old) (O.taken out.new) }
     ensures refused { result ≡ status_code Refused → TellsRefusal (S.tells script.new) (S.left script.old) (T.tells trace.new) (T.left trace.old)
         (O.tells out.new) (O.taken out.old) (O.taken out.new) (O.faults out.old) (O.faults out.new) }
     ensures source { result ≡ status_code SourceFailed → Rose (S.faults script.old) (S.faults script.new) ⊎ Rose (T.faults trace.old) (T.faults trace.new) }
