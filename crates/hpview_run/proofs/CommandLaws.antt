@@ -112,3 +112,7 @@ script_text_is text line other kind another e f is =
 pub trace_text_is : (text : List ℕ) (line other : ℕ) (kind another : TraceKind) → line ≡ other → kind ≡ another → text ≡ trace_refusal other another → text ≡ trace_refusal line kind
 trace_text_is text line other kind another e f is =
     subst (λ (k : TraceKind). text ≡ trace_refusal line k) (sym f) (subst (λ (n : ℕ). text ≡ trace_refusal n another) (sym e) is)
+
+-- a front of what was written
+pub front_of : (taken after bytes text : List ℕ) → bytes ≡ text → TakesFront taken after bytes → TakesFront taken after text
+front_of taken after bytes text same front = subst (λ (x : List ℕ). TakesFront taken after x) same front

@@ -1,5 +1,5 @@
 use Rattle.std.proofs.Common.{List, ℕ, ◌++◌, inl, inr, sym, ap, ◌∙◌}
-use Rattle.hpview_run.proofs.CommandLaws.{script_parts, script_text_is, told_of, trace_parts, trace_text_is}
+use Rattle.hpview_run.proofs.CommandLaws.{front_of, script_parts, script_text_is, told_of, trace_parts, trace_text_is}
 use Rattle.hpview_run.proofs.command.run_command.Goals as goal
 
 pub returns-in-Ok-write_all-clause-done : goal.returns-in-Ok-write_all-clause-done
@@ -7,6 +7,13 @@ returns-in-Ok-write_all-clause-done g c = λ _. record {
   picture = c.in-Ok.picture.items;
   draws = λ t u. c.in-Ok.ensures.ok t u;
   told = λ t. c.in-Ok-write_all.ensures.bytes t ∙ ap (λ (text : List ℕ). g.O.Sink.taken c.args.out.now ++ text) c.as_slice.ensures.value;
+}
+
+pub returns-in-Err-write_all-clause-stopped : goal.returns-in-Err-write_all-clause-stopped
+returns-in-Err-write_all-clause-stopped g c = λ _. record {
+  picture = c.in-Ok.picture.items;
+  draws = λ t u. c.in-Ok.ensures.ok t u;
+  told = λ t. front_of _ _ _ _ c.as_slice.ensures.value (c.in-Err-write_all.ensures.front t);
 }
 
 pub returns-in-Err-Script-clause-refused : goal.returns-in-Err-Script-clause-refused
