@@ -1,19 +1,15 @@
 -- What a command comes to, from what its calls answer.
-use Rattle.std.proofs.Common.{◌≡◌, ◌⊎◌, inl, inr, ℕ, ◌++◌, List, Bool, IsTrue, Result, Ok, Err, OnOk, OnErr, refl, subst, sym, arith, ◌∙◌}
+use Rattle.std.proofs.Common.{◌≡◌, ◌⊎◌, inl, inr, ℕ, ◌++◌, List, Bool, IsTrue, Result, Ok, Err, OnOk, OnErr, Option, Some, refl, subst, sym, arith, ◌∙◌}
 use Rattle.outside_traits.specs.Causes.{HasCause}
 use Rattle.outside_traits.specs.Puts.{TakesFront}
-use Rattle.script_reader.specs.declared.fault.ScriptKind.{ScriptKind}
-use Rattle.script_reader.specs.Grammar as scripts
-use Rattle.script_reader.specs.Words.{all_verbs}
-use Rattle.trace_reader.specs.declared.fault.TraceKind.{TraceKind}
 use Rattle.hpview_run.specs.declared.load.ViewFault.{ViewFault}
 use Rattle.hpview_run.specs.declared.load.ViewFault.TheVariants as faults
 use Rattle.hpview_run.specs.declared.status.Status.{Status}
 use Rattle.hpview_run.specs.declared.status.Status.TheVariants.{Done, Usage, Refused, SourceFailed, SinkFailed, OutOfMemory}
-use Rattle.hpview_run.specs.Drawing.{Told}
-use Rattle.hpview_run.specs.Loading.{RefusesScript, RefusesTrace, RefusesBeside}
-use Rattle.hpview_run.specs.Statuses.{status_code, IsViewStatus, IsViewCode}
-use Rattle.hpview_run.specs.Words.{script_refusal, trace_refusal}
+use Rattle.hpview_run.specs.declared.words.Command.{Command}
+use Rattle.hpview_run.specs.Drawing.{HasDrawn, HasStopped, TellsFault, TellsRefusal, Told}
+use Rattle.hpview_run.specs.Loading.{Refuses}
+use Rattle.hpview_run.specs.Statuses.{status_code, status_of, IsViewStatus, IsViewCode}
 
 -- statuses differ by their numbers
 number_is : (s t : Status) → status_code s ≡ status_code t → s ≡ t
@@ -55,15 +51,15 @@ number_is OutOfMemory SinkFailed is = absurd (omega (arith, is))
 number_is OutOfMemory OutOfMemory is = refl
 
 -- THE STATUS of a number
-pub decoded : {status : Status} (other : Status) (code : ℕ) → code ≡ status_code status → code ≡ status_code other → status ≡ other
-decoded {status} other code is same = number_is status other (sym is ∙ same)
+pub decoded : (status other : Status) (code : ℕ) → code ≡ status_code status → code ≡ status_code other → status ≡ other
+decoded status other code is same = number_is status other (sym is ∙ same)
 
 no_usage : (s : Status) → IsViewStatus s → s ≡ Usage → ⊥
 no_usage s is e = subst IsViewStatus e is
 
 -- a command that ran is not one of no words
-pub is_no_usage : {status : Status} (code : ℕ) → code ≡ status_code status → IsViewStatus status → code ≡ status_code Usage → ⊥
-is_no_usage {status} code is view same = no_usage status view (decoded Usage code is same)
+pub is_no_usage : (status : Status) (code : ℕ) → code ≡ status_code status → IsViewStatus status → code ≡ status_code Usage → ⊥
+is_no_usage status code is view same = no_usage status view (decoded status Usage code is same)
 
 view_code : (status : Status) → IsViewStatus status → IsViewCode (status_code status)
 view_code Done is = inl refl
@@ -76,10 +72,10 @@ view_code OutOfMemory is = inr (inr (inr (inr (inr refl))))
 pub coded : (status : Status) (code : ℕ) → code ≡ status_code status → IsViewStatus status → IsViewCode code
 coded status code is view = subst IsViewCode (sym is) (view_code status view)
 
-pub is_silent : {status : Status} (code : ℕ) → code ≡ status_code status → (code ≡ status_code SourceFailed) ⊎ (code ≡ status_code OutOfMemory)
+pub is_silent : (status : Status) (code : ℕ) → code ≡ status_code status → (code ≡ status_code SourceFailed) ⊎ (code ≡ status_code OutOfMemory)
     → (status ≡ SourceFailed) ⊎ (status ≡ OutOfMemory)
-is_silent code is (inl e) = inl (decoded SourceFailed code is e)
-is_silent code is (inr e) = inr (decoded OutOfMemory code is e)
+is_silent status code is (inl e) = inl (decoded status SourceFailed code is e)
+is_silent status code is (inr e) = inr (decoded status OutOfMemory code is e)
 
 -- a text that was written whole, or whose sink failed
 written : {T E : Type 0} (result : Result T E) (taken after text : List ℕ) (faults faults_after : ℕ) (tells : Bool)
@@ -95,24 +91,90 @@ told_of result taken after bytes line text faults faults_after tells same is all
     subst (λ (x : List ℕ). Told taken after x faults faults_after) is
     (subst (λ (x : List ℕ). Told taken after x faults faults_after) same (written result taken after bytes faults faults_after tells all front cause t))
 
--- what a refusal says
-pub script_parts : (left : List ℕ) (fault : ViewFault) (line : ℕ) (kind : ScriptKind) → fault ≡ faults.Script line kind → RefusesScript fault left
-    → scripts.IsRefused all_verbs left line kind
-script_parts left fault line kind e is = subst (λ (f : ViewFault). RefusesScript f left) e is
+-- WHAT A PICTURE COMES TO
+pub drawn_status : (status : Status) → (status ≡ Done) ⊎ (status ≡ SinkFailed) → IsViewStatus status
+drawn_status status (inl e) = subst IsViewStatus (sym e) tt
+drawn_status status (inr e) = subst IsViewStatus (sym e) tt
 
-pub trace_parts : (text left : List ℕ) (fault : ViewFault) (line : ℕ) (kind : TraceKind) → fault ≡ faults.Trace line kind → RefusesTrace fault text left
-    → RefusesBeside line kind text left
-trace_parts text left fault line kind e is = subst (λ (f : ViewFault). RefusesTrace f text left) e is
+-- and no other status
+pub drawn_other : (status other : Status) → (status ≡ Done) ⊎ (status ≡ SinkFailed) → status ≡ other → (Done ≡ other → ⊥) → (SinkFailed ≡ other → ⊥) → ⊥
+drawn_other status other (inl e) is not_done not_failed = not_done (sym e ∙ is)
+drawn_other status other (inr e) is not_done not_failed = not_failed (sym e ∙ is)
 
--- the text of a refusal, by its line and kind
-pub script_text_is : (text : List ℕ) (line other : ℕ) (kind another : ScriptKind) → line ≡ other → kind ≡ another → text ≡ script_refusal other another → text ≡ script_refusal line kind
-script_text_is text line other kind another e f is =
-    subst (λ (k : ScriptKind). text ≡ script_refusal line k) (sym f) (subst (λ (n : ℕ). text ≡ script_refusal n another) (sym e) is)
+-- WHAT A FAULT COMES TO
+pub fault_status : (status : Status) (fault : ViewFault) → status ≡ status_of fault → IsViewStatus status
+fault_status status faults.Memory e = subst IsViewStatus (sym e) tt
+fault_status status faults.Failed e = subst IsViewStatus (sym e) tt
+fault_status status (faults.Script line kind) e = subst IsViewStatus (sym e) tt
+fault_status status (faults.Trace line kind) e = subst IsViewStatus (sym e) tt
 
-pub trace_text_is : (text : List ℕ) (line other : ℕ) (kind another : TraceKind) → line ≡ other → kind ≡ another → text ≡ trace_refusal other another → text ≡ trace_refusal line kind
-trace_text_is text line other kind another e f is =
-    subst (λ (k : TraceKind). text ≡ trace_refusal line k) (sym f) (subst (λ (n : ℕ). text ≡ trace_refusal n another) (sym e) is)
+fault_no_done : (fault : ViewFault) → status_of fault ≡ Done → ⊥
+fault_no_done faults.Memory is = cc
+fault_no_done faults.Failed is = cc
+fault_no_done (faults.Script line kind) is = cc
+fault_no_done (faults.Trace line kind) is = cc
 
--- a front of what was written
-pub front_of : (taken after bytes text : List ℕ) → bytes ≡ text → TakesFront taken after bytes → TakesFront taken after text
-front_of taken after bytes text same front = subst (λ (x : List ℕ). TakesFront taken after x) same front
+pub no_done : (status : Status) (fault : ViewFault) → status ≡ status_of fault → status ≡ Done → ⊥
+no_done status fault e is = fault_no_done fault (sym e ∙ is)
+
+fault_no_sink : (fault : ViewFault) → status_of fault ≡ SinkFailed → ⊥
+fault_no_sink faults.Memory is = cc
+fault_no_sink faults.Failed is = cc
+fault_no_sink (faults.Script line kind) is = cc
+fault_no_sink (faults.Trace line kind) is = cc
+
+pub no_sink : (status : Status) (fault : ViewFault) → status ≡ status_of fault → status ≡ SinkFailed → ⊥
+no_sink status fault e is = fault_no_sink fault (sym e ∙ is)
+
+fault_failed : (fault : ViewFault) → status_of fault ≡ SourceFailed → fault ≡ faults.Failed
+fault_failed faults.Memory is = absurd cc
+fault_failed faults.Failed is = refl
+fault_failed (faults.Script line kind) is = absurd cc
+fault_failed (faults.Trace line kind) is = absurd cc
+
+pub failed_by : (status : Status) (fault : ViewFault) → status ≡ status_of fault → status ≡ SourceFailed → fault ≡ faults.Failed
+failed_by status fault e is = fault_failed fault (sym e ∙ is)
+
+fault_memory : (fault : ViewFault) → status_of fault ≡ OutOfMemory → fault ≡ faults.Memory
+fault_memory faults.Memory is = refl
+fault_memory faults.Failed is = absurd cc
+fault_memory (faults.Script line kind) is = absurd cc
+fault_memory (faults.Trace line kind) is = absurd cc
+
+pub silent_by : (status : Status) (fault : ViewFault) → status ≡ status_of fault → (status ≡ SourceFailed) ⊎ (status ≡ OutOfMemory)
+    → (fault ≡ faults.Memory) ⊎ (fault ≡ faults.Failed)
+silent_by status fault e (inl is) = inr (fault_failed fault (sym e ∙ is))
+silent_by status fault e (inr is) = inl (fault_memory fault (sym e ∙ is))
+
+told_by_fault : (fault : ViewFault) (tells : Bool) (text : List ℕ) (trace_tells : Bool) (trace : List ℕ) (out_tells : Bool) (taken after : List ℕ) (before behind : ℕ)
+    → Refuses fault tells text trace_tells trace → status_of fault ≡ Refused → (IsTrue out_tells → TellsFault fault taken after before behind)
+    → TellsRefusal tells text trace_tells trace out_tells taken after before behind
+told_by_fault faults.Memory tells text trace_tells trace out_tells taken after before behind refuses is told = absurd cc
+told_by_fault faults.Failed tells text trace_tells trace out_tells taken after before behind refuses is told = absurd cc
+told_by_fault (faults.Script line kind) tells text trace_tells trace out_tells taken after before behind refuses is told =
+    inl (record { line = line; kind = kind; first = refuses.of_script; told = told })
+told_by_fault (faults.Trace line kind) tells text trace_tells trace out_tells taken after before behind refuses is told =
+    inr (record { line = line; kind = kind; first = refuses.of_trace; told = told })
+
+pub refusal_told : (status : Status) (fault : ViewFault) (tells : Bool) (text : List ℕ) (trace_tells : Bool) (trace : List ℕ) (out_tells : Bool) (taken after : List ℕ) (before behind : ℕ)
+    → status ≡ status_of fault → Refuses fault tells text trace_tells trace → status ≡ Refused → (IsTrue out_tells → TellsFault fault taken after before behind)
+    → TellsRefusal tells text trace_tells trace out_tells taken after before behind
+refusal_told status fault tells text trace_tells trace out_tells taken after before behind e refuses is told =
+    told_by_fault fault tells text trace_tells trace out_tells taken after before behind refuses (sym e ∙ is) told
+
+-- OF THE COMMAND that the words name
+pub one_command : (named other : Option Command) (mine command : Command) → named ≡ other → named ≡ Some mine → other ≡ Some command → mine ≡ command
+one_command named other mine command same is e = one (sym is ∙ same ∙ e)
+  where
+    one : Some mine ≡ Some command → mine ≡ command
+    one e = cc
+
+pub drawn_for : (mine command : Command) (tells : Bool) (text : List ℕ) (trace_tells : Bool) (trace : List ℕ) (out_tells : Bool) (taken after : List ℕ)
+    → mine ≡ command → HasDrawn mine tells text trace_tells trace out_tells taken after → HasDrawn command tells text trace_tells trace out_tells taken after
+drawn_for mine command tells text trace_tells trace out_tells taken after same drawn =
+    subst (λ (x : Command). HasDrawn x tells text trace_tells trace out_tells taken after) same drawn
+
+pub stopped_for : (mine command : Command) (tells : Bool) (text : List ℕ) (trace_tells : Bool) (trace : List ℕ) (out_tells : Bool) (taken after : List ℕ)
+    → mine ≡ command → HasStopped mine tells text trace_tells trace out_tells taken after → HasStopped command tells text trace_tells trace out_tells taken after
+stopped_for mine command tells text trace_tells trace out_tells taken after same stopped =
+    subst (λ (x : Command). HasStopped x tells text trace_tells trace out_tells taken after) same stopped

@@ -1,5 +1,5 @@
 -- What was read of a source, and what its bytes spell.
-use Rattle.std.proofs.Common.{◌≡◌, ◌⊎◌, inl, inr, ℕ, ◌+◌, ◌<◌, ◌≤◌, List, [], ◌∷◌, ◌++◌, length, refl, sym, ap, ◌∙◌, subst, append-nil, arith, length-append}
+use Rattle.std.proofs.Common.{◌≡◌, ◌⊎◌, inl, inr, ℕ, ◌+◌, ◌<◌, ◌≤◌, List, [], ◌∷◌, ◌++◌, length, Result, Ok, Err, IfErr, refl, sym, ap, ◌∙◌, subst, append-nil, arith, length-append}
 use Rattle.script_reader.specs.declared.fault.ScriptKind.{ScriptKind}
 use Rattle.script_reader.specs.Grammar as scripts
 use Rattle.script_reader.specs.Stored.{Stored}
@@ -98,3 +98,24 @@ refuses_of (faults.Trace line kind) text trace bytes r refused = record {
   loads = refused.loads;
   refused = trace_refused refused.stored trace bytes line kind r refused.refused;
 }
+
+-- what is neither of the script nor of the trace refuses nothing of them
+pub refuses_none : (fault : ViewFault) (text trace : List ℕ) → (fault ≡ faults.Memory) ⊎ (fault ≡ faults.Failed) → RefusesTrace fault text trace
+refuses_none fault text trace (inl e) = subst (λ (f : ViewFault). RefusesTrace f text trace) (sym e) tt
+refuses_none fault text trace (inr e) = subst (λ (f : ViewFault). RefusesTrace f text trace) (sym e) tt
+
+pub script_none : (fault : ViewFault) (text : List ℕ) → (fault ≡ faults.Memory) ⊎ (fault ≡ faults.Failed) → RefusesScript fault text
+script_none fault text (inl e) = subst (λ (f : ViewFault). RefusesScript f text) (sym e) tt
+script_none fault text (inr e) = subst (λ (f : ViewFault). RefusesScript f text) (sym e) tt
+
+-- there was no memory, and the source did not fail
+pub memory_inside : (fault : ViewFault) → fault ≡ faults.Memory → fault ≡ faults.Failed → ⊥
+memory_inside fault e failed = no_failed (sym e ∙ failed)
+  where
+    no_failed : faults.Memory ≡ faults.Failed → ⊥
+    no_failed is = cc
+
+-- two facts of one error
+pub both_err : {T E : Type 0} (P Q : E → Type 0) (result : Result T E) → IfErr result P → IfErr result Q → IfErr result (λ fault. P fault × Q fault)
+both_err P Q (Ok value) p q = tt
+both_err P Q (Err fault) p q = (p, q)

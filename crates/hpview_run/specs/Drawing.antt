@@ -12,25 +12,27 @@ use Rattle.script_reader.specs.Grammar as scripts
 use Rattle.script_reader.specs.Stored.{Stored}
 use Rattle.script_reader.specs.Words.{all_verbs}
 use Rattle.trace_reader.specs.declared.fault.TraceKind.{TraceKind}
+use Rattle.hpview_run.specs.declared.load.ViewFault.{ViewFault}
+use Rattle.hpview_run.specs.declared.load.ViewFault.TheVariants as faults
 use Rattle.hpview_run.specs.declared.words.Command.{Command}
 use Rattle.hpview_run.specs.declared.words.Form.{Form}
 use Rattle.hpview_run.specs.declared.words.Form.TheVariants.{Svg, Chart}
 use Rattle.hpview_run.specs.Loading.{Loads, RefusesBeside}
 use Rattle.hpview_run.specs.Words.{script_refusal, trace_refusal}
 
--- a text is the picture of a sheet with what is shown
-pub record IsPictureOf (view : View) (text : List ℕ) : Type 0 where
+-- the picture of a sheet, in a form: for a browser such a picture, for a terminal a chart
+abbrev pub IsDrawnAs : Form → Sheet → List ℕ → Type 0
+IsDrawnAs Svg sheet text = IsPicture sheet text
+IsDrawnAs Chart sheet text = IsChart text
+
+-- DRAWN IN A FORM: a text is the picture of a sheet with what is shown
+pub record IsDrawn (form : Form) (view : View) (text : List ℕ) : Type 0 where
   pub sheet : Sheet
   pub run : sheet.run.now ≡ view.run
   pub window : sheet.window ≡ view.window
   pub texts : sheet.texts.now ≡ view.texts.items
   pub notes : sheet.notes.now ≡ view.notes.items
-  pub picture : IsPicture sheet text
-
--- DRAWN IN A FORM: for a browser such a picture, for a terminal a chart
-abbrev pub IsDrawn : Form → View → List ℕ → Type 0
-IsDrawn Svg view text = IsPictureOf view text
-IsDrawn Chart view text = IsChart text
+  pub picture : IsDrawnAs form sheet text
 
 -- THE PICTURE is of what is shown of the run that script and trace tell of: of the events that the command names
 pub record Draws (command : Command) (text trace picture : List ℕ) : Type 0 where
@@ -43,6 +45,12 @@ pub record Draws (command : Command) (text trace picture : List ℕ) : Type 0 wh
 -- A text was taken whole; or the sink failed, and took a front of it.
 abbrev pub Told : List ℕ → List ℕ → List ℕ → ℕ → ℕ → Type 0
 Told taken taken' text faults faults' = (taken' ≡ taken ++ text) ⊎ (Rose faults faults' × TakesFront taken taken' text)
+
+-- What is told of a fault: of a refusal its line, else nothing.
+abbrev pub TellsFault : ViewFault → List ℕ → List ℕ → ℕ → ℕ → Type 0
+TellsFault (faults.Script line kind) taken taken' before after = Told taken taken' (script_refusal line kind) before after
+TellsFault (faults.Trace line kind) taken taken' before after = Told taken taken' (trace_refusal line kind) before after
+TellsFault fault taken taken' before after = Unit {0}
 
 -- IT IS DONE: where the sources tell, what they gave is drawn; where the sink tells, it took the picture, and nothing else.
 pub record HasDrawn (command : Command) (tells : Bool) (text : List ℕ) (trace_tells : Bool) (trace : List ℕ) (out_tells : Bool) (taken taken' : List ℕ) : Type 0 where

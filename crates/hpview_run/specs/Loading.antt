@@ -1,5 +1,5 @@
 -- WHAT IS READ from outside, and what is wrong with it.
-use Rattle.std.specs.Prelude.{◌≡◌, ◌⊎◌, ℕ, ◌<◌, List, [], ◌++◌, length}
+use Rattle.std.specs.Prelude.{◌≡◌, ◌⊎◌, ℕ, ◌<◌, Bool, IsTrue, List, [], ◌++◌, length}
 use Rattle.outside_traits.specs.declared.whole.ReadAllFault.{ReadAllFault}
 use Rattle.outside_traits.specs.declared.whole.ReadAllFault.TheVariants as all
 use Rattle.script_reader.specs.declared.fault.ReadFault.{ReadFault}
@@ -52,3 +52,8 @@ pub record RefusesBeside (line : ℕ) (kind : TraceKind) (text trace : List ℕ)
 abbrev pub RefusesTrace : ViewFault → List ℕ → List ℕ → Type 0
 RefusesTrace (faults.Trace line kind) text trace = RefusesBeside line kind text trace
 RefusesTrace fault text trace = Unit {0}
+
+-- what is refused of a script and of the trace beside it, where their sources tell
+pub record Refuses (fault : ViewFault) (tells : Bool) (text : List ℕ) (trace_tells : Bool) (trace : List ℕ) : Type 0 where
+  pub of_script : IsTrue tells → RefusesScript fault text
+  pub of_trace : IsTrue tells → IsTrue trace_tells → RefusesTrace fault text trace

@@ -1,5 +1,7 @@
 -- The numbers that the program ends with.
 use Rattle.std.specs.Prelude.{◌≡◌, ◌⊎◌, ℕ}
+use Rattle.hpview_run.specs.declared.load.ViewFault.{ViewFault}
+use Rattle.hpview_run.specs.declared.load.ViewFault.TheVariants as faults
 use Rattle.hpview_run.specs.declared.status.Status.{Status}
 use Rattle.hpview_run.specs.declared.status.Status.TheVariants.{Done, Usage, Refused, SourceFailed, SinkFailed, OutOfMemory}
 
@@ -23,3 +25,10 @@ IsViewStatus OutOfMemory = Unit {0}
 abbrev pub IsViewCode : ℕ → Type 0
 IsViewCode code = (code ≡ status_code Done) ⊎ (code ≡ status_code Usage) ⊎ (code ≡ status_code Refused) ⊎ (code ≡ status_code SourceFailed)
     ⊎ (code ≡ status_code SinkFailed) ⊎ (code ≡ status_code OutOfMemory)
+
+-- the status of a fault
+abbrev pub status_of : ViewFault → Status
+status_of faults.Memory = OutOfMemory
+status_of faults.Failed = SourceFailed
+status_of (faults.Script line kind) = Refused
+status_of (faults.Trace line kind) = Refused

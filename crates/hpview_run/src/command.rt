@@ -1,51 +1,37 @@
-ghost use Rattle.std.specs.Prelude.{◌≡◌, ◌≢◌, ◌⊎◌, ◌↔◌, ℕ, ◌-◌, IsTrue, List, IfOk, IfErr, IsErrOf, None, Some};
+ghost use Rattle.std.specs.Prelude.{◌≡◌, ◌⊎◌, ◌↔◌, ℕ, IsTrue, List, IfOk, IfErr, IsErrOf, None, Some};
 ghost use Rattle.outside_traits.specs.Causes.{Rose};
 ghost use Rattle.hpview_run.specs.declared.words.Command.{Command};
 ghost use Rattle.hpview_run.specs.declared.status.Status.TheVariants.{Done, Usage, Refused, SourceFailed, SinkFailed, OutOfMemory};
 ghost use Rattle.hpview_run.specs.Drawing.{Draws, HasDrawn, HasStopped, TellsRefusal, Told};
-ghost use Rattle.hpview_run.specs.Loading.{Loads, RefusesScript, RefusesTrace};
+ghost use Rattle.hpview_run.specs.Loading.{Loads, Refuses, RefusesScript, RefusesTrace};
 ghost use Rattle.hpview_run.specs.Statuses.{status_code, IsViewStatus, IsViewCode};
 ghost use Rattle.hpview_run.specs.Words.{command_of as the_command, usage_text};
 
-use crate::draw::draw;
+use crate::draw::draw_run;
 use crate::load::{Loaded, ViewFault};
+use crate::put::{put_fault, put_picture, put_usage};
 use crate::sources::{load_script, load_trace};
 use crate::status::Status;
-use crate::text::{script_refusal, trace_refusal, usage};
 use crate::words::{Command, command_of};
 use outside_traits::traits::{Sink, Source};
-use outside_traits::whole::write_all;
-use run_lines::script_law;
-use run_view::view_run;
 use std::alloc::Global;
 
-/// What is drawn of the run of a script and of the bytes of its trace.
-fn draw_run(
+/// What is drawn of the run of a script and of the trace that a source gives.
+fn drawn_beside<T: Source>(
     alloc: Global,
     command: Command,
     loaded: &Loaded,
-    bytes: &[u8],
+    trace: &mut T,
 ) -> Result<Vec<u8>, ViewFault>
     requires { Loads loaded.now.text.items loaded.now.script }
-    ensures ok { IfOk result (λ picture. Draws command loaded.now.text.items bytes.now picture.items) }
-    ensures trace_refused { IfErr result (λ fault. RefusesTrace fault loaded.now.text.items bytes.now) }
+    ensures ok { IfOk result (λ picture. IsTrue (T.tells trace.new) → Draws command loaded.now.text.items (T.left trace.old) picture.items) }
+    ensures refused { IfErr result (λ fault. IsTrue (T.tells trace.new) → RefusesTrace fault loaded.now.text.items (T.left trace.old)) }
     ensures script { IfErr result (λ fault. (text : List ℕ) → RefusesScript fault text) }
-    ensures inside { IfErr result (λ fault. fault ≢ ViewFault.Failed) }
+    ensures failed { IsErrOf result ViewFault.Failed → Rose (T.faults trace.old) (T.faults trace.new) }
 {
-    script_law();
-    match view_run(
-        alloc,
-        &loaded.script,
-        loaded.text.as_slice(),
-        bytes,
-        command.from.saturating_sub(1),
-        command.to,
-    ) {
-        Ok(view) => match draw(alloc, command.form, loaded.text.as_slice(), &view) {
-            Ok(picture) => Ok(picture),
-            Err(_) => Err(ViewFault::Memory),
-        },
-        Err(fault) => Err(ViewFault::from(fault)),
+    match load_trace(alloc, trace) {
+        Ok(bytes) => draw_run(alloc, command, loaded, bytes.as_slice()),
+        Err(fault) => Err(fault),
     }
 }
 
@@ -57,14 +43,11 @@ fn drawn<S: Source, T: Source>(
     trace: &mut T,
 ) -> Result<Vec<u8>, ViewFault>
     ensures ok { IfOk result (λ picture. IsTrue (S.tells script.new) → IsTrue (T.tells trace.new) → Draws command (S.left script.old) (T.left trace.old) picture.items) }
-    ensures script_refused { IfErr result (λ fault. IsTrue (S.tells script.new) → RefusesScript fault (S.left script.old)) }
-    ensures trace_refused { IfErr result (λ fault. IsTrue (S.tells script.new) → IsTrue (T.tells trace.new) → RefusesTrace fault (S.left script.old) (T.left trace.old)) }
+    ensures refused { IfErr result (λ fault. Refuses fault (S.tells script.new) (S.left script.old) (T.tells trace.new) (T.left trace.old)) }
     ensures failed { IsErrOf result ViewFault.Failed → Rose (S.faults script.old) (S.faults script.new) ⊎ Rose (T.faults trace.old) (T.faults trace.new) }
 {
-    let loaded = load_script(alloc, script)?;
-    let bytes = load_trace(alloc, trace)?;
-    match draw_run(alloc, command, &loaded, bytes.as_slice()) {
-        Ok(picture) => Ok(picture),
+    match load_script(alloc, script) {
+        Ok(loaded) => drawn_beside(alloc, command, &loaded, trace),
         Err(fault) => Err(fault),
     }
 }
@@ -87,20 +70,8 @@ fn run_command<S: Source, T: Source, O: Sink>(
     ensures silent { (result ≡ SourceFailed) ⊎ (result ≡ OutOfMemory) → out.new ≡ out.old }
 {
     match drawn(alloc, command, script, trace) {
-        Ok(picture) => match write_all(out, picture.as_slice()) {
-            Ok(()) => Status::Done,
-            Err(_) => Status::SinkFailed,
-        },
-        Err(ViewFault::Memory) => Status::OutOfMemory,
-        Err(ViewFault::Failed) => Status::SourceFailed,
-        Err(ViewFault::Script { line, kind }) => {
-            let _ = write_all(out, script_refusal(line, kind).as_bytes());
-            Status::Refused
-        }
-        Err(ViewFault::Trace { line, kind }) => {
-            let _ = write_all(out, trace_refusal(line, kind).as_bytes());
-            Status::Refused
-        }
+        Ok(picture) => put_picture(picture.as_slice(), out),
+        Err(fault) => put_fault(fault, out),
     }
 }
 
@@ -137,10 +108,7 @@ pub fn view<S: Source, T: Source, O: Sink>(
     ensures silent { (result ≡ status_code SourceFailed) ⊎ (result ≡ status_code OutOfMemory) → out.new ≡ out.old }
 {
     match command_of(words) {
-        None => {
-            let _ = write_all(out, usage().as_bytes());
-            Status::Usage.code()
-        }
+        None => put_usage(out).code(),
         Some(command) => run_command(alloc, command, script, trace, out).code(),
     }
 }

@@ -7,6 +7,7 @@
 mod command;
 mod draw;
 mod load;
+mod put;
 mod sources;
 mod status;
 mod text;
