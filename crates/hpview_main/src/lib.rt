@@ -2,7 +2,7 @@
 //! the real ones and ends with this status.
 //!
 //! What its contract says: the status where the words are no command, or there was no memory for them; all else is
-//! `hpview_run::view`. It is not proved yet. Only tested: the stored run of `hpview`.
+//! `hpview_run::view`. Only tested: the stored run of `hpview`.
 #![tactic(auto)]
 
 mod program;

@@ -1,7 +1,7 @@
 //! The command of the program that draws a run: what its words, script, trace and sink come to, and its status.
 //!
 //! What its contract says, `view`: each status with its cause; what is drawn where it is done; what refusals say; no other status.
-//! Each clause hangs on the objects that it speaks of alone. It is not proved yet. Only tested: the stored run of `hpview`.
+//! Each clause hangs on the objects that it speaks of alone. Only tested: the stored run of `hpview`.
 #![tactic(auto)]
 
 mod command;
