@@ -1,13 +1,14 @@
 #!/usr/bin/env python3
-"""Writes the texts of these examples into the tests of the crate `example_rows`, which the gate runs: run it after each change here.
+"""Writes the texts of these examples into the tests of the crates `example_rows` and `picture_rows`, which the gate runs: run it after
+each change here.
 
-    rows.py          writes crates/example_rows/src/texts.rt anew
-    rows.py check    says whether it is as these files are
+    rows.py          writes src/texts.rt of both crates anew
+    rows.py check    says whether they are as these files are
 """
-import os, sys
+import hashlib, os, sys
 
 HERE = os.path.dirname(os.path.abspath(__file__))
-ROWS = os.path.join(HERE, '..', 'crates', 'example_rows', 'src', 'texts.rt')
+CRATES = os.path.join(HERE, '..', 'crates')
 # The examples over the pack that make-packs.sh makes; all others are played over empty packs.
 LISTED = ('course-table', 'forward')
 
@@ -23,8 +24,11 @@ def literal(text):
     return 'b"' + text.replace('\n', '\\n') + '"'
 
 
+NAMES = sorted(it[:-4] for it in os.listdir(HERE) if it.endswith('.hps'))
+
+
 def texts():
-    names = sorted(it[:-4] for it in os.listdir(HERE) if it.endswith('.hps'))
+    names = NAMES
     lines = [
         '// The texts of `examples/`, as `examples/rows.py` writes them.',
         '',
@@ -48,12 +52,47 @@ def texts():
     return '\n'.join([*lines, '];', ''])
 
 
-if sys.argv[1:] == ['check']:
-    with open(ROWS) as file:
-        same = file.read() == texts()
-    sys.exit(0 if same else 'crates/example_rows/src/texts.rt is not as the examples are: run examples/rows.py')
-elif sys.argv[1:]:
+def pictures():
+    lines = [
+        '// The texts of `examples/`, as `examples/rows.py` writes them.',
+        '',
+        '/// An example: its script, its trace, and the SHA-256 of its picture.',
+        'pub(crate) struct Example {',
+        "    pub(crate) name: &'static str,",
+        "    pub(crate) script: &'static [u8],",
+        "    pub(crate) trace: &'static [u8],",
+        '    pub(crate) picture: [u8; 32],',
+        '}',
+        '',
+        '/// Each script of the folder.',
+        f'pub(crate) const EXAMPLES: [Example; {len(NAMES)}] = [',
+    ]
+    for name in NAMES:
+        lines += ['    Example {', f'        name: "{name}",']
+        for field, suffix in (('script', 'hps'), ('trace', 'trace')):
+            lines.append(f'        {field}: {literal(read(f"{name}.{suffix}"))},')
+        digest = list(hashlib.sha256(read(f'{name}.svg').encode()).digest())
+        lines.append('        picture: [')
+        row = '           '
+        for byte in digest:
+            word = f' {byte},'
+            if len(row) + len(word) > 99:
+                lines.append(row)
+                row = '           '
+            row += word
+        lines += [row, '        ],', '    },']
+    return '\n'.join([*lines, '];', ''])
+
+
+FILES = {'example_rows': texts, 'picture_rows': pictures}
+if sys.argv[1:] not in ([], ['check']):
     sys.exit(__doc__)
-else:
-    with open(ROWS, 'w') as file:
-        file.write(texts())
+for crate, text in FILES.items():
+    path = os.path.join(CRATES, crate, 'src', 'texts.rt')
+    if not sys.argv[1:]:
+        with open(path, 'w') as file:
+            file.write(text())
+        continue
+    with open(path) as file:
+        if file.read() != text():
+            sys.exit(f'crates/{crate}/src/texts.rt is not as the examples are: run examples/rows.py')

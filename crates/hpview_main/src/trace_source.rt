@@ -1,0 +1,55 @@
+ghost use Rattle.std.specs.Prelude.{◌≡◌, ◌≤◌, ◌++◌, ℕ, List, [], IsTrue, false, take, length, IfOk, OnErr};
+ghost use Rattle.outside_traits.specs.Causes.{HasCause};
+
+use outside_files::streams::StdSource;
+use outside_traits::traits::{Source, SourceFailed};
+use std::io;
+use std::io::Read;
+
+/// The trace's file as a source; each call fails where it could not be opened. What is left of it is not told.
+#[derive(Drop)]
+pub(crate) struct TraceSource<R: Read> {
+    file: io::Result<R>,
+    faults: u64,
+}
+
+impl<R: Read + Drop> TraceSource<R> {
+    /// The source that reads from this file. Its count of faults begins at 0.
+    pub(crate) fn new(file: io::Result<R>) -> TraceSource<R> {
+        TraceSource { file, faults: 0 }
+    }
+
+    fn give(&mut self, into: &mut [u8]) -> Result<usize, SourceFailed>
+        ensures bound { IfOk result (λ n. n ≤ length into.old) }
+        ensures faults { self.new.faults ≡ self.old.faults }
+    {
+        match &mut self.file {
+            Ok(file) => match file.read(into) {
+                Ok(count) => Ok(count),
+                Err(_) => Err(SourceFailed),
+            },
+            Err(_) => Err(SourceFailed),
+        }
+    }
+}
+
+impl<R: Read + Drop> Source for TraceSource<R> {
+    ghost tells = { λ _. false };
+
+    ghost left = { λ _. [] };
+
+    ghost faults = { λ s. s.faults };
+
+    fn read(&mut self, into: &mut [u8]) -> Result<usize, SourceFailed>
+        ensures bound { IfOk result (λ n. n ≤ length into.old) }
+        ensures bytes { IfOk result (λ n. IsTrue false → ◌≡◌ {A = List ℕ} [] (take n into.new ++ [])) }
+        ensures err { OnErr result (IsTrue false → ◌≡◌ {A = List ℕ} [] []) }
+        ensures cause { HasCause self.old.faults self.new.faults result }
+    {
+        let answer = self.give(into);
+        if answer.is_err() {
+            self.faults = self.faults.saturating_add(1);
+        }
+        answer
+    }
+}

@@ -1,0 +1,82 @@
+-- WHAT IS DRAWN, and what is told of it.
+use Rattle.std.specs.Prelude.{◌≡◌, ◌⊎◌, ℕ, ◌-◌, Bool, IsTrue, List, ◌++◌}
+use Rattle.outside_traits.specs.Causes.{Rose}
+use Rattle.outside_traits.specs.Puts.{TakesFront}
+use Rattle.chart_lines.specs.Charts.{IsChart}
+use Rattle.picture_sheet.specs.declared.sheet.Sheet.{Sheet}
+use Rattle.picture_svg.specs.Pictures.{IsPicture}
+use Rattle.run_view.specs.declared.view.View.{View}
+use Rattle.run_view.specs.Views.{Views}
+use Rattle.script_reader.specs.declared.fault.ScriptKind.{ScriptKind}
+use Rattle.script_reader.specs.Grammar as scripts
+use Rattle.script_reader.specs.Stored.{Stored}
+use Rattle.script_reader.specs.Words.{all_verbs}
+use Rattle.trace_reader.specs.declared.fault.TraceKind.{TraceKind}
+use Rattle.hpview_run.specs.declared.load.ViewFault.{ViewFault}
+use Rattle.hpview_run.specs.declared.load.ViewFault.TheVariants as faults
+use Rattle.hpview_run.specs.declared.words.Command.{Command}
+use Rattle.hpview_run.specs.declared.words.Form.{Form}
+use Rattle.hpview_run.specs.declared.words.Form.TheVariants.{Svg, Chart}
+use Rattle.hpview_run.specs.Loading.{Loads, RefusesBeside}
+use Rattle.hpview_run.specs.Words.{script_refusal, trace_refusal}
+
+-- the picture of a sheet, in a form: for a browser such a picture, for a terminal a chart
+abbrev pub IsDrawnAs : Form → Sheet → List ℕ → Type 0
+IsDrawnAs Svg sheet text = IsPicture sheet text
+IsDrawnAs Chart sheet text = IsChart text
+
+-- DRAWN IN A FORM: a text is the picture of a sheet with what is shown
+pub record IsDrawn (form : Form) (view : View) (text : List ℕ) : Type 0 where
+  pub sheet : Sheet
+  pub run : sheet.run.now ≡ view.run
+  pub window : sheet.window ≡ view.window
+  pub texts : sheet.texts.now ≡ view.texts.items
+  pub notes : sheet.notes.now ≡ view.notes.items
+  pub picture : IsDrawnAs form sheet text
+
+-- THE PICTURE is of what is shown of the run that script and trace tell of: of the events that the command names
+pub record Draws (command : Command) (text trace picture : List ℕ) : Type 0 where
+  pub stored : Stored
+  pub loads : Loads text stored
+  pub view : View
+  pub views : Views stored trace (command.from - 1) command.to view
+  pub drawn : IsDrawn command.form view picture
+
+-- A text was taken whole; or the sink failed, and took a front of it.
+abbrev pub Told : List ℕ → List ℕ → List ℕ → ℕ → ℕ → Type 0
+Told taken taken' text faults faults' = (taken' ≡ taken ++ text) ⊎ (Rose faults faults' × TakesFront taken taken' text)
+
+-- What is told of a fault: of a refusal its line, else nothing.
+abbrev pub TellsFault : ViewFault → List ℕ → List ℕ → ℕ → ℕ → Type 0
+TellsFault (faults.Script line kind) taken taken' before after = Told taken taken' (script_refusal line kind) before after
+TellsFault (faults.Trace line kind) taken taken' before after = Told taken taken' (trace_refusal line kind) before after
+TellsFault fault taken taken' before after = Unit {0}
+
+-- IT IS DONE: where the sources tell, what they gave is drawn; where the sink tells, it took the picture, and nothing else.
+pub record HasDrawn (command : Command) (tells : Bool) (text : List ℕ) (trace_tells : Bool) (trace : List ℕ) (out_tells : Bool) (taken taken' : List ℕ) : Type 0 where
+  pub picture : List ℕ
+  pub draws : IsTrue tells → IsTrue trace_tells → Draws command text trace picture
+  pub told : IsTrue out_tells → taken' ≡ taken ++ picture
+
+-- THE SINK FAILED under the picture, and took a front of it.
+pub record HasStopped (command : Command) (tells : Bool) (text : List ℕ) (trace_tells : Bool) (trace : List ℕ) (out_tells : Bool) (taken taken' : List ℕ) : Type 0 where
+  pub picture : List ℕ
+  pub draws : IsTrue tells → IsTrue trace_tells → Draws command text trace picture
+  pub told : IsTrue out_tells → TakesFront taken taken' picture
+
+-- IT IS REFUSED: the script, or the trace beside it, with the first fault
+pub record ScriptRefused (tells : Bool) (text : List ℕ) (out_tells : Bool) (taken taken' : List ℕ) (faults faults' : ℕ) : Type 0 where
+  pub line : ℕ
+  pub kind : ScriptKind
+  pub first : IsTrue tells → scripts.IsRefused all_verbs text line kind
+  pub told : IsTrue out_tells → Told taken taken' (script_refusal line kind) faults faults'
+
+pub record TraceRefused (tells : Bool) (text : List ℕ) (trace_tells : Bool) (trace : List ℕ) (out_tells : Bool) (taken taken' : List ℕ) (faults faults' : ℕ) : Type 0 where
+  pub line : ℕ
+  pub kind : TraceKind
+  pub first : IsTrue tells → IsTrue trace_tells → RefusesBeside line kind text trace
+  pub told : IsTrue out_tells → Told taken taken' (trace_refusal line kind) faults faults'
+
+abbrev pub TellsRefusal : Bool → List ℕ → Bool → List ℕ → Bool → List ℕ → List ℕ → ℕ → ℕ → Type 0
+TellsRefusal tells text trace_tells trace out_tells taken taken' faults faults' =
+    ScriptRefused tells text out_tells taken taken' faults faults' ⊎ TraceRefused tells text trace_tells trace out_tells taken taken' faults faults'

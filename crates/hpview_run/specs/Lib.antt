@@ -1,0 +1,4 @@
+pub mod Drawing
+pub mod Loading
+pub mod Statuses
+pub mod Words

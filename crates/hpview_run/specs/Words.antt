@@ -1,0 +1,83 @@
+-- The words of the command line, and the texts of refusals.
+use Rattle.std.specs.Prelude.{ℕ, ◌++◌, ◌-◌, ◌^◌, ◌<◌, ◌≤◌, nat_lt, nat_le, ◌&&◌, ◌==◌, if◌then◌else◌, Bool, List, [], ◌∷◌, length, slice_index, map, Option, Some, None, codes, decimal, String}
+use Rattle.std.specs.declared.alloc.Global.{Global}
+use Rattle.std.specs.Result.{result_ok}
+use Rattle.std.specs.Str.{bytes_eq}
+use Rattle.std.specs.String.{string_bytes}
+use Rattle.mass_text.specs.Numbers.{number_of}
+use Rattle.mass_text.specs.declared.numbers.Radix.TheVariants.{Decimal}
+use Rattle.script_reader.specs.declared.fault.ScriptKind.{ScriptKind}
+use Rattle.script_reader.specs.declared.fault.ScriptKind.TheVariants as fault
+use Rattle.trace_reader.specs.declared.fault.TraceKind.{TraceKind}
+use Rattle.trace_reader.specs.declared.fault.TraceKind.TheVariants as kinds
+use Rattle.hpview_run.specs.declared.words.Command.{Command}
+use Rattle.hpview_run.specs.declared.words.Form.{Form}
+use Rattle.hpview_run.specs.declared.words.Form.TheVariants.{Svg, Chart}
+
+-- `svg` or `text`
+abbrev pub form_named : List ℕ → Option Form
+form_named word =
+    if bytes_eq word (codes "svg") then Some Svg else if bytes_eq word (codes "text") then Some Chart else None
+
+-- an event's number, from 1 and below 2^32, in decimal without a zero too many
+abbrev pub is_spare : List ℕ → Bool
+is_spare word = slice_index word 0 == 48
+
+abbrev pub event_named : List ℕ → Option ℕ
+event_named word = if is_spare word then None else result_ok (number_of Decimal (2 ^ 32 - 1) word)
+
+-- the events from one to another, counted from 1
+abbrev pub span_of : Form → Option ℕ → Option ℕ → Option Command
+span_of form (Some from) (Some to) = if nat_le from to then Some (record { form = form; from = from; to = to }) else None
+span_of form None to = None
+span_of form (Some from) None = None
+
+abbrev pub command_by : Option Form → List (List ℕ) → Option Command
+command_by None words = None
+command_by (Some form) [] = Some (record { form = form; from = 1; to = 2 ^ 32 - 1 })
+command_by (Some form) (from ∷ to ∷ []) = span_of form (event_named from) (event_named to)
+command_by (Some form) words = None
+
+abbrev pub command_named : List (List ℕ) → Option Command
+command_named [] = None
+command_named (word ∷ words) = command_by (form_named word) words
+
+-- THE COMMAND that the words name: all events, or those from one to another
+abbrev pub command_of : List (String Global) → Option Command
+command_of words = command_named (map string_bytes words)
+
+unfoldable pub usage_text : List ℕ
+usage_text = codes "usage: hpview svg or text [FROM TO] < SCRIPT, with the trace in hp.trace" ++ 10 ∷ []
+
+unfoldable pub script_word : ScriptKind → List ℕ
+script_word fault.Word = codes "word"
+script_word fault.Number = codes "number"
+script_word fault.UnitUnknown = codes "unitunknown"
+script_word fault.UnitTwice = codes "unittwice"
+script_word fault.IdTwice = codes "idtwice"
+script_word fault.Count = codes "count"
+script_word fault.Data = codes "data"
+script_word fault.Bits = codes "bits"
+script_word fault.LateUnit = codes "lateunit"
+script_word fault.TooMany = codes "toomany"
+script_word fault.LineLong = codes "linelong"
+script_word fault.ScriptLong = codes "scriptlong"
+
+unfoldable pub trace_word : TraceKind → List ℕ
+trace_word kinds.Long = codes "long"
+trace_word kinds.Word = codes "word"
+trace_word kinds.Order = codes "order"
+trace_word kinds.Script = codes "script"
+
+unfoldable pub script_refused : List ℕ
+script_refused = codes "refused line "
+
+unfoldable pub trace_refused : List ℕ
+trace_refused = codes "refused trace line "
+
+-- `refused line L KIND`, and `refused trace line L KIND`
+abbrev pub script_refusal : ℕ → ScriptKind → List ℕ
+script_refusal line kind = script_refused ++ decimal line ++ codes " " ++ script_word kind ++ 10 ∷ []
+
+abbrev pub trace_refusal : ℕ → TraceKind → List ℕ
+trace_refusal line kind = trace_refused ++ decimal line ++ codes " " ++ trace_word kind ++ 10 ∷ []

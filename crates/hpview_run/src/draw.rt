@@ -1,0 +1,63 @@
+// A run is drawn.
+ghost use Rattle.std.specs.Prelude.{◌≡◌, ◌-◌, ◌≢◌, ℕ, List, IfOk, IfErr};
+ghost use Rattle.hpview_run.specs.Drawing.{Draws, IsDrawn, IsDrawnAs};
+ghost use Rattle.hpview_run.specs.Loading.{Loads, RefusesScript, RefusesTrace};
+
+use crate::load::{Loaded, ViewFault};
+use crate::words::{Command, Form};
+use picture_chart::chart;
+use picture_sheet::Sheet;
+use picture_svg::svg;
+use run_lines::script_law;
+use run_view::{View, caption_of, view_run};
+use std::alloc::{AllocError, Global};
+
+/// The picture of a sheet in a form.
+fn draw_sheet(alloc: Global, form: Form, sheet: &Sheet<'_>) -> Result<Vec<u8>, AllocError>
+    ensures { IfOk result (λ picture. IsDrawnAs form sheet.now picture.items) }
+{
+    match form {
+        Form::Svg => svg(alloc, sheet),
+        Form::Chart => chart(alloc, sheet),
+    }
+}
+
+/// The picture of what is shown of a run, in a form, under the caption of its script.
+fn draw(alloc: Global, form: Form, text: &[u8], view: &View<'_>) -> Result<Vec<u8>, ViewFault>
+    ensures ok { IfOk result (λ picture. IsDrawn form view.now picture.items) }
+    ensures memory { IfErr result (λ fault. fault ≡ ViewFault.Memory) }
+{
+    let sheet = Sheet {
+        caption: caption_of(text),
+        run: &view.run,
+        window: view.window,
+        texts: view.texts.as_slice(),
+        notes: view.notes.as_slice(),
+    };
+    match draw_sheet(alloc, form, &sheet) {
+        Ok(picture) => Ok(picture),
+        Err(_) => Err(ViewFault::Memory),
+    }
+}
+
+/// What is drawn of the run of a script and of the bytes of its trace.
+pub(crate) fn draw_run(
+    alloc: Global,
+    command: Command,
+    loaded: &Loaded,
+    bytes: &[u8],
+) -> Result<Vec<u8>, ViewFault>
+    requires { Loads loaded.now.text.items loaded.now.script }
+    ensures ok { IfOk result (λ picture. Draws command loaded.now.text.items bytes.now picture.items) }
+    ensures trace_refused { IfErr result (λ fault. RefusesTrace fault loaded.now.text.items bytes.now) }
+    ensures script { IfErr result (λ fault. (text : List ℕ) → RefusesScript fault text) }
+    ensures inside { IfErr result (λ fault. fault ≢ ViewFault.Failed) }
+{
+    script_law();
+    let text = loaded.text.as_slice();
+    let first = command.from.saturating_sub(1);
+    match view_run(alloc, &loaded.script, text, bytes, first, command.to) {
+        Ok(view) => draw(alloc, command.form, text, &view),
+        Err(fault) => Err(ViewFault::from(fault)),
+    }
+}

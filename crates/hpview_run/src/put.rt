@@ -1,0 +1,64 @@
+// What is printed, and the status that comes of it.
+ghost use Rattle.std.specs.Prelude.{◌≡◌, ◌⊎◌, ◌++◌, IsTrue};
+ghost use Rattle.outside_traits.specs.Causes.{Rose};
+ghost use Rattle.outside_traits.specs.Puts.{TakesFront};
+ghost use Rattle.hpview_run.specs.declared.status.Status.TheVariants.{Done, Usage, SinkFailed};
+ghost use Rattle.hpview_run.specs.Drawing.{Told, TellsFault};
+ghost use Rattle.hpview_run.specs.Statuses.{status_of};
+ghost use Rattle.hpview_run.specs.Words.{script_refusal, trace_refusal, usage_text};
+
+use crate::load::ViewFault;
+use crate::status::Status;
+use crate::text::{script_refusal, trace_refusal, usage};
+use mass_text::LineBuf;
+use outside_traits::traits::Sink;
+use outside_traits::whole::write_all;
+
+/// A picture is printed.
+pub(crate) fn put_picture<O: Sink>(picture: &[u8], out: &mut O) -> Status
+    ensures status { (result ≡ Done) ⊎ (result ≡ SinkFailed) }
+    ensures done { result ≡ Done → IsTrue (O.tells out.new) → O.taken out.new ≡ O.taken out.old ++ picture.now }
+    ensures stopped { result ≡ SinkFailed → IsTrue (O.tells out.new) → TakesFront (O.taken out.old) (O.taken out.new) picture.now }
+    ensures sink { result ≡ SinkFailed → Rose (O.faults out.old) (O.faults out.new) }
+{
+    match write_all(out, picture) {
+        Ok(()) => Status::Done,
+        Err(_) => Status::SinkFailed,
+    }
+}
+
+/// A line is printed, as far as the sink takes it.
+fn put_line<O: Sink>(line: &LineBuf, out: &mut O)
+    ensures { IsTrue (O.tells out.new) → Told (O.taken out.old) (O.taken out.new) line.now (O.faults out.old) (O.faults out.new) }
+{
+    let _ = write_all(out, line.as_bytes());
+}
+
+/// The usage is printed.
+pub(crate) fn put_usage<O: Sink>(out: &mut O) -> Status
+    ensures status { result ≡ Usage }
+    ensures told { IsTrue (O.tells out.new) → Told (O.taken out.old) (O.taken out.new) usage_text (O.faults out.old) (O.faults out.new) }
+{
+    put_line(&usage(), out);
+    Status::Usage
+}
+
+/// What is wrong is printed, where that is the script or the trace.
+pub(crate) fn put_fault<O: Sink>(fault: ViewFault, out: &mut O) -> Status
+    ensures status { result ≡ status_of fault }
+    ensures told { IsTrue (O.tells out.new) → TellsFault fault (O.taken out.old) (O.taken out.new) (O.faults out.old) (O.faults out.new) }
+    ensures silent { (fault ≡ ViewFault.Memory) ⊎ (fault ≡ ViewFault.Failed) → out.new ≡ out.old }
+{
+    match fault {
+        ViewFault::Memory => Status::OutOfMemory,
+        ViewFault::Failed => Status::SourceFailed,
+        ViewFault::Script { line, kind } => {
+            put_line(&script_refusal(line, kind), out);
+            Status::Refused
+        }
+        ViewFault::Trace { line, kind } => {
+            put_line(&trace_refusal(line, kind), out);
+            Status::Refused
+        }
+    }
+}

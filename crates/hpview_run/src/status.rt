@@ -1,0 +1,35 @@
+ghost use Rattle.std.specs.Prelude.{◌≡◌};
+ghost use Rattle.hpview_run.specs.Statuses.{status_code};
+
+/// How a run of the program ends.
+#[derive(Clone, Copy, Debug, PartialEq, Eq)]
+pub enum Status {
+    /// The picture is drawn.
+    Done,
+    /// The words are no command.
+    Usage,
+    /// The bytes of the script spell none, or those of the trace spell none of the script.
+    Refused,
+    /// A call of the script's source or of the trace's failed.
+    SourceFailed,
+    /// A call of the sink failed.
+    SinkFailed,
+    /// There was no memory.
+    OutOfMemory,
+}
+
+impl Status {
+    /// The number that the program ends with.
+    pub fn code(self) -> u8
+        ensures { result ≡ status_code self }
+    {
+        match self {
+            Status::Done => 0,
+            Status::Usage => 2,
+            Status::Refused => 3,
+            Status::SourceFailed => 4,
+            Status::SinkFailed => 5,
+            Status::OutOfMemory => 9,
+        }
+    }
+}

@@ -1,0 +1,86 @@
+ghost use Rattle.std.specs.Prelude.{◌≡◌, ◌-◌, ◌^◌, ◌<◌, ◌≤◌, map, IfSome, Some, None};
+ghost use Rattle.std.specs.String.{string_bytes};
+ghost use Rattle.hpview_run.specs.Words.{form_named, event_named, span_of, command_by, command_named};
+
+use mass_text::{Radix, number};
+
+/// How a run is drawn.
+#[derive(Clone, Copy, Debug, PartialEq, Eq)]
+pub enum Form {
+    /// For a browser.
+    Svg,
+    /// For a terminal.
+    Chart,
+}
+
+/// What the words of the command line ask for: a form, and the events from one to another, counted from 1.
+#[derive(Clone, Copy, Debug, PartialEq, Eq)]
+pub struct Command {
+    pub form: Form,
+    pub from: u64,
+    pub to: u64,
+}
+
+/// The largest number of an event.
+const LAST: u64 = 4_294_967_295;
+
+/// `svg` or `text`.
+fn form_in(word: &str) -> Option<Form>
+    ensures { result ≡ form_named word.now }
+{
+    if word == "svg" {
+        Some(Form::Svg)
+    } else if word == "text" {
+        Some(Form::Chart)
+    } else {
+        None
+    }
+}
+
+/// An event's number.
+fn event_in(word: &str) -> Option<u64>
+    ensures event { result ≡ event_named word.now }
+{
+    let bytes = word.as_bytes();
+    if !bytes.is_empty() && bytes[0] == b'0' {
+        return None;
+    }
+    match number(bytes, Radix::Decimal, LAST) {
+        Ok(event) => Some(event),
+        Err(_) => None,
+    }
+}
+
+/// The events from one to another.
+fn span_in(form: Form, from: &str, to: &str) -> Option<Command>
+    ensures { result ≡ span_of form (event_named from.now) (event_named to.now) }
+{
+    let from = event_in(from)?;
+    let to = event_in(to)?;
+    if from <= to {
+        Some(Command { form, from, to })
+    } else {
+        None
+    }
+}
+
+/// The command that the words name; None where they name none.
+pub(crate) fn command_of(words: &[String]) -> Option<Command>
+    ensures { result ≡ command_named (map string_bytes words.now) }
+{
+    match words {
+        [form] => {
+            let form = form_in(form.as_str())?;
+            Some(Command {
+                form,
+                from: 1,
+                to: LAST,
+            })
+        }
+        [form, from, to] => {
+            let form = form_in(form.as_str())?;
+            span_in(form, from.as_str(), to.as_str())
+        }
+        _ => None,
+    }
+}

@@ -1,0 +1,147 @@
+// Charts, refusals, and what fails.
+use crate::views::{Faults, NONE, view_of};
+use std::alloc::Global;
+use std::test::Fail;
+
+/// A command with its script and its trace, its status, and what it prints.
+struct End {
+    line: &'static str,
+    script: &'static [u8],
+    trace: &'static [u8],
+    status: u8,
+    text: &'static [u8],
+}
+
+/// Charts of whole runs and of a part of one, of a run of nothing, and refusals.
+const ENDS: [End; 13] = [
+    End {
+        line: "text 3 6",
+        script: b"# Two flipped bits that lie close together are repaired in memory.\nunit 0 rp06\nwrite 1 0 c 5 1 fill 5a\ndrain\nnoise 0 5 1 4 12\nturn 0 0\nread 2 0 c 5 1\n",
+        trace: b"cmd 3 0 1 wcom 5 1\nsector 4 0 1 5 clean\nintr 4 0 1\nend 4 0 1\ncmd 7 0 2 rcom 5 1\nsector 8 0 2 5 burst 5 401\nintr 8 0 2\ncmd 8 0 2 dclr\nend 8 0 2\n",
+        status: 0,
+        text: b"Two flipped bits that lie close together are repaired in memory.\nRequests: 2; ok: 2; served out of the order asked: 0.\nEvents: 8; to a column: 1.\nDrives positioning at once: at most 0, first at line 3.\nSectors moved after 2 events; after 0 of them another drive was positioning.\n\nline              4567\nadapter 0 held by    0\nunit 0 rp06       ...#\n  marks           vn@q\n  arm to 0        0000\n  queue              1\nevent             3           \n\n   request op    unit cylinder   asked answered answer       done queued on way  ready  trans  turn\n         1 write    0        0       3        4 ok              1      0      0      0      2    1 \n         2 read     0        0       7        8 ok              1      0      0      0      2    2 \n\ndrive  S arm moves  s turns to its sector  C recalibrates  O sets an offset  ! arrived, attention up\n       : ready, adapter busy  # sectors move  T tries again  R at a replacement  ^ interrupt up\nmarks  q asked for  ' attention up  a taken  i interrupt taken  o sector  v ok  B burst, repaired\n       E not repairable  F fault  M marked  x offline  t try failed  X stopped  + - offset\n       n noise  f fault armed  @ turned  d offline  u online  l locked  k unlocked  P acknowledged\narm    0 to 9, from cylinder 0 to the highest         queue  requests not answered, + above 9\n",
+    },
+    End {
+        line: "text",
+        script: b"unit 0 rp06\nread 1 0 c 0 1\n",
+        trace: b"cmd 2 0 1 search 0 19\narrive 3 0 1\nattn 3 0 1\ncmd 3 0 1 rcom 0 1\nsector 3 0 1 0 clean\nintr 3 0 1\nend 3 0 1\n",
+        status: 0,
+        text: b"A run of hpsim\nRequests: 1; ok: 1; served out of the order asked: 0.\nEvents: 5; to a column: 1.\nDrives positioning at once: at most 1, first at line 2.\nSectors moved after 1 events; after 0 of them another drive was positioning.\n\nline              23   \nadapter 0 held by   00 \n  positioning     1    \nunit 0 rp06       s!#^.\n  marks           q'aov\n  arm to 0        00000\n  queue           1111 \nevent             1           \n\n   request op    unit cylinder   asked answered answer       done queued on way  ready  trans  turn\n         1 read     0        0       2        3 ok              1      0      2      0      2    1 \n\ndrive  S arm moves  s turns to its sector  C recalibrates  O sets an offset  ! arrived, attention up\n       : ready, adapter busy  # sectors move  T tries again  R at a replacement  ^ interrupt up\nmarks  q asked for  ' attention up  a taken  i interrupt taken  o sector  v ok  B burst, repaired\n       E not repairable  F fault  M marked  x offline  t try failed  X stopped  + - offset\n       n noise  f fault armed  @ turned  d offline  u online  l locked  k unlocked  P acknowledged\narm    0 to 9, from cylinder 0 to the highest         queue  requests not answered, + above 9\n",
+    },
+    End {
+        line: "text",
+        script: b"",
+        trace: b"",
+        status: 0,
+        text: b"A run of hpsim\nRequests: 0; ok: 0; served out of the order asked: 0.\nEvents: 0; to a column: 1.\nDrives positioning at once: at most 0, first at line 0.\nSectors moved after 0 events; after 0 of them another drive was positioning.\n\n   request op    unit cylinder   asked answered answer       done queued on way  ready  trans  turn\n\ndrive  S arm moves  s turns to its sector  C recalibrates  O sets an offset  ! arrived, attention up\n       : ready, adapter busy  # sectors move  T tries again  R at a replacement  ^ interrupt up\nmarks  q asked for  ' attention up  a taken  i interrupt taken  o sector  v ok  B burst, repaired\n       E not repairable  F fault  M marked  x offline  t try failed  X stopped  + - offset\n       n noise  f fault armed  @ turned  d offline  u online  l locked  k unlocked  P acknowledged\narm    0 to 9, from cylinder 0 to the highest         queue  requests not answered, + above 9\n",
+    },
+    End {
+        line: "svg",
+        script: b"unit 0 rp06\nread 1 0 c 0 1\nnothing\n",
+        trace: b"cmd 2 0 1 search 0 19\narrive 3 0 1\nattn 3 0 1\ncmd 3 0 1 rcom 0 1\nsector 3 0 1 0 clean\nintr 3 0 1\nend 3 0 1\n",
+        status: 3,
+        text: b"refused line 3 word\n",
+    },
+    End {
+        line: "text",
+        script: b"unit 0 rp06\nread 1 0 c 0 1\nnothing\n",
+        trace: b"cmd 2 0 1 search 0 19\narrive 3 0 1\nattn 3 0 1\ncmd 3 0 1 rcom 0 1\nsector 3 0 1 0 clean\nintr 3 0 1\nend 3 0 1\n",
+        status: 3,
+        text: b"refused line 3 word\n",
+    },
+    End {
+        line: "svg",
+        script: b"unit 0 rp06\nread 1 0 c 0 1\n",
+        trace: b"cmd 2 0 1 search 0 19\narrive 3 0 1\nattn 3 0 1\ncmd 3 0 1 rcom 0 1\nsector 3 0 1 0 clean\nintr 3 0 1\nend 3 0 1\nend 2 0 1\n",
+        status: 3,
+        text: b"refused trace line 8 order\n",
+    },
+    End {
+        line: "text",
+        script: b"unit 0 rp06\nread 1 0 c 0 1\n",
+        trace: b"cmd 2 0 1 search 0 19\narrive 3 0 1\nattn 3 0 1\ncmd 3 0 1 rcom 0 1\nsector 3 0 1 0 clear\nintr 3 0 1\nend 3 0 1\n",
+        status: 3,
+        text: b"refused trace line 5 word\n",
+    },
+    End {
+        line: "svg",
+        script: b"unit 0 rp06\nread 1 0 c 0 1\n",
+        trace: b"cmd 2 0 1 search 0 19\narrive 3 0 1\nattn 3 0 1\ncmd 3 0 1 rcom 0 1\nsector 3 0 1 0 clean\nintr 3 0 1\nend 3 0 1\nidle 9\n",
+        status: 3,
+        text: b"refused trace line 8 script\n",
+    },
+    End {
+        line: "svg",
+        script: b"unit 0 rp06\nread 1 0 c 0 1\n",
+        trace: b"cmd 2 0 1 search 0 19\narrive 3 0 1\nattn 3 0 1\ncmd 3 0 1 rcom 0 1\nsector 3 0 1 0 clean\nintr 3 0 1\nend 3 0 1x",
+        status: 3,
+        text: b"refused trace line 7 word\n",
+    },
+    End {
+        line: "svg 5 3",
+        script: b"unit 0 rp06\nread 1 0 c 0 1\n",
+        trace: b"cmd 2 0 1 search 0 19\narrive 3 0 1\nattn 3 0 1\ncmd 3 0 1 rcom 0 1\nsector 3 0 1 0 clean\nintr 3 0 1\nend 3 0 1\n",
+        status: 2,
+        text: b"usage: hpview svg or text [FROM TO] < SCRIPT, with the trace in hp.trace\n",
+    },
+    End {
+        line: "svg 0 3",
+        script: b"unit 0 rp06\nread 1 0 c 0 1\n",
+        trace: b"cmd 2 0 1 search 0 19\narrive 3 0 1\nattn 3 0 1\ncmd 3 0 1 rcom 0 1\nsector 3 0 1 0 clean\nintr 3 0 1\nend 3 0 1\n",
+        status: 2,
+        text: b"usage: hpview svg or text [FROM TO] < SCRIPT, with the trace in hp.trace\n",
+    },
+    End {
+        line: "text 3",
+        script: b"unit 0 rp06\nread 1 0 c 0 1\n",
+        trace: b"cmd 2 0 1 search 0 19\narrive 3 0 1\nattn 3 0 1\ncmd 3 0 1 rcom 0 1\nsector 3 0 1 0 clean\nintr 3 0 1\nend 3 0 1\n",
+        status: 2,
+        text: b"usage: hpview svg or text [FROM TO] < SCRIPT, with the trace in hp.trace\n",
+    },
+    End {
+        line: "draw",
+        script: b"unit 0 rp06\nread 1 0 c 0 1\n",
+        trace: b"cmd 2 0 1 search 0 19\narrive 3 0 1\nattn 3 0 1\ncmd 3 0 1 rcom 0 1\nsector 3 0 1 0 clean\nintr 3 0 1\nend 3 0 1\n",
+        status: 2,
+        text: b"usage: hpview svg or text [FROM TO] < SCRIPT, with the trace in hp.trace\n",
+    },
+];
+
+/// The first of these commands that ends otherwise, or their number.
+fn first_other(alloc: Global) -> Result<usize, Fail> {
+    for (i, end) in ENDS.iter().enumerate() {
+        if !view_of(alloc, end.line, end.script, end.trace, NONE)?.is(end.status, end.text) {
+            return Ok(i);
+        }
+    }
+    Ok(ENDS.len())
+}
+
+#[test]
+fn each_end(rt: HostRuntime) -> Result<(), Fail> {
+    let other = first_other(rt.alloc())?;
+    assert_eq!(rt; other, ENDS.len());
+    Ok(())
+}
+
+/// What comes where the first call of the script's source, of the trace's, or of the sink fails: the statuses, and what is printed.
+fn failed(alloc: Global) -> Result<[(u8, usize); 3], Fail> {
+    let mut ends = [(0u8, 0usize); 3];
+    for i in 0..3usize {
+        let faults = Faults {
+            script: u64::from(i == 0),
+            trace: u64::from(i == 1),
+            out: u64::from(i == 2),
+        };
+        let ended = view_of(alloc, "svg", ENDS[0].script, ENDS[0].trace, faults)?;
+        ends[i] = (ended.status, ended.out.taken().len());
+    }
+    Ok(ends)
+}
+
+#[test]
+fn what_fails(rt: HostRuntime) -> Result<(), Fail> {
+    let ends = failed(rt.alloc())?;
+    assert_eq!(rt; ends, [(4, 0), (4, 0), (5, 0)]);
+    Ok(())
+}
