@@ -4,6 +4,7 @@ use std::alloc::Global;
 use std::test::Fail;
 
 /// A command with its script and its trace, its status, and what it prints.
+#[derive(Clone, Copy)]
 struct End {
     line: &'static str,
     script: &'static [u8],
