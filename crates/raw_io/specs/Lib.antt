@@ -1,0 +1,5 @@
+pub mod Bytes
+pub mod Transfers
+pub mod Calls
+pub mod Blocks
+pub mod Pieces

@@ -1,0 +1,1 @@
+// Memory is dumped to the end of the partition for swapping.
