@@ -1,16 +1,15 @@
 -- WHOLE BLOCKS of a partition, read or written by requests that are waited for.
 use Rattle.std.specs.Prelude.{◌≡◌, ◌≢◌, ℕ, ◌+◌, ◌*◌, ◌<◌, ◌≤◌, min, IsTrue, true, false, List, None, Some, IsSome}
-use Rattle.pack_model.specs.Pack.{block_at}
 use Rattle.partitions.specs.Partitions.{first_of}
 use Rattle.subsystem_spec.specs.Requests.{Request}
 use Rattle.block_machine.specs.Machine.{Blocks, blocks_done, bytes_of_first}
-use Rattle.block_machine.specs.Stands.{home_in}
 use Rattle.waited_requests.specs.Rest.{HasTables}
 use Rattle.blocking_io.specs.declared.reached.Reached.{Reached}
 use Rattle.blocking_io.specs.declared.reached.Reached.TheVariants.{All, Before, Outside, AtEnd}
 use Rattle.blocking_io.specs.Given.{laid}
 use Rattle.blocking_io.specs.Calls.{Stage}
 use Rattle.blocking_io.specs.Asking.{setup_at}
+use Rattle.request_fronts.specs.Fronts.{OthersStay}
 use Rattle.raw_io.specs.Bytes.{range}
 use Rattle.raw_io.specs.Transfers.{Transfers}
 use Rattle.raw_io.specs.Calls.{kind_at, map_at, left_map}
@@ -32,7 +31,7 @@ abbrev pub origin : Stage → Request → ℕ
 origin s r = first_of (kind_at s.world r.unit) r.part
 
 pub record IsUnchanged (old new : Stage) : Type 0 where
-  pub map : (u block : ℕ) → map_at new u block ≡ map_at old u block
+  pub map : map_at new ≡ map_at old
 
 -- ONE READ of them gives all, or nothing.
 pub record ReadsOnce (r : Request) (n : ℕ) (into into' : List ℕ) (old new : Stage) : Type 0 where
@@ -75,4 +74,4 @@ pub record PutsFront (r : Request) (old new : Stage) : Type 0 where
   pub usable : (k : ℕ) → k < done → IsSome (map_at old r.unit (origin old r + r.block + k))
   pub written : (block : ℕ) → left_map old new r.unit block ≡ blocks_done (map_at old r.unit) (origin old r + r.block) r done block
   pub map : (u block : ℕ) → u ≢ r.unit → left_map old new u block ≡ map_at old u block
-  pub others : (u sector : ℕ) → ((block : ℕ) → home_in (setup_at old) u block ≡ Some sector → ⊥) → block_at (new.held u).image sector ≡ block_at (old.held u).image sector
+  pub others : OthersStay (setup_at old) new.held

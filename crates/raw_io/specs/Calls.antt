@@ -1,9 +1,7 @@
 -- WHAT A RAW TRANSFER COMES TO, over what the packs hold before.
 use Rattle.std.specs.Prelude.{◌≡◌, ◌≢◌, ◌⊎◌, ℕ, ◌+◌, ◌%◌, ◌≤◌, List, take, length, Option, None, Some, Result, Ok, Err}
-use Rattle.pack_model.specs.Pack.{block_at}
 use Rattle.pack_geometry.specs.declared.DriveKind.{DriveKind}
 use Rattle.block_machine.specs.Machine.{Blocks}
-use Rattle.block_machine.specs.Stands.{home_in}
 use Rattle.driver_machine.specs.World.{World, unit_at}
 use Rattle.driver_outcome.specs.declared.Stop.{Stop}
 use Rattle.driver_outcome.specs.declared.Stop.TheVariants as stopped
@@ -11,6 +9,7 @@ use Rattle.waited_requests.specs.Waited.{map_of, with_packs}
 use Rattle.blocking_io.specs.Given.{laid}
 use Rattle.blocking_io.specs.Calls.{Stage}
 use Rattle.blocking_io.specs.Asking.{setup_at}
+use Rattle.request_fronts.specs.Fronts.{OthersStay}
 use Rattle.raw_io.specs.declared.fault.RawFault.{RawFault}
 use Rattle.raw_io.specs.declared.fault.RawFault.TheVariants.{Outside, Unusable, Store, Sink}
 use Rattle.raw_io.specs.Bytes.{range, ComesTo, with_range}
@@ -27,7 +26,7 @@ map_at s = map_of (setup_at s)
 pub record ReadsRange (unit first at done : ℕ) (into into' : List ℕ) (old new : Stage) : Type 0 where
   pub comes : ComesTo (map_at old unit) first at (length into) done
   pub bytes : into' ≡ laid (range done (map_at old unit) first at) into
-  pub map : (u block : ℕ) → map_at new u block ≡ map_at old u block
+  pub map : map_at new ≡ map_at old
 
 -- A WRITE OF A RANGE replaces its bytes, so many, and nothing else.
 pub record WritesRange (unit first at done : ℕ) (from : List ℕ) (old new : Stage) : Type 0 where
@@ -49,12 +48,12 @@ pub record StopsAt (unit first at : ℕ) (from : List ℕ) (old new : Stage) : T
   pub whole : EndsBlock at (length from) done
   pub written : (block : ℕ) → left_map old new unit block ≡ with_range (map_at old unit) first at (take done from) block
   pub map : (u block : ℕ) → u ≢ unit → left_map old new u block ≡ map_at old u block
-  pub others : (u sector : ℕ) → ((block : ℕ) → home_in (setup_at old) u block ≡ Some sector → ⊥) → block_at (new.held u).image sector ≡ block_at (old.held u).image sector
+  pub others : OthersStay (setup_at old) new.held
 
 -- or nothing is changed at all
 pub record IsUntouched (old new : Stage) : Type 0 where
   pub map : (u block : ℕ) → left_map old new u block ≡ map_at old u block
-  pub others : (u sector : ℕ) → ((block : ℕ) → home_in (setup_at old) u block ≡ Some sector → ⊥) → block_at (new.held u).image sector ≡ block_at (old.held u).image sector
+  pub others : OthersStay (setup_at old) new.held
 
 -- THE ANSWER: what stopped it, if something did, and how many bytes were done where nothing did
 abbrev pub stop_of : {A : Type 0} → Result A RawFault → Option Stop

@@ -1,12 +1,11 @@
 -- REQUESTS OF A TRANSFER: of whole blocks of one partition, at line 1 and with id 0, each waited for before the next one.
-use Rattle.std.specs.Prelude.{◌≡◌, ℕ, ◌+◌, ◌≤◌, Bool, true, IsTrue, List, [], ◌∷◌, Option, None, Some}
+use Rattle.std.specs.Prelude.{◌≡◌, ℕ, ◌+◌, ◌≤◌, Bool, true, IsTrue, List, [], ◌∷◌, Option, None}
 use Rattle.pack_geometry.specs.declared.DriveKind.{DriveKind}
 use Rattle.partitions.specs.Partitions.{size_of}
-use Rattle.pack_model.specs.Pack.{Pack, block_at}
+use Rattle.pack_model.specs.Pack.{Pack}
 use Rattle.partitions.specs.declared.Part.{Part}
 use Rattle.subsystem_spec.specs.Requests.{Request}
 use Rattle.trace_replay.specs.Script.{Submit, Drain}
-use Rattle.block_machine.specs.Stands.{Setup, home_in}
 use Rattle.driver_machine.specs.World.{World}
 use Rattle.driver_machine.specs.Guards.{IsSetUp}
 use Rattle.driver_outcome.specs.declared.Stop.{Stop}
@@ -18,6 +17,7 @@ use Rattle.blocking_io.specs.declared.reached.Reached.TheVariants.{Before}
 use Rattle.blocking_io.specs.Calls.{Stage, stage}
 use Rattle.blocking_io.specs.Asking.{IsReady, setup_at}
 use Rattle.blocking_io.specs.Sessions.{GoesOn}
+use Rattle.request_fronts.specs.Fronts.{OthersStay}
 
 -- a request of one, which only reads where the transfer does
 pub record IsAsk (reads : Bool) (unit : ℕ) (part : Part) (r : Request) : Type 0 where
@@ -52,8 +52,7 @@ pub record Transfers (reads : Bool) (unit : ℕ) (part : Part) (old new : Stage)
   pub parts : List SessionPart
   pub waited : AreWaited reads unit part parts
   pub goes : GoesOn parts old new
-  pub others : IsTrue new.packs_tell → HasTables (setup_at old) → (u sector : ℕ) → ((block : ℕ) → home_in (setup_at old) u block ≡ Some sector → ⊥)
-      → block_at (new.held u).image sector ≡ block_at (old.held u).image sector
+  pub others : IsTrue new.packs_tell → HasTables (setup_at old) → OthersStay (setup_at old) new.held
 
 -- WHAT IS KEPT by each call, at every answer.
 pub record Keeps {O Q : Type 0} (holds : Q → Bool) (packs_faults : Q → ℕ) (tells : O → Bool) (faults : O → ℕ) (old new : State) (packs packs' : Q) (trace trace' : O) (stop : Option Stop) : Type 0 where

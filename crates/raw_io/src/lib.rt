@@ -12,4 +12,4 @@ mod writing;
 
 pub use fault::RawFault;
 pub use reading::raw_read;
-pub use writing::{dump, raw_write};
+pub use writing::raw_write;

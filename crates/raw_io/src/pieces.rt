@@ -1,7 +1,7 @@
 // Pieces of a range, each of as many blocks as one request has.
 ghost use Rattle.std.specs.Prelude.{◌≡◌, ◌≤◌, ◌<◌, ◌+◌, ◌^◌, ◌⊎◌, ◌↔◌, true, false, IsTrue};
 ghost use Rattle.raw_io.specs.Bytes.{IsOutside};
-ghost use Rattle.raw_io.specs.Pieces.{IsPiece, IsWhole, bytes_among};
+ghost use Rattle.raw_io.specs.Pieces.{IsPiece, IsWholeOrOne, bytes_among};
 
 use hp_driver::Request;
 use pack_geometry::DriveKind;
@@ -60,7 +60,7 @@ pub(crate) fn piece_to_write(unit: u8, part: Part, place: u64, left: usize) -> P
     requires some { 1 ≤ left }
     requires few { place + left < 2 ^ 32 }
     ensures piece { IsPiece unit part true place left result }
-    ensures whole { IsWhole result ⊎ (result.request.count ≡ 1) }
+    ensures whole { IsWholeOrOne result }
 {
     let skip = place % 512;
     let block = (place / 512) as u32;

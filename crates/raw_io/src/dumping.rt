@@ -1,1 +1,0 @@
-// Memory is dumped to the end of the partition for swapping.
