@@ -1,2 +1,6 @@
 mod Ranges
 mod Replaced
+mod Asks
+mod Joins
+mod Steps
+mod Reading
