@@ -4,3 +4,6 @@ mod Asks
 mod Joins
 mod Steps
 mod Reading
+mod ReadRanges
+mod Writing
+mod WriteRanges

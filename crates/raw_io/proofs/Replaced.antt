@@ -286,3 +286,37 @@ edge_written blocks now first at d b skip size from content buffer r long so_far
         ∙ sym (block_edge b at d size skip from had.bytes begins either room))
         ∙ ap (with_bytes b at (take (d + size) from)) (sym had.is)
         ∙ ap (λ z. with_bytes z at (take (d + size) from) (blocks (first + z))) (sym same)
+
+-- ---- no bytes replaced, and what can be used stays so
+pub none_replaced : (blocks : Blocks) (first at block : ℕ) → with_range blocks first at [] block ≡ blocks block
+none_replaced blocks first at block = by (nat_le first block) refl
+  where
+    within : (content : Option (List ℕ)) → with_bytes (block - first) at [] content ≡ content
+    within None = refl
+    within (Some bytes) = ap Some (ap (λ zs. laid_at (at - 512 * (block - first)) zs bytes) (drop_all (512 * (block - first) - at) [] (omega arith)) ∙ laid_at_none (at - 512 * (block - first)) bytes)
+
+    by : (b : Bool) → nat_le first block ≡ b → (if b then with_bytes (block - first) at [] (blocks block) else blocks block) ≡ blocks block
+    by true is = within (blocks block)
+    by false is = refl
+
+some_before : (k at : ℕ) (from : List ℕ) (content : Option (List ℕ)) → IsSome (with_bytes k at from content) → IsSome content
+some_before k at from None some = some
+some_before k at from (Some bytes) some = search rules
+
+none_before : (k at : ℕ) (from : List ℕ) (content : Option (List ℕ)) → with_bytes k at from content ≡ None → content ≡ None
+none_before k at from None none = refl
+none_before k at from (Some bytes) none = absurd (none-some (block_with k at from bytes) (sym none))
+
+pub had_some : (blocks : Blocks) (first at block : ℕ) (from : List ℕ) → IsSome (with_range blocks first at from block) → IsSome (blocks block)
+had_some blocks first at block from = by (nat_le first block)
+  where
+    by : (b : Bool) → IsSome (if b then with_bytes (block - first) at from (blocks block) else blocks block) → IsSome (blocks block)
+    by true some = some_before (block - first) at from (blocks block) some
+    by false some = some
+
+pub had_none : (blocks : Blocks) (first at block : ℕ) (from : List ℕ) → with_range blocks first at from block ≡ None → blocks block ≡ None
+had_none blocks first at block from = by (nat_le first block)
+  where
+    by : (b : Bool) → (if b then with_bytes (block - first) at from (blocks block) else blocks block) ≡ None → blocks block ≡ None
+    by true none = none_before (block - first) at from (blocks block) none
+    by false none = none
