@@ -301,7 +301,7 @@ none_replaced blocks first at block = by (nat_le first block) refl
 
 some_before : (k at : ℕ) (from : List ℕ) (content : Option (List ℕ)) → IsSome (with_bytes k at from content) → IsSome content
 some_before k at from None some = some
-some_before k at from (Some bytes) some = search rules
+some_before k at from (Some bytes) some = some
 
 none_before : (k at : ℕ) (from : List ℕ) (content : Option (List ℕ)) → with_bytes k at from content ≡ None → content ≡ None
 none_before k at from None none = refl

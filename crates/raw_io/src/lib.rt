@@ -5,11 +5,13 @@
 #![tactic(auto)]
 
 mod blocks;
+mod dumping;
 mod fault;
 mod pieces;
 mod reading;
 mod writing;
 
+pub use dumping::dump;
 pub use fault::RawFault;
 pub use reading::raw_read;
 pub use writing::raw_write;

@@ -82,7 +82,7 @@ pub(crate) fn piece_to_write(unit: u8, part: Part, place: u64, left: usize) -> P
 
 /// How many bytes of a piece lie in its first blocks.
 pub(crate) fn bytes_among(blocks: u32, skip: usize, size: usize) -> usize
-    requires { skip < 512 }
+    requires skip { skip < 512 }
     requires few { blocks ≤ 127 }
     ensures { result ≡ bytes_among blocks skip size }
 {

@@ -61,7 +61,7 @@ fn write_edge<P: Packs, T: Sink>(
 }
 
 /// Writes the bytes of a piece: how many come before the first block that can't be used.
-fn write_piece<P: Packs, T: Sink>(
+pub(crate) fn write_piece<P: Packs, T: Sink>(
     subsystem: &mut Subsystem,
     piece: Piece,
     from: &[u8],
