@@ -111,7 +111,14 @@ pub fn dump<P: Packs, T: Sink>(
     }
     let count = ((memory.len() + 511) / 512) as u32;
     let first = part_range(subsystem.kind(unit), Part::B).size - count;
-    let done = dump_range(subsystem, unit, 512 * u64::from(first), memory, packs, trace)?;
+    let done = dump_range(
+        subsystem,
+        unit,
+        512 * u64::from(first),
+        memory,
+        packs,
+        trace,
+    )?;
     if done < 512 * count as usize {
         return Err(RawFault::Unusable { done: done as u64 });
     }
