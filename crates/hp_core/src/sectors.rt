@@ -3,13 +3,13 @@ ghost use Rattle.std.specs.Prelude.{◌≡◌, ◌<◌, ◌^◌, false, IfOk, On
 ghost use Rattle.main_memory.specs.Blocks.{size_at};
 ghost use Rattle.hardware_table.specs.Moves.{was_read};
 ghost use Rattle.hardware_table.specs.Adapter.{next_block, next_window, stepped, drive_stepped};
-ghost use Rattle.drive_model.specs.Move.{MovesSector};
+ghost use Rattle.drive_model.specs.Move.{MovesSector, FailsAtPacks};
 ghost use Rattle.transfer_engine.specs.State.{segment_of};
 ghost use Rattle.driver_machine.specs.World.{unit_at, adapter_at, held_in, slot_in_hand, adapter_of, drive_of, transfer_of, block_in, with_block_in};
 ghost use Rattle.driver_machine.specs.Acts.{with_drive, with_state};
 ghost use Rattle.driver_machine.specs.Guards.{InHand, IsBusyFor};
 ghost use Rattle.driver_machine.specs.Sound.{Sound};
-ghost use Rattle.request_slots.specs.Steps.{MayStep, step_site, FailsAtPacks};
+ghost use Rattle.request_slots.specs.Steps.{MayStep, step_site};
 ghost use Rattle.hp_core.specs.Done.{TriesSector};
 
 use crate::driver::Core;
@@ -53,7 +53,7 @@ impl Core {
         // A failure.
         ensures unchanged { OnErr result (self.new ≡ self.old) }
         ensures failure { let a = (adapter_at self.old.world (adapter_of u)).state in let p = slot_in_hand (unit_at self.old.world u) in
-            FailsAtPacks P.tells P.held P.faults packs.old packs.new u a (unit_at self.old.world u).drive
+            FailsAtPacks P.tells P.held P.faults packs.old packs.new u (next_block a) (unit_at self.old.world u).drive
             (step_site self.old.world.book (P.held packs.old) self.old.world.slots p a) result }
     {
         let channel = &mut self.channels[usize::from(u / 8)];

@@ -72,7 +72,7 @@ returns-clause-moves g c =
 
 pub returns-clause-failure : goal.returns-clause-failure
 returns-clause-failure g c = record {
-  old_or_new = rw (block_before g c) at c.step_sector.ensures.old_or_new;
-  never_again = c.step_sector.ensures.never_again;
-  cause = c.step_sector.ensures.cause;
+  old_or_new = rw (block_before g c) at c.step_sector.ensures.failure.old_or_new;
+  never_again = c.step_sector.ensures.failure.never_again;
+  cause = c.step_sector.ensures.failure.cause;
 }
