@@ -2,10 +2,11 @@
 use Rattle.std.specs.Prelude.{◌≡◌, ℕ, ◌<◌, Bool, true, false, [], length}
 use Rattle.pack_geometry.specs.declared.DriveKind.{DriveKind}
 use Rattle.hardware_table.specs.declared.Work.{Work}
-use Rattle.hardware_table.specs.declared.Work.TheVariants.{Ready}
+use Rattle.hardware_table.specs.declared.Work.TheVariants.{Ready, Transfer}
 use Rattle.hardware_table.specs.Adapter.{AdapterState}
 use Rattle.hardware_table.specs.Drive.{DriveState, none_armed}
 use Rattle.main_memory.specs.Blocks.{Loan}
+use Rattle.main_memory.specs.Memory.{IsLent}
 use Rattle.mba_adapter.specs.Loaded.{loaded_buffer}
 use Rattle.block_polls.specs.declared.station.Station.{Station}
 
@@ -41,3 +42,19 @@ pub record IsStarted (loan : Loan) (block : ℕ) (write : Bool) (a : AdapterStat
   pub block_is : a.block ≡ block
   pub write_is : a.write ≡ write
   pub bytes : a.byte_count ≡ 512
+
+-- A STATION WITH A FRAME of its memory: the drive is good and ready, the adapter free, and no noise live;
+pub record HasFrame (kind : DriveKind) (loan : Loan) (station : Station) : Type 0 where
+  pub drive : Does kind Ready station.drive
+  pub free : station.adapter.busy ≡ false
+  pub frame : IsFrame loan
+  pub lent : IsLent station.memory loan
+  pub quiet : station.book.live ≡ []
+
+-- and one where the transfer between the block and the frame is begun.
+pub record IsBegun (kind : DriveKind) (loan : Loan) (block : ℕ) (write : Bool) (station : Station) : Type 0 where
+  pub drive : Does kind (Transfer write) station.drive
+  pub started : IsStarted loan block write station.adapter
+  pub frame : IsFrame loan
+  pub lent : IsLent station.memory loan
+  pub quiet : station.book.live ≡ []

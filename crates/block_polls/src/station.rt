@@ -12,7 +12,7 @@ ghost use Rattle.mba_adapter.specs.Loaded.{loaded_buffer};
 ghost use Rattle.outside_traits.specs.Causes.{HasCause};
 ghost use Rattle.block_polls.specs.Polls.{IsOldOrNew, Polls, sides_of};
 ghost use Rattle.block_polls.specs.declared.station.Polled.TheVariants.{Clean, Marked};
-ghost use Rattle.block_polls.specs.Stations.{Does, IsAtRest, IsFrame, IsStarted};
+ghost use Rattle.block_polls.specs.Stations.{Does, HasFrame, IsAtRest, IsBegun, IsFrame, IsStarted};
 ghost use Rattle.pack_geometry.specs.Geometry.{IsInside, block_count, track_and_sector};
 
 use drive_model::{Drive, Moved, NoiseBook};
@@ -174,11 +174,7 @@ impl Station {
     ) -> Result<Polled, StoreFailed>
         requires unit { unit < 32 }
         requires block { block < block_count kind }
-        requires begun { Does kind (Transfer write) self.old.drive }
-        requires started { IsStarted frame.now block write self.old.adapter }
-        requires frame { IsFrame frame.now }
-        requires lent { IsLent self.old.memory frame.now }
-        requires quiet { self.old.book.live ≡ [] }
+        requires begun { IsBegun kind frame.now block write self.old }
         ensures polls { IfOk result (Polls unit block write (P.tells packs.new)
             (sides_of (P.held packs.old) frame.now self.old.memory) (sides_of (P.held packs.new) frame.now self.new.memory)) }
         ensures drive { OnOk result (Does kind Ready self.new.drive) }
@@ -217,11 +213,7 @@ impl Station {
     ) -> Result<(Polled, Buffer<Cpu>), StoreFailed>
         requires unit { unit < 32 }
         requires block { block < block_count kind }
-        requires drive { Does kind Ready self.old.drive }
-        requires free { self.old.adapter.busy ≡ false }
-        requires quiet { self.old.book.live ≡ [] }
-        requires frame { IsFrame frame }
-        requires lent { IsLent self.old.memory frame }
+        requires rest { HasFrame kind frame self.old }
         ensures polls { IfOk result (λ told. Polls unit block write (P.tells packs.new)
             (sides_of (P.held packs.old) frame self.old.memory) (sides_of (P.held packs.new) frame self.new.memory) told.0) }
         ensures frame { IfOk result (λ told. told.1 ≡ frame) }

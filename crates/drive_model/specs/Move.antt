@@ -1,7 +1,8 @@
 -- What the move of one sector between a pack and a window leaves.
-use Rattle.std.specs.Prelude.{◌≡◌, ℕ, ◌⊎◌, Bool, true, false, IsTrue, if◌then◌else◌, List, Option}
+use Rattle.std.specs.Prelude.{◌≡◌, ℕ, ◌⊎◌, Bool, true, false, IsTrue, if◌then◌else◌, List, Option, Result, OnErr}
 use Rattle.main_memory.specs.Bytes.{front, filled}
 use Rattle.pack_model.specs.Pack.{Pack, block_at, is_marked, with_written}
+use Rattle.outside_traits.specs.Causes.{HasCause}
 use Rattle.hardware_table.specs.declared.Moved.{Moved}
 use Rattle.hardware_table.specs.Drive.{DriveState, is_writing}
 use Rattle.hardware_table.specs.Noise.{Book, strikes, book_struck}
@@ -47,3 +48,9 @@ IsOldOrNew unit block drive told old held =
     IsTrue told → (held ≡ old.held)
     ⊎ ((is_writing drive.work ≡ true) × (is_marked (old.held unit) block ≡ false)
     × (held ≡ with_written old.held unit block (filled 512 old.window)))
+
+-- IT FAILS only where the packs did, whose count of failures rose; what they leave is said above.
+pub record FailsAtPacks {Q V E : Type 0} (tells : Q → Bool) (held : Q → ℕ → Pack) (faults : Q → ℕ) (packs packs' : Q) (unit block : ℕ) (drive : DriveState) (old : Site) (result : Result V E) : Type 0 where
+  pub old_or_new : OnErr result (IsOldOrNew unit block drive (tells packs') old (held packs'))
+  pub never_again : IsTrue (tells packs') → IsTrue (tells packs)
+  pub cause : HasCause (faults packs) (faults packs') result

@@ -360,10 +360,12 @@ module _ (w : World) (line u id : ℕ) (s : Sound w) where
           there = hand_there i;
           bus = has.on_bus;
           loaded = sym has.loan;
-          busy = busy.busy;
-          under_way = busy.completion;
-          transfer = is.1.work ∙ ap (λ (b : Bool). if b then work.Ready else work.Transfer a.write) busy.completion;
-          block = inside;
+          is = record {
+            busy = busy.busy;
+            going_on = busy.completion;
+            transfer = is.1.work ∙ ap (λ (b : Bool). if b then work.Ready else work.Transfer a.write) busy.completion;
+            block = inside;
+          };
         };
         segment = block;
         small = below (next_block a) (block_count (unit_at w u).drive.kind) (2 ^ 32) inside (few_blocks (unit_at w u).drive.kind);

@@ -97,13 +97,6 @@ impl Adapter {
         self.completion
     }
 
-    /// Whether data came late in the transfer that is started.
-    pub fn data_late(&self) -> bool
-        ensures { result ≡ self.now.data_late }
-    {
-        self.data_late
-    }
-
     /// The drive of the transfer that was started last, from 0 to 7; 0 before the first.
     pub fn drive(&self) -> u8
         ensures { result ≡ self.now.drive }

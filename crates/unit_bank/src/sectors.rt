@@ -3,11 +3,11 @@ ghost use Rattle.std.specs.Prelude.{◌≡◌, ◌<◌, IfOk, OnErr, Some, lengt
 ghost use Rattle.main_memory.specs.Blocks.{size_at};
 ghost use Rattle.hardware_table.specs.Moves.{was_read};
 ghost use Rattle.hardware_table.specs.Adapter.{next_block, next_window, stepped, drive_stepped};
-ghost use Rattle.drive_model.specs.Move.{MovesSector};
+ghost use Rattle.drive_model.specs.Move.{MovesSector, FailsAtPacks};
 ghost use Rattle.driver_machine.specs.World.{block_in, with_block_in};
 ghost use Rattle.driver_machine.specs.Acts.{with_drive};
 ghost use Rattle.request_slots.specs.Requests.{held_at};
-ghost use Rattle.request_slots.specs.Steps.{MayStep, step_site, FailsAtPacks};
+ghost use Rattle.request_slots.specs.Steps.{MayStep, step_site};
 ghost use Rattle.unit_bank.specs.Row.{unit_in};
 
 use crate::bank::UnitBank;
@@ -50,7 +50,7 @@ impl UnitBank {
         // A failure.
         ensures unchanged { OnErr result ((self.new ≡ self.old) × (slots.new ≡ slots.old)
             × (adapter.new ≡ adapter.old) × (book.new ≡ book.old)) }
-        ensures failure { FailsAtPacks P.tells P.held P.faults packs.old packs.new u adapter.old (unit_in self.old u).drive
+        ensures failure { FailsAtPacks P.tells P.held P.faults packs.old packs.new u (next_block adapter.old) (unit_in self.old u).drive
             (step_site book.old (P.held packs.old) slots.old slot adapter.old) result }
     {
         slots.step(

@@ -1,13 +1,12 @@
 // The move of one sector between the pack and the memory.
-ghost use Rattle.std.specs.Prelude.{◌≡◌, ◌<◌, ◌+◌, ◌%◌, ℕ, List, true, IsTrue, MatchBool, IfOk, IsOk, OnErr, Some, IsSome, bit_or};
+ghost use Rattle.std.specs.Prelude.{◌≡◌, ◌<◌, ◌+◌, ◌%◌, ℕ, List, true, MatchBool, IfOk, IsOk, OnErr, Some, IsSome, bit_or};
 ghost use Rattle.pack_geometry.specs.Geometry.{block_count, sectors_of};
 ghost use Rattle.hardware_table.specs.Drive.{is_transferring, is_writing};
-ghost use Rattle.outside_traits.specs.Causes.{HasCause};
 ghost use Rattle.main_memory.specs.Windows.{memory_name, window_len, window_bytes, Writes};
 ghost use Rattle.hardware_table.specs.Functions.{refused};
 ghost use Rattle.hardware_table.specs.Noise.{strikes, book_struck};
 ghost use Rattle.hardware_table.specs.Moves.{stop_of, first_armed, IsReadVerdict, was_read, IsReadAs, passed, fault_used, with_fault_bits, with_mark_bits, after_move};
-ghost use Rattle.drive_model.specs.Move.{MovesSector, IsOldOrNew};
+ghost use Rattle.drive_model.specs.Move.{MovesSector, FailsAtPacks};
 ghost use Rattle.fire_code.specs.Remainder.{remainder};
 ghost use Rattle.fire_code.specs.Verdict.{Judges};
 
@@ -236,10 +235,8 @@ impl Drive {
 
         // A failure.
         ensures unchanged { OnErr result ((self.new ≡ self.old) × (book.new ≡ book.old) × (window.new ≡ window.old)) }
-        ensures old_or_new { OnErr result (IsOldOrNew unit block self.old (P.tells packs.new)
-            (record { book = book.old; held = P.held packs.old; window = window_bytes window.old }) (P.held packs.new)) }
-        ensures never_again { IsTrue (P.tells packs.new) → IsTrue (P.tells packs.old) }
-        ensures cause { HasCause (P.faults packs.old) (P.faults packs.new) result }
+        ensures failure { FailsAtPacks P.tells P.held P.faults packs.old packs.new unit block self.old
+            (record { book = book.old; held = P.held packs.old; window = window_bytes window.old }) result }
     {
         if let Some(verdict) = self.stop() {
             self.take(verdict, block);

@@ -1,14 +1,12 @@
 // One step of a transfer: the move of one sector between the drive and the loaded buffer.
-ghost use Rattle.std.specs.Prelude.{◌≡◌, ◌<◌, Bool, true, false, IsTrue, IfOk, IsOk, OnErr, IsSome, ◌⊎◌, if◌then◌else◌};
-ghost use Rattle.pack_geometry.specs.Geometry.{block_count};
-ghost use Rattle.outside_traits.specs.Causes.{HasCause};
+ghost use Rattle.std.specs.Prelude.{◌≡◌, ◌<◌, true, false, IfOk, IsOk, OnErr, IsSome, if◌then◌else◌};
 ghost use Rattle.main_memory.specs.Blocks.{Loan, size_at};
 ghost use Rattle.main_memory.specs.Memory.{IsLent, with_block};
-ghost use Rattle.hardware_table.specs.declared.Work.TheVariants.{Transfer};
 ghost use Rattle.hardware_table.specs.Moves.{stop_of, was_read};
 ghost use Rattle.hardware_table.specs.Adapter.{next_block, next_window, stepped, drive_stepped};
-ghost use Rattle.drive_model.specs.Move.{MovesSector, IsOldOrNew};
-ghost use Rattle.mba_adapter.specs.Loaded.{loaded_buffer, next_bytes};
+ghost use Rattle.drive_model.specs.Move.{MovesSector, FailsAtPacks};
+ghost use Rattle.mba_adapter.specs.Loaded.{next_bytes};
+ghost use Rattle.mba_adapter.specs.Steps.{MayMove};
 
 use crate::adapter::Adapter;
 use drive_model::{Drive, FaultKind, Moved, NoiseBook};
@@ -56,12 +54,7 @@ impl Adapter {
         book: &mut NoiseBook,
     ) -> Result<Moved, StoreFailed>
         requires unit { unit < 32 }
-        requires busy { self.old.busy ≡ true }
-        requires under_way { self.old.completion ≡ false }
-        requires loaded { buffer.now ≡ loaded_buffer self.old }
-        requires lent { IsLent memory.old buffer.now }
-        requires transfer { drive.old.work ≡ Transfer self.old.write }
-        requires block { next_block self.old < block_count drive.old.kind }
+        requires may { MayMove self.old drive.old buffer.now memory.old }
 
         // The verdict, and the bytes that moved.
         ensures moves { IfOk result (λ v. MovesSector unit (next_block self.old) drive.old
@@ -89,11 +82,8 @@ impl Adapter {
 
         // A failure.
         ensures unchanged { OnErr result ((self.new ≡ self.old) × (drive.new ≡ drive.old) × (memory.new ≡ memory.old) × (book.new ≡ book.old)) }
-        ensures old_or_new { OnErr result (IsOldOrNew unit (next_block self.old) drive.old (P.tells packs.new)
-            (record { book = book.old; held = P.held packs.old; window = next_bytes self.old buffer.now memory.old })
-            (P.held packs.new)) }
-        ensures never_again { IsTrue (P.tells packs.new) → IsTrue (P.tells packs.old) }
-        ensures cause { HasCause (P.faults packs.old) (P.faults packs.new) result }
+        ensures failure { FailsAtPacks P.tells P.held P.faults packs.old packs.new unit (next_block self.old) drive.old
+            (record { book = book.old; held = P.held packs.old; window = next_bytes self.old buffer.now memory.old }) result }
     {
         let mut window = memory.window(buffer, self.skip + self.moved);
         let verdict = drive.move_sector(packs, unit, self.block + self.moved, book, &mut window)?;

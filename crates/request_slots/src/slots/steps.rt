@@ -3,10 +3,10 @@ ghost use Rattle.std.specs.Prelude.{◌≡◌, ◌<◌, IfOk, IsOk, OnErr, IsSom
 ghost use Rattle.main_memory.specs.Blocks.{size_at};
 ghost use Rattle.hardware_table.specs.Moves.{stop_of, was_read};
 ghost use Rattle.hardware_table.specs.Adapter.{next_block, next_window, stepped, drive_stepped};
-ghost use Rattle.drive_model.specs.Move.{MovesSector};
+ghost use Rattle.drive_model.specs.Move.{MovesSector, FailsAtPacks};
 ghost use Rattle.driver_machine.specs.World.{block_in, with_block_in};
 ghost use Rattle.request_slots.specs.Requests.{held_at};
-ghost use Rattle.request_slots.specs.Steps.{MayStep, step_site, FailsAtPacks};
+ghost use Rattle.request_slots.specs.Steps.{MayStep, step_site};
 
 use crate::slot::{Holder, slot_at};
 use crate::slots::Slots;
@@ -55,7 +55,7 @@ impl Slots {
         // A failure.
         ensures unchanged { OnErr result ((self.new ≡ self.old)
             × (adapter.new ≡ adapter.old) × (drive.new ≡ drive.old) × (book.new ≡ book.old)) }
-        ensures failure { FailsAtPacks P.tells P.held P.faults packs.old packs.new unit adapter.old drive.old
+        ensures failure { FailsAtPacks P.tells P.held P.faults packs.old packs.new unit (next_block adapter.old) drive.old
             (step_site book.old (P.held packs.old) self.old slot adapter.old) result }
     {
         let Holder::Adapter(buffer) = &slot_at(&self.slots, slot).buffer else {

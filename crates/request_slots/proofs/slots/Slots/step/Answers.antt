@@ -2,7 +2,7 @@ use Rattle.std.proofs.Common.{◌≡◌, ◌<◌, List, Option, sym, ap, ◌∙�
 use Rattle.hardware_table.specs.Adapter.{next_window}
 use Rattle.hardware_table.specs.Moves.{was_read}
 use Rattle.main_memory.specs.Blocks.{Loan, size_at, span_of, bytes_in}
-use Rattle.main_memory.specs.Memory.{IsMemory}
+use Rattle.main_memory.specs.Memory.{IsMemory, IsLent}
 use Rattle.mba_adapter.specs.Loaded.{loaded_buffer}
 use Rattle.driver_machine.specs.World.{Held, block_in}
 use Rattle.request_slots.specs.Requests.{held_at}
@@ -11,6 +11,15 @@ use Rattle.request_slots.proofs.SlotLaws.{loan_at}
 use Rattle.request_slots.proofs.StepLaws.{IsMoved, moved_block, length-moved_block, kept-same_frames, sound_step, shown_step, moves_as}
 use Rattle.request_slots.proofs.slots.Slots.step.Goals as goal
 use Rattle.request_slots.proofs.slots.Slots.step.Given.{Over}
+
+pub step_sector-requires-clause-may : goal.step_sector-requires-clause-may
+step_sector-requires-clause-may g c =
+    let has : loan_of c.slot_at.result.now.buffer ≡ c.in-Adapter.buffer = ap loan_of c.in-Adapter.is in
+    record {
+      loaded = sym has ∙ sym (loan_at c.self.inside.memory (all_slots c.self.inside.slots) c.args.slot c.slot_at.result.now c.self.view_is c.slot_at.ensures) ∙ c.requires.may.loaded;
+      lent = subst (IsLent c.self.inside.memory) has (c.self.invariant.lent c.args.slot c.slot_at.result.now c.slot_at.ensures);
+      is = c.requires.may.is;
+    }
 
 -- the block that is moved is one of the buffer's
 moved : (g : Over) (c : goal.After-step_sector g) → IsMoved (all_slots c.self.inside.slots) c.args.slot c.in-Adapter.buffer (next_window c.args.adapter.now)
@@ -72,7 +81,7 @@ returns-clause-moves g c =
 
 pub returns-clause-failure : goal.returns-clause-failure
 returns-clause-failure g c = record {
-  old_or_new = rw (block_before g c) at c.step_sector.ensures.old_or_new;
-  never_again = c.step_sector.ensures.never_again;
-  cause = c.step_sector.ensures.cause;
+  old_or_new = rw (block_before g c) at c.step_sector.ensures.failure.old_or_new;
+  never_again = c.step_sector.ensures.failure.never_again;
+  cause = c.step_sector.ensures.failure.cause;
 }
