@@ -1,8 +1,6 @@
 -- A block that is one byte all through.
-use Rattle.std.proofs.Common.{◌≡◌, ℕ, zero, suc, ◌-◌, ◌^◌, ◌<◌, ◌≤◌, ◌==◌, if◌then◌else◌, Bool, true, List, [], ◌∷◌, ◌++◌, length, take, drop, replicate, decimal, refl, sym, ap, ap₂, ◌∙◌, arith, append_assoc, eq-eqb, length-append, length-drop, length-take}
-use Rattle.std.proofs.Math.Seq.{take-append_seam}
+use Rattle.std.proofs.Common.{◌≡◌, ℕ, zero, suc, ◌^◌, ◌<◌, ◌≤◌, ◌==◌, if◌then◌else◌, Bool, true, List, [], ◌∷◌, ◌++◌, length, replicate, decimal, refl, sym, ap, ap₂, ◌∙◌, arith, append_assoc, eq-eqb}
 use Rattle.std.proofs.lemmas.Fmt.{length-decimal-le}
-use Rattle.std.proofs.lemmas.List.{take-take}
 use Rattle.std.specs.Prelude.{◌&&◌, codes}
 use Rattle.std.specs.List.{flat_map, list_all}
 use Rattle.mass_text.specs.BlockText.{hex_byte, content_text}
@@ -22,25 +20,12 @@ pub few_digits : (k : ℕ) → k < 2 ^ 32 → length (decimal k) ≤ 10
 few_digits k small = length-decimal-le 10 k (omega arith) (omega arith) (omega arith)
 
 -- its line, put together from its end
-flat : (d s c n rest : List ℕ) → (((d ++ s) ++ c) ++ n) ++ rest ≡ d ++ (s ++ (c ++ (n ++ rest)))
-flat d s c n rest = append_assoc ((d ++ s) ++ c) n rest ∙ append_assoc (d ++ s) c (n ++ rest) ∙ append_assoc d s (c ++ (n ++ rest))
+flat : (d s c n : List ℕ) → ((d ++ s) ++ c) ++ n ≡ d ++ (s ++ (c ++ n))
+flat d s c n = append_assoc (d ++ s) c n ∙ append_assoc d s (c ++ n)
 
-pub fill_line : (k size byte : ℕ) (rest t₀ t₁ t₂ : List ℕ) → 1 ≤ size → t₀ ≡ codes " fill " ++ (hex_byte byte ++ (10 ∷ rest)) → t₁ ≡ decimal k ++ t₀ → t₂ ≡ codes "blk " ++ t₁
-    → t₂ ≡ block_text k (replicate size byte) ++ rest
-fill_line k size byte rest t₀ t₁ t₂ some h₀ h₁ h₂ =
+pub fill_line : (k size byte : ℕ) (t₀ t₁ t₂ : List ℕ) → 1 ≤ size → t₀ ≡ codes " fill " ++ (hex_byte byte ++ 10 ∷ []) → t₁ ≡ decimal k ++ t₀ → t₂ ≡ codes "blk " ++ t₁
+    → t₂ ≡ block_text k (replicate size byte)
+fill_line k size byte t₀ t₁ t₂ some h₀ h₁ h₂ =
     h₂
-    ∙ ap (λ (l : List ℕ). codes "blk " ++ l) (h₁ ∙ ap (λ (l : List ℕ). decimal k ++ l) h₀ ∙ sym (flat (decimal k) (codes " ") (codes "fill " ++ hex_byte byte) (10 ∷ []) rest))
-    ∙ ap (λ (c : List ℕ). (codes "blk " ++ decimal k ++ codes " " ++ c ++ 10 ∷ []) ++ rest) (sym (content_text-fill size byte some))
-
--- a text that ends at place 32, with 64 bytes behind it
-pub text_is : (room text rest : List ℕ) (start : ℕ) → length room ≡ 96 → length rest ≡ 64 → start ≤ 32 → drop start room ≡ text ++ rest → take (32 - start) (drop start room) ≡ text
-text_is room text rest start long behind inside e =
-    let both : length (drop start room) ≡ length (text ++ rest) = ap (λ (l : List ℕ). length l) e in
-    let size : 32 - start ≡ length text = omega (arith, both, length-drop start room, length-append text rest) in
-    ap₂ (λ (n : ℕ) (l : List ℕ). take n l) size e ∙ take-append_seam text rest
-
--- the text is at the front of 64 bytes
-pub front_is : (text bytes front : List ℕ) (n : ℕ) → n ≤ 32 → 64 ≤ length bytes → text ≡ take n bytes → front ≡ take 64 bytes → take (length text) front ≡ text
-front_is text bytes front n few long is same =
-    let size : length text ≡ n = ap (λ (l : List ℕ). length l) is ∙ omega (arith, length-take n bytes) in
-    ap₂ (λ (m : ℕ) (l : List ℕ). take m l) size same ∙ take-take n 64 bytes (omega arith) ∙ sym is
+    ∙ ap (λ (l : List ℕ). codes "blk " ++ l) (h₁ ∙ ap (λ (l : List ℕ). decimal k ++ l) h₀ ∙ sym (flat (decimal k) (codes " ") (codes "fill " ++ hex_byte byte) (10 ∷ [])))
+    ∙ ap (λ (c : List ℕ). codes "blk " ++ decimal k ++ codes " " ++ c ++ 10 ∷ []) (sym (content_text-fill size byte some))

@@ -30,7 +30,7 @@ fn put_piece(room: &mut [u8; ROOM], at: usize, piece: &[u8]) -> usize
 }
 
 /// Writes two digits for each byte.
-fn write_digits(bytes: &[u8], digits: &mut [u8])
+pub(crate) fn write_digits(bytes: &[u8], digits: &mut [u8])
     requires { length digits.old ≡ 2 * length bytes.now }
     ensures { digits.new ≡ flat_map hex_byte bytes.now }
 {

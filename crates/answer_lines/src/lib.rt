@@ -3,7 +3,7 @@
 //!
 //! Defined in `specs/`: the answer text of a run, over its moments: `out_text`.
 //!
-//! What is proved: `answer_line`, `noise_line` and what `BlockLine::write` and `FillLine::write` write are its lines.
+//! What is proved: `answer_line`, `noise_line` and what `BlockLine::write` and `write_fill` write are its lines.
 //! `text_laws`: the text of moments in a row is that of each in a row, and only answers and noise have any; a read's bytes are
 //! cut into blocks of 512 bytes, the last one perhaps short, in one way only, so that a read that gives such blocks has a line
 //! for each of them, one after another; the class that is said of noise is the one that `fire_code` gives it.
@@ -19,7 +19,7 @@ mod lines;
 mod words;
 
 pub use blocks::BlockLine;
-pub use fills::FillLine;
+pub use fills::{FillLine, write_fill};
 pub use lines::{answer_line, noise_line};
 
 /// The text of moments in a row is that of each in a row, and of a moment that makes no answer and arms no noise it is empty.

@@ -4,8 +4,8 @@ ghost use Rattle.answer_lines.specs.AnswerText.{answer_words, class_word, error_
 
 use fire_code::NoiseClass;
 use mass_text::{Radix, numeral_law};
-use short_line::ShortLine;
 use subsystem_spec::{AnswerKind, Cause};
+use text_lines::ShortLine;
 
 /// The word of a class of noise.
 pub(crate) fn class_word(class: NoiseClass) -> &'static str

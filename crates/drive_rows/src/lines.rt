@@ -178,19 +178,19 @@ fn lines(rt: HostRuntime) {
             verdict: Moved::Clean,
         } = *told
         {
-            let text = CleanLine::new(4, 9, 30, block);
+            let text = clean_line(4, 9, 30, block);
             assert!(rt; begins_with_line(&text, wanted.as_bytes()), "{wanted}");
         }
     }
     let long = line(u64::MAX, 255, u32::MAX, Told::End);
     assert!(rt; long.as_bytes() == b"end 18446744073709551615 255 4294967295\n".as_slice());
-    let longest = CleanLine::new(u64::MAX, 255, u32::MAX, u32::MAX);
+    let longest = clean_line(u64::MAX, 255, u32::MAX, u32::MAX);
     assert!(rt;
         begins_with_line(
             &longest,
             b"sector 18446744073709551615 255 4294967295 4294967295 clean\n"
         )
     );
-    assert!(rt; begins_with_line(&CleanLine::new(0, 0, 0, 0), b"sector 0 0 0 0 clean\n"));
+    assert!(rt; begins_with_line(&clean_line(0, 0, 0, 0), b"sector 0 0 0 0 clean\n"));
     assert!(rt; idle(12).as_bytes() == b"idle 12\n".as_slice());
 }

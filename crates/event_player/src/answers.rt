@@ -10,7 +10,7 @@ ghost use Rattle.event_player.specs.Answering.{first_blocks, first_told, first_t
 ghost use Rattle.event_player.specs.Steps.{waiting_text};
 
 use crate::desk::Desk;
-use answer_lines::answer_line;
+use answer_lines::{answer_line, write_fill};
 use driver_answers::taken_law;
 use hp_driver::{Answer, AnswerKind, Subsystem};
 use outside_traits::traits::{Sink, SinkFailed};
@@ -49,7 +49,7 @@ fn put_fill<O: Sink>(k: u32, byte: u8, desk: &mut Desk, out: &mut O) -> Result<(
     ensures counts { (size : ℕ) → 1 ≤ size → Counts [] (block_text k (replicate size byte)) desk.old.tally desk.new.tally }
     ensures requests { desk.new.tally.requests ≡ desk.old.tally.requests }
 {
-    desk.fill.write(k, byte);
+    write_fill(&mut desk.fill, k, byte);
     desk.put_fill(out)
 }
 

@@ -19,7 +19,7 @@ use mass_gather::Gather;
 use outside_traits::traits::{Sink, SinkFailed};
 use request_slots::Slots;
 use std::marker::Model;
-use trace_lines::{CleanLine, LineText, Told};
+use trace_lines::{LineText, Told, clean_line};
 use transfer_engine::Job;
 use unit_bank::UnitBank;
 
@@ -120,7 +120,7 @@ impl Core {
         let Moved::Clean = verdict else {
             return self.tell(number, unit, id, Told::Sector { block, verdict }, trace);
         };
-        let text = CleanLine::new(number, unit, id, block);
+        let text = clean_line(number, unit, id, block);
         sent(self.gather.put_short(text.front(), text.len(), trace))
     }
 

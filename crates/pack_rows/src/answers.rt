@@ -119,7 +119,7 @@ fn other_block(line: &mut BlockLine) -> &'static str {
 
 /// Whether the line of a block that is one byte all through is this one.
 fn is_filled(fill: &mut FillLine, k: u32, byte: u8, wanted: &[u8]) -> bool {
-    fill.write(k, byte);
+    write_fill(fill, k, byte);
     fill.as_bytes() == wanted
 }
 

@@ -1,6 +1,6 @@
 //! The lines of a trace, as code writes them: each is the text of its moment.
 //!
-//! What is proved: `LineText` with `write` and `write_idle`, `idle`, and `CleanLine` for a sector that moved clean: the text of
+//! What is proved: `LineText` with `write` and `write_idle`, `idle`, and `clean_line` for a sector that moved clean: the text of
 //! each line of a trace is that of its moment. A line is put together from its end, in its own room.
 //!
 //! Only tested, in `drive_rows`: worked values, beside their proofs.
@@ -12,6 +12,6 @@ mod pieces;
 mod telling;
 mod words;
 
-pub use clean::CleanLine;
+pub use clean::{CleanLine, clean_line};
 pub use lines::{LineText, idle};
 pub use telling::Told;

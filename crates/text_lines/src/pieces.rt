@@ -1,11 +1,5 @@
-//! Pieces of a line that is put together from its end, in a room of any size: each goes in front of what stands from a place
-//! on, and says where it starts. So a number's digits, of which the last is found first, go straight to their place.
-//!
-//! What is proved: `put_piece`, `put_byte` and `put_digits` put just these bytes, this byte, or the decimal digits of a number
-//! in front of what stands from a place on, in a room of any size, and say where it starts: a line is put together from its
-//! end.
-#![tactic(auto)]
-
+// Pieces of a line that is put together from its end, in a room of any size: each goes in front of what stands from a place on, and
+// says where it starts.
 ghost use Rattle.std.specs.Prelude.{◌≡◌, ◌≤◌, ◌+◌, ◌∷◌, ◌++◌, length, drop, decimal};
 
 use itoa::write_digits;

@@ -1,18 +1,11 @@
-//! A text of one short line that is put together piece by piece. It serves as `mass_text`'s `LineBuf` does, which has room for
-//! the digits of a whole block: making and moving that one costs more than most lines themselves.
-//!
-//! What is proved: A text of one line, of at most 240 bytes: as `mass_text`'s `LineBuf`, which has room for the digits of a
-//! block and costs more to make and move. `put`, `put_bytes` and `put_number` put just that text, those bytes, those decimal
-//! digits after what is there.
-#![tactic(auto)]
-
 ghost use Rattle.std.specs.Prelude.{◌≡◌, ◌≤◌, ◌+◌, [], ◌++◌, length, decimal};
 
 use arrayvec::ArrayVec;
 use itoa::Buffer;
 use std::marker::Model;
 
-/// A text that is put together piece by piece, of at most 240 bytes.
+/// A text that is put together piece by piece, of at most 240 bytes. It serves as `mass_text`'s `LineBuf` does, which has room for
+/// the digits of a whole block: making and moving that one costs more than most lines themselves.
 #[derive(Drop)]
 pub struct ShortLine {
     text: ArrayVec<u8, 240>,
