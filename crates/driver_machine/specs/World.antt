@@ -12,7 +12,7 @@ use Rattle.disksort.specs.declared.Waiter.{Waiter}
 use Rattle.transfer_engine.specs.declared.job.Job.{Job}
 use Rattle.transfer_engine.specs.State.{TransferState, begun}
 use Rattle.trace_replay.specs.Drives.{attached}
-pub use Rattle.trace_replay.specs.Adapters.{adapter_of, drive_of}
+pub use Rattle.trace_replay.specs.Adapters.{adapter_of, drive_of, unit_on}
 use Rattle.driver_machine.specs.declared.Made.{Made}
 use Rattle.driver_machine.specs.declared.Phase.{Phase}
 use Rattle.driver_machine.specs.declared.Phase.TheVariants.{Waiting}
@@ -105,10 +105,7 @@ slot_at w p = slice_index_or w.slots p None
 abbrev pub held_in : World → ℕ → Held
 held_in w p = unwrap_or (slot_at w p) no_held
 
--- the unit that is this drive of this adapter, and the unit for which an adapter transfers
-abbrev pub unit_on : ℕ → ℕ → ℕ
-unit_on a drive = 8 * a + drive
-
+-- the unit for which an adapter transfers
 abbrev pub unit_of : World → ℕ → ℕ
 unit_of w a = unit_on a (adapter_at w a).state.drive
 

@@ -15,8 +15,8 @@ abbrev pub drive_of : ℕ → ℕ
 drive_of unit = unit % 8
 
 -- the unit of a drive of an adapter
-abbrev pub unit_of : ℕ → ℕ → ℕ
-unit_of adapter drive = 8 * adapter + drive
+abbrev pub unit_on : ℕ → ℕ → ℕ
+unit_on adapter drive = 8 * adapter + drive
 
 -- an adapter, and the units that are ready at it
 pub record AdapterSeen : Type 0 where

@@ -3,7 +3,7 @@ use Rattle.std.specs.Prelude.{ℕ, ◌&&◌, ◌||◌, Bool, true, false, if◌t
 use Rattle.hardware_table.specs.Adapter.{AdapterState}
 use Rattle.subsystem_spec.specs.Requests.{Rejection}
 use Rattle.trace_replay.specs.Moments.{Deed, Arrive, Sector, Intr, Attn}
-use Rattle.trace_replay.specs.Adapters.{AdapterSeen, unit_of, attentive, can_move}
+use Rattle.trace_replay.specs.Adapters.{AdapterSeen, unit_on, attentive, can_move}
 
 -- What of an event is still to come: nothing; that a refused request is answered; the end of a positioning; a sector of an
 -- adapter; at an adapter the data interrupt, the attentions of some drives, and last its start; or an idle line.
@@ -54,16 +54,16 @@ wish_at_start a = if a.state.busy then NoLine else first_ready a.ready
 
 -- AN ATTEND: the interrupt, then each attention in ascending order, then the adapter's start.
 abbrev pub wish_in_serving : ℕ → AdapterSeen → Bool → List ℕ → Wish
-wish_in_serving adapter a true drives = Interrupt (unit_of adapter a.state.drive)
+wish_in_serving adapter a true drives = Interrupt (unit_on adapter a.state.drive)
 wish_in_serving adapter a false [] = wish_at_start a
-wish_in_serving adapter a false (drive ∷ drives) = Attention (unit_of adapter drive)
+wish_in_serving adapter a false (drive ∷ drives) = Attention (unit_on adapter drive)
 
 -- whose line an event brings next
 abbrev pub wish_in : (ℕ → AdapterSeen) → Act → Wish
 wish_in adapters Done = NoLine
 wish_in adapters (Refusing unit id why) = Refusal unit id why
 wish_in adapters (Arriving unit) = Arrival unit
-wish_in adapters (Trying adapter) = SectorLine (unit_of adapter (adapters adapter).state.drive)
+wish_in adapters (Trying adapter) = SectorLine (unit_on adapter (adapters adapter).state.drive)
 wish_in adapters (Serving adapter interrupt drives) = wish_in_serving adapter (adapters adapter) interrupt drives
 wish_in adapters NothingToDo = IdleLine
 

@@ -4,7 +4,7 @@ use Rattle.std.proofs.lemmas.Bool.{or_parts}
 use Rattle.std.proofs.Common.{◌≡◌, ℕ, ◌<◌, ◌==◌, ◌||◌, Bool, true, false, List, [], ◌∷◌, refl, sym, ap, ◌∙◌, subst, arith, bit_and, ◌-◌, ◌^◌, ◌≢◌}
 use Rattle.std.specs.Prelude.{if◌then◌else◌, drop}
 use Rattle.trace_replay.specs.Moments.{Deed, Search, Seek, Recal, Offset, Centre, Clear, Pack, Transfer, Arrive, Sector, Intr, Try, Attn, End}
-use Rattle.trace_replay.specs.Adapters.{AdapterSeen, adapter_of, unit_of, drive_of}
+use Rattle.trace_replay.specs.Adapters.{AdapterSeen, adapter_of, unit_on, drive_of}
 use Rattle.trace_replay.specs.Conversation.{goes_on}
 use Rattle.trace_replay.specs.Events.{Act, Done, Refusing, Arriving, Trying, Serving, NothingToDo, Wish, NoLine, DueLine, Arrival, SectorLine, Interrupt, Attention, Refusal, IdleLine, wish_of, wish_in, wish_at_start, first_ready, is_no_line, act_after, wish_in_serving}
 use Rattle.trace_replay.specs.Replay.{Replay, next_wish}
@@ -66,7 +66,7 @@ pub event_next : (s : Replay) (w : Wish) → next_wish s ≡ w → goes_on (s.un
 event_next s w is off = sym (in_event (goes_on (s.units s.event.speaker).stage) s.event.speaker (wish_in s.adapters s.event.act) off) ∙ is
 
 -- ---- whose unit an event brings that serves an adapter
-adapter_of_its : (k d : ℕ) → d < 8 → adapter_of (unit_of k d) ≡ k
+adapter_of_its : (k d : ℕ) → d < 8 → adapter_of (unit_on k d) ≡ k
 adapter_of_its k d low = omega (arith, low)
 
 at_start : (a : AdapterSeen) (k : ℕ) → IsInOrder a k → is_served (wish_at_start a) ≡ true → adapter_of (unit_in (wish_at_start a)) ≡ k
@@ -275,7 +275,7 @@ attention_served adapters k unit false (d ∷ ds) is are f = record {
   up = subst (λ z. AreUp (bit_and (adapters k).state.attentions (255 - 2 ^ z)) ds) (sym its) (up_lowered (adapters k).state.attentions d ds are.0 f.up.1 are.1 f.up.2);
 }
   where
-    of_it : (u : ℕ) → unit_of k d ≡ u → d < 8 → drive_of u ≡ d
+    of_it : (u : ℕ) → unit_on k d ≡ u → d < 8 → drive_of u ≡ d
     of_it u e low = omega (arith, e, low)
 
     its : drive_of unit ≡ d
