@@ -10,4 +10,5 @@ pub mod Explained
 pub mod Unusable
 pub mod AsSaid
 pub mod Smooth
+pub mod Asking
 pub mod RunExplained

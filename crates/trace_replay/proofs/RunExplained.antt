@@ -1,64 +1,18 @@
 -- Each answer of a legal run is explained.
-use Rattle.std.proofs.Common.{ℕ, ◌+◌, List, [], ◌∷◌, ◌++◌, Option, None, Some, sym, subst, All}
-use Rattle.std.proofs.lemmas.List.Elements.{All-head, All-tail}
-use Rattle.pack_geometry.specs.declared.DriveKind.{DriveKind}
-use Rattle.subsystem_spec.specs.Requests.{Request, IsRequest}
-use Rattle.trace_replay.specs.Script.{Input, Submit, ArriveAt, MoveAt, AttendTo, Drain, Turn, Noise, Arm, SetOnline, SetLocked, Statement, Declares, Plays, Line, Numbered, with_input, inputs_before, drives_of, IsThere, IsInput, IsStatement}
-use Rattle.trace_replay.specs.Moments.{End, Moment, Played, Told, Idle, played}
+use Rattle.std.proofs.Common.{[], ◌∷◌, ◌++◌}
+use Rattle.trace_replay.specs.Script.{drives_of}
+use Rattle.trace_replay.specs.Moments.{End, Told}
 use Rattle.trace_replay.specs.Packs.{surface_of}
 use Rattle.trace_replay.specs.Replay.{Follows, after_moments}
-use Rattle.trace_replay.specs.Causes.{AsksSome, AskSome}
 use Rattle.trace_replay.specs.Runs.{start_of, RunExplained}
+use Rattle.trace_replay.proofs.Asking.{run_asks}
 use Rattle.trace_replay.proofs.Following.{follow_on}
 use Rattle.trace_replay.proofs.Explained.{are_explained}
 
--- inputs that ask for some blocks
-AllAsk : List Numbered → Type 0
-AllAsk [] = Unit {0}
-AllAsk (n ∷ ns) = AsksSome n.input × AllAsk ns
-
-there_asks : (drive : Option DriveKind) (r : Request) → IsThere drive (λ kind. IsRequest r) → AsksSome (Submit r)
-there_asks None r is = absurd is
-there_asks (Some kind) r is = is.some
-
-input_asks : (drives : ℕ → Option DriveKind) (input : Input) → IsInput drives input → AsksSome input
-input_asks drives (Submit r) is = there_asks (drives r.unit) r is
-input_asks drives (ArriveAt u) is = tt
-input_asks drives (MoveAt a) is = tt
-input_asks drives (AttendTo a) is = tt
-input_asks drives Drain is = tt
-input_asks drives (Turn u y) is = tt
-input_asks drives (Noise n) is = tt
-input_asks drives (Arm u k n) is = tt
-input_asks drives (SetOnline u on) is = tt
-input_asks drives (SetLocked u on) is = tt
-
-with_asks : (drives : ℕ → Option DriveKind) (number : ℕ) (statement : Statement) (inputs : List Numbered) → IsStatement drives statement → AllAsk inputs
-    → AllAsk (with_input number statement inputs)
-unfolding AllAsk
-with_asks drives number (Declares unit kind) inputs is all = all
-with_asks drives number (Plays input) inputs is all = (input_asks drives input is, all)
-
-lines_ask : (drives : ℕ → Option DriveKind) (last : List Numbered) (lines : List Line) → All (λ (line : Line). IsStatement drives line.statement) lines → AllAsk last
-    → AllAsk (inputs_before last lines)
-lines_ask drives last [] is all = all
-lines_ask drives last (line ∷ lines) is all =
-    with_asks drives line.number line.statement (inputs_before last lines) (All-head (λ (l : Line). IsStatement drives l.statement) line lines is)
-    (lines_ask drives last lines (All-tail (λ (l : Line). IsStatement drives l.statement) line lines is) all)
-
-moments_ask : (ms ns : List Moment) → AllAsk (played (ms ++ ns)) → AskSome ms
-unfolding AllAsk
-moments_ask [] ns all = tt
-moments_ask (Played line input ∷ ms) ns all = (all.0, moments_ask ms ns all.1)
-moments_ask (Told line unit id deed ∷ ms) ns all = moments_ask ms ns all
-moments_ask (Idle line ∷ ms) ns all = moments_ask ms ns all
-
 pub run_explained : RunExplained
-unfolding AllAsk
 run_explained script tables old new ms ns line unit id answer run kept =
     are_explained (drives_of script) tables (surface_of old) ms line unit id answer
-    (moments_ask ms (Told line unit id (End answer) ∷ ns) (subst AllAsk (sym run.inputs) (lines_ask (drives_of script) (record { line = script.count + 1; input = Drain } ∷ []) script.lines run.good.inputs (tt, tt))))
-    front kept
+    (run_asks script tables old new ms (Told line unit id (End answer) ∷ ns) run) front kept
   where
     parts : Follows (start_of script tables old) ms × Follows (after_moments (start_of script tables old) ms) (Told line unit id (End answer) ∷ ns)
     parts = (follow_on (start_of script tables old) ms (Told line unit id (End answer) ∷ ns)).0 run.trace.follows

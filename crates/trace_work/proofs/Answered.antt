@@ -26,7 +26,7 @@ use Rattle.trace_work.specs.Grounds.{WasPlayed, Submits, IsAskedAt, WasOffline, 
 use Rattle.trace_work.proofs.Stages.{no, nor}
 use Rattle.trace_work.proofs.Known.{AnyFails, head_asked}
 use Rattle.trace_work.proofs.KnownScript.{KnownBehind, always_known}
-use Rattle.trace_work.proofs.Asking.{run_asks}
+use Rattle.trace_replay.proofs.Asking.{run_asks}
 
 -- an end that names a cause is no refusal's
 is_refused : Deed → Bool

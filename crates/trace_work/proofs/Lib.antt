@@ -11,6 +11,5 @@ pub mod Armed
 pub mod Known
 pub mod KnownLines
 pub mod KnownScript
-pub mod Asking
 pub mod Answered
 pub mod Going

@@ -6,7 +6,7 @@ use Rattle.trace_replay.specs.Script.{Script, Drain, drives_of}
 use Rattle.trace_replay.specs.Packs.{surface_of}
 use Rattle.trace_replay.specs.Replay.{Follows, after_moments}
 use Rattle.trace_replay.proofs.Following.{follow_on}
-use Rattle.trace_work.proofs.Asking.{run_asks}
+use Rattle.trace_replay.proofs.Asking.{run_asks}
 use Rattle.trace_replay.specs.Runs.{IsLegalRun, start_of}
 use Rattle.run_promises.proofs.Complete.{is_complete}
 use Rattle.run_promises.proofs.promises_law.Goals as goal
