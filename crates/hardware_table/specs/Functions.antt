@@ -5,7 +5,8 @@ use Rattle.drive_registers.specs.declared.Function.{Function}
 use Rattle.drive_registers.specs.declared.Function.TheVariants.{Nop, Seek, Recal, Clear, Offset, Centre, Preset, Pack, Search, Write, WriteHeader, Read}
 use Rattle.drive_registers.specs.Codes.{function_code, without_offset}
 use Rattle.drive_registers.specs.Bits as bits
-use Rattle.hardware_table.specs.Drive.{DriveState, on, track_in, sector_in}
+use Rattle.hardware_table.specs.Drive.{DriveState, with_register, on, track_in, sector_in}
+use Rattle.hardware_table.specs.declared.Register.TheVariants as register
 use Rattle.hardware_table.specs.declared.Work.TheVariants.{Positioning, Transfer}
 
 -- Dc and Da name a sector of the drive
@@ -52,3 +53,11 @@ abbrev pub needs_online : Function → Bool
 needs_online Clear = false
 needs_online Centre = false
 needs_online _ = true
+
+-- the offset register says the format and no offset
+abbrev pub unoffset : DriveState → DriveState
+unoffset d = with_register register.Of bits.sixteen_bit_format d
+
+-- a drive is attached: PRESET, then PACK, which acknowledges the pack, and no offset
+abbrev pub attached : DriveState → DriveState
+attached d = unoffset (performed Pack (performed Preset d))

@@ -2,20 +2,11 @@
 use Rattle.std.specs.Prelude.{◌≡◌, ◌<◌, ◌≤◌, ◌*◌, length, Result, Ok, Err}
 use Rattle.pack_geometry.specs.declared.DriveKind.{DriveKind}
 use Rattle.pack_geometry.specs.Geometry.{block_count}
-use Rattle.drive_registers.specs.declared.Function.TheVariants as function
-use Rattle.drive_registers.specs.Bits as bits
-use Rattle.hardware_table.specs.declared.Register.TheVariants as register
-use Rattle.hardware_table.specs.Drive.{DriveState, with_register}
-use Rattle.hardware_table.specs.Functions.{performed}
 use Rattle.pack_model.specs.Pack.{Pack}
 use Rattle.pack_model.specs.PackTable.{IsTableOf}
 use Rattle.mba_autoconf.specs.declared.attaching.Attached.{Attached}
 use Rattle.mba_autoconf.specs.declared.attaching.AttachFault.{AttachFault}
 use Rattle.mba_autoconf.specs.declared.attaching.AttachFault.TheVariants.{TooLong, Store}
-
--- PRESET, then PACK, and the offset register says the format and no offset
-abbrev pub attached : DriveState → DriveState
-attached d = with_register register.Of bits.sixteen_bit_format (performed function.Pack (performed function.Preset d))
 
 -- the image has no more bytes than the blocks of a drive of this kind
 abbrev pub Fits : DriveKind → Pack → Type 0

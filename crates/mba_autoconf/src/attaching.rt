@@ -2,13 +2,14 @@
 ghost use Rattle.std.specs.Prelude.{◌≡◌, ◌<◌, ◌≤◌, true, IfOk, IfErr, IfSome, IsErrOf, IsTrue};
 ghost use Rattle.hardware_table.specs.declared.Register.TheVariants.{Dt};
 ghost use Rattle.hardware_table.specs.Drive.{DriveState, is_ready, register_of};
+ghost use Rattle.hardware_table.specs.Functions.{attached};
 ghost use Rattle.pack_geometry.specs.declared.DriveKind.{DriveKind};
 ghost use Rattle.pack_model.specs.Pack.{Pack};
 ghost use Rattle.pack_model.specs.PackTable.{HaveSameCopies};
 ghost use Rattle.outside_traits.specs.Causes.{Rose};
 ghost use Rattle.mba_autoconf.specs.declared.attaching.Attached.{Attached};
 ghost use Rattle.mba_autoconf.specs.Probe.{nine_bits, type_code};
-ghost use Rattle.mba_autoconf.specs.Attach.{attached, Answers, IsLong};
+ghost use Rattle.mba_autoconf.specs.Attach.{Answers, IsLong};
 
 use crate::probing::kind_of_drive;
 use bad144_table::{BadTable, table_of};

@@ -11,18 +11,16 @@ use Rattle.drive_registers.specs.Codes.{offset_code}
 use Rattle.hardware_table.specs.declared.Register.TheVariants as register
 use Rattle.hardware_table.specs.Adapter.{AdapterState, drive_stepped}
 use Rattle.hardware_table.specs.Drive.{DriveState, new_drive, with_register, is_ready, is_positioning, is_transferring}
+use Rattle.hardware_table.specs.Functions as functions
 use Rattle.hardware_table.specs.Functions.{performed, refusals, needs_online}
+pub use Rattle.hardware_table.specs.Functions.{unoffset}
 use Rattle.hardware_table.specs.Events.{arrived, attention_cleared, turned, online_set, locked_set, fault_armed}
 use Rattle.trace_replay.specs.Moments.{Deed, Search, Seek, Recal, Offset, Centre, Clear, Pack, Transfer, Arrive, Sector, Intr, Try, Attn, End}
 use Rattle.trace_replay.specs.Script.{Input, Turn, Arm, SetOnline, SetLocked}
 
--- the offset register says the format and no offset
-abbrev pub unoffset : DriveState → DriveState
-unoffset d = with_register register.Of bits.sixteen_bit_format d
-
--- a drive is attached: the pack is acknowledged
+-- a new drive of this kind is attached
 abbrev pub attached : DriveKind → ℕ → DriveState
-attached kind unit = unoffset (performed function.Pack (performed function.Preset (new_drive kind unit)))
+attached kind unit = functions.attached (new_drive kind unit)
 
 -- BEFORE A COMMAND its address is written. That of a SEARCH has the track of the target.
 abbrev pub addressed : Place → DriveState → DriveState
