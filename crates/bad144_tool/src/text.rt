@@ -34,7 +34,7 @@ pub fn entry_line(i: u8, place: Place, block: u32) -> LineBuf
 }
 
 /// The line that begins the list of a table: `serial S entries E`.
-pub fn table_line(table: &BadTable) -> LineBuf
+pub(crate) fn table_line(table: &BadTable) -> LineBuf
     ensures { result ≡ table_line table.now }
 {
     let mut text = LineBuf::new();
@@ -45,7 +45,7 @@ pub fn table_line(table: &BadTable) -> LineBuf
 }
 
 /// The line for a pack that has no table.
-pub fn no_table_line() -> LineBuf
+pub(crate) fn no_table_line() -> LineBuf
     ensures { result ≡ no_table_line }
 {
     let mut text = LineBuf::new();

@@ -168,7 +168,7 @@ fn use_at(entries: &mut Vec<Entry>, i: usize, word: u16) -> Entry
 
 // Strikes a read of a sector with this word in the offset register: the oldest noise of the sector is used. Gives its
 // entry as it was.
-pub fn strike(entries: &mut Vec<Entry>, unit: u8, block: u32, word: u16) -> Option<Entry>
+pub(crate) fn strike(entries: &mut Vec<Entry>, unit: u8, block: u32, word: u16) -> Option<Entry>
     requires { AreInOrder entries.old.items }
     ensures oldest { (noises : List (List ℕ))
         → oldest unit block (live_of noises entries.old.items) ≡ option_map (noise_of noises) result }
@@ -188,7 +188,7 @@ pub fn strike(entries: &mut Vec<Entry>, unit: u8, block: u32, word: u16) -> Opti
 }
 
 // The noise of an entry, in a read with this word in the offset register: none where that ends it.
-pub fn noise_in(noises: &[Noise], entry: Entry, word: u16) -> Option<Noise>
+pub(crate) fn noise_in(noises: &[Noise], entry: Entry, word: u16) -> Option<Noise>
     requires { entry.slot < length noises.now }
     ensures { result ≡ flips word (Some (noise_of noises.now entry)) }
 {

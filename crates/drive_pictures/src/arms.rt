@@ -45,7 +45,7 @@ fn path_with(path: Option<Path>, cylinder: u32) -> Option<Path>
 }
 
 /// A path, and one behind it.
-pub fn join_paths(path: Option<Path>, behind: Option<Path>) -> Option<Path>
+pub(crate) fn join_paths(path: Option<Path>, behind: Option<Path>) -> Option<Path>
     ensures { result ≡ paths_joined path behind }
 {
     match path {
@@ -76,7 +76,7 @@ impl Arm {
     }
 
     /// The arm is seen where it is, and goes to a cylinder.
-    pub fn send(&mut self, target: u32)
+    pub(crate) fn send(&mut self, target: u32)
         ensures { self.new ≡ sent target self.old }
     {
         self.path = path_with(self.path, self.cylinder);
@@ -84,7 +84,7 @@ impl Arm {
     }
 
     /// The arm is at a cylinder, and has moved over those between.
-    pub fn reach(&mut self, cylinder: u32)
+    pub(crate) fn reach(&mut self, cylinder: u32)
         ensures { self.new ≡ reached cylinder self.old }
     {
         self.travel = plus(self.travel, u64::from(cylinder.abs_diff(self.cylinder)));

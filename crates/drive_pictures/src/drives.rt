@@ -217,7 +217,7 @@ impl Drive {
     }
 
     /// The request at a place is in hand.
-    pub fn is_in_hand(&self, place: usize) -> bool
+    pub(crate) fn is_in_hand(&self, place: usize) -> bool
         ensures { result ≡ is_at self.now.trial.hand place }
     {
         match self.trial.hand {

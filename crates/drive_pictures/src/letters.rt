@@ -42,7 +42,7 @@ impl Letter {
     }
 
     /// It positions, or has arrived and is not attended.
-    pub fn is_on_its_way(self) -> bool
+    pub(crate) fn is_on_its_way(self) -> bool
         ensures { result ≡ is_on_its_way self }
     {
         match self {
@@ -56,7 +56,7 @@ impl Letter {
     }
 
     /// It holds its adapter.
-    pub fn is_holding(self) -> bool
+    pub(crate) fn is_holding(self) -> bool
         ensures { result ≡ is_holding self }
     {
         match self {

@@ -15,7 +15,7 @@ mod moments;
 mod requests;
 mod trials;
 
-pub use arms::{Arm, Path, join_paths};
+pub use arms::{Arm, Path};
 pub use cells::{Cell, Tally};
 pub use counts::plus;
 pub use drives::{Change, Drive, Queue, Seen, Times, cylinder_blocks};

@@ -103,7 +103,7 @@ impl Mark {
     }
 
     /// A sector could not be moved, or a request was stopped.
-    pub fn is_trouble(self) -> bool
+    pub(crate) fn is_trouble(self) -> bool
         ensures { result ≡ is_trouble self }
     {
         match self {
@@ -119,7 +119,7 @@ impl Mark {
 }
 
 /// The mark of a sector's verdict.
-pub fn mark_of(verdict: Moved) -> Mark
+pub(crate) fn mark_of(verdict: Moved) -> Mark
     ensures { result ≡ mark_of verdict }
 {
     match verdict {

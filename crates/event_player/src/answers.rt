@@ -151,7 +151,7 @@ fn gather_answers<O: Sink>(
 }
 
 /// Writes the answers that wait to a sink, the oldest first, and takes them. Nothing is gathered at the desk before and behind it.
-pub fn write_answers<O: Sink>(
+pub(crate) fn write_answers<O: Sink>(
     subsystem: &mut Subsystem,
     desk: &mut Desk,
     out: &mut O,

@@ -95,7 +95,7 @@ fn attach_line<P: Packs>(
 ///
 /// TooLong comes for the first of them whose image has more bytes than the blocks of its drive; Store only where the packs' count
 /// of faults rose; Memory where there was none.
-pub fn attach_units<P: Packs>(
+pub(crate) fn attach_units<P: Packs>(
     alloc: Global,
     script: &Script,
     packs: &mut P,

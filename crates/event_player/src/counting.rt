@@ -32,7 +32,7 @@ fn noises_of(line: &Stored) -> u32
 }
 
 /// How many requests a script has: 65,536 at the most.
-pub fn count_requests(script: &Script) -> u32
+pub(crate) fn count_requests(script: &Script) -> u32
     requires good { Spells all_verbs script.now.text (lines_in script.now) script.now.count }
     ensures count { result ≡ counted one_request (meaning_of script.now).lines }
     ensures few { result ≤ 65536 }
@@ -46,7 +46,7 @@ pub fn count_requests(script: &Script) -> u32
 }
 
 /// How many noises a script arms: 4,096 at the most.
-pub fn count_noises(script: &Script) -> u32
+pub(crate) fn count_noises(script: &Script) -> u32
     requires good { Spells all_verbs script.now.text (lines_in script.now) script.now.count }
     ensures count { result ≡ counted one_noise (meaning_of script.now).lines }
     ensures few { result ≤ 4096 }

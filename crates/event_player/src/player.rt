@@ -203,7 +203,7 @@ fn play_other<P: Packs, O: Sink, T: Sink>(
 }
 
 /// A line of a script. `room` has a place for each byte of the longest write.
-pub fn play_line<P: Packs, O: Sink, T: Sink>(
+pub(crate) fn play_line<P: Packs, O: Sink, T: Sink>(
     script: &Script,
     subsystem: &mut Subsystem,
     line: &Stored,

@@ -128,7 +128,7 @@ static LOGARITHMS: [u16; 2048] = [
 
 /// The logarithm of `value`, from 1 to 2047: the exponent, from 0 to 2046, of the power of x that it is
 /// modulo x^11 + x^2 + 1.
-pub fn logarithm(value: u16) -> u16
+pub(crate) fn logarithm(value: u16) -> u16
     requires not_zero { 0 < value }
     requires small { value < 2 ^ 11 }
     ensures below { result < 2047 }

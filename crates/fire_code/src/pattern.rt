@@ -3,7 +3,7 @@ ghost use Rattle.std.specs.Prelude.{◌≡◌, ◌-◌, ◌<◌, ◌^◌, ◌↔
 ghost use Rattle.fire_code.specs.Burst.{reversed as the_reversed};
 
 // The lowest 11 bits in the other order.
-pub fn reversed(value: u16) -> u16
+pub(crate) fn reversed(value: u16) -> u16
     requires { value < 2 ^ 11 }
     ensures { result ≡ the_reversed 11 value }
 {

@@ -108,14 +108,14 @@ static POWERS: [u32; 516] = [
 ];
 
 /// Eight steps of a register whose 8 highest bits alone are set: `high` times x^32, modulo the generator.
-pub fn eight_steps(high: u8) -> u32
+pub(crate) fn eight_steps(high: u8) -> u32
     ensures { result ≡ repeat times_x 8 (high * 2 ^ 24) }
 {
     EIGHT_STEPS[usize::from(high)]
 }
 
 /// x to the `exponent`, from 0 to 4127, modulo the generator.
-pub fn power(exponent: u16) -> u32
+pub(crate) fn power(exponent: u16) -> u32
     requires { exponent < 4128 }
     ensures { result ≡ the_power exponent }
 {

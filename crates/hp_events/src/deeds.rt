@@ -76,7 +76,7 @@ fn work<T: Sink>(
 
 /// Does the one deed that is due at a unit, if one is, and says whether one was. A transfer command that is due at once wants the
 /// unit's adapter free. At Err a call of the trace failed.
-pub fn next_deed<T: Sink>(core: &mut Core, line: u64, u: u8, trace: &mut T) -> Result<bool, Stop>
+pub(crate) fn next_deed<T: Sink>(core: &mut Core, line: u64, u: u8, trace: &mut T) -> Result<bool, Stop>
     requires sound { Sound core.old.world }
     requires unit { u < 32 }
     requires free { IsFree core.old.world u }
@@ -107,7 +107,7 @@ pub fn next_deed<T: Sink>(core: &mut Core, line: u64, u: u8, trace: &mut T) -> R
 
 /// Gives the first unit of the queue of its adapter, which is free, what is due for its transfer command: PACK, behind which the
 /// command is due; the command; or the end of its request, behind which the unit is started. At Err a call of the trace failed.
-pub fn choose<T: Sink>(core: &mut Core, line: u64, u: u8, trace: &mut T) -> Result<(), Stop>
+pub(crate) fn choose<T: Sink>(core: &mut Core, line: u64, u: u8, trace: &mut T) -> Result<(), Stop>
     requires sound { Sound core.old.world }
     requires unit { u < 32 }
     requires phase { (unit_at core.old.world u).phase ≡ Queued }

@@ -17,8 +17,7 @@ mod submission;
 mod turns;
 mod verdicts;
 
-pub use deeds::{choose, next_deed};
 pub use drain::{Event, next_event};
 pub use events::{arrive, attend, move_sector};
 pub use submission::{join, refuse};
-pub use turns::{due, start_adapter};
+pub use turns::due;

@@ -55,7 +55,7 @@ pub fn times(word: u64) -> u64
 }
 
 /// Which line it is, below 8.
-pub fn choice(word: u64) -> u64
+pub(crate) fn choice(word: u64) -> u64
     ensures { result ≡ choice_of word }
 {
     word % 8

@@ -125,14 +125,14 @@ pub fn entry_line(i: u8) -> LineBuf
 }
 
 /// The text of a new table: `serial S`.
-pub fn serial_line(serial: u32) -> LineBuf
+pub(crate) fn serial_line(serial: u32) -> LineBuf
     ensures { result ≡ serial_text serial }
 {
     numbered("serial ", u64::from(serial))
 }
 
 /// The text of blocks that were marked: `marked K`.
-pub fn marked_line(count: u8) -> LineBuf
+pub(crate) fn marked_line(count: u8) -> LineBuf
     ensures { result ≡ marked_text count }
 {
     numbered("marked ", u64::from(count))

@@ -5,14 +5,14 @@ ghost use Rattle.main_memory.specs.Frames.{free_frames, all_frames, with_frame, 
 use arrayvec::ArrayVec;
 
 // Every frame free.
-pub fn all_free() -> [u64; 256]
+pub(crate) fn all_free() -> [u64; 256]
     ensures { free_frames result ≡ all_frames }
 {
     [u64::MAX; 256]
 }
 
 // Takes the lowest free frame. The words before `from` have none.
-pub fn take_lowest(words: &mut [u64; 256], from: usize) -> u16
+pub(crate) fn take_lowest(words: &mut [u64; 256], from: usize) -> u16
     requires none_before { (k : ℕ) → k < from → slice_index words.old k ≡ 0 }
     requires some { 0 < length (free_frames words.old) }
     ensures taken { free_frames words.old ≡ result ∷ free_frames words.new }
@@ -31,7 +31,7 @@ pub fn take_lowest(words: &mut [u64; 256], from: usize) -> u16
 }
 
 // Takes the lowest free frames, in ascending order.
-pub fn take_frames(words: &mut [u64; 256], count: u32) -> ArrayVec<u16, 128>
+pub(crate) fn take_frames(words: &mut [u64; 256], count: u32) -> ArrayVec<u16, 128>
     requires fits { count ≤ 128 }
     requires enough { count ≤ length (free_frames words.old) }
     ensures taken { result.items ≡ take count (free_frames words.old) }
@@ -48,7 +48,7 @@ pub fn take_frames(words: &mut [u64; 256], count: u32) -> ArrayVec<u16, 128>
 }
 
 // Makes a frame free.
-pub fn give_frame(words: &mut [u64; 256], frame: u16)
+pub(crate) fn give_frame(words: &mut [u64; 256], frame: u16)
     requires { frame < 16384 }
     ensures { free_frames words.new ≡ with_frame frame (free_frames words.old) }
 {
@@ -56,7 +56,7 @@ pub fn give_frame(words: &mut [u64; 256], frame: u16)
 }
 
 // Makes frames free.
-pub fn give_frames(words: &mut [u64; 256], frames: &[u16])
+pub(crate) fn give_frames(words: &mut [u64; 256], frames: &[u16])
     requires { (i : ℕ) → i < length frames.now → slice_index frames.now i < 16384 }
     ensures { free_frames words.new ≡ with_frames frames.now (free_frames words.old) }
 {

@@ -121,7 +121,7 @@ impl Bytes {
     }
 
     // The byte at a place.
-    pub fn byte_at(&self, place: usize) -> u8
+    pub(crate) fn byte_at(&self, place: usize) -> u8
         requires { place < 8388608 }
         ensures byte { result ≡ slice_index self.now place }
         ensures size { length self.now ≡ 8388608 }
@@ -130,7 +130,7 @@ impl Bytes {
     }
 
     // Writes the byte at a place.
-    pub fn set_byte(&mut self, place: usize, byte: u8)
+    pub(crate) fn set_byte(&mut self, place: usize, byte: u8)
         requires { place < 8388608 }
         ensures bytes { self.new ≡ slice_set self.old place byte }
         ensures size { length self.old ≡ 8388608 }

@@ -105,7 +105,7 @@ impl Frames {
     }
 
     // Writes all bytes of a frame.
-    pub fn put_whole(&mut self, frame: usize, from: &[u8; 512])
+    pub(crate) fn put_whole(&mut self, frame: usize, from: &[u8; 512])
         requires frame { frame < 16384 }
         ensures bytes { self.new ≡ with_part (512 * frame) from.now self.old }
         ensures size { length self.new ≡ 8388608 }
@@ -140,7 +140,7 @@ impl Frames {
     }
 
     // The byte at a place.
-    pub fn byte_at(&self, place: usize) -> u8
+    pub(crate) fn byte_at(&self, place: usize) -> u8
         requires { place < 8388608 }
         ensures byte { result ≡ slice_index self.now place }
         ensures size { length self.now ≡ 8388608 }
@@ -149,7 +149,7 @@ impl Frames {
     }
 
     // Writes the byte at a place.
-    pub fn set_byte(&mut self, place: usize, byte: u8)
+    pub(crate) fn set_byte(&mut self, place: usize, byte: u8)
         requires { place < 8388608 }
         ensures bytes { self.new ≡ slice_set self.old place byte }
         ensures size { length self.old ≡ 8388608 }

@@ -39,7 +39,7 @@ pub fn place(span: Span, at: usize) -> usize
 }
 
 // Writes the bytes there.
-pub fn write_span(bytes: &mut Frames, span: Span, from: &[u8])
+pub(crate) fn write_span(bytes: &mut Frames, span: Span, from: &[u8])
     requires span { IsSpan span }
     requires whole { length from.now ≡ span.len }
     ensures bytes { bytes.new ≡ with_bytes_in span from.now bytes.old }
@@ -51,7 +51,7 @@ pub fn write_span(bytes: &mut Frames, span: Span, from: &[u8])
 }
 
 // Reads the bytes there.
-pub fn read_span(bytes: &Frames, span: Span, into: &mut [u8])
+pub(crate) fn read_span(bytes: &Frames, span: Span, into: &mut [u8])
     requires span { IsSpan span }
     requires whole { length into.old ≡ span.len }
     ensures bytes { into.new ≡ bytes_in span bytes.now }
@@ -63,7 +63,7 @@ pub fn read_span(bytes: &Frames, span: Span, into: &mut [u8])
 }
 
 // The byte that all bytes there are, where that is known.
-pub fn fill_span(bytes: &Frames, span: Span) -> Option<u8>
+pub(crate) fn fill_span(bytes: &Frames, span: Span) -> Option<u8>
     requires span { IsSpan span }
     ensures { IfSome result (λ byte. IsFill byte (bytes_in span bytes.now)) }
 {
@@ -75,7 +75,7 @@ pub fn fill_span(bytes: &Frames, span: Span) -> Option<u8>
 }
 
 // Writes there the first bytes of 512.
-pub fn write_front(bytes: &mut Frames, span: Span, from: &[u8; 512])
+pub(crate) fn write_front(bytes: &mut Frames, span: Span, from: &[u8; 512])
     requires span { IsSpan span }
     ensures bytes { bytes.new ≡ with_bytes_in span (front span.len from.now) bytes.old }
     ensures size { length bytes.new ≡ 8388608 }
@@ -88,7 +88,7 @@ pub fn write_front(bytes: &mut Frames, span: Span, from: &[u8; 512])
 }
 
 // Reads the bytes there and then zeros.
-pub fn read_filled(bytes: &Frames, span: Span, into: &mut [u8])
+pub(crate) fn read_filled(bytes: &Frames, span: Span, into: &mut [u8])
     requires span { IsSpan span }
     requires room { span.len ≤ length into.old }
     ensures bytes { into.new ≡ filled (length into.old) (bytes_in span bytes.now) }

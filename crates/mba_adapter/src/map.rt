@@ -38,7 +38,7 @@ fn put_first(registers: &mut [u16], frames: &[u16])
 }
 
 // The first registers hold these frames, and the others 0.
-pub fn map_of(frames: &[u16]) -> [u16; 256]
+pub(crate) fn map_of(frames: &[u16]) -> [u16; 256]
     requires { length frames.now ≤ 256 }
     ensures { result ≡ registers_of 256 frames.now }
 {

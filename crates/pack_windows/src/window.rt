@@ -248,7 +248,7 @@ impl Window {
     }
 
     /// Reads a unit's image ahead, from a block on.
-    pub fn read_image_ahead<W: WidePacks>(&mut self, packs: &mut W, unit: u8, block: u32)
+    pub(crate) fn read_image_ahead<W: WidePacks>(&mut self, packs: &mut W, unit: u8, block: u32)
         requires { unit < 32 }
         ensures never_again { IsTrue (W.tells packs.new) → IsTrue (W.tells packs.old) }
         ensures part { IsTrue (W.tells packs.new) → IsPart self.new (W.held packs.old unit).image }
@@ -260,7 +260,7 @@ impl Window {
     }
 
     /// Reads a unit's marks ahead, with that of a block among them.
-    pub fn read_marks_ahead<W: WidePacks>(&mut self, packs: &mut W, unit: u8, block: u32)
+    pub(crate) fn read_marks_ahead<W: WidePacks>(&mut self, packs: &mut W, unit: u8, block: u32)
         requires { unit < 32 }
         ensures never_again { IsTrue (W.tells packs.new) → IsTrue (W.tells packs.old) }
         ensures part { IsTrue (W.tells packs.new) → IsPart self.new (W.held packs.old unit).marks }

@@ -283,7 +283,7 @@ fn put_numbers(
 }
 
 /// Puts a panel of some columns, of which the first has a place.
-pub fn put_panel(
+pub(crate) fn put_panel(
     page: &mut Vec<ChartLine>,
     sheet: &Sheet<'_>,
     units: &[u8],

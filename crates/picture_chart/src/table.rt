@@ -62,7 +62,7 @@ fn put_request(page: &mut Vec<ChartLine>, request: &Request) -> Result<(), Alloc
 }
 
 /// Puts the requests that are listed, and where they are not all, how many there are.
-pub fn put_table(page: &mut Vec<ChartLine>, shown: &Shown) -> Result<(), AllocError> {
+pub(crate) fn put_table(page: &mut Vec<ChartLine>, shown: &Shown) -> Result<(), AllocError> {
     put_names(page)?;
     for request in shown.listed.iter() {
         put_request(page, request)?;

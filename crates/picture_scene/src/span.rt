@@ -65,7 +65,7 @@ fn lines_of(scene: &Scene<'_, '_>, from: usize, to: usize) -> (u32, u32) {
 }
 
 /// The events and the lines of a stretch of columns.
-pub fn put_span(
+pub(crate) fn put_span(
     out: &mut Markup<'_>,
     scene: &Scene<'_, '_>,
     from: usize,

@@ -229,7 +229,7 @@ fn draw_request(
 }
 
 /// The requests that are listed.
-pub fn draw_table(
+pub(crate) fn draw_table(
     alloc: Global,
     out: &mut Markup<'_>,
     scene: &Scene<'_, '_>,

@@ -77,7 +77,7 @@ fn fill(memory: &mut MainMemory, buffer: &Buffer<Cpu>, bytes: &[u8])
 }
 
 // Lends a buffer for a request, with the bytes of a write in it.
-pub fn lend_filled(memory: &mut MainMemory, asked: Asked, bytes: &[u8]) -> Buffer<Cpu>
+pub(crate) fn lend_filled(memory: &mut MainMemory, asked: Asked, bytes: &[u8]) -> Buffer<Cpu>
     requires asked { IsAskable asked bytes.now }
     requires room { frames_needed asked.count asked.offset asked.last ≤ length memory.old.free }
     ensures lent { HasLent memory.old memory.new result asked }
@@ -95,7 +95,7 @@ pub fn lend_filled(memory: &mut MainMemory, asked: Asked, bytes: &[u8]) -> Buffe
 }
 
 // Repairs block `k` of a buffer.
-pub fn repair_block(
+pub(crate) fn repair_block(
     memory: &mut MainMemory,
     buffer: Buffer<Cpu>,
     k: u32,

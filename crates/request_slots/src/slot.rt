@@ -28,7 +28,7 @@ pub struct Slot {
 }
 
 // So many free slots.
-pub fn free_slots(alloc: Global, count: u32) -> Result<Slab<Slot>, NoMemory>
+pub(crate) fn free_slots(alloc: Global, count: u32) -> Result<Slab<Slot>, NoMemory>
     ensures { IfOk result (λ slots. all_slots slots ≡ replicate count None) }
 {
     match Slab::with_capacity(alloc, count as usize) {
@@ -46,7 +46,7 @@ pub fn slot_at(slots: &Slab<Slot>, number: u32) -> &Slot
 }
 
 // Takes a slot out. What is put in next has its number.
-pub fn take_slot(slots: &mut Slab<Slot>, number: u32) -> Slot
+pub(crate) fn take_slot(slots: &mut Slab<Slot>, number: u32) -> Slot
     requires { IsSome (slot_in (all_slots slots.old) number) }
     ensures slot { slot_in (all_slots slots.old) number ≡ Some result }
     ensures rest { all_slots slots.new ≡ slice_set (all_slots slots.old) number None }
@@ -57,7 +57,7 @@ pub fn take_slot(slots: &mut Slab<Slot>, number: u32) -> Slot
 }
 
 // The request in a slot has ended.
-pub fn end_slot(slots: &mut Slab<Slot>, number: u32)
+pub(crate) fn end_slot(slots: &mut Slab<Slot>, number: u32)
     requires { IsSome (slot_in (all_slots slots.old) number) }
     ensures { (slot : Slot) × (slot_in (all_slots slots.old) number ≡ Some slot) × (all_slots slots.new ≡ slice_set (all_slots slots.old) number (Some (record slot { ended = true }))) }
 {
@@ -65,7 +65,7 @@ pub fn end_slot(slots: &mut Slab<Slot>, number: u32)
 }
 
 // Puts a slot in, and gives its number.
-pub fn put_slot(slots: &mut Slab<Slot>, slot: Slot) -> usize
+pub(crate) fn put_slot(slots: &mut Slab<Slot>, slot: Slot) -> usize
     requires { HasRoomFor slots.old 1 }
     ensures next { result ≡ slots.old.vacant_key }
     ensures inside { result < length (all_slots slots.old) }

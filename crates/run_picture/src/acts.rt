@@ -215,7 +215,7 @@ impl Glance {
 }
 
 /// An event ends for each drive.
-pub fn count_events(drives: &mut [Drive])
+pub(crate) fn count_events(drives: &mut [Drive])
     ensures { drives.new ≡ map event_counted drives.old }
 {
     for drive in drives.iter_mut() {
@@ -224,7 +224,7 @@ pub fn count_events(drives: &mut [Drive])
 }
 
 /// Another begins for each drive.
-pub fn begin_events(drives: &mut [Drive])
+pub(crate) fn begin_events(drives: &mut [Drive])
     ensures { drives.new ≡ map unseen drives.old }
 {
     for drive in drives.iter_mut() {

@@ -123,7 +123,7 @@ impl Head {
 }
 
 /// Another column begins for each drive.
-pub fn clear_cells(drives: &mut [Drive])
+pub(crate) fn clear_cells(drives: &mut [Drive])
     ensures { drives.new ≡ map cleared drives.old }
 {
     for drive in drives.iter_mut() {

@@ -70,7 +70,7 @@ fn ascend(first: u8, into: &mut [u8])
 }
 
 /// Puts a sequence.
-pub fn sequence(first: u8, into: &mut [u8])
+pub(crate) fn sequence(first: u8, into: &mut [u8])
     ensures { IsSequence first into.new }
 {
     let mut next = first;
@@ -84,7 +84,7 @@ pub fn sequence(first: u8, into: &mut [u8])
 }
 
 /// Puts the bytes that the digits of a line say; false exactly where there are not two digits for each byte.
-pub fn decode(text: &[u8], span: Span, into: &mut [u8]) -> bool
+pub(crate) fn decode(text: &[u8], span: Span, into: &mut [u8]) -> bool
     ensures { IsDecoded (slice_index_or (pieces (slice_range text.now span.start span.end)) 7 []) (length into.old) result into.new }
 {
     hex::decode_to_slice(eighth(part(text, span)), into).is_ok()

@@ -18,7 +18,7 @@ pub fn need<'a>(fields: &mut Fields<'a>) -> Result<&'a [u8], ScriptKind>
 }
 
 /// A decimal number from `low` to `high`.
-pub fn number_field(field: &[u8], low: u32, high: u32) -> Result<u32, ScriptKind>
+pub(crate) fn number_field(field: &[u8], low: u32, high: u32) -> Result<u32, ScriptKind>
     ensures value { result ≡ number_field low high field.now }
     ensures bound { IfOk result (λ n. n ≤ high) }
 {
@@ -35,7 +35,7 @@ pub fn number_field(field: &[u8], low: u32, high: u32) -> Result<u32, ScriptKind
 }
 
 /// How many blocks, 1 to 127.
-pub fn count_field(field: &[u8]) -> Result<u32, ScriptKind>
+pub(crate) fn count_field(field: &[u8]) -> Result<u32, ScriptKind>
     ensures value { result ≡ count_field field.now }
     ensures bound { IfOk result (λ n. n ≤ 127) }
 {
@@ -48,7 +48,7 @@ pub fn count_field(field: &[u8]) -> Result<u32, ScriptKind>
 }
 
 /// Two hexadecimal digits.
-pub fn byte_field(field: &[u8]) -> Result<u8, ScriptKind>
+pub(crate) fn byte_field(field: &[u8]) -> Result<u8, ScriptKind>
     ensures { result ≡ byte_field field.now }
 {
     if field.len() != 2 {
@@ -61,7 +61,7 @@ pub fn byte_field(field: &[u8]) -> Result<u8, ScriptKind>
 }
 
 /// The number of a sequence, up to 255.
-pub fn seq_field(field: &[u8]) -> Result<u8, ScriptKind>
+pub(crate) fn seq_field(field: &[u8]) -> Result<u8, ScriptKind>
     ensures { result ≡ seq_field field.now }
 {
     match decimal(field, 255) {
@@ -84,7 +84,7 @@ fn are_digits(field: &[u8]) -> bool
 }
 
 /// Whether a field is 1,024 hexadecimal digits for each of `count` blocks.
-pub fn check_digits(count: u32, field: &[u8]) -> Result<(), ScriptKind>
+pub(crate) fn check_digits(count: u32, field: &[u8]) -> Result<(), ScriptKind>
     requires { count ≤ 127 }
     ensures { MatchResult result (λ _. digits_field count field.now ≡ Ok field.now) (λ kind. digits_field count field.now ≡ Err kind) }
 {
@@ -99,7 +99,7 @@ pub fn check_digits(count: u32, field: &[u8]) -> Result<(), ScriptKind>
 }
 
 /// A place of a word, up to 4127.
-pub fn place_field(field: &[u8]) -> Result<u16, ScriptKind>
+pub(crate) fn place_field(field: &[u8]) -> Result<u16, ScriptKind>
     ensures value { result ≡ place_field field.now }
     ensures bound { IfOk result (λ place. place ≤ 4127) }
 {

@@ -32,7 +32,7 @@ impl Held {
     }
 
     /// The noise that is there.
-    pub fn into_noise(self) -> Box<Noise>
+    pub(crate) fn into_noise(self) -> Box<Noise>
         ensures { box_value result ≡ self }
     {
         let Held { noise } = self;

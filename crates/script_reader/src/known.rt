@@ -60,7 +60,7 @@ impl Known {
     }
 
     /// Whether a unit may be declared no more.
-    pub fn is_later(&self) -> bool
+    pub(crate) fn is_later(&self) -> bool
         ensures { result ≡ (known_in self.now).later }
     {
         self.later
@@ -85,7 +85,7 @@ impl Known {
     }
 
     /// The number of a unit that was not declared.
-    pub fn new_unit_field(&self, field: &[u8]) -> Result<u8, ScriptKind>
+    pub(crate) fn new_unit_field(&self, field: &[u8]) -> Result<u8, ScriptKind>
         ensures { result ≡ new_unit_field (known_in self.now) field.now }
     {
         let unit = unit_number(field)?;
@@ -96,7 +96,7 @@ impl Known {
     }
 
     /// The number of a unit that was declared, and its kind.
-    pub fn unit_field(&self, field: &[u8]) -> Result<(u8, DriveKind), ScriptKind>
+    pub(crate) fn unit_field(&self, field: &[u8]) -> Result<(u8, DriveKind), ScriptKind>
         ensures { result ≡ unit_field (known_in self.now) field.now }
     {
         let unit = unit_number(field)?;
@@ -115,7 +115,7 @@ impl Known {
     }
 
     /// An id that was not used.
-    pub fn id_field(&self, field: &[u8]) -> Result<u32, ScriptKind>
+    pub(crate) fn id_field(&self, field: &[u8]) -> Result<u32, ScriptKind>
         ensures { result ≡ id_field (known_in self.now) field.now }
     {
         let id = number_field(field, 0, u32::MAX)?;

@@ -64,7 +64,7 @@ pub fn verb(word: &[u8]) -> Result<Verb, ScriptKind>
 }
 
 /// A kind of drive.
-pub fn kind_field(word: &[u8]) -> Result<DriveKind, ScriptKind>
+pub(crate) fn kind_field(word: &[u8]) -> Result<DriveKind, ScriptKind>
     ensures { result ≡ kind_field word.now }
 {
     match kind_of(word) {
@@ -74,7 +74,7 @@ pub fn kind_field(word: &[u8]) -> Result<DriveKind, ScriptKind>
 }
 
 /// A partition's letter.
-pub fn part_field(word: &[u8]) -> Result<Part, ScriptKind>
+pub(crate) fn part_field(word: &[u8]) -> Result<Part, ScriptKind>
     ensures { result ≡ part_field word.now }
 {
     if word.len() != 1 {
@@ -108,7 +108,7 @@ pub fn offset_field(word: &[u8]) -> Result<OffsetCode, ScriptKind>
 }
 
 /// A kind of fault.
-pub fn fault_field(word: &[u8]) -> Result<FaultKind, ScriptKind>
+pub(crate) fn fault_field(word: &[u8]) -> Result<FaultKind, ScriptKind>
     ensures { result ≡ fault_field word.now }
 {
     if is_word(word, b"seek".as_slice()) {
