@@ -11,6 +11,12 @@ use driver_outcome::Stop;
 use hp_core::Core;
 use outside_traits::traits::Sink;
 
+/// How many deeds come at most behind an interrupt: of the phase, for the volume, and for the offset.
+const DEEDS_OF_INTERRUPT: u64 = 8;
+
+/// How many deeds come at most for each request that ends.
+const DEEDS_OF_REQUEST: u64 = 3;
+
 /// Does what is due at a unit, 0 to 31, until nothing is; a transfer command comes only where its adapter is free. Stops where the
 /// trace fails.
 pub fn due<T: Sink>(core: &mut Core, line: u64, u: u8, trace: &mut T) -> Result<(), Stop>
@@ -19,7 +25,7 @@ pub fn due<T: Sink>(core: &mut Core, line: u64, u: u8, trace: &mut T) -> Result<
     requires free { IsFree core.old.world u }
     ensures { DoesActs T.tells T.taken T.faults trace.old trace.new core.old core.new result (due_acts line u core.old.world) }
 {
-    for _ in 0..8 + 3 * u64::from(core.queue_len(u)) {
+    for _ in 0..DEEDS_OF_INTERRUPT + DEEDS_OF_REQUEST * u64::from(core.queue_len(u)) {
         let more = next_deed(core, line, u, trace)?;
         if !more {
             return Ok(());
