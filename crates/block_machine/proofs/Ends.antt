@@ -7,9 +7,8 @@ use Rattle.pack_model.specs.Pack as model
 use Rattle.pack_model.specs.Homes.{home_of}
 use Rattle.subsystem_spec.specs.Requests.{IsRequest, Request, first_block, Answer, ReadOk, WriteOk, Failed, Cause, Offline, Locked, Unforwarded, Fault, OutsidePartition, EndOfPartition, NoFrames}
 use Rattle.trace_replay.specs.Moments.{Deed, Centre, Clear, Try, End}
-use Rattle.trace_replay.specs.History.{WasMarked}
 use Rattle.trace_replay.specs.Conversation.{Hand, Stage, Waiting, Steps, UnderWay, AtOnce, Moving, Saying, Ending, Segment, Positioning, SearchFor, Recalibrate, SeekTo, OffsetBy, Progress, not_begun, due, guarded, transfer_of, command_of, needs_unlocked, is_write, begun}
-use Rattle.trace_replay.proofs.Histories.{Fits, Open, AreSaid, guard_holds, EndFits, EndsFailed}
+use Rattle.trace_replay.proofs.Histories.{Fits, Open, AreSaid, guard_holds, EndFits, EndsFailed, WasMarked}
 use Rattle.trace_replay.proofs.Unusable.{no_home}
 use Rattle.block_machine.specs.Machine.{Blocks, AreUsable, bytes_of_first, blocks_done, done_in, IsCause, MayAnswer}
 use Rattle.block_machine.specs.Stands.{IsSure, HandStands, AnswerStands, StageStands, size_of_first}

@@ -16,10 +16,9 @@ use Rattle.std.proofs.lemmas.Bool.{lt-ltb}
 use Rattle.pack_model.specs.Homes.{if_unmarked}
 use Rattle.subsystem_spec.specs.Requests.{first_block}
 use Rattle.trace_replay.specs.Script.{IsThere}
-use Rattle.trace_replay.specs.History.{WasMarked}
 use Rattle.trace_replay.specs.Moments.{Deed}
 use Rattle.trace_replay.specs.Conversation.{Hand, Segment, OwnBlocks, Replacement, start_of}
-use Rattle.trace_replay.proofs.Histories.{Open}
+use Rattle.trace_replay.proofs.Histories.{Open, WasMarked}
 
 -- ---- no two blocks of a unit share a home
 room_at : (drive : Option DriveKind) (pack : model.Pack) (table : Option Table) → IsTableAt drive pack table → length (places_of table) ≤ 126

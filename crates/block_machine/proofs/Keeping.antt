@@ -17,12 +17,13 @@ use Rattle.trace_replay.specs.Packs.{VerdictMay, flips_at}
 use Rattle.trace_replay.specs.Conversation.{goes_on}
 use Rattle.trace_replay.specs.Events.{Act, Done, Refusing, Arriving, Trying, Serving, NothingToDo, Event, Wish, NoLine, DueLine, Arrival, SectorLine, Interrupt, Attention, Refusal, IdleLine, wish_of, wanted, act_after, act_of_arrival, act_of_move, act_of_attend, can_attend, adapters_there, is_no_line}
 use Rattle.trace_replay.specs.Replay.{Replay, UnitSeen, with_state, next_wish, LineMay, ToldMay, unit_after, replay_told, drained, act_drained}
-use Rattle.trace_replay.specs.History.{is_refusal, with_deed, lines_after, WasMarked}
+use Rattle.trace_replay.specs.History.{is_refusal, with_deed, lines_after}
 use Rattle.trace_replay.proofs.Unchanged.{either}
 use Rattle.trace_replay.proofs.Kept.{refused_is}
 use Rattle.block_machine.specs.Stands.{Setup}
 use Rattle.block_machine.proofs.Tried.{no}
 use Rattle.block_machine.proofs.Units.{IsFirst}
+use Rattle.trace_replay.proofs.Histories.{WasMarked}
 
 pub with_other : {T : Type 0} (states : ℕ → T) (k : ℕ) (state : T) (x : ℕ) → x ≢ k → with_state states k state x ≡ states x
 with_other states k state x apart = elim (eqb_tells x k) [

@@ -17,7 +17,7 @@ use Rattle.trace_replay.specs.Service.{in_hand, target_of}
 use Rattle.trace_replay.specs.Conversation.{goes_on}
 use Rattle.trace_replay.specs.Events.{Arriving, Trying, NothingToDo, Event, Wish, NoLine, DueLine, Arrival, SectorLine, Interrupt, Attention, Refusal, IdleLine, wanted, can_attend, serving}
 use Rattle.trace_replay.specs.Replay.{Replay, UnitSeen, next_wish, at_unit, ToldMay, InputMay, MayCome, after_moment, unit_after, replay_told, told_after, act_drained, Submission, Refused, Joined, submission, submitted, unit_joined, replay_played, event_of, act_submitted}
-use Rattle.trace_replay.specs.History.{lines_after, WasMarked}
+use Rattle.trace_replay.specs.History.{lines_after}
 use Rattle.trace_replay.specs.Causes.{AsksSome}
 use Rattle.trace_replay.proofs.Unchanged.{told_keeps, surface_marks}
 use Rattle.trace_replay.proofs.Kept.{AllFit, told_all, played_all, starts, after_kind, played_kind, performed_kind}
@@ -25,6 +25,7 @@ use Rattle.block_machine.specs.Machine.{kind_of}
 use Rattle.block_machine.specs.Stands.{Setup, start_over, IsGiven}
 use Rattle.block_machine.proofs.Units.{Keeps}
 use Rattle.block_machine.proofs.Keeping.{with_each, with_other, Events, line_events, told_true, calm_first, calm_drain, calm_either}
+use Rattle.trace_replay.proofs.Histories.{WasMarked}
 
 -- ---- kinds, tables and marks stay
 pub record Steady (setup : Setup) (s : Replay) : Type 0 where

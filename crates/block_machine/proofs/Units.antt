@@ -24,7 +24,6 @@ use Rattle.trace_replay.specs.Moments.{Deed, Search, Seek, Recal, Offset, Centre
 use Rattle.trace_replay.specs.Drives.{takes, transfer_function, drive_after, addressed}
 use Rattle.trace_replay.specs.Packs.{flips_at, bytes_read}
 use Rattle.trace_replay.specs.Service.{first_waiting, request_or_none, ids, in_hand, target_of}
-use Rattle.trace_replay.specs.History.{WasMarked}
 use Rattle.trace_replay.specs.Conversation.{Stage, Progress, last_of, segment_of, left_of, Moving, interrupted_by, step_taken, step_ended, said, progress_tried, progress_interrupted}
 use Rattle.trace_replay.specs.Events.{Act, Refusing}
 use Rattle.trace_replay.specs.Conversation.{goes_on}
@@ -37,6 +36,7 @@ use Rattle.block_machine.proofs.Noises.{struck_harmless}
 use Rattle.block_machine.proofs.Homes.{tried_home, home_is, there_is, homes_differ}
 use Rattle.block_machine.proofs.Tried.{no, TryOf, tried, verdict_moved}
 use Rattle.block_machine.proofs.Stages.{MaySector, may_sector, sector_goes, due_goes, pack_stands, step_stands, said_stands, arrive_stands, attn_stands, interrupted_hand, interrupted_stage, last_stands}
+use Rattle.trace_replay.proofs.Histories.{WasMarked}
 
 -- while a refusal is still to come, no unit goes on by itself
 abbrev pub IsFirst : Act → Bool → Type 0

@@ -19,12 +19,7 @@ pub record IsWithin (most_requests most_noises most_faults : ℕ) (w : World) : 
   pub noises : w.book.armed ≤ most_noises
   pub faults : (u : ℕ) (kind : FaultKind) → times_armed kind (unit_at w u).drive.armed ≤ 1000 * most_faults
 
--- WHAT AN INPUT of a script brings: a submission one request,
-abbrev pub requests_of : Input → ℕ
-requests_of (script.Submit r) = 1
-requests_of input = 0
-
--- a noise one noise,
+-- WHAT AN INPUT of a script brings: a noise one noise,
 abbrev pub noises_of : Input → ℕ
 noises_of (script.Noise noise) = 1
 noises_of input = 0

@@ -16,7 +16,7 @@ use Rattle.driver_machine.specs.World.{UnitView}
 use Rattle.driver_machine.specs.Acts as deed
 use Rattle.driver_machine.specs.Acts.{Deed, Scene, effect}
 use Rattle.driver_machine.specs.Due.{next_of, task_for}
-use Rattle.driver_machine.specs.Measure.{judging_left, task_left, phase_left, deeds_left, is_resting}
+use Rattle.driver_machine.proofs.Measure.{judging_left, task_left, phase_left, deeds_left, is_resting}
 use Rattle.driver_due.specs.DueFacts.{IsDue, IsJudged}
 use Rattle.driver_due.proofs.DueFacts.{due_facts}
 

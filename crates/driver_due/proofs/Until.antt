@@ -11,7 +11,7 @@ use Rattle.driver_machine.specs.World.{World, UnitView, Held, unit_at, no_unit, 
 use Rattle.driver_machine.specs.Acts.{Deed, Act, Of, Scene, effect, scene_of, with_scene, after, after_all}
 use Rattle.driver_machine.specs.Due.{next_of, next_by}
 use Rattle.driver_machine.specs.Events.{go_on, until, in_hand_by, due_by, next_acts, due_acts}
-use Rattle.driver_machine.specs.Measure.{deeds_left, phase_left, task_left, judging_left, is_resting}
+use Rattle.driver_machine.proofs.Measure.{deeds_left, phase_left, task_left, judging_left, is_resting}
 use Rattle.driver_due.proofs.DueFacts.{false_true}
 use Rattle.driver_due.proofs.Falls.{Falls, falls, judging}
 

@@ -4,6 +4,5 @@ pub mod Acts
 pub mod Due
 pub mod Events
 pub mod Lines
-pub mod Measure
 pub mod Guards
 pub mod Sound

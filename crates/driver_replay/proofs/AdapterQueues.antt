@@ -10,9 +10,6 @@ use Rattle.driver_machine.specs.Acts.{kept_by, without}
 use Rattle.driver_machine.specs.Sound.{Among}
 use Rattle.driver_replay.specs.Shows.{is_coming, with_coming}
 
-is_in : ℕ → List ℕ → Bool
-is_in u queue = list_any (λ other. other == u) queue
-
 either : {P : Type 0} (m n : ℕ) → ((m == n) ≡ true → m ≡ n → P) → ((m == n) ≡ false → m ≢ n → P) → P
 either m n same other = elim (eqb_tells m n) [
   | inl is ↦ same is.0 is.1

@@ -20,7 +20,7 @@ use Rattle.driver_machine.specs.Acts.{with_drive}
 use Rattle.driver_machine.specs.Acts as deed
 use Rattle.driver_machine.specs.Sound.{Sound, IsPhase}
 use Rattle.driver_replay.specs.Shows.{IsAdapterSeen, is_coming, with_coming, Shows}
-use Rattle.driver_replay.specs.Told.{seen_told}
+use Rattle.driver_replay.proofs.Told.{seen_told}
 use Rattle.driver_replay.specs.Laws.{IsSaid}
 use Rattle.driver_replay.proofs.Core.{Core}
 use Rattle.driver_replay.proofs.Facts.{At}

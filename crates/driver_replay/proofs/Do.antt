@@ -40,7 +40,7 @@ use Rattle.driver_machine.specs.Sound.{Sound, IsTask}
 use Rattle.driver_due.specs.DueFacts.{IsStep, MayGo}
 use Rattle.driver_replay.specs.Stages.{step_seen}
 use Rattle.driver_replay.specs.Shows.{Shows}
-use Rattle.driver_replay.specs.Told.{seen_told}
+use Rattle.driver_replay.proofs.Told.{seen_told}
 use Rattle.driver_replay.specs.Laws.{IsSaid}
 use Rattle.driver_replay.proofs.Core.{Core}
 use Rattle.driver_replay.proofs.Talk.{guarded_command, step_stage}

@@ -37,7 +37,7 @@ use Rattle.driver_machine.specs.Sound.{Sound, IsPhase, IsBegun}
 use Rattle.driver_due.specs.DueFacts.{Ends, Offline, Locked, Left, Unforwarded, Tried, Finished, Calls, AtStart, AtStep, AtTransfer, AtChoice, IsAtCommand}
 use Rattle.driver_replay.specs.Stages.{segment_by, steps_left, segment_seen, progress_judged, front_of, progress_with}
 use Rattle.driver_replay.specs.Shows.{Match, IsAdapterSeen, is_coming, with_coming, counted_by, outstanding_in, Shows}
-use Rattle.driver_replay.specs.Told.{seen_told}
+use Rattle.driver_replay.proofs.Told.{seen_told}
 use Rattle.driver_replay.specs.Laws.{IsSaid}
 use Rattle.driver_replay.proofs.Core.{Core, IsHead}
 use Rattle.driver_replay.proofs.Talk.{transfer_guarded, command_progress}

@@ -15,7 +15,7 @@ use Rattle.driver_machine.specs.Acts as deed
 use Rattle.driver_machine.specs.Sound.{Sound}
 use Rattle.driver_replay.specs.Stages.{stage_by, IsProgress, segment_seen, last_verdict, sectors_left, progress_stopped, progress_judged}
 use Rattle.driver_replay.specs.Shows.{IsAdapterSeen, Shows}
-use Rattle.driver_replay.specs.Told.{seen_told}
+use Rattle.driver_replay.proofs.Told.{seen_told}
 use Rattle.driver_replay.specs.Laws.{IsSaid}
 use Rattle.driver_replay.proofs.Core.{Core}
 use Rattle.driver_replay.proofs.Facts.{At}

@@ -38,3 +38,4 @@ pub mod Working
 pub mod Brought
 pub mod Speech
 pub mod Begun
+pub mod Told

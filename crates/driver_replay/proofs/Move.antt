@@ -28,7 +28,7 @@ use Rattle.driver_machine.specs.Sound.{Sound, IsPhase, IsBegun, IsStill}
 use Rattle.driver_due.specs.DueFacts.{IsAtCommand, MayGo}
 use Rattle.driver_replay.specs.Stages.{segment_seen}
 use Rattle.driver_replay.specs.Shows.{IsAdapterSeen, is_coming, Shows}
-use Rattle.driver_replay.specs.Told.{seen_told}
+use Rattle.driver_replay.proofs.Told.{seen_told}
 use Rattle.driver_replay.specs.Laws.{IsSaid}
 use Rattle.driver_replay.proofs.Core.{Core, IsHead}
 use Rattle.driver_replay.proofs.Talk.{guarded_command, transfer_guarded}

@@ -32,7 +32,7 @@ use Rattle.driver_due.specs.DueFacts.{Calls, AtStart, AtStep, AtTransfer, AtChoi
 use Rattle.driver_due.proofs.DueFacts.{due_facts, chosen_facts}
 use Rattle.driver_replay.specs.Stages.{step_seen}
 use Rattle.driver_replay.specs.Shows.{is_coming, with_coming, Shows}
-use Rattle.driver_replay.specs.Told.{seen_told}
+use Rattle.driver_replay.proofs.Told.{seen_told}
 use Rattle.driver_replay.specs.Laws.{IsSaid}
 use Rattle.driver_replay.proofs.Core.{Core, IsHead}
 use Rattle.driver_replay.proofs.Talk.{transfer_guarded, step_stage}

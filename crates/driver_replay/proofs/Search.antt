@@ -28,7 +28,7 @@ use Rattle.driver_machine.specs.Sound.{Sound, IsPhase}
 use Rattle.driver_due.specs.DueFacts.{MayGo}
 use Rattle.driver_replay.specs.Stages.{steps_seen}
 use Rattle.driver_replay.specs.Shows.{Shows}
-use Rattle.driver_replay.specs.Told.{seen_told}
+use Rattle.driver_replay.proofs.Told.{seen_told}
 use Rattle.driver_replay.specs.Laws.{IsSaid}
 use Rattle.driver_replay.proofs.Core.{Core, IsHead}
 use Rattle.driver_replay.proofs.Places.{no_bytes}

@@ -33,7 +33,7 @@ use Rattle.driver_machine.specs.Acts as deed
 use Rattle.driver_machine.specs.Sound.{Sound, IsPhase, IsBegun}
 use Rattle.driver_replay.specs.Stages.{segment_seen, last_verdict, left_by, progress_stopped, failures_at, front_of, progress_with}
 use Rattle.driver_replay.specs.Shows.{IsAdapterSeen, is_coming, with_coming, Shows, IsOnSurface}
-use Rattle.driver_replay.specs.Told.{seen_told}
+use Rattle.driver_replay.proofs.Told.{seen_told}
 use Rattle.driver_replay.specs.Laws.{IsSaid}
 use Rattle.driver_replay.proofs.Core.{Core, IsHead}
 use Rattle.driver_replay.proofs.Facts.{At}

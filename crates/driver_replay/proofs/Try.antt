@@ -30,7 +30,7 @@ use Rattle.driver_machine.specs.Sound.{Sound, IsBegun, IsTask, IsEndedAt}
 use Rattle.driver_due.specs.DueFacts.{IsJudged, IsFailure}
 use Rattle.driver_replay.specs.Stages.{stage_by, IsProgress, steps_seen, segment_seen, progress_judged, front_of, progress_with}
 use Rattle.driver_replay.specs.Shows.{Shows}
-use Rattle.driver_replay.specs.Told.{seen_told}
+use Rattle.driver_replay.proofs.Told.{seen_told}
 use Rattle.driver_replay.specs.Laws.{IsSaid}
 use Rattle.driver_replay.proofs.Core.{Core, IsHead}
 use Rattle.driver_replay.proofs.Facts.{At}

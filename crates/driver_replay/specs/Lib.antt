@@ -1,6 +1,5 @@
 pub mod Stages
 pub mod Shows
-pub mod Told
 pub mod Laws
 pub mod Acts
 pub mod Moments

@@ -1,5 +1,5 @@
 -- An attend: the data interrupt, each attention in ascending order, and the adapter's start.
-use Rattle.std.proofs.Common.{◌≡◌, ◌≢◌, ◌⊎◌, inl, inr, ℕ, ◌+◌, ◌*◌, ◌/◌, ◌<◌, Bool, true, false, List, [], ◌∷◌, length, refl, sym, ap, subst, arith, ◌∙◌}
+use Rattle.std.proofs.Common.{◌≡◌, ◌≢◌, ◌⊎◌, inl, inr, ℕ, ◌+◌, ◌*◌, ◌<◌, Bool, true, false, List, [], ◌∷◌, length, refl, sym, ap, subst, arith, ◌∙◌}
 use Rattle.std.specs.Prelude.{if◌then◌else◌}
 use Rattle.std.specs.Int.{bit_at}
 use Rattle.trace_replay.specs.Moments as moment
@@ -12,7 +12,7 @@ use Rattle.driver_machine.specs.declared.Task.TheVariants.{Clear, Judge, Steps, 
 use Rattle.driver_machine.specs.World.{World, UnitView, AdapterView, Held, adapter_of, unit_on, unit_of, unit_at, adapter_at, held_in, slot_in_hand}
 use Rattle.driver_machine.specs.Acts as deed
 use Rattle.driver_machine.specs.Acts.{Deed, Of, effect, scene_of, after, after_all}
-use Rattle.driver_machine.specs.Measure.{is_resting}
+use Rattle.driver_machine.proofs.Measure.{is_resting}
 use Rattle.driver_machine.specs.Events.{and_then, when_by, each, begun, data_interrupt, attention, steps_taken, drives, attended, adapter_start}
 use Rattle.driver_machine.specs.Guards.{IsSetUp}
 use Rattle.driver_machine.specs.Sound.{Sound, Among, Once, IsPhase, IsTask, is_waiting}
@@ -53,9 +53,6 @@ AreDrives ks = (k : ℕ) → Among k ks → k < 8
 
 unit_less : (a d : ℕ) → a < 4 → d < 8 → 8 * a + d < 32
 unit_less a d four eight = omega (arith, four, eight)
-
-its_is : (a d : ℕ) → d < 8 → (8 * a + d) / 8 ≡ a
-its_is a d eight = omega (arith, eight)
 
 apart : (a j k : ℕ) → (j ≡ k → ⊥) → unit_on a j ≢ unit_on a k
 apart a j k other same = other (numbers a j k same)

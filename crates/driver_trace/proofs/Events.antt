@@ -19,9 +19,9 @@ use Rattle.driver_machine.specs.Sound.{Sound, Among}
 use Rattle.driver_due.proofs.DueFacts.{false_true}
 use Rattle.driver_work.specs.Runs.{Run}
 use Rattle.driver_outcome.specs.Packs.{packs_after_all}
-use Rattle.driver_trace.specs.Within.{within_all, drained_by, ShowsAll, Rests, Tells}
+use Rattle.driver_trace.specs.Within.{within_all, ShowsAll, Rests, Tells}
 use Rattle.driver_trace.specs.Calls.{IsSurfaceOf, IsOverWithin, IsTold}
-use Rattle.driver_trace.proofs.Joined.{Followed, lines_follow}
+use Rattle.driver_trace.proofs.Joined.{Followed, lines_follow, drained_by}
 use Rattle.driver_trace.proofs.Starting.{wish_resting, other_act}
 use Rattle.driver_trace.proofs.Attending.{raised_by, raised_in, are_drives, attended_told}
 

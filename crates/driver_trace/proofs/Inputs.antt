@@ -19,7 +19,7 @@ use Rattle.driver_machine.specs.declared.Task.TheVariants.{Clear, Judge, Steps, 
 use Rattle.driver_machine.specs.World.{World, UnitView, AdapterView, Held, adapter_of, unit_at, adapter_at, held_in, slot_in_hand}
 use Rattle.driver_machine.specs.Acts as deed
 use Rattle.driver_machine.specs.Acts.{Deed, Of, Change, Nothing, effect, scene_of, with_drive, after, after_all}
-use Rattle.driver_machine.specs.Measure.{is_resting}
+use Rattle.driver_machine.proofs.Measure.{is_resting}
 use Rattle.driver_machine.specs.Events.{in_hand, can_arrive, can_attend, or_nothing, attended, arrive_acts, attend_acts}
 use Rattle.driver_machine.specs.Guards.{IsSetUp}
 use Rattle.driver_machine.specs.Sound.{IsPhase, IsTask, is_waiting}

@@ -24,7 +24,7 @@ use Rattle.driver_machine.specs.declared.Phase.TheVariants.{Transferring}
 use Rattle.driver_machine.specs.World.{World, UnitView, Held, adapter_of, unit_on, unit_of, unit_at, adapter_at, held_in, slot_in_hand, transfer_of}
 use Rattle.driver_machine.specs.Acts as deed
 use Rattle.driver_machine.specs.Acts.{Deed, Of, Tried, effect, scene_of, after, after_all}
-use Rattle.driver_machine.specs.Measure.{is_resting}
+use Rattle.driver_machine.proofs.Measure.{is_resting}
 use Rattle.driver_machine.specs.Events.{can_move}
 use Rattle.driver_machine.specs.Events as part
 use Rattle.driver_machine.specs.Guards.{Allowed, IsSetUp}

@@ -11,7 +11,7 @@ use Rattle.driver_machine.specs.World.{World, UnitView, adapter_of, unit_at, ada
 use Rattle.driver_machine.specs.Acts.{Deed, after}
 use Rattle.driver_machine.specs.Due.{next_by}
 use Rattle.driver_machine.specs.Events.{in_hand_by, due_by, next_acts, due_acts, begun}
-use Rattle.driver_machine.specs.Measure.{is_resting}
+use Rattle.driver_machine.proofs.Measure.{is_resting}
 use Rattle.driver_machine.specs.Sound.{Sound, is_waiting}
 use Rattle.driver_due.proofs.Until.{due_over}
 use Rattle.driver_work.specs.Runs.{Run}

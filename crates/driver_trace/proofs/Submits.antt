@@ -37,9 +37,9 @@ use Rattle.driver_outcome.specs.Packs.{packs_after_all}
 use Rattle.driver_replay.specs.Shows.{Shows, is_coming}
 use Rattle.driver_replay.specs.Acts.{IsRefused, IsAtWorkFor}
 use Rattle.driver_replay.proofs.Rest.{refusals_show, joins_show, changes_show}
-use Rattle.driver_trace.specs.Within.{within_all, drained_by, ShowsAll, Rests, Speaks, Tells}
+use Rattle.driver_trace.specs.Within.{within_all, ShowsAll, Rests, Speaks, Tells}
 use Rattle.driver_trace.specs.Calls.{IsSurfaceOf, Stands, IsOverWithin, Ends, IsTold}
-use Rattle.driver_trace.proofs.Joined.{Followed, lines_follow, then_tells}
+use Rattle.driver_trace.proofs.Joined.{Followed, lines_follow, then_tells, drained_by}
 use Rattle.driver_trace.proofs.Due.{IsQuiet, rest_quiet}
 use Rattle.driver_trace.proofs.Speaking.{quiet_after}
 use Rattle.driver_trace.proofs.Resting.{IsAtRest, Rested, shows_one, shows_all, due_told}

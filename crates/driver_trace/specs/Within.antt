@@ -4,7 +4,7 @@ use Rattle.pack_model.specs.Pack as model
 use Rattle.trace_replay.specs.Moments.{Deed, Moment, Told}
 use Rattle.trace_replay.specs.Conversation.{goes_on}
 use Rattle.trace_replay.specs.Events.{Act}
-use Rattle.trace_replay.specs.Replay.{Replay, WorkMay, LineMay, unit_after, replay_told, drained}
+use Rattle.trace_replay.specs.Replay.{Replay, WorkMay, LineMay, unit_after, replay_told}
 use Rattle.driver_machine.specs.World.{World, UnitView, adapter_of, unit_at, adapter_at, held_in}
 use Rattle.driver_machine.specs.Acts as machine
 use Rattle.driver_machine.specs.Acts.{after_all}
@@ -34,11 +34,6 @@ LineFollows s m = ⊥
 abbrev pub LinesFollow : Replay → List Moment → Type 0
 LinesFollow s [] = Unit {0}
 LinesFollow s (m ∷ ms) = LineFollows s m × LinesFollow (within s m) ms
-
--- behind the last of them a drain goes on
-abbrev pub drained_by : List Moment → Replay → Replay
-drained_by [] s = s
-drained_by (m ∷ ms) s = drained s
 
 -- THE REPLAY shows a world in which no unit speaks.
 pub record ShowsAll (w : World) (s : Replay) : Type 0 where

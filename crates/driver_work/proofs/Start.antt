@@ -14,7 +14,7 @@ use Rattle.driver_machine.specs.Acts.{Act, Deed, Scene, effect, scene_of, with_d
 use Rattle.driver_machine.specs.Due.{sensed, failed, command_of}
 use Rattle.driver_machine.specs.Events.{Part, followed, go_on, until, due_acts, begun, choose_by, choose_acts, adapter_start}
 use Rattle.driver_machine.specs.Guards.{May, IsChosen}
-use Rattle.driver_machine.specs.Measure.{is_resting}
+use Rattle.driver_machine.proofs.Measure.{is_resting}
 use Rattle.driver_machine.specs.Sound.{Sound, Among, is_waiting}
 use Rattle.driver_due.proofs.DueFacts.{either, was_on, false_true}
 use Rattle.driver_due.proofs.Until.{resting, until_none}

@@ -24,10 +24,6 @@ unfed : (bit : ℕ → ℕ) (k : ℕ) → fed bit (suc k) ≡ times_x (bit_xor (
 unfolding fed
 unfed bit k = refl
 
-reversed-more : (n w : ℕ) → reversed (suc n) w ≡ w % 2 * 2 ^ n + reversed n (w / 2)
-unfolding reversed
-reversed-more n w = refl
-
 times_x-small : (v : ℕ) → v < 2 ^ 31 → times_x v ≡ v * 2
 unfolding times_x clock
 times_x-small v h = clock-small 31 0x00A00805 v h

@@ -6,10 +6,10 @@ use Rattle.std.proofs.lemmas.Nat.{mod_below}
 use lib.Bits.{bit_xor, xor_shifted, xor_comm, xor_lt}
 use Rattle.fire_code.specs.Remainder.{times_x, remainder, repeat}
 use Rattle.fire_code.specs.Burst.{IsShortBurst, IsUncorrectable, reversed}
-use Rattle.fire_code.specs.Residue.{clock, clock_ring, clock_cycle, ring_of, IsWindow, cycle_of}
+use Rattle.fire_code.specs.Residue.{clock, clock_cycle, ring_of, IsWindow, cycle_of}
 use Rattle.fire_code.proofs.Linear.{linear_at_zero, linear_after, linear_xor, linear_div, linear_id}
 use Rattle.fire_code.proofs.Register.{clock-linear, repeat_add, repeat_mod, repeat_linear, bit_times-linear}
-use Rattle.fire_code.proofs.Fold.{same_by_test, repeat_times_x-lt}
+use Rattle.fire_code.proofs.Fold.{same_by_test, repeat_times_x-lt, clock_ring}
 use Rattle.fire_code.proofs.Window.{ring_round}
 use Rattle.fire_code.proofs.Shifted.{shifted_unique, ring_of-small}
 use Rattle.fire_code.proofs.Bursts.{HasPattern, pattern_from, raised_burst, reversed-lt, reversed_11, reversed_twice}

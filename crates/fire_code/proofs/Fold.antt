@@ -5,18 +5,18 @@ use Rattle.std.proofs.lemmas.Nat.{mod_below, pow_pos}
 use Rattle.std.proofs.lemmas.Bool.{agree_below, agree_below_at, eqb-true}
 use lib.Bits.{bit_xor, xor_lt}
 use Rattle.fire_code.specs.Remainder.{times_x, repeat}
-use Rattle.fire_code.specs.Residue.{clock, clock_ring, clock_cycle, ring_of}
+use Rattle.fire_code.specs.Residue.{clock, clock_cycle, ring_of}
 use Rattle.fire_code.proofs.Linear.{IsLinear, linear_after, linear_xor, linear_mod, linear_div, linear_shl, linear_id, same_linear, bit_cases}
-use Rattle.fire_code.proofs.Register.{clock-linear, repeat_keeps, bit_times-linear, bit_is}
+use Rattle.fire_code.proofs.Register.{clock-linear, repeat_keeps, bit_times-linear}
+
+-- x * v modulo x^21 + 1: a ring of 21 bits, clocked once
+abbrev pub clock_ring : ℕ → ℕ
+clock_ring = clock 20 1
 
 -- two linear maps that a computed test finds equal at the powers of two
 pub same_by_test : (f g : ℕ → ℕ) → IsLinear f → IsLinear g → (n : ℕ) → agree_below (λ j. eqb (f (2 ^ j)) (g (2 ^ j))) (λ _. true) n ≡ true → (v : ℕ) → v < 2 ^ n → f v ≡ g v
 same_by_test f g lf lg n t =
     same_linear f g lf lg n (λ j h. eqb-true (f (2 ^ j)) (g (2 ^ j)) (agree_below_at (λ i. eqb (f (2 ^ i)) (g (2 ^ i))) (λ _. true) n j t h))
-
-pub times_x-clock : (v : ℕ) → times_x v ≡ clock 31 0x00A00805 v
-unfolding times_x clock
-times_x-clock v = refl
 
 pub times_x-linear : IsLinear times_x
 unfolding times_x clock
@@ -70,14 +70,6 @@ over_x v = bit_xor (v / 2 ^ 1) (bit_at v 0 * 0x80500402)
 pub over_x-linear : IsLinear over_x
 unfolding over_x
 over_x-linear = linear_xor (λ v. v / 2 ^ 1) (λ v. bit_at v 0 * 0x80500402) (linear_div 1) (bit_times-linear 0 0x80500402)
-
-pub over_x-lt : (v : ℕ) → v < 2 ^ 32 → over_x v < 2 ^ 32
-unfolding over_x
-over_x-lt v h = xor_lt 32 (v / 2 ^ 1) (bit_at v 0 * 0x80500402) (omega arith) (times (bit_at v 0) (bit_is v 0))
-  where
-    times : (x : ℕ) → (x ≡ 0) ⊎ (x ≡ 1) → x * 0x80500402 < 2 ^ 32
-    times x (inl e) = rw e (omega arith)
-    times x (inr e) = rw e (omega arith)
 
 pub over_x-times_x : (v : ℕ) → v < 2 ^ 32 → over_x (times_x v) ≡ v
 unfolding over_x times_x

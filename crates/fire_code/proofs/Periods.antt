@@ -2,9 +2,9 @@
 use Rattle.std.proofs.Common.{◌≡◌, ℕ, ◌+◌, ◌*◌, ◌%◌, ◌^◌, ◌<◌, ◌↔◌, zero, suc, refl, sym, ap, ◌∙◌, arith, pow-suc}
 use Rattle.std.proofs.lemmas.Nat.{mod_below, pow_pos}
 use Rattle.fire_code.specs.Remainder.{times_x, power, repeat}
-use Rattle.fire_code.specs.Residue.{clock_ring, clock_cycle}
+use Rattle.fire_code.specs.Residue.{clock_cycle}
 use Rattle.fire_code.proofs.Cycle.{comes_back, cycle_round}
-use Rattle.fire_code.proofs.Fold.{repeat_times_x-inj, repeat_times_x-lt}
+use Rattle.fire_code.proofs.Fold.{repeat_times_x-inj, repeat_times_x-lt, clock_ring}
 use Rattle.fire_code.proofs.Powers.{power-is, power-lt, repeat_power}
 use Rattle.fire_code.proofs.Register.{repeat_mod}
 use Rattle.fire_code.proofs.Residues.{same_residues, ring_of-repeat, cycle_of-repeat, cycle_of-small}

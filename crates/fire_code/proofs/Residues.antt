@@ -3,10 +3,10 @@ use Rattle.std.proofs.Common.{◌≡◌, ℕ, zero, suc, ◌+◌, ◌*◌, ◌/�
 use Rattle.std.specs.Int.{bit_at}
 use lib.Bits.{bit_xor}
 use Rattle.fire_code.specs.Remainder.{times_x, repeat}
-use Rattle.fire_code.specs.Residue.{clock, clock_ring, clock_cycle, ring_of, cycle_of}
+use Rattle.fire_code.specs.Residue.{clock, clock_cycle, ring_of, cycle_of}
 use Rattle.fire_code.proofs.Linear.{IsLinear, linear_after, linear_xor, linear_mod, linear_div, linear_shl, linear_id}
 use Rattle.fire_code.proofs.Register.{clock-linear, repeat_add, repeat_mod, repeat_carried, bit_times-linear}
-use Rattle.fire_code.proofs.Fold.{times_x-linear, times_x-lt, ring_of-linear, ring_of-times_x, same_by_test}
+use Rattle.fire_code.proofs.Fold.{times_x-linear, times_x-lt, ring_of-linear, ring_of-times_x, same_by_test, clock_ring}
 use Rattle.fire_code.proofs.Cycle.{cycle_round}
 use Rattle.fire_code.proofs.Powers.{repeat_times_x-linear}
 

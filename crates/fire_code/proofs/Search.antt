@@ -1,9 +1,9 @@
 -- The search for a burst: at each exponent of its first place, one window.
-use Rattle.std.proofs.Common.{◌≡◌, ℕ, ◌+◌, ◌-◌, ◌/◌, ◌%◌, ◌^◌, ◌<◌, ◌≤◌, ◌≢◌, List, length, get_or, sym, ap, ap₂, ◌∙◌, subst, arith, ◌⊎◌, inl, inr}
+use Rattle.std.proofs.Common.{◌≡◌, ℕ, ◌+◌, ◌-◌, ◌/◌, ◌%◌, ◌^◌, ◌<◌, ◌≤◌, List, length, get_or, sym, ap, ap₂, ◌∙◌, subst, arith, ◌⊎◌, inl, inr}
 use Rattle.std.proofs.lemmas.Bool.{cases_eq}
 use Rattle.fire_code.specs.Residue.{IsWindow}
 use Rattle.fire_code.specs.Remainder.{times_x, remainder, repeat}
-use Rattle.fire_code.specs.Burst.{IsShortBurst, IsBurst, IsUncorrectable, places_of, reversed}
+use Rattle.fire_code.specs.Burst.{IsShortBurst, IsBurst, places_of, reversed}
 use Rattle.fire_code.proofs.Register.{repeat_add}
 use Rattle.fire_code.proofs.Fold.{repeat_times_x-inj, repeat_times_x-lt}
 use Rattle.fire_code.proofs.Powers.{raised-is, remainder-lt}
@@ -96,6 +96,3 @@ none_next r e w he h fails before ks b q = at (cases_eq (get_or ks 0 0 + e) 4127
     at : (get_or ks 0 0 + e ≡ 4127) ⊎ (get_or ks 0 0 + e ≡ 4127 → ⊥) → get_or ks 0 0 + (e + 1) < 4128
     at (inl eq) = absurd (found (pattern_from ks b) eq)
     at (inr ne) = let l : get_or ks 0 0 + e < 4128 = before ks b q in omega arith
-
-pub none_left : (r : ℕ) → NoneBefore r 4128 → r ≢ 0 → IsUncorrectable r
-none_left r none wrong = record { wrong = wrong; no_burst = λ ks b q. let l : get_or ks 0 0 + 4128 < 4128 = none ks b q in omega arith }

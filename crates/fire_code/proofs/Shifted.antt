@@ -4,10 +4,10 @@ use Rattle.std.proofs.lemmas.Nat.{mod_below}
 use Rattle.std.proofs.lemmas.Bool.{cases_lt}
 use lib.Bits.{bit_xor, xor_mod, xor_zero_r}
 use Rattle.fire_code.specs.Remainder.{times_x, repeat}
-use Rattle.fire_code.specs.Residue.{clock, clock_ring, clock_cycle, ring_of}
+use Rattle.fire_code.specs.Residue.{clock, clock_cycle, ring_of}
 use Rattle.fire_code.proofs.Linear.{linear_at_zero}
 use Rattle.fire_code.proofs.Register.{repeat_add, repeat_comm, repeat_mod, repeat_linear, repeat_carried}
-use Rattle.fire_code.proofs.Fold.{times_x-lt, times_x-linear, ring_of-times_x, doubled, doubled-times_x, clock-lt, repeat_times_x-inj, repeat_times_x-lt}
+use Rattle.fire_code.proofs.Fold.{times_x-lt, times_x-linear, ring_of-times_x, doubled, doubled-times_x, clock-lt, repeat_times_x-inj, repeat_times_x-lt, clock_ring}
 use Rattle.fire_code.proofs.Window.{ring_round, window_stays, repeat-small}
 use Rattle.fire_code.proofs.Cycle.{comes_back}
 

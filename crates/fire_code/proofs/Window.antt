@@ -4,11 +4,11 @@ use Rattle.std.proofs.lemmas.Nat.{shl_below, mul-le}
 use Rattle.std.proofs.lemmas.Bool.{cases_lt}
 use Rattle.std.proofs.lemmas.Nat.Bits.{bit_at_above}
 use lib.Bits.{bit_xor, xor_zero_r}
-use Rattle.fire_code.specs.Residue.{clock, clock_ring}
+use Rattle.fire_code.specs.Residue.{clock}
 use Rattle.fire_code.specs.Remainder.{repeat}
 use Rattle.fire_code.proofs.Linear.{linear_id}
 use Rattle.fire_code.proofs.Register.{clock-linear, repeat_linear, repeat_add}
-use Rattle.fire_code.proofs.Fold.{same_by_test}
+use Rattle.fire_code.proofs.Fold.{same_by_test, clock_ring}
 
 -- a step that lets no bit fall out doubles
 pub clock-small : (m back v : ℕ) → v < 2 ^ m → clock m back v ≡ v * 2

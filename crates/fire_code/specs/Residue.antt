@@ -8,10 +8,6 @@ use Rattle.fire_code.specs.Remainder.{times_x, repeat}
 unfoldable pub clock : ℕ → ℕ → ℕ → ℕ
 clock m back v = bit_xor (v * 2 % 2 ^ suc m) (bit_at v m * back)
 
--- x * v modulo x^21 + 1: a ring of 21 bits, clocked once
-abbrev pub clock_ring : ℕ → ℕ
-clock_ring = clock 20 1
-
 -- x * v modulo x^11 + x^2 + 1
 abbrev pub clock_cycle : ℕ → ℕ
 clock_cycle = clock 10 5

@@ -66,10 +66,6 @@ pub left_by : (fault other : PlayFault) (script : Script) (first left : ℕ → 
 left_by fault other script first left out_tells said said' trace_tells taken taken' e is =
     subst (λ (f : PlayFault). Leaves f script first left out_tells said said' trace_tells taken taken') e is
 
--- nor where there was no memory
-pub memory_before : (fault : PlayFault) → fault ≡ faults.Memory → IsBefore (Err fault)
-memory_before fault e = subst (λ (f : PlayFault). IsBefore (Err f)) (sym e) tt
-
 -- a fault by its name
 pub err_is : {T E : Type 0} {fault other : E} → fault ≡ other → ◌≡◌ {A = Result T E} (Err fault) (Err other)
 err_is {T} {E} e = ap {B = Result T E} (λ (x : E). Err x) e

@@ -9,10 +9,17 @@ use Rattle.std.specs.Prelude.{Some}
 use Rattle.main_memory.specs.Bytes.{front, with_part}
 use Rattle.main_memory.specs.declared.span.Span.{Span}
 use Rattle.main_memory.specs.Frames.{frames_needed}
-use Rattle.main_memory.specs.Blocks.{Loan, IsLoan, IsSpan, AreSeparate, in_frame, in_next, size_at, place_in, span_of, bytes_in, with_bytes_in, blocks_from}
+use Rattle.main_memory.specs.Blocks.{Loan, IsLoan, IsSpan, in_frame, in_next, size_at, place_in, span_of, bytes_in, with_bytes_in, blocks_from}
 use Rattle.main_memory.specs.Memory.{Memory, IsLent, AreApart, with_block, blocks_of}
 use Rattle.main_memory.proofs.FrameLaws.{by_test}
 use Rattle.main_memory.proofs.ByteLaws.{Fits, with_part-none, length-front, Outside, length-joined, length-spread, joined-spread, spread-spread, spread-joined, joined-spread_other, joined_first, joined_second, set_first, set_second}
+
+-- two spans that share no byte of memory: their frames differ, but that one may end in a frame where the other begins
+pub record AreSeparate (span other : Span) : Type 0 where
+  pub frames : span.frame ≢ other.frame
+  pub nexts : 0 < in_next span → 0 < in_next other → span.next ≢ other.next
+  pub ends : 0 < in_next span → span.next ≡ other.frame → in_next span ≤ other.offset
+  pub begins : 0 < in_next other → other.next ≡ span.frame → in_next other ≤ span.offset
 
 by_order : (span : Span) → span.frame ≢ span.next → span.offset < 512 → span.len ≤ 512 → (512 * span.frame + span.offset + in_frame span ≤ 512 * span.next) ⊎ (512 * span.next + in_next span ≤ 512 * span.frame + span.offset)
 by_order span ne inside few =

@@ -125,11 +125,6 @@ lent_front bytes free n offset count last is = record {
   taken = λ frame front rest. not_in_both free n frame front.0 rest.0 is.ascending (found (take n free) frame front) (found (drop n free) frame rest);
 }
 
--- what was lent before has none of these frames, and stays lent
-pub apart_front : (bytes free : List ℕ) (n offset count last : ℕ) (other : Loan) → IsLent (record { bytes = bytes; free = free }) other
-    → AreApart (record { frames = take n free; offset = offset; count = count; last = last }) other
-apart_front bytes free n offset count last other lent = λ frame front in_other. lent.taken frame in_other (in_front free n frame front)
-
 pub still_lent : (bytes free : List ℕ) (n : ℕ) (other : Loan) → IsLent (record { bytes = bytes; free = free }) other → IsLent (record { bytes = bytes; free = drop n free }) other
 still_lent bytes free n other lent = record { differ = lent.differ; small = lent.small; taken = λ frame in_other rest. lent.taken frame in_other (in_rest free n frame rest) }
 

@@ -78,10 +78,3 @@ blocks_from loan bytes k (suc n) = bytes_in (span_of loan k) bytes ∷ blocks_fr
 unfoldable pub frames_text : List ℕ → List ℕ → List ℕ
 frames_text [] bytes = []
 frames_text (frame ∷ frames) bytes = part 512 (512 * frame) bytes ++ frames_text frames bytes
-
--- two spans that share no byte of memory: their frames differ, but that one may end in a frame where the other begins
-pub record AreSeparate (span other : Span) : Type 0 where
-  pub frames : span.frame ≢ other.frame
-  pub nexts : 0 < in_next span → 0 < in_next other → span.next ≢ other.next
-  pub ends : 0 < in_next span → span.next ≡ other.frame → in_next span ≤ other.offset
-  pub begins : 0 < in_next other → other.next ≡ span.frame → in_next other ≤ span.offset

@@ -33,11 +33,18 @@ use Rattle.driver_counts.specs.Counts.{noises_of, faults_of}
 use Rattle.driver_counts.proofs.Events.{events_add}
 use Rattle.driver_answers.proofs.Ids.{events_add_none}
 use Rattle.driver_answers.specs.Waiting.{all_taken}
-use Rattle.one_run.specs.Steps.{Behind, Drained, IsFarIn, HasRoom, DrainsEnd}
+use Rattle.one_run.specs.Steps.{Behind, Drained, HasRoom, DrainsEnd}
 use Rattle.one_run.proofs.Taking.{runs_wait, draining_taken, kept_taken}
 use Rattle.one_run.proofs.Tries.{Tries, tries}
 use Rattle.one_run.proofs.Fitting.{within_more}
 use Rattle.one_run.proofs.Rooms.{room_behind, nothing_armed}
+
+-- How far a run is in a drain.
+pub record IsFarIn (script : Script) (tables : ℕ → Option Table) (old : ℕ → Pack) (line : ℕ) (inputs : List Numbered) (held : ℕ → Pack) (w : World) (moments : List Moment) : Type 0 where
+  pub draining : IsDraining (start_of script tables old) line moments held w
+  pub kept : IsKept (drives_of script) old held w
+  pub plays : played moments ≡ inputs
+  pub asked : AreAsked (start_of script tables old).there moments
 
 none_more : (n a : ℕ) → a ≡ 0 → n + a ≤ n
 none_more n a is = omega (arith, is)

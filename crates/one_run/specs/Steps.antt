@@ -16,7 +16,7 @@ use Rattle.driver_machine.specs.Sound.{Sound}
 use Rattle.driver_slots.specs.Parts.{AreSetups}
 use Rattle.driver_work.specs.Runs.{MaySubmit}
 use Rattle.driver_replay.specs.Acts.{AreSetUp}
-use Rattle.driver_trace.specs.Runs.{IsSoFar, IsDraining}
+use Rattle.driver_trace.specs.Runs.{IsSoFar}
 use Rattle.driver_runs.specs.Runs.{IsKept}
 use Rattle.driver_drains.specs.Drains.{AreAsked}
 use Rattle.driver_counts.specs.Counts.{IsWithin, in_use}
@@ -39,13 +39,6 @@ pub record HasRoom (script : Script) (total done : ℕ) (used : List ℕ) (w : W
 -- THE RUN SO FAR, behind these inputs
 pub record IsFar (script : Script) (tables : ℕ → Option Table) (old : ℕ → Pack) (line : ℕ) (inputs : List Numbered) (held : ℕ → Pack) (w : World) (moments : List Moment) : Type 0 where
   pub so_far : IsSoFar (start_of script tables old) line moments held w
-  pub kept : IsKept (drives_of script) old held w
-  pub plays : played moments ≡ inputs
-  pub asked : AreAsked (start_of script tables old).there moments
-
--- and in a drain
-pub record IsFarIn (script : Script) (tables : ℕ → Option Table) (old : ℕ → Pack) (line : ℕ) (inputs : List Numbered) (held : ℕ → Pack) (w : World) (moments : List Moment) : Type 0 where
-  pub draining : IsDraining (start_of script tables old) line moments held w
   pub kept : IsKept (drives_of script) old held w
   pub plays : played moments ≡ inputs
   pub asked : AreAsked (start_of script tables old).there moments

@@ -10,7 +10,6 @@ use Rattle.pack_geometry.specs.declared.DriveKind.TheVariants.{Rp06, Rm03, Rm05}
 use Rattle.pack_model.specs.TableSpelling.{Table}
 use Rattle.drive_registers.specs.declared.Function.{Function}
 use Rattle.drive_registers.specs.declared.Function.TheVariants as function
-use Rattle.hardware_table.specs.declared.FaultKind.{FaultKind}
 use Rattle.hardware_table.specs.declared.FaultKind.TheVariants as fault
 use Rattle.drive_registers.specs.Codes.{function_code, offset_code}
 use Rattle.hardware_table.specs.declared.Moved.{Moved}
@@ -116,9 +115,6 @@ after_kind d a target (End answer) = refl
 online_kind : (on : Bool) (d : DriveState) → (online_set on d).kind ≡ d.kind
 online_kind true d = refl
 online_kind false d = refl
-
-armed_kind : (k : FaultKind) (n : ℕ) (d : DriveState) → (fault_armed k n d).kind ≡ d.kind
-armed_kind k n d = refl
 
 pub played_kind : (unit : ℕ) (d : DriveState) (input : Input) → (drive_played unit d input).kind ≡ d.kind
 played_kind unit d (Submit r) = refl

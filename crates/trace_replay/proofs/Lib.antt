@@ -2,7 +2,6 @@ pub mod OneStep
 pub mod OneTrace
 pub mod Following
 pub mod Unchanged
-pub mod Uses
 pub mod Histories
 pub mod ReadBytes
 pub mod Kept

@@ -7,7 +7,7 @@ use Rattle.drive_registers.specs.Codes.{offset_field}
 use Rattle.hardware_table.specs.declared.Moved.{Moved}
 use Rattle.hardware_table.specs.declared.Moved.TheVariants as verdict
 use Rattle.hardware_table.specs.Drive.{DriveState}
-use Rattle.subsystem_spec.specs.Requests.{Request, Answer, Failed, Cause, Offline, Locked, NoFrames, Rejection, AtEnd, Beyond, FramesShort, rejection_answer}
+use Rattle.subsystem_spec.specs.Requests.{Request, Answer, Failed, Offline, Locked, NoFrames, Rejection, AtEnd, Beyond, FramesShort, rejection_answer}
 use Rattle.trace_replay.specs.Moments.{Deed, Search, Seek, Recal, Offset, Centre, Clear, Pack, Transfer, Arrive, Sector, Intr, Try, Attn, End, Moment, Played, Told, Idle}
 use Rattle.trace_replay.specs.Conversation.{Positioning, SearchFor, Recalibrate, SeekTo, OffsetBy, Segment, OwnBlocks, Replacement, Hand, is_write, start_of, length_of, transfer_of, command_of, needs_unlocked, guarded, due, Stage, Waiting, Steps, UnderWay, AtOnce, Moving, Saying, Ending, saying, continued, ok_answer, interrupted_by, stage_after, is_under_way, is_clean, last_of, sector_may, intr_may, progress_tried, Progress, not_begun, TalkMay, begun, progress_after, starts_at_once}
 use Rattle.trace_replay.specs.History.{with_deed, lines_after, lines_behind}
@@ -386,8 +386,6 @@ moments_smooth s (Told line unit id deed ∷ ms) lines some follows all smooth =
 moments_smooth s (Idle line ∷ ms) lines some follows all smooth = moments_smooth (after_moment s (Idle line)) ms lines some follows.1 all smooth
 
 -- ---- the end
-not_a_failure : (n : ℕ) (answer : Answer) (d : ℕ) → IsOk answer → (cause : Cause) → answer ≡ Failed cause d → ⊥
-not_a_failure n answer d ok cause is = subst IsOk is ok
 
 end_answer : Deed → Answer
 end_answer (End answer) = answer

@@ -20,7 +20,7 @@ use Rattle.trace_replay.specs.Conversation.{Hand, OwnBlocks, entry_of, start_of}
 use Rattle.trace_replay.specs.Events.{Wish, NoLine, DueLine, Arrival, SectorLine, Interrupt, Attention, Refusal, IdleLine}
 use Rattle.trace_replay.specs.Replay.{Replay, new_replay, next_wish, hand_of, at_unit, LineMay, ToldMay, Follows, after_moment, after_moments, unit_after, told_after, replay_told, Submission, Refused, Joined, submission, submitted, replay_played}
 use Rattle.trace_replay.specs.History.{is_refusal, with_deed, lines_after, lines_behind, marks_in}
-use Rattle.trace_replay.proofs.Histories.{IsListed, EndsFailed}
+use Rattle.trace_replay.proofs.Histories.{IsListed, EndsFailed, WasMarked}
 use Rattle.trace_replay.proofs.Unchanged.{drained_keeps}
 use Rattle.trace_replay.proofs.Following.{follow_on}
 use Rattle.trace_replay.proofs.Kept.{moments_all, starts, refused_is}
@@ -41,7 +41,7 @@ use Rattle.trace_replay.specs.Packs.{VerdictMay, flips_at, surface_of}
 use Rattle.trace_replay.specs.Service.{in_hand, target_of}
 use Rattle.trace_replay.specs.Replay.{at_unit, replay_told, told_after, unit_after, LineMay, submission, submitted, Submission, Refused, Joined, replay_played}
 use Rattle.subsystem_spec.specs.Requests.{first_block, rejection_answer}
-use Rattle.trace_replay.specs.History.{WasMarked, with_deed, lines_after}
+use Rattle.trace_replay.specs.History.{with_deed, lines_after}
 use Rattle.trace_replay.specs.Causes.{AreUnusable}
 use Rattle.trace_replay.specs.Events.{Event}
 use Rattle.trace_replay.proofs.Unchanged.{drained_keeps, surface_marks}

@@ -1,5 +1,5 @@
 -- THE LINES OF A REQUEST, as a trace tells them, and what they say.
-use Rattle.std.specs.Prelude.{◌≡◌, ◌⊎◌, ℕ, ◌+◌, ◌==◌, if◌then◌else◌, Bool, true, false, List, [], ◌∷◌, zero, suc}
+use Rattle.std.specs.Prelude.{◌≡◌, ℕ, ◌+◌, ◌==◌, if◌then◌else◌, Bool, true, false, List, [], ◌∷◌, zero, suc}
 use Rattle.hardware_table.specs.declared.Moved.{Moved}
 use Rattle.hardware_table.specs.declared.Moved.TheVariants as verdict
 use Rattle.subsystem_spec.specs.Requests.{Answer, OutsidePartition, EndOfPartition, NoFrames}
@@ -100,8 +100,3 @@ AreFailures true n block (Intr ∷ lines) = AreFailures true n block lines
 AreFailures true n block (Clear ∷ lines) = AreFailures true n block lines
 AreFailures true n block (Centre ∷ lines) = AreFailures true n block lines
 AreFailures true n block lines = ⊥
-
--- a sector of this block was met marked
-abbrev pub WasMarked : ℕ → List Deed → Type 0
-WasMarked block [] = ⊥
-WasMarked block (deed ∷ lines) = (deed ≡ Sector block verdict.Marked) ⊎ WasMarked block lines

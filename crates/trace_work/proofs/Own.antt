@@ -58,11 +58,6 @@ at_rest {u} {a} g under moving = record {
   calls = (nothing_of (is_positioning u.drive.work) u.drive.attention (sym g.positions ∙ under)).1;
 }
 
--- a unit whose request is in hand
-pub in_hand_there : (next : Option Request) (id : ℕ) → ids next ≡ Some id → not (is_some next) ≡ false
-in_hand_there None id is = absurd (none-some id is)
-in_hand_there (Some r) id is = refl
-
 -- THE UNIT AFTER A LINE, over its parts
 abbrev pub UnitNext : UnitSeen → AdapterSeen → Deed → List ℕ → UnitSeen
 UnitNext u a deed bytes = record {
