@@ -207,7 +207,7 @@ fn second_write_fails(rt: HostRuntime) -> Result<(), Fail> {
 const READ_FIRST: u64 = 131_653;
 
 /// Calls that fail, and the bytes that fill blocks 0 and 1 behind them.
-const FAILING: [(PackOp, u64, u8, u8); 17] = [
+const FAILING: [(PackOp, u64, u8, u8); 23] = [
     (PackOp::Length, 1, 0x77, 0x77),
     (PackOp::Marked, 1, 0x77, 0x77),
     (PackOp::Read, 1, 0x77, 0x77),
@@ -217,11 +217,17 @@ const FAILING: [(PackOp, u64, u8, u8); 17] = [
     (PackOp::Write, 1, 0x77, 0x77),
     (PackOp::Marked, READ_FIRST + 2, 0xa5, 0x77),
     (PackOp::Read, READ_FIRST + 1, 0xa5, 0x77),
+    (PackOp::Marked, READ_FIRST + 3, 0xa5, 0x77),
     (PackOp::Write, 2, 0xa5, 0x77),
+    (PackOp::Marked, READ_FIRST + 4, 0x00, 0x77),
     (PackOp::Read, READ_FIRST + 2, 0x00, 0x77),
+    (PackOp::Marked, READ_FIRST + 5, 0x00, 0x77),
     (PackOp::Write, 3, 0x00, 0x77),
+    (PackOp::Marked, READ_FIRST + 6, 0x00, 0xa5),
     (PackOp::Read, READ_FIRST + 3, 0x00, 0xa5),
+    (PackOp::Marked, READ_FIRST + 7, 0x00, 0xa5),
     (PackOp::Write, 4, 0x00, 0xa5),
+    (PackOp::Marked, READ_FIRST + 8, 0x00, 0x00),
     (PackOp::Read, READ_FIRST + 4, 0x00, 0x00),
     (PackOp::Marked, READ_FIRST + 9, 0x00, 0x00),
     (PackOp::Write, 5, 0x00, 0x00),
