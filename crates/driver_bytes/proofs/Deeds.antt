@@ -129,7 +129,7 @@ module _ (sure : ℕ → Type 0) (pack : Pack) (blocks : Blocks) (u : ℕ) (s : 
       let phase : v.phase ≡ Transferring = (transfer_at u true s ok may.0).phase in
       let one : Hand h t (t.done + a.moved) (if a.completion then a.verdict else verdict.Clean) = at_phase Transferring phase in
       let up : Hand h t (t.done + a.moved) a.verdict = subst (λ c. Hand h t (t.done + a.moved) (if c then a.verdict else verdict.Clean)) may.0.completion one in
-      let named : Hand h t (t.done + moved) last = subst (λ l. Hand h t (t.done + moved) l) (sym may.2.1) (subst (λ n. Hand h t (t.done + n) a.verdict) (sym may.2.0) up) in
+      let named : Hand h t (t.done + moved) last = subst (λ l. Hand h t (t.done + moved) l) (sym may.2) (subst (λ n. Hand h t (t.done + n) a.verdict) (sym may.1) up) in
       interrupted_at sure kind v.table pack blocks (record h { on_bus = false }) t moved last
       (hand_bus sure kind v.table pack blocks h t (t.done + moved) last named false)
 
@@ -205,7 +205,7 @@ module _ (sure : ℕ → Type 0) (pack : Pack) (blocks : Blocks) (u : ℕ) (s : 
 -- a sector that is tried, and an end, have files of their own
 abbrev pub IsPlain : Deed → Type 0
 IsPlain (deed.Sector block tried) = ⊥
-IsPlain (deed.End kind) = ⊥
+IsPlain (deed.End answer) = ⊥
 IsPlain d = Unit {0}
 
 -- EACH OF THEM
@@ -235,4 +235,4 @@ plain_bears sure pack blocks line u p (deed.Continue moved) s ok may plain size 
     let due = due_of u (deed.Continue moved) s may in continue_bears sure pack blocks u s ok b moved due.0
 plain_bears sure pack blocks line u p (deed.Try moved block number next) s ok may plain size b =
     let due = due_of u (deed.Try moved block number next) s may in try_bears sure pack blocks u s ok b moved block number next due
-plain_bears sure pack blocks line u p (deed.End kind) s ok may plain size b = absurd plain
+plain_bears sure pack blocks line u p (deed.End answer) s ok may plain size b = absurd plain

@@ -11,7 +11,7 @@ use Rattle.pack_model.specs.PackTable.{places_of}
 use Rattle.pack_model.specs.Homes.{home_of, content_of}
 use Rattle.pack_model.proofs.HomeWriteLaws.{content_same, content_other}
 use Rattle.hardware_table.specs.declared.Moved.{Moved}
-use Rattle.hardware_table.specs.declared.Moved.TheVariants.{Clean, Burst}
+use Rattle.hardware_table.specs.declared.Moved.TheVariants.{Clean, Burst, Hard, Marked, Faulted, Offline}
 use Rattle.ecc_repair.specs.Repaired.{repaired}
 use Rattle.main_memory.specs.Bytes.{filled}
 use Rattle.transfer_engine.specs.State.{TransferState}
@@ -184,3 +184,24 @@ module _ (sure : ℕ → Type 0) (kind : DriveKind) (table : Option Table) (pack
       → HandBears sure kind table pack blocks (with_block_in done (repaired at q (block_in h done)) h) t (done + 1) Clean
   hand_repaired h t done at q b reads inside =
       hand_read h t done (Burst at q) b (repaired at q (block_in h done)) reads inside b.stopped.0 b.stopped.1
+
+-- FEWER SECTORS are sure
+stopped_less : (sure less : Type 0) (pack : Pack) (sector : ℕ) (h : Held) (k : ℕ) (block : Option (List ℕ)) (v : Moved) → (less → sure) → IsStopped sure pack sector h k block v
+    → IsStopped less pack sector h k block v
+stopped_less sure less pack sector h k block (Burst at q) fewer is = (is.0, λ l. is.1 (fewer l))
+stopped_less sure less pack sector h k block Clean fewer is = tt
+stopped_less sure less pack sector h k block Hard fewer is = tt
+stopped_less sure less pack sector h k block Marked fewer is = is
+stopped_less sure less pack sector h k block (Faulted kind) fewer is = tt
+stopped_less sure less pack sector h k block Offline fewer is = tt
+
+pub hand_less : (sure less : ℕ → Type 0) (kind : DriveKind) (table : Option Table) (pack : Pack) (blocks : Blocks) (h : Held) (t : TransferState) (done : ℕ) (last : Moved)
+    → ((sector : ℕ) → less sector → sure sector) → HandBears sure kind table pack blocks h t done last → HandBears less kind table pack blocks h t done last
+hand_less sure less kind table pack blocks h t done last fewer b = record {
+  homes = b.homes;
+  usable = b.usable;
+  read = λ reads sures k lt. b.read reads (λ n sector few home. fewer sector (sures n sector few home)) k lt;
+  forwarded = b.forwarded;
+  stopped = stopped_less (IsSureFor sure kind table pack h) (IsSureFor less kind table pack h) pack (sector_for kind t.index (h.first + done)) h done (blocks (h.first + done)) last
+      (λ sures n sector few home. fewer sector (sures n sector few home)) b.stopped;
+}

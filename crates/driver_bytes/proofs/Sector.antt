@@ -80,12 +80,11 @@ was_marked d marked places is = marked_by (stop_of d) marked (is_writing d.work)
 both : false ≡ true → ⊥
 both e = cc
 
-clean_sort : Moved → ℕ
+abbrev clean_sort : Moved → ℕ
 clean_sort verdict.Clean = 0
 clean_sort v = 1
 
 not_written : (b : Bool) (places : Option (List ℕ)) (v : Moved) → clean_sort v ≡ 1 → MovedBy b places v → b ≡ false
-unfolding clean_sort
 not_written true places v other is = absurd (omega (arith, other, ap clean_sort is))
 not_written false places v other is = refl
 
