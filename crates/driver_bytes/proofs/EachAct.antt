@@ -208,9 +208,9 @@ module _ (armed : List LiveNoise) (w : World) (line p : ℕ) (h : Held) (held : 
   }
 
 -- A REFUSAL says nothing.
-refuse_kept : (armed : List LiveNoise) (w now : World) (made : Made) (held : ℕ → Pack) (first : ℕ → Blocks) → Sound w → made.slot ≡ None → now ≡ record w { answers = w.answers ++ made ∷ [] }
-    → Bears armed w held first → Bears armed now held first
-refuse_kept armed w now made held first s none is b = subst (λ (x : World). Bears armed x held first) (sym is) (record {
+refuse_kept : (armed : List LiveNoise) (w later : World) (made : Made) (held : ℕ → Pack) (first : ℕ → Blocks) → Sound w → made.slot ≡ None → later ≡ record w { answers = w.answers ++ made ∷ [] }
+    → Bears armed w held first → Bears armed later held first
+refuse_kept armed w later made held first s none is b = subst (λ (x : World). Bears armed x held first) (sym is) (record {
   now = b.now;
   answers = subst (λ (maps : ℕ → Blocks). AreSteps armed (record w { answers = w.answers ++ made ∷ [] }) held (w.answers ++ made ∷ []) first maps)
       (ap (λ (o : Option ℕ). maps_behind w b.now o made.answer.kind) none)

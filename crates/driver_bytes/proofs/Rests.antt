@@ -31,11 +31,11 @@ use Rattle.driver_bytes.proofs.Others.{waits_none}
 
 -- a unit without an outstanding request waits
 waits_only : (p : Phase) (queue : List Waiter) → WorkOf p queue → (is_waiting p ≡ false → ⊥) → p ≡ Waiting
-waits_only Waiting queue works no = refl
-waits_only (Positioning taken) queue works no = absurd (no refl)
-waits_only Queued queue works no = absurd (no refl)
-waits_only Transferring queue works no = absurd (no refl)
-waits_only (Due task) queue works no = absurd works
+waits_only Waiting queue works never = refl
+waits_only (Positioning taken) queue works never = absurd (never refl)
+waits_only Queued queue works never = absurd (never refl)
+waits_only Transferring queue works never = absurd (never refl)
+waits_only (Due task) queue works never = absurd works
 
 unit_waits : (w : World) (held : ℕ → Pack) (u : ℕ) → Sound w → AtWork w → Rests w held → u < 32 → (unit_at w u).phase ≡ Waiting
 unit_waits w held u s work rests lt =
@@ -49,10 +49,10 @@ unit_rests : (w : World) (held : ℕ → Pack) (u : ℕ) → Sound w → AtWork 
 unit_rests w held u s work rests set =
     let v : UnitView = unit_at w u in
     let phase : v.phase ≡ Waiting = unit_waits w held u s work rests set.unit in
-    let none : v.transfer ≡ None = waits_none w u s set.unit phase in
+    let begun : v.transfer ≡ None = waits_none w u s set.unit phase in
     let at : HandBears (is_sure_among [] u) v.drive.kind v.table (held u) (contents_in w held u) (held_in w (slot_in_hand v)) (transfer_of v) 0 verdict.Clean =
     hand_waits (is_sure_among [] u) v.drive.kind v.table (held u) (contents_in w held u) (held_in w (slot_in_hand v)) (transfer_of v)
-    (ap (λ (o : Option TransferState). (unwrap_or o no_transfer).index) none) (λ b. refl) in
+    (ap (λ (o : Option TransferState). (unwrap_or o no_transfer).index) begun) (λ b. refl) in
     record {
       table = rests.tables u set;
       hand = subst (λ p. At (is_sure_among [] u) v.drive.kind v.table (held u) (contents_in w held u) (held_in w (slot_in_hand v)) v.transfer p (adapter_at w (adapter_of u)).state) (sym phase) at;
@@ -82,7 +82,10 @@ found u [] is = absurd is
 found u (s ∷ rest) (inl same) = (s, Contains-first s rest, sym same)
 found u (s ∷ rest) (inr later) = let f = found u rest later in (f.0, Contains-later f.0 s rest f.1, f.2)
 
-none_held : (n p : ℕ) → slice_index_or (replicate n (None {A = Held})) p None ≡ None
+abbrev none : Option Held
+none = None
+
+none_held : (n p : ℕ) → slice_index_or (replicate n none) p none ≡ none
 none_held zero p = refl
 none_held (suc n) zero = refl
 none_held (suc n) (suc p) = none_held n p
