@@ -1,5 +1,5 @@
 -- The answers that wait stay steps, whatever else changes; and one more behind them.
-use Rattle.std.proofs.Common.{◌≡◌, ◌≢◌, inl, inr, ℕ, ◌+◌, ◌<◌, ◌==◌, nat_lt, not, Bool, true, false, List, [], ◌∷◌, ◌++◌, length, Option, Some, None, refl, sym, ap, ◌∙◌, subst, arith}
+use Rattle.std.proofs.Common.{◌≡◌, ℕ, ◌+◌, nat_lt, Bool, List, [], ◌∷◌, ◌++◌, Option, Some, None, refl, sym, ap, ◌∙◌, subst}
 use Rattle.std.specs.Prelude.{if◌then◌else◌, Contains, unwrap_or}
 use Rattle.pack_geometry.specs.declared.DriveKind.{DriveKind}
 use Rattle.pack_geometry.specs.Geometry.{limit_of, place_at, replacement_at}
@@ -9,12 +9,11 @@ use Rattle.pack_model.specs.TableSpelling.{Table}
 use Rattle.hardware_table.specs.Noise.{LiveNoise}
 use Rattle.subsystem_spec.specs.declared.answers.AnswerKind.{AnswerKind}
 use Rattle.subsystem_spec.specs.declared.answers.AnswerKind.TheVariants.{ReadOk, WriteOk, Eof, Error}
-use Rattle.subsystem_spec.specs.declared.answers.Cause.{Cause}
 use Rattle.subsystem_spec.specs.declared.answers.Cause.TheVariants as cause
 use Rattle.block_machine.specs.Machine.{Blocks}
 use Rattle.block_machine.specs.Stands.{is_sure_among}
 use Rattle.driver_machine.specs.declared.Made.{Made}
-use Rattle.driver_machine.specs.World.{World, UnitView, Held, no_held, unit_at, slot_at, held_in}
+use Rattle.driver_machine.specs.World.{World, Held, no_held, unit_at, slot_at, held_in}
 use Rattle.driver_slots.proofs.Lists.{Contains-first, Contains-later}
 use Rattle.driver_bytes.specs.Bytes.{IsSureFor, done_by, IsSaid, IsStep, StepsFrom, maps_with, maps_behind, AreSteps}
 

@@ -1,13 +1,11 @@
 -- The acts of a call keep what the driver stands for.
-use Rattle.std.proofs.Common.{◌≡◌, ℕ, ◌<◌, true, false, List, [], ◌∷◌, ◌++◌, length, refl, sym, ap, ◌∙◌, subst, arith}
+use Rattle.std.proofs.Common.{◌≡◌, ℕ, true, false, List, [], ◌∷◌, ◌++◌, length, refl, sym, ap, subst, arith}
 use Rattle.pack_model.specs.Pack.{Pack}
 use Rattle.hardware_table.specs.Noise.{LiveNoise}
-use Rattle.subsystem_spec.specs.Requests.{Request}
 use Rattle.trace_replay.specs.Script as script
 use Rattle.trace_replay.specs.Script.{Input}
 use Rattle.block_machine.specs.Machine.{Blocks}
-use Rattle.block_machine.specs.Stands.{armed_by}
-use Rattle.driver_machine.specs.World.{World, Held}
+use Rattle.driver_machine.specs.World.{World}
 use Rattle.driver_machine.specs.Acts.{Act, Refuse, Submit, Of, Change, Nothing, Taken, Tried, after, after_all}
 use Rattle.driver_machine.specs.Events.{submit_acts, event_acts}
 use Rattle.driver_machine.specs.Sound.{Sound}

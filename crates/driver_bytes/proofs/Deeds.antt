@@ -1,5 +1,5 @@
 -- Each deed at a unit, but for a sector that is tried and the end: the request in hand stands as it did, in its new place.
-use Rattle.std.proofs.Common.{◌≡◌, ◌≢◌, inl, inr, ℕ, ◌+◌, ◌-◌, ◌<◌, ◌≤◌, Bool, true, false, List, length, Option, Some, None, refl, sym, ap, ◌∙◌, subst, arith}
+use Rattle.std.proofs.Common.{◌≡◌, inl, inr, ℕ, ◌+◌, ◌<◌, true, false, length, Option, Some, None, refl, sym, ap, ◌∙◌, subst, arith}
 use Rattle.std.specs.Prelude.{if◌then◌else◌, unwrap_or}
 use Rattle.std.proofs.lemmas.Option.{none-some, same_Some}
 use Rattle.pack_geometry.specs.declared.DriveKind.{DriveKind}
@@ -20,10 +20,10 @@ use Rattle.transfer_engine.specs.State as engine
 use Rattle.transfer_engine.specs.Calls.{entry_by, entry_for, step_for}
 use Rattle.block_machine.specs.Machine.{Blocks}
 use Rattle.driver_machine.specs.declared.Task.{Task}
-use Rattle.driver_machine.specs.declared.Task.TheVariants.{Clear, Judge, Steps, Command, GiveUp}
+use Rattle.driver_machine.specs.declared.Task.TheVariants.{Clear, Judge, Steps, Command}
 use Rattle.driver_machine.specs.declared.Phase.{Phase}
 use Rattle.driver_machine.specs.declared.Phase.TheVariants.{Waiting, Positioning, Queued, Transferring, Due}
-use Rattle.driver_machine.specs.World.{UnitView, Held, transfer_of, no_transfer, job_of, drive_of, block_in, with_block_in}
+use Rattle.driver_machine.specs.World.{UnitView, Held, transfer_of, no_transfer, job_of, block_in, with_block_in}
 use Rattle.driver_machine.specs.Acts as deed
 use Rattle.driver_machine.specs.Acts.{Deed, Scene, effect, interrupted, transfer_tried}
 use Rattle.driver_machine.specs.Due.{task_for}
@@ -33,7 +33,7 @@ use Rattle.driver_due.specs.DueFacts.{IsDue, IsJudged, IsReady, IsAtCommand, IsF
 use Rattle.driver_phases.proofs.Scene.{SceneOk, due_of}
 use Rattle.driver_phases.proofs.DeedFacts.{judged_is, transfer_at}
 use Rattle.driver_bytes.specs.Bytes.{done_at, done_in, last_at, last_in, IsForwarded, sector_for, HandBears}
-use Rattle.driver_bytes.proofs.Hand.{hand_holds, hand_anew, hand_at, hand_bus, hand_repaired}
+use Rattle.driver_bytes.proofs.Hand.{hand_anew, hand_at, hand_bus, hand_repaired}
 
 -- THE REQUEST IN HAND, by where its unit is with it
 abbrev pub At : (sure : ℕ → Type 0) → DriveKind → Option Table → Pack → Blocks → Held → Option TransferState → Phase → AdapterState → Type 0

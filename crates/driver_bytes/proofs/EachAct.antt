@@ -1,5 +1,5 @@
 -- Each act keeps what the driver stands for.
-use Rattle.std.proofs.Common.{◌≡◌, ◌≢◌, inl, inr, ℕ, ◌+◌, ◌<◌, ◌≤◌, Bool, true, false, List, [], ◌∷◌, ◌++◌, drop, length, All, get_or-set_same, get_or-set_other, Option, Some, None, refl, sym, ap, ◌∙◌, subst, arith}
+use Rattle.std.proofs.Common.{◌≡◌, ◌≢◌, inl, inr, ℕ, ◌<◌, true, false, List, [], ◌∷◌, ◌++◌, drop, length, get_or-set_same, get_or-set_other, Option, Some, None, refl, sym, ap, ◌∙◌, subst, arith}
 use Rattle.std.specs.Prelude.{Contains, unwrap_or, slice_index_or, slice_set}
 use Rattle.std.specs.Option.{option_map_or}
 use Rattle.std.proofs.lemmas.Bool.{cases_eq, false≢true}
@@ -19,18 +19,16 @@ use Rattle.block_machine.specs.Machine.{Blocks}
 use Rattle.block_machine.specs.Stands.{is_sure_among, IsLive}
 use Rattle.block_machine.proofs.Noises.{armed_live}
 use Rattle.driver_machine.specs.declared.Made.{Made}
-use Rattle.driver_machine.specs.declared.Phase.TheVariants.{Waiting}
 use Rattle.driver_machine.specs.World.{World, UnitView, AdapterView, Held, no_held, no_unit, new_adapter_view, adapter_of, unit_at, adapter_at, slot_at, held_in, slot_in_hand}
-use Rattle.driver_machine.specs.Acts.{Act, Refuse, Submit, Of, Change, Nothing, Taken, joined, with_drive, with_unit_drive, answer_at, freed, after}
-use Rattle.driver_machine.specs.Guards.{IsSetUp, IsNew, MayChange, Allowed}
+use Rattle.driver_machine.specs.Acts.{Refuse, Submit, Of, Change, Nothing, Taken, joined, with_drive, with_unit_drive, answer_at, freed, after}
+use Rattle.driver_machine.specs.Guards.{IsSetUp, IsNew, MayChange}
 use Rattle.driver_machine.specs.Sound.{Sound, IsMade, Among, Once, slot_made, slots_made, is_waiting}
 use Rattle.driver_phases.proofs.Frame.{Changed, head_out}
 use Rattle.driver_phases.proofs.Others.{alone}
 use Rattle.driver_phases.proofs.Units.{IsSameDrive, turned_same, armed_same, online_same, locked_same, drive_changed, changed_unit, unchanged}
 use Rattle.driver_slots.proofs.Quiet.{among_made}
-use Rattle.driver_outcome.specs.Packs.{Reads, packs_after}
 use Rattle.driver_bytes.specs.Bytes.{UnitBears, StepsFrom, maps_behind, AreSteps, Bears}
-use Rattle.driver_bytes.specs.Laws.{armed_with, maps_taken, maps_after, ActsBear}
+use Rattle.driver_bytes.specs.Laws.{armed_with, maps_taken, ActsBear}
 use Rattle.driver_bytes.proofs.Hand.{hand_less}
 use Rattle.driver_bytes.proofs.Others.{same_move, unit_as, waits_none, other_bears}
 use Rattle.driver_bytes.proofs.Answers.{Stays, StaySlots, steps_stay, steps_more}

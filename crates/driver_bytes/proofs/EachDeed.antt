@@ -1,17 +1,14 @@
 -- Each deed at a unit keeps what the driver stands for.
-use Rattle.std.proofs.Common.{◌≡◌, ◌≢◌, inl, inr, ℕ, ◌+◌, ◌<◌, ◌≤◌, ◌==◌, Bool, true, false, List, [], ◌∷◌, ◌++◌, length, All, Option, Some, None, refl, sym, ap, ◌∙◌, subst, arith}
-use Rattle.std.specs.Prelude.{if◌then◌else◌, unwrap_or, slice_index_or, IsSome}
-use Rattle.std.proofs.lemmas.Bool.{cases_eq, false≢true, eq-eqb, ne_eqb}
+use Rattle.std.proofs.Common.{◌≡◌, ◌≢◌, inl, inr, ℕ, ◌<◌, Bool, true, false, List, [], ◌∷◌, ◌++◌, length, All, Option, Some, refl, sym, ap, ◌∙◌, subst, arith}
+use Rattle.std.specs.Prelude.{if◌then◌else◌, unwrap_or, slice_index_or}
+use Rattle.std.proofs.lemmas.Bool.{cases_eq, eq-eqb, ne_eqb}
 use Rattle.std.proofs.lemmas.Bool.Decides.{eqb_tells}
-use Rattle.pack_geometry.specs.declared.DriveKind.{DriveKind}
-use Rattle.pack_model.specs.Pack.{Pack, written, with_written}
+use Rattle.pack_model.specs.Pack.{Pack, with_written}
 use Rattle.pack_model.specs.Homes.{content_of}
-use Rattle.pack_model.specs.PackTable.{IsTableOf, places_of}
+use Rattle.pack_model.specs.PackTable.{IsTableOf}
 use Rattle.pack_model.proofs.PackTableLaws.{table_room}
-use Rattle.hardware_table.specs.declared.Moved.TheVariants as verdict
 use Rattle.hardware_table.specs.Moves.{was_read, was_written}
 use Rattle.hardware_table.specs.Noise.{LiveNoise, Book, book_struck}
-use Rattle.main_memory.specs.Blocks.{size_at}
 use Rattle.main_memory.specs.Bytes.{filled}
 use Rattle.disksort.specs.declared.Waiter.{Waiter}
 use Rattle.subsystem_spec.specs.declared.answers.AnswerKind.{AnswerKind}
@@ -21,11 +18,10 @@ use Rattle.block_machine.specs.Machine.{Blocks}
 use Rattle.block_machine.specs.Stands.{is_sure_among, IsLive}
 use Rattle.block_machine.proofs.Noises.{struck_live}
 use Rattle.driver_machine.specs.declared.Made.{Made}
-use Rattle.driver_machine.specs.declared.Phase.TheVariants.{Waiting}
-use Rattle.driver_machine.specs.World.{World, UnitView, AdapterView, Held, no_held, no_transfer, adapter_of, unit_at, adapter_at, slot_at, held_in, slot_in_hand, transfer_of, block_in}
+use Rattle.driver_machine.specs.World.{World, UnitView, AdapterView, Held, no_held, no_transfer, adapter_of, unit_at, adapter_at, held_in, slot_in_hand, transfer_of}
 use Rattle.driver_machine.specs.Acts as deed
 use Rattle.driver_machine.specs.Acts.{Deed, Scene, Tried, Of, effect, scene_of, with_scene, answer_at, after}
-use Rattle.driver_machine.specs.Guards.{InHand, IsSetUp, Allowed, May}
+use Rattle.driver_machine.specs.Guards.{IsSetUp, Allowed}
 use Rattle.driver_machine.specs.Sound.{Sound, SlotOk}
 use Rattle.driver_due.specs.Frame.{IsSame}
 use Rattle.driver_due.proofs.Frame.{effect_same, other_slot}
@@ -33,7 +29,7 @@ use Rattle.driver_phases.proofs.Scene.{SceneOk, due_of}
 use Rattle.driver_phases.proofs.Frame.{Changed, scene_ok, adapter_here, unit_here, slot_here, deed_changed}
 use Rattle.driver_slots.proofs.Hand.{in_slot, slot_ok, own, not_made}
 use Rattle.driver_outcome.specs.Packs.{Reads, packs_after}
-use Rattle.driver_bytes.specs.Bytes.{map_done, IsSureFor, HandBears, UnitBears, done_by, done_in, last_in, IsSaid, IsStep, StepsFrom, maps_with, maps_behind, AreSteps, Bears}
+use Rattle.driver_bytes.specs.Bytes.{map_done, IsSureFor, HandBears, UnitBears, done_by, done_in, last_in, IsStep, StepsFrom, maps_with, maps_behind, AreSteps, Bears}
 use Rattle.driver_bytes.proofs.Hand.{hand_waits}
 use Rattle.driver_bytes.proofs.Deeds.{SceneBears, IsPlain, plain_bears}
 use Rattle.driver_bytes.proofs.Ends.{EndsAt, end_comes}

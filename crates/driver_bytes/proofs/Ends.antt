@@ -1,18 +1,16 @@
 -- THE END of a request is a step of the map, with as many blocks done as it has come to.
-use Rattle.std.proofs.Common.{◌≡◌, inl, inr, ℕ, ◌+◌, ◌<◌, ◌==◌, nat_lt, Bool, true, false, List, Option, Some, None, refl, sym, ap, ◌∙◌, subst, arith}
-use Rattle.std.specs.Prelude.{if◌then◌else◌, IsSome, unwrap_or}
-use Rattle.std.proofs.lemmas.Option.{none-some}
+use Rattle.std.proofs.Common.{◌≡◌, inl, inr, ℕ, ◌+◌, ◌<◌, ◌==◌, nat_lt, Bool, true, false, Option, Some, None, refl, sym, ap, ◌∙◌, subst, arith}
+use Rattle.std.specs.Prelude.{if◌then◌else◌, unwrap_or}
 use Rattle.pack_geometry.specs.declared.DriveKind.{DriveKind}
-use Rattle.pack_geometry.specs.declared.Place.{Place}
 use Rattle.pack_geometry.specs.Geometry.{limit_of, place_at, replacement_at}
 use Rattle.pack_model.specs.Pack.{Pack, is_marked}
 use Rattle.pack_model.specs.Content.{bytes_at}
-use Rattle.pack_model.specs.Homes.{home_of, index_in, if_unmarked, replacement_home}
+use Rattle.pack_model.specs.Homes.{home_of, index_in, replacement_home}
 use Rattle.pack_model.specs.TableSpelling.{Table}
 use Rattle.hardware_table.specs.declared.Moved.{Moved}
 use Rattle.hardware_table.specs.declared.Moved.TheVariants as verdict
 use Rattle.transfer_engine.specs.declared.job.Job.{Job}
-use Rattle.transfer_engine.specs.State.{TransferState, segment_of}
+use Rattle.transfer_engine.specs.State.{TransferState}
 use Rattle.transfer_engine.specs.Calls.{entry_by, entry_for}
 use Rattle.subsystem_spec.specs.declared.answers.AnswerKind.{AnswerKind}
 use Rattle.subsystem_spec.specs.declared.answers.AnswerKind.TheVariants.{ReadOk, WriteOk, Error}
@@ -22,14 +20,14 @@ use Rattle.block_machine.specs.Machine.{Blocks}
 use Rattle.driver_machine.specs.declared.Task.TheVariants.{Clear, Judge, Steps, Command, GiveUp}
 use Rattle.driver_machine.specs.declared.Phase.{Phase}
 use Rattle.driver_machine.specs.declared.Phase.TheVariants.{Waiting, Positioning, Queued, Transferring, Due}
-use Rattle.driver_machine.specs.World.{UnitView, Held, transfer_of, no_transfer, block_in}
+use Rattle.driver_machine.specs.World.{UnitView, Held, transfer_of, no_transfer}
 use Rattle.driver_machine.specs.Acts.{Scene}
-use Rattle.driver_machine.specs.Due.{done_with, finished}
+use Rattle.driver_machine.specs.Due.{done_with}
 use Rattle.driver_machine.specs.Sound.{IsTask, IsPhase}
 use Rattle.driver_due.specs.DueFacts.{Calls, AtStart, AtStep, AtTransfer, AtChoice, IsJudged, IsAtCommand, Ends, Offline, Locked, Left, Unforwarded, Tried, Finished}
 use Rattle.driver_phases.proofs.Scene.{SceneOk, phase_is}
 use Rattle.driver_phases.proofs.DeedFacts.{judged_is}
-use Rattle.driver_bytes.specs.Bytes.{map_done, asked_of, IsSureFor, IsForwarded, sector_for, HandBears, done_in, last_in, done_by, IsSaid, IsStep}
+use Rattle.driver_bytes.specs.Bytes.{IsSureFor, IsForwarded, sector_for, HandBears, done_in, last_in, done_by, IsSaid, IsStep}
 use Rattle.driver_bytes.proofs.Hand.{next_held}
 use Rattle.driver_bytes.proofs.Deeds.{SceneBears, one_sector}
 

@@ -1,26 +1,25 @@
 -- Where a unit stands as it did: its request in hand too, whatever else changes.
-use Rattle.std.proofs.Common.{◌≡◌, ◌≢◌, inl, inr, ℕ, ◌+◌, ◌<◌, Bool, true, false, List, length, Option, Some, None, refl, sym, ap, ◌∙◌, subst, arith}
+use Rattle.std.proofs.Common.{◌≡◌, ◌≢◌, inl, inr, ℕ, ◌+◌, ◌<◌, Bool, true, false, Option, None, refl, sym, ap, ◌∙◌, subst}
 use Rattle.std.specs.Prelude.{if◌then◌else◌, unwrap_or}
 use Rattle.std.proofs.lemmas.Bool.{cases_eq, false≢true}
 use Rattle.pack_geometry.specs.declared.DriveKind.{DriveKind}
 use Rattle.pack_model.specs.Pack.{Pack}
 use Rattle.pack_model.specs.TableSpelling.{Table}
 use Rattle.pack_model.specs.PackTable.{IsTableOf}
-use Rattle.hardware_table.specs.declared.Moved.{Moved}
 use Rattle.hardware_table.specs.declared.Moved.TheVariants as verdict
 use Rattle.hardware_table.specs.Adapter.{AdapterState}
 use Rattle.transfer_engine.specs.State.{TransferState}
 use Rattle.block_machine.specs.Machine.{Blocks}
 use Rattle.driver_machine.specs.declared.Phase.{Phase}
 use Rattle.driver_machine.specs.declared.Phase.TheVariants.{Waiting, Positioning, Queued, Transferring, Due}
-use Rattle.driver_machine.specs.World.{World, UnitView, AdapterView, Held, no_held, no_transfer, adapter_of, drive_of, unit_at, adapter_at, slot_at, held_in, slot_in_hand, transfer_of}
+use Rattle.driver_machine.specs.World.{World, UnitView, AdapterView, Held, no_held, no_transfer, adapter_of, drive_of, unit_at, adapter_at, held_in, slot_in_hand}
 use Rattle.driver_machine.specs.Acts as deed
 use Rattle.driver_machine.specs.Acts.{Deed, Scene, effect}
 use Rattle.driver_machine.specs.Guards.{May}
 use Rattle.driver_machine.specs.Sound.{IsPhase, Sound, is_waiting}
 use Rattle.driver_phases.proofs.Frame.{Changed}
 use Rattle.driver_phases.proofs.Others.{IsSameTransfer, one_unit}
-use Rattle.driver_bytes.specs.Bytes.{done_in, last_in, HandBears, UnitBears}
+use Rattle.driver_bytes.specs.Bytes.{HandBears, UnitBears}
 use Rattle.driver_bytes.proofs.Hand.{hand_waits, hand_holds}
 use Rattle.driver_bytes.proofs.Deeds.{At}
 

@@ -1,30 +1,28 @@
 -- With nothing outstanding the driver stands for what its packs hold.
-use Rattle.std.proofs.Common.{◌≡◌, ◌⊎◌, inl, inr, ℕ, zero, suc, ◌<◌, Bool, true, false, List, [], ◌∷◌, length, map, replicate, All, Option, Some, None, refl, sym, ap, ◌∙◌, subst, arith}
+use Rattle.std.proofs.Common.{◌≡◌, ◌⊎◌, inl, inr, ℕ, zero, suc, ◌<◌, false, List, [], ◌∷◌, replicate, All, Option, None, refl, sym, ap, ◌∙◌, subst}
 use Rattle.std.specs.Prelude.{Contains, slice_index_or, unwrap_or}
 use Rattle.std.proofs.lemmas.Bool.{false≢true, cases_eq}
 use Rattle.std.proofs.lemmas.Option.{none-some}
 use Rattle.std.proofs.lemmas.List.Elements.{All-nil}
-use Rattle.pack_geometry.specs.declared.DriveKind.{DriveKind}
 use Rattle.pack_model.specs.Pack.{Pack}
 use Rattle.pack_model.specs.PackTable.{IsTableOf}
 use Rattle.hardware_table.specs.declared.Moved.TheVariants as verdict
 use Rattle.hardware_table.specs.Noise.{LiveNoise}
 use Rattle.transfer_engine.specs.State.{TransferState}
 use Rattle.disksort.specs.declared.Waiter.{Waiter}
-use Rattle.block_machine.specs.Machine.{Blocks}
 use Rattle.block_machine.specs.Stands.{is_sure_among, IsLive}
 use Rattle.driver_machine.specs.declared.Made.{Made}
 use Rattle.driver_machine.specs.declared.Phase.{Phase}
 use Rattle.driver_machine.specs.declared.Phase.TheVariants.{Waiting, Positioning, Queued, Transferring, Due}
-use Rattle.driver_machine.specs.World.{World, UnitView, Held, Setup, no_unit, new_unit, new_world, no_transfer, adapter_of, unit_at, adapter_at, slot_at, held_in, slot_in_hand, transfer_of}
+use Rattle.driver_machine.specs.World.{World, UnitView, Held, Setup, new_unit, new_world, no_transfer, adapter_of, unit_at, adapter_at, held_in, slot_in_hand, transfer_of}
 use Rattle.driver_machine.specs.Guards.{IsSetUp}
 use Rattle.driver_machine.specs.Sound.{Among, Sound, AtWork, WorkOf, is_waiting}
-use Rattle.driver_slots.specs.Parts.{AreSetups, units_of}
+use Rattle.driver_slots.specs.Parts.{units_of}
 use Rattle.driver_slots.proofs.Lists.{Contains-first, Contains-later}
 use Rattle.driver_slots.proofs.Starts.{stands_new, others_new}
 use Rattle.driver_phases.proofs.Frame.{head_out}
-use Rattle.driver_bytes.specs.Bytes.{done_in, last_in, HandBears, UnitBears, AreSteps, Bears}
-use Rattle.driver_bytes.specs.Laws.{contents_in, Rests, RestBears, HaveTables, NewRests}
+use Rattle.driver_bytes.specs.Bytes.{HandBears, UnitBears, AreSteps}
+use Rattle.driver_bytes.specs.Laws.{contents_in, Rests, RestBears, NewRests}
 use Rattle.driver_bytes.proofs.Hand.{hand_waits}
 use Rattle.driver_bytes.proofs.Deeds.{At}
 use Rattle.driver_bytes.proofs.Others.{waits_none}

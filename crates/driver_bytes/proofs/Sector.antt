@@ -1,13 +1,13 @@
 -- A SECTOR IS TRIED: a block more is done, or the segment stopped at it.
-use Rattle.std.proofs.Common.{◌≡◌, ◌≢◌, ℕ, ◌+◌, ◌<◌, ◌≤◌, ◌==◌, ◌&&◌, not, Bool, true, false, List, [], length, take, Option, Some, None, refl, sym, ap, ◌∙◌, subst, arith}
-use Rattle.std.specs.Prelude.{if◌then◌else◌, is_some, IsTrue, IsSome, option_map}
+use Rattle.std.proofs.Common.{◌≡◌, ◌≢◌, ℕ, ◌+◌, ◌<◌, ◌≤◌, not, Bool, true, false, List, [], length, take, Option, Some, None, refl, sym, ap, ◌∙◌, subst, arith}
+use Rattle.std.specs.Prelude.{if◌then◌else◌, is_some, IsTrue, option_map}
 use Rattle.std.proofs.lemmas.Bool.{lt-ltb}
 use Rattle.std.proofs.lemmas.Option.{none-some}
 use Rattle.std.proofs.lemmas.List.{get_or-set_same}
 use Rattle.pack_geometry.specs.declared.DriveKind.{DriveKind}
-use Rattle.pack_geometry.specs.Geometry.{limit_of, place_at, replacement_at}
+use Rattle.pack_geometry.specs.Geometry.{limit_of, replacement_at}
 use Rattle.pack_model.specs.Pack.{Pack, block_at, is_marked, written}
-use Rattle.pack_model.specs.Homes.{home_of, if_unmarked}
+use Rattle.pack_model.specs.Homes.{home_of}
 use Rattle.pack_model.specs.TableSpelling.{Table}
 use Rattle.pack_model.specs.PackTable.{IsTableOf, places_of}
 use Rattle.pack_model.proofs.PackTableLaws.{table_same}
@@ -17,21 +17,19 @@ use Rattle.hardware_table.specs.declared.Moved.{Moved}
 use Rattle.hardware_table.specs.declared.Moved.TheVariants as verdict
 use Rattle.hardware_table.specs.Drive.{DriveState, is_writing}
 use Rattle.hardware_table.specs.Moves.{stop_of, first_armed, IsVerdict, IsVerdictBy, has_bytes, was_read, was_written}
-use Rattle.hardware_table.specs.Adapter.{AdapterState, stepped, next_block, next_window}
 use Rattle.hardware_table.specs.declared.FaultKind.{FaultKind}
 use Rattle.main_memory.specs.Bytes.{filled}
-use Rattle.main_memory.specs.Blocks.{Loan, size_at}
+use Rattle.main_memory.specs.Blocks.{size_at}
 use Rattle.main_memory.proofs.ByteLaws.{length-filled}
 use Rattle.drive_model.specs.Move.{IsFrontRead}
 use Rattle.ecc_repair.specs.Repaired.{repaired}
 use Rattle.transfer_engine.specs.declared.job.Job.{Job}
-use Rattle.transfer_engine.specs.declared.job.Segment.{Segment}
-use Rattle.transfer_engine.specs.State.{TransferState, segment_by, segment_of}
-use Rattle.block_machine.specs.Machine.{Blocks, bytes_or_none}
+use Rattle.transfer_engine.specs.State.{TransferState, segment_by}
+use Rattle.block_machine.specs.Machine.{Blocks}
 use Rattle.block_machine.proofs.Noises.{Harmless}
 use Rattle.block_machine.proofs.Tried.{MovedBy, verdict_moved}
 use Rattle.driver_machine.specs.World.{Held, block_in, with_block_in}
-use Rattle.driver_bytes.specs.Bytes.{asked_of, IsSureFor, IsForwarded, sector_for, IsStopped, HandBears}
+use Rattle.driver_bytes.specs.Bytes.{asked_of, IsSureFor, IsForwarded, sector_for, HandBears}
 use Rattle.driver_bytes.proofs.Hand.{next_home, hand_stopped, hand_read, hand_struck, hand_written}
 use Rattle.driver_bytes.proofs.Struck.{clean_read, burst_read}
 

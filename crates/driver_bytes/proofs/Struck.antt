@@ -5,7 +5,6 @@ use Rattle.std.specs.Int.{bit_at}
 use Rattle.std.proofs.lemmas.Nat.Bits.{same_from_bits_below}
 use Rattle.std.proofs.lemmas.Grind.{same_number_lists}
 use Rattle.fire_code.specs.Word.{bit_of_word}
-use Rattle.fire_code.specs.Noise.{IsAlias}
 use Rattle.fire_code.proofs.Toggle.{bit_of_data}
 use Rattle.main_memory.specs.Bytes.{front}
 use Rattle.hardware_table.specs.declared.Moved.TheVariants as verdict

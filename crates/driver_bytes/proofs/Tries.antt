@@ -1,5 +1,5 @@
 -- A sector that is tried at a unit.
-use Rattle.std.proofs.Common.{◌≡◌, ◌≢◌, ℕ, ◌+◌, ◌<◌, ◌≤◌, Bool, true, false, List, length, All, Option, Some, None, refl, sym, ap, ◌∙◌, subst, arith}
+use Rattle.std.proofs.Common.{◌≡◌, ℕ, ◌+◌, ◌<◌, ◌≤◌, Bool, true, false, List, length, All, Option, Some, None, refl, sym, ap, ◌∙◌, subst, arith}
 use Rattle.std.specs.Prelude.{if◌then◌else◌, ◌==◌, IsTrue}
 use Rattle.pack_geometry.specs.declared.DriveKind.{DriveKind}
 use Rattle.pack_geometry.specs.Geometry.{limit_of}
@@ -12,7 +12,7 @@ use Rattle.hardware_table.specs.declared.Work.TheVariants as work
 use Rattle.hardware_table.specs.Drive.{is_writing}
 use Rattle.hardware_table.specs.Moves.{was_read, was_written, IsVerdict}
 use Rattle.hardware_table.specs.Noise.{LiveNoise, strikes}
-use Rattle.hardware_table.specs.Adapter.{AdapterState, stepped, step_bytes, next_block, next_window}
+use Rattle.hardware_table.specs.Adapter.{AdapterState, stepped, next_window}
 use Rattle.main_memory.specs.Blocks.{Loan, IsLoan, size_at}
 use Rattle.drive_model.specs.Move.{IsFrontRead}
 use Rattle.transfer_engine.specs.declared.job.Job.{Job}
@@ -30,7 +30,7 @@ use Rattle.driver_machine.specs.Sound.{IsPhase}
 use Rattle.driver_phases.proofs.Scene.{SceneOk, phase_is}
 use Rattle.driver_phases.proofs.DeedFacts.{transfer_at}
 use Rattle.driver_phases.proofs.Sector.{moved_less}
-use Rattle.driver_bytes.specs.Bytes.{done_in, last_in, IsForwarded, sector_for, HandBears}
+use Rattle.driver_bytes.specs.Bytes.{sector_for, HandBears}
 use Rattle.driver_bytes.proofs.Deeds.{At, SceneBears, one_sector, left_in}
 use Rattle.driver_bytes.proofs.Sector.{tried_sector, tried_home, IsTry, pack_tried, held_tried, done_tried, tried_bears, tried_table}
 
