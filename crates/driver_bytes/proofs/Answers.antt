@@ -83,14 +83,15 @@ steps_stay armed more w now held left (made ∷ rest) first last s stays are =
     let one = step_stays armed more w now held left first made.slot made.answer.kind s (λ q is. stays made q (Contains-first made rest) is) are.0 in (
       one.0,
       subst (λ (maps : ℕ → Blocks). AreSteps more now left rest maps last) (sym one.1)
-      (steps_stay armed more w now held left rest (maps_behind w first made.slot made.answer.kind) last s (λ m q c is. stays m q (Contains-later m made rest c) is) are.1),
+          (steps_stay armed more w now held left rest (maps_behind w first made.slot made.answer.kind) last s (λ m q c is. stays m q (Contains-later m made rest c) is) are.1),
     )
 
 -- ONE ANSWER MORE
 pub steps_more : (armed : List LiveNoise) (w : World) (held : ℕ → Pack) (answers : List Made) (made : Made) (first last : ℕ → Blocks) → AreSteps armed w held answers first last
     → StepsFrom armed w held last made.slot made.answer.kind → AreSteps armed w held (answers ++ made ∷ []) first (maps_behind w last made.slot made.answer.kind)
-steps_more armed w held [] made first last are is =
-    (subst (λ (maps : ℕ → Blocks). StepsFrom armed w held maps made.slot made.answer.kind) are is,
-    ap (λ (maps : ℕ → Blocks). maps_behind w maps made.slot made.answer.kind) are)
+steps_more armed w held [] made first last are is = (
+  subst (λ (maps : ℕ → Blocks). StepsFrom armed w held maps made.slot made.answer.kind) are is,
+  ap (λ (maps : ℕ → Blocks). maps_behind w maps made.slot made.answer.kind) are,
+)
 steps_more armed w held (m ∷ rest) made first last are is =
     (are.0, steps_more armed w held rest made (maps_behind w first m.slot m.answer.kind) last are.1 is)

@@ -10,3 +10,4 @@ pub mod EachDeed
 pub mod EachAct
 pub mod Calls
 pub mod Rests
+pub mod Writes

@@ -71,7 +71,7 @@ among_or u (x ∷ xs) = elim (cases_eq u x) [
   | inl same ↦ inl (inl same)
   | inr other ↦ elim (among_or u xs) [
     | inl later ↦ inl (inr later)
-    | inr none ↦ inr (λ is. elim is [ | inl same ↦ other same | inr later ↦ none later ])
+    | inr none ↦ inr (λ is. elim is [ inl same ↦ other same | inr later ↦ none later ])
   ]
 ]
 

@@ -155,11 +155,13 @@ module _ (sure : ℕ → Type 0) (kind : DriveKind) (table : Option Table) (pack
   burst_got at q is reads =
       let there = moved_there (verdict.Burst at q) refl is in
       let here : blocks (h.first + done) ≡ Some (block_at pack.image sector) = next_home sure kind table pack blocks h t done verdict.Clean b sector (home there.0) in
-      hand_struck sure kind table pack blocks h t done verdict.Clean b bytes (verdict.Burst at q) (sym is.direction ∙ reads)
-      (ap is_some here, λ sures. ap (repaired at q) (get_or-set_same h.blocks done bytes [] is.inside)
-      ∙ burst_read (sure sector) places (block_at pack.image sector) at q (size_at h.loan done) bytes (length-block_at pack.image sector) is.harmless
-      (subst (λ w. MovedBy w places (verdict.Burst at q)) reads there.1) (is.got (rw reads refl)) (sure_there (verdict.Burst at q) is (home there.0) sures)
-      ∙ asked_is (blocks (h.first + done)) here)
+      hand_struck sure kind table pack blocks h t done verdict.Clean b bytes (verdict.Burst at q) (sym is.direction ∙ reads) (
+        ap is_some here,
+        λ sures. ap (repaired at q) (get_or-set_same h.blocks done bytes [] is.inside)
+            ∙ burst_read (sure sector) places (block_at pack.image sector) at q (size_at h.loan done) bytes (length-block_at pack.image sector) is.harmless
+            (subst (λ w. MovedBy w places (verdict.Burst at q)) reads there.1) (is.got (rw reads refl)) (sure_there (verdict.Burst at q) is (home there.0) sures)
+            ∙ asked_is (blocks (h.first + done)) here,
+      )
 
   -- or noise that shows.
   hard_got : Try verdict.Hard → is_writing d.work ≡ false → Hand pack (with_block_in done bytes h) done verdict.Hard

@@ -135,11 +135,10 @@ sector_bears armed pack blocks line u p block tried s ok may given table b =
     let placed : HandBears (is_sure_among armed u) kind s.unit.table (pack_tried (was_written s.unit.drive tried.verdict) pack block tried.bytes) blocks
     (held_tried (was_read s.unit.drive tried.verdict) (next_window a) tried.bytes h) t (t.done + (stepped tried.verdict a).moved)
     (if (stepped tried.verdict a).completion then (stepped tried.verdict a).verdict else verdict.Clean) =
-    moved_to left (sym sector) (sym window) (done_stepped tried.verdict t.done a) (last_stepped tried.verdict a) in
-    (
+    moved_to left (sym sector) (sym window) (done_stepped tried.verdict t.done a) (last_stepped tried.verdict a) in (
       subst (λ x. IsTableOf kind (pack_tried (was_written s.unit.drive tried.verdict) pack x tried.bytes) s.unit.table) (sym sector) kept,
       subst (λ p. At (is_sure_among armed u) kind s.unit.table (pack_tried (was_written s.unit.drive tried.verdict) pack block tried.bytes) blocks
-      (held_tried (was_read s.unit.drive tried.verdict) (next_window a) tried.bytes h) s.unit.transfer p (stepped tried.verdict a)) (sym has.phase) placed,
+          (held_tried (was_read s.unit.drive tried.verdict) (next_window a) tried.bytes h) s.unit.transfer p (stepped tried.verdict a)) (sym has.phase) placed,
     )
   where
     moved_to : {x y k m n r : ℕ} {l q : Moved}

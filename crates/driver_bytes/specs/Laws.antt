@@ -1,6 +1,6 @@
 -- What is proved of the driver's bytes: with nothing outstanding the driver stands for what its packs hold, and each call keeps what it
 -- stands for.
-use Rattle.std.specs.Prelude.{◌≡◌, ℕ, ◌<◌, List, [], ◌∷◌, ◌++◌, length, Contains}
+use Rattle.std.specs.Prelude.{◌≡◌, ℕ, ◌<◌, List, [], ◌∷◌, ◌++◌, length, Contains, Some, true}
 use Rattle.pack_model.specs.Pack.{Pack}
 use Rattle.pack_model.specs.PackTable.{IsTableOf}
 use Rattle.pack_model.specs.Homes.{content_of}
@@ -10,7 +10,7 @@ use Rattle.subsystem_spec.specs.Requests.{Request}
 use Rattle.block_machine.specs.Machine.{Blocks}
 use Rattle.block_machine.specs.Stands.{armed_by}
 use Rattle.driver_machine.specs.declared.Made.{Made}
-use Rattle.driver_machine.specs.World.{World, Held, Setup, new_world, unit_at}
+use Rattle.driver_machine.specs.World.{World, Held, Setup, new_world, unit_at, slot_at}
 use Rattle.driver_machine.specs.Acts.{Act, Change, Taken, Tried, after, after_all}
 use Rattle.driver_machine.specs.Events.{submit_acts, event_acts}
 use Rattle.driver_machine.specs.Guards.{IsSetUp, Allowed}
@@ -75,3 +75,8 @@ EventsBear = (armed : List LiveNoise) (w : World) (line : ℕ) (input : Input) (
 abbrev pub TakingsBear : Type 0
 TakingsBear = (armed : List LiveNoise) (w : World) (held : ℕ → Pack) (maps : ℕ → Blocks) → Sound w → 0 < length w.answers
     → Bears armed w held maps → Bears armed (after w Taken) held (maps_taken w w.answers maps)
+
+-- A WRITE'S BUFFER holds what was asked until its answer is taken: no act changes its blocks.
+abbrev pub WritesStay : Type 0
+WritesStay = (w : World) (act : Act) (p : ℕ) (h g : Held) → Sound w → Allowed w act → slot_at w p ≡ Some h → h.write ≡ true
+    → slot_at (after w act) p ≡ Some g → g.blocks ≡ h.blocks

@@ -7,7 +7,7 @@
 //! each act, submission, event and taking of an answer keeps the map that the driver stands for, up to the answers that then wait.
 #![tactic(auto)]
 
-ghost use Rattle.driver_bytes.specs.Laws.{RestBears, NewRests, ActsBear, SubmissionsBear, EventsBear, TakingsBear};
+ghost use Rattle.driver_bytes.specs.Laws.{RestBears, NewRests, ActsBear, SubmissionsBear, EventsBear, TakingsBear, WritesStay};
 
 /// With nothing outstanding the driver stands for what its packs hold, where its tables are theirs; and a new driver is so.
 pub fn rest_law()
@@ -22,4 +22,9 @@ pub fn calls_law()
     ensures submit { SubmissionsBear }
     ensures event { EventsBear }
     ensures taken { TakingsBear }
+{}
+
+/// No act changes the blocks of a write: its buffer holds what was asked until its answer is taken.
+pub fn writes_law()
+    ensures { WritesStay }
 {}
