@@ -4,33 +4,25 @@ use Rattle.std.specs.Prelude.{IsTrue}
 use Rattle.std.proofs.lemmas.List.{append-nil}
 use Rattle.pack_model.specs.Pack.{Pack}
 use Rattle.hardware_table.specs.Noise.{LiveNoise}
-use Rattle.main_memory.specs.Bytes.{filled}
 use Rattle.subsystem_spec.specs.Requests as told
-use Rattle.subsystem_spec.specs.declared.answers.AnswerKind.{AnswerKind}
 use Rattle.subsystem_spec.specs.declared.answers.AnswerKind.TheVariants.{ReadOk}
 use Rattle.trace_replay.specs.Script.{Input}
 use Rattle.block_machine.specs.Machine.{Blocks}
 use Rattle.block_machine.specs.Stands.{armed_by, is_sure_among}
 use Rattle.driver_machine.specs.declared.Made.{Made}
-use Rattle.driver_machine.specs.World.{World, unit_at, held_in, block_in}
-use Rattle.driver_machine.specs.Acts.{Act, Taken, after, after_all}
+use Rattle.driver_machine.specs.World.{World, unit_at, held_in}
+use Rattle.driver_machine.specs.Acts.{after_all}
 use Rattle.driver_machine.specs.Events.{submit_acts, event_acts}
-use Rattle.driver_machine.specs.Sound.{Sound, AtWork}
-use Rattle.driver_work.specs.Runs.{Run}
+use Rattle.driver_machine.specs.Sound.{Sound}
 use Rattle.driver_outcome.specs.declared.Stop.{Stop}
 use Rattle.driver_outcome.specs.declared.Stop.TheVariants.{Store, Sink}
-use Rattle.driver_outcome.specs.Outcome.{Outcome, Does, StopsAtTrace}
-use Rattle.driver_outcome.specs.Packs.{ReadAll, packs_after_all}
-use Rattle.driver_bytes.specs.Bytes.{IsSureFor, asked_of, IsSaid, StepsFrom, AreSteps, Bears}
-use Rattle.driver_bytes.specs.Laws.{maps_taken}
+use Rattle.driver_outcome.specs.Outcome.{Does, StopsAtTrace}
+use Rattle.driver_outcome.specs.Packs.{packs_after_all}
+use Rattle.driver_bytes.specs.Bytes.{IsSureFor, IsSaid, StepsFrom, AreSteps, Bears}
 use Rattle.driver_bytes.proofs.Rests.{rest_bears}
 use Rattle.driver_bytes.proofs.Calls.{submissions_bear, events_bear, takings_bear}
-use Rattle.hp_driver.specs.Subsystem.{seen, Submits, Comes, IsOldest, Reads}
-use Rattle.hp_driver.specs.Bytes.{StandsAtRest, KeepsMaps, KeepsMapsIn, GoesToMaps, GivesOfMaps}
-
--- AT REST
-pub stands_at_rest : (w : World) → Sound w → AtWork w → StandsAtRest w
-stands_at_rest w sound work held rests = rest_bears w held sound work rests
+use Rattle.hp_driver.specs.Subsystem.{seen, Submits, Comes}
+use Rattle.hp_driver.specs.Bytes.{KeepsMaps, KeepsMapsIn, GivesOfMaps, HoldsMaps}
 
 -- acts that are done, all of them or the first ones
 whole : (acts : List Act) → acts ≡ acts ++ []
@@ -68,22 +60,12 @@ module _ {O Q : Type 0} (holds : Q → Bool) (held : Q → ℕ → Pack) (tells 
       (events_bear armed old line input is.tried stops.done stops.left (held packs) maps sound stops.all stops.does.run (stops.does.reads t) b)
   event_keeps (Some Store) is t no armed maps b = absurd (no refl)
 
--- AN ANSWER
-pub taking_goes : (old new : World) → Sound old → 0 < length old.answers → new ≡ after old Taken → GoesToMaps old new
-taking_goes old new sound some is armed held maps b =
-    subst (λ w. Bears armed w held (maps_taken old old.answers maps)) (sym is) (takings_bear armed old held maps sound some b)
-
-pub nothing_goes : (old new : World) → old.answers ≡ [] → new ≡ old → GoesToMaps old new
-nothing_goes old new none is armed held maps b =
-    subst (λ w. Bears armed w held (maps_taken old old.answers maps)) (sym is)
-    (subst (λ (l : List Made). Bears armed old held (maps_taken old l maps)) (sym none) b)
-
+-- THE OLDEST ANSWER
 first_same : {x y : Made} {xs ys answers : List Made} → answers ≡ x ∷ xs → answers ≡ y ∷ ys → x ≡ y
 first_same e f = cc
 
-pub block_given : (w : World) (k : ℕ) (block : List ℕ) → Reads w k
-    → ((made : Made) → (p : ℕ) → IsOldest w made → made.slot ≡ Some p → block ≡ filled 512 (block_in (held_in w p) k)) → GivesOfMaps w k block
-block_given w k block reads given armed held maps made p b oldest slot sures =
+gives_of_maps : (w : World) → GivesOfMaps w
+gives_of_maps w k armed held maps made p reads b oldest slot sures =
     let same : reads.made ≡ made = first_same reads.oldest.first oldest.first in
     let kind : made.answer.kind ≡ ReadOk reads.count reads.last = ap (λ (m : Made). m.answer.kind) (sym same) ∙ reads.ok in
     let steps : AreSteps armed w held (made ∷ drop 1 w.answers) maps b.now = subst (λ (l : List Made). AreSteps armed w held l maps b.now) oldest.first b.answers in
@@ -92,4 +74,11 @@ block_given w k block reads given armed held maps made p b oldest slot sures =
     (maps (held_in w p).unit) (held_in w p) (ReadOk reads.count reads.last) =
     subst (λ a. IsSaid (IsSureFor (is_sure_among armed (held_in w p).unit) (unit_at w (held_in w p).unit).drive.kind (unit_at w (held_in w p).unit).table (held (held_in w p).unit) (held_in w p))
     (maps (held_in w p).unit) (held_in w p) a) kind step.said in
-    given made p oldest slot ∙ ap (filled 512) (said sures k reads.inside)
+    said sures k reads.inside
+
+pub holds_maps : (w : World) → Sound w → HoldsMaps w
+holds_maps w sound = record {
+  rest = λ work held rests. rest_bears w held sound work rests;
+  gives = gives_of_maps w;
+  taken = λ armed held maps some b. takings_bear armed w held maps sound some b;
+}

@@ -16,7 +16,7 @@ ghost use Rattle.driver_outcome.specs.Outcome.{stop_in};
 ghost use Rattle.hp_core.specs.Setups.{setups_of};
 ghost use Rattle.trace_bounds.specs.Commands.{CommandsAreBounded};
 ghost use Rattle.hp_events.specs.Inputs.{input_of};
-ghost use Rattle.hp_driver.specs.Bytes.{StandsAtRest, KeepsMaps, KeepsMapsIn, GoesToMaps, GivesOfMaps};
+ghost use Rattle.hp_driver.specs.Bytes.{HoldsMaps, KeepsMaps, KeepsMapsIn};
 ghost use Rattle.hp_driver.specs.Subsystem.{asked, IsAsked, Submits, IsThere, is_move, Comes, LeavesFewer, IsOldest, Reads, sink_in};
 
 use crate::{events, submission};
@@ -74,13 +74,13 @@ impl Subsystem {
     }
 
     /// The law of the subsystem: between any two calls its world is sound, noise that is live flips places of a sector, and no unit
-    /// with a request stands still; and with nothing outstanding it stands for what its packs hold. No request has more commands
-    /// than 300 for each of its blocks.
+    /// with a request stands still. With nothing outstanding it stands for what its packs hold, and a read that is answered gives the
+    /// blocks of each map that it stands for. No request has more commands than 300 for each of its blocks.
     pub fn law(&self)
         ensures sound { Sound self.now.world }
         ensures noise { AllFlip self.now.world.book.live }
         ensures work { self.now.failed ≡ false → AtWork self.now.world }
-        ensures bytes { self.now.failed ≡ false → StandsAtRest self.now.world }
+        ensures bytes { HoldsMaps self.now.world }
         ensures commands { CommandsAreBounded }
     {
         commands_law();
@@ -193,7 +193,6 @@ impl Subsystem {
         ensures taken { IfSome result (λ _. self.new ≡ record self.old { world = after self.old.world Taken }) }
         ensures none { (result ≡ None) ↔ (self.old.world.answers ≡ []) }
         ensures same { self.old.world.answers ≡ [] → self.new ≡ self.old }
-        ensures bytes { GoesToMaps self.old.world self.new.world }
     {
         match self.core.first_answer() {
             Some(made) => {
@@ -207,8 +206,7 @@ impl Subsystem {
     /// Gives block `k`, from 0, of the read that the oldest answer is of: its bytes, and zeros behind those of a short last block.
     pub fn answer_block(&self, k: u32, into: &mut [u8; 512])
         requires reads { Reads self.now.world k }
-        ensures block { (made : Made) → (p : ℕ) → IsOldest self.now.world made → made.slot ≡ Some p → into.new ≡ filled 512 (block_in (held_in self.now.world p) k) }
-        ensures bytes { GivesOfMaps self.now.world k into.new }
+        ensures { (made : Made) → (p : ℕ) → IsOldest self.now.world made → made.slot ≡ Some p → into.new ≡ filled 512 (block_in (held_in self.now.world p) k) }
     {
         let Some(made) = self.core.first_answer() else {
             unreachable!()

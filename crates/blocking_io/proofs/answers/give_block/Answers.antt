@@ -8,4 +8,4 @@ returns c =
     let block = c.requires.block in
     c.lay_at.ensures
     ∙ ap (λ bytes. laid_at (512 * c.args.k) bytes c.args.into.now)
-    (block_given c.args.subsystem.now.world c.args.k c.args.size block c.answer_block.new.into (c.answer_block.ensures.block block.reads.made block.slot block.reads.oldest block.slot_is))
+    (block_given c.args.subsystem.now.world c.args.k c.args.size block c.answer_block.new.into (c.answer_block.ensures block.reads.made block.slot block.reads.oldest block.slot_is))

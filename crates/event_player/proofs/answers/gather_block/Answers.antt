@@ -9,7 +9,7 @@ pub returns-clause-gathers : goal.returns-clause-gathers
 returns-clause-gathers g c =
     let w = c.args.subsystem.now.world in
     let block = c.requires.block in
-    let given = block_given block c.answer_block.new.into (c.answer_block.ensures.block block.reads.made block.slot block.reads.oldest block.slot_is) in
+    let given = block_given block c.answer_block.new.into (c.answer_block.ensures block.reads.made block.slot block.reads.oldest block.slot_is) in
     gathers_same (block_text c.args.k (slice_index_or (first_blocks w w.answers) c.args.k [])) c.put_block.ensures.gathers
     (ap (λ (bytes : List ℕ). block_text c.args.k bytes) given)
 
@@ -17,7 +17,7 @@ pub returns-clause-counts : goal.returns-clause-counts
 returns-clause-counts g c =
     let w = c.args.subsystem.now.world in
     let block = c.requires.block in
-    let given = block_given block c.answer_block.new.into (c.answer_block.ensures.block block.reads.made block.slot block.reads.oldest block.slot_is) in
+    let given = block_given block c.answer_block.new.into (c.answer_block.ensures block.reads.made block.slot block.reads.oldest block.slot_is) in
     counts_same c.args.desk.now.tally c.put_block.new.desk.tally [] [] (block_text c.args.k (take c.args.size c.answer_block.new.into)) (block_text c.args.k (slice_index_or (first_blocks w w.answers) c.args.k [])) c.put_block.ensures.counts refl
     (ap (λ (bytes : List ℕ). block_text c.args.k bytes) given)
 
