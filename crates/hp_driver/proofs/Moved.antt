@@ -53,12 +53,12 @@ module _ {O Q : Type 0} (holds : Q → Bool) (held : Q → ℕ → Pack) (packs_
       let outcome : Outcome (record { packs = holds packs'; trace = tells trace' }) (move_acts line a is.tried old.world) (seen old.world (held packs) (taken trace)) (seen new.world (held packs') (taken trace')) (stop_in result) =
       outcome_sent tells taken faults (move_acts line a is.tried old.world) old stands.sent trace mid_trace trace' mid new result (holds packs') (held packs) (held packs') is.outcome sends empty in
       let comes : Comes holds held tells taken packs packs' trace trace' line (MoveAt a) old.world new.world (stop_in result) = record {
-          tried = is.tried;
-          may = λ e. may;
-          reads = λ e t can. read_from old.world line a is.tried stands.sound can (held packs) stands.noise (is.outcome.does.reads t);
-          outcome = outcome;
-          moves = λ e. refl;
-          before = λ e. absurd (no_store result sends.stop e);
+        tried = is.tried;
+        may = λ e. may;
+        reads = λ e t can. read_from old.world line a is.tried stands.sound can (held packs) stands.noise (is.outcome.does.reads t);
+        outcome = outcome;
+        moves = λ e. refl;
+        before = λ e. absurd (no_store result sends.stop e);
       } in
       record {
         comes = comes;
@@ -79,12 +79,12 @@ module _ {O Q : Type 0} (holds : Q → Bool) (held : Q → ℕ → Pack) (packs_
       let outcome : Outcome (record { packs = holds packs'; trace = tells trace' }) (move_acts line a is.tried old.world) (seen old.world (held packs) (taken trace)) (seen new.world (held packs') (taken trace')) (Some stop) =
       by_stop stop is.outcome is.kept in
       let comes : Comes holds held tells taken packs packs' trace trace' line (MoveAt a) old.world new.world (Some stop) = record {
-          tried = is.tried;
-          may = λ e. absurd (cc);
-          reads = λ e. absurd (cc);
-          outcome = outcome;
-          moves = λ e. refl;
-          before = λ e. before_stopped (holds packs') (move_acts line a is.tried old.world) old.world new.world (held packs) (held packs') (taken trace) (taken trace') old.kept new.kept stands.sent (tells trace') (is.kept e) (is.before e);
+        tried = is.tried;
+        may = λ e. absurd (cc);
+        reads = λ e. absurd (cc);
+        outcome = outcome;
+        moves = λ e. refl;
+        before = λ e. before_stopped (holds packs') (move_acts line a is.tried old.world) old.world new.world (held packs) (held packs') (taken trace) (taken trace') old.kept new.kept stands.sent (tells trace') (is.kept e) (is.before e);
       } in
       record {
         comes = comes;
