@@ -2,4 +2,3 @@ pub mod Memory
 pub mod Drives
 pub mod Machine
 pub mod Slots
-pub mod Bytes
