@@ -1,11 +1,9 @@
 -- What is armed at a unit, what is live there and what failed is never more than the lines of the script brought.
-use Rattle.std.proofs.Common.{◌≡◌, ◌⊎◌, inl, inr, ℕ, ◌+◌, ◌<◌, ◌≤◌, ◌==◌, ◌&&◌, Bool, true, false, not, List, [], ◌∷◌, ◌++◌, Option, None, Some, option_map, refl, sym, ap, ◌∙◌, subst, arith}
+use Rattle.std.proofs.Common.{◌≡◌, ◌⊎◌, inl, inr, ℕ, ◌+◌, ◌<◌, ◌≤◌, ◌==◌, Bool, true, false, not, List, [], ◌∷◌, ◌++◌, Option, None, Some, option_map, refl, sym, ap, ◌∙◌, subst, arith}
 use Rattle.std.specs.Prelude.{if◌then◌else◌, unwrap_or}
 use Rattle.std.proofs.lemmas.Bool.Decides.{eqb_tells}
 use Rattle.std.proofs.lemmas.Option.{same_Some, none-some}
 use Rattle.pack_geometry.specs.declared.DriveKind.TheVariants.{Rp06}
-use Rattle.pack_model.specs.Pack as model
-use Rattle.pack_model.specs.TableSpelling.{Table}
 use Rattle.fire_code.specs.Noise.{Classes}
 use Rattle.fire_code.specs.declared.NoiseClass.TheVariants.{Shown}
 use Rattle.fire_code.specs.Burst.{IsUncorrectable}
@@ -20,20 +18,19 @@ use Rattle.hardware_table.specs.Functions.{performed}
 use Rattle.hardware_table.specs.Moves.{IsVerdict, IsVerdictBy, stop_of, first_armed, was_read, was_written}
 use Rattle.hardware_table.specs.Noise.{LiveNoise, after_strike}
 use Rattle.subsystem_spec.specs.Requests.{Request, Answer, rejection_answer}
-use Rattle.trace_replay.specs.Script.{Script, Input, Submit, ArriveAt, MoveAt, AttendTo, Drain, Turn, Noise, Arm, SetOnline, SetLocked, inputs_of, drives_of}
+use Rattle.trace_replay.specs.Script.{Input, Submit, ArriveAt, MoveAt, AttendTo, Drain, Turn, Noise, Arm, SetOnline, SetLocked, inputs_of, drives_of}
 use Rattle.trace_replay.specs.Moments.{Deed, Search, Seek, Recal, Offset, Centre, Clear, Pack, Transfer, Arrive, Sector, Intr, Try, Attn, End, Moment, Played, Told, Idle, played}
-use Rattle.trace_replay.specs.Drives.{drive_after, drive_played}
-use Rattle.trace_replay.specs.Packs.{Surface, flips_at, surface_read, surface_written, surface_of}
+use Rattle.trace_replay.specs.Drives.{drive_after}
+use Rattle.trace_replay.specs.Packs.{Surface, flips_at, surface_read, surface_written}
 use Rattle.trace_replay.specs.Service.{in_hand, target_of}
-use Rattle.trace_replay.specs.Events.{Event, Wish, NoLine, DueLine, Arrival, SectorLine, Interrupt, Attention, Refusal, IdleLine}
-use Rattle.trace_replay.specs.History.{is_refusal, with_deed, lines_after, lines_behind, lines_of, fails}
-use Rattle.trace_replay.specs.Replay.{Replay, UnitSeen, at_unit, this_or, LineMay, ToldMay, MayCome, Follows, unit_after, unit_joined, surface_after, replay_told, told_after, drained, Submission, Refused, Joined, submission, submitted, replay_played, after_moment, after_moments, next_wish}
-use Rattle.trace_replay.specs.Runs.{IsLegalRun, start_of}
+use Rattle.trace_replay.specs.Events.{Wish, NoLine, DueLine, Arrival, SectorLine, Interrupt, Attention, Refusal, IdleLine}
+use Rattle.trace_replay.specs.History.{is_refusal, with_deed, lines_after, lines_behind, lines_of}
+use Rattle.trace_replay.specs.Replay.{Replay, at_unit, this_or, LineMay, ToldMay, Follows, unit_after, surface_after, replay_told, told_after, drained, Submission, Refused, Joined, submission, submitted, replay_played, after_moment, after_moments, next_wish}
+use Rattle.trace_replay.specs.Runs.{start_of}
 use Rattle.trace_replay.proofs.Unchanged.{drained_keeps}
 use Rattle.trace_replay.proofs.Following.{follow_on}
-use Rattle.trace_work.proofs.Stages.{no}
 use Rattle.trace_work.proofs.Armed.{performed_armed, hard_verdict, tags_apart}
-use Rattle.trace_strikes.specs.Strikes.{strikes_by, strikes_in, strikes_while, failed_by, failures_in, AreFewStrikes, FailuresAreFew}
+use Rattle.trace_strikes.specs.Strikes.{strikes_by, strikes_in, failures_in, FailuresAreFew}
 use Rattle.trace_strikes.proofs.Totals.{total, total_more, line_less, fault_strikes}
 use Rattle.trace_strikes.proofs.Lives.{left_in, armed_more, struck_less, strikes_one}
 

@@ -1,5 +1,5 @@
 -- How many faults are armed at a drive in all: no line of the trace arms one, and a fault that strikes is one less.
-use Rattle.std.proofs.Common.{◌≡◌, ℕ, ◌+◌, ◌-◌, ◌<◌, ◌≤◌, ◌==◌, Bool, true, false, List, Option, None, Some, option_map, refl, sym, ap, ◌∙◌, subst, arith, nat_lt}
+use Rattle.std.proofs.Common.{◌≡◌, ℕ, ◌+◌, ◌-◌, ◌≤◌, Bool, true, false, List, Option, None, Some, option_map, refl, sym, ap, subst, arith, nat_lt}
 use Rattle.std.specs.Prelude.{if◌then◌else◌}
 use Rattle.std.proofs.lemmas.Option.{same_Some, none-some}
 use Rattle.std.proofs.lemmas.Bool.Decides.{nat_tests}
@@ -23,11 +23,8 @@ use Rattle.hardware_table.specs.Events.{arrived_from, transfer_ended, times_arme
 use Rattle.hardware_table.specs.Functions.{performed}
 use Rattle.hardware_table.specs.Moves.{after_move, with_fault_bits, fault_used, with_mark_bits, first_armed, fault_order, stop_of, IsVerdictBy}
 use Rattle.trace_replay.specs.Moments.{Deed, Search, Seek, Recal, Offset, Centre, Clear, Pack, Transfer, Arrive, Sector, Intr, Try, Attn, End}
-use Rattle.trace_replay.specs.History.{fails}
 use Rattle.trace_replay.specs.Drives.{drive_after, addressed, search_place, offset_written, transfer_function}
-use Rattle.trace_strikes.specs.Strikes.{failed_by}
 use Rattle.trace_work.proofs.Armed.{performed_armed, find_first, tags_apart}
-use Rattle.trace_work.proofs.Stages.{no}
 
 abbrev pub total : Armed → ℕ
 total a = a.seek + a.opi + a.dte + a.hcrc + a.late
