@@ -1,6 +1,6 @@
 -- How long images get, call by call.
-use Rattle.std.proofs.Common.{◌≡◌, ◌≢◌, ◌⊎◌, inl, inr, ℕ, ◌+◌, ◌-◌, ◌*◌, ◌==◌, ◌<◌, ◌≤◌, ◌&&◌, nat_lt, Bool, true, false, not, List, [], ◌∷◌, ◌++◌, take, drop, length, refl, sym, ap, subst, arith, ◌∙◌, append-nil}
-use Rattle.std.specs.Prelude.{if◌then◌else◌, IsTrue}
+use Rattle.std.proofs.Common.{◌≡◌, ◌≢◌, inl, inr, ℕ, ◌+◌, ◌-◌, ◌*◌, ◌==◌, ◌≤◌, ◌&&◌, nat_lt, Bool, true, false, not, List, [], ◌∷◌, ◌++◌, take, drop, length, refl, sym, ap, subst, arith, ◌∙◌, append-nil}
+use Rattle.std.specs.Prelude.{if◌then◌else◌}
 use Rattle.std.proofs.lemmas.Bool.{false≢true}
 use Rattle.std.proofs.lemmas.Bool.Decides.{eqb_tells, nat_tests}
 use Rattle.std.proofs.lemmas.Grind.{common_steps}
@@ -16,12 +16,11 @@ use Rattle.trace_replay.specs.Script.{Input}
 use Rattle.trace_replay.specs.Events.{Event}
 use Rattle.trace_replay.specs.Replay.{Replay, after_moment, after_moments, drained, act_drained, next_wish}
 use Rattle.trace_replay.specs.Events.{is_no_line}
-use Rattle.driver_machine.specs.World.{World, Held, unit_at, adapter_at, unit_of, held_in, slot_in_hand}
+use Rattle.driver_machine.specs.World.{World, unit_at, adapter_at, unit_of, held_in, slot_in_hand}
 use Rattle.driver_machine.specs.Acts as deed
-use Rattle.driver_machine.specs.Acts.{Act, Refuse, Submit, Of, Change, Nothing, Taken, Tried, after, after_all}
+use Rattle.driver_machine.specs.Acts.{Act, Refuse, Submit, Of, Change, Nothing, Taken, Tried, after}
 use Rattle.driver_machine.specs.Lines.{lines_of, lines_of_all}
 use Rattle.driver_machine.specs.Events.{submit_acts, event_acts, move_acts, in_hand, or_nothing, can_move}
-use Rattle.driver_machine.specs.Guards.{Allowed, IsSetUp}
 use Rattle.driver_machine.specs.Sound.{Sound}
 use Rattle.driver_work.specs.Runs.{Run}
 use Rattle.driver_work.proofs.Deeds.{deed_at}
@@ -29,7 +28,6 @@ use Rattle.driver_work.proofs.Due.{in_hand_one}
 use Rattle.driver_work.proofs.Calls.{IsServing, serving}
 use Rattle.driver_outcome.specs.Packs.{packs_after, packs_after_all}
 use Rattle.driver_trace.specs.Within.{ShowsAll}
-use Rattle.driver_trace.specs.Runs.{with_call}
 use Rattle.driver_trace.proofs.Starting.{set_up}
 use Rattle.driver_runs.proofs.Acts.{is_inside}
 use Rattle.driver_runs.proofs.Sectors.{IsNoMove, event_quiet, submission_quiet}
