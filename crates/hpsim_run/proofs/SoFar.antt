@@ -153,17 +153,17 @@ module _ (keep : BeginningsKeep) (fronts : FrontsKeep) (script : Script) (good :
   hold_done : AreBehind script tables first left done → PromisesSoFar script tables first left done
   hold_done behind =
       subst (PromisesSoFar script tables first left) (append-nil done)
-      (fronts script tables first left done [] under begun tt behind)
+      (fronts script tables first left done [] under begun tt behind.surface)
 
   hold_each : AreNoSectors under → AreBehind script tables first left done → (front rest : List Moment) → under ≡ front ++ rest → PromisesSoFar script tables first left (done ++ front)
   hold_each none behind front rest cut =
       fronts script tables first left done front rest (subst (λ (ms : List Moment). IsBegun script tables first (done ++ ms)) cut begun)
-      (none_front front rest (subst AreNoSectors cut none)) behind
+      (none_front front rest (subst AreNoSectors cut none)) behind.surface
 
   hold_so_far : (AreNoSectors under × AreBehind script tables first left done) ⊎ (SaysOneSector under × AreBehind script tables first left (done ++ under))
       → HoldSoFar script tables first left done under
   hold_so_far (inl still) = inl (hold_each still.0 still.1)
-  hold_so_far (inr moved) = inr (moved.0, keep script tables first left (done ++ under) begun moved.1)
+  hold_so_far (inr moved) = inr (moved.0, keep script tables first left (done ++ under) begun moved.1.surface)
 
 hold_taken : (script : Script) (tables : ℕ → Option Table) (first left : ℕ → Pack) (said said' : List ℕ) (done under : List Moment) → HoldSoFar script tables first left done under
     → HoldTaken script tables first left said said' done under
@@ -195,7 +195,7 @@ left_keeps keep fronts next shows script good first left out_tells said said' tr
     by (inr block) =
         let has : HasNext (drives_of script) first left (after_moments (start_of script is.tables first) is.stopped.done) =
         shows (drives_of script) first is.stopped.held left (after_moments (start_of script is.tables first) is.stopped.done) is.stopped.world is.stopped.sound is.stopped.shows
-        is.stopped.declared is.stopped.behind block in
+        is.stopped.declared is.stopped.behind.surface block in
         next script is.tables first left is.stopped.done has.unit has.block has.kind begun_so has.declared has.next has.packs
 
 pub keeps : BeginningsKeep → FrontsKeep → NextBlocksKeep → NextBlocksShow → (fault : PlayFault) (script : Script) (first left : ℕ → Pack) (out_tells : Bool) (said said' : List ℕ) (trace_tells : Bool) (taken taken' : List ℕ)
