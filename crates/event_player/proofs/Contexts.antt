@@ -8,7 +8,7 @@ use Rattle.outside_traits.specs.Puts.{TakesFront}
 use Rattle.subsystem_spec.specs.Requests.{Request, IsRequest}
 use Rattle.trace_replay.specs.Moments.{Moment, Played, Idle}
 use Rattle.trace_replay.specs.Script as says
-use Rattle.trace_replay.specs.Script.{Script, Input, Line, Numbered, drives_of, inputs_of, inputs_before}
+use Rattle.trace_replay.specs.Script.{Script, Input, Line, Numbered, drives_of}
 use Rattle.trace_replay.specs.Events.{Event}
 use Rattle.trace_replay.specs.Packs.{Surface}
 use Rattle.trace_replay.specs.Replay.{Replay, Follows, after_moments, drained, act_drained, next_wish}
