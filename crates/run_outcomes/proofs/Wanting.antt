@@ -88,8 +88,7 @@ first_count w d c e z = ap (λ (x : ℕ). cond (x == 0) (c - d) x) e ∙ less c 
     less c d z = omega (arith, z)
 
 later_count : (w n c : ℕ) → w ≡ c → 1 ≤ c → cond (w == 0) n w ≡ c
-later_count zero n c e some = absurd (omega (arith, e, some))
-later_count (suc w) n c e some = e
+later_count w n c e some = grind (arith, nat_tests)
 
 transfer_wants : (h : Hand) (segment : Segment) (lines : List Deed) → 1 ≤ h.request.count → Waits h.request h.progress.done segment lines → Began h.request (transfer_of segment h ∷ lines)
 transfer_wants h OwnBlocks lines some (inl n) = record { whole = first_count (want_in lines) h.progress.done h.request.count n.none n.zero_done; write = refl }
