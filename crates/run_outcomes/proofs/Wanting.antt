@@ -181,7 +181,7 @@ intr_wants r done done' d h' next (Ending answer) lines is w = absurd (no is)
 abbrev pub UnitWants : UnitSeen → List Deed → Type 0
 UnitWants u lines = Wants (in_hand u.service) u.progress.done u.stage lines
 
-some_asked : (waiting : List (Waiter Request)) → AskSomeBlocks waiting → IsHeld waiting → 1 ≤ (request_or_none (first_waiting waiting)).count
+pub some_asked : (waiting : List (Waiter Request)) → AskSomeBlocks waiting → IsHeld waiting → 1 ≤ (request_or_none (first_waiting waiting)).count
 some_asked [] all held = absurd held
 some_asked (w ∷ rest) all held = all.0
 

@@ -1,4 +1,4 @@
-use Rattle.run_outcomes.proofs.Answering.{are_answered}
+use Rattle.run_outcomes.proofs.OfRuns.{are_answered}
 use Rattle.run_outcomes.proofs.outcome_law.Goals as goal
 
 pub returns : goal.returns
