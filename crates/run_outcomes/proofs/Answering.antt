@@ -22,8 +22,8 @@ use Rattle.trace_replay.specs.Moments.{Deed, Centre, Clear, Pack, Try, End}
 use Rattle.trace_replay.specs.Service.{in_hand}
 use Rattle.trace_replay.specs.Conversation.{Hand, Segment, Stage, Waiting, Steps, UnderWay, AtOnce, Moving, Saying, Ending, Progress, due, is_write}
 use Rattle.trace_replay.specs.Replay.{UnitSeen, hand_of}
-use Rattle.trace_replay.specs.History.{is_refusal, done_in, Tried, Untried, TriedAt, last_tried, marks_in, fails}
-use Rattle.trace_replay.specs.Causes.{WasTriedOffline, IsOk, IsExplained}
+use Rattle.trace_replay.specs.History.{is_refusal, done_in, Tried, Untried, TriedAt, last_tried, last_try, marks_in, fails}
+use Rattle.trace_replay.specs.Causes.{IsCutOff, WasTriedOffline, IsOk, IsExplained}
 use Rattle.trace_replay.proofs.Histories.{Open, Goes, WasReached, EndFits, Fits, AreSaid}
 use Rattle.trace_replay.proofs.Kept.{no}
 use Rattle.run_outcomes.specs.Outcomes.{answer_word, IsWordOf}
@@ -31,15 +31,15 @@ use Rattle.run_outcomes.proofs.Wanting.{want_in, wrote_in, Began, Waits, Wants}
 use Rattle.run_outcomes.proofs.Hearing.{verdict_in, fails_in, fails_last, failed_last, failed_fails, IsFailure}
 
 -- verdicts told apart
-abbrev sort_of : Tried → ℕ
+abbrev pub sort_of : Tried → ℕ
 sort_of (TriedAt block verdict.Offline) = 1
 sort_of (TriedAt block verdict.Marked) = 2
 sort_of tried = 0
 
 -- WHERE A REQUEST STANDS as its end comes
-record Stands (h : Hand) (lines : List Deed) (a : Answer) : Type 0 where
-  waits : ((want_in lines ≡ 0) × (done_in lines ≡ 0) × (last_tried lines ≡ Untried)) ⊎ Began h.request lines
-  marked : sort_of (last_tried lines) ≡ 2 → (marks_in lines ≡ 1) ⊎ ((done : ℕ) × (a ≡ Failed Unforwarded done))
+pub record Stands (h : Hand) (lines : List Deed) (a : Answer) : Type 0 where
+  pub waits : ((want_in lines ≡ 0) × (done_in lines ≡ 0) × (last_tried lines ≡ Untried)) ⊎ Began h.request lines
+  pub marked : sort_of (last_tried lines) ≡ 2 → (marks_in lines ≡ 1) ⊎ ((done : ℕ) × (a ≡ Failed Unforwarded done))
 
 goes_once : (h : Hand) (t : Tried) (marks : ℕ) → Goes h t marks → sort_of t ≡ 2 → marks ≡ 1
 goes_once h Untried marks g e = absurd (omega (arith, e))
@@ -202,7 +202,7 @@ marked_cause : (u : UnitSeen) (lines : List Deed) (a : Answer) (d : Drive) (r : 
     → (d.offline ≡ false) × (r.write ≡ true → d.locked ≡ true → ⊥) → (cause : Cause) (done : ℕ) → a ≡ Failed cause done → cause ≡ Unforwarded
 marked_cause u lines a d r k two free Offline done is = absurd (at (k.explained.cause Offline done is))
   where
-    at : _ ⊎ WasTriedOffline lines → ⊥
+    at : IsCutOff u ⊎ WasTriedOffline lines → ⊥
     at (inl cut) = no (sym free.0 ∙ not_online d.offline u.drive.online k.offline cut.offline)
     at (inr was) = omega (arith, sort_offline lines was, two)
 marked_cause u lines a d r k two free Locked done is = absurd (at k.stands.waits)
@@ -238,7 +238,7 @@ locked_cause : (u : UnitSeen) (lines : List Deed) (a : Answer) (d : Drive) (r : 
     → (d.trial.fails ≡ 28 → ⊥) → d.offline ≡ false → (cause : Cause) (done : ℕ) → a ≡ Failed cause done → cause ≡ Locked
 locked_cause u lines a d r k tried unmarked unfailed on Offline done is = absurd (at (k.explained.cause Offline done is))
   where
-    at : _ ⊎ WasTriedOffline lines → ⊥
+    at : IsCutOff u ⊎ WasTriedOffline lines → ⊥
     at (inl cut) = no (sym cut.offline ∙ online_so d.offline u.drive.online k.offline on)
     at (inr was) = tried (sort_offline lines was)
 locked_cause u lines a d r k tried unmarked unfailed on Locked done is = refl
@@ -256,7 +256,7 @@ plain_word : (u : UnitSeen) (lines : List Deed) (a : Answer) (d : Drive) (r : Re
     → IsWordOf (if failed then outcome.Fault else if off then outcome.Offline else if locked then outcome.Locked else outcome.Stopped) a
 plain_word u lines a d r k never tried unmarked true off locked e o l = at (fails_last lines)
   where
-    at : (fails_in lines ≡ 0) ⊎ _ → cause_word Fault ≡ answer_word a
+    at : (fails_in lines ≡ 0) ⊎ (fails_in lines ≡ last_try lines) → cause_word Fault ≡ answer_word a
     at (inl none) = absurd (omega (arith, none, k.fails, is_28 d.trial.fails e))
     at (inr last) = ap answer_word (sym (k.explained.exactly Fault (sym last ∙ sym k.fails ∙ is_28 d.trial.fails e)))
 plain_word u lines a d r k never tried unmarked false true locked e o l =

@@ -35,7 +35,7 @@ fails_in (Try block failures ∷ lines) = failures
 fails_in (deed ∷ lines) = fails_in lines
 
 -- a request at a place is in hand, or none is and none wants anything
-abbrev Holds : ℕ → Trial → Type 0
+abbrev pub Holds : ℕ → Trial → Type 0
 Holds place t = ((t.hand ≡ None) × (t.want ≡ 0)) ⊎ (t.hand ≡ Some place)
 
 same_place : (n : ℕ) → (n == n) ≡ true
