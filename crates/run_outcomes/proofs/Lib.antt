@@ -1,5 +1,6 @@
 pub mod Answering
 pub mod Hearing
+pub mod Listening
 pub mod OfRuns
 pub mod Refusing
 pub mod Wanting
