@@ -1,11 +1,10 @@
 -- Which requests joined, whatever moments come.
 use Rattle.std.proofs.Common.{◌≡◌, ℕ, zero, suc, ◌+◌, ◌-◌, ◌^◌, ◌<◌, ◌==◌, min, Bool, true, false, cond, List, [], ◌∷◌, ◌++◌, length, map, fold, set, Option, Some, None, Result, Ok, Err, refl, sym, ap, ◌∙◌, subst, arith}
-use Rattle.std.specs.Prelude.{◌&&◌, is_none, count_by}
+use Rattle.std.specs.Prelude.{◌&&◌, is_none}
 use Rattle.std.specs.List.{AllByRecursion}
 use Rattle.std.proofs.lemmas.List.{map-append, append-nil, append_assoc}
 use Rattle.std.proofs.lemmas.List.Sums.{fold-append}
 use Rattle.drive_pictures.specs.declared.drives.Drive.{Drive}
-use Rattle.drive_pictures.specs.declared.drives.Change.{Change}
 use Rattle.drive_pictures.specs.declared.drives.Queue.{Queue}
 use Rattle.drive_pictures.specs.declared.moments.Moment.{Moment}
 use Rattle.drive_pictures.specs.declared.moments.Moment.TheVariants.{Played, Told, Idle}
@@ -108,19 +107,19 @@ more_tail true None (Some cylinder) t n cs g k = record {
 }
 
 -- ONE ASKING MORE
-joined_more : (u : ℕ) (as : List Asking) (a : Asking) → joined_in u (as ++ a ∷ []) ≡ joined_in u as + cond (joined_at u a) 1 0
-joined_more u as a = fold-append (λ (n : ℕ) (x : Asking). n + cond (joined_at u x) 1 0) 0 as (a ∷ [])
+joined_more : (u : ℕ) (asks : List Asking) (a : Asking) → joined_in u (asks ++ a ∷ []) ≡ joined_in u asks + cond (joined_at u a) 1 0
+joined_more u asks a = fold-append (λ (n : ℕ) (x : Asking). n + cond (joined_at u x) 1 0) 0 asks (a ∷ [])
 
-cylinders_more : (u : ℕ) (as : List Asking) (a : Asking) → cylinders_in u (as ++ a ∷ []) ≡ cylinders_in u as ++ asked_list (a.unit_number == u) a.cylinder
+cylinders_more : (u : ℕ) (asks : List Asking) (a : Asking) → cylinders_in u (asks ++ a ∷ []) ≡ cylinders_in u asks ++ asked_list (a.unit_number == u) a.cylinder
 cylinders_more u [] a = append-nil (asked_list (a.unit_number == u) a.cylinder)
-cylinders_more u (x ∷ as) a =
-    ap (λ (l : List ℕ). asked_list (x.unit_number == u) x.cylinder ++ l) (cylinders_more u as a)
-    ∙ sym (append_assoc (asked_list (x.unit_number == u) x.cylinder) (cylinders_in u as) (asked_list (a.unit_number == u) a.cylinder))
+cylinders_more u (x ∷ asks) a =
+    ap (λ (l : List ℕ). asked_list (x.unit_number == u) x.cylinder ++ l) (cylinders_more u asks a)
+    ∙ sym (append_assoc (asked_list (x.unit_number == u) x.cylinder) (cylinders_in u asks) (asked_list (a.unit_number == u) a.cylinder))
 
-ranked_more : (before as : List Asking) (a : Asking) → AreRanked before as → a.rank ≡ rank_behind (before ++ as) a → AreRanked before (as ++ a ∷ [])
+ranked_more : (before asks : List Asking) (a : Asking) → AreRanked before asks → a.rank ≡ rank_behind (before ++ asks) a → AreRanked before (asks ++ a ∷ [])
 ranked_more before [] a k e = (subst (λ l. a.rank ≡ rank_behind l a) (append-nil before) e, tt)
-ranked_more before (x ∷ as) a k e =
-    (k.0, ranked_more (before ++ x ∷ []) as a k.1 (subst (λ l. a.rank ≡ rank_behind l a) (sym (append_assoc before (x ∷ []) as)) e))
+ranked_more before (x ∷ asks) a k e =
+    (k.0, ranked_more (before ++ x ∷ []) asks a k.1 (subst (λ l. a.rank ≡ rank_behind l a) (sym (append_assoc before (x ∷ []) asks)) e))
 
 -- WHAT HOLDS behind any moments
 record Kept (k : Known) : Type 0 where
@@ -351,7 +350,7 @@ starts k is = record {
 pub joins : (known : Known) (moments : List Moment) → IsUnasked known → AllByRecursion IsHeard moments → Joins known moments
 joins known moments is heard =
     let kept : Kept (run_from known moments) =
-        same_kept (fold step known moments) (run_from known moments) (finished_same (fold step known moments)) (all_kept known moments heard (starts known is)) in record {
+    same_kept (fold step known moments) (run_from known moments) (finished_same (fold step known moments)) (all_kept known moments heard (starts known is)) in record {
       ranks = kept.ranks;
       joined = λ u inside. (kept.tails u inside).joined;
       as_asked = λ u inside. (kept.tails u inside).as_asked;
