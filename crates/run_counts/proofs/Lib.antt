@@ -1,6 +1,5 @@
 pub mod Counting
 pub mod Doing
 pub mod Following
-pub mod Joining
 pub mod OnAdapters
 pub mod Turns

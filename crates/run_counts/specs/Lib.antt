@@ -2,5 +2,4 @@ pub mod Adapters
 pub mod Counted
 pub mod Doings
 pub mod Ends
-pub mod Joins
 pub mod Travels

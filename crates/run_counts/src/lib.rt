@@ -4,18 +4,15 @@
 //! that the columns show for an adapter is that of its own drives, behind one event that is shown. `doings_law`: a drive's
 //! letter says just whether, by its own lines, a positioning is under way, and whether it holds its adapter. `travel_law`: the
 //! cylinders moved over are those between the stops of the arm. `served_law`: the number by which requests are served counts the
-//! ends that answered one. `joined_law`: the number by which a request joined is its place among those of its drive that did, and
-//! the cylinders in the order asked are those between theirs.
+//! ends that answered one.
 #![tactic(auto)]
 
 ghost use Rattle.drive_pictures.specs.declared.moments.Moment.{Moment};
 ghost use Rattle.std.specs.Prelude.{◌≡◌, ℕ, ◌<◌, ◌^◌, List, length, None};
-ghost use Rattle.std.specs.List.{AllByRecursion};
-ghost use Rattle.run_picture.specs.Fold.{Known, IsHeard, drive_at};
+ghost use Rattle.run_picture.specs.Fold.{Known, drive_at};
 ghost use Rattle.run_counts.specs.Adapters.{IsMostOn};
 ghost use Rattle.run_counts.specs.Counted.{IsBefore, Counts};
 ghost use Rattle.run_counts.specs.Doings.{Does};
-ghost use Rattle.run_counts.specs.Joins.{IsUnasked, Joins};
 ghost use Rattle.run_counts.specs.Travels.{Serves, Travels};
 
 /// The law of counts: behind the last moment of a run, what was counted and timed is what the ends of its events give.
@@ -45,11 +42,4 @@ pub fn travel_law()
 /// ends that answered one.
 pub fn served_law()
     ensures { (known : Known) (u : ℕ) (moments : List Moment) → u < length known.drives → Serves known u moments }
-{}
-
-/// The law of joining: behind all moments of 32 drives a request's number is its place among those of its drive that were not
-/// refused as they were submitted, a drive has counted just these, and as asked its arm would have moved over the cylinders
-/// between theirs.
-pub fn joined_law()
-    ensures { (known : Known) (moments : List Moment) → IsUnasked known → AllByRecursion IsHeard moments → Joins known moments }
 {}

@@ -24,7 +24,7 @@ use Rattle.script_reader.specs.declared.statement.Request.{Request as Asked}
 use Rattle.trace_lines.specs.declared.telling.Told.{Told as Deed}
 use Rattle.trace_lines.specs.declared.telling.Told.TheVariants as deed
 use Rattle.run_counts.specs.Doings.{at_moment}
-use Rattle.run_counts.specs.Joins.{Asking, asking_of, askings_of, joined_at, joined_in, rank_behind, AreRanked, asked_list, cylinders_in, IsUnasked, Joins}
+use Rattle.run_joins.specs.Joins.{Asking, asking_of, askings_of, joined_at, joined_in, rank_behind, AreRanked, asked_list, cylinders_in, IsUnasked, Joins}
 use Rattle.run_counts.specs.Travels.{way_over}
 use Rattle.run_counts.proofs.Doing.{set_here, set_other, map_length, set_length, is_same, is_other}
 use Rattle.run_counts.proofs.Following.{keeps_set, keeps_map}
