@@ -53,7 +53,7 @@ all_told place start [] = refl
 all_told place start (d ∷ lines) = ap (tell place (told_of d)) (all_told place start lines)
 
 told_same : (place : ℕ) (t : Line) (d : Drive) (r : Request) (h : Hearing) → Same d r h → Same (drives.tells place t d) (requests.tells place d t r) (tell place t h)
-told_same place (deed.Search c s) d r h s = record { trial = ap (in_hand place) s.trial; done = s.done; verdict = s.verdict; write = s.write }
+told_same place (deed.Search c y) d r h s = record { trial = ap (in_hand place) s.trial; done = s.done; verdict = s.verdict; write = s.write }
 told_same place (deed.Seek c) d r h s = record { trial = ap (in_hand place) s.trial; done = s.done; verdict = s.verdict; write = s.write }
 told_same place deed.Recal d r h s = record { trial = ap (in_hand place) s.trial; done = s.done; verdict = s.verdict; write = s.write }
 told_same place (deed.Offset o) d r h s = record { trial = ap (in_hand place) s.trial; done = s.done; verdict = s.verdict; write = s.write }
@@ -62,47 +62,50 @@ told_same place deed.Clear d r h s = record { trial = ap (in_hand place) s.trial
 told_same place deed.Pack d r h s = record { trial = ap (in_hand place) s.trial; done = s.done; verdict = s.verdict; write = s.write }
 told_same place (deed.Transfer w b n) d r h s = record { trial = ap (λ (t : Trial). wanted n (in_hand place t)) s.trial; done = s.done; verdict = s.verdict; write = refl }
 told_same place deed.Arrive d r h s = record { trial = ap (in_hand place) s.trial; done = s.done; verdict = s.verdict; write = s.write }
-told_same place (deed.Sector b v) d r h s = record { trial = ap (λ (t : Trial). verdict_trial v (in_hand place t)) s.trial; done = ap (done_after v) s.done; verdict = refl; write = s.write }
+told_same place (deed.Sector k x) d r h s = record { trial = ap (λ (t : Trial). verdict_trial x (in_hand place t)) s.trial; done = ap (done_after x) s.done; verdict = refl; write = s.write }
 told_same place deed.Intr d r h s = record { trial = ap (in_hand place) s.trial; done = s.done; verdict = s.verdict; write = s.write }
 told_same place (deed.Try b n) d r h s = record { trial = ap (λ (t : Trial). record (in_hand place t) { fails = n }) s.trial; done = s.done; verdict = s.verdict; write = s.write }
 told_same place deed.Attn d r h s = record { trial = ap (in_hand place) s.trial; done = s.done; verdict = s.verdict; write = s.write }
 told_same place deed.End d r h s = record { trial = ap (in_hand place) s.trial; done = s.done; verdict = s.verdict; write = s.write }
 
 -- A PLACE stays, and is of one id
+found_step : (b : Bool) (n place : ℕ) (rest more : Option ℕ) → (rest ≡ Some place → more ≡ Some place) → cond b (Some n) rest ≡ Some place → cond b (Some n) more ≡ Some place
+found_step true n place rest more f e = e
+found_step false n place rest more f e = f e
+
 found_more : (n : ℕ) (ids : List ℕ) (i id place : ℕ) → place_from n ids id ≡ Some place → place_from n (ids ++ i ∷ []) id ≡ Some place
 found_more n [] i id place e = absurd (none-some place e)
-found_more n (x ∷ ids) i id place e = at (x == id) e
-  where
-    at : (b : Bool) → cond b (Some n) (place_from (n + 1) ids id) ≡ Some place → cond b (Some n) (place_from (n + 1) (ids ++ i ∷ []) id) ≡ Some place
-    at true e = e
-    at false e = found_more (n + 1) ids i id place e
+found_more n (x ∷ ids) i id place e = found_step (x == id) n place (place_from (n + 1) ids id) (place_from (n + 1) (ids ++ i ∷ []) id) (found_more (n + 1) ids i id place) e
+
+from_step : (b : Bool) (n place l : ℕ) (rest : Option ℕ) → (rest ≡ Some place → (n + 1 < suc place) × (place < n + 1 + l)) → cond b (Some n) rest ≡ Some place → (n < suc place) × (place < n + suc l)
+from_step true n place l rest f e = let is : n ≡ place = same_Some n place e in (omega (arith, is), omega (arith, is))
+from_step false n place l rest f e = let more : (n + 1 < suc place) × (place < n + 1 + l) = f e in (omega (arith, more.0), omega (arith, more.1))
 
 found_from : (n : ℕ) (ids : List ℕ) (id place : ℕ) → place_from n ids id ≡ Some place → (n < suc place) × (place < n + length ids)
 found_from n [] id place e = absurd (none-some place e)
-found_from n (x ∷ ids) id place e = at (x == id) e
-  where
-    at : (b : Bool) → cond b (Some n) (place_from (n + 1) ids id) ≡ Some place → (n < suc place) × (place < n + length (x ∷ ids))
-    at true e = let is : n ≡ place = same_Some n place e in (omega (arith, is), omega (arith, is))
-    at false e = let more : (n + 1 < suc place) × (place < n + 1 + length ids) = found_from (n + 1) ids id place e in (omega (arith, more.0), omega (arith, more.1))
+found_from n (x ∷ ids) id place e = from_step (x == id) n place (length ids) (place_from (n + 1) ids id) (found_from (n + 1) ids id place) e
+
+same_ids : (x i id : ℕ) → (x == i) ≡ true → (x == id) ≡ true → (i == id) ≡ true
+same_ids x i id e f = grind (arith, nat_tests)
+
+id_step : (b c : Bool) (x i id n place : ℕ) (one other : Option ℕ) → (x == i) ≡ b → (x == id) ≡ c → (one ≡ Some place → n + 1 < suc place) → (other ≡ Some place → n + 1 < suc place)
+    → (one ≡ Some place → other ≡ Some place → (i == id) ≡ true) → cond b (Some n) one ≡ Some place → cond c (Some n) other ≡ Some place → (i == id) ≡ true
+id_step true true x i id n place one other is so f g h e t = same_ids x i id is so
+id_step true false x i id n place one other is so f g h e t = absurd (omega (arith, same_Some n place e, g t))
+id_step false true x i id n place one other is so f g h e t = absurd (omega (arith, same_Some n place t, f e))
+id_step false false x i id n place one other is so f g h e t = h e t
 
 one_id : (n : ℕ) (ids : List ℕ) (i id place : ℕ) → place_from n ids i ≡ Some place → place_from n ids id ≡ Some place → (i == id) ≡ true
 one_id n [] i id place e f = absurd (none-some place e)
-one_id n (x ∷ ids) i id place e f = at (x == i) (x == id) refl refl e f
-  where
-    same : (x i id : ℕ) → (x == i) ≡ true → (x == id) ≡ true → (i == id) ≡ true
-    same x i id e f = grind (arith, nat_tests)
-
-    at : (b c : Bool) → (x == i) ≡ b → (x == id) ≡ c → cond b (Some n) (place_from (n + 1) ids i) ≡ Some place → cond c (Some n) (place_from (n + 1) ids id) ≡ Some place → (i == id) ≡ true
-    at true true is so e f = same x i id is so
-    at true false is so e f = absurd (omega (arith, same_Some n place e, (found_from (n + 1) ids id place f).0))
-    at false true is so e f = absurd (omega (arith, same_Some n place f, (found_from (n + 1) ids i place e).0))
-    at false false is so e f = one_id (n + 1) ids i id place e f
+one_id n (x ∷ ids) i id place e f =
+    id_step (x == i) (x == id) x i id n place (place_from (n + 1) ids i) (place_from (n + 1) ids id) refl refl (λ g. (found_from (n + 1) ids i place g).0) (λ g. (found_from (n + 1) ids id place g).0)
+    (one_id (n + 1) ids i id place) e f
 
 -- BEHIND SOME LINES
 record Heard (k : Known) (u id place : ℕ) (h : Hearing) : Type 0 where
   drive : u < length k.drives
   request : place < length k.requests
-  place : place_of k.ids id ≡ Some place
+  found : place_of k.ids id ≡ Some place
   same : Same (drive_at k.drives u) (request_at k.requests place) h
 
 -- what leaves it as it was
@@ -116,7 +119,7 @@ left_heard : (old new : Known) (u id place : ℕ) (h : Hearing) → Leaves old n
 left_heard old new u id place h l k = record {
   drive = subst (λ n. u < n) (sym l.many) k.drive;
   request = (l.requests k.request).0;
-  place = l.ids id k.place;
+  found = l.ids id k.found;
   same = record {
     trial = l.trial ∙ k.same.trial;
     done = ap (λ (r : Request). r.done) (l.requests k.request).1 ∙ k.same.done;
@@ -231,7 +234,7 @@ other_told : (line v i : ℕ) (t : Line) (k : Known) (u id place : ℕ) (h : Hea
 other_told line v i t k u id place h other apart known =
     let met : Known = met_at (place_of k.ids i) line v i k in
     left_heard met (told_at (place_in (place_of k.ids i) k.ids) line v t met) u id place h
-    (other_leaves (place_in (place_of k.ids i) k.ids) line v t met u place other (other_place (place_of k.ids i) k.ids i id place refl known.place apart))
+    (other_leaves (place_in (place_of k.ids i) k.ids) line v t met u place other (other_place (place_of k.ids i) k.ids i id place refl known.found apart))
     (left_heard k met u id place h (met_leaves (place_of k.ids i) line v i k u place) known)
 
 -- ITS OWN LINE
@@ -258,7 +261,7 @@ IsNoEnd t = Unit {0}
 own_same : (place line u : ℕ) (t : Line) (k : Known) (h : Hearing) → IsNoEnd t → u < length k.drives → place < length k.requests
     → Same (drive_at k.drives u) (request_at k.requests place) h
     → Same (drive_at (told_at place line u t k).drives u) (request_at (told_at place line u t k).requests place) (tell place t h)
-own_same place line u (deed.Search c s) k h none inside there same = own_set place line u (deed.Search c s) k h inside there refl refl same
+own_same place line u (deed.Search c y) k h none inside there same = own_set place line u (deed.Search c y) k h inside there refl refl same
 own_same place line u (deed.Seek c) k h none inside there same = own_set place line u (deed.Seek c) k h inside there refl refl same
 own_same place line u deed.Recal k h none inside there same = own_set place line u deed.Recal k h inside there refl refl same
 own_same place line u (deed.Offset o) k h none inside there same = own_set place line u (deed.Offset o) k h inside there refl refl same
@@ -267,7 +270,7 @@ own_same place line u deed.Clear k h none inside there same = own_set place line
 own_same place line u deed.Pack k h none inside there same = own_set place line u deed.Pack k h inside there refl refl same
 own_same place line u (deed.Transfer w b n) k h none inside there same = own_set place line u (deed.Transfer w b n) k h inside there refl refl same
 own_same place line u deed.Arrive k h none inside there same = own_set place line u deed.Arrive k h inside there refl refl same
-own_same place line u (deed.Sector b v) k h none inside there same = own_set place line u (deed.Sector b v) k h inside there refl refl same
+own_same place line u (deed.Sector b x) k h none inside there same = own_set place line u (deed.Sector b x) k h inside there refl refl same
 own_same place line u deed.Intr k h none inside there same = own_set place line u deed.Intr k h inside there refl refl same
 own_same place line u (deed.Try b n) k h none inside there same = own_set place line u (deed.Try b n) k h inside there refl refl same
 own_same place line u deed.Attn k h none inside there same = own_set place line u deed.Attn k h inside there refl refl same
@@ -275,10 +278,10 @@ own_same place line u deed.End k h none inside there same = absurd none
 
 own_told : (line u id : ℕ) (t : Line) (k : Known) (place : ℕ) (h : Hearing) → IsNoEnd t → Heard k u id place h → Heard (heard (Told line u id t) k) u id place (tell place t h)
 own_told line u id t k place h none known =
-    subst (λ z. Heard z u id place (tell place t h)) (sym (own_at (place_of k.ids id) line u id k t place known.place)) (record {
+    subst (λ z. Heard z u id place (tell place t h)) (sym (own_at (place_of k.ids id) line u id k t place known.found)) (record {
       drive = subst (λ n. u < n) (sym (set_length k.drives u (drive_after k.event place t (drive_at k.drives u) (request_at k.requests place)))) known.drive;
       request = subst (λ n. place < n) (sym (many k.requests place (request_after k.event line place t (drive_at k.drives u) (request_at k.requests place)))) known.request;
-      place = known.place;
+      found = known.found;
       same = own_same place line u t k h none known.drive known.request known.same;
     })
   where
@@ -315,7 +318,7 @@ moment_heard (Played line (play.Change v c)) k u id place h is known =
 moment_heard (Played line Other) k u id place h is known = known
 moment_heard (Idle line) k u id place h is known = known
 moment_heard (Told line v i deed.End) k u id place h is known = end_by line v i k u id place h (v == u) refl is.0 is.1 known
-moment_heard (Told line v i (deed.Search c s)) k u id place h is known = told_by line v i (deed.Search c s) k u id place h tt (v == u) (i == id) refl refl is known
+moment_heard (Told line v i (deed.Search c y)) k u id place h is known = told_by line v i (deed.Search c y) k u id place h tt (v == u) (i == id) refl refl is known
 moment_heard (Told line v i (deed.Seek c)) k u id place h is known = told_by line v i (deed.Seek c) k u id place h tt (v == u) (i == id) refl refl is known
 moment_heard (Told line v i deed.Recal) k u id place h is known = told_by line v i deed.Recal k u id place h tt (v == u) (i == id) refl refl is known
 moment_heard (Told line v i (deed.Offset o)) k u id place h is known = told_by line v i (deed.Offset o) k u id place h tt (v == u) (i == id) refl refl is known
@@ -324,7 +327,7 @@ moment_heard (Told line v i deed.Clear) k u id place h is known = told_by line v
 moment_heard (Told line v i deed.Pack) k u id place h is known = told_by line v i deed.Pack k u id place h tt (v == u) (i == id) refl refl is known
 moment_heard (Told line v i (deed.Transfer w b n)) k u id place h is known = told_by line v i (deed.Transfer w b n) k u id place h tt (v == u) (i == id) refl refl is known
 moment_heard (Told line v i deed.Arrive) k u id place h is known = told_by line v i deed.Arrive k u id place h tt (v == u) (i == id) refl refl is known
-moment_heard (Told line v i (deed.Sector b v)) k u id place h is known = told_by line v i (deed.Sector b v) k u id place h tt (v == u) (i == id) refl refl is known
+moment_heard (Told line v i (deed.Sector b x)) k u id place h is known = told_by line v i (deed.Sector b x) k u id place h tt (v == u) (i == id) refl refl is known
 moment_heard (Told line v i deed.Intr) k u id place h is known = told_by line v i deed.Intr k u id place h tt (v == u) (i == id) refl refl is known
 moment_heard (Told line v i (deed.Try b n)) k u id place h is known = told_by line v i (deed.Try b n) k u id place h tt (v == u) (i == id) refl refl is known
 moment_heard (Told line v i deed.Attn) k u id place h is known = told_by line v i deed.Attn k u id place h tt (v == u) (i == id) refl refl is known
@@ -339,21 +342,24 @@ all_heard k u id place h [] is known = known
 all_heard k u id place h (m ∷ ms) is known =
     all_heard (step k m) u id place (heard_by u place m h) ms is.1 (moment_heard m (at_moment k m) u id place h is.0 (left_heard k (at_moment k m) u id place h (moment_leaves m k u place) known))
 
+tells_step : (b : Bool) (u place : ℕ) (start : Hearing) (t : Line) (before : List Line) (ms : List Moment)
+    → heard_all u place (tell_all place start (t ∷ before)) ms ≡ tell_all place start (told_behind u (t ∷ before) ms)
+    → heard_all u place (tell_all place start before) ms ≡ tell_all place start (told_behind u before ms)
+    → heard_all u place (cond b (tell place t (tell_all place start before)) (tell_all place start before)) ms ≡ tell_all place start (told_behind u (cond b (t ∷ before) before) ms)
+tells_step true u place start t before ms e f = e
+tells_step false u place start t before ms e f = f
+
 tells_all : (u place : ℕ) (start : Hearing) (before : List Line) (ms : List Moment) → heard_all u place (tell_all place start before) ms ≡ tell_all place start (told_behind u before ms)
 tells_all u place start before [] = refl
 tells_all u place start before (Played line p ∷ ms) = tells_all u place start before ms
 tells_all u place start before (Idle line ∷ ms) = tells_all u place start before ms
-tells_all u place start before (Told line v i t ∷ ms) = at (v == u)
-  where
-    at : (b : Bool) → heard_all u place (cond b (tell place t (tell_all place start before)) (tell_all place start before)) ms ≡ tell_all place start (told_behind u (cond b (t ∷ before) before) ms)
-    at true = tells_all u place start (t ∷ before) ms
-    at false = tells_all u place start before ms
+tells_all u place start before (Told line v i t ∷ ms) = tells_step (v == u) u place start t before ms (tells_all u place start (t ∷ before) ms) (tells_all u place start before ms)
 
 pub are_told : AreTold
 are_told known u id place moments lines awaited within same =
     let start : Hearing = record { drive = drive_at known.drives u; request = request_at known.requests place } in
     let heard_it : Heard (fold step known moments) u id place (heard_all u place start moments) =
-        all_heard known u id place start moments within (record { drive = awaited.drive; request = awaited.request; place = awaited.place; same = record { trial = refl; done = refl; verdict = refl; write = refl } }) in
+        all_heard known u id place start moments within (record { drive = awaited.drive; request = awaited.request; found = awaited.found; same = record { trial = refl; done = refl; verdict = refl; write = refl } }) in
     let is : heard_all u place start moments ≡ told_all place start lines =
         tells_all u place start [] moments ∙ ap (tell_all place start) (sym same) ∙ sym (all_told place start lines) in record {
       start = start;

@@ -30,7 +30,7 @@ told_behind u before (Idle line ∷ rest) = told_behind u before rest
 pub record IsAwaited (known : Known) (u id place : ℕ) : Type 0 where
   pub drive : u < length known.drives
   pub request : place < length known.requests
-  pub place : place_of known.ids id ≡ Some place
+  pub found : place_of known.ids id ≡ Some place
   pub fresh : IsFresh (record { drive = drive_at known.drives u; request = request_at known.requests place })
 
 -- THE LAW OF TELLINGS: behind any such moments just these lines were told of it.
