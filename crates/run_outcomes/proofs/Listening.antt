@@ -35,20 +35,20 @@ use Rattle.run_outcomes.specs.Hearings.{Hearing, IsFresh, told_all, HasHeard}
 use Rattle.run_outcomes.specs.Tellings.{IsWithin, told_behind, IsAwaited, AreTold}
 
 -- THE SAME TO A REQUEST: what its lines alone change
-record Same (d : Drive) (r : Request) (h : Hearing) : Type 0 where
-  trial : d.trial ≡ h.drive.trial
-  done : r.done ≡ h.request.done
-  verdict : r.verdict ≡ h.request.verdict
-  write : r.write ≡ h.request.write
+pub record Same (d : Drive) (r : Request) (h : Hearing) : Type 0 where
+  pub trial : d.trial ≡ h.drive.trial
+  pub done : r.done ≡ h.request.done
+  pub verdict : r.verdict ≡ h.request.verdict
+  pub write : r.write ≡ h.request.write
 
-abbrev tell : ℕ → Line → Hearing → Hearing
+abbrev pub tell : ℕ → Line → Hearing → Hearing
 tell place t h = record { drive = drives.tells place t h.drive; request = requests.tells place h.drive t h.request }
 
-abbrev tell_all : ℕ → Hearing → List Line → Hearing
+abbrev pub tell_all : ℕ → Hearing → List Line → Hearing
 tell_all place start [] = start
 tell_all place start (t ∷ before) = tell place t (tell_all place start before)
 
-all_told : (place : ℕ) (start : Hearing) (lines : List Deed) → told_all place start lines ≡ tell_all place start (map told_of lines)
+pub all_told : (place : ℕ) (start : Hearing) (lines : List Deed) → told_all place start lines ≡ tell_all place start (map told_of lines)
 all_told place start [] = refl
 all_told place start (d ∷ lines) = ap (tell place (told_of d)) (all_told place start lines)
 
@@ -102,24 +102,26 @@ one_id n (x ∷ ids) i id place e f =
     (one_id (n + 1) ids i id place) e f
 
 -- BEHIND SOME LINES
-record Heard (k : Known) (u id place : ℕ) (h : Hearing) : Type 0 where
-  drive : u < length k.drives
-  request : place < length k.requests
-  found : place_of k.ids id ≡ Some place
-  same : Same (drive_at k.drives u) (request_at k.requests place) h
+pub record Heard (k : Known) (u id place : ℕ) (h : Hearing) : Type 0 where
+  pub drive : u < length k.drives
+  pub request : place < length k.requests
+  pub found : place_of k.ids id ≡ Some place
+  pub joined : (request_at k.requests place).why ≡ None
+  pub same : Same (drive_at k.drives u) (request_at k.requests place) h
 
 -- what leaves it as it was
-record Leaves (old new : Known) (u place : ℕ) : Type 0 where
-  many : length new.drives ≡ length old.drives
-  trial : (drive_at new.drives u).trial ≡ (drive_at old.drives u).trial
-  requests : place < length old.requests → (place < length new.requests) × (request_at new.requests place ≡ request_at old.requests place)
-  ids : (id : ℕ) → place_of old.ids id ≡ Some place → place_of new.ids id ≡ Some place
+pub record Leaves (old new : Known) (u place : ℕ) : Type 0 where
+  pub many : length new.drives ≡ length old.drives
+  pub trial : (drive_at new.drives u).trial ≡ (drive_at old.drives u).trial
+  pub requests : place < length old.requests → (place < length new.requests) × (request_at new.requests place ≡ request_at old.requests place)
+  pub ids : (id : ℕ) → place_of old.ids id ≡ Some place → place_of new.ids id ≡ Some place
 
-left_heard : (old new : Known) (u id place : ℕ) (h : Hearing) → Leaves old new u place → Heard old u id place h → Heard new u id place h
+pub left_heard : (old new : Known) (u id place : ℕ) (h : Hearing) → Leaves old new u place → Heard old u id place h → Heard new u id place h
 left_heard old new u id place h l k = record {
   drive = subst (λ n. u < n) (sym l.many) k.drive;
   request = (l.requests k.request).0;
   found = l.ids id k.found;
+  joined = ap (λ (r : Request). r.why) (l.requests k.request).1 ∙ k.joined;
   same = record {
     trial = l.trial ∙ k.same.trial;
     done = ap (λ (r : Request). r.done) (l.requests k.request).1 ∙ k.same.done;
@@ -172,7 +174,7 @@ turned_leaves true (Some last) k u place =
     leaves_both k (event_ended last k) (turned_behind (Some last) k) u place (ended_leaves last k u place)
     (only_drives (event_ended last k) (turned_behind (Some last) k) u place (map_length unseen (event_ended last k).drives) (keeps_map (λ d. d.trial) unseen (event_ended last k).drives u (λ d. refl)) refl refl)
 
-moment_leaves : (m : Moment) (k : Known) (u place : ℕ) → Leaves k (at_moment k m) u place
+pub moment_leaves : (m : Moment) (k : Known) (u place : ℕ) → Leaves k (at_moment k m) u place
 moment_leaves m k u place =
     let l : Leaves k (cond (begins k.before m) (turned_behind k.before k) k) u place = turned_leaves (begins k.before m) k.before k u place in
     record { many = l.many; trial = l.trial; requests = l.requests; ids = l.ids }
@@ -238,7 +240,7 @@ other_told line v i t k u id place h other apart known =
     (left_heard k met u id place h (met_leaves (place_of k.ids i) line v i k u place) known)
 
 -- ITS OWN LINE
-own_at : (o : Option ℕ) (line v i : ℕ) (k : Known) (t : Line) (place : ℕ) → o ≡ Some place
+pub own_at : (o : Option ℕ) (line v i : ℕ) (k : Known) (t : Line) (place : ℕ) → o ≡ Some place
     → told_at (place_in o k.ids) line v t (met_at o line v i k) ≡ told_at place line v t k
 own_at o line v i k t place e = subst (λ z. told_at (place_in z k.ids) line v t (met_at z line v i k) ≡ told_at place line v t k) (sym e) refl
 
@@ -276,12 +278,29 @@ own_same place line u (deed.Try b n) k h none inside there same = own_set place 
 own_same place line u deed.Attn k h none inside there same = own_set place line u deed.Attn k h inside there refl refl same
 own_same place line u deed.End k h none inside there same = absurd none
 
+own_why : (place line u : ℕ) (t : Line) (k : Known) → IsNoEnd t → place < length k.requests → (request_at (told_at place line u t k).requests place).why ≡ (request_at k.requests place).why
+own_why place line u (deed.Search c y) k none there = ap (λ (r : Request). r.why) (get_or-set_same k.requests place (request_after k.event line place (deed.Search c y) (drive_at k.drives u) (request_at k.requests place)) (new_request 0 0 0 0 false) there)
+own_why place line u (deed.Seek c) k none there = ap (λ (r : Request). r.why) (get_or-set_same k.requests place (request_after k.event line place (deed.Seek c) (drive_at k.drives u) (request_at k.requests place)) (new_request 0 0 0 0 false) there)
+own_why place line u deed.Recal k none there = ap (λ (r : Request). r.why) (get_or-set_same k.requests place (request_after k.event line place deed.Recal (drive_at k.drives u) (request_at k.requests place)) (new_request 0 0 0 0 false) there)
+own_why place line u (deed.Offset o) k none there = ap (λ (r : Request). r.why) (get_or-set_same k.requests place (request_after k.event line place (deed.Offset o) (drive_at k.drives u) (request_at k.requests place)) (new_request 0 0 0 0 false) there)
+own_why place line u deed.Centre k none there = ap (λ (r : Request). r.why) (get_or-set_same k.requests place (request_after k.event line place deed.Centre (drive_at k.drives u) (request_at k.requests place)) (new_request 0 0 0 0 false) there)
+own_why place line u deed.Clear k none there = ap (λ (r : Request). r.why) (get_or-set_same k.requests place (request_after k.event line place deed.Clear (drive_at k.drives u) (request_at k.requests place)) (new_request 0 0 0 0 false) there)
+own_why place line u deed.Pack k none there = ap (λ (r : Request). r.why) (get_or-set_same k.requests place (request_after k.event line place deed.Pack (drive_at k.drives u) (request_at k.requests place)) (new_request 0 0 0 0 false) there)
+own_why place line u (deed.Transfer w b n) k none there = ap (λ (r : Request). r.why) (get_or-set_same k.requests place (request_after k.event line place (deed.Transfer w b n) (drive_at k.drives u) (request_at k.requests place)) (new_request 0 0 0 0 false) there)
+own_why place line u deed.Arrive k none there = ap (λ (r : Request). r.why) (get_or-set_same k.requests place (request_after k.event line place deed.Arrive (drive_at k.drives u) (request_at k.requests place)) (new_request 0 0 0 0 false) there)
+own_why place line u (deed.Sector b x) k none there = ap (λ (r : Request). r.why) (get_or-set_same k.requests place (request_after k.event line place (deed.Sector b x) (drive_at k.drives u) (request_at k.requests place)) (new_request 0 0 0 0 false) there)
+own_why place line u deed.Intr k none there = ap (λ (r : Request). r.why) (get_or-set_same k.requests place (request_after k.event line place deed.Intr (drive_at k.drives u) (request_at k.requests place)) (new_request 0 0 0 0 false) there)
+own_why place line u (deed.Try b n) k none there = ap (λ (r : Request). r.why) (get_or-set_same k.requests place (request_after k.event line place (deed.Try b n) (drive_at k.drives u) (request_at k.requests place)) (new_request 0 0 0 0 false) there)
+own_why place line u deed.Attn k none there = ap (λ (r : Request). r.why) (get_or-set_same k.requests place (request_after k.event line place deed.Attn (drive_at k.drives u) (request_at k.requests place)) (new_request 0 0 0 0 false) there)
+own_why place line u deed.End k none there = absurd none
+
 own_told : (line u id : ℕ) (t : Line) (k : Known) (place : ℕ) (h : Hearing) → IsNoEnd t → Heard k u id place h → Heard (heard (Told line u id t) k) u id place (tell place t h)
 own_told line u id t k place h none known =
     subst (λ z. Heard z u id place (tell place t h)) (sym (own_at (place_of k.ids id) line u id k t place known.found)) (record {
       drive = subst (λ n. u < n) (sym (set_length k.drives u (drive_after k.event place t (drive_at k.drives u) (request_at k.requests place)))) known.drive;
       request = subst (λ n. place < n) (sym (many k.requests place (request_after k.event line place t (drive_at k.drives u) (request_at k.requests place)))) known.request;
       found = known.found;
+      joined = own_why place line u t k none known.request ∙ known.joined;
       same = own_same place line u t k h none known.drive known.request known.same;
     })
   where
@@ -291,7 +310,7 @@ own_told line u id t k place h none known =
     many (x ∷ l) (suc n) r = ap (λ (m : ℕ). suc m) (many l n r)
 
 -- EACH MOMENT
-abbrev heard_by : ℕ → ℕ → Moment → Hearing → Hearing
+abbrev pub heard_by : ℕ → ℕ → Moment → Hearing → Hearing
 heard_by u place (Told line v i t) h = cond (v == u) (tell place t h) h
 heard_by u place (Played line p) h = h
 heard_by u place (Idle line) h = h
@@ -333,11 +352,11 @@ moment_heard (Told line v i (deed.Try b n)) k u id place h is known = told_by li
 moment_heard (Told line v i deed.Attn) k u id place h is known = told_by line v i deed.Attn k u id place h tt (v == u) (i == id) refl refl is known
 
 -- ALL MOMENTS
-abbrev heard_all : ℕ → ℕ → Hearing → List Moment → Hearing
+abbrev pub heard_all : ℕ → ℕ → Hearing → List Moment → Hearing
 heard_all u place h [] = h
 heard_all u place h (m ∷ ms) = heard_all u place (heard_by u place m h) ms
 
-all_heard : (k : Known) (u id place : ℕ) (h : Hearing) (ms : List Moment) → AllByRecursion (IsWithin u id) ms → Heard k u id place h → Heard (fold step k ms) u id place (heard_all u place h ms)
+pub all_heard : (k : Known) (u id place : ℕ) (h : Hearing) (ms : List Moment) → AllByRecursion (IsWithin u id) ms → Heard k u id place h → Heard (fold step k ms) u id place (heard_all u place h ms)
 all_heard k u id place h [] is known = known
 all_heard k u id place h (m ∷ ms) is known =
     all_heard (step k m) u id place (heard_by u place m h) ms is.1 (moment_heard m (at_moment k m) u id place h is.0 (left_heard k (at_moment k m) u id place h (moment_leaves m k u place) known))
@@ -349,7 +368,7 @@ tells_step : (b : Bool) (u place : ℕ) (start : Hearing) (t : Line) (before : L
 tells_step true u place start t before ms e f = e
 tells_step false u place start t before ms e f = f
 
-tells_all : (u place : ℕ) (start : Hearing) (before : List Line) (ms : List Moment) → heard_all u place (tell_all place start before) ms ≡ tell_all place start (told_behind u before ms)
+pub tells_all : (u place : ℕ) (start : Hearing) (before : List Line) (ms : List Moment) → heard_all u place (tell_all place start before) ms ≡ tell_all place start (told_behind u before ms)
 tells_all u place start before [] = refl
 tells_all u place start before (Played line p ∷ ms) = tells_all u place start before ms
 tells_all u place start before (Idle line ∷ ms) = tells_all u place start before ms
@@ -359,7 +378,7 @@ pub are_told : AreTold
 are_told known u id place moments lines awaited within same =
     let start : Hearing = record { drive = drive_at known.drives u; request = request_at known.requests place } in
     let heard_it : Heard (fold step known moments) u id place (heard_all u place start moments) =
-        all_heard known u id place start moments within (record { drive = awaited.drive; request = awaited.request; found = awaited.found; same = record { trial = refl; done = refl; verdict = refl; write = refl } }) in
+        all_heard known u id place start moments within (record { drive = awaited.drive; request = awaited.request; found = awaited.found; joined = awaited.joined; same = record { trial = refl; done = refl; verdict = refl; write = refl } }) in
     let is : heard_all u place start moments ≡ told_all place start lines =
         tells_all u place start [] moments ∙ ap (tell_all place start) (sym same) ∙ sym (all_told place start lines) in record {
       start = start;

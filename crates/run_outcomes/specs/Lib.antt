@@ -1,3 +1,4 @@
 pub mod Hearings
 pub mod Outcomes
 pub mod Tellings
+pub mod Drawings

@@ -1,5 +1,5 @@
 -- WHAT A PICTURE IS TOLD while a request is in hand at its drive.
-use Rattle.std.specs.Prelude.{◌≡◌, ℕ, ◌<◌, ◌==◌, if◌then◌else◌, false, List, [], ◌∷◌, length, map, Some}
+use Rattle.std.specs.Prelude.{◌≡◌, ℕ, ◌<◌, ◌==◌, if◌then◌else◌, false, List, [], ◌∷◌, length, map, Some, None}
 use Rattle.std.specs.List.{AllByRecursion}
 use Rattle.drive_pictures.specs.declared.moments.Moment.{Moment}
 use Rattle.drive_pictures.specs.declared.moments.Moment.TheVariants.{Played, Told, Idle}
@@ -26,11 +26,12 @@ told_behind u before (Told line v i t ∷ rest) = told_behind u (if v == u then 
 told_behind u before (Played line play ∷ rest) = told_behind u before rest
 told_behind u before (Idle line ∷ rest) = told_behind u before rest
 
--- a request that is known and of which nothing was told yet
+-- a request that joined, and of which nothing was told yet
 pub record IsAwaited (known : Known) (u id place : ℕ) : Type 0 where
   pub drive : u < length known.drives
   pub request : place < length known.requests
   pub found : place_of known.ids id ≡ Some place
+  pub joined : (request_at known.requests place).why ≡ None
   pub fresh : IsFresh (record { drive = drive_at known.drives u; request = request_at known.requests place })
 
 -- THE LAW OF TELLINGS: behind any such moments just these lines were told of it.
