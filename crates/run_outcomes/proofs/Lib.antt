@@ -1,7 +1,5 @@
 pub mod Answering
-pub mod Drawing
 pub mod Hearing
-pub mod Listening
 pub mod OfRuns
 pub mod Refusing
 pub mod Wanting

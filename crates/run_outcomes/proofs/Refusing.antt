@@ -15,7 +15,6 @@ use Rattle.trace_replay.specs.Service.{frames_needed}
 use Rattle.trace_replay.specs.Replay.{Replay, Submission, Refused, Joined, submission, submission_by, has_frames}
 use Rattle.run_outcomes.specs.Outcomes.{AreSame, IsRefusedAs, AreRefused}
 
-
 same_frames : (asked : Asked) (wish : Wish) → AreSame asked wish → frames_of asked ≡ frames_needed wish
 same_frames asked wish s =
     ap (λ (n : ℕ). (n + 512 * (asked.count - 1) + asked.last + 511) / 512) s.offset

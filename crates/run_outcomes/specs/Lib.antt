@@ -1,4 +1,2 @@
 pub mod Hearings
 pub mod Outcomes
-pub mod Tellings
-pub mod Drawings

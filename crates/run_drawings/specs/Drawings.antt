@@ -16,7 +16,7 @@ use Rattle.trace_replay.specs.Runs.{IsLegalRun}
 use Rattle.trace_replay.specs.Script.{Script}
 use Rattle.run_outcomes.specs.Hearings.{IsInCondition}
 use Rattle.run_outcomes.specs.Outcomes.{IsWordOf}
-use Rattle.run_outcomes.specs.Tellings.{IsWithin, told_behind, IsAwaited}
+use Rattle.run_drawings.specs.Tellings.{IsWithin, told_behind, IsAwaited}
 
 -- THE LAW OF DRAWINGS: a legal run answers a request that it did not refuse. In the fold over the moments of a picture it was awaited,
 -- then its lines came alone at its drive, and now its end comes: the outcome that the picture has of it is the answer's word,

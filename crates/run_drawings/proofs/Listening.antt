@@ -32,7 +32,7 @@ use Rattle.trace_lines.specs.declared.telling.Told.TheVariants as deed
 use Rattle.trace_reader.specs.RoundTrip.{told_of}
 use Rattle.trace_replay.specs.Moments.{Deed}
 use Rattle.run_outcomes.specs.Hearings.{Hearing, IsFresh, told_all, HasHeard}
-use Rattle.run_outcomes.specs.Tellings.{IsWithin, told_behind, IsAwaited, AreTold}
+use Rattle.run_drawings.specs.Tellings.{IsWithin, told_behind, IsAwaited, AreTold}
 
 -- THE SAME TO A REQUEST: what its lines alone change
 pub record Same (d : Drive) (r : Request) (h : Hearing) : Type 0 where
@@ -201,7 +201,7 @@ asked_leaves (Some other) line r write k u place = leaves_self k u place
 asked_leaves None line r write k u place =
     let a : Result ℕ Outcome = admitted (drive_at k.drives r.unit).kind r k.lent in
     let l = one_more_request k r.unit (drive_asked a (drive_at k.drives r.unit)) r.id
-        (request_asked a (frames_of r) (drive_at k.drives r.unit).queue.joined (new_request k.event line r.unit r.id write)) k.lent u place (asked_trial a (drive_at k.drives r.unit)) in
+    (request_asked a (frames_of r) (drive_at k.drives r.unit).queue.joined (new_request k.event line r.unit r.id write)) k.lent u place (asked_trial a (drive_at k.drives r.unit)) in
     record { many = l.many; trial = l.trial; requests = l.requests; ids = l.ids }
 
 met_leaves : (o : Option ℕ) (line v i : ℕ) (k : Known) (u place : ℕ) → Leaves k (met_at o line v i k) u place
@@ -222,8 +222,10 @@ other_leaves : (there line v : ℕ) (t : Line) (k : Known) (u place : ℕ) → (
 other_leaves there line v t k u place other apart = record {
   many = set_length k.drives v (drive_after k.event there t (drive_at k.drives v) (request_at k.requests there));
   trial = ap (λ (d : Drive). d.trial) (set_other k.drives v (drive_after k.event there t (drive_at k.drives v) (request_at k.requests there)) u (is_other v u other));
-  requests = λ p. (subst (λ n. place < n) (sym (many k.requests there (request_after k.event line there t (drive_at k.drives v) (request_at k.requests there)))) p,
-      get_or-set_other k.requests there place (request_after k.event line there t (drive_at k.drives v) (request_at k.requests there)) (new_request 0 0 0 0 false) apart);
+  requests = λ p. (
+    subst (λ n. place < n) (sym (many k.requests there (request_after k.event line there t (drive_at k.drives v) (request_at k.requests there)))) p,
+    get_or-set_other k.requests there place (request_after k.event line there t (drive_at k.drives v) (request_at k.requests there)) (new_request 0 0 0 0 false) apart,
+  );
   ids = λ id e. e;
 }
   where
@@ -378,9 +380,9 @@ pub are_told : AreTold
 are_told known u id place moments lines awaited within same =
     let start : Hearing = record { drive = drive_at known.drives u; request = request_at known.requests place } in
     let heard_it : Heard (fold step known moments) u id place (heard_all u place start moments) =
-        all_heard known u id place start moments within (record { drive = awaited.drive; request = awaited.request; found = awaited.found; joined = awaited.joined; same = record { trial = refl; done = refl; verdict = refl; write = refl } }) in
+    all_heard known u id place start moments within (record { drive = awaited.drive; request = awaited.request; found = awaited.found; joined = awaited.joined; same = record { trial = refl; done = refl; verdict = refl; write = refl } }) in
     let is : heard_all u place start moments ≡ told_all place start lines =
-        tells_all u place start [] moments ∙ ap (tell_all place start) (sym same) ∙ sym (all_told place start lines) in record {
+    tells_all u place start [] moments ∙ ap (tell_all place start) (sym same) ∙ sym (all_told place start lines) in record {
       start = start;
       fresh = awaited.fresh;
       trial = heard_it.same.trial ∙ ap (λ (h : Hearing). h.drive.trial) is;

@@ -27,10 +27,10 @@ use Rattle.trace_reader.specs.RoundTrip.{told_of}
 use Rattle.trace_replay.specs.History.{lines_of}
 use Rattle.run_outcomes.specs.Hearings.{Hearing, told_all, HasHeard, IsInCondition}
 use Rattle.run_outcomes.specs.Outcomes.{IsWordOf}
-use Rattle.run_outcomes.specs.Tellings.{told_behind, IsAwaited}
-use Rattle.run_outcomes.specs.Drawings.{AreDrawn}
+use Rattle.run_drawings.specs.Tellings.{told_behind, IsAwaited}
+use Rattle.run_drawings.specs.Drawings.{AreDrawn}
 use Rattle.run_outcomes.proofs.Hearing.{Holds, Facts, behind as facts_behind}
-use Rattle.run_outcomes.proofs.Listening.{Same, Heard, heard_all, all_heard, left_heard, moment_leaves, own_at, tell_all, tells_all, all_told}
+use Rattle.run_drawings.proofs.Listening.{Same, Heard, heard_all, all_heard, left_heard, moment_leaves, own_at, tell_all, tells_all, all_told}
 use Rattle.run_outcomes.proofs.OfRuns.{are_answered}
 
 -- WHERE AN EVENT ENDS a drive keeps its condition
