@@ -1,5 +1,5 @@
 -- Which requests joined, whatever moments come.
-use Rattle.std.proofs.Common.{◌≡◌, ℕ, zero, suc, ◌+◌, ◌-◌, ◌^◌, ◌<◌, ◌==◌, min, Bool, true, false, cond, List, [], ◌∷◌, ◌++◌, length, map, fold, set, Option, Some, None, Result, Ok, Err, refl, sym, ap, ◌∙◌, subst, arith}
+use Rattle.std.proofs.Common.{◌≡◌, ℕ, zero, suc, ◌+◌, ◌-◌, ◌^◌, ◌<◌, ◌==◌, min, Bool, true, false, cond, List, [], ◌∷◌, ◌++◌, length, map, replicate, fold, set, Option, Some, None, Result, Ok, Err, refl, sym, ap, ◌∙◌, subst, arith}
 use Rattle.std.specs.Prelude.{◌&&◌, is_none}
 use Rattle.std.specs.List.{AllByRecursion}
 use Rattle.std.proofs.lemmas.List.{map-append, append-nil, append_assoc}
@@ -13,12 +13,14 @@ use Rattle.drive_pictures.specs.declared.moments.Play.TheVariants as play
 use Rattle.drive_pictures.specs.declared.requests.Outcome.{Outcome}
 use Rattle.drive_pictures.specs.declared.requests.Request.{Request}
 use Rattle.drive_pictures.specs.Counts.{plus, apart}
-use Rattle.drive_pictures.specs.Drives.{event_counted, unseen, cleared, met, changed}
+use Rattle.drive_pictures.specs.Drives.{new_drive, new_queue, event_counted, unseen, cleared, met, changed}
 use Rattle.drive_pictures.specs.Events.{begins, line_of, is_idle}
 use Rattle.drive_pictures.specs.Requests.{is_refused, new_request, left}
+use Rattle.pack_geometry.specs.declared.DriveKind.{DriveKind}
 use Rattle.run_picture.specs.declared.columns.Head.{Head}
+use Rattle.run_picture.specs.declared.columns.Window.{Window}
 use Rattle.run_picture.specs.Columns.{headed, is_before, is_inside, is_full}
-use Rattle.run_picture.specs.Fold.{Known, heard, asked_at, asked_with, admitted, request_asked, frames_of, drive_asked, drive_at, request_at, met_at, told_at, place_in, drive_after, drive_end, request_after, request_end, event_counted_in, event_ended, ended_behind, events_in, finished, shown_by, column_closed, turned_behind, step, run_from, IsHeard}
+use Rattle.run_picture.specs.Fold.{Known, new_known, declared, heard, asked_at, asked_with, admitted, request_asked, frames_of, drive_asked, drive_at, request_at, met_at, told_at, place_in, drive_after, drive_end, request_after, request_end, event_counted_in, event_ended, ended_behind, events_in, finished, shown_by, column_closed, turned_behind, step, run_from, IsHeard}
 use Rattle.run_picture.specs.Places.{place_of}
 use Rattle.script_reader.specs.declared.statement.Request.{Request as Asked}
 use Rattle.trace_lines.specs.declared.telling.Told.{Told as Deed}
@@ -355,3 +357,19 @@ joins known moments is heard =
       joined = λ u inside. (kept.tails u inside).joined;
       as_asked = λ u inside. (kept.tails u inside).as_asked;
     }
+
+-- BEFORE THE FIRST MOMENT, with the drives that a script declares
+none_queued : (n u : ℕ) → (drive_at (replicate n (new_drive None)) u).queue ≡ new_queue
+none_queued zero u = refl
+none_queued (suc n) zero = refl
+none_queued (suc n) (suc u) = none_queued n u
+
+pub unasked : (window : Window) → IsUnasked (new_known window)
+unasked window = record { drives = refl; requests = refl; queues = λ u. none_queued 32 u }
+
+pub still_unasked : (v : ℕ) (kind : DriveKind) (known : Known) → IsUnasked known → IsUnasked (declared v kind known)
+still_unasked v kind known is = record {
+  drives = set_length known.drives v (record (drive_at known.drives v) { kind = Some kind }) ∙ is.drives;
+  requests = is.requests;
+  queues = λ u. keeps_set (λ d. d.queue) known.drives v (record (drive_at known.drives v) { kind = Some kind }) u refl ∙ is.queues u;
+}
