@@ -1,7 +1,6 @@
 -- The outcome that a picture has of a request behind its end.
-use Rattle.std.proofs.Common.{◌≡◌, ◌⊎◌, inl, inr, ℕ, ◌<◌, ◌==◌, Bool, true, false, not, cond, List, [], ◌∷◌, ◌++◌, length, map, fold, set, Option, Some, None, refl, sym, ap, ◌∙◌, subst, arith}
+use Rattle.std.proofs.Common.{◌≡◌, inl, inr, ℕ, ◌==◌, Bool, true, false, not, cond, [], ◌∷◌, fold, Option, Some, None, refl, sym, ap, ◌∙◌, subst, arith}
 use Rattle.std.specs.Prelude.{◌&&◌, ◌||◌, is_some}
-use Rattle.std.specs.List.{AllByRecursion}
 use Rattle.std.proofs.lemmas.Bool.Decides.{nat_tests}
 use Rattle.std.proofs.lemmas.List.{get_or-set_same}
 use Rattle.std.proofs.lemmas.List.Sums.{fold-append}
@@ -16,21 +15,18 @@ use Rattle.drive_pictures.specs.Events.{begins, line_of, is_idle}
 use Rattle.drive_pictures.specs.Requests.{new_request, answer, is_refused}
 use Rattle.drive_pictures.specs.Trials.{is_at}
 use Rattle.run_counts.proofs.Following.{keeps_map}
-use Rattle.run_counts.specs.Counted.{behind}
 use Rattle.run_counts.specs.Doings.{at_moment}
 use Rattle.run_picture.specs.declared.columns.Head.{Head}
 use Rattle.run_picture.specs.Columns.{headed, is_before, is_inside, is_full}
-use Rattle.run_picture.specs.Fold.{Known, heard, drive_at, request_at, request_after, request_end, told_at, met_at, place_in, event_counted_in, event_ended, shown_by, column_closed, turned_behind, step}
+use Rattle.run_picture.specs.Fold.{Known, heard, drive_at, request_at, request_after, request_end, event_counted_in, event_ended, shown_by, column_closed, turned_behind, step}
 use Rattle.run_picture.specs.Places.{place_of}
 use Rattle.trace_lines.specs.declared.telling.Told.TheVariants as deed
-use Rattle.trace_reader.specs.RoundTrip.{told_of}
 use Rattle.trace_replay.specs.History.{lines_of}
 use Rattle.run_outcomes.specs.Hearings.{Hearing, told_all, HasHeard, IsInCondition}
 use Rattle.run_outcomes.specs.Outcomes.{IsWordOf}
-use Rattle.run_drawings.specs.Tellings.{told_behind, IsAwaited}
 use Rattle.run_drawings.specs.Drawings.{AreDrawn}
-use Rattle.run_outcomes.proofs.Hearing.{Holds, Facts, behind as facts_behind}
-use Rattle.run_drawings.proofs.Listening.{Same, Heard, heard_all, all_heard, left_heard, moment_leaves, own_at, tell_all, tells_all, all_told}
+use Rattle.run_outcomes.proofs.Hearing.{Holds, behind as facts_behind}
+use Rattle.run_drawings.proofs.Listening.{Heard, heard_all, all_heard, left_heard, moment_leaves, own_at, tell_all, tells_all, all_told}
 use Rattle.run_outcomes.proofs.OfRuns.{are_answered}
 
 -- WHERE AN EVENT ENDS a drive keeps its condition

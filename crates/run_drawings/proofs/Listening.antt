@@ -1,11 +1,10 @@
 -- What is told of a request, moment by moment.
-use Rattle.std.proofs.Common.{◌≡◌, ◌≢◌, ℕ, zero, suc, ◌+◌, ◌<◌, ◌==◌, Bool, true, false, cond, List, [], ◌∷◌, ◌++◌, length, map, fold, set, get_or, Option, Some, None, Result, Ok, Err, refl, sym, ap, ◌∙◌, subst, arith}
+use Rattle.std.proofs.Common.{◌≡◌, ◌≢◌, ℕ, zero, suc, ◌+◌, ◌<◌, ◌==◌, Bool, true, false, cond, List, [], ◌∷◌, ◌++◌, length, map, fold, set, Option, Some, None, Result, Ok, Err, refl, sym, ap, ◌∙◌, subst, arith}
 use Rattle.std.specs.List.{AllByRecursion}
 use Rattle.std.proofs.lemmas.List.{get_or_append_left, get_or-set_same, get_or-set_other, length-append}
 use Rattle.std.proofs.lemmas.Option.{same_Some, none-some}
 use Rattle.std.proofs.lemmas.Bool.Decides.{nat_tests}
 use Rattle.drive_pictures.specs.declared.drives.Drive.{Drive}
-use Rattle.drive_pictures.specs.declared.drives.Change.{Change}
 use Rattle.drive_pictures.specs.declared.moments.Moment.{Moment}
 use Rattle.drive_pictures.specs.declared.moments.Moment.TheVariants.{Played, Told, Idle}
 use Rattle.drive_pictures.specs.declared.moments.Play.TheVariants.{Ask, Other}
@@ -24,15 +23,15 @@ use Rattle.run_counts.proofs.Following.{keeps_set, keeps_map}
 use Rattle.run_counts.specs.Doings.{at_moment}
 use Rattle.run_picture.specs.declared.columns.Head.{Head}
 use Rattle.run_picture.specs.Columns.{headed, is_before, is_inside, is_full}
-use Rattle.run_picture.specs.Fold.{Known, heard, asked_at, asked_with, admitted, request_asked, frames_of, drive_asked, drive_at, request_at, met_at, told_at, place_in, drive_after, request_after, event_counted_in, event_ended, shown_by, column_closed, turned_behind, step}
+use Rattle.run_picture.specs.Fold.{Known, heard, asked_at, admitted, request_asked, frames_of, drive_asked, drive_at, request_at, met_at, told_at, place_in, drive_after, request_after, event_counted_in, event_ended, shown_by, column_closed, turned_behind, step}
 use Rattle.run_picture.specs.Places.{place_of, place_from}
 use Rattle.script_reader.specs.declared.statement.Request.{Request as Asked}
 use Rattle.trace_lines.specs.declared.telling.Told.{Told as Line}
 use Rattle.trace_lines.specs.declared.telling.Told.TheVariants as deed
 use Rattle.trace_reader.specs.RoundTrip.{told_of}
 use Rattle.trace_replay.specs.Moments.{Deed}
-use Rattle.run_outcomes.specs.Hearings.{Hearing, IsFresh, told_all, HasHeard}
-use Rattle.run_drawings.specs.Tellings.{IsWithin, told_behind, IsAwaited, AreTold}
+use Rattle.run_outcomes.specs.Hearings.{Hearing, told_all}
+use Rattle.run_drawings.specs.Tellings.{IsWithin, told_behind, AreTold}
 
 -- THE SAME TO A REQUEST: what its lines alone change
 pub record Same (d : Drive) (r : Request) (h : Hearing) : Type 0 where

@@ -1,5 +1,5 @@
 -- The outcome that is drawn of a request's lines is the word of its answer.
-use Rattle.std.proofs.Common.{◌≡◌, ◌⊎◌, inl, inr, ℕ, zero, suc, ◌+◌, ◌^◌, ◌<◌, ◌≤◌, ◌==◌, ◌&&◌, ◌||◌, Bool, true, false, not, cond, List, [], ◌∷◌, ◌++◌, length, Option, None, Some, refl, sym, ap, ◌∙◌, subst, arith}
+use Rattle.std.proofs.Common.{◌≡◌, ◌⊎◌, inl, inr, ℕ, ◌≤◌, ◌==◌, ◌&&◌, ◌||◌, Bool, true, false, not, cond, List, [], ◌∷◌, Some, refl, sym, ap, ◌∙◌, subst, arith}
 use Rattle.std.specs.Prelude.{if◌then◌else◌, nat_lt, is_some}
 use Rattle.std.proofs.lemmas.Option.{same_Some, none-some}
 use Rattle.std.proofs.lemmas.Bool.Decides.{nat_tests}
@@ -8,21 +8,14 @@ use Rattle.drive_pictures.specs.declared.drives.Drive.{Drive}
 use Rattle.drive_pictures.specs.declared.requests.Outcome.{Outcome}
 use Rattle.drive_pictures.specs.declared.requests.Outcome.TheVariants as outcome
 use Rattle.drive_pictures.specs.declared.requests.Request.{Request}
-use Rattle.drive_pictures.specs.declared.trials.Trial.{Trial}
 use Rattle.drive_pictures.specs.Requests.{stopped_by, answer}
-use Rattle.hardware_table.specs.declared.Moved.{Moved}
 use Rattle.hardware_table.specs.declared.Moved.TheVariants as verdict
 use Rattle.hardware_table.specs.Drive.{DriveState}
-use Rattle.pack_geometry.specs.declared.DriveKind.{DriveKind}
-use Rattle.pack_model.specs.TableSpelling.{Table}
-use Rattle.picture_sheet.specs.Words.{outcome_word}
-use Rattle.subsystem_spec.specs.ServiceOrder.{Service}
-use Rattle.subsystem_spec.specs.Requests.{Request as Wish, Answer, ReadOk, WriteOk, OutsidePartition, EndOfPartition, NoFrames, Failed, Cause, Offline, Locked, Unforwarded, Fault}
-use Rattle.trace_replay.specs.Moments.{Deed, Centre, Clear, Pack, Try, End}
-use Rattle.trace_replay.specs.Service.{in_hand}
-use Rattle.trace_replay.specs.Conversation.{Hand, Segment, Stage, Waiting, Steps, UnderWay, AtOnce, Moving, Saying, Ending, Progress, due, is_write}
+use Rattle.subsystem_spec.specs.Requests.{Answer, ReadOk, WriteOk, OutsidePartition, EndOfPartition, NoFrames, Failed, Cause, Offline, Locked, Unforwarded, Fault}
+use Rattle.trace_replay.specs.Moments.{Deed, Centre, Clear, Try, End}
+use Rattle.trace_replay.specs.Conversation.{Hand, Segment, Stage, Waiting, Steps, UnderWay, AtOnce, Moving, Saying, Ending, due}
 use Rattle.trace_replay.specs.Replay.{UnitSeen, hand_of}
-use Rattle.trace_replay.specs.History.{is_refusal, done_in, Tried, Untried, TriedAt, last_tried, last_try, marks_in, fails}
+use Rattle.trace_replay.specs.History.{is_refusal, done_in, Tried, Untried, TriedAt, last_tried, last_try, marks_in}
 use Rattle.trace_replay.specs.Causes.{IsCutOff, WasTriedOffline, IsOk, IsExplained}
 use Rattle.trace_replay.proofs.Histories.{Open, Goes, WasReached, EndFits, Fits, AreSaid}
 use Rattle.trace_replay.proofs.Kept.{no}

@@ -1,13 +1,12 @@
 -- What a drive and a request hold behind the lines of that request.
-use Rattle.std.proofs.Common.{◌≡◌, ◌⊎◌, inl, inr, ℕ, zero, suc, ◌+◌, ◌-◌, ◌^◌, ◌<◌, ◌≤◌, ◌==◌, Bool, true, false, cond, List, [], ◌∷◌, length, Option, None, Some, refl, sym, ap, ◌∙◌, subst, arith}
-use Rattle.std.specs.Prelude.{if◌then◌else◌}
+use Rattle.std.proofs.Common.{◌≡◌, ◌⊎◌, inl, inr, ℕ, suc, ◌+◌, ◌^◌, ◌<◌, ◌≤◌, ◌==◌, Bool, true, false, cond, List, [], ◌∷◌, length, Option, None, Some, refl, sym, ap, ◌∙◌, arith}
 use Rattle.std.proofs.lemmas.Bool.Decides.{nat_tests}
 use Rattle.drive_pictures.specs.declared.trials.Trial.{Trial}
 use Rattle.drive_pictures.specs.Counts.{plus}
 use Rattle.drive_pictures.specs.Trials.{is_at, in_hand}
 use Rattle.hardware_table.specs.declared.Moved.{Moved}
 use Rattle.hardware_table.specs.declared.Moved.TheVariants as verdict
-use Rattle.trace_replay.specs.History.{moved_by, done_in, Tried, Untried, TriedAt, last_tried, marks_in, last_try, fails, AreFailures}
+use Rattle.trace_replay.specs.History.{done_in, Tried, Untried, TriedAt, last_tried, marks_in, last_try, fails, AreFailures}
 use Rattle.trace_replay.specs.Moments.{Deed, Search, Seek, Recal, Offset, Centre, Clear, Pack, Transfer, Arrive, Sector, Intr, Try, Attn, End}
 use Rattle.run_outcomes.specs.Hearings.{Hearing, IsFresh, told_one, told_all}
 use Rattle.run_outcomes.proofs.Wanting.{want_in, wrote_in}

@@ -1,18 +1,13 @@
 -- The outcomes of a legal run.
-use Rattle.std.proofs.Common.{◌≡◌, ◌⊎◌, inl, inr, ℕ, ◌<◌, ◌≤◌, ◌^◌, Bool, true, false, not, List, [], ◌∷◌, ◌++◌, length, Option, Some, refl, sym, ap, ◌∙◌, subst, arith}
-use Rattle.drive_pictures.specs.declared.drives.Drive.{Drive}
-use Rattle.drive_pictures.specs.declared.requests.Request.{Request}
+use Rattle.std.proofs.Common.{◌≡◌, ℕ, Bool, true, false, not, [], ◌∷◌, Option, Some, sym, ap, ◌∙◌}
 use Rattle.drive_pictures.specs.declared.trials.Trial.{Trial}
-use Rattle.pack_geometry.specs.declared.DriveKind.{DriveKind}
-use Rattle.pack_model.specs.TableSpelling.{Table}
-use Rattle.subsystem_spec.specs.Requests.{Answer, Rejection, rejection_answer}
-use Rattle.trace_replay.specs.Moments.{Deed, Moment, Told, End}
+use Rattle.subsystem_spec.specs.Requests.{Answer}
+use Rattle.trace_replay.specs.Moments.{Deed, Told, End}
 use Rattle.trace_replay.specs.Conditions.{online_behind, locked_behind}
-use Rattle.trace_replay.specs.Conversation.{due}
 use Rattle.trace_replay.specs.Events.{NoLine, DueLine, Arrival, SectorLine, Interrupt, Attention, Refusal, IdleLine, Wish}
-use Rattle.trace_replay.specs.History.{is_refusal, lines_of, lines_behind}
+use Rattle.trace_replay.specs.History.{is_refusal, lines_of}
 use Rattle.trace_replay.specs.Packs.{surface_of}
-use Rattle.trace_replay.specs.Replay.{Replay, UnitSeen, new_replay, next_wish, hand_of, ToldMay, LineMay, Follows, after_moments}
+use Rattle.trace_replay.specs.Replay.{Replay, next_wish, hand_of, ToldMay, LineMay, Follows, after_moments}
 use Rattle.trace_replay.specs.Runs.{start_of}
 use Rattle.trace_replay.specs.Script.{drives_of}
 use Rattle.trace_replay.proofs.AsSaid.{is_as_said}
@@ -20,11 +15,11 @@ use Rattle.trace_replay.proofs.Following.{follow_on}
 use Rattle.trace_replay.proofs.Kept.{UnitFits, moments_all, starts, held_by, refused_is, no}
 use Rattle.trace_replay.proofs.RunExplained.{run_explained}
 use Rattle.trace_work.proofs.Asking.{run_asks}
-use Rattle.run_outcomes.specs.Hearings.{HasHeard, IsInCondition, told_all}
+use Rattle.run_outcomes.specs.Hearings.{told_all}
 use Rattle.run_outcomes.specs.Outcomes.{AreAnswered}
 use Rattle.run_outcomes.proofs.Wanting.{UnitWants, moments_want, starts_want, some_asked, wrote_in}
 use Rattle.run_outcomes.proofs.Hearing.{Facts, behind, wrote_or}
-use Rattle.run_outcomes.proofs.Answering.{Ends, stands_at, word_of}
+use Rattle.run_outcomes.proofs.Answering.{stands_at, word_of}
 
 -- a line that is no refusal is one that a unit comes to
 answer_in : Deed → Answer → Answer

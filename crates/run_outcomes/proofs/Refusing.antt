@@ -1,5 +1,5 @@
 -- A request that is refused as it is submitted has why.
-use Rattle.std.proofs.Common.{◌≡◌, ℕ, ◌+◌, ◌-◌, ◌*◌, ◌/◌, ◌^◌, ◌<◌, ◌≤◌, Bool, true, false, cond, Option, Some, Result, Ok, Err, refl, sym, ap, ◌∙◌, subst, arith}
+use Rattle.std.proofs.Common.{◌≡◌, ℕ, ◌+◌, ◌-◌, ◌*◌, ◌/◌, Bool, true, false, refl, sym, ap, ◌∙◌, subst, arith}
 use Rattle.std.specs.Prelude.{nat_lt, nat_le, not}
 use Rattle.std.proofs.lemmas.Bool.Decides.{nat_tests}
 use Rattle.pack_geometry.specs.declared.DriveKind.{DriveKind}
@@ -8,11 +8,11 @@ use Rattle.partitions.specs.declared.Admission.TheVariants as meets
 use Rattle.partitions.specs.declared.Part.{Part}
 use Rattle.partitions.specs.Partitions.{admission}
 use Rattle.drive_pictures.specs.Counts.{plus}
-use Rattle.run_picture.specs.Fold.{admitted, admitted_by, frames_of}
+use Rattle.run_picture.specs.Fold.{admitted_by, frames_of}
 use Rattle.script_reader.specs.declared.statement.Request.{Request as Asked}
-use Rattle.subsystem_spec.specs.Requests.{Request as Wish, Rejection, AtEnd, Beyond, FramesShort, rejection_answer}
+use Rattle.subsystem_spec.specs.Requests.{Request as Wish, rejection_answer}
 use Rattle.trace_replay.specs.Service.{frames_needed}
-use Rattle.trace_replay.specs.Replay.{Replay, Submission, Refused, Joined, submission, submission_by, has_frames}
+use Rattle.trace_replay.specs.Replay.{Submission, Refused, Joined, submission_by, has_frames}
 use Rattle.run_outcomes.specs.Outcomes.{AreSame, IsRefusedAs, AreRefused}
 
 same_frames : (asked : Asked) (wish : Wish) → AreSame asked wish → frames_of asked ≡ frames_needed wish

@@ -1,5 +1,5 @@
 -- The first transfer of a request is for all its blocks, and each writes as it does.
-use Rattle.std.proofs.Common.{◌≡◌, ◌⊎◌, inl, inr, ℕ, zero, suc, ◌+◌, ◌-◌, ◌≤◌, ◌==◌, ◌&&◌, ◌||◌, Bool, true, false, not, cond, List, [], ◌∷◌, ◌++◌, Option, None, Some, refl, sym, ap, ◌∙◌, subst, arith, drop}
+use Rattle.std.proofs.Common.{◌≡◌, ◌⊎◌, inl, inr, ℕ, ◌-◌, ◌≤◌, ◌==◌, ◌&&◌, Bool, true, false, cond, List, [], ◌∷◌, Option, None, Some, refl, sym, ap, ◌∙◌, subst, arith, drop}
 use Rattle.std.specs.Prelude.{if◌then◌else◌, is_some}
 use Rattle.std.proofs.lemmas.Option.{same_Some, none-some}
 use Rattle.std.proofs.lemmas.Bool.Decides.{nat_tests, eqb_tells}
@@ -9,16 +9,16 @@ use Rattle.pack_geometry.specs.declared.DriveKind.{DriveKind}
 use Rattle.pack_model.specs.TableSpelling.{Table}
 use Rattle.subsystem_spec.specs.ServiceOrder.{Waiting as Waiter, put, Service, after_leave}
 use Rattle.subsystem_spec.proofs.ServiceOrderRuns.{newcomer, after_join-waiting}
-use Rattle.subsystem_spec.specs.Requests.{Request, Answer, Rejection, rejection_answer}
+use Rattle.subsystem_spec.specs.Requests.{Request, Rejection, rejection_answer}
 use Rattle.trace_replay.specs.Script.{Input, Submit, ArriveAt, MoveAt, AttendTo, Drain, Turn, Noise, Arm, SetOnline, SetLocked}
 use Rattle.trace_replay.specs.Moments.{Deed, Search, Seek, Recal, Offset, Centre, Clear, Pack, Transfer, Arrive, Sector, Intr, Try, Attn, End, Moment, Played, Told, Idle}
-use Rattle.trace_replay.specs.Drives.{drive_after, drive_played}
+use Rattle.trace_replay.specs.Drives.{drive_after}
 use Rattle.trace_replay.specs.Packs.{Surface}
 use Rattle.trace_replay.specs.Service.{cylinder_of, first_waiting, head_of, in_hand, request_or_none, service_after, target_of}
-use Rattle.trace_replay.specs.Conversation.{Positioning, SearchFor, Recalibrate, SeekTo, OffsetBy, Segment, OwnBlocks, Replacement, Hand, is_write, length_of, transfer_of, command_of, needs_unlocked, guarded, due, Stage, Waiting, Steps, UnderWay, AtOnce, Moving, Saying, Ending, saying, interrupted_by, stage_after, is_under_way, last_of, sector_may, intr_may, Progress, not_begun, TalkMay, begun, progress_after}
+use Rattle.trace_replay.specs.Conversation.{Positioning, SearchFor, Recalibrate, SeekTo, OffsetBy, Segment, OwnBlocks, Replacement, Hand, is_write, length_of, transfer_of, command_of, needs_unlocked, guarded, due, Stage, Waiting, Steps, UnderWay, AtOnce, Moving, Saying, Ending, saying, interrupted_by, stage_after, is_under_way, sector_may, intr_may, Progress, not_begun, TalkMay, begun, progress_after}
 use Rattle.trace_replay.specs.Events.{Wish, NoLine, DueLine, Arrival, SectorLine, Interrupt, Attention, Refusal, IdleLine}
 use Rattle.trace_replay.specs.Replay.{Replay, UnitSeen, new_replay, next_wish, hand_of, at_unit, LineMay, ToldMay, Follows, after_moment, after_moments, unit_after, bytes_of, told_after, replay_told, Submission, Refused, Joined, submission, submitted, stage_joined, unit_joined, replay_played}
-use Rattle.trace_replay.specs.History.{Tried, Untried, last_tried, with_deed, lines_after, lines_behind}
+use Rattle.trace_replay.specs.History.{Untried, last_tried, with_deed, lines_after, lines_behind}
 use Rattle.trace_replay.specs.Causes.{AskSome}
 use Rattle.trace_replay.proofs.Histories.{AreSaid, Fits, guard_holds}
 use Rattle.trace_replay.proofs.Kept.{UnitFits, UnitTold, AskSomeBlocks, IsHeld, AllFit, held_by, told_all, played_all, end_kept, head_stays, refused_is, no}
