@@ -2,3 +2,4 @@ pub mod Memory
 pub mod Drives
 pub mod Machine
 pub mod Slots
+pub mod Bytes

@@ -5,6 +5,7 @@
 ghost use Rattle.contract_rows.specs.Memory.{FirstPieceOnly, KnownFrameTakenForTheSame, ByteWrittenTakenForItsFrame, NextFrameNotAsked, OldBytesBehindTheEnd, LentFrameLeftFree, FramesWithoutTheOffset};
 ghost use Rattle.contract_rows.specs.Drives.{TwelvePlaceBurst, BurstPastTheEnd, WritesForgotten, WriteHeldBack, SectorWrittenWithoutItsZeros, MarkTestedBeforeTheArmedFault, NewestNoiseStrikes, ByteCountNotShortened, CompletionOneSectorEarly, MarkedSectorLetThrough};
 ghost use Rattle.contract_rows.specs.Machine.{FirstFailureIsFinal, OneSeekAtATime, RtcForgotten, RetryNamesTheFirstBlock, ReplacementForwardedAgain, NewestAnswerTakenFirst, AnswerAtAnotherLine, AllOthersLeaveTheAdapter, HighestUnitFirst, FramesBeforePartition, FirstBlocksLoaded};
+ghost use Rattle.contract_rows.specs.Bytes.{WriteNotAtItsHome, NeighbourWritten, OtherBlockRead, BurstElsewhere, UnusableBlockDone, UnmarkedBlockForwarded, OtherEntryForwarded, TableOfAnotherPack, AnsweredWithOtherBytes};
 ghost use Rattle.contract_rows.specs.Slots.{FrameLost, BitLeftOnBehindTheArrival, BitOfAnotherUnit};
 
 /// Main memory may not be left so: by its window's `Writes`, what it knows of its frames, what it lent, and how many frames it needs.
@@ -52,4 +53,17 @@ pub fn slots_law()
     ensures frame_lost { FrameLost }
     ensures bit_left_on_behind_the_arrival { BitLeftOnBehindTheArrival }
     ensures bit_of_another_unit { BitOfAnotherUnit }
+{}
+
+/// Packs, buffers and tables may not be left so, by what the driver bears of a map.
+pub fn bytes_law()
+    ensures write_not_at_its_home { WriteNotAtItsHome }
+    ensures neighbour_written { NeighbourWritten }
+    ensures other_block_read { OtherBlockRead }
+    ensures burst_elsewhere { BurstElsewhere }
+    ensures unusable_block_done { UnusableBlockDone }
+    ensures unmarked_block_forwarded { UnmarkedBlockForwarded }
+    ensures other_entry_forwarded { OtherEntryForwarded }
+    ensures table_of_another_pack { TableOfAnotherPack }
+    ensures answered_with_other_bytes { AnsweredWithOtherBytes }
 {}

@@ -124,12 +124,12 @@ run_within ids w (act ∷ acts) run within are =
     run_within ids (after w act) acts run.1 within.1 (act_within ids w act run.0 within.0 are)
 
 deeds_within : (ids : List ℕ) → Holds (IsWithin ids)
-deeds_within ids = record { of = λ line u id d. tt; change = λ input. tt; nothing = λ line. tt }
+deeds_within ids = record { of = λ line u id d. tt; nothing = λ line. tt }
 
 pub events_add_none : EventsAddNone
 events_add_none ids w line input tried s work may are =
     let works : Works w (event_acts line input tried w) = event_works sound_after line input tried w s work may in
-    run_within ids w (event_acts line input tried w) works.run (all_of_event (IsWithin ids) (deeds_within ids) line input tried w) are
+    run_within ids w (event_acts line input tried w) works.run (all_of_event (IsWithin ids) (deeds_within ids) line input tried w tt) are
 
 pub submissions_add : SubmissionsAdd
 submissions_add ids w line p r h s work may same are =

@@ -44,10 +44,9 @@ all_until : (P : Act → Type 0) (n : ℕ) (part : Part) → Always P part → A
 all_until P zero part all w = tt
 all_until P (suc n) part all w = all_going_on P (part w) (until n part) w (all w) (all_until P n part all)
 
--- what holds of the acts of each kind that an event is made of
+-- what holds of the acts of each kind that an event is made of, beside a condition that changes
 pub record Holds (P : Act → Type 0) : Type 0 where
   pub of : (line u id : ℕ) (deed : Deed) → P (Of line u id deed)
-  pub change : (input : Input) → P (Change input)
   pub nothing : (line : ℕ) → P (Nothing line)
 
 module _ (P : Act → Type 0) (holds : Holds P) where
@@ -116,11 +115,11 @@ module _ (P : Act → Type 0) (holds : Holds P) where
       (λ x. all_followed P (each (attention line a) drives x) (adapter_start line a) x (all_each P (attention line a) drives (all_attention line a) x)
       (all_started line a))
 
-  pub all_of_event : (line : ℕ) (input : Input) (tried : Tried) (w : World) → AreAll P (event_acts line input tried w)
-  all_of_event line (script.ArriveAt u) tried w =
+  pub all_of_event : (line : ℕ) (input : Input) (tried : Tried) (w : World) → P (Change input) → AreAll P (event_acts line input tried w)
+  all_of_event line (script.ArriveAt u) tried w change =
       all_or_nothing (can_arrive (unit_at w u)) line (in_hand line u deed.Arrive) (all_in_hand line u deed.Arrive) w
-  all_of_event line (script.MoveAt a) tried w =
+  all_of_event line (script.MoveAt a) tried w change =
       all_or_nothing (can_move (adapter_at w a)) line (in_hand line (unit_of w a) (deed.Sector (next_block (adapter_at w a).state) tried))
       (all_in_hand line (unit_of w a) (deed.Sector (next_block (adapter_at w a).state) tried)) w
-  all_of_event line (script.AttendTo a) tried w = all_or_nothing (can_attend (adapter_at w a)) line (attended line a) (all_attended line a) w
-  all_of_event line input tried w = (holds.change input, tt)
+  all_of_event line (script.AttendTo a) tried w change = all_or_nothing (can_attend (adapter_at w a)) line (attended line a) (all_attended line a) w
+  all_of_event line input tried w change = (change, tt)

@@ -160,11 +160,11 @@ takes_none [] all = tt
 takes_none (act ∷ acts) all = (all.0, takes_none acts all.1)
 
 none_taken : Holds (λ (act : Act). is_taking act ≡ false)
-none_taken = record { of = λ line u id d. refl; change = λ input. refl; nothing = λ line. refl }
+none_taken = record { of = λ line u id d. refl; nothing = λ line. refl }
 
 pub events_take_none : EventsTakeNone
 events_take_none w line input tried =
-    takes_none (event_acts line input tried w) (all_of_event (λ (act : Act). is_taking act ≡ false) none_taken line input tried w)
+    takes_none (event_acts line input tried w) (all_of_event (λ (act : Act). is_taking act ≡ false) none_taken line input tried w refl)
 
 pub submissions_take_none : SubmissionsTakeNone
 submissions_take_none w line p r h =

@@ -37,12 +37,12 @@ runs_keep_reach ends old held w (act ∷ acts) sound run joins within =
 
 -- in an event no request joins
 none_join : (ends : ℕ → ℕ) → Holds (JoinsBelow ends)
-none_join ends = record { of = λ line u id d. tt; change = λ input. tt; nothing = λ line. tt }
+none_join ends = record { of = λ line u id d. tt; nothing = λ line. tt }
 
 pub events_keep_reach : EventsKeepReach
 events_keep_reach ends old held w line input tried sound work may within =
     let works : Works w (event_acts line input tried w) = event_works sound_after line input tried w sound work may in
-    runs_keep_reach ends old held w (event_acts line input tried w) sound works.run (all_of_event (JoinsBelow ends) (none_join ends) line input tried w) within
+    runs_keep_reach ends old held w (event_acts line input tried w) sound works.run (all_of_event (JoinsBelow ends) (none_join ends) line input tried w tt) within
 
 pub answers_keep_reach : AnswersKeepReach
 answers_keep_reach ends old held w sound some within = acts_keep_reach ends old held w Taken sound some tt within

@@ -1,3 +1,4 @@
 pub mod Blocks
 pub mod Acts
 pub mod Calls
+pub mod Lengths

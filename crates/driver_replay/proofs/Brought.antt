@@ -119,8 +119,8 @@ same_line e = grind (arith, e)
 no_line : {x : moment.Deed} → [] ≡ x ∷ [] → {P : Type 0} → P
 no_line e = absurd (grind (arith, e))
 
-own_of : (u d : ℕ) → d ≡ drive_of u → rule.unit_of (adapter_of u) d ≡ u
-own_of u d is = ap (rule.unit_of (adapter_of u)) is ∙ own_unit u
+own_of : (u d : ℕ) → d ≡ drive_of u → rule.unit_on (adapter_of u) d ≡ u
+own_of u d is = ap (rule.unit_on (adapter_of u)) is ∙ own_unit u
 
 -- the adapter takes its first unit
 start_wish : (u : ℕ) (w : World) (s : Replay) (d : Deed) → Shows u w s → adapter_of u < 4 → IsChosen u d (scene_of w u)
@@ -152,10 +152,10 @@ module _ (line u id : ℕ) (w : World) (s : Replay) (told : moment.Deed) (sound 
   brought : (d : Deed) → May u d (scene_of w u) → Begins u w d → IsBrought u s d → told_by w u d ≡ told ∷ [] → next_wish s ≡ wish_of u told
   brought deed.Arrive may begins act tells = rests ∙ (rw act refl) ∙ ap (wish_of u) (same_line tells)
   brought (deed.Sector block t) may begins act tells =
-      let own : rule.unit_of (adapter_of u) (at_unit s u).state.drive ≡ u = own_of u (at_unit s u).state.drive (seen.drive ∙ may.0.drive) in
+      let own : rule.unit_on (adapter_of u) (at_unit s u).state.drive ≡ u = own_of u (at_unit s u).state.drive (seen.drive ∙ may.0.drive) in
       rests ∙ (rw act (ap SectorLine own)) ∙ ap (wish_of u) (same_line tells)
   brought (deed.Intr moved last) may begins act tells =
-      let own : rule.unit_of (adapter_of u) (at_unit s u).state.drive ≡ u = own_of u (at_unit s u).state.drive (seen.drive ∙ may.0.drive) in
+      let own : rule.unit_on (adapter_of u) (at_unit s u).state.drive ≡ u = own_of u (at_unit s u).state.drive (seen.drive ∙ may.0.drive) in
       rests ∙ (rw act.1 (ap Interrupt own)) ∙ ap (wish_of u) (same_line tells)
   brought (deed.Attn taken_so_far) may begins act tells =
       rests ∙ (rw act.1 (ap Attention (own_of u (drive_of u) refl))) ∙ ap (wish_of u) (same_line tells)

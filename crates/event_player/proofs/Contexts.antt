@@ -8,7 +8,7 @@ use Rattle.outside_traits.specs.Puts.{TakesFront}
 use Rattle.subsystem_spec.specs.Requests.{Request, IsRequest}
 use Rattle.trace_replay.specs.Moments.{Moment, Played, Idle}
 use Rattle.trace_replay.specs.Script as says
-use Rattle.trace_replay.specs.Script.{Script, Input, Line, Numbered, drives_of, inputs_of, inputs_before}
+use Rattle.trace_replay.specs.Script.{Script, Input, Line, Numbered, drives_of}
 use Rattle.trace_replay.specs.Events.{Event}
 use Rattle.trace_replay.specs.Packs.{Surface}
 use Rattle.trace_replay.specs.Replay.{Replay, Follows, after_moments, drained, act_drained, next_wish}
@@ -25,6 +25,7 @@ use Rattle.driver_answers.proofs.Waiting.{submissions_alone}
 use Rattle.driver_runs.proofs.Runs.{packs_are_left}
 use Rattle.driver_runs.proofs.Sectors.{submission_quiet}
 use Rattle.driver_trace.specs.Within.{ShowsAll}
+use Rattle.driver_reach.proofs.Lengths.{drained_shows}
 use Rattle.answer_lines.specs.AnswerText.{said_text, out_text}
 use Rattle.answer_tally.specs.declared.tally.Tally.{Tally}
 use Rattle.hp_driver.specs.Subsystem.{IsThere, is_move}
@@ -42,23 +43,12 @@ pub whole_run : (script : Script) (tables : ℕ → Option Table) (first held : 
     → HasRun script tables first held line done w moments → Whole script tables first held moments
 whole_run script tables first held line done w moments run = record {
   follows = run.so_far.follows;
-  behind = packs_are_left (drives_of script) first held (start_of script tables first) line moments w run.so_far run.kept;
+  behind = record {
+    surface = packs_are_left (drives_of script) first held (start_of script tables first) line moments w run.so_far run.kept;
+    long = run.long;
+  };
   reach = λ ends below tables_below. (run.reach ends below tables_below).packs;
 }
-
-drained_shows : (w : World) (s : Replay) → ShowsAll w s → ShowsAll w (drained s)
-drained_shows w s is = by_test (s.event.drains && (is_no_line (next_wish s) && nat_lt 0 s.outstanding)) (record s.event { between = true; act = act_drained s })
-  where
-    by_test : (b : Bool) (e : Event) → ShowsAll w (if b then record s { event = e } else s)
-    by_test true e = record {
-      units = is.units;
-      adapters = is.adapters;
-      ready = is.ready;
-      noise = is.noise;
-      frames = is.frames;
-      outstanding = is.outstanding;
-    }
-    by_test false e = is
 
 drained_surface : (s : Replay) → (drained s).surface ≡ s.surface
 drained_surface s = by_test (s.event.drains && (is_no_line (next_wish s) && nat_lt 0 s.outstanding)) (record s.event { between = true; act = act_drained s })
@@ -82,10 +72,13 @@ whole_drained script tables first held line done w moments run =
     record {
       follows = run.draining.follows;
       behind = record {
-        sectors = λ unit kind block is less. sym (run.draining.ends.packs.sectors unit block) ∙ ap (λ (s : Surface). s.sector unit block) (sym same);
-        beyond = run.kept.packs.beyond;
-        marks = run.kept.packs.marks;
-        others = run.kept.packs.others;
+        surface = record {
+          sectors = λ unit kind block is less. sym (run.draining.ends.packs.sectors unit block) ∙ ap (λ (s : Surface). s.sector unit block) (sym same);
+          beyond = run.kept.packs.beyond;
+          marks = run.kept.packs.marks;
+          others = run.kept.packs.others;
+        };
+        long = run.long;
       };
       reach = λ ends below tables_below. (run.reach ends below tables_below).packs;
     }

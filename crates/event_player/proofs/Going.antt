@@ -1,12 +1,12 @@
 -- A run goes on call by call, with the answers that are taken behind each call.
-use Rattle.std.proofs.Common.{◌≡◌, inl, ℕ, ◌*◌, ◌<◌, ◌≤◌, List, [], ◌∷◌, ◌++◌, Option, Some, None, refl, sym, ap, arith, ◌∙◌}
+use Rattle.std.proofs.Common.{◌≡◌, inl, ℕ, ◌*◌, ◌<◌, ◌≤◌, List, [], ◌∷◌, ◌++◌, Option, Some, None, refl, sym, ap, subst, arith, ◌∙◌}
 use Rattle.pack_model.specs.Pack.{Pack}
 use Rattle.pack_model.specs.TableSpelling.{Table}
 use Rattle.subsystem_spec.specs.Requests.{Request}
 use Rattle.trace_replay.specs.Moments.{Moment}
 use Rattle.trace_replay.specs.Causes.{AsksSome}
 use Rattle.trace_replay.specs.Script as says
-use Rattle.trace_replay.specs.Script.{Script, Input, Statement, Declares, Plays, Line, Numbered, with_input, drives_of, inputs_before, inputs_of}
+use Rattle.trace_replay.specs.Script.{Script, Input, Statement, Declares, Plays, Line, Numbered, with_input, drives_of, inputs_before}
 use Rattle.trace_replay.specs.Packs.{surface_of}
 use Rattle.trace_replay.specs.Replay.{Replay, after_moments}
 use Rattle.trace_replay.specs.Runs.{start_of}
@@ -23,12 +23,14 @@ use Rattle.driver_work.proofs.Calls.{event_works, submit_works}
 use Rattle.driver_invariant.proofs.Sound.{sound_after}
 use Rattle.driver_outcome.specs.Packs.{packs_after_all}
 use Rattle.driver_trace.specs.Calls.{IsReadOf}
+use Rattle.driver_trace.specs.Within.{ShowsAll}
 use Rattle.driver_trace.specs.Runs.{IsOfUnits, with_call}
 use Rattle.driver_trace.proofs.Calls.{events_go, submissions_go, drains_start, drains_go_on}
 use Rattle.driver_trace.proofs.Runs.{drain_finds_nothing, drain_ends}
 use Rattle.driver_trace.proofs.Inputted.{calls_are_played, lines_play_nothing}
 use Rattle.driver_runs.proofs.Runs.{events_keep, submissions_keep}
 use Rattle.driver_reach.proofs.Calls.{events_keep_reach, submissions_keep_reach}
+use Rattle.driver_reach.proofs.Lengths.{events_keep_lengths, first_events_keep_lengths, later_events_keep_lengths, empty_drains_keep_lengths, submissions_keep_lengths, drained_shows}
 use Rattle.driver_drains.specs.Drains.{Falls}
 use Rattle.driver_drains.proofs.Asked.{lines_ask_nothing, calls_ask}
 use Rattle.driver_drains.proofs.Falls.{first_events_fall, drains_fall}
@@ -113,6 +115,7 @@ module _ (script : Script) (tables : ℕ → Option Table) (first : ℕ → Pack
         reach = λ ends below tables_below. within_taken ends first (packs_after_all w held acts) (after_all w acts) works.sound
             (events_keep_reach ends first held w next input tried sound work may
             (run.reach ends (call_asks ends (drives_of script) moments next input w acts below).0 tables_below));
+        long = events_keep_lengths start moments first held w next input tried sound run.so_far.left.stands.shows works.run run.long;
       }
 
   -- A SUBMISSION
@@ -140,6 +143,7 @@ module _ (script : Script) (tables : ℕ → Option Table) (first : ℕ → Pack
             let asks = call_asks ends (drives_of script) moments next (says.Submit r) w acts below in
             within_taken ends first (packs_after_all w held acts) (after_all w acts) works.sound
             (submissions_keep_reach ends (drives_of script) first held w next p r h sound work may is run.kept.units asks.1 (run.reach ends asks.0 tables_below));
+        long = submissions_keep_lengths start moments first held w next p r h run.long;
       }
 
   -- A DRAIN that finds nothing
@@ -153,6 +157,7 @@ module _ (script : Script) (tables : ℕ → Option Table) (first : ℕ → Pack
         ∙ sym (inputs_more done next says.Drain);
     asked = calls_ask start.there moments next says.Drain w (Nothing next ∷ []) run.asked tt tt;
     reach = λ ends below tables_below. run.reach ends (call_asks ends (drives_of script) moments next says.Drain w (Nothing next ∷ []) below).0 tables_below;
+    long = empty_drains_keep_lengths start moments first held w next run.long;
   }
 
   -- The first event of a drain
@@ -178,6 +183,7 @@ module _ (script : Script) (tables : ℕ → Option Table) (first : ℕ → Pack
         reach = λ ends below tables_below. within_taken ends first (packs_after_all w held acts) (after_all w acts) works.sound
             (events_keep_reach ends first held w next input tried sound work may
             (run.reach ends (call_asks ends (drives_of script) moments next says.Drain w acts below).0 tables_below));
+        long = first_events_keep_lengths start moments first held w next input tried sound run.so_far.left.stands.shows works.run run.long;
       }
 
   -- leaves fewer than 200 for each block outstanding,
@@ -216,6 +222,8 @@ module _ (script : Script) (tables : ℕ → Option Table) (first : ℕ → Pack
         reach = λ ends below tables_below. within_taken ends first (packs_after_all w held acts) (after_all w acts) works.sound
             (events_keep_reach ends first held w line input tried sound work may
             (run.reach ends (lines_ask ends (drives_of script) moments w acts below) tables_below));
+        long = later_events_keep_lengths start moments first held w line input tried sound
+            (subst (ShowsAll w) (sym run.draining.ends.is) (drained_shows w run.draining.ends.last run.draining.ends.over.rests.shows)) works.run run.long;
       }
 
   pub drain_more_falls : (line : ℕ) (input : Input) (tried : Tried) (held : ℕ → Pack) (done : List Line) (w : World) (moments : List Moment)
@@ -234,4 +242,5 @@ module _ (script : Script) (tables : ℕ → Option Table) (first : ℕ → Pack
     inputs = run.inputs;
     asked = run.asked;
     reach = run.reach;
+    long = run.long;
   }

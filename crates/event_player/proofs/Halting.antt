@@ -9,7 +9,7 @@ use Rattle.outside_traits.specs.Puts.{TakesFront}
 use Rattle.subsystem_spec.specs.Requests.{Request}
 use Rattle.trace_replay.specs.Moments.{Played, Idle}
 use Rattle.trace_replay.specs.Script as says
-use Rattle.trace_replay.specs.Script.{Script, Input, Statement, Declares, Plays, Line, Numbered, AreNumbered, IsScript, drives_of, inputs_of, inputs_before, with_input}
+use Rattle.trace_replay.specs.Script.{Script, Input, Statement, Declares, Plays, Line, Numbered, AreNumbered, drives_of, inputs_before}
 use Rattle.trace_replay.specs.Text.{moment_text}
 use Rattle.hardware_table.specs.declared.Moved.TheVariants.{Clean}
 use Rattle.driver_machine.specs.World.{World, new_world}

@@ -14,7 +14,7 @@ use Rattle.script_reader.specs.Stored.{Stored, Kept, seen, lines_in}
 use Rattle.script_meaning.specs.Meaning.{line_of, meaning_of}
 use Rattle.trace_replay.specs.Moments.{Moment}
 use Rattle.trace_replay.specs.Script as says
-use Rattle.trace_replay.specs.Script.{Script, Input, Statement, Declares, Plays, Line, IsScript, IsStatement, AreNumbered, drives_of, ids_of, inputs_before}
+use Rattle.trace_replay.specs.Script.{Script, Statement, Declares, Plays, Line, IsScript, IsStatement, AreNumbered, drives_of, inputs_before}
 use Rattle.trace_replay.specs.Runs.{ArePlayed}
 use Rattle.trace_replay.specs.Text.{trace_text}
 use Rattle.pack_geometry.specs.declared.DriveKind.TheVariants.{Rp06}
@@ -82,6 +82,7 @@ declared_run s tables first held last done w moments line u kind at run = record
   inputs = run.inputs ∙ sym (inputs_append [] done (line ∷ []) ∙ ap (λ (st : Statement). inputs_before (says.with_input line.number st []) done) at);
   asked = run.asked;
   reach = run.reach;
+  long = run.long;
 }
 
 module _ (s : Script) (tables : ℕ → Option Table) (i : ℕ) (line : Line) (old mid new : Stage) (here : drop i s.lines ≡ line ∷ drop (i + 1) s.lines)
@@ -232,6 +233,7 @@ plays_whole s tables old new is read ends = record {
   run = runs_are_legal s tables old.held new.held (s.count + 1) ends.moments new.world is
       inputs read ends.run.so_far ends.run.kept ends.over;
   reach = λ top below tables_below. (ends.run.reach top (subst (AskBelow top (drives_of s)) (sym inputs) below) tables_below).packs;
+  long = ends.run.long;
   out = ends.out;
   trace = ends.trace;
 }
@@ -259,6 +261,7 @@ starts_run s setups outstanding noises held set = record {
   asked = record { some = tt; units = tt };
   reach = λ ends below tables_below.
       starts_within_reach ends (drives_of s) (tables_in setups) held setups outstanding noises set.are (set.set outstanding noises) (set.declared outstanding noises) tables_below;
+  long = λ unit. refl;
 }
 
 is_below : (w : World) (u : ℕ) → Sound w → (unit_at w u).declared ≡ true → u < 32

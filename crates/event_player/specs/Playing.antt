@@ -10,6 +10,7 @@ use Rattle.driver_machine.specs.World.{World}
 use Rattle.driver_trace.specs.Runs.{IsSoFar}
 use Rattle.driver_runs.specs.Runs.{IsKept}
 use Rattle.driver_reach.specs.Reach.{AskBelow, TablesBelow, IsWithinReach}
+use Rattle.driver_reach.specs.Lengths.{AreAsLong}
 use Rattle.driver_drains.specs.Drains.{AreAsked}
 use Rattle.answer_lines.specs.AnswerText.{out_text}
 
@@ -31,13 +32,15 @@ counted one [] = 0
 counted one (line ∷ lines) = one line.statement + counted one lines
 
 -- THE RUN SO FAR, behind the first lines: its moments play these, the replay behind them stands for the driver, what is no sector
--- stayed, each request asks for some blocks of a unit that is there, and what images have from the ends of all writes on stayed.
+-- stayed, each request asks for some blocks of a unit that is there, what images have from the ends of all writes on stayed, and each
+-- is as long as the blocks that were written make it.
 pub record HasRun (script : Script) (tables : ℕ → Option Table) (old held : ℕ → Pack) (line : ℕ) (done : List Line) (w : World) (moments : List Moment) : Type 0 where
   pub so_far : IsSoFar (start_of script tables old) line moments held w
   pub kept : IsKept (drives_of script) old held w
   pub inputs : played moments ≡ inputs_before [] done
   pub asked : AreAsked (start_of script tables old).there moments
   pub reach : (ends : ℕ → ℕ) → AskBelow ends (drives_of script) (played moments) → TablesBelow ends (drives_of script) tables → IsWithinReach ends old held w
+  pub long : AreAsLong (start_of script tables old) moments old held
 
 -- and its texts are told.
 pub record HasTold (script : Script) (tables : ℕ → Option Table) (old held : ℕ → Pack) (line : ℕ) (done : List Line) (w : World)

@@ -6,9 +6,10 @@ use Rattle.pack_model.specs.Pack.{Pack}
 use Rattle.pack_model.specs.TableSpelling.{Table}
 use Rattle.trace_replay.specs.Moments.{Moment}
 use Rattle.trace_replay.specs.Script.{Script, Line, Declares, drives_in, drives_of, inputs_of}
-use Rattle.trace_replay.specs.Runs.{IsLegalRun}
+use Rattle.trace_replay.specs.Runs.{IsLegalRun, start_of}
 use Rattle.trace_replay.specs.Text.{trace_text}
 use Rattle.driver_reach.specs.Reach.{AskBelow, TablesBelow, StayFrom}
+use Rattle.driver_reach.specs.Lengths.{AreAsLong}
 use Rattle.answer_lines.specs.AnswerText.{out_text}
 use Rattle.answer_tally.specs.declared.tally.Tally.{Tally}
 use Rattle.answer_tally.specs.Counting.{tally_of}
@@ -20,12 +21,13 @@ StaysBeyond script tables old new = (ends : ℕ → ℕ) → AskBelow ends (driv
 
 -- A LEGAL RUN of the script over the packs, from what they held first to what they hold now, with the tables of these packs. Where the
 -- sink for the answers tells, it took just the text of the run's answers and noises; where the trace tells, it took just the run's lines.
--- What images have beyond all writes stayed.
+-- What images have beyond all writes stayed, and each is just as long as the blocks that the run wrote make it.
 pub record Plays (script : Script) (old new : ℕ → Pack) (out_tells : Bool) (said said' : List ℕ) (trace_tells : Bool) (taken taken' : List ℕ) : Type 0 where
   pub tables : ℕ → Option Table
   pub moments : List Moment
   pub run : IsLegalRun script tables old new moments
   pub reach : StaysBeyond script tables old new
+  pub long : AreAsLong (start_of script tables old) moments old new
   pub out : IsTrue out_tells → said' ≡ said ++ out_text moments
   pub trace : IsTrue trace_tells → taken' ≡ taken ++ trace_text moments
 

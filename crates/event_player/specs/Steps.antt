@@ -27,6 +27,7 @@ use Rattle.driver_trace.specs.Calls.{IsReadOf}
 use Rattle.driver_trace.specs.Runs.{IsDraining}
 use Rattle.driver_runs.specs.Runs.{IsKept}
 use Rattle.driver_reach.specs.Reach.{AskBelow, TablesBelow, IsWithinReach}
+use Rattle.driver_reach.specs.Lengths.{AreAsLong}
 use Rattle.driver_drains.specs.Drains.{AreAsked}
 use Rattle.driver_counts.specs.Counts.{IsWithin, in_use}
 use Rattle.driver_answers.specs.Ids.{AreOf}
@@ -137,6 +138,7 @@ pub record HasDrained (script : Script) (tables : ℕ → Option Table) (first h
   pub inputs : played moments ≡ inputs_before [] done
   pub asked : AreAsked (start_of script tables first).there moments
   pub reach : (ends : ℕ → ℕ) → AskBelow ends (drives_of script) (played moments) → TablesBelow ends (drives_of script) tables → IsWithinReach ends first held w
+  pub long : AreAsLong (start_of script tables first) moments first held
 
 -- Where few enough events are left, the drain goes on to its end.
 pub record EndsDraining (script : Script) (tables : ℕ → Option Table) (first : ℕ → Pack) (done : List Line) (moments : List Moment) (line : ℕ) (old new : Stage) : Type 0 where

@@ -19,6 +19,7 @@ use Rattle.driver_work.specs.Runs.{Run, MaySubmit}
 use Rattle.driver_outcome.specs.Outcome.{IsFront, IsNextBlock}
 use Rattle.driver_outcome.specs.Packs.{ReadAll, packs_after_all}
 use Rattle.driver_runs.specs.Runs.{AreDeclared}
+use Rattle.driver_reach.specs.Lengths.{AreAsLong}
 use Rattle.driver_trace.specs.Noises.{AllFlip}
 use Rattle.driver_trace.specs.Within.{ShowsAll}
 use Rattle.answer_lines.specs.AnswerText.{out_text}
@@ -52,9 +53,10 @@ pub record SaysOneSector (moments : List Moment) : Type 0 where
   pub few : lines_told moments ≤ 1
   pub silent : answers_in moments ≡ []
 
--- THE PACKS are as the replay has them behind some moments.
-abbrev pub AreBehind : Script → (ℕ → Option Table) → (first left : ℕ → Pack) → List Moment → Type 0
-AreBehind script tables first left moments = AreLeft (drives_of script) first left (after_moments (start_of script tables first) moments).surface
+-- THE PACKS are as the replay has them behind some moments, and each image is as long as the blocks that these wrote make it.
+pub record AreBehind (script : Script) (tables : ℕ → Option Table) (first left : ℕ → Pack) (moments : List Moment) : Type 0 where
+  pub surface : AreLeft (drives_of script) first left (after_moments (start_of script tables first) moments).surface
+  pub long : AreAsLong (start_of script tables first) moments first left
 
 -- HOW FAR IT CAME: what was done to its end, and the one event under way as far as it came, of one line of the script at most. The moments
 -- follow from the start, and play the first inputs of the script.

@@ -26,7 +26,7 @@ use Rattle.request_slots.specs.declared.asked.Asked.{Asked}
 use Rattle.request_slots.specs.Requests.{asked_of}
 use Rattle.hp_core.specs.State.{State, site}
 use Rattle.outside_traits.specs.Causes.{HasCause, Rose}
-use Rattle.hp_core.specs.Done.{Tells, StepsSector, TriesSector, HasCauses, state_for, request_in_hand}
+use Rattle.hp_core.specs.Done.{Tells, TriesSector, HasCauses}
 use Rattle.hp_core.proofs.Telling.{outcome_of}
 use Rattle.hp_core.proofs.Scenes.{same_slot}
 
@@ -41,25 +41,25 @@ not_both d v e = by (has_bytes v) (is_writing d.work) e
         no_true f = cc
     by false w f = refl
 
--- a sector that was tried, from what its parts left
-pub stepped_by : {E : Type 0} (w now : World) (u : ℕ) (told : Bool) (held held' : ℕ → Pack) (result : Result Moved E)
-    → IfOk result (λ v. MovesSector u (next_block (state_for w u)) (unit_at w u).drive (size_at (request_in_hand w u).loan (next_window (state_for w u))) told
-    (record { book = w.book; held = held; window = block_in (request_in_hand w u) (next_window (state_for w u)) })
-    (record { book = now.book; held = held'; window = block_in (held_in now (slot_in_hand (unit_at w u))) (next_window (state_for w u)) }) v)
-    → IfOk result (λ v. now.units ≡ slice_set w.units u (with_drive (drive_stepped v (state_for w u)) (unit_at w u)))
-    → IfOk result (λ v. now.adapters ≡ slice_set w.adapters (adapter_of u) (with_state (stepped v) (adapter_at w (adapter_of u))))
-    → IfOk result (λ v. now.slots ≡ (if was_read (unit_at w u).drive v
-    then slice_set w.slots (slot_in_hand (unit_at w u)) (Some (with_block_in (next_window (state_for w u))
-    (block_in (held_in now (slot_in_hand (unit_at w u))) (next_window (state_for w u))) (request_in_hand w u)))
-    else w.slots))
-    → length (block_in (held_in now (slot_in_hand (unit_at w u))) (next_window (state_for w u))) ≡ size_at (request_in_hand w u).loan (next_window (state_for w u))
-    → now.frames ≡ w.frames → now.answers ≡ w.answers → IfOk result (λ v. StepsSector w now u told held held' v)
-stepped_by w now u told held held' (Ok v) moves units adapters slots size frames answers =
-    record { moves = moves; units = units; adapters = adapters; slots = slots; size = size; frames = frames; answers = answers }
-stepped_by w now u told held held' (Err e) moves units adapters slots size frames answers = tt
+-- a sector was tried, and this is what the driver and the packs are then
+pub record Stepped (w now : World) (u : ℕ) (told : Bool) (held held' : ℕ → Pack) (v : Moved) : Type 0 where
+  pub moves : MovesSector u (next_block (adapter_at w (adapter_of u)).state) (unit_at w u).drive
+      (size_at (held_in w (slot_in_hand (unit_at w u))).loan (next_window (adapter_at w (adapter_of u)).state)) told
+      (record { book = w.book; held = held; window = block_in (held_in w (slot_in_hand (unit_at w u))) (next_window (adapter_at w (adapter_of u)).state) })
+      (record { book = now.book; held = held'; window = block_in (held_in now (slot_in_hand (unit_at w u))) (next_window (adapter_at w (adapter_of u)).state) }) v
+  pub units : now.units ≡ slice_set w.units u (with_drive (drive_stepped v (adapter_at w (adapter_of u)).state) (unit_at w u))
+  pub adapters : now.adapters ≡ slice_set w.adapters (adapter_of u) (with_state (stepped v) (adapter_at w (adapter_of u)))
+  pub slots : now.slots ≡ (if was_read (unit_at w u).drive v
+      then slice_set w.slots (slot_in_hand (unit_at w u)) (Some (with_block_in (next_window (adapter_at w (adapter_of u)).state)
+      (block_in (held_in now (slot_in_hand (unit_at w u))) (next_window (adapter_at w (adapter_of u)).state)) (held_in w (slot_in_hand (unit_at w u)))))
+      else w.slots)
+  pub size : length (block_in (held_in now (slot_in_hand (unit_at w u))) (next_window (adapter_at w (adapter_of u)).state))
+      ≡ size_at (held_in w (slot_in_hand (unit_at w u))).loan (next_window (adapter_at w (adapter_of u)).state)
+  pub frames : now.frames ≡ w.frames
+  pub answers : now.answers ≡ w.answers
 
 module _ (w now : World) (line u id : ℕ) (told : Bool) (held held' : ℕ → Pack) (v : Moved) (i : InHand w u id)
-    (b : IsBusyFor (adapter_at w (adapter_of u)).state (drive_of u) false) (s : StepsSector w now u told held held' v) where
+    (b : IsBusyFor (adapter_at w (adapter_of u)).state (drive_of u) false) (s : Stepped w now u told held held' v) where
   abbrev pub tried : Tried
   tried = record { marked = s.moves.marked; verdict = v; bytes = block_in (held_in now (slot_in_hand (unit_at w u))) (next_window (adapter_at w (adapter_of u)).state) }
 
@@ -167,7 +167,7 @@ sector_stopped holds held packs_faults tells taken faults packs packs' trace old
 pub sector_told : {O Q : Type 0} (holds : Q → Bool) (held : Q → ℕ → Pack) (packs_faults : Q → ℕ) (tells : O → Bool) (taken : O → List ℕ) (faults : O → ℕ) (packs packs' : Q) (trace trace' : O) (old mid new : State)
     (result : Result (Unit {0}) Stop) (line u id named block : ℕ) (v : Moved) → InHand old.world u id → named ≡ id
     → IsBusyFor (adapter_at old.world (adapter_of u)).state (drive_of u) false → block ≡ next_block (adapter_at old.world (adapter_of u)).state
-    → StepsSector old.world mid.world u (holds packs') (held packs) (held packs') v → mid.kept ≡ old.kept
+    → Stepped old.world mid.world u (holds packs') (held packs) (held packs') v → mid.kept ≡ old.kept
     → Tells tells taken faults trace trace' mid new result (moment_text (moments.Told line u named (moments.Sector block v)))
     → (IsTrue (holds packs') → IsTrue (holds packs)) → packs_faults packs ≤ packs_faults packs'
     → TriesSector holds held packs_faults tells taken faults packs packs' trace trace' old new result line u id

@@ -1,15 +1,11 @@
 -- What the method of an act does.
-use Rattle.std.specs.Prelude.{◌≡◌, ℕ, ◌≤◌, Bool, List, [], ◌∷◌, length, slice_set, if◌then◌else◌, Result, Option, Some, IsTrue, IfOk, IfErr}
+use Rattle.std.specs.Prelude.{◌≡◌, ℕ, ◌<◌, ◌≤◌, Bool, List, [], ◌∷◌, length, Result, Option, Some, IsTrue, IfOk, IfErr}
 use Rattle.pack_model.specs.Pack.{Pack}
 use Rattle.outside_traits.specs.Causes.{HasCause, Rose}
-use Rattle.main_memory.specs.Blocks.{size_at}
-use Rattle.hardware_table.specs.declared.Moved.{Moved}
-use Rattle.hardware_table.specs.Adapter.{AdapterState, next_block, next_window, stepped, drive_stepped}
-use Rattle.hardware_table.specs.Moves.{was_read}
-use Rattle.drive_model.specs.Move.{MovesSector}
+use Rattle.hardware_table.specs.Adapter.{next_block}
 use Rattle.mass_gather.specs.Gathers.{Gathers}
-use Rattle.driver_machine.specs.World.{World, Held, unit_at, adapter_at, adapter_of, held_in, slot_in_hand, block_in, with_block_in}
-use Rattle.driver_machine.specs.Acts.{Act, Of, Sector, Tried, after, with_drive, with_state}
+use Rattle.driver_machine.specs.World.{World, adapter_at, adapter_of}
+use Rattle.driver_machine.specs.Acts.{Act, Of, Sector, Tried, after}
 use Rattle.driver_outcome.specs.Outcome.{Does, Outcome, StopsBefore, stop_in}
 use Rattle.driver_outcome.specs.declared.Stop.{Stop}
 use Rattle.driver_outcome.specs.declared.Stop.TheVariants.{Store, Sink}
@@ -44,28 +40,11 @@ pub record HasCauses (packs packs' trace trace' : ℕ) (stop : Option Stop) : Ty
   pub store : stop ≡ Some Store → Rose packs packs'
   pub sink : stop ≡ Some Sink → Rose trace trace'
 
--- the adapter of a unit, and the request in its hand
-abbrev pub state_for : World → ℕ → AdapterState
-state_for w u = (adapter_at w (adapter_of u)).state
-
-abbrev pub request_in_hand : World → ℕ → Held
-request_in_hand w u = held_in w (slot_in_hand (unit_at w u))
-
--- A SECTOR WAS TRIED, with this verdict, between the packs and the next block of the request in hand: this is what the driver is then.
-pub record StepsSector (w now : World) (u : ℕ) (told : Bool) (held held' : ℕ → Pack) (v : Moved) : Type 0 where
-  pub moves : MovesSector u (next_block (state_for w u)) (unit_at w u).drive (size_at (request_in_hand w u).loan (next_window (state_for w u))) told
-      (record { book = w.book; held = held; window = block_in (request_in_hand w u) (next_window (state_for w u)) })
-      (record { book = now.book; held = held'; window = block_in (held_in now (slot_in_hand (unit_at w u))) (next_window (state_for w u)) }) v
-  pub units : now.units ≡ slice_set w.units u (with_drive (drive_stepped v (state_for w u)) (unit_at w u))
-  pub adapters : now.adapters ≡ slice_set w.adapters (adapter_of u) (with_state (stepped v) (adapter_at w (adapter_of u)))
-  -- no other block of a slot changes
-  pub slots : now.slots ≡ (if was_read (unit_at w u).drive v
-      then slice_set w.slots (slot_in_hand (unit_at w u)) (Some (with_block_in (next_window (state_for w u))
-      (block_in (held_in now (slot_in_hand (unit_at w u))) (next_window (state_for w u))) (request_in_hand w u)))
-      else w.slots)
-  pub size : length (block_in (held_in now (slot_in_hand (unit_at w u))) (next_window (state_for w u))) ≡ size_at (request_in_hand w u).loan (next_window (state_for w u))
-  pub frames : now.frames ≡ w.frames
-  pub answers : now.answers ≡ w.answers
+-- a unit is there, and its adapter
+pub record HasUnit (w : World) (u : ℕ) : Type 0 where
+  pub small : u < 32
+  pub unit : u < length w.units
+  pub adapter : adapter_of u < length w.adapters
 
 -- THE NEXT SECTOR of the transfer under way at a unit IS TRIED, and its line told: for some sector the call comes to what trying
 -- it comes to. Each failure has its cause, and where the packs failed nothing was done, and no more text is kept.

@@ -1,13 +1,16 @@
 // One sector of a transfer.
-ghost use Rattle.std.specs.Prelude.{◌≡◌, ◌<◌, ◌^◌, false, IfOk, OnErr, length};
-ghost use Rattle.hardware_table.specs.Adapter.{next_block};
-ghost use Rattle.drive_model.specs.Move.{FailsAtPacks};
+ghost use Rattle.std.specs.Prelude.{◌≡◌, ◌<◌, ◌^◌, false, IfOk, OnErr, Some, length, slice_set, if◌then◌else◌};
+ghost use Rattle.main_memory.specs.Blocks.{size_at};
+ghost use Rattle.hardware_table.specs.Moves.{was_read};
+ghost use Rattle.hardware_table.specs.Adapter.{next_block, next_window, stepped, drive_stepped};
+ghost use Rattle.drive_model.specs.Move.{MovesSector, FailsAtPacks};
 ghost use Rattle.transfer_engine.specs.State.{segment_of};
-ghost use Rattle.driver_machine.specs.World.{unit_at, adapter_at, held_in, slot_in_hand, adapter_of, drive_of, transfer_of};
+ghost use Rattle.driver_machine.specs.World.{unit_at, adapter_at, held_in, slot_in_hand, adapter_of, drive_of, transfer_of, block_in, with_block_in};
+ghost use Rattle.driver_machine.specs.Acts.{with_drive, with_state};
 ghost use Rattle.driver_machine.specs.Guards.{InHand, IsBusyFor};
 ghost use Rattle.driver_machine.specs.Sound.{Sound};
 ghost use Rattle.request_slots.specs.Steps.{MayStep, step_site};
-ghost use Rattle.hp_core.specs.Done.{StepsSector, TriesSector};
+ghost use Rattle.hp_core.specs.Done.{HasUnit, TriesSector};
 
 use crate::driver::Core;
 use driver_outcome::Stop;
@@ -22,15 +25,26 @@ impl Core {
         slot: u32,
         packs: &mut P,
     ) -> Result<Moved, StoreFailed>
-        requires small { u < 32 }
-        requires unit { u < length self.old.world.units }
-        requires adapter { adapter_of u < length self.old.world.adapters }
+        requires there { HasUnit self.old.world u }
         requires slot { slot ≡ slot_in_hand (unit_at self.old.world u) }
         requires may { MayStep self.old.world.slots slot (adapter_at self.old.world (adapter_of u)).state (unit_at self.old.world u).drive }
 
         // The verdict, and the bytes that moved.
-        ensures steps { IfOk result (λ v. StepsSector self.old.world self.new.world u (P.tells packs.new) (P.held packs.old) (P.held packs.new) v) }
-        ensures kept { self.new.kept ≡ self.old.kept }
+        ensures moves { let a = (adapter_at self.old.world (adapter_of u)).state in let p = slot_in_hand (unit_at self.old.world u) in
+            IfOk result (λ v. MovesSector u (next_block a) (unit_at self.old.world u).drive (size_at (held_in self.old.world p).loan (next_window a)) (P.tells packs.new)
+            (step_site self.old.world.book (P.held packs.old) self.old.world.slots p a)
+            (step_site self.new.world.book (P.held packs.new) self.new.world.slots p a) v) }
+        ensures units { IfOk result (λ v. self.new.world.units ≡ slice_set self.old.world.units u
+            (with_drive (drive_stepped v (adapter_at self.old.world (adapter_of u)).state) (unit_at self.old.world u))) }
+        ensures adapters { IfOk result (λ v. self.new.world.adapters ≡ slice_set self.old.world.adapters (adapter_of u)
+            (with_state (stepped v) (adapter_at self.old.world (adapter_of u)))) }
+        ensures slots { let k = next_window (adapter_at self.old.world (adapter_of u)).state in let p = slot_in_hand (unit_at self.old.world u) in
+            IfOk result (λ v. self.new.world.slots ≡ (if was_read (unit_at self.old.world u).drive v
+            then slice_set self.old.world.slots p (Some (with_block_in k (block_in (held_in self.new.world p) k) (held_in self.old.world p)))
+            else self.old.world.slots)) }
+        ensures size { let k = next_window (adapter_at self.old.world (adapter_of u)).state in let p = slot_in_hand (unit_at self.old.world u) in
+            length (block_in (held_in self.new.world p) k) ≡ size_at (held_in self.old.world p).loan k }
+        ensures others { (self.new.world.frames ≡ self.old.world.frames) × (self.new.world.answers ≡ self.old.world.answers) × (self.new.kept ≡ self.old.kept) }
 
         // A failure.
         ensures unchanged { OnErr result (self.new ≡ self.old) }

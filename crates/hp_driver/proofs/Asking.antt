@@ -14,6 +14,7 @@ use Rattle.driver_work.specs.Runs.{MaySubmit}
 use Rattle.driver_work.proofs.Calls.{submit_works}
 use Rattle.driver_invariant.proofs.Sound.{sound_after}
 use Rattle.driver_outcome.specs.declared.Stop.{Stop}
+use Rattle.driver_outcome.specs.Outcome.{stop_in}
 use Rattle.request_slots.specs.declared.asked.Asked.{Asked}
 use Rattle.request_slots.specs.Requests as slots
 use Rattle.hp_core.specs.State.{State}
@@ -22,7 +23,8 @@ use Rattle.subsystem_spec.specs.declared.request.Request.{Request}
 use Rattle.hp_driver.specs.Subsystem as subsystem
 use Rattle.hp_driver.specs.Subsystem.{seen, asked, Submits, IsAsked}
 use Rattle.hp_driver.specs.Calls.{Stands, SendsActs, Asks, MayAsk, asked_at}
-use Rattle.hp_driver.proofs.Calls.{left_by, ran_sent, works_sent}
+use Rattle.hp_driver.proofs.Calls.{left_by, ran_sent, works_sent, no_store}
+use Rattle.hp_driver.proofs.Bytes.{submit_keeps}
 
 -- WHAT MAY BE ASKED
 size_by : (write : Bool) (size : ℕ) (bytes : List ℕ)
@@ -79,8 +81,10 @@ module _ {O : Type 0} (tells : O → Bool) (taken : O → List ℕ) (faults : O 
   asks_by p h acts may held same sends =
       let is : SendsActs tells taken faults trace trace' old new result (submit_acts r line p h old.world) =
       subst (λ (l : List Act). SendsActs tells taken faults trace trace' old new result l) (sym same) sends in
+      let does : Submits tells taken trace trace' line r old.world new.world (stop_in result) = record { slot = p; held = h; may = may; is = held; outcome = is.outcome } in
       record {
-        does = record { slot = p; held = h; may = may; is = held; outcome = is.outcome };
+        does = does;
+        bytes = submit_keeps tells taken trace trace' line r old.world new.world stands.sound (stop_in result) (no_store result is.stop) does;
         leaves = left_by old new result stands (ran_sent tells taken faults trace trace' old new result (submit_acts r line p h old.world) is)
             (works_sent tells taken faults trace trace' old new result (submit_acts r line p h old.world)
             (submit_works sound_after r line p h old.world stands.sound stands.work may).work is) is.sent;

@@ -21,9 +21,10 @@ use Rattle.driver_trace.specs.Calls.{IsReadOf}
 use Rattle.hp_core.specs.State.{State, site}
 use Rattle.hp_core.specs.Done.{Tells, DoesSilently, HasCauses}
 use Rattle.hp_events.specs.Done.{DoesActs}
-use Rattle.hp_driver.specs.Subsystem.{seen}
+use Rattle.hp_driver.specs.Subsystem.{seen, Comes}
 use Rattle.hp_driver.specs.Calls.{Ran, Stands, Leaves, SendsActs, Happens}
 use Rattle.hp_driver.proofs.Sent.{sent_all, sent_front, front_taken}
+use Rattle.hp_driver.proofs.Bytes.{event_keeps}
 use Rattle.hp_driver.proofs.Behind.{ran_by, ran_sound, ran_noise, ran_slots}
 
 -- CAUSES, one call behind the other
@@ -146,15 +147,17 @@ pub event_sent : {O Q : Type 0} (holds : Q → Bool) (held : Q → ℕ → Pack)
     → Happens holds held packs_faults tells taken faults packs packs trace trace' old new result line input
 event_sent holds held packs_faults tells taken faults packs trace trace' old new result line input tried stands may reads is =
     let works : Works old.world (event_acts line input tried old.world) = event_works sound_after line input tried old.world stands.sound stands.work may in
+    let comes : Comes holds held tells taken packs packs trace trace' line input old.world new.world (stop_in result) = record {
+      tried = tried;
+      may = λ e. may;
+      reads = λ e t. reads;
+      outcome = is.outcome (holds packs) (held packs);
+      moves = λ e. absurd (no_store result is.stop e);
+      before = λ e. absurd (no_store result is.stop e);
+    } in
     record {
-      comes = record {
-        tried = tried;
-        may = λ e. may;
-        reads = λ e t. reads;
-        outcome = is.outcome (holds packs) (held packs);
-        moves = λ e. absurd (no_store result is.stop e);
-        before = λ e. absurd (no_store result is.stop e);
-      };
+      comes = comes;
+      bytes = event_keeps holds held tells taken packs packs trace trace' line input old.world new.world stands.sound (stop_in result) comes;
       leaves = left_by old new result stands (ran_sent tells taken faults trace trace' old new result (event_acts line input tried old.world) is)
           (works_sent tells taken faults trace trace' old new result (event_acts line input tried old.world) works.work is) is.sent;
       still = λ e. refl;

@@ -7,3 +7,4 @@ mod Moved
 mod Happens
 mod Asking
 mod Kept
+mod Bytes

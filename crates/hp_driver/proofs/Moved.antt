@@ -17,9 +17,10 @@ use Rattle.driver_outcome.specs.declared.Stop.TheVariants.{Store, Sink}
 use Rattle.hp_core.specs.State.{State}
 use Rattle.hp_core.specs.Done.{Tells, HasCauses}
 use Rattle.hp_events.specs.Moves.{DoesMove}
-use Rattle.hp_driver.specs.Subsystem.{seen}
+use Rattle.hp_driver.specs.Subsystem.{seen, Comes}
 use Rattle.hp_driver.specs.Calls.{Stands, Happens}
 use Rattle.hp_driver.proofs.Sent.{front_taken, packs_stopped, before_stopped}
+use Rattle.hp_driver.proofs.Bytes.{event_keeps}
 use Rattle.hp_driver.proofs.Behind.{ran_by}
 use Rattle.hp_driver.proofs.Moves.{tried_by_rules, read_from}
 use Rattle.hp_driver.proofs.Calls.{outcome_sent, ok_empty, left_by, most, rose_later, no_store}
@@ -51,15 +52,17 @@ module _ {O Q : Type 0} (holds : Q → Bool) (held : Q → ℕ → Pack) (packs_
       let may : MayCome old.world (MoveAt a) is.tried = λ can. tried_by_rules old.world line a is.tried stands.sound can is.outcome.does.run in
       let outcome : Outcome (record { packs = holds packs'; trace = tells trace' }) (move_acts line a is.tried old.world) (seen old.world (held packs) (taken trace)) (seen new.world (held packs') (taken trace')) (stop_in result) =
       outcome_sent tells taken faults (move_acts line a is.tried old.world) old stands.sent trace mid_trace trace' mid new result (holds packs') (held packs) (held packs') is.outcome sends empty in
+      let comes : Comes holds held tells taken packs packs' trace trace' line (MoveAt a) old.world new.world (stop_in result) = record {
+        tried = is.tried;
+        may = λ e. may;
+        reads = λ e t can. read_from old.world line a is.tried stands.sound can (held packs) stands.noise (is.outcome.does.reads t);
+        outcome = outcome;
+        moves = λ e. refl;
+        before = λ e. absurd (no_store result sends.stop e);
+      } in
       record {
-        comes = record {
-          tried = is.tried;
-          may = λ e. may;
-          reads = λ e t can. read_from old.world line a is.tried stands.sound can (held packs) stands.noise (is.outcome.does.reads t);
-          outcome = outcome;
-          moves = λ e. refl;
-          before = λ e. absurd (no_store result sends.stop e);
-        };
+        comes = comes;
+        bytes = event_keeps holds held tells taken packs packs' trace trace' line (MoveAt a) old.world new.world stands.sound (stop_in result) comes;
         leaves = left_by old new result stands (ran_by _ (move_acts line a is.tried old.world) _ _ (stop_in result) outcome)
             (at_work trace trace' new result is.tried may outcome)
             (ok_empty tells taken faults (move_acts line a is.tried old.world) old stands.sent new result empty);
@@ -75,15 +78,17 @@ module _ {O Q : Type 0} (holds : Q → Bool) (held : Q → ℕ → Pack) (packs_
   stopped_at trace trace' new stop is =
       let outcome : Outcome (record { packs = holds packs'; trace = tells trace' }) (move_acts line a is.tried old.world) (seen old.world (held packs) (taken trace)) (seen new.world (held packs') (taken trace')) (Some stop) =
       by_stop stop is.outcome is.kept in
+      let comes : Comes holds held tells taken packs packs' trace trace' line (MoveAt a) old.world new.world (Some stop) = record {
+        tried = is.tried;
+        may = λ e. absurd (cc);
+        reads = λ e. absurd (cc);
+        outcome = outcome;
+        moves = λ e. refl;
+        before = λ e. before_stopped (holds packs') (move_acts line a is.tried old.world) old.world new.world (held packs) (held packs') (taken trace) (taken trace') old.kept new.kept stands.sent (tells trace') (is.kept e) (is.before e);
+      } in
       record {
-        comes = record {
-          tried = is.tried;
-          may = λ e. absurd (cc);
-          reads = λ e. absurd (cc);
-          outcome = outcome;
-          moves = λ e. refl;
-          before = λ e. before_stopped (holds packs') (move_acts line a is.tried old.world) old.world new.world (held packs) (held packs') (taken trace) (taken trace') old.kept new.kept stands.sent (tells trace') (is.kept e) (is.before e);
-        };
+        comes = comes;
+        bytes = event_keeps holds held tells taken packs packs' trace trace' line (MoveAt a) old.world new.world stands.sound (Some stop) comes;
         leaves = left_by old new (Err stop) stands (ran_by _ (move_acts line a is.tried old.world) _ _ (Some stop) outcome) tt tt;
         still = λ e. absurd (cc);
         never_again_packs = is.never_again_packs;

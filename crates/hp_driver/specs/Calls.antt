@@ -20,6 +20,7 @@ use Rattle.hp_core.specs.State.{State}
 use Rattle.hp_core.specs.Done.{HasCauses}
 use Rattle.subsystem_spec.specs.declared.request.Request.{Request}
 use Rattle.hp_driver.specs.Subsystem.{seen, asked, is_move, Submits, Comes}
+use Rattle.hp_driver.specs.Bytes.{KeepsMaps, KeepsMapsIn}
 
 -- some acts ran, and left this world
 pub record Ran (w now : World) : Type 0 where
@@ -54,6 +55,7 @@ pub record SendsActs {O : Type 0} (tells : O → Bool) (taken : O → List ℕ) 
 -- A SUBMISSION
 pub record Asks {O : Type 0} (tells : O → Bool) (taken : O → List ℕ) (faults : O → ℕ) (trace trace' : O) (old new : State) (result : Result (Unit {0}) Stop) (line : ℕ) (r : told.Request) : Type 0 where
   pub does : Submits tells taken trace trace' line r old.world new.world (stop_in result)
+  pub bytes : KeepsMaps old.world new.world
   pub leaves : Leaves old new result
   pub stop : IfErr result (λ stop. stop ≡ Sink)
   pub never_again : IsTrue (tells trace') → IsTrue (tells trace)
@@ -84,6 +86,7 @@ pub record MayAsk (w : World) (r : Request) (bytes : List ℕ) : Type 0 where
 -- AN EVENT
 pub record Happens {O Q : Type 0} (holds : Q → Bool) (held : Q → ℕ → Pack) (packs_faults : Q → ℕ) (tells : O → Bool) (taken : O → List ℕ) (faults : O → ℕ) (packs packs' : Q) (trace trace' : O) (old new : State) (result : Result (Unit {0}) Stop) (line : ℕ) (input : Input) : Type 0 where
   pub comes : Comes holds held tells taken packs packs' trace trace' line input old.world new.world (stop_in result)
+  pub bytes : KeepsMapsIn (holds packs') (held packs) (held packs') input old.world new.world (stop_in result)
   pub leaves : Leaves old new result
   pub still : is_move input ≡ false → packs' ≡ packs
   pub never_again_packs : IsTrue (holds packs') → IsTrue (holds packs)

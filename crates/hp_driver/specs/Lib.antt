@@ -1,2 +1,3 @@
 pub mod Subsystem
 pub mod Calls
+pub mod Bytes

@@ -5,7 +5,8 @@
 //! for them (`Submits`, `Comes`), with what the packs hold; `next_event` is the drain's order, None exactly where no request is
 //! outstanding; `answer`, `take_answer` and `answer_block` show and take the oldest answer, and `answer_fill` gives a byte only
 //! where a block of it is that byte all through. The driver invariant is that of its model, so their conditions are only that
-//! no call has failed, that no answer waits, and that what is asked for is there. No call but `new` takes memory.
+//! no call has failed, that no answer waits, and that what is asked for is there. Each call keeps the map of blocks that the driver
+//! stands for with its packs, whatever led to it (`KeepsMaps`, `KeepsMapsIn`, `HoldsMaps`). No call but `new` takes memory.
 //!
 //! Only tested, in `drive_rows`: worked values, beside their proofs.
 #![tactic(auto)]

@@ -16,6 +16,7 @@ ghost use Rattle.driver_outcome.specs.Outcome.{stop_in};
 ghost use Rattle.hp_core.specs.Setups.{setups_of};
 ghost use Rattle.trace_bounds.specs.Commands.{CommandsAreBounded};
 ghost use Rattle.hp_events.specs.Inputs.{input_of};
+ghost use Rattle.hp_driver.specs.Bytes.{HoldsMaps, KeepsMaps, KeepsMapsIn};
 ghost use Rattle.hp_driver.specs.Subsystem.{asked, IsAsked, Submits, IsThere, is_move, Comes, LeavesFewer, IsOldest, Reads, sink_in};
 
 use crate::{events, submission};
@@ -73,12 +74,16 @@ impl Subsystem {
     }
 
     /// The law of the subsystem: between any two calls its world is sound, noise that is live flips places of a sector, and no unit
-    /// with a request stands still.
+    /// with a request stands still. With nothing outstanding it stands for what its packs hold, and a read that is answered gives the
+    /// blocks of each map that it stands for. No request has more commands than 300 for each of its blocks.
     pub fn law(&self)
         ensures sound { Sound self.now.world }
         ensures noise { AllFlip self.now.world.book.live }
         ensures work { self.now.failed ≡ false → AtWork self.now.world }
+        ensures bytes { HoldsMaps self.now.world }
+        ensures commands { CommandsAreBounded }
     {
+        commands_law();
         let _ = &self.core;
     }
 
@@ -109,6 +114,7 @@ impl Subsystem {
         ensures outstanding { self.new.outstanding ≡ self.old.outstanding }
         ensures never_again { IsTrue (T.tells trace.new) → IsTrue (T.tells trace.old) }
         ensures cause { HasCause (T.faults trace.old) (T.faults trace.new) result }
+        ensures bytes { KeepsMaps self.old.world self.new.world }
     {
         match submission::submit(&mut self.core, line, request, bytes, trace) {
             Ok(()) => Ok(()),
@@ -143,9 +149,8 @@ impl Subsystem {
         ensures later_trace { T.faults trace.old ≤ T.faults trace.new }
         ensures store { IsErrOf result Store → Rose (P.faults packs.old) (P.faults packs.new) }
         ensures sink { IsErrOf result SinkStop → Rose (T.faults trace.old) (T.faults trace.new) }
-        ensures commands { CommandsAreBounded }
+        ensures bytes { KeepsMapsIn (P.tells packs.new) (P.held packs.old) (P.held packs.new) (input_of event) self.old.world self.new.world (stop_in result) }
     {
-        commands_law();
         match events::happen(&mut self.core, line, event, packs, trace) {
             Ok(()) => Ok(()),
             Err(stop) => {

@@ -7,11 +7,10 @@ use Rattle.pack_model.specs.Pack.{Pack}
 use Rattle.pack_model.specs.PackTable.{AreTablesOf}
 use Rattle.pack_model.specs.TableSpelling.{Table}
 use Rattle.subsystem_spec.specs.Requests.{Request, Answer, IsRequest}
-use Rattle.trace_replay.specs.Script.{Script, Input, Submit, ArriveAt, MoveAt, AttendTo, Drain, Turn, Noise, Arm, SetOnline, SetLocked, Statement, Declares, Plays, Line, Numbered, with_input, inputs_before, inputs_of, drives_of, IsThere, IsInput, IsStatement, IsScript, AreApart}
+use Rattle.trace_replay.specs.Script.{Script, Input, Submit, ArriveAt, MoveAt, AttendTo, Drain, Turn, Noise, Arm, SetOnline, SetLocked, Statement, Declares, Plays, Line, Numbered, with_input, inputs_before, drives_of, IsThere, IsInput, IsStatement, IsScript, AreApart}
 use Rattle.trace_replay.specs.Moments.{Moment, Played, Told, Idle, End, played}
 use Rattle.trace_replay.specs.Packs.{surface_of}
 use Rattle.trace_replay.specs.Replay.{Follows, after_moments}
-use Rattle.trace_replay.specs.History.{is_refusal}
 use Rattle.trace_replay.specs.Causes.{AsksSome, AskSome}
 use Rattle.trace_replay.specs.Runs.{start_of}
 use Rattle.trace_replay.proofs.Following.{follow_on}
@@ -153,17 +152,17 @@ module _ (keep : BeginningsKeep) (fronts : FrontsKeep) (script : Script) (good :
   hold_done : AreBehind script tables first left done → PromisesSoFar script tables first left done
   hold_done behind =
       subst (PromisesSoFar script tables first left) (append-nil done)
-      (fronts script tables first left done [] under begun tt behind)
+      (fronts script tables first left done [] under begun tt behind.surface)
 
   hold_each : AreNoSectors under → AreBehind script tables first left done → (front rest : List Moment) → under ≡ front ++ rest → PromisesSoFar script tables first left (done ++ front)
   hold_each none behind front rest cut =
       fronts script tables first left done front rest (subst (λ (ms : List Moment). IsBegun script tables first (done ++ ms)) cut begun)
-      (none_front front rest (subst AreNoSectors cut none)) behind
+      (none_front front rest (subst AreNoSectors cut none)) behind.surface
 
   hold_so_far : (AreNoSectors under × AreBehind script tables first left done) ⊎ (SaysOneSector under × AreBehind script tables first left (done ++ under))
       → HoldSoFar script tables first left done under
   hold_so_far (inl still) = inl (hold_each still.0 still.1)
-  hold_so_far (inr moved) = inr (moved.0, keep script tables first left (done ++ under) begun moved.1)
+  hold_so_far (inr moved) = inr (moved.0, keep script tables first left (done ++ under) begun moved.1.surface)
 
 hold_taken : (script : Script) (tables : ℕ → Option Table) (first left : ℕ → Pack) (said said' : List ℕ) (done under : List Moment) → HoldSoFar script tables first left done under
     → HoldTaken script tables first left said said' done under
@@ -195,7 +194,7 @@ left_keeps keep fronts next shows script good first left out_tells said said' tr
     by (inr block) =
         let has : HasNext (drives_of script) first left (after_moments (start_of script is.tables first) is.stopped.done) =
         shows (drives_of script) first is.stopped.held left (after_moments (start_of script is.tables first) is.stopped.done) is.stopped.world is.stopped.sound is.stopped.shows
-        is.stopped.declared is.stopped.behind block in
+        is.stopped.declared is.stopped.behind.surface block in
         next script is.tables first left is.stopped.done has.unit has.block has.kind begun_so has.declared has.next has.packs
 
 pub keeps : BeginningsKeep → FrontsKeep → NextBlocksKeep → NextBlocksShow → (fault : PlayFault) (script : Script) (first left : ℕ → Pack) (out_tells : Bool) (said said' : List ℕ) (trace_tells : Bool) (taken taken' : List ℕ)

@@ -2,3 +2,4 @@ mod Playing
 mod Naming
 mod Headers
 mod Others
+mod Strikes

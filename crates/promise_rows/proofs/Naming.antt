@@ -13,7 +13,7 @@ use Rattle.trace_replay.specs.Script as says
 use Rattle.trace_replay.specs.Script.{Input, Numbered, drives_of, inputs_of}
 use Rattle.trace_bounds.specs.Drains.{event_by}
 use Rattle.driver_reach.specs.Reach.{AsksBelow, AskBelow, TablesBelow}
-use Rattle.promise_rows.specs.Naming.{LaterUnitNamed, FittingLengthNamed, FirstEventUntold, OtherRunByOtherTables, NoneWrites, WritesTo, ReadsLengthen, TwoLinesUnderWay, MarkGoneBehindAFailure}
+use Rattle.promise_rows.specs.Naming.{LaterUnitNamed, FittingLengthNamed, FirstEventUntold, OtherRunByOtherTables, NoneWrites, WritesTo, ReadsLengthen, TwoLinesUnderWay, MarkGoneBehindAFailure, NotAsLongAsWritten}
 
 pub later_unit_named : LaterUnitNamed
 later_unit_named script packs unit n named other kind there more =
@@ -118,6 +118,9 @@ reads_lengthen script old new out_tells said said' trace_tells taken taken' play
 
     nothing : ends_at unit top unit ≡ 0
     nothing = ap (λ (t : Bool). if t then 0 else top) (eq-eqb unit unit refl)
+
+pub not_as_long_as_written : NotAsLongAsWritten
+not_as_long_as_written script old new out_tells said said' trace_tells taken taken' plays unit other = other (plays.long unit)
 
 pub two_lines_under_way : TwoLinesUnderWay
 two_lines_under_way script tables first left out_tells said said' trace_tells taken taken' stops two =

@@ -2,3 +2,4 @@ pub mod Playing
 pub mod Naming
 pub mod Headers
 pub mod Others
+pub mod Strikes

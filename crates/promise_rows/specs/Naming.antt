@@ -10,6 +10,7 @@ use Rattle.trace_replay.specs.Runs.{IsLegalRun, start_of}
 use Rattle.trace_replay.specs.Script.{Script, Input, Numbered, Submit, Drain, drives_in, drives_of, inputs_of}
 use Rattle.trace_bounds.specs.Drains.{event_by}
 use Rattle.run_promises.specs.Promises.{Promises}
+use Rattle.driver_reach.specs.Lengths.{length_behind}
 use Rattle.event_player.specs.declared.play.PlayFault.TheVariants as faults
 use Rattle.event_player.specs.Plays.{NamesTooLong, Plays}
 use Rattle.event_player.specs.Stops.{StopsAtSink, StopsPlaying}
@@ -48,6 +49,12 @@ NoneWrites unit (next ∷ inputs) = (¬ WritesTo unit next.input) × NoneWrites 
 abbrev pub ReadsLengthen : Type 0
 ReadsLengthen = (script : Script) (old new : ℕ → Pack) (out_tells : Bool) (said said' : List ℕ) (trace_tells : Bool) (taken taken' : List ℕ)
     → Plays script old new out_tells said said' trace_tells taken taken' → (unit : ℕ) → NoneWrites unit (inputs_of script) → ¬ ((new unit).image ≢ (old unit).image)
+
+-- AN IMAGE LONGER OR SHORTER than the blocks that the run wrote make it, be it by zeros at its end
+abbrev pub NotAsLongAsWritten : Type 0
+NotAsLongAsWritten = (script : Script) (old new : ℕ → Pack) (out_tells : Bool) (said said' : List ℕ) (trace_tells : Bool) (taken taken' : List ℕ)
+    → (plays : Plays script old new out_tells said said' trace_tells taken taken') → (unit : ℕ)
+    → ¬ (length (new unit).image ≢ length_behind (start_of script plays.tables old) plays.moments unit (length (old unit).image))
 
 -- TWO LINES OF THE SCRIPT UNDER WAY, where a sink failed
 abbrev pub TwoLinesUnderWay : Type 0

@@ -2,12 +2,14 @@
 #![tactic(auto)]
 
 ghost use Rattle.promise_rows.specs.Playing.{AlwaysAFault, AnswersKeptBack, BlockBeforeItsEvent, BlockBehindAStop, BlockOfNoUnit, NoiseLineUncounted, ShortLastBlockWhole};
-ghost use Rattle.promise_rows.specs.Naming.{LaterUnitNamed, FittingLengthNamed, FirstEventUntold, OtherRunByOtherTables, ReadsLengthen, TwoLinesUnderWay, MarkGoneBehindAFailure};
+ghost use Rattle.promise_rows.specs.Naming.{LaterUnitNamed, FittingLengthNamed, FirstEventUntold, OtherRunByOtherTables, ReadsLengthen, NotAsLongAsWritten, TwoLinesUnderWay, MarkGoneBehindAFailure};
+ghost use Rattle.promise_rows.specs.Strikes.{FailedByFewStrikes};
 ghost use Rattle.promise_rows.specs.Headers.{HeadersAreAsTheDriveHasThem};
 ghost use Rattle.promise_rows.specs.Others.{DoneWhereTheTextWasNotTaken, FaultThatPrints, HandedInPacksPlayed, PlayedAsRefusedByTheTool};
 
 /// Of `play`: no fault without its cause, no answer left out, no block that no request wrote, no line of noise that is not counted,
-/// and no short last block that is told as a whole one.
+/// no short last block that is told as a whole one, and no request that fails by tries where the script's faults and noise strike its unit
+/// too seldom.
 pub fn play_rows()
     ensures always_a_fault { AlwaysAFault }
     ensures answers_kept_back { AnswersKeptBack }
@@ -17,6 +19,7 @@ pub fn play_rows()
     ensures tally_without_noise_lines { NoiseLineUncounted }
     ensures short_last_block_whole { ShortLastBlockWhole }
     ensures refused_by_the_tool { PlayedAsRefusedByTheTool }
+    ensures failed_by_few_strikes { FailedByFewStrikes }
 {}
 
 /// Of the tool and of `exercise`: status 0 says that the text was taken whole, status 6 that nothing was, and an exercise prints its
@@ -28,7 +31,7 @@ pub fn other_rows()
 {}
 
 /// Of `play` too: the unit that is named as too long is the first one, with a length that does not fit; the first event of a drain is told;
-/// no other tables have another run; reads lengthen no image; one line of the script at most is under way at a stop; and the packs that
+/// no other tables have another run; reads lengthen no image, and writes do as far as they reach; one line of the script at most is under way at a stop; and the packs that
 /// are left by a failure have their marks.
 pub fn naming_rows()
     ensures later_unit_named { LaterUnitNamed }
@@ -36,6 +39,7 @@ pub fn naming_rows()
     ensures first_event_untold { FirstEventUntold }
     ensures other_run_by_other_tables { OtherRunByOtherTables }
     ensures reads_lengthen { ReadsLengthen }
+    ensures not_as_long_as_written { NotAsLongAsWritten }
     ensures two_lines_under_way { TwoLinesUnderWay }
     ensures mark_gone_behind_a_failure { MarkGoneBehindAFailure }
 {}

@@ -37,14 +37,14 @@ pub record Follows {A : Type 0} (p : Drive → A) (by : Deed → Bool → A → 
   pub counted : (d : Drive) → p (event_counted d) ≡ p d
   pub after : (event place : ℕ) (d : Deed) (drive : Drive) (r : Request) → p (drive_after event place d drive r) ≡ by d (not (is_refused place drive r)) (p drive)
 
-keeps_set : {A : Type 0} (p : Drive → A) (ds : List Drive) (v : ℕ) (d : Drive) (u : ℕ) → p d ≡ p (drive_at ds v) → p (drive_at (set ds v d) u) ≡ p (drive_at ds u)
+pub keeps_set : {A : Type 0} (p : Drive → A) (ds : List Drive) (v : ℕ) (d : Drive) (u : ℕ) → p d ≡ p (drive_at ds v) → p (drive_at (set ds v d) u) ≡ p (drive_at ds u)
 keeps_set p [] v d u e = refl
 keeps_set p (x ∷ ds) zero d zero e = e
 keeps_set p (x ∷ ds) zero d (suc u) e = refl
 keeps_set p (x ∷ ds) (suc v) d zero e = refl
 keeps_set p (x ∷ ds) (suc v) d (suc u) e = keeps_set p ds v d u e
 
-keeps_map : {A : Type 0} (p : Drive → A) (h : Drive → Drive) (ds : List Drive) (u : ℕ) → ((d : Drive) → p (h d) ≡ p d) → p (drive_at (map h ds) u) ≡ p (drive_at ds u)
+pub keeps_map : {A : Type 0} (p : Drive → A) (h : Drive → Drive) (ds : List Drive) (u : ℕ) → ((d : Drive) → p (h d) ≡ p d) → p (drive_at (map h ds) u) ≡ p (drive_at ds u)
 keeps_map p h [] u e = refl
 keeps_map p h (d ∷ ds) zero e = e d
 keeps_map p h (d ∷ ds) (suc u) e = keeps_map p h ds u e

@@ -1,6 +1,6 @@
 -- A request that nothing hinders is answered ok.
 use Rattle.std.proofs.Common.{◌≡◌, inl, inr, ◌⊎◌, ℕ, zero, suc, ◌<◌, ◌≤◌, ◌+◌, Bool, true, false, List, [], ◌∷◌, ◌++◌, append_assoc, length, Option, None, Some, refl, sym, ap, ◌∙◌, subst, arith}
-use Rattle.std.specs.Prelude.{IsSome, is_some}
+use Rattle.std.specs.Prelude.{IsSome, is_some, if◌then◌else◌}
 use Rattle.std.proofs.lemmas.Bool.{eq-eqb}
 use Rattle.std.proofs.lemmas.List.{append-nil, length-append}
 use Rattle.pack_geometry.specs.declared.DriveKind.{DriveKind}
@@ -15,6 +15,7 @@ use Rattle.trace_replay.specs.History.{lines_of, AreFailures}
 use Rattle.trace_replay.specs.Causes.{IsOk, AreAllTries}
 use Rattle.trace_replay.specs.Replay.{Refused, Joined, submission, after_moments}
 use Rattle.trace_replay.specs.Runs.{IsLegalRun, start_of, RunExplained}
+use Rattle.trace_strikes.specs.Strikes.{failures_in, AreFewStrikes, FailuresAreFew}
 use Rattle.trace_work.specs.Grounds.{WasPlayed, Submits, IsAskedAt, WasOffline, OfflineIsTold, LockedIsTold, UnforwardedIsHomeless}
 use Rattle.block_machine.specs.LegalAnswers.{ids_asked}
 use Rattle.block_machine.specs.Refusals.{IsRefusedBehind, RefusalsAreMet}
@@ -29,6 +30,7 @@ pub record Laws : Type 0 where
   pub offline : OfflineIsTold
   pub locked : LockedIsTold
   pub unforwarded : UnforwardedIsHomeless
+  pub strikes : FailuresAreFew
 
 -- ---- 28 tries that failed at a block are 28 tries there
 later : (n m : ℕ) → n ≤ m → n ≤ 0 + m
@@ -69,6 +71,46 @@ all_there true n block (Intr ∷ lines) f = later n (tries_at block lines) (all_
 all_there true n block (Try b t ∷ lines) f = absurd f
 all_there true n block (Attn ∷ lines) f = absurd f
 all_there true n block (End a ∷ lines) f = absurd f
+
+-- and as many sectors failed
+all_failed : (owed : Bool) (n block : ℕ) (lines : List Deed) → AreFailures owed n block lines → (if owed then 1 + n else n) ≤ failures_in lines
+all_failed false zero block lines f = omega arith
+all_failed false (suc n) block [] f = absurd f
+all_failed false (suc n) block (Search c y ∷ lines) f = later (suc n) (failures_in lines) (all_failed false (suc n) block lines f)
+all_failed false (suc n) block (Seek c ∷ lines) f = later (suc n) (failures_in lines) (all_failed false (suc n) block lines f)
+all_failed false (suc n) block (Recal ∷ lines) f = later (suc n) (failures_in lines) (all_failed false (suc n) block lines f)
+all_failed false (suc n) block (Offset o ∷ lines) f = later (suc n) (failures_in lines) (all_failed false (suc n) block lines f)
+all_failed false (suc n) block (Centre ∷ lines) f = later (suc n) (failures_in lines) (all_failed false (suc n) block lines f)
+all_failed false (suc n) block (Clear ∷ lines) f = later (suc n) (failures_in lines) (all_failed false (suc n) block lines f)
+all_failed false (suc n) block (Pack ∷ lines) f = later (suc n) (failures_in lines) (all_failed false (suc n) block lines f)
+all_failed false (suc n) block (Transfer w b k ∷ lines) f = later (suc n) (failures_in lines) (all_failed false (suc n) block lines f)
+all_failed false (suc n) block (Arrive ∷ lines) f = later (suc n) (failures_in lines) (all_failed false (suc n) block lines f)
+all_failed false (suc n) block (Sector b v ∷ lines) f = absurd f
+all_failed false (suc n) block (Intr ∷ lines) f = later (suc n) (failures_in lines) (all_failed false (suc n) block lines f)
+all_failed false (suc n) block (Try b t ∷ lines) f = next n (failures_in lines) (all_failed true n block lines f.2)
+  where
+    next : (n m : ℕ) → 1 + n ≤ m → suc n ≤ 0 + m
+    next n m e = omega (arith, e)
+all_failed false (suc n) block (Attn ∷ lines) f = later (suc n) (failures_in lines) (all_failed false (suc n) block lines f)
+all_failed false (suc n) block (End a ∷ lines) f = later (suc n) (failures_in lines) (all_failed false (suc n) block lines f)
+all_failed true n block [] f = absurd f
+all_failed true n block (Search c y ∷ lines) f = absurd f
+all_failed true n block (Seek c ∷ lines) f = absurd f
+all_failed true n block (Recal ∷ lines) f = absurd f
+all_failed true n block (Offset o ∷ lines) f = absurd f
+all_failed true n block (Centre ∷ lines) f = later (1 + n) (failures_in lines) (all_failed true n block lines f)
+all_failed true n block (Clear ∷ lines) f = later (1 + n) (failures_in lines) (all_failed true n block lines f)
+all_failed true n block (Pack ∷ lines) f = absurd f
+all_failed true n block (Transfer w b k ∷ lines) f = absurd f
+all_failed true n block (Arrive ∷ lines) f = absurd f
+all_failed true n block (Sector b v ∷ lines) f = rw f.1 (one n (failures_in lines) (all_failed false n block lines f.2))
+  where
+    one : (n m : ℕ) → n ≤ m → 1 + n ≤ 1 + m
+    one n m e = omega (arith, e)
+all_failed true n block (Intr ∷ lines) f = later (1 + n) (failures_in lines) (all_failed true n block lines f)
+all_failed true n block (Try b t ∷ lines) f = absurd f
+all_failed true n block (Attn ∷ lines) f = absurd f
+all_failed true n block (End a ∷ lines) f = absurd f
 
 -- ---- a list cut in two ways
 record GoesPast (ahead : List Moment) (m : Moment) (between front back : List Moment) : Type 0 where
@@ -113,7 +155,7 @@ no_refusal why e = cc
 
 module _ (laws : Laws) (script : Script) (tables : ℕ → Option Table) (old new : ℕ → model.Pack) (ahead between after : List Moment) (at line : ℕ) (r : Request) (kind : DriveKind)
     (there : drives_of script r.unit ≡ Some kind)
-    (free : IsUnhindered kind (tables r.unit) (old r.unit) (start_of script tables old) ahead at r between) where
+    (free : IsUnhindered script kind (tables r.unit) (old r.unit) (start_of script tables old) ahead at r between) where
   abbrev Before : List Moment
   Before = ahead ++ Played at (Submit r) ∷ between
 
@@ -195,7 +237,7 @@ module _ (laws : Laws) (script : Script) (tables : ℕ → Option Table) (old ne
 
       own : r ≡ told.0
       own = same (Failed Unforwarded done) run told.0 told.1
-  is_ok (Failed Fault done) run = absurd (too_many (tries_at all.block (lines_of r.unit Before)) (all_there false 28 all.block (lines_of r.unit Before) all.tries) (free.tries all.block))
+  is_ok (Failed Fault done) run = absurd (struck free.tries)
     where
       all : AreAllTries (lines_of r.unit Before)
       all = (laws.explained script tables old new Before after line r.unit r.id (Failed Fault done) run refl).tries done refl
@@ -203,9 +245,14 @@ module _ (laws : Laws) (script : Script) (tables : ℕ → Option Table) (old ne
       too_many : (n : ℕ) → 28 ≤ n → n < 28 → ⊥
       too_many n e f = omega (arith, e, f)
 
+      struck : ((block : ℕ) → tries_at block (lines_of r.unit Before) < 28) ⊎ AreFewStrikes script r.unit → ⊥
+      struck (inl tries) = too_many (tries_at all.block (lines_of r.unit Before)) (all_there false 28 all.block (lines_of r.unit Before) all.tries) (tries all.block)
+      struck (inr few) = too_many (failures_in (lines_of r.unit Before)) (all_failed false 28 all.block (lines_of r.unit Before) all.tries)
+          (laws.strikes script tables old new Before (Told line r.unit r.id (End (Failed Fault done)) ∷ after) r.unit run few)
+
 pub is_complete : Laws → (script : Script) (tables : ℕ → Option Table) (old new : ℕ → model.Pack) (ahead between after : List Moment) (at line : ℕ) (r : Request) (kind : DriveKind) (answer : Answer)
     → IsLegalRun script tables old new (ahead ++ Played at (Submit r) ∷ (between ++ Told line r.unit r.id (End answer) ∷ after)) → drives_of script r.unit ≡ Some kind
-    → IsUnhindered kind (tables r.unit) (old r.unit) (start_of script tables old) ahead at r between → IsOk answer
+    → IsUnhindered script kind (tables r.unit) (old r.unit) (start_of script tables old) ahead at r between → IsOk answer
 unfolding Run
 is_complete laws script tables old new ahead between after at line r kind answer run there free =
     is_ok laws script tables old new ahead between after at line r kind there free answer

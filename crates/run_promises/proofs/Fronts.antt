@@ -2,9 +2,8 @@
 use Rattle.std.proofs.Common.{◌≡◌, ℕ, List, [], ◌∷◌, ◌++◌, Option, refl, sym, ap, subst, ◌∙◌, append_assoc}
 use Rattle.pack_model.specs.Pack as model
 use Rattle.pack_model.specs.TableSpelling.{Table}
-use Rattle.trace_replay.specs.Script.{Script, Numbered, drives_of, inputs_of}
+use Rattle.trace_replay.specs.Script.{Script, Numbered, drives_of}
 use Rattle.trace_replay.specs.Moments.{Moment, Played, Told, Idle, played}
-use Rattle.trace_replay.specs.Replay.{Follows}
 use Rattle.trace_replay.specs.Runs.{start_of}
 use Rattle.trace_replay.proofs.Following.{follow_on}
 use Rattle.run_promises.specs.Beginnings.{IsBegun, BeginningsKeep, FrontsKeep}

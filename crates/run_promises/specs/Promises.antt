@@ -55,7 +55,7 @@ pub record Promises (script : Script) (tables : ℕ → Option Table) (old new :
   -- COMPLETENESS. A request that nothing hinders is answered ok.
   pub complete : (ahead between after : List Moment) (at line : ℕ) (r : Request) (kind : DriveKind) (answer : Answer)
       → moments ≡ ahead ++ Played at (Submit r) ∷ (between ++ Told line r.unit r.id (End answer) ∷ after) → drives_of script r.unit ≡ Some kind
-      → IsUnhindered kind (tables r.unit) (old r.unit) (start_of script tables old) ahead at r between → IsOk answer
+      → IsUnhindered script kind (tables r.unit) (old r.unit) (start_of script tables old) ahead at r between → IsOk answer
   -- a request takes at most 300 commands for each of its blocks, and a drain at most 200 event lines for each block that is outstanding
   pub commands : (line unit id : ℕ) (answer : Answer) (before after : List Moment) → moments ≡ before ++ Told line unit id (End answer) ∷ after
       → is_refusal answer ≡ false → commands_in (lines_of unit before) ≤ 300 * (in_hand ((after_moments (start_of script tables old) before).units unit).service).count

@@ -22,6 +22,7 @@ use block_machine::{answers_law, last_write_law, once_law, packs_law, refusals_l
 use pack_model::pack_table_law;
 use trace_bounds::{commands_law, drain_law};
 use trace_replay::{bounds_law, cause_law, one_trace_law};
+use trace_strikes::strikes_law;
 use trace_work::{consistent_law, told_causes_law};
 
 /// The law of the headline: all that is promised holds of each legal run.
@@ -36,6 +37,7 @@ pub fn promises_law()
     cause_law();
     refusals_law();
     told_causes_law();
+    strikes_law();
     commands_law();
     drain_law();
     bounds_law();

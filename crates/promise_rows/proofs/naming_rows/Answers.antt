@@ -1,4 +1,4 @@
-use Rattle.promise_rows.proofs.Naming.{later_unit_named, fitting_length_named, first_event_untold, other_run_by_other_tables, reads_lengthen, two_lines_under_way, mark_gone_behind_a_failure}
+use Rattle.promise_rows.proofs.Naming.{later_unit_named, fitting_length_named, first_event_untold, other_run_by_other_tables, reads_lengthen, not_as_long_as_written, two_lines_under_way, mark_gone_behind_a_failure}
 use Rattle.promise_rows.proofs.naming_rows.Goals as goal
 
 pub returns-clause-later_unit_named : goal.returns-clause-later_unit_named
@@ -15,6 +15,9 @@ returns-clause-other_run_by_other_tables c = other_run_by_other_tables
 
 pub returns-clause-reads_lengthen : goal.returns-clause-reads_lengthen
 returns-clause-reads_lengthen c = reads_lengthen
+
+pub returns-clause-not_as_long_as_written : goal.returns-clause-not_as_long_as_written
+returns-clause-not_as_long_as_written c = not_as_long_as_written
 
 pub returns-clause-two_lines_under_way : goal.returns-clause-two_lines_under_way
 returns-clause-two_lines_under_way c = two_lines_under_way

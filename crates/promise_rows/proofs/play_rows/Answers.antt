@@ -1,5 +1,6 @@
 use Rattle.promise_rows.proofs.Playing.{always_a_fault, answers_kept_back, block_before_its_event, block_of_no_unit, block_behind_a_stop, noise_line_uncounted, short_last_block_whole}
 use Rattle.promise_rows.proofs.Others.{played_as_refused_by_the_tool}
+use Rattle.promise_rows.proofs.Strikes.{failed_by_few_strikes}
 use Rattle.promise_rows.proofs.play_rows.Goals as goal
 
 pub returns-clause-always_a_fault : goal.returns-clause-always_a_fault
@@ -25,3 +26,6 @@ returns-clause-short_last_block_whole c = short_last_block_whole
 
 pub returns-clause-refused_by_the_tool : goal.returns-clause-refused_by_the_tool
 returns-clause-refused_by_the_tool c = played_as_refused_by_the_tool
+
+pub returns-clause-failed_by_few_strikes : goal.returns-clause-failed_by_few_strikes
+returns-clause-failed_by_few_strikes c = failed_by_few_strikes

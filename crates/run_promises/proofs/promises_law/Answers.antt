@@ -47,6 +47,7 @@ returns c script tables old new moments run = record {
     offline = c.told_causes_law.ensures.offline;
     locked = c.told_causes_law.ensures.locked;
     unforwarded = c.told_causes_law.ensures.unforwarded;
+    strikes = c.strikes_law.ensures.few;
   }) script tables old new ahead between after at line r kind answer (same run e) there free;
   commands = λ line unit id answer before after e no. (c.commands_law.ensures.run script tables old new before after line unit id answer (same run e) no).0;
   drains = λ before drained after e none. c.drain_law.ensures.run script tables old new before drained after (same run e) none;

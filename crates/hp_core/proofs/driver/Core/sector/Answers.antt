@@ -1,7 +1,7 @@
 use Rattle.std.proofs.Common.{ℕ, sym, subst}
 use Rattle.driver_machine.specs.World.{unit_at, adapter_at, adapter_of}
 use Rattle.request_slots.specs.Steps.{MayStep}
-use Rattle.hp_core.proofs.Tries.{named_in, sector_told, sector_stopped}
+use Rattle.hp_core.proofs.Tries.{Stepped, named_in, sector_told, sector_stopped}
 use Rattle.hp_core.proofs.Deeds.{there, adapter_there, under_way}
 use Rattle.hp_core.proofs.driver.Core.sector.Goals as goal
 
@@ -11,14 +11,12 @@ hand-slot-requires-clause-unit g c = there _ c.args.line _ _ c.requires.sound c.
 pub hand-slot-requires-clause-some : goal.hand-slot-requires-clause-some
 hand-slot-requires-clause-some g c = c.requires.in_hand.some
 
-pub put_sector-requires-clause-small : goal.put_sector-requires-clause-small
-put_sector-requires-clause-small g c = c.requires.in_hand.unit
-
-pub put_sector-requires-clause-unit : goal.put_sector-requires-clause-unit
-put_sector-requires-clause-unit g c = there _ c.args.line _ _ c.requires.sound c.requires.in_hand
-
-pub put_sector-requires-clause-adapter : goal.put_sector-requires-clause-adapter
-put_sector-requires-clause-adapter g c = adapter_there _ c.args.line _ _ c.requires.sound c.requires.in_hand
+pub put_sector-requires-clause-there : goal.put_sector-requires-clause-there
+put_sector-requires-clause-there g c = record {
+  small = c.requires.in_hand.unit;
+  unit = there _ c.args.line _ _ c.requires.sound c.requires.in_hand;
+  adapter = adapter_there _ c.args.line _ _ c.requires.sound c.requires.in_hand;
+}
 
 pub put_sector-requires-clause-may : goal.put_sector-requires-clause-may
 put_sector-requires-clause-may g c =
@@ -39,8 +37,17 @@ next_block-block-requires-clause-small g c = (under_way _ c.args.line _ _ c.requ
 
 pub returns-in-Ok : goal.returns-in-Ok
 returns-in-Ok g c =
+    let s : Stepped c.args.self.now.world c.put_sector.new.self.world c.args.u (g.P.Packs.tells c.put_sector.new.packs) (g.P.Packs.held c.args.packs.now) (g.P.Packs.held c.put_sector.new.packs) c.in-Ok.verdict = record {
+      moves = c.in-Ok.ensures.moves;
+      units = c.in-Ok.ensures.units;
+      adapters = c.in-Ok.ensures.adapters;
+      slots = c.in-Ok.ensures.slots;
+      size = c.put_sector.ensures.size;
+      frames = c.put_sector.ensures.others.0;
+      answers = c.put_sector.ensures.others.1;
+    } in
     sector_told _ _ g.P.Packs.faults _ _ g.T.Sink.faults _ _ _ _ _ c.put_sector.new.self _ _ _ _ _ _ _ c.in-Ok.verdict c.requires.in_hand
-    (named_in c.args.self.now.world _ _ _ c.asked-id.ensures c.hand-slot.ensures) c.requires.busy c.next_block-block.ensures c.in-Ok.ensures.steps c.put_sector.ensures.kept
+    (named_in c.args.self.now.world _ _ _ c.asked-id.ensures c.hand-slot.ensures) c.requires.busy c.next_block-block.ensures s c.put_sector.ensures.others.2
     c.tell_sector.ensures
     c.put_sector.ensures.failure.never_again c.put_sector.ensures.failure.cause.later
 

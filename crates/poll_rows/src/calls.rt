@@ -1,5 +1,5 @@
 // Single calls of formatting that fail, each over an RM03 of its own that holds nothing.
-ghost use Rattle.std.specs.Prelude.{◌<◌};
+ghost use Rattle.std.specs.Prelude.{◌<◌, ◌≤◌};
 ghost use Rattle.pack_geometry.specs.Geometry.{block_count};
 ghost use Rattle.pack_geometry.specs.declared.DriveKind.TheVariants.{Rm03};
 
@@ -8,18 +8,18 @@ use block_tests::{TestFault, write_copies};
 use mass_outside::mem_packs::{FailCall, MemPacks, PackOp};
 use mass_outside::slots::Image;
 use outside_traits::traits::Packs;
-use pack_geometry::{DriveKind, blocks, copy_block};
+use pack_geometry::{DriveKind, copy_block};
 use std::alloc::Global;
 use std::test::Fail;
 
-/// Unit 0 with an RM03 that holds nothing, and one call that is to fail.
-fn failing(alloc: Global, op: PackOp, number: u64) -> Result<MemPacks, Fail> {
+/// Unit 0 with an empty image that has room for so many blocks, and one call that is to fail.
+fn failing(alloc: Global, blocks: u32, op: PackOp, number: u64) -> Result<MemPacks, Fail> {
     let mut images = Vec::new(alloc);
     images.push(Image {
         unit: 0,
         bytes: Vec::new(alloc),
         marks: Vec::new(alloc),
-        blocks: 131_680,
+        blocks,
     })?;
     let fail = FailCall { op, number };
     Ok(MemPacks::new(alloc, images, Vec::from_slice(alloc, &[fail])?)?)
@@ -29,29 +29,55 @@ fn failing(alloc: Global, op: PackOp, number: u64) -> Result<MemPacks, Fail> {
 fn fails_alone(alloc: Global, block: u32, op: PackOp) -> Result<bool, Fail>
     requires { block < block_count Rm03 }
 {
-    let mut packs = failing(alloc, op, 1)?;
+    let mut packs = failing(alloc, 0, op, 1)?;
     let mut station = Station::new(alloc, DriveKind::Rm03)?;
     let mut bytes = [0x5a; 512];
     let polled = station.poll_read(&mut packs, 0, DriveKind::Rm03, block, &mut bytes);
     Ok(polled.is_err() && packs.length(0)? == 0 && !packs.marked(0, block)?)
 }
 
-/// The first block whose reading does not fail with each of its two calls, or how many blocks there are.
-fn other_reading(alloc: Global) -> Result<u32, Fail> {
-    let count = blocks(DriveKind::Rm03);
-    for block in 0..count {
-        for op in [PackOp::Marked, PackOp::Read] {
-            if !fails_alone(alloc, block, op)? {
-                return Ok(block);
-            }
+/// The first block of these whose reading does not so fail, or the one behind them.
+fn other_reading(alloc: Global, op: PackOp, from: u32, to: u32) -> Result<u32, Fail>
+    requires { to ≤ block_count Rm03 }
+{
+    for block in from..to {
+        if !fails_alone(alloc, block, op)? {
+            return Ok(block);
         }
     }
-    Ok(count)
+    Ok(to)
 }
 
 #[test]
-fn each_reading_fails(rt: HostRuntime) -> Result<(), Fail> {
-    assert_eq!(rt; other_reading(rt.alloc())?, 131_680);
+fn each_mark_of_a_lower_block_fails(rt: HostRuntime) -> Result<(), Fail> {
+    assert_eq!(rt;
+        other_reading(rt.alloc(), PackOp::Marked, 0, 65_840)?,
+        65_840
+    );
+    Ok(())
+}
+
+#[test]
+fn each_mark_of_an_upper_block_fails(rt: HostRuntime) -> Result<(), Fail> {
+    assert_eq!(rt;
+        other_reading(rt.alloc(), PackOp::Marked, 65_840, 131_680)?,
+        131_680
+    );
+    Ok(())
+}
+
+#[test]
+fn each_reading_of_a_lower_block_fails(rt: HostRuntime) -> Result<(), Fail> {
+    assert_eq!(rt; other_reading(rt.alloc(), PackOp::Read, 0, 65_840)?, 65_840);
+    Ok(())
+}
+
+#[test]
+fn each_reading_of_an_upper_block_fails(rt: HostRuntime) -> Result<(), Fail> {
+    assert_eq!(rt;
+        other_reading(rt.alloc(), PackOp::Read, 65_840, 131_680)?,
+        131_680
+    );
     Ok(())
 }
 
@@ -70,7 +96,7 @@ fn copies_of(packs: &mut MemPacks, bytes: &[u8; 512]) -> Result<u64, Fail> {
 
 /// Whether the writing of copies that one call stops fails, and has written so many of them.
 fn leaves_copies(alloc: Global, op: PackOp, number: u64, count: u64) -> Result<bool, Fail> {
-    let mut packs = failing(alloc, op, number)?;
+    let mut packs = failing(alloc, 131_680, op, number)?;
     let mut station = Station::new(alloc, DriveKind::Rm03)?;
     let bytes = [0x5a; 512];
     let result = write_copies(&mut station, &mut packs, 0, DriveKind::Rm03, &bytes);

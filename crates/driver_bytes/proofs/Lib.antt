@@ -1,0 +1,13 @@
+pub mod Hand
+pub mod Struck
+pub mod Sector
+pub mod Deeds
+pub mod Ends
+pub mod Tries
+pub mod Others
+pub mod Answers
+pub mod EachDeed
+pub mod EachAct
+pub mod Calls
+pub mod Rests
+pub mod Writes

@@ -1,0 +1,5 @@
+pub mod Answering
+pub mod Hearing
+pub mod OfRuns
+pub mod Refusing
+pub mod Wanting
