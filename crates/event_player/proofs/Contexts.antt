@@ -10,14 +10,20 @@ use Rattle.trace_replay.specs.Moments.{Moment, Played, Idle}
 use Rattle.trace_replay.specs.Script as says
 use Rattle.trace_replay.specs.Script.{Script, Input, Line, Numbered, drives_of}
 use Rattle.trace_replay.specs.Events.{Event}
-use Rattle.trace_replay.specs.Packs.{Surface}
-use Rattle.trace_replay.specs.Replay.{Replay, Follows, after_moments, drained, act_drained, next_wish}
+use Rattle.trace_replay.specs.Packs.{Surface, surface_of}
+use Rattle.trace_replay.specs.Replay.{Replay, WorkMay, Follows, after_moment, after_moments, drained, act_drained, next_wish}
 use Rattle.trace_replay.specs.Events.{is_no_line}
 use Rattle.trace_replay.specs.Runs.{start_of}
 use Rattle.trace_replay.specs.Text.{moment_text}
 use Rattle.trace_bounds.specs.Drains.{IsOf}
 use Rattle.driver_machine.specs.World.{World}
+use Rattle.driver_machine.specs.Acts.{Tried}
+use Rattle.driver_machine.specs.Lines.{lines_of_all}
 use Rattle.driver_machine.specs.Events.{submit_acts, event_acts, next_event}
+use Rattle.driver_work.specs.Runs.{Works, MayCome}
+use Rattle.driver_work.proofs.Next.{next_can}
+use Rattle.driver_work.proofs.Calls.{event_works}
+use Rattle.driver_invariant.proofs.Sound.{sound_after}
 use Rattle.driver_outcome.specs.Outcome.{IsFront}
 use Rattle.driver_outcome.specs.Packs.{packs_after_all}
 use Rattle.driver_outcome.proofs.Joined.{front_same, front_more}
@@ -25,6 +31,11 @@ use Rattle.driver_answers.proofs.Waiting.{submissions_alone}
 use Rattle.driver_runs.proofs.Runs.{packs_are_left}
 use Rattle.driver_runs.proofs.Sectors.{submission_quiet}
 use Rattle.driver_trace.specs.Within.{ShowsAll}
+use Rattle.driver_trace.specs.Runs.{with_call}
+use Rattle.driver_trace.proofs.Inputted.{lines_play_nothing}
+use Rattle.driver_trace.proofs.Drains.{GoesOn, drain_begins, drain_goes_on, drain_between}
+use Rattle.driver_drains.proofs.Falls.{scripts_can_start}
+use Rattle.trace_work.proofs.Consistency.{moments_consistent}
 use Rattle.driver_reach.proofs.Lengths.{drained_shows}
 use Rattle.answer_lines.specs.AnswerText.{said_text, out_text}
 use Rattle.answer_tally.specs.declared.tally.Tally.{Tally}
@@ -33,9 +44,10 @@ use Rattle.event_player.specs.declared.play.PlayFault.{PlayFault}
 use Rattle.event_player.specs.declared.play.PlayFault.TheVariants as faults
 use Rattle.event_player.specs.Playing.{HasRun, HasTold}
 use Rattle.event_player.specs.Steps.{Stage, HasDrained}
-use Rattle.event_player.specs.Stops.{IsBetween, AreBehind, IsNext, HasDrainedTold, EventStops, SubmissionStops, SubmissionTellsFront, SubmissionSaysFront, StopsAtSink, Stopped}
+use Rattle.event_player.specs.Stops.{IsBetween, AreBehind, AreOfOneEvent, IsNext, HasDrainedTold, EventStops, SubmissionStops, SubmissionTellsFront, SubmissionSaysFront, StopsAtSink, Stopped}
 use Rattle.event_player.proofs.Going.{event_goes, submission_goes, drain_empty, drain_first, drain_more}
 use Rattle.event_player.proofs.Inputs.{with_said, waiting_said}
+use Rattle.event_player.proofs.OneEvent.{opened_one, behind, call_one, no_drain, event_one}
 use Rattle.event_player.proofs.Stopping.{Context, EventContext, Whole, same_beyond, opens_none, opens_line, move_is, event_stops, stops_by, stops_at_sink, tells_stop, says_stop}
 
 -- A RUN SO FAR, and a drain
@@ -117,6 +129,7 @@ module _ (script : Script) (tables : ℕ → Option Table) (first : ℕ → Pack
     later = record { line = line; input = input } ∷ next.later;
     rest = next.later;
     follows = whole.follows;
+    ended = inl told.run.so_far.left.stands.over;
     behind = whole.behind;
     inputs = next.inputs ∙ ap (λ (ns : List Numbered). ns ++ record { line = line; input = input } ∷ next.later) (sym told.run.inputs);
     opened = refl;
@@ -138,6 +151,8 @@ module _ (script : Script) (tables : ℕ → Option Table) (first : ℕ → Pack
     sound = told.run.so_far.left.stands.sound;
     goes = λ tried may reads. whole_run script tables first (packs_after_all old.world old.held (event_acts line input tried old.world)) line _ _ _
         (event_goes script tables first last line input tried old.held done old.world told.moments less there none may reads told.run);
+    one = λ tried may reads. call_one (start_of script tables first) told.moments line input old.world (event_acts line input tried old.world) (no_drain old.world input there)
+        (event_goes script tables first last line input tried old.held done old.world told.moments less there none may reads told.run).so_far.follows;
     silent = silent_move;
     move = λ a is. inl is;
   }
@@ -156,7 +171,7 @@ module _ (script : Script) (tables : ℕ → Option Table) (first : ℕ → Pack
       → new.taken ≡ old.taken → (IsTrue new.out_tells → IsBetween old.said (old.said ++ said_text (Played line input)) new.said)
       → StopsAtSink script tables first new.held new.out_tells said new.said new.trace_tells taken new.taken
   opening_stops new follows same still_traced still untold between =
-      stops_by (line_context old.out_tells (old.said ++ said_text (Played line input)) old.tally (λ t. t) (λ t. refl)) [] new refl follows
+      stops_by (line_context old.out_tells (old.said ++ said_text (Played line input)) old.tally (λ t. t) (λ t. refl)) [] new refl follows tt
       (inl (tt, subst (λ (held : ℕ → Pack). AreBehind script tables first held told.moments) (sym same) whole.behind))
       (same_beyond (line_context old.out_tells (old.said ++ said_text (Played line input)) old.tally (λ t. t) (λ t. refl)) new.held same) still_traced
       (λ t. subst (IsBetween old.taken (old.taken ++ [])) (sym untold) (record { least = front_same old.taken; most = front_more old.taken [] }))
@@ -183,14 +198,16 @@ module _ (script : Script) (tables : ℕ → Option Table) (first : ℕ → Pack
   submission_sink : new.held ≡ old.held → SubmissionTellsFront line r old new ⊎ SubmissionSaysFront line r old new
       → StopsAtSink script tables first new.held new.out_tells said new.said new.trace_tells taken new.taken
   submission_sink same (inl e) =
-      tells_stop context (submit_acts r line e.slot e.held old.world) new e.tells
-      (whole_run script tables first _ line _ _ _
-      (submission_goes script tables first last line e.slot r e.held old.held done old.world told.moments less none e.may e.is is.some of told.run)).follows
+      let follows : Follows (start_of script tables first) (with_call told.moments line (says.Submit r) old.world (submit_acts r line e.slot e.held old.world)) =
+      (submission_goes script tables first last line e.slot r e.held old.held done old.world told.moments less none e.may e.is is.some of told.run).so_far.follows in
+      tells_stop context (submit_acts r line e.slot e.held old.world) new e.tells follows
+      (call_one (start_of script tables first) told.moments line (says.Submit r) old.world (submit_acts r line e.slot e.held old.world) refl follows)
       (inl (submission_quiet r line e.slot e.held old.world e.tells.done e.tells.left e.tells.all, same_behind same)) (same_beyond context new.held same) still_traced still
   submission_sink same (inr e) =
-      says_stop context (submit_acts r line e.plays.slot e.plays.held old.world) new e.text
-      (whole_run script tables first _ line _ _ _
-      (submission_goes script tables first last line e.plays.slot r e.plays.held old.held done old.world told.moments less none e.plays.may e.plays.is is.some of told.run)).follows
+      let follows : Follows (start_of script tables first) (with_call told.moments line (says.Submit r) old.world (submit_acts r line e.plays.slot e.plays.held old.world)) =
+      (submission_goes script tables first last line e.plays.slot r e.plays.held old.held done old.world told.moments less none e.plays.may e.plays.is is.some of told.run).so_far.follows in
+      says_stop context (submit_acts r line e.plays.slot e.plays.held old.world) new e.text follows
+      (call_one (start_of script tables first) told.moments line (says.Submit r) old.world (submit_acts r line e.plays.slot e.plays.held old.world) refl follows)
       (inl (
         submission_quiet r line e.plays.slot e.plays.held old.world (submit_acts r line e.plays.slot e.plays.held old.world) [] (sym (append-nil (submit_acts r line e.plays.slot e.plays.held old.world))),
         same_behind same,
@@ -213,6 +230,22 @@ module _ (script : Script) (tables : ℕ → Option Table) (first : ℕ → Pack
   abbrev drain_context : Context script tables first said taken (with_said old old.out_tells old.said old.tally) (Played line says.Drain ∷ [])
   drain_context = line_context script tables first last done said taken line says.Drain old less next told old.out_tells old.said old.tally (λ t. t) (λ t. sym (append-nil old.said))
 
+  abbrev at_drain : Replay
+  at_drain = after_moments (start_of script tables first) told.moments
+
+  first_one : (input : Input) (tried : Tried) → next_event old.world ≡ Some input → MayCome old.world input tried
+      → Follows (start_of script tables first) (told.moments ++ Played line says.Drain ∷ lines_of_all old.world (event_acts line input tried old.world))
+      → AreOfOneEvent at_drain (Played line says.Drain ∷ lines_of_all old.world (event_acts line input tried old.world))
+  first_one input tried is may follows =
+      let works : Works old.world (event_acts line input tried old.world) =
+      event_works sound_after line input tried old.world told.run.so_far.left.stands.sound told.run.so_far.left.stands.work may in
+      let goes : GoesOn line input old.held old.world (after_moment at_drain (Played line says.Drain)) =
+      drain_begins line input old.held old.world at_drain told.run.so_far.left.stands told.run.so_far.there is in
+      opened_one at_drain line says.Drain (lines_of_all old.world (event_acts line input tried old.world))
+      (behind (start_of script tables first) told.moments (Played line says.Drain ∷ lines_of_all old.world (event_acts line input tried old.world)) follows)
+      (lines_play_nothing [] old.world (event_acts line input tried old.world))
+      (event_one line input tried old.world (after_moment at_drain (Played line says.Drain)) (next_can old.world input told.run.so_far.left.stands.sound is) goes.rests works.run)
+
   pub first_stops : (fault : PlayFault) (input : Input) (new : Stage) → IsTrue new.packs_tell → (IsTrue new.trace_tells → IsTrue old.trace_tells)
       → (IsTrue new.out_tells → IsTrue old.out_tells) → next_event old.world ≡ Some input → IsThere old.world input → old.world.answers ≡ [] → EventStops line input fault old new
       → Stopped fault script tables first new.held new.out_tells said new.said new.trace_tells taken new.taken
@@ -224,6 +257,8 @@ module _ (script : Script) (tables : ℕ → Option Table) (first : ℕ → Pack
         sound = told.run.so_far.left.stands.sound;
         goes = λ tried may reads. whole_drained script tables first (packs_after_all old.world old.held (event_acts line input tried old.world)) line _ _ _
             (drain_first script tables first last line input tried old.held done old.world told.moments less is none may reads told.run);
+        one = λ tried may reads. first_one input tried is may
+            (drain_first script tables first last line input tried old.held done old.world told.moments less is none may reads told.run).draining.follows;
         silent = λ moves. refl;
         move = λ a moved. inr (inl refl, is ∙ ap (λ (i : Input). Some i) moved);
       }
@@ -233,8 +268,10 @@ module _ (script : Script) (tables : ℕ → Option Table) (first : ℕ → Pack
       → (IsTrue new.out_tells → IsTrue old.out_tells) → new.said ≡ old.said → (IsTrue new.trace_tells → TakesFront old.taken new.taken (moment_text (Idle line)))
       → StopsAtSink script tables first new.held new.out_tells said new.said new.trace_tells taken new.taken
   idle_stops new over same still_traced still unsaid front =
-      stops_at_sink drain_context (Idle line ∷ []) new refl
-      (whole_run script tables first old.held line _ _ _ (drain_empty script tables first last line old.held done old.world told.moments less over told.run)).follows
+      let follows : Follows (start_of script tables first) (told.moments ++ Played line says.Drain ∷ Idle line ∷ []) =
+      (drain_empty script tables first last line old.held done old.world told.moments less over told.run).so_far.follows in
+      stops_at_sink drain_context (Idle line ∷ []) new refl follows
+      (opened_one at_drain line says.Drain (Idle line ∷ []) (behind (start_of script tables first) told.moments (Played line says.Drain ∷ Idle line ∷ []) follows) refl tt)
       (inl ((tt, tt), subst (λ (held : ℕ → Pack). AreBehind script tables first held told.moments) (sym same) (whole_run script tables first old.held last done old.world told.moments told.run).behind))
       (same_beyond drain_context new.held same) still_traced still
       (λ t. subst (λ (text : List ℕ). IsBetween old.taken (old.taken ++ text) new.taken) (sym (append-nil (moment_text (Idle line)))) (between_by old.taken new.taken (moment_text (Idle line)) (front t)))
@@ -252,6 +289,15 @@ later_stops script tables first line done later said taken now new fault input t
     whole : Whole script tables first now.held told.moments
     whole = whole_drained script tables first now.held line done now.world told.moments told.drained
 
+    at_event : Replay
+    at_event = after_moments (start_of script tables first) told.moments
+
+    goes : GoesOn line input now.held now.world at_event
+    goes = drain_goes_on line input now.held now.world at_event told.drained.draining.ends told.drained.draining.work told.drained.draining.there is
+        (subst (λ (b : Bool). WorkMay b at_event) (drain_between line input now.held now.world at_event told.drained.draining.ends told.drained.draining.work is)
+        (moments_consistent (start_of script tables first) told.moments told.drained.draining.follows
+        (scripts_can_start (drives_of script) tables (surface_of first)).consistent).event.at_work)
+
     at : EventContext script tables first said taken now [] line input
     at = record {
       ctx = record {
@@ -259,6 +305,7 @@ later_stops script tables first line done later said taken now new fault input t
         later = later;
         rest = later;
         follows = whole.follows;
+        ended = inr (drain_between line input now.held now.world (after_moments (start_of script tables first) told.moments) told.drained.draining.ends told.drained.draining.work is);
         behind = whole.behind;
         inputs = told.inputs ∙ ap (λ (ns : List Numbered). ns ++ later) (sym told.drained.inputs);
         opened = refl;
@@ -272,6 +319,8 @@ later_stops script tables first line done later said taken now new fault input t
       sound = told.drained.draining.ends.over.rests.sound;
       goes = λ tried may reads. whole_drained script tables first (packs_after_all now.world now.held (event_acts line input tried now.world)) line _ _ _
           (drain_more script tables first line input tried now.held done now.world told.moments is none may reads told.drained);
+      one = λ tried may reads. event_one line input tried now.world at_event (next_can now.world input told.drained.draining.ends.over.rests.sound is) goes.rests
+          (event_works sound_after line input tried now.world told.drained.draining.ends.over.rests.sound told.drained.draining.work may).run;
       silent = λ moves. refl;
       move = λ a moved. inr (inr drains, is ∙ ap (λ (i : Input). Some i) moved);
     }

@@ -12,6 +12,7 @@ pub mod CountLaws
 pub mod Submitting
 pub mod Statements
 pub mod Whole
+pub mod OneEvent
 pub mod Stopping
 pub mod Contexts
 pub mod Halting

@@ -13,7 +13,7 @@ use Rattle.trace_replay.specs.Replay.{Follows, after_moments}
 use Rattle.trace_replay.specs.Runs.{start_of}
 use Rattle.trace_replay.specs.Text.{trace_text, moment_text}
 use Rattle.driver_machine.specs.World.{World, unit_at, adapter_at, unit_of}
-use Rattle.driver_machine.specs.Acts.{Act, Tried, Deed, Sector}
+use Rattle.driver_machine.specs.Acts.{Act, Tried, Sector}
 use Rattle.driver_machine.specs.Lines.{lines_of_all}
 use Rattle.driver_machine.specs.Events.{event_acts, in_hand, in_hand_by, or_nothing, can_move}
 use Rattle.driver_machine.specs.Sound.{Sound}
@@ -37,9 +37,10 @@ use Rattle.event_player.specs.declared.play.PlayFault.TheVariants as faults
 use Rattle.event_player.specs.Plays.{StaysBeyond}
 use Rattle.event_player.specs.Steps.{Stage}
 use Rattle.run_promises.specs.Beginnings.{AreNoSectors}
-use Rattle.event_player.specs.Stops.{IsBetween, lines_told, only_played, SaysOneSector, AreBehind, StopsAtSink, StopsAtStore, IsAtMove, TellsFront, EventTellsFront, EventSaysFront, MoveFails, EventStops, Stopped}
+use Rattle.event_player.specs.Stops.{IsBetween, lines_told, only_played, SaysOneSector, AreBehind, IsEventOver, AreOfOneEvent, StopsAtSink, StopsAtStore, IsAtMove, TellsFront, EventTellsFront, EventSaysFront, MoveFails, EventStops, Stopped}
 use Rattle.event_player.proofs.Inputs.{event_said}
 use Rattle.event_player.proofs.Reaching.{ask_parts, left_stays}
+use Rattle.event_player.proofs.OneEvent.{IsShort, front_short, short_or, acts_front}
 
 -- MOMENTS one behind the other
 played_append : (xs ys : List Moment) → played (xs ++ ys) ≡ played xs ++ played ys
@@ -83,6 +84,7 @@ pub record Context (script : Script) (tables : ℕ → Option Table) (first : �
   pub later : List Numbered
   pub rest : List Numbered
   pub follows : Follows (start_of script tables first) done
+  pub ended : IsEventOver (after_moments (start_of script tables first) done)
   pub behind : AreBehind script tables first now.held done
   pub inputs : inputs_of script ≡ played done ++ later
   pub opened : later ≡ played opening ++ rest
@@ -101,6 +103,7 @@ unopened {said = said} {now = now} {opening = opening} ctx silent = record {
   later = ctx.later;
   rest = ctx.later;
   follows = ctx.follows;
+  ended = ctx.ended;
   behind = ctx.behind;
   inputs = ctx.inputs;
   opened = refl;
@@ -168,17 +171,18 @@ module _ {script : Script} {tables : ℕ → Option Table} {first : ℕ → Pack
 
   -- A SINK FAILED in a call that told these lines, or was to.
   pub stops_by : (lines : List Moment) (new : Stage) → played lines ≡ [] → Follows (start_of script tables first) (ctx.done ++ (opening ++ lines))
+      → AreOfOneEvent (after_moments (start_of script tables first) ctx.done) (opening ++ lines)
       → (AreNoSectors lines × AreBehind script tables first new.held ctx.done) ⊎ (SaysOneSector lines × AreBehind script tables first new.held (ctx.done ++ (opening ++ lines)))
       → StaysBeyond script tables first new.held → (IsTrue new.trace_tells → IsTrue now.trace_tells)
       → (IsTrue new.trace_tells → IsBetween now.taken (now.taken ++ trace_text lines) new.taken)
       → (IsTrue new.out_tells → IsBetween (said ++ out_text ctx.done) (said ++ out_text (ctx.done ++ (opening ++ lines))) new.said)
       → (IsTrue new.trace_tells → new.taken ≡ now.taken ++ trace_text lines) ⊎ (IsTrue new.out_tells → new.said ≡ said ++ out_text (ctx.done ++ opening))
       → StopsAtSink script tables first new.held new.out_tells said new.said new.trace_tells taken new.taken
-  stops_by lines new none follows packs beyond still_traced trace out order = record {
+  stops_by lines new none follows event packs beyond still_traced trace out order = record {
     done = ctx.done;
     under = opening ++ lines;
     later = ctx.rest;
-    came = record { follows = follows; inputs = inputs_are lines none; one = one_line lines none };
+    came = record { follows = follows; inputs = inputs_are lines none; ended = ctx.ended; event = event; one = one_line lines none };
     packs = packs_by packs;
     reach = beyond;
     trace = λ t. record {
@@ -204,14 +208,15 @@ module _ {script : Script} {tables : ℕ → Option Table} {first : ℕ → Pack
       order_by (inr same) = inr (λ t. same t ∙ ap (λ (ms : List Moment). said ++ out_text (ctx.done ++ ms)) (sym (only_is lines none)))
 
   pub stops_at_sink : (lines : List Moment) (new : Stage) → played lines ≡ [] → Follows (start_of script tables first) (ctx.done ++ (opening ++ lines))
+      → AreOfOneEvent (after_moments (start_of script tables first) ctx.done) (opening ++ lines)
       → (AreNoSectors lines × AreBehind script tables first new.held ctx.done) ⊎ (SaysOneSector lines × AreBehind script tables first new.held (ctx.done ++ (opening ++ lines)))
       → StaysBeyond script tables first new.held → (IsTrue new.trace_tells → IsTrue now.trace_tells) → (IsTrue new.out_tells → IsTrue now.out_tells)
       → (IsTrue new.trace_tells → IsBetween now.taken (now.taken ++ trace_text lines) new.taken)
       → (IsTrue new.out_tells → IsBetween now.said (now.said ++ out_text lines) new.said)
       → (IsTrue new.trace_tells → new.taken ≡ now.taken ++ trace_text lines) ⊎ (new.said ≡ now.said)
       → StopsAtSink script tables first new.held new.out_tells said new.said new.trace_tells taken new.taken
-  stops_at_sink lines new none follows packs beyond still_traced still trace out order =
-      stops_by lines new none follows packs beyond still_traced trace
+  stops_at_sink lines new none follows event packs beyond still_traced still trace out order =
+      stops_by lines new none follows event packs beyond still_traced trace
       (λ t. record {
         least = front_of_front (said ++ out_text ctx.done) now.said new.said (said_front (ctx.out (still t))) (out t).least;
         most = subst (IsFront new.said) (out_is lines (ctx.out (still t))) (out t).most;
@@ -233,54 +238,36 @@ module _ {script : Script} {tables : ℕ → Option Table} {first : ℕ → Pack
   -- THE TRACE FAILED,
   pub tells_stop : (acts : List Act) (new : Stage) (tells : TellsFront acts now new)
       → Follows (start_of script tables first) (ctx.done ++ (opening ++ lines_of_all now.world acts))
+      → AreOfOneEvent (after_moments (start_of script tables first) ctx.done) (opening ++ lines_of_all now.world acts)
       → (AreNoSectors (lines_of_all now.world tells.done) × AreBehind script tables first new.held ctx.done)
       ⊎ (SaysOneSector (lines_of_all now.world tells.done) × AreBehind script tables first new.held (ctx.done ++ (opening ++ lines_of_all now.world tells.done)))
       → StaysBeyond script tables first new.held → (IsTrue new.trace_tells → IsTrue now.trace_tells) → (IsTrue new.out_tells → IsTrue now.out_tells)
       → StopsAtSink script tables first new.held new.out_tells said new.said new.trace_tells taken new.taken
-  tells_stop acts new tells follows packs beyond still_traced still =
+  tells_stop acts new tells follows event packs beyond still_traced still =
       stops_at_sink (lines_of_all now.world tells.done) new (lines_play_nothing [] now.world tells.done)
-      (front_follows acts tells.done tells.left tells.all follows) packs beyond still_traced still tells.trace
+      (front_follows acts tells.done tells.left tells.all follows)
+      (acts_front (after_moments (start_of script tables first) ctx.done) opening now.world acts tells.done tells.left tells.all event) packs beyond still_traced still tells.trace
       (λ t. subst (IsBetween now.said (now.said ++ out_text (lines_of_all now.world tells.done))) (sym tells.out)
       (record { least = front_same now.said; most = front_more now.said (out_text (lines_of_all now.world tells.done)) }))
       (inr tells.out)
 
   -- and the sink of the answers, behind all acts.
   pub says_stop : (acts : List Act) (new : Stage) (text : List ℕ) → Follows (start_of script tables first) (ctx.done ++ (opening ++ lines_of_all now.world acts))
+      → AreOfOneEvent (after_moments (start_of script tables first) ctx.done) (opening ++ lines_of_all now.world acts)
       → (AreNoSectors (lines_of_all now.world acts) × AreBehind script tables first new.held ctx.done)
       ⊎ (SaysOneSector (lines_of_all now.world acts) × AreBehind script tables first new.held (ctx.done ++ (opening ++ lines_of_all now.world acts)))
       → StaysBeyond script tables first new.held → (IsTrue new.trace_tells → IsTrue now.trace_tells) → (IsTrue new.out_tells → IsTrue now.out_tells)
       → (IsTrue new.trace_tells → new.taken ≡ now.taken ++ trace_text (lines_of_all now.world acts))
       → (IsTrue new.out_tells → text ≡ now.said ++ out_text (lines_of_all now.world acts)) → (IsTrue new.out_tells → IsBetween now.said text new.said)
       → StopsAtSink script tables first new.held new.out_tells said new.said new.trace_tells taken new.taken
-  says_stop acts new text follows packs beyond still_traced still trace whole between =
-      stops_at_sink (lines_of_all now.world acts) new (lines_play_nothing [] now.world acts) follows packs beyond still_traced still
+  says_stop acts new text follows event packs beyond still_traced still trace whole between =
+      stops_at_sink (lines_of_all now.world acts) new (lines_play_nothing [] now.world acts) follows event packs beyond still_traced still
       (λ t. subst (IsBetween now.taken (now.taken ++ trace_text (lines_of_all now.world acts))) (sym (trace t))
       (record { least = front_more now.taken (trace_text (lines_of_all now.world acts)); most = front_same (now.taken ++ trace_text (lines_of_all now.world acts)) }))
       (λ t. subst (λ (most : List ℕ). IsBetween now.said most new.said) (whole t) (between t))
       (inl trace)
 
--- A MOVE does one act at most, which tells one line.
-abbrev pub IsShort : List Act → Type 0
-IsShort [] = Unit {0}
-IsShort (x ∷ []) = Unit {0}
-IsShort (x ∷ y ∷ rest) = ⊥
-
-front_short : (acts done left : List Act) → IsShort acts → acts ≡ done ++ left → (done ≡ []) ⊎ (done ≡ acts)
-front_short acts [] left short all = inl refl
-front_short [] (d ∷ done) left short all = absurd (cc all)
-front_short (x ∷ []) (d ∷ []) left short all =
-    inr (sym (all ∙ ap (λ (l : List Act). d ∷ l) (sym (ap (λ (l : List Act). drop 1 l) all))))
-front_short (x ∷ []) (d ∷ e ∷ done) left short all = absurd (let none : [] ≡ e ∷ (done ++ left) = ap (λ (l : List Act). drop 1 l) all in cc none)
-front_short (x ∷ y ∷ rest) (d ∷ done) left short all = absurd short
-
-short_in_hand : (queue : List Waiter) (line u : ℕ) (d : Deed) (w : World) → IsShort (in_hand_by queue line u d w)
-short_in_hand [] line u d w = tt
-short_in_hand (x ∷ rest) line u d w = tt
-
-short_or : (b : Bool) (line u : ℕ) (d : Deed) (w : World) → IsShort (or_nothing b line (in_hand line u d) w)
-short_or true line u d w = short_in_hand (unit_at w u).queue line u d w
-short_or false line u d w = tt
-
+-- A MOVE says one line at most.
 says_none : SaysOneSector []
 says_none = record { few = omega arith; silent = refl }
 
@@ -363,6 +350,8 @@ pub record EventContext (script : Script) (tables : ℕ → Option Table) (first
   pub sound : Sound now.world
   pub goes : (tried : Tried) → MayCome now.world input tried → IsReadOf now.world now.held input tried
       → Whole script tables first (packs_after_all now.world now.held (event_acts line input tried now.world)) (ctx.done ++ (opening ++ lines_of_all now.world (event_acts line input tried now.world)))
+  pub one : (tried : Tried) → MayCome now.world input tried → IsReadOf now.world now.held input tried
+      → AreOfOneEvent (after_moments (start_of script tables first) ctx.done) (opening ++ lines_of_all now.world (event_acts line input tried now.world))
   pub silent : is_move input ≡ true → out_text opening ≡ []
   pub move : (a : ℕ) → input ≡ says.MoveAt a → IsAtMove now.world (after_moments (start_of script tables first) ctx.done) ctx.later a
 
@@ -379,7 +368,7 @@ module _ {script : Script} {tables : ℕ → Option Table} {first : ℕ → Pack
   still_tells : is_move input ≡ false → IsThere now.world input → new.held ≡ now.held → EventTellsFront line input now new → Sink
   still_tells is there same e =
       let may : MayCome now.world input e.tried × IsReadOf now.world now.held input e.tried = still_may input e.tried now.world now.held is there in
-      tells_stop at.ctx (event_acts line input e.tried now.world) new e.tells (at.goes e.tried may.0 may.1).follows
+      tells_stop at.ctx (event_acts line input e.tried now.world) new e.tells (at.goes e.tried may.0 may.1).follows (at.one e.tried may.0 may.1)
       (inl (event_quiet line input e.tried now.world e.tells.done e.tells.left (no_move input is) e.tells.all, same_behind same)) (same_beyond at.ctx new.held same) still_traced still
 
   says_by : ((is_move input ≡ false) × AreBehind script tables first new.held at.ctx.done) ⊎ (is_move input ≡ true) → now.world.answers ≡ [] → EventSaysFront line input now new → Sink
@@ -389,7 +378,7 @@ module _ {script : Script} {tables : ℕ → Option Table} {first : ℕ → Pack
       at.goes e.plays.tried e.plays.may (e.plays.reads told) in
       let text : IsTrue new.out_tells → e.text ≡ now.said ++ out_text (lines_of_all now.world acts) =
       λ t. e.plays.plays.out t ∙ ap (λ (xs : List ℕ). now.said ++ xs) (event_said line input now (record new { world = e.world; said = e.text; tally = e.tally }) none e.plays) in
-      says_stop at.ctx acts new e.text whole.follows (packs_by packs)
+      says_stop at.ctx acts new e.text whole.follows (at.one e.plays.tried e.plays.may (e.plays.reads told)) (packs_by packs)
       (whole_beyond at.ctx (lines_of_all now.world acts) new.held (packs_after_all now.world now.held acts) (lines_play_nothing [] now.world acts) (e.plays.packs told) whole)
       still_traced still e.plays.plays.trace text e.said
     where
@@ -420,7 +409,7 @@ module _ {script : Script} {tables : ℕ → Option Table} {first : ℕ → Pack
       none_done : e.tells.done ≡ [] → Sink
       none_done none =
           stops_at_sink (unopened at.ctx (at.silent moves)) [] new refl
-          (subst (Follows (start_of script tables first)) (sym (append-nil at.ctx.done)) at.ctx.follows)
+          (subst (Follows (start_of script tables first)) (sym (append-nil at.ctx.done)) at.ctx.follows) tt
           (inl (tt, same_behind (e.tells.packs told ∙ ap (λ (done : List Act). packs_after_all now.world now.held done) none)))
           (same_beyond at.ctx new.held (e.tells.packs told ∙ ap (λ (done : List Act). packs_after_all now.world now.held done) none)) still_traced still
           (λ t. subst (λ (done : List Act). IsBetween now.taken (now.taken ++ trace_text (lines_of_all now.world done)) new.taken) none (e.tells.trace t))
@@ -432,6 +421,7 @@ module _ {script : Script} {tables : ℕ → Option Table} {first : ℕ → Pack
           let whole : Whole script tables first (packs_after_all now.world now.held acts) (at.ctx.done ++ (opening ++ lines_of_all now.world acts)) =
           at.goes e.tried (is.may (subst (Run now.world) all e.tells.run)) (is.reads (subst (ReadAll now.world now.held) all (e.tells.reads told))) in
           tells_stop at.ctx acts new e.tells whole.follows
+          (at.one e.tried (is.may (subst (Run now.world) all e.tells.run)) (is.reads (subst (ReadAll now.world now.held) all (e.tells.reads told))))
           (inr (
             subst (λ (done : List Act). SaysOneSector (lines_of_all now.world done)) (sym all) (one_of line input e.tried now.world moves),
             subst (λ (held : ℕ → Pack). AreBehind script tables first held (at.ctx.done ++ (opening ++ lines_of_all now.world e.tells.done))) (sym (e.tells.packs told))
@@ -464,6 +454,8 @@ module _ {script : Script} {tables : ℕ → Option Table} {first : ℕ → Pack
         came = record {
           follows = subst (Follows (start_of script tables first)) (sym (append-nil at.ctx.done)) at.ctx.follows;
           inputs = at.ctx.inputs ∙ ap (λ (ms : List Moment). played ms ++ at.ctx.later) (sym (append-nil at.ctx.done));
+          ended = at.ctx.ended;
+          event = tt;
           one = omega arith;
         };
         world = now.world;

@@ -6,7 +6,8 @@ use Rattle.pack_model.specs.TableSpelling.{Table}
 use Rattle.subsystem_spec.specs.Requests.{Request}
 use Rattle.trace_replay.specs.Moments.{Moment, Played, played, answers_in}
 use Rattle.trace_replay.specs.Script.{Script, Input, MoveAt, Drain, Line, Numbered, Statement, Declares, Plays, drives_of, inputs_of, inputs_before}
-use Rattle.trace_replay.specs.Replay.{Replay, Follows, AreLeft, after_moments}
+use Rattle.trace_replay.specs.Events.{NoLine}
+use Rattle.trace_replay.specs.Replay.{Replay, Follows, AreLeft, next_wish, after_moment, after_moments}
 use Rattle.trace_replay.specs.Runs.{start_of}
 use Rattle.trace_replay.specs.Text.{trace_text}
 use Rattle.driver_machine.specs.World.{World, Held, unit_at}
@@ -58,11 +59,23 @@ pub record AreBehind (script : Script) (tables : ℕ → Option Table) (first le
   pub surface : AreLeft (drives_of script) first left (after_moments (start_of script tables first) moments).surface
   pub long : AreAsLong (start_of script tables first) moments first left
 
--- HOW FAR IT CAME: what was done to its end, and the one event under way as far as it came, of one line of the script at most. The moments
--- follow from the start, and play the first inputs of the script.
+-- AN EVENT IS OVER where no line of it is still to come, or a drain stands before its next one.
+abbrev pub IsEventOver : Replay → Type 0
+IsEventOver s = (next_wish s ≡ NoLine) ⊎ (s.event.between ≡ true)
+
+-- MOMENTS OF ONE EVENT: it is over behind none of them but the last.
+abbrev pub AreOfOneEvent : Replay → List Moment → Type 0
+AreOfOneEvent s [] = Unit {0}
+AreOfOneEvent s (m ∷ []) = Unit {0}
+AreOfOneEvent s (m ∷ n ∷ ms) = (IsEventOver (after_moment s m) → ⊥) × AreOfOneEvent (after_moment s m) (n ∷ ms)
+
+-- HOW FAR IT CAME: what was done, the last event of it to its end, and the one event under way as far as it came, of one line of the
+-- script at most. The moments follow from the start, and play the first inputs of the script.
 pub record CameTo (script : Script) (tables : ℕ → Option Table) (first : ℕ → Pack) (done under : List Moment) (later : List Numbered) : Type 0 where
   pub follows : Follows (start_of script tables first) (done ++ under)
   pub inputs : inputs_of script ≡ played (done ++ under) ++ later
+  pub ended : IsEventOver (after_moments (start_of script tables first) done)
+  pub event : AreOfOneEvent (after_moments (start_of script tables first) done) under
   pub one : length (played under) ≤ 1
 
 -- A SINK FAILED. The packs are as before the event, which told of no sector; or behind it, which was a move. Each sink took all that was

@@ -76,7 +76,12 @@ fn work<T: Sink>(
 
 /// Does the one deed that is due at a unit, if one is, and says whether one was. A transfer command that is due at once wants the
 /// unit's adapter free. At Err a call of the trace failed.
-pub(crate) fn next_deed<T: Sink>(core: &mut Core, line: u64, u: u8, trace: &mut T) -> Result<bool, Stop>
+pub(crate) fn next_deed<T: Sink>(
+    core: &mut Core,
+    line: u64,
+    u: u8,
+    trace: &mut T,
+) -> Result<bool, Stop>
     requires sound { Sound core.old.world }
     requires unit { u < 32 }
     requires free { IsFree core.old.world u }

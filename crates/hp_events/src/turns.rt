@@ -55,7 +55,12 @@ fn choose_first<T: Sink>(core: &mut Core, line: u64, a: u8, trace: &mut T) -> Re
 
 /// Starts an adapter, 0 to 3: the first unit that waits for it is given what is due, until the adapter is busy or no unit waits.
 /// Stops where the trace fails.
-pub(crate) fn start_adapter<T: Sink>(core: &mut Core, line: u64, a: u8, trace: &mut T) -> Result<(), Stop>
+pub(crate) fn start_adapter<T: Sink>(
+    core: &mut Core,
+    line: u64,
+    a: u8,
+    trace: &mut T,
+) -> Result<(), Stop>
     requires sound { Sound core.old.world }
     requires adapter { a < 4 }
     ensures { DoesActs T.tells T.taken T.faults trace.old trace.new core.old core.new result (adapter_start line a core.old.world) }

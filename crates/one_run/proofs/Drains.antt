@@ -2,7 +2,7 @@
 use Rattle.std.proofs.Common.{◌≡◌, inl, inr, ℕ, zero, suc, ◌+◌, ◌<◌, ◌≤◌, true, List, [], ◌∷◌, ◌++◌, Option, Some, None, refl, ap, arith, ◌∙◌}
 use Rattle.pack_model.specs.Pack.{Pack}
 use Rattle.pack_model.specs.TableSpelling.{Table}
-use Rattle.trace_replay.specs.Moments.{Moment, Played}
+use Rattle.trace_replay.specs.Moments.{Moment, Played, played}
 use Rattle.trace_replay.specs.Script as says
 use Rattle.trace_replay.specs.Script.{Script, Input, Numbered, drives_of}
 use Rattle.trace_replay.specs.Packs.{surface_of}
@@ -21,11 +21,13 @@ use Rattle.driver_work.proofs.Next.{next_can}
 use Rattle.driver_invariant.proofs.Sound.{sound_after}
 use Rattle.driver_outcome.specs.Packs.{packs_after_all}
 use Rattle.driver_trace.specs.Calls.{Stands}
-use Rattle.driver_trace.specs.Runs.{with_call}
+use Rattle.driver_trace.specs.Runs.{with_call, IsDraining}
 use Rattle.driver_trace.proofs.Drains.{GoesOn, drain_begins, drain_goes_on, drain_between}
 use Rattle.driver_trace.proofs.Runs.{drain_finds_nothing, drain_ends}
 use Rattle.driver_trace.proofs.Inputted.{calls_are_played, lines_play_nothing}
+use Rattle.driver_runs.specs.Runs.{IsKept}
 use Rattle.driver_runs.proofs.Runs.{events_keep}
+use Rattle.driver_drains.specs.Drains.{AreAsked}
 use Rattle.driver_drains.proofs.Asked.{calls_ask, lines_ask_nothing}
 use Rattle.driver_trace.proofs.Calls.{drain_starts_on, drain_goes_further}
 use Rattle.driver_drains.proofs.Falls.{scripts_can_start, falls_on}

@@ -9,11 +9,15 @@ use Rattle.pack_geometry.specs.Geometry.{block_count}
 use Rattle.pack_model.specs.TableSpelling.{Table}
 use Rattle.subsystem_spec.specs.Requests.{first_block}
 use Rattle.trace_replay.specs.Moments.{Told}
+use Rattle.trace_replay.specs.Replay.{after_moments}
+use Rattle.trace_replay.specs.Runs.{start_of}
 use Rattle.trace_replay.specs.Script as says
 use Rattle.trace_replay.specs.Script.{Input, Numbered, drives_of, inputs_of}
 use Rattle.trace_bounds.specs.Drains.{event_by}
 use Rattle.driver_reach.specs.Reach.{AsksBelow, AskBelow, TablesBelow}
-use Rattle.promise_rows.specs.Naming.{LaterUnitNamed, FittingLengthNamed, FirstEventUntold, OtherRunByOtherTables, NoneWrites, WritesTo, ReadsLengthen, TwoLinesUnderWay, MarkGoneBehindAFailure, NotAsLongAsWritten}
+use Rattle.event_player.specs.Stops.{AreOfOneEvent}
+use Rattle.event_player.proofs.OneEvent.{over_at_last}
+use Rattle.promise_rows.specs.Naming.{LaterUnitNamed, FittingLengthNamed, FirstEventUntold, OtherRunByOtherTables, NoneWrites, WritesTo, ReadsLengthen, TwoLinesUnderWay, TwoEventsUnderWay, MarkGoneBehindAFailure, NotAsLongAsWritten}
 
 pub later_unit_named : LaterUnitNamed
 later_unit_named script packs unit n named other kind there more =
@@ -126,6 +130,11 @@ pub two_lines_under_way : TwoLinesUnderWay
 two_lines_under_way script tables first left out_tells said said' trace_tells taken taken' stops two =
     let one = stops.came.one in
     omega (arith, one, two)
+
+pub two_events_under_way : TwoEventsUnderWay
+two_events_under_way script tables first left out_tells said said' trace_tells taken taken' stops front back m n is over =
+    over_at_last (after_moments (start_of script tables first) stops.done) front back m n
+    (subst (AreOfOneEvent (after_moments (start_of script tables first) stops.done)) is stops.came.event) over
 
 pub mark_gone_behind_a_failure : MarkGoneBehindAFailure
 mark_gone_behind_a_failure script first left out_tells said said' trace_tells taken taken' stops keeps unit other = other ((keeps stops).2.marks unit)

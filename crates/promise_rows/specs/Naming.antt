@@ -13,7 +13,7 @@ use Rattle.run_promises.specs.Promises.{Promises}
 use Rattle.driver_reach.specs.Lengths.{length_behind}
 use Rattle.event_player.specs.declared.play.PlayFault.TheVariants as faults
 use Rattle.event_player.specs.Plays.{NamesTooLong, Plays}
-use Rattle.event_player.specs.Stops.{StopsAtSink, StopsPlaying}
+use Rattle.event_player.specs.Stops.{IsEventOver, StopsAtSink, StopsPlaying}
 use Rattle.hpsim_run.specs.SoFar.{Keeps}
 
 -- A LATER UNIT NAMED: the image of a unit that a line before declares is too long, and another unit is named.
@@ -60,6 +60,12 @@ NotAsLongAsWritten = (script : Script) (old new : ℕ → Pack) (out_tells : Boo
 abbrev pub TwoLinesUnderWay : Type 0
 TwoLinesUnderWay = (script : Script) (tables : ℕ → Option Table) (first left : ℕ → Pack) (out_tells : Bool) (said said' : List ℕ) (trace_tells : Bool) (taken taken' : List ℕ)
     → (stops : StopsAtSink script tables first left out_tells said said' trace_tells taken taken') → ¬ (2 ≤ length (played stops.under))
+
+-- TWO EVENTS UNDER WAY, where a sink failed: one of them is over, and a moment of another one stands behind it.
+abbrev pub TwoEventsUnderWay : Type 0
+TwoEventsUnderWay = (script : Script) (tables : ℕ → Option Table) (first left : ℕ → Pack) (out_tells : Bool) (said said' : List ℕ) (trace_tells : Bool) (taken taken' : List ℕ)
+    → (stops : StopsAtSink script tables first left out_tells said said' trace_tells taken taken') → (front back : List Moment) (m n : Moment) → stops.under ≡ front ++ m ∷ n ∷ back
+    → ¬ IsEventOver (after_moments (after_moments (start_of script tables first) stops.done) (front ++ m ∷ []))
 
 -- A MARK GONE BEHIND A FAILURE: the packs failed, and in what is left a mark is another one.
 abbrev pub MarkGoneBehindAFailure : Type 0

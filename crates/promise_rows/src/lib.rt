@@ -2,7 +2,7 @@
 #![tactic(auto)]
 
 ghost use Rattle.promise_rows.specs.Playing.{AlwaysAFault, AnswersKeptBack, BlockBeforeItsEvent, BlockBehindAStop, BlockOfNoUnit, NoiseLineUncounted, ShortLastBlockWhole};
-ghost use Rattle.promise_rows.specs.Naming.{LaterUnitNamed, FittingLengthNamed, FirstEventUntold, OtherRunByOtherTables, ReadsLengthen, NotAsLongAsWritten, TwoLinesUnderWay, MarkGoneBehindAFailure};
+ghost use Rattle.promise_rows.specs.Naming.{LaterUnitNamed, FittingLengthNamed, FirstEventUntold, OtherRunByOtherTables, ReadsLengthen, NotAsLongAsWritten, TwoLinesUnderWay, TwoEventsUnderWay, MarkGoneBehindAFailure};
 ghost use Rattle.promise_rows.specs.Strikes.{FailedByFewStrikes};
 ghost use Rattle.promise_rows.specs.Headers.{HeadersAreAsTheDriveHasThem};
 ghost use Rattle.promise_rows.specs.Others.{DoneWhereTheTextWasNotTaken, FaultThatPrints, HandedInPacksPlayed, PlayedAsRefusedByTheTool};
@@ -31,7 +31,7 @@ pub fn other_rows()
 {}
 
 /// Of `play` too: the unit that is named as too long is the first one, with a length that does not fit; the first event of a drain is told;
-/// no other tables have another run; reads lengthen no image, and writes do as far as they reach; one line of the script at most is under way at a stop; and the packs that
+/// no other tables have another run; reads lengthen no image, and writes do as far as they reach; one event is under way at a stop, of one line of the script at most; and the packs that
 /// are left by a failure have their marks.
 pub fn naming_rows()
     ensures later_unit_named { LaterUnitNamed }
@@ -41,6 +41,7 @@ pub fn naming_rows()
     ensures reads_lengthen { ReadsLengthen }
     ensures not_as_long_as_written { NotAsLongAsWritten }
     ensures two_lines_under_way { TwoLinesUnderWay }
+    ensures two_events_under_way { TwoEventsUnderWay }
     ensures mark_gone_behind_a_failure { MarkGoneBehindAFailure }
 {}
 
