@@ -14,8 +14,7 @@ use Rattle.driver_outcome.specs.declared.Stop.{Stop}
 use Rattle.driver_outcome.proofs.Joined.{does_then, stopped_before, nothing_done}
 use Rattle.hp_core.specs.State.{State, site}
 use Rattle.hp_core.specs.Done.{DoesAct, DoesSilently}
-use Rattle.hp_events.specs.Done.{DoesActs}
-use Rattle.driver_work.specs.Runs.{Run}
+use Rattle.hp_events.specs.Done.{DoesActs, AllDone}
 
 -- A call that ends says what it likes of another type, and so does one that fails.
 pub said : {O A B : Type 0} (tells : O → Bool) (taken : O → List ℕ) (faults : O → ℕ) (trace trace' : O) (old new : State) (x : A) (y : B) (acts : List Act)
@@ -101,12 +100,7 @@ stopped tells taken faults trace trace' old new stop first next is = record {
   cause = record { later = is.cause.later; failed = is.cause.failed };
 }
 
--- WHERE NOTHING FAILED all acts ran: the world is as they leave it, and sound.
-pub record AllDone (old new : World) (acts : List Act) : Type 0 where
-  pub run : Run old acts
-  pub world : new ≡ after_all old acts
-  pub sound : Sound new
-
+-- WHERE NOTHING FAILED
 pub all_done : {O A : Type 0} (tells : O → Bool) (taken : O → List ℕ) (faults : O → ℕ) (trace trace' : O) (old new : State) (x : A) (acts : List Act)
     → Sound old.world → DoesActs tells taken faults trace trace' old new (Ok x) acts → AllDone old.world new.world acts
 all_done tells taken faults trace trace' old new x acts sound is =
