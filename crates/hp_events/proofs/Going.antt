@@ -10,8 +10,8 @@ use Rattle.driver_machine.specs.Events.{Part, followed, each, go_on, until, driv
 use Rattle.driver_machine.specs.Sound.{Sound}
 use Rattle.driver_outcome.specs.declared.Stop.{Stop}
 use Rattle.hp_core.specs.State.{State}
-use Rattle.hp_events.specs.Done.{DoesActs, AllDone}
-use Rattle.hp_events.proofs.Joined.{said, done_nothing, then_acts, stopped, all_done}
+use Rattle.hp_events.specs.Done.{DoesActs}
+use Rattle.hp_events.proofs.Joined.{said, done_nothing, then_acts, stopped, all_done, AllDone}
 
 -- some acts are done; with those that are left they are all
 pub record Going {O : Type 0} (tells : O → Bool) (taken : O → List ℕ) (faults : O → ℕ) (trace trace' : O) (old new : State) (all left : List Act) : Type 0 where

@@ -1,5 +1,5 @@
 -- Calls one behind the other, each of which does acts.
-use Rattle.std.proofs.Common.{ℕ, ◌≤◌, Bool, false, IsTrue, List, [], ◌∷◌, ◌++◌, sym, subst, arith}
+use Rattle.std.proofs.Common.{◌≡◌, ℕ, ◌≤◌, Bool, false, IsTrue, List, [], ◌∷◌, ◌++◌, sym, subst, arith}
 use Rattle.std.specs.Prelude.{Result, Ok, Err}
 use Rattle.pack_model.specs.Pack.{empty_pack}
 use Rattle.outside_traits.specs.Causes.{HasCause, Rose}
@@ -14,7 +14,8 @@ use Rattle.driver_outcome.specs.declared.Stop.{Stop}
 use Rattle.driver_outcome.proofs.Joined.{does_then, stopped_before, nothing_done}
 use Rattle.hp_core.specs.State.{State, site}
 use Rattle.hp_core.specs.Done.{DoesAct, DoesSilently}
-use Rattle.hp_events.specs.Done.{DoesActs, AllDone}
+use Rattle.hp_events.specs.Done.{DoesActs}
+use Rattle.driver_work.specs.Runs.{Run}
 
 -- A call that ends says what it likes of another type, and so does one that fails.
 pub said : {O A B : Type 0} (tells : O → Bool) (taken : O → List ℕ) (faults : O → ℕ) (trace trace' : O) (old new : State) (x : A) (y : B) (acts : List Act)
@@ -100,7 +101,12 @@ stopped tells taken faults trace trace' old new stop first next is = record {
   cause = record { later = is.cause.later; failed = is.cause.failed };
 }
 
--- WHERE NOTHING FAILED
+-- WHERE NOTHING FAILED all acts ran: the world is as they leave it, and sound.
+pub record AllDone (old new : World) (acts : List Act) : Type 0 where
+  pub run : Run old acts
+  pub world : new ≡ after_all old acts
+  pub sound : Sound new
+
 pub all_done : {O A : Type 0} (tells : O → Bool) (taken : O → List ℕ) (faults : O → ℕ) (trace trace' : O) (old new : State) (x : A) (acts : List Act)
     → Sound old.world → DoesActs tells taken faults trace trace' old new (Ok x) acts → AllDone old.world new.world acts
 all_done tells taken faults trace trace' old new x acts sound is =

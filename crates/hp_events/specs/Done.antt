@@ -2,10 +2,7 @@
 use Rattle.std.specs.Prelude.{◌≡◌, ℕ, Bool, IsTrue, List, Result, IfErr}
 use Rattle.pack_model.specs.Pack.{Pack}
 use Rattle.outside_traits.specs.Causes.{HasCause}
-use Rattle.driver_machine.specs.World.{World}
-use Rattle.driver_machine.specs.Acts.{Act, after_all}
-use Rattle.driver_machine.specs.Sound.{Sound}
-use Rattle.driver_work.specs.Runs.{Run}
+use Rattle.driver_machine.specs.Acts.{Act}
 use Rattle.driver_outcome.specs.Outcome.{Outcome, stop_in}
 use Rattle.driver_outcome.specs.declared.Stop.{Stop}
 use Rattle.driver_outcome.specs.declared.Stop.TheVariants.{Sink}
@@ -19,9 +16,3 @@ pub record DoesActs {O A : Type 0} (tells : O → Bool) (taken : O → List ℕ)
   pub stop : IfErr result (λ stop. stop ≡ Sink)
   pub never_again : IsTrue (tells trace') → IsTrue (tells trace)
   pub cause : HasCause (faults trace) (faults trace') result
-
--- WHERE NOTHING FAILED all acts ran: the world is as they leave it, and sound.
-pub record AllDone (old new : World) (acts : List Act) : Type 0 where
-  pub run : Run old acts
-  pub world : new ≡ after_all old acts
-  pub sound : Sound new
