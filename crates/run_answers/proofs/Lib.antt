@@ -1,2 +1,4 @@
 pub mod Turning
 pub mod Conditions
+pub mod Tying
+pub mod Telling
