@@ -2,3 +2,4 @@ pub mod Turning
 pub mod Conditions
 pub mod Tying
 pub mod Telling
+pub mod Asking

@@ -96,7 +96,7 @@ sort Attn =
 sort (End a) = inr (a, refl)
 
 -- ITS PLACE ALONE CHANGES
-request_many : (l : List Request) (n : ℕ) (r : Request) → length (set l n r) ≡ length l
+pub request_many : (l : List Request) (n : ℕ) (r : Request) → length (set l n r) ≡ length l
 request_many [] n r = refl
 request_many (x ∷ l) zero r = refl
 request_many (x ∷ l) (suc n) r = ap (λ (m : ℕ). suc m) (request_many l n r)
@@ -263,3 +263,15 @@ line_in drives s k lines line u id d (w ∷ rest) may fit t e q is =
 pub line_tied : (drives : ℕ → Option DriveKind) (s : Replay) (k : Known) (lines : ℕ → List Deed) (line u id : ℕ) (d : Deed) → LineMay s line u id d → AllFit s lines → Tied drives s k lines
     → Tied drives (replay_told s u d (unit_after s u d)) (heard (seen.Told line u id (told_of d)) k) (λ x. lines_after x (Told line u id d) (lines x))
 line_tied drives s k lines line u id d may fit t = line_in drives s k lines line u id d (s.units u).service.waiting may fit t refl (t.queues u) may.service
+
+-- and no id comes
+ids_in : (k : Known) (l : List Deed) (line u id : ℕ) (d : Deed) (ws : List (Waiting Wish)) → IsTied k.ids k.requests (drive_at k.drives u) u l ws → ids (first_waiting ws) ≡ Some id
+    → (place : ℕ) × (place_of k.ids id ≡ Some place)
+ids_in k l line u id d [] q is = absurd (none-some id is)
+ids_in k l line u id d (w ∷ rest) q is = (q.head.place, subst (λ z. place_of k.ids z ≡ Some q.head.place) (same_Some w.request.id id is) q.head.asked.found)
+
+pub line_ids : (drives : ℕ → Option DriveKind) (s : Replay) (k : Known) (lines : ℕ → List Deed) (line u id : ℕ) (d : Deed) → LineMay s line u id d → Tied drives s k lines
+    → (heard (seen.Told line u id (told_of d)) k).ids ≡ k.ids
+line_ids drives s k lines line u id d may t =
+    let found : (place : ℕ) × (place_of k.ids id ≡ Some place) = ids_in k (lines u) line u id d (s.units u).service.waiting (t.queues u) may.service in
+    ap (λ (z : Known). z.ids) (own_at (place_of k.ids id) line u id k (told_of d) found.0 found.1)

@@ -137,7 +137,7 @@ all_apart ids requests u place [] f = tt
 all_apart ids requests u place (w ∷ ws) f = (f w.request, all_apart ids requests u place ws f)
 
 -- those of other ids are elsewhere
-never : {b : Bool} → b ≡ true → b ≡ false → ⊥
+pub never : {b : Bool} → b ≡ true → b ≡ false → ⊥
 never e f = grind (arith, e, f)
 
 pub own_apart : (ids : List ℕ) (requests : List Request) (u place : ℕ) (r : Wish) (ws : List (Waiting Wish)) → place_of ids r.id ≡ Some place → AllByRecursion (IsOther r) ws
@@ -146,7 +146,7 @@ own_apart ids requests u place r [] found others = tt
 own_apart ids requests u place r (w ∷ ws) found others =
     (λ p a is. never (one_id 0 ids w.request.id r.id place (a.found ∙ ap (λ (n : ℕ). Some n) is) found) others.0, own_apart ids requests u place r ws found others.1)
 
-head_stays : (ids ids' : List ℕ) (requests requests' : List Request) (place u : ℕ) (d d' : Drive) (lines : List Deed) (w : Waiting Wish) → Grows ids ids' requests requests' place
+pub head_stays : (ids ids' : List ℕ) (requests requests' : List Request) (place u : ℕ) (d d' : Drive) (lines : List Deed) (w : Waiting Wish) → Grows ids ids' requests requests' place
     → d'.trial ≡ d.trial → Apart ids requests u place w → IsHead ids requests d u lines w.request → IsHead ids' requests' d' u lines w.request
 head_stays ids ids' requests requests' place u d d' lines w g t apart h =
     let e : request_at requests' h.place ≡ request_at requests h.place = (g.others h.place h.asked.inside (apart h.place h.asked)).1 in record {
@@ -235,10 +235,10 @@ act_stays old new act st a =
     subst (λ (l : List ℕ). ActTied l new.requests act) (sym st.ids) (subst (λ (l : List Request). ActTied old.ids l act) (sym st.requests) a)
 
 -- ONE MORE waits
-first_stays : (n y : Waiting Wish) (ys : List (Waiting Wish)) → is_before y n ≡ true → put n (y ∷ ys) ≡ y ∷ put n ys
+pub first_stays : (n y : Waiting Wish) (ys : List (Waiting Wish)) → is_before y n ≡ true → put n (y ∷ ys) ≡ y ∷ put n ys
 first_stays n y ys e = cond-true (is_before y n) (y ∷ put n ys) (n ∷ y ∷ ys) e
 
-swapped : (n m : ℕ) → (n == m) ≡ false → (m == n) ≡ false
+pub swapped : (n m : ℕ) → (n == m) ≡ false → (m == n) ≡ false
 swapped n m e = grind (arith, nat_tests, e)
 
 pub once_more : (n : Waiting Wish) (ys : List (Waiting Wish)) → AllByRecursion (IsOther n.request) ys → AreOnce ys → AreOnce (put n ys)
