@@ -3,3 +3,4 @@ pub mod Conditions
 pub mod Tying
 pub mod Telling
 pub mod Asking
+pub mod Running

@@ -264,14 +264,22 @@ pub line_tied : (drives : ℕ → Option DriveKind) (s : Replay) (k : Known) (li
     → Tied drives (replay_told s u d (unit_after s u d)) (heard (seen.Told line u id (told_of d)) k) (λ x. lines_after x (Told line u id d) (lines x))
 line_tied drives s k lines line u id d may fit t = line_in drives s k lines line u id d (s.units u).service.waiting may fit t refl (t.queues u) may.service
 
--- and no id comes
-ids_in : (k : Known) (l : List Deed) (line u id : ℕ) (d : Deed) (ws : List (Waiting Wish)) → IsTied k.ids k.requests (drive_at k.drives u) u l ws → ids (first_waiting ws) ≡ Some id
-    → (place : ℕ) × (place_of k.ids id ≡ Some place)
-ids_in k l line u id d [] q is = absurd (none-some id is)
-ids_in k l line u id d (w ∷ rest) q is = (q.head.place, subst (λ z. place_of k.ids z ≡ Some q.head.place) (same_Some w.request.id id is) q.head.asked.found)
+-- THE HEAD, by its id
+pub record HeadAt (names : List ℕ) (l : List Request) (u id : ℕ) : Type 0 where
+  pub wish : Wish
+  pub place : ℕ
+  pub asked : IsAsked names l u wish place
+  pub found : place_of names id ≡ Some place
 
+pub head_at : (names : List ℕ) (l : List Request) (x : Drive) (u : ℕ) (lines : List Deed) (id : ℕ) (ws : List (Waiting Wish)) → IsTied names l x u lines ws → ids (first_waiting ws) ≡ Some id
+    → HeadAt names l u id
+head_at names l x u lines id [] q is = absurd (none-some id is)
+head_at names l x u lines id (w ∷ rest) q is =
+    record { wish = w.request; place = q.head.place; asked = q.head.asked; found = subst (λ z. place_of names z ≡ Some q.head.place) (same_Some w.request.id id is) q.head.asked.found }
+
+-- and no id comes
 pub line_ids : (drives : ℕ → Option DriveKind) (s : Replay) (k : Known) (lines : ℕ → List Deed) (line u id : ℕ) (d : Deed) → LineMay s line u id d → Tied drives s k lines
     → (heard (seen.Told line u id (told_of d)) k).ids ≡ k.ids
 line_ids drives s k lines line u id d may t =
-    let found : (place : ℕ) × (place_of k.ids id ≡ Some place) = ids_in k (lines u) line u id d (s.units u).service.waiting (t.queues u) may.service in
-    ap (λ (z : Known). z.ids) (own_at (place_of k.ids id) line u id k (told_of d) found.0 found.1)
+    let h : HeadAt k.ids k.requests u id = head_at k.ids k.requests (drive_at k.drives u) u (lines u) id (s.units u).service.waiting (t.queues u) may.service in
+    ap (λ (z : Known). z.ids) (own_at (place_of k.ids id) line u id k (told_of d) h.place h.found)
