@@ -4,3 +4,4 @@ pub mod Tying
 pub mod Telling
 pub mod Asking
 pub mod Running
+pub mod Starting
