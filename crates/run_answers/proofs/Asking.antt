@@ -70,13 +70,13 @@ longer n p m inside e = omega (arith, inside, e)
 last_inside : (n m : ℕ) → m ≡ n + 1 → n < m
 last_inside n m e = omega (arith, e)
 
-append_grows : (names : List ℕ) (l : List Request) (id : ℕ) (x : Request) → Grows names (names ++ id ∷ []) l (l ++ x ∷ []) (length l)
+pub append_grows : (names : List ℕ) (l : List Request) (id : ℕ) (x : Request) → Grows names (names ++ id ∷ []) l (l ++ x ∷ []) (length l)
 append_grows names l id x = record {
   found = λ i p e. found_more 0 names id i p e;
   others = λ p inside apart. (longer (length l) p (length (l ++ x ∷ [])) inside (length-append l (x ∷ [])), get_or_append_left l (x ∷ []) (new_request 0 0 0 0 false) p inside);
 }
 
-below_end : (n p : ℕ) → p < n → p ≢ n
+pub below_end : (n p : ℕ) → p < n → p ≢ n
 below_end n p inside e = omega (arith, inside, e)
 
 one_longer : (n m a b : ℕ) → n ≡ m → a ≡ n + 1 → b ≡ m + 1 → a ≡ b

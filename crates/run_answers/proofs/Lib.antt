@@ -5,3 +5,5 @@ pub mod Telling
 pub mod Asking
 pub mod Running
 pub mod Starting
+pub mod Ended
+pub mod Answered

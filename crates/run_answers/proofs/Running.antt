@@ -258,7 +258,7 @@ line_both drives names s k lines line u id d may fit b =
 none_back : (n : ℕ) → n - 0 ≡ n
 none_back n = omega arith
 
-refused_is_so : (k : Known) (u place : ℕ) (o : Outcome) → (request_at k.requests place).why ≡ Some o → is_refused place (drive_at k.drives u) (request_at k.requests place) ≡ true
+pub refused_is_so : (k : Known) (u place : ℕ) (o : Outcome) → (request_at k.requests place).why ≡ Some o → is_refused place (drive_at k.drives u) (request_at k.requests place) ≡ true
 refused_is_so k u place o e = ap (λ (w : Option Outcome). is_some w || (is_some (drive_at k.drives u).trial.hand && not (is_at (drive_at k.drives u).trial.hand place))) e
 
 refusal_tied : (drives : ℕ → Option DriveKind) (s : Replay) (k : Known) (lines : ℕ → List Deed) (line u id : ℕ) (why : Rejection) → Tied drives s k lines → (r : IsToRefuse k.ids k.requests id why)
