@@ -30,7 +30,7 @@ use Rattle.trace_lines.specs.declared.telling.Told.TheVariants as deed
 use Rattle.trace_replay.specs.Causes.{AskSome}
 use Rattle.trace_replay.specs.Events.{Wish, NoLine, DueLine, Arrival, SectorLine, Interrupt, Attention, Refusal, IdleLine}
 use Rattle.trace_replay.specs.History.{is_refusal, with_deed, lines_after, lines_behind, lines_of}
-use Rattle.trace_replay.specs.Moments.{Deed, End, Moment, Played, Told, Idle}
+use Rattle.trace_replay.specs.Moments.{Deed, Search, Seek, Recal, Offset, Centre, Clear, Pack, Transfer, Arrive, Sector, Intr, Try, Attn, End, Moment, Played, Told, Idle}
 use Rattle.trace_replay.specs.Packs.{surface_of}
 use Rattle.trace_replay.specs.Replay.{Replay, LineMay, ToldMay, Follows, after_moment, after_moments, next_wish, hand_of}
 use Rattle.trace_replay.specs.Runs.{IsLegalRun, start_of}

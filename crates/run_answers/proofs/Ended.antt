@@ -1,5 +1,5 @@
 -- A request that was answered stays as it is drawn.
-use Rattle.std.proofs.Common.{◌≡◌, ◌≢◌, ℕ, ◌+◌, ◌<◌, ◌==◌, Bool, true, false, cond, List, [], ◌∷◌, ◌++◌, length, map, fold, Option, Some, None, Result, Ok, Err, refl, sym, ap, ◌∙◌, subst, arith}
+use Rattle.std.proofs.Common.{◌≡◌, ◌≢◌, ℕ, zero, suc, ◌+◌, ◌<◌, ◌==◌, Bool, true, false, cond, List, [], ◌∷◌, ◌++◌, length, map, fold, Option, Some, None, Result, Ok, Err, refl, sym, ap, ◌∙◌, subst, arith}
 use Rattle.std.specs.Prelude.{is_some}
 use Rattle.std.proofs.lemmas.Option.{none-some}
 use Rattle.drive_pictures.specs.declared.moments.Moment.{Moment as Seen}
@@ -131,7 +131,7 @@ all_ended drives names s k (m ∷ ms) lines other a some follows good fit b e =
 -- BEHIND THE LAST MOMENT
 left_at : (events : ℕ) (l : List Request) (p : ℕ) → p < length l → request_at (map (left events) l) p ≡ left events (request_at l p)
 left_at events [] p inside = absurd (omega (arith, inside))
-left_at events (r ∷ l) 0 inside = refl
+left_at events (r ∷ l) zero inside = refl
 left_at events (r ∷ l) (suc p) inside = left_at events l p (omega (arith, inside))
 
 behind_rest : (o : Option Seen) (k : Known) → rest_of (ended_behind o k) ≡ rest_of k

@@ -240,11 +240,11 @@ line_at drives s k lines line u id d w place t asked o = record {
   queues = λ x. elim (eqb_tells x u) [
     | inl same ↦ rw same.0 (subst (λ z. IsTied k.ids k'.requests (drive_at k'.drives z) z (with_deed d (lines z)) (service_after (s.units u).service d).waiting) (sym same.1) o.queue)
     | inr other ↦ rw other.0
-      (queue_stays k.ids k.ids k.requests k'.requests place x (drive_at k.drives x) (drive_at k'.drives x) (lines x) (s.units x).service.waiting
-      (set_grows k.ids k.requests place (request_after k.event line place (told_of d) (drive_at k.drives u) (request_at k.requests place)))
-      (ap (λ (z : Drive). z.trial) (set_other k.drives u (drive_after k.event place (told_of d) (drive_at k.drives u) (request_at k.requests place)) x (λ is. other.1 (sym is))))
-      (all_apart k.ids k.requests x place (s.units x).service.waiting (apart_units k.ids k.requests u x place w.request asked other.1))
-      (t.queues x))
+        (queue_stays k.ids k.ids k.requests k'.requests place x (drive_at k.drives x) (drive_at k'.drives x) (lines x) (s.units x).service.waiting
+        (set_grows k.ids k.requests place (request_after k.event line place (told_of d) (drive_at k.drives u) (request_at k.requests place)))
+        (ap (λ (z : Drive). z.trial) (set_other k.drives u (drive_after k.event place (told_of d) (drive_at k.drives u) (request_at k.requests place)) x (λ is. other.1 (sym is))))
+        (all_apart k.ids k.requests x place (s.units x).service.waiting (apart_units k.ids k.requests u x place w.request asked other.1))
+        (t.queues x))
   ];
 }
   where
