@@ -40,8 +40,9 @@ use Rattle.trace_replay.proofs.Following.{follow_on}
 use Rattle.trace_replay.proofs.Kept.{AllFit, moments_all, starts, end_kept}
 use Rattle.trace_work.proofs.Asking.{run_asks}
 use Rattle.run_answers.specs.Answers.{IsDrawn, AreAnswersDrawn, AreFramesLent}
-use Rattle.run_answers.specs.Hears.{seen_of, IsDeclared}
-use Rattle.run_answers.proofs.Conditions.{are_conditions}
+use Rattle.run_answers.specs.Hears.{seen_of, known_of}
+use Rattle.run_answers.proofs.Declaring.{IsDeclared, script_declared}
+use Rattle.run_answers.proofs.Conditions.{conditions_of}
 use Rattle.run_answers.proofs.Ended.{IsEnded, all_ended, finished_ended}
 use Rattle.run_answers.proofs.Running.{refused_is_so, Both, AreGood, WishTied, next_tied, turned_both, moment_both, moment_fits}
 use Rattle.run_answers.proofs.Starting.{run_good, names_behind, good_parts, some_parts, all_both, start_both}
@@ -215,15 +216,22 @@ reached script tables old new known ms ns run is =
     }
 
 pub are_frames_lent : AreFramesLent
-are_frames_lent script tables old new ms ns known run is = (reached script tables old new known ms ns run is).both.tied.lent
+are_frames_lent script tables old new ms ns window run =
+    (reached script tables old new (known_of script window) ms ns run (script_declared script window run.good)).both.tied.lent
 
 pub are_answers_drawn : AreAnswersDrawn
-are_answers_drawn script tables old new ms ns line u id a known run short is =
+are_answers_drawn script tables old new ms ns line u id a window run short =
     subst (λ z. IsDrawn (finished z) id a) (sym whole)
     (finished_ended (fold step (step k (seen_of m)) (map seen_of ns)) id a
     (all_ended (drives_of script) (names_behind [] ms) (after_moment s m) (step k (seen_of m)) ns (λ x. lines_after x m (lines_behind x [] ms)) id a (some_parts m ns r.some).1 r.follows.1 r.good.1
     (moment_fits s (λ x. lines_behind x [] ms) m (some_parts m ns r.some).0 r.follows.0 r.fit) (moment_both (drives_of script) (names_behind [] ms) s k (λ x. lines_behind x [] ms) m r.follows.0 r.fit r.good.0 r.both) ended))
   where
+    known : Known
+    known = known_of script window
+
+    is : IsDeclared (drives_of script) known
+    is = script_declared script window run.good
+
     m : Moment
     m = Told line u id (End a)
 
@@ -247,7 +255,7 @@ are_answers_drawn script tables old new ms ns line u id a known run short is =
 
     condition : u < 32 → IsInCondition u ms (drive_at k'.drives u)
     condition there =
-        let c : IsInCondition u ms (drive_at k.drives u) = are_conditions (drives_of script) known ms u is there in record {
+        let c : IsInCondition u ms (drive_at k.drives u) = conditions_of (drives_of script) known ms u is there in record {
           offline = ap (λ (z : Core). z.offline) (moment_core (seen_of m) k u) ∙ c.offline;
           locked = ap (λ (z : Core). z.locked) (moment_core (seen_of m) k u) ∙ c.locked;
         }

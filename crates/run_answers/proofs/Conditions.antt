@@ -22,9 +22,11 @@ use Rattle.trace_lines.specs.declared.telling.Told.TheVariants as deed
 use Rattle.trace_reader.specs.RoundTrip.{told_of}
 use Rattle.trace_replay.specs.Conditions.{online_behind, locked_behind, online_said, locked_said}
 use Rattle.trace_replay.specs.Moments.{Moment, Played, Told, Idle}
-use Rattle.trace_replay.specs.Script.{Input, Submit, ArriveAt, MoveAt, AttendTo, Drain, Turn, Noise, Arm, SetOnline, SetLocked}
+use Rattle.trace_replay.specs.Script.{drives_of, Input, Submit, ArriveAt, MoveAt, AttendTo, Drain, Turn, Noise, Arm, SetOnline, SetLocked}
 use Rattle.run_answers.specs.Answers.{AreConditions}
-use Rattle.run_answers.specs.Hears.{seen_of, play_of, asked_of}
+use Rattle.pack_geometry.specs.declared.DriveKind.{DriveKind}
+use Rattle.run_answers.proofs.Declaring.{IsDeclared, script_declared}
+use Rattle.run_answers.specs.Hears.{known_of, seen_of, play_of, asked_of}
 use Rattle.run_answers.proofs.Turning.{Core, core_of, Rest, rest_of, moment_rest, moment_core}
 
 record Bits : Type 0 where
@@ -171,10 +173,13 @@ all_stand (Told line v i d ∷ ms) k u on lock s =
     all_stand ms (step k (seen_of (Told line v i d))) u on lock (told_stands line v i (told_of d) (at_moment k (seen_of (Told line v i d))) u on lock (turned_stands (Told line v i d) k u on lock s))
 all_stand (Idle line ∷ ms) k u on lock s = all_stand ms (step k (seen_of (Idle line))) u on lock (turned_stands (Idle line) k u on lock s)
 
-pub are_conditions : AreConditions
-are_conditions drives known ms u is inside =
+pub conditions_of : (drives : ℕ → Option DriveKind) (known : Known) (ms : List Moment) (u : ℕ) → IsDeclared drives known → u < 32 → IsInCondition u ms (drive_at (fold step known (map seen_of ms)).drives u)
+conditions_of drives known ms u is inside =
     let s : Stands (fold step known (map seen_of ms)) u (online_behind u true ms) (locked_behind u false ms) =
     all_stand ms known u true false (record { inside = subst (λ n. u < n) (sym is.many) inside; offline = is.online u; locked = is.unlocked u }) in record {
       offline = s.offline;
       locked = s.locked;
     }
+
+pub are_conditions : AreConditions
+are_conditions script window ms u good inside = conditions_of (drives_of script) (known_of script window) ms u (script_declared script window good) inside

@@ -1,3 +1,4 @@
+pub mod Declaring
 pub mod Turning
 pub mod Conditions
 pub mod Tying

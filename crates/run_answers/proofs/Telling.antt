@@ -33,7 +33,7 @@ use Rattle.trace_replay.specs.Replay.{Replay, LineMay, replay_told, unit_after, 
 use Rattle.trace_replay.specs.Service.{service_after, first_waiting, ids, frames_needed, request_or_none, target_of}
 use Rattle.trace_replay.specs.Service as service
 use Rattle.trace_replay.proofs.Kept.{UnitFits, AllFit, after_kind, end_kept}
-use Rattle.run_answers.specs.Hears.{IsIdle}
+use Rattle.run_answers.proofs.Declaring.{IsIdle}
 use Rattle.run_answers.proofs.Tying.{IsAsked, IsHead, IsQueue, IsTied, Tied, Grows, WaitsAt, all_stay, all_apart, own_apart, queue_stays, next_in_hand}
 
 -- what is written of a request

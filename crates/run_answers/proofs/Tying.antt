@@ -25,7 +25,7 @@ use Rattle.trace_replay.specs.Events.{Act, Refusing}
 use Rattle.trace_replay.specs.Moments.{Deed}
 use Rattle.trace_replay.specs.Replay.{Replay}
 use Rattle.trace_replay.specs.Service.{frames_needed}
-use Rattle.run_answers.specs.Hears.{IsIdle}
+use Rattle.run_answers.proofs.Declaring.{IsIdle}
 use Rattle.run_answers.proofs.Turning.{Core, core_of, Rest, rest_of, moment_rest, moment_core}
 
 -- A REQUEST THAT WAITS is at a place of the picture's list

@@ -1,24 +1,24 @@
 -- THE ANSWERS OF A LEGAL RUN, as they are drawn.
 use Rattle.std.specs.Prelude.{◌≡◌, ℕ, ◌<◌, ◌^◌, false, List, ◌∷◌, ◌++◌, length, map, Option, Some}
-use Rattle.pack_geometry.specs.declared.DriveKind.{DriveKind}
 use Rattle.pack_model.specs.Pack as model
 use Rattle.pack_model.specs.TableSpelling.{Table}
 use Rattle.run_counts.specs.Counted.{behind}
 use Rattle.run_outcomes.specs.Hearings.{IsInCondition}
 use Rattle.run_outcomes.specs.Outcomes.{IsWordOf}
+use Rattle.run_picture.specs.declared.columns.Window.{Window}
 use Rattle.run_picture.specs.Fold.{Known, drive_at, request_at, run_from}
 use Rattle.run_picture.specs.Places.{place_of}
 use Rattle.subsystem_spec.specs.Requests.{Answer}
 use Rattle.trace_replay.specs.Moments.{Moment, Told, End}
 use Rattle.trace_replay.specs.Replay.{Replay, after_moments}
 use Rattle.trace_replay.specs.Runs.{IsLegalRun, start_of}
-use Rattle.trace_replay.specs.Script.{Script, drives_of}
-use Rattle.run_answers.specs.Hears.{seen_of, IsDeclared}
+use Rattle.trace_replay.specs.Script.{Script, IsScript}
+use Rattle.run_answers.specs.Hears.{seen_of, known_of}
 
 -- THE CONDITIONS: behind any moments a drive is offline or locked as the script said last of it.
 abbrev pub AreConditions : Type 0
-AreConditions = (drives : ℕ → Option DriveKind) (known : Known) (ms : List Moment) (u : ℕ) → IsDeclared drives known → u < 32
-    → IsInCondition u ms (drive_at (behind known (map seen_of ms)).drives u)
+AreConditions = (script : Script) (window : Window) (ms : List Moment) (u : ℕ) → IsScript script → u < 32
+    → IsInCondition u ms (drive_at (behind (known_of script window) (map seen_of ms)).drives u)
 
 -- what a picture has of a request that was answered: the answer's word, or `stopped`
 pub record IsDrawn (known : Known) (id : ℕ) (a : Answer) : Type 0 where
@@ -28,12 +28,12 @@ pub record IsDrawn (known : Known) (id : ℕ) (a : Answer) : Type 0 where
 
 -- THE LAW: behind a legal run of fewer than 2^64 moments each request that was answered is drawn so.
 abbrev pub AreAnswersDrawn : Type 0
-AreAnswersDrawn = (script : Script) (tables : ℕ → Option Table) (old new : ℕ → model.Pack) (ms ns : List Moment) (line u id : ℕ) (a : Answer) (known : Known)
-    → IsLegalRun script tables old new (ms ++ Told line u id (End a) ∷ ns) → length ms < 2 ^ 64 → IsDeclared (drives_of script) known
-    → IsDrawn (run_from known (map seen_of (ms ++ Told line u id (End a) ∷ ns))) id a
+AreAnswersDrawn = (script : Script) (tables : ℕ → Option Table) (old new : ℕ → model.Pack) (ms ns : List Moment) (line u id : ℕ) (a : Answer) (window : Window)
+    → IsLegalRun script tables old new (ms ++ Told line u id (End a) ∷ ns) → length ms < 2 ^ 64
+    → IsDrawn (run_from (known_of script window) (map seen_of (ms ++ Told line u id (End a) ∷ ns))) id a
 
 -- THE FRAMES that are lent are those of the replay, behind any moments of a legal run.
 abbrev pub AreFramesLent : Type 0
-AreFramesLent = (script : Script) (tables : ℕ → Option Table) (old new : ℕ → model.Pack) (ms ns : List Moment) (known : Known)
-    → IsLegalRun script tables old new (ms ++ ns) → IsDeclared (drives_of script) known
-    → (behind known (map seen_of ms)).lent ≡ (after_moments (start_of script tables old) ms).frames
+AreFramesLent = (script : Script) (tables : ℕ → Option Table) (old new : ℕ → model.Pack) (ms ns : List Moment) (window : Window)
+    → IsLegalRun script tables old new (ms ++ ns)
+    → (behind (known_of script window) (map seen_of ms)).lent ≡ (after_moments (start_of script tables old) ms).frames

@@ -1,18 +1,17 @@
 -- A LEGAL RUN AS A PICTURE HEARS IT: each line of the script as it is played, and of a line of the trace all but an end's answer.
-use Rattle.std.specs.Prelude.{◌≡◌, ℕ, ◌==◌, if◌then◌else◌, Bool, true, false, List, [], Option, Some, None, is_some, length}
+use Rattle.std.specs.Prelude.{true, false, is_some, fold}
 use Rattle.drive_pictures.specs.declared.drives.Change.TheVariants as change
 use Rattle.drive_pictures.specs.declared.moments.Moment.{Moment as Seen}
 use Rattle.drive_pictures.specs.declared.moments.Moment.TheVariants as seen
 use Rattle.drive_pictures.specs.declared.moments.Play.{Play}
 use Rattle.drive_pictures.specs.declared.moments.Play.TheVariants as play
-use Rattle.pack_geometry.specs.declared.DriveKind.{DriveKind}
-use Rattle.drive_pictures.specs.declared.trials.Trial.{Trial}
-use Rattle.run_picture.specs.Fold.{Known, drive_at}
+use Rattle.run_picture.specs.declared.columns.Window.{Window}
+use Rattle.run_picture.specs.Fold.{Known, new_known, declared}
 use Rattle.script_reader.specs.declared.statement.Request.{Request as Asked}
 use Rattle.subsystem_spec.specs.Requests.{Request}
 use Rattle.trace_reader.specs.RoundTrip.{told_of}
 use Rattle.trace_replay.specs.Moments.{Moment, Played, Told, Idle}
-use Rattle.trace_replay.specs.Script.{Input, Submit, ArriveAt, MoveAt, AttendTo, Drain, Turn, Noise, Arm, SetOnline, SetLocked}
+use Rattle.trace_replay.specs.Script.{Script, Line, Statement, Declares, Plays, Input, Submit, ArriveAt, MoveAt, AttendTo, Drain, Turn, Noise, Arm, SetOnline, SetLocked}
 
 -- a request, as a line of the script asks for it
 abbrev pub asked_of : Request → Asked
@@ -38,24 +37,13 @@ seen_of (Played line input) = seen.Played line (play_of input)
 seen_of (Told line u id deed) = seen.Told line u id (told_of deed)
 seen_of (Idle line) = seen.Idle line
 
--- no line of a request was told yet
-pub record IsIdle (trial : Trial) : Type 0 where
-  pub hand : trial.hand ≡ None
-  pub want : trial.want ≡ 0
-  pub fails : trial.fails ≡ 0
-  pub marks : trial.marks ≡ 0
+-- BEFORE THE RUN each drive that the script declares is of its kind
+abbrev pub declares : Statement → Known → Known
+declares (Declares u kind) known = declared u kind known
+declares (Plays input) known = known
 
--- BEFORE THE FIRST MOMENT, with these drives declared
-pub record IsDeclared (drives : ℕ → Option DriveKind) (known : Known) : Type 0 where
-  pub many : length known.drives ≡ 32
-  pub kinds : (u : ℕ) → (drive_at known.drives u).kind ≡ drives u
-  pub idle : (u : ℕ) → IsIdle (drive_at known.drives u).trial
-  pub online : (u : ℕ) → (drive_at known.drives u).offline ≡ false
-  pub unlocked : (u : ℕ) → (drive_at known.drives u).locked ≡ false
-  pub ids : known.ids ≡ []
-  pub requests : known.requests ≡ []
-  pub lent : known.lent ≡ 0
+abbrev pub declared_by : Known → Line → Known
+declared_by known line = declares line.statement known
 
--- with one more
-abbrev pub with_drive : ℕ → DriveKind → (ℕ → Option DriveKind) → ℕ → Option DriveKind
-with_drive u kind drives x = if u == x then Some kind else drives x
+abbrev pub known_of : Script → Window → Known
+known_of script window = fold declared_by (new_known window) script.lines
