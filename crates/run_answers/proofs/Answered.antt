@@ -1,11 +1,10 @@
 -- The answers of a legal run, as they are drawn.
-use Rattle.std.proofs.Common.{◌≡◌, ◌≢◌, ℕ, suc, ◌+◌, ◌<◌, ◌≤◌, ◌^◌, ◌==◌, Bool, true, false, cond, List, [], ◌∷◌, ◌++◌, length, map, fold, set, Option, Some, None, refl, sym, ap, ◌∙◌, subst, arith}
+use Rattle.std.proofs.Common.{◌≡◌, ℕ, suc, ◌+◌, ◌<◌, ◌≤◌, ◌^◌, ◌==◌, Bool, true, false, List, [], ◌∷◌, ◌++◌, length, map, fold, Option, Some, None, refl, sym, ap, ◌∙◌, subst, arith}
 use Rattle.std.specs.Prelude.{if◌then◌else◌, unwrap_or}
 use Rattle.std.proofs.lemmas.List.{map-append, append-nil, get_or-set_same}
 use Rattle.std.proofs.lemmas.List.Sums.{fold-append}
 use Rattle.std.proofs.lemmas.Option.{same_Some, none-some}
 use Rattle.drive_pictures.specs.declared.drives.Drive.{Drive}
-use Rattle.drive_pictures.specs.declared.moments.Moment.{Moment as Seen}
 use Rattle.drive_pictures.specs.declared.moments.Moment.TheVariants as seen
 use Rattle.drive_pictures.specs.declared.requests.Outcome.{Outcome}
 use Rattle.drive_pictures.specs.declared.requests.Outcome.TheVariants as outcome
@@ -24,7 +23,7 @@ use Rattle.run_outcomes.proofs.Hearing.{Holds}
 use Rattle.run_outcomes.proofs.OfRuns.{are_answered}
 use Rattle.run_picture.specs.Fold.{Known, heard, drive_at, request_at, told_at, request_after, request_end, finished, step}
 use Rattle.run_picture.specs.Places.{place_of}
-use Rattle.subsystem_spec.specs.Requests.{Request as Wished, Answer, Rejection, WriteOk, rejection_answer}
+use Rattle.subsystem_spec.specs.Requests.{Request as Wished, Answer, WriteOk}
 use Rattle.subsystem_spec.specs.ServiceOrder.{Waiting}
 use Rattle.trace_lines.specs.declared.telling.Told.TheVariants as deed
 use Rattle.trace_replay.specs.Causes.{AskSome}
@@ -47,8 +46,8 @@ use Rattle.run_answers.proofs.Ended.{IsEnded, all_ended, finished_ended}
 use Rattle.run_answers.proofs.Running.{refused_is_so, Both, AreGood, WishTied, next_tied, turned_both, moment_both, moment_fits}
 use Rattle.run_answers.proofs.Starting.{run_good, names_behind, good_parts, some_parts, all_both, start_both}
 use Rattle.run_answers.proofs.Telling.{request_many}
-use Rattle.run_answers.proofs.Turning.{Core, core_of, moment_core}
-use Rattle.run_answers.proofs.Tying.{IsAsked, IsTied, IsToRefuse, Tied}
+use Rattle.run_answers.proofs.Turning.{Core, moment_core}
+use Rattle.run_answers.proofs.Tying.{IsTied, Tied}
 
 -- THE HEAD, and what it has heard
 record FullHead (names : List ℕ) (l : List Request) (x : Drive) (u : ℕ) (lines : List Deed) (id : ℕ) : Type 0 where

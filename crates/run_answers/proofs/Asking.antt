@@ -1,10 +1,10 @@
 -- A request is submitted.
-use Rattle.std.proofs.Common.{◌≡◌, ◌≢◌, inl, inr, ℕ, zero, suc, ◌+◌, ◌/◌, ◌<◌, ◌==◌, Bool, true, false, not, cond, List, [], ◌∷◌, ◌++◌, length, Option, Some, None, Result, Ok, Err, refl, sym, ap, ◌∙◌, subst, arith}
+use Rattle.std.proofs.Common.{◌≡◌, ◌≢◌, inl, inr, ℕ, suc, ◌+◌, ◌/◌, ◌<◌, ◌==◌, Bool, true, false, not, cond, List, [], ◌∷◌, ◌++◌, length, Option, Some, None, Result, Ok, Err, refl, sym, ap, ◌∙◌, subst, arith}
 use Rattle.std.specs.Prelude.{nat_lt, nat_le}
 use Rattle.std.specs.List.{AllByRecursion}
 use Rattle.std.proofs.lemmas.Bool.Decides.{nat_tests, eqb_tells}
 use Rattle.std.proofs.lemmas.List.{get_or_append_left, length-append}
-use Rattle.std.proofs.lemmas.Option.{same_Some, none-some}
+use Rattle.std.proofs.lemmas.Option.{none-some}
 use Rattle.drive_pictures.specs.declared.drives.Drive.{Drive}
 use Rattle.drive_pictures.specs.declared.requests.Outcome.{Outcome}
 use Rattle.drive_pictures.specs.declared.requests.Outcome.TheVariants as outcome
@@ -23,16 +23,15 @@ use Rattle.run_drawings.proofs.Listening.{found_more}
 use Rattle.run_outcomes.specs.Outcomes.{answer_word}
 use Rattle.run_picture.specs.Fold.{Known, drive_at, request_at, asked_with, admitted_by, drive_asked, request_asked, frames_of}
 use Rattle.run_picture.specs.Places.{place_of, place_from}
-use Rattle.script_reader.specs.declared.statement.Request.{Request as Asked}
 use Rattle.subsystem_spec.specs.Requests.{Request as Wish, Rejection, AtEnd, Beyond, FramesShort, rejection_answer}
 use Rattle.subsystem_spec.specs.ServiceOrder.{Waiting, is_before, put}
 use Rattle.subsystem_spec.proofs.ServiceOrderRuns.{ArePlaced, IsPlaced, newcomer, each-put, after_join-waiting}
 use Rattle.trace_replay.specs.Moments.{Deed}
-use Rattle.trace_replay.specs.Replay.{Replay, Submission, Refused, Joined, submission_by, submitted, joined_by, unit_joined, act_submitted, has_frames}
+use Rattle.trace_replay.specs.Replay.{Replay, Submission, submission_by, submitted, joined_by, unit_joined, act_submitted, has_frames}
 use Rattle.trace_replay.specs.Service.{frames_needed, cylinder_of}
 use Rattle.trace_replay.proofs.Kept.{UnitFits}
 use Rattle.run_answers.specs.Hears.{asked_of}
-use Rattle.run_answers.proofs.Tying.{IsAsked, Waits, WaitsAt, IsHead, IsOther, IsQueue, IsTied, Tied, IsToRefuse, ActTied, Grows, Apart, all_stay, all_apart, queue_stays, head_stays, first_stays, swapped, never, once_more, comes_in_hand}
+use Rattle.run_answers.proofs.Tying.{IsAsked, Waits, WaitsAt, IsHead, IsOther, IsTied, Tied, IsToRefuse, ActTied, Grows, Apart, all_stay, all_apart, queue_stays, head_stays, first_stays, swapped, once_more, comes_in_hand}
 
 -- THE NEXT PLACE
 new_step : (b : Bool) (n m : ℕ) (rest more : Option ℕ) → (rest ≡ None → more ≡ Some m) → cond b (Some n) rest ≡ None → cond b (Some n) more ≡ Some m

@@ -27,7 +27,7 @@ use Rattle.run_answers.specs.Answers.{AreConditions}
 use Rattle.pack_geometry.specs.declared.DriveKind.{DriveKind}
 use Rattle.run_answers.proofs.Declaring.{IsDeclared, script_declared}
 use Rattle.run_answers.specs.Hears.{known_of, seen_of, play_of, asked_of}
-use Rattle.run_answers.proofs.Turning.{Core, core_of, Rest, rest_of, moment_rest, moment_core}
+use Rattle.run_answers.proofs.Turning.{Core, Rest, moment_rest, moment_core}
 
 record Bits : Type 0 where
   offline : Bool

@@ -1,10 +1,9 @@
 -- A request that was answered stays as it is drawn.
-use Rattle.std.proofs.Common.{◌≡◌, ◌≢◌, ℕ, zero, suc, ◌+◌, ◌<◌, ◌==◌, Bool, true, false, cond, List, [], ◌∷◌, ◌++◌, length, map, fold, Option, Some, None, Result, Ok, Err, refl, sym, ap, ◌∙◌, subst, arith}
+use Rattle.std.proofs.Common.{◌≡◌, ◌≢◌, ℕ, zero, suc, ◌<◌, Bool, true, false, List, [], ◌∷◌, ◌++◌, length, map, fold, Option, Some, None, refl, sym, ap, ◌∙◌, subst, arith}
 use Rattle.std.specs.Prelude.{is_some}
 use Rattle.std.proofs.lemmas.Option.{none-some}
 use Rattle.drive_pictures.specs.declared.moments.Moment.{Moment as Seen}
 use Rattle.drive_pictures.specs.declared.moments.Moment.TheVariants as seen
-use Rattle.drive_pictures.specs.declared.requests.Outcome.{Outcome}
 use Rattle.drive_pictures.specs.declared.requests.Request.{Request}
 use Rattle.drive_pictures.specs.Requests.{new_request, left}
 use Rattle.pack_geometry.specs.declared.DriveKind.{DriveKind}
@@ -18,9 +17,9 @@ use Rattle.trace_lines.specs.declared.telling.Told.{Told as Line}
 use Rattle.trace_reader.specs.RoundTrip.{told_of}
 use Rattle.trace_replay.specs.Causes.{AskSome}
 use Rattle.trace_replay.specs.Events.{Wish, NoLine, DueLine, Arrival, SectorLine, Interrupt, Attention, Refusal, IdleLine}
-use Rattle.trace_replay.specs.History.{lines_after, lines_behind}
-use Rattle.trace_replay.specs.Moments.{Deed, End, Moment, Played, Told, Idle}
-use Rattle.trace_replay.specs.Replay.{Replay, LineMay, ToldMay, MayCome, Follows, after_moment, after_moments, next_wish}
+use Rattle.trace_replay.specs.History.{lines_after}
+use Rattle.trace_replay.specs.Moments.{Deed, Moment, Played, Told, Idle}
+use Rattle.trace_replay.specs.Replay.{Replay, LineMay, ToldMay, MayCome, Follows, after_moment, next_wish}
 use Rattle.trace_replay.specs.Script.{Input, Submit, ArriveAt, MoveAt, AttendTo, Drain, Turn, Noise, Arm, SetOnline, SetLocked}
 use Rattle.trace_replay.proofs.Kept.{AllFit}
 use Rattle.run_answers.specs.Answers.{IsDrawn}
@@ -30,7 +29,7 @@ use Rattle.run_answers.proofs.Running.{Both, AreGood, names_after, AsksSomeAt, W
 use Rattle.run_answers.proofs.Starting.{some_parts}
 use Rattle.run_answers.proofs.Telling.{HeadAt, head_at, set_grows}
 use Rattle.run_answers.proofs.Turning.{Rest, rest_of, ended_rest}
-use Rattle.run_answers.proofs.Tying.{Tied, Grows, IsToRefuse, Stays, moment_stays}
+use Rattle.run_answers.proofs.Tying.{Tied, Grows, Stays, moment_stays}
 
 -- IT HAS ENDED, with its answer's word or stopped
 pub record IsEnded (names : List ℕ) (l : List Request) (id : ℕ) (a : Answer) : Type 0 where

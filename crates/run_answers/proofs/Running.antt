@@ -1,16 +1,15 @@
 -- What a picture has, moment by moment.
-use Rattle.std.proofs.Common.{◌≡◌, ◌≢◌, inl, inr, ℕ, zero, suc, ◌-◌, ◌<◌, ◌==◌, Bool, true, false, not, cond, List, [], ◌∷◌, ◌++◌, length, map, fold, find, drop, Option, Some, None, refl, sym, ap, ◌∙◌, subst, arith}
+use Rattle.std.proofs.Common.{◌≡◌, ◌≢◌, ℕ, zero, suc, ◌-◌, ◌<◌, ◌==◌, Bool, true, false, not, List, [], ◌∷◌, ◌++◌, length, find, Option, Some, None, refl, sym, ap, ◌∙◌, subst, arith}
 use Rattle.std.specs.Prelude.{if◌then◌else◌, slice_set, is_some, nat_lt, ◌&&◌, ◌||◌}
-use Rattle.std.proofs.lemmas.List.{get_or-set_same, get_or-set_other}
-use Rattle.std.proofs.lemmas.Option.{same_Some, none-some}
+use Rattle.std.proofs.lemmas.Option.{none-some}
 use Rattle.drive_pictures.specs.declared.drives.Drive.{Drive}
 use Rattle.drive_pictures.specs.declared.drives.Change.{Change}
 use Rattle.drive_pictures.specs.declared.drives.Change.TheVariants as change
 use Rattle.drive_pictures.specs.declared.moments.Moment.TheVariants as seen
 use Rattle.drive_pictures.specs.declared.requests.Outcome.{Outcome}
 use Rattle.drive_pictures.specs.declared.requests.Request.{Request}
-use Rattle.drive_pictures.specs.Drives.{changed, new_drive}
-use Rattle.drive_pictures.specs.Requests.{new_request, is_refused}
+use Rattle.drive_pictures.specs.Drives.{changed}
+use Rattle.drive_pictures.specs.Requests.{is_refused}
 use Rattle.drive_pictures.specs.Trials.{is_at}
 use Rattle.drive_pictures.specs.declared.moments.Moment.{Moment as Seen}
 use Rattle.hardware_table.specs.Adapter.{AdapterState}
@@ -20,7 +19,7 @@ use Rattle.run_counts.proofs.Doing.{set_length}
 use Rattle.run_counts.proofs.Following.{keeps_set}
 use Rattle.run_counts.specs.Doings.{at_moment}
 use Rattle.run_drawings.proofs.Listening.{own_at}
-use Rattle.run_picture.specs.Fold.{Known, heard, asked_at, asked_with, admitted, admitted_by, drive_at, request_at, told_at, drive_after, drive_end, request_after, request_end, back_after, frames_back, step}
+use Rattle.run_picture.specs.Fold.{Known, heard, asked_at, asked_with, admitted, admitted_by, drive_at, request_at, told_at, drive_after, drive_end, request_after, frames_back, step}
 use Rattle.run_picture.specs.Places.{place_of}
 use Rattle.subsystem_spec.specs.Requests.{Request as Wished, Rejection, rejection_answer}
 use Rattle.trace_lines.specs.declared.telling.Told.TheVariants as deed
@@ -30,16 +29,16 @@ use Rattle.hardware_table.specs.Drive.{is_positioning}
 use Rattle.trace_replay.specs.Conversation.{goes_on}
 use Rattle.trace_replay.specs.Causes.{AsksSome}
 use Rattle.trace_replay.specs.Events.{Act, Done, Refusing, Arriving, Trying, Serving, NothingToDo, Event, Wish, NoLine, DueLine, Arrival, SectorLine, Interrupt, Attention, Refusal, IdleLine, is_no_line, act_after, can_attend, act_of_attend, act_of_move, act_of_arrival, adapters_there, interrupt_taken, attention_taken, serving, first_ready, wish_in_serving, wish_in}
-use Rattle.trace_replay.specs.History.{is_refusal, with_deed, lines_after}
+use Rattle.trace_replay.specs.History.{with_deed, lines_after}
 use Rattle.trace_replay.specs.Moments.{Deed, Search, Seek, Recal, Offset, Centre, Clear, Pack, Transfer, Arrive, Sector, Intr, Try, Attn, End, Moment, Played, Told, Idle}
-use Rattle.trace_replay.specs.Replay.{Replay, LineMay, RefusalMay, ToldMay, MayCome, Submission, Refused, Joined, submission, submission_by, submitted, has_frames, act_submitted, conditions_after, attend_act, act_of, event_of, act_drained, drained, replay_played, replay_told, unit_after, told_after, after_moment, next_wish, act_done}
+use Rattle.trace_replay.specs.Replay.{Replay, LineMay, ToldMay, MayCome, submission, submission_by, submitted, has_frames, act_submitted, conditions_after, act_of, event_of, act_drained, drained, replay_played, replay_told, unit_after, told_after, after_moment, next_wish, act_done}
 use Rattle.trace_replay.specs.Script.{Input, Submit, ArriveAt, MoveAt, AttendTo, Drain, Turn, Noise, Arm, SetOnline, SetLocked}
 use Rattle.trace_replay.proofs.Kept.{AllFit, played_kind, refused_is, told_all, played_all}
 use Rattle.trace_replay.proofs.Unchanged.{drained_keeps, either}
 use Rattle.run_answers.specs.Hears.{seen_of, play_of, asked_of}
-use Rattle.run_answers.proofs.Tying.{IsAsked, IsTied, Tied, IsToRefuse, ActTied, Grows, Stays, stays_tied, moment_stays, act_stays, all_apart, queue_stays, never}
+use Rattle.run_answers.proofs.Tying.{IsAsked, IsTied, Tied, IsToRefuse, ActTied, Grows, Stays, stays_tied, moment_stays, act_stays, all_apart, queue_stays}
 use Rattle.run_answers.proofs.Telling.{HeadAt, head_at, line_tied, line_ids, set_grows, request_many}
-use Rattle.run_answers.proofs.Asking.{Taken, taken_by}
+use Rattle.run_answers.proofs.Asking.{taken_by}
 
 -- WHAT IS KNOWN behind any moments
 pub record Both (drives : ℕ → Option DriveKind) (names : List ℕ) (s : Replay) (k : Known) (lines : ℕ → List Deed) : Type 0 where

@@ -1,5 +1,5 @@
 -- A line of the trace, for the request in hand at its unit.
-use Rattle.std.proofs.Common.{◌≡◌, ◌≢◌, ◌⊎◌, inl, inr, ℕ, zero, suc, ◌+◌, ◌-◌, ◌<◌, ◌==◌, Bool, true, false, cond, List, [], ◌∷◌, length, set, drop, Option, Some, None, refl, sym, ap, ◌∙◌, subst, arith}
+use Rattle.std.proofs.Common.{◌≡◌, ◌≢◌, ◌⊎◌, inl, inr, ℕ, zero, suc, ◌-◌, ◌<◌, Bool, false, List, [], ◌∷◌, length, set, drop, Option, Some, refl, sym, ap, ◌∙◌, subst, arith}
 use Rattle.std.specs.Prelude.{if◌then◌else◌}
 use Rattle.std.proofs.lemmas.Bool.Decides.{eqb_tells}
 use Rattle.std.proofs.lemmas.List.{get_or-set_same, get_or-set_other}
@@ -20,7 +20,7 @@ use Rattle.run_counts.proofs.Doing.{set_here, set_other, set_length}
 use Rattle.run_counts.proofs.Following.{keeps_set}
 use Rattle.run_drawings.proofs.Drawing.{no_refusal}
 use Rattle.run_drawings.proofs.Listening.{Same, told_same, own_at}
-use Rattle.run_outcomes.specs.Hearings.{Hearing, told_all}
+use Rattle.run_outcomes.specs.Hearings.{told_all}
 use Rattle.run_picture.specs.Fold.{Known, heard, drive_at, request_at, told_at, drive_after, drive_end, request_after, back_after, frames_back}
 use Rattle.run_picture.specs.Places.{place_of}
 use Rattle.subsystem_spec.specs.Requests.{Request as Wish, Answer}
@@ -32,9 +32,9 @@ use Rattle.trace_replay.specs.Moments.{Deed, Search, Seek, Recal, Offset, Centre
 use Rattle.trace_replay.specs.Replay.{Replay, LineMay, replay_told, unit_after, frames_after, at_unit, hand_of}
 use Rattle.trace_replay.specs.Service.{service_after, first_waiting, ids, frames_needed, request_or_none, target_of}
 use Rattle.trace_replay.specs.Service as service
-use Rattle.trace_replay.proofs.Kept.{UnitFits, AllFit, after_kind, end_kept}
+use Rattle.trace_replay.proofs.Kept.{AllFit, after_kind, end_kept}
 use Rattle.run_answers.proofs.Declaring.{IsIdle}
-use Rattle.run_answers.proofs.Tying.{IsAsked, IsHead, IsQueue, IsTied, Tied, Grows, WaitsAt, all_stay, all_apart, own_apart, queue_stays, next_in_hand}
+use Rattle.run_answers.proofs.Tying.{IsAsked, IsQueue, IsTied, Tied, Grows, all_stay, all_apart, own_apart, queue_stays, next_in_hand}
 
 -- what is written of a request
 record Paper : Type 0 where

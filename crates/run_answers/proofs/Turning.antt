@@ -1,5 +1,5 @@
 -- What stays where an event ends.
-use Rattle.std.proofs.Common.{◌≡◌, ℕ, Bool, true, false, cond, List, length, map, Option, Some, None, refl, sym, ap, ◌∙◌}
+use Rattle.std.proofs.Common.{◌≡◌, ℕ, Bool, true, false, cond, List, length, map, Option, Some, None, refl, ap, ◌∙◌}
 use Rattle.drive_pictures.specs.declared.drives.Drive.{Drive}
 use Rattle.drive_pictures.specs.declared.moments.Moment.{Moment}
 use Rattle.drive_pictures.specs.declared.requests.Request.{Request}
@@ -9,7 +9,7 @@ use Rattle.drive_pictures.specs.Events.{begins, line_of, is_idle}
 use Rattle.pack_geometry.specs.declared.DriveKind.{DriveKind}
 use Rattle.run_counts.proofs.Doing.{map_length}
 use Rattle.run_counts.specs.Doings.{at_moment}
-use Rattle.run_drawings.proofs.Drawing.{Keeps, turned_keeps}
+use Rattle.run_drawings.proofs.Drawing.{turned_keeps}
 use Rattle.run_picture.specs.declared.columns.Head.{Head}
 use Rattle.run_picture.specs.Columns.{headed, is_before, is_inside, is_full}
 use Rattle.run_picture.specs.Fold.{Known, drive_at, event_counted_in, event_ended, shown_by, column_closed, turned_behind}

@@ -1,9 +1,8 @@
 -- What a picture has of the requests that wait at the units of a replay.
-use Rattle.std.proofs.Common.{◌≡◌, ◌≢◌, inl, inr, ℕ, zero, suc, ◌+◌, ◌<◌, ◌==◌, Bool, true, false, cond, List, [], ◌∷◌, ◌++◌, length, Option, Some, None, refl, sym, ap, ◌∙◌, subst, arith}
+use Rattle.std.proofs.Common.{◌≡◌, ◌≢◌, inl, ℕ, ◌<◌, ◌==◌, Bool, true, false, List, [], ◌∷◌, length, Option, Some, None, refl, sym, ap, ◌∙◌, subst, arith}
 use Rattle.std.specs.List.{AllByRecursion}
 use Rattle.std.proofs.lemmas.Bool.{cond_both, cond-true}
 use Rattle.std.proofs.lemmas.Bool.Decides.{nat_tests}
-use Rattle.std.proofs.lemmas.Option.{same_Some, none-some}
 use Rattle.drive_pictures.specs.declared.drives.Drive.{Drive}
 use Rattle.drive_pictures.specs.declared.moments.Moment.{Moment as Seen}
 use Rattle.drive_pictures.specs.declared.requests.Outcome.{Outcome}
@@ -13,7 +12,7 @@ use Rattle.pack_geometry.specs.declared.DriveKind.{DriveKind}
 use Rattle.picture_sheet.specs.Words.{outcome_word}
 use Rattle.run_counts.specs.Doings.{at_moment}
 use Rattle.run_drawings.proofs.Listening.{one_id}
-use Rattle.run_outcomes.specs.Hearings.{Hearing, HasHeard, told_all}
+use Rattle.run_outcomes.specs.Hearings.{HasHeard}
 use Rattle.run_outcomes.specs.Outcomes.{answer_word}
 use Rattle.run_outcomes.proofs.Hearing.{Holds}
 use Rattle.run_picture.specs.Fold.{Known, drive_at, request_at}
@@ -26,7 +25,7 @@ use Rattle.trace_replay.specs.Moments.{Deed}
 use Rattle.trace_replay.specs.Replay.{Replay}
 use Rattle.trace_replay.specs.Service.{frames_needed}
 use Rattle.run_answers.proofs.Declaring.{IsIdle}
-use Rattle.run_answers.proofs.Turning.{Core, core_of, Rest, rest_of, moment_rest, moment_core}
+use Rattle.run_answers.proofs.Turning.{Core, Rest, moment_rest, moment_core}
 
 -- A REQUEST THAT WAITS is at a place of the picture's list
 pub record IsAsked (ids : List ℕ) (requests : List Request) (u : ℕ) (r : Wish) (place : ℕ) : Type 0 where

@@ -1,5 +1,5 @@
 -- THE ANSWERS OF A LEGAL RUN, as they are drawn.
-use Rattle.std.specs.Prelude.{◌≡◌, ℕ, ◌<◌, ◌^◌, false, List, ◌∷◌, ◌++◌, length, map, Option, Some}
+use Rattle.std.specs.Prelude.{◌≡◌, ℕ, ◌<◌, ◌^◌, List, ◌∷◌, ◌++◌, length, map, Option, Some}
 use Rattle.pack_model.specs.Pack as model
 use Rattle.pack_model.specs.TableSpelling.{Table}
 use Rattle.run_counts.specs.Counted.{behind}
@@ -10,7 +10,7 @@ use Rattle.run_picture.specs.Fold.{Known, drive_at, request_at, run_from}
 use Rattle.run_picture.specs.Places.{place_of}
 use Rattle.subsystem_spec.specs.Requests.{Answer}
 use Rattle.trace_replay.specs.Moments.{Moment, Told, End}
-use Rattle.trace_replay.specs.Replay.{Replay, after_moments}
+use Rattle.trace_replay.specs.Replay.{after_moments}
 use Rattle.trace_replay.specs.Runs.{IsLegalRun, start_of}
 use Rattle.trace_replay.specs.Script.{Script, IsScript}
 use Rattle.run_answers.specs.Hears.{seen_of, known_of}
