@@ -73,17 +73,22 @@ full_head names l x u lines id (w ∷ rest) q is = record {
 }
 
 -- ITS END
+end_line : (b : Bool) (event line : ℕ) (d : Drive) (r : Request) → (request_end b event line d r).ended_line ≡ line
+end_line true event line d r = refl
+end_line false event line d r = refl
+
 end_is : (k : Known) (line u id place : ℕ) (a : Answer) (b : Bool) → place_of k.ids id ≡ Some place → place < length k.requests → is_refused place (drive_at k.drives u) (request_at k.requests place) ≡ b
     → (event : ℕ) → (request_end b k.event line (drive_at k.drives u) (request_at k.requests place)).ended ≡ Some event
     → IsWordOf (request_end b k.event line (drive_at k.drives u) (request_at k.requests place)).outcome a
-    → IsEnded (heard (seen.Told line u id deed.End) k).ids (heard (seen.Told line u id deed.End) k).requests id a
+    → IsEnded (heard (seen.Told line u id deed.End) k).ids (heard (seen.Told line u id deed.End) k).requests id a line
 end_is k line u id place a b found inside refused event ended word =
-    subst (λ (z : Known). IsEnded z.ids z.requests id a) (sym (own_at (place_of k.ids id) line u id k deed.End place found)) (record {
+    subst (λ (z : Known). IsEnded z.ids z.requests id a line) (sym (own_at (place_of k.ids id) line u id k deed.End place found)) (record {
       place = place;
       found = found;
       inside = subst (λ n. place < n) (sym (request_many k.requests place (request_after k.event line place deed.End (drive_at k.drives u) (request_at k.requests place)))) inside;
       event = event;
       ended = ap (λ (r : Request). r.ended) is ∙ ended;
+      line = ap (λ (r : Request). r.ended_line) is ∙ end_line b k.event line (drive_at k.drives u) (request_at k.requests place);
       word = subst (λ (r : Request). IsWordOf r.outcome a) (sym is) word;
     })
   where
@@ -111,7 +116,7 @@ answer_in d = WriteOk
 -- where a line of its unit ends it; its answer is no refusal
 line_end : (drives : ℕ → Option DriveKind) (s : Replay) (k : Known) (lines : ℕ → List Deed) (line u id : ℕ) (a : Answer) → LineMay s line u id (End a) → AllFit s lines → Tied drives s k lines
     → (is_refusal a ≡ false → u < 32 → (place : ℕ) → HasHeard place (lines u) (drive_at k.drives u) (request_at k.requests place) → IsWordOf (answer (drive_at k.drives u) (request_at k.requests place)) a)
-    → IsEnded (heard (seen.Told line u id deed.End) k).ids (heard (seen.Told line u id deed.End) k).requests id a
+    → IsEnded (heard (seen.Told line u id deed.End) k).ids (heard (seen.Told line u id deed.End) k).requests id a line
 line_end drives s k lines line u id a may fit t word =
     let h : FullHead k.ids k.requests (drive_at k.drives u) u (lines u) id = full_head k.ids k.requests (drive_at k.drives u) u (lines u) id (s.units u).service.waiting (t.queues u) may.service in
     end_is k line u id h.place a false h.found h.inside (no_refusal h.place (drive_at k.drives u) (request_at k.requests h.place) h.joined h.holds) k.event refl
@@ -120,7 +125,7 @@ line_end drives s k lines line u id a may fit t word =
 wish_end : (wish : Wish) (drives : ℕ → Option DriveKind) (s : Replay) (k : Known) (lines : ℕ → List Deed) (line u id : ℕ) (a : Answer) → WishTied k.ids k.requests wish → ToldMay wish s line u id (End a) → AllFit s lines
     → Tied drives s k lines
     → (is_refusal a ≡ false → u < 32 → (place : ℕ) → HasHeard place (lines u) (drive_at k.drives u) (request_at k.requests place) → IsWordOf (answer (drive_at k.drives u) (request_at k.requests place)) a)
-    → IsEnded (heard (seen.Told line u id deed.End) k).ids (heard (seen.Told line u id deed.End) k).requests id a
+    → IsEnded (heard (seen.Told line u id deed.End) k).ids (heard (seen.Told line u id deed.End) k).requests id a line
 unfolding answer_in
 wish_end (Refusal v i why) drives s k lines line u id a w may fit t word =
     let refused : is_refused w.place (drive_at k.drives u) (request_at k.requests w.place) ≡ true = refused_is_so k u w.place w.outcome w.refused in
@@ -220,9 +225,9 @@ are_frames_lent script tables old new ms ns window run =
 
 pub are_answers_drawn : AreAnswersDrawn
 are_answers_drawn script tables old new ms ns line u id a window run short =
-    subst (λ z. IsDrawn (finished z) id a) (sym whole)
-    (finished_ended (fold step (step k (seen_of m)) (map seen_of ns)) id a
-    (all_ended (drives_of script) (names_behind [] ms) (after_moment s m) (step k (seen_of m)) ns (λ x. lines_after x m (lines_behind x [] ms)) id a (some_parts m ns r.some).1 r.follows.1 r.good.1
+    subst (λ z. IsDrawn (finished z) id a line) (sym whole)
+    (finished_ended (fold step (step k (seen_of m)) (map seen_of ns)) id a line
+    (all_ended (drives_of script) (names_behind [] ms) (after_moment s m) (step k (seen_of m)) ns (λ x. lines_after x m (lines_behind x [] ms)) id a line (some_parts m ns r.some).1 r.follows.1 r.good.1
     (moment_fits s (λ x. lines_behind x [] ms) m (some_parts m ns r.some).0 r.follows.0 r.fit) (moment_both (drives_of script) (names_behind [] ms) s k (λ x. lines_behind x [] ms) m r.follows.0 r.fit r.good.0 r.both) ended))
   where
     known : Known
@@ -259,7 +264,7 @@ are_answers_drawn script tables old new ms ns line u id a window run short =
           locked = ap (λ (z : Core). z.locked) (moment_core (seen_of m) k u) ∙ c.locked;
         }
 
-    ended : IsEnded (step k (seen_of m)).ids (step k (seen_of m)).requests id a
+    ended : IsEnded (step k (seen_of m)).ids (step k (seen_of m)).requests id a line
     ended = wish_end (next_wish s) (drives_of script) s k' (λ x. lines_behind x [] ms) line u id a (next_tied k'.ids k'.requests s now.act) r.follows.0 r.fit now.tied
         (λ kept there place heard. are_answered script tables old new ms ns line u id a run kept (few (length (lines_of u ms)) (length ms) (behind_short u ms []) short) place (drive_at k'.drives u)
         (request_at k'.requests place) heard (condition there))

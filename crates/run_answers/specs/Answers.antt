@@ -20,17 +20,18 @@ abbrev pub AreConditions : Type 0
 AreConditions = (script : Script) (window : Window) (ms : List Moment) (u : ℕ) → IsScript script → u < 32
     → IsInCondition u ms (drive_at (behind (known_of script window) (map seen_of ms)).drives u)
 
--- what a picture has of a request that was answered: the answer's word, or `stopped`
-pub record IsDrawn (known : Known) (id : ℕ) (a : Answer) : Type 0 where
+-- what a picture has of a request that was answered: the answer's word, or `stopped`; and the line at which it was
+pub record IsDrawn (known : Known) (id : ℕ) (a : Answer) (number : ℕ) : Type 0 where
   pub place : ℕ
   pub found : place_of known.ids id ≡ Some place
+  pub line : (request_at known.requests place).ended_line ≡ number
   pub outcome : IsWordOf (request_at known.requests place).outcome a
 
 -- THE LAW: behind a legal run of fewer than 2^64 moments each request that was answered is drawn so.
 abbrev pub AreAnswersDrawn : Type 0
 AreAnswersDrawn = (script : Script) (tables : ℕ → Option Table) (old new : ℕ → model.Pack) (ms ns : List Moment) (line u id : ℕ) (a : Answer) (window : Window)
     → IsLegalRun script tables old new (ms ++ Told line u id (End a) ∷ ns) → length ms < 2 ^ 64
-    → IsDrawn (run_from (known_of script window) (map seen_of (ms ++ Told line u id (End a) ∷ ns))) id a
+    → IsDrawn (run_from (known_of script window) (map seen_of (ms ++ Told line u id (End a) ∷ ns))) id a line
 
 -- THE FRAMES that are lent are those of the replay, behind any moments of a legal run.
 abbrev pub AreFramesLent : Type 0
