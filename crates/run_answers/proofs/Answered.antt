@@ -37,7 +37,7 @@ use Rattle.trace_replay.specs.Script.{Script, drives_of}
 use Rattle.trace_replay.specs.Service.{first_waiting, ids}
 use Rattle.trace_replay.proofs.Following.{follow_on}
 use Rattle.trace_replay.proofs.Kept.{AllFit, moments_all, starts, end_kept}
-use Rattle.trace_work.proofs.Asking.{run_asks}
+use Rattle.trace_replay.proofs.Asking.{run_asks}
 use Rattle.run_answers.specs.Answers.{IsDrawn, AreAnswersDrawn, AreFramesLent}
 use Rattle.run_answers.specs.Hears.{seen_of, known_of}
 use Rattle.run_answers.proofs.Declaring.{IsDeclared, script_declared}
