@@ -14,7 +14,8 @@ use Rattle.main_memory.specs.Blocks.{size_at}
 use Rattle.main_memory.specs.Bytes.{filled, IsFill}
 use Rattle.subsystem_spec.specs.declared.answers.Answer.{Answer}
 use Rattle.subsystem_spec.specs.declared.answers.AnswerKind.{AnswerKind}
-use Rattle.subsystem_spec.specs.declared.answers.AnswerKind.TheVariants.{ReadOk}
+use Rattle.subsystem_spec.specs.declared.answers.AnswerKind.TheVariants.{ReadOk, WriteOk, Eof, Error}
+use Rattle.subsystem_spec.specs.declared.answers.Cause.TheVariants.{Partition, Frames, Offline, Locked, Unforwarded, Fault}
 use Rattle.driver_machine.specs.declared.Made.{Made}
 use Rattle.driver_machine.specs.World.{World, Held, held_in, slot_at, block_in, bytes_in}
 use Rattle.driver_machine.specs.Acts.{Taken, after, after_all}
@@ -23,7 +24,7 @@ use Rattle.driver_machine.specs.Refusals.{refuses}
 use Rattle.driver_machine.specs.Sound.{Sound, SlotOk, IsGiven, IsMade}
 use Rattle.driver_slots.proofs.Lists.{Contains-first}
 use Rattle.driver_answers.specs.Waiting.{blocks_for, told_by, waiting, TakingDrops, takings, all_taken}
-use Rattle.answer_lines.specs.AnswerText.{answer_text, block_text, block_texts}
+use Rattle.answer_lines.specs.AnswerText.{answer_text, block_text, block_texts, blocks_text}
 use Rattle.answer_lines.specs.Blocks.{AreBlocks, blocks_in, joined}
 use Rattle.answer_lines.proofs.BlockLaws.{blocks_in-joined}
 use Rattle.answer_lines.proofs.TextLaws.{one_more}
@@ -212,6 +213,21 @@ module _ {O : Type 0} (tells : O → Bool) (taken : O → List ℕ) (faults : O 
       (subst (λ (k : List ℕ). Gathers tells taken faults old new k left result text) none
       (gathers_same text (both_gathered text [] result a b) (append-nil text))))
 
+-- what is not a read has no blocks to be said
+no_blocks : (kind : AnswerKind) (blocks : List (List ℕ)) → ((count last : ℕ) → kind ≡ ReadOk count last → ⊥) → blocks_text (answer_told kind blocks) ≡ []
+no_blocks (ReadOk count last) blocks other = absurd (other count last refl)
+no_blocks WriteOk blocks other = refl
+no_blocks Eof blocks other = refl
+no_blocks (Error Partition done) blocks other = refl
+no_blocks (Error Frames done) blocks other = refl
+no_blocks (Error Offline done) blocks other = refl
+no_blocks (Error Locked done) blocks other = refl
+no_blocks (Error Unforwarded done) blocks other = refl
+no_blocks (Error (Fault attempts) done) blocks other = refl
+
+pub nothing_behind : (w : World) (kind : AnswerKind) → ((count last : ℕ) → kind ≡ ReadOk count last → ⊥) → first_rest w kind ≡ []
+nothing_behind w kind other = no_blocks kind (first_blocks w w.answers) other
+
 -- THE ANSWERS that wait: the oldest, and the others; and their texts
 told_first : (w : World) (answer : Answer) (first : IsFirst w answer) → told_by w first.made ≡ first_told w answer
 told_first w answer first =
@@ -234,6 +250,9 @@ text_taken drops w answer s first = ap (flat_map answer_text) (told_taken drops 
 taken_first : (w : World) (made : Made) → IsOldest w made → all_taken w ≡ all_taken (after w Taken)
 taken_first w made oldest = ap (λ (answers : List Made). after_all w (takings answers)) oldest.first
 
+none_left : (w : World) → w.answers ≡ [] → all_taken w ≡ w
+none_left w none = ap (λ (answers : List Made). after_all w (takings answers)) none
+
 -- ONE IS TAKEN, since one waits
 oldest_some : (w : World) (made : Made) → IsOldest w made → w.answers ≡ [] → ⊥
 oldest_some w made oldest none =
@@ -245,6 +264,11 @@ pub is_taken : (old new : State) (answer : Answer) (result : Option Answer) → 
     → IfSome result (λ _. new ≡ record old { world = after old.world Taken }) → (result ≡ None → old.world.answers ≡ []) → new ≡ record old { world = after old.world Taken }
 is_taken old new answer None first taken none = absurd (oldest_some old.world first.made first.oldest (none refl))
 is_taken old new answer (Some other) first taken none = taken
+
+pub one_less : (w : World) (answer : Answer) → IsFirst w answer → length (after w Taken).answers < length w.answers
+one_less w answer first =
+    let e : length w.answers ≡ suc (length (drop 1 w.answers)) = ap (λ (answers : List Made). length answers) first.oldest.first in
+    omega (arith, e)
 
 -- THE ANSWERS SO FAR: those that are taken were gathered, and with those that wait still they are all.
 pub record SoFar {O : Type 0} (tells : O → Bool) (taken : O → List ℕ) (faults : O → ℕ) (old now : O) (kept held : List ℕ) (first s : State) : Type 0 where
@@ -287,3 +311,14 @@ module _ {O : Type 0} (tells : O → Bool) (taken : O → List ℕ) (faults : O 
       ∙ ap (λ (text : List ℕ). so.front ++ text) (sym (text_taken drops s.world answer sound is)) ∙ so.text)
       (gathers_stop tells taken faults old new kept left (Err failed) result (so.front ++ first_text s.world answer) (waiting_text (after s.world Taken)) refl e
       (both_gathered tells taken faults old middle new kept held left so.front (first_text s.world answer) (Err failed) so.gathers gathers))
+
+  pub all_so_far : {old new : O} {kept left : List ℕ} {first s : State} → SoFar tells taken faults old new kept left first s → s.world.answers ≡ []
+      → Gathers {T = Unit {0}} {E = SinkFailed} tells taken faults old new kept left (Ok tt) (waiting_text first.world)
+  all_so_far {old} {new} {kept} {left} {first} {s} so none =
+      subst (λ (text : List ℕ). Gathers {T = Unit {0}} {E = SinkFailed} tells taken faults old new kept left (Ok tt) text)
+      (sym (append-nil so.front) ∙ ap (λ (answers : List Made). so.front ++ flat_map answer_text (map (told_by s.world) answers)) (sym none) ∙ so.text) so.gathers
+
+  pub state_so_far : {old new : O} {kept left : List ℕ} {first s : State} → SoFar tells taken faults old new kept left first s → s.world.answers ≡ []
+      → s ≡ record first { world = all_taken first.world }
+  state_so_far {old} {new} {kept} {left} {first} {s} so none =
+      so.state ∙ ap (λ (w : World). record first { world = w }) (sym (none_left s.world none) ∙ so.all)

@@ -1,5 +1,5 @@
 -- Laws of attaching: behind some lines of a script its units are set up, their images fit, and their tables are those of their packs.
-use Rattle.std.proofs.Common.{◌≡◌, inl, inr, ℕ, suc, ◌+◌, ◌*◌, ◌<◌, ◌≤◌, Bool, true, false, IsTrue, List, [], ◌∷◌, ◌++◌, length, map, drop, refl, sym, ap, subst, ◌∙◌, Option, Some, None}
+use Rattle.std.proofs.Common.{◌≡◌, inl, inr, ℕ, suc, ◌+◌, ◌*◌, ◌<◌, ◌≤◌, Bool, true, false, IsTrue, List, [], ◌∷◌, ◌++◌, length, map, drop, refl, sym, ap, subst, ◌∙◌, arith, Option, Some, None}
 use Rattle.std.specs.Prelude.{if◌then◌else◌, ◌==◌, slice_index_or, Box, Result, Ok, Err, IfErr}
 use Rattle.std.specs.Result.{IsErrAnd}
 use Rattle.std.specs.Box.{box_value}
@@ -16,14 +16,14 @@ use Rattle.script_reader.specs.declared.statement.Statement.{Statement as Said}
 use Rattle.script_reader.specs.declared.statement.Statement.TheVariants as says
 use Rattle.script_reader.specs.Stored.{Kept, Stored, seen, renamed, digits_at}
 use Rattle.script_meaning.specs.Meaning.{statement_of, line_of, meaning_of}
-use Rattle.trace_replay.specs.Script.{Statement, Declares, Plays, Line, declared_by, drives_in, IsPlayed, AreUnitsFirst}
+use Rattle.trace_replay.specs.Script.{Script, Statement, Declares, Plays, Line, declared_by, drives_in, drives_of, IsPlayed, AreUnitsFirst}
 use Rattle.driver_machine.specs.World.{Setup}
 use Rattle.one_run.specs.Steps.{tables_in, AreSetFor}
 use Rattle.one_run.proofs.Attached as one
 use Rattle.one_run.proofs.Attached.{IsSetupOf, AreAttached, HasDrive, attached_more, attached_still, is_first, drive_there, drives_same, drives-append, first_none, first_some, none_or_some, set_for_script}
 use Rattle.event_player.specs.declared.play.PlayFault.{PlayFault}
 use Rattle.event_player.specs.declared.play.PlayFault.TheVariants as faults
-use Rattle.event_player.specs.Plays.{NamesTooLong}
+use Rattle.event_player.specs.Plays.{IsTooLong, NamesTooLong}
 use Rattle.event_player.specs.Faults.{IsLongFor}
 use Rattle.event_player.specs.Attaching.{IsSet, IsFoundLong, HasRoom, Adds, RefusesLine}
 use Rattle.event_player.proofs.CountLaws.{lines_before, lines_more, lines_all, lines_parted}
@@ -32,6 +32,9 @@ use Rattle.event_player.proofs.CountLaws.{lines_before, lines_more, lines_all, l
 pub record AreTold (packs : ℕ → Pack) (lines : List Line) (setups : List Setup) : Type 0 where
   pub fits : (unit : ℕ) (kind : DriveKind) → drives_in lines unit ≡ Some kind → length (packs unit).image ≤ 512 * block_count kind
   pub tables : AreTablesOf (drives_in lines) packs (tables_in setups)
+
+pub told_none : (packs : ℕ → Pack) → AreTold packs [] []
+told_none packs = record { fits = λ unit kind e. absurd (none-some kind e); tables = λ unit. refl }
 
 set_up_as : {tells : Bool} {packs : ℕ → Pack} {u : ℕ} {kind : DriveKind} {s : Setup} → IsSet tells packs u kind s → IsSetupOf u kind s
 set_up_as set = record { unit_is = set.unit_is; kind_is = set.kind_is; good = set.good }
@@ -67,6 +70,14 @@ told_still {packs} {lines} {setups} line played told = record {
   fits = λ unit kind e. told.fits unit kind (sym (drives_same lines line unit played) ∙ e);
   tables = one.told_still packs lines setups line played told.tables;
 }
+
+-- NONE IS TOO LONG, where all fit
+pub none_long : (script : Script) (packs : ℕ → Pack) (setups : List Setup) → AreTold packs script.lines setups → (unit n : ℕ) → ¬ (IsTooLong script packs unit n)
+none_long script packs setups told unit n long =
+    let fits = told.fits unit long.kind long.declared in
+    let is = long.is in
+    let more = long.more in
+    omega (arith, fits, is, more)
 
 -- THE LINES of a script, parted at one of them
 pub lines_split : (s : Stored) (i : ℕ) (line : Kept) → i < length s.lines → line ≡ slice_index_or s.lines i line
@@ -218,3 +229,6 @@ at_fault (Err x) P is p = subst P (sym is) p
 -- BEHIND THE LAST LINE
 pub attached_all : (s : Stored) (i : ℕ) (setups : List Setup) → length s.lines ≤ i → AreAttached (lines_before s i) setups → AreSetFor (meaning_of s) (tables_in setups) setups
 attached_all s i setups all a = set_for_script (meaning_of s) setups (subst (λ (lines : List Line). AreAttached lines setups) (lines_all s i all) a)
+
+pub told_all : (s : Stored) (i : ℕ) (packs : ℕ → Pack) (setups : List Setup) → length s.lines ≤ i → AreTold packs (lines_before s i) setups → AreTold packs (meaning_of s).lines setups
+told_all s i packs setups all told = subst (λ (lines : List Line). AreTold packs lines setups) (lines_all s i all) told

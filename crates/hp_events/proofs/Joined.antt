@@ -1,5 +1,5 @@
 -- Calls one behind the other, each of which does acts.
-use Rattle.std.proofs.Common.{ℕ, ◌≤◌, Bool, false, IsTrue, List, [], ◌∷◌, ◌++◌, sym, subst, arith}
+use Rattle.std.proofs.Common.{◌≡◌, ℕ, ◌≤◌, Bool, false, IsTrue, List, [], ◌∷◌, ◌++◌, sym, subst, arith}
 use Rattle.std.specs.Prelude.{Result, Ok, Err}
 use Rattle.pack_model.specs.Pack.{empty_pack}
 use Rattle.outside_traits.specs.Causes.{HasCause, Rose}

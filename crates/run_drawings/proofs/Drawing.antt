@@ -30,10 +30,10 @@ use Rattle.run_drawings.proofs.Listening.{Heard, heard_all, all_heard, left_hear
 use Rattle.run_outcomes.proofs.OfRuns.{are_answered}
 
 -- WHERE AN EVENT ENDS a drive keeps its condition
-record Keeps {A : Type 0} (p : Drive → A) : Type 0 where
-  cleared : (d : Drive) → p (cleared d) ≡ p d
-  counted : (d : Drive) → p (event_counted d) ≡ p d
-  unseen : (d : Drive) → p (unseen d) ≡ p d
+pub record Keeps {A : Type 0} (p : Drive → A) : Type 0 where
+  pub cleared : (d : Drive) → p (cleared d) ≡ p d
+  pub counted : (d : Drive) → p (event_counted d) ≡ p d
+  pub unseen : (d : Drive) → p (unseen d) ≡ p d
 
 closed_keeps : {A : Type 0} (p : Drive → A) → Keeps p → (full : Bool) (head : Head) (k : Known) (u : ℕ) → p (drive_at (column_closed full head k).drives u) ≡ p (drive_at k.drives u)
 closed_keeps p f true head k u = keeps_map p cleared k.drives u f.cleared
@@ -45,7 +45,7 @@ shown_keeps p f false true last k u =
     closed_keeps p f (is_full (headed (line_of last) (is_idle last) k.drives k.head) k.window k.event) (headed (line_of last) (is_idle last) k.drives k.head) k u
 shown_keeps p f false false last k u = refl
 
-turned_keeps : {A : Type 0} (p : Drive → A) → Keeps p → (b : Bool) (o : Option Moment) (k : Known) (u : ℕ) → p (drive_at (cond b (turned_behind o k) k).drives u) ≡ p (drive_at k.drives u)
+pub turned_keeps : {A : Type 0} (p : Drive → A) → Keeps p → (b : Bool) (o : Option Moment) (k : Known) (u : ℕ) → p (drive_at (cond b (turned_behind o k) k).drives u) ≡ p (drive_at k.drives u)
 turned_keeps p f false o k u = refl
 turned_keeps p f true None k u = refl
 turned_keeps p f true (Some last) k u =
@@ -57,7 +57,7 @@ turned_keeps p f true (Some last) k u =
 own_place : (place : ℕ) → not (place == place) ≡ false
 own_place place = grind (arith, nat_tests)
 
-no_refusal : (place : ℕ) (d : Drive) (r : Request) → r.why ≡ None → Holds place d.trial → is_refused place d r ≡ false
+pub no_refusal : (place : ℕ) (d : Drive) (r : Request) → r.why ≡ None → Holds place d.trial → is_refused place d r ≡ false
 no_refusal place d r why (inl none) =
     ap (λ (o : Option Outcome). is_some o || (is_some d.trial.hand && not (is_at d.trial.hand place))) why
     ∙ ap (λ (o : Option ℕ). is_some o && not (is_at o place)) none.0
@@ -65,7 +65,7 @@ no_refusal place d r why (inr some) =
     ap (λ (o : Option Outcome). is_some o || (is_some d.trial.hand && not (is_at d.trial.hand place))) why
     ∙ ap (λ (o : Option ℕ). is_some o && not (is_at o place)) some ∙ own_place place
 
-end_outcome : (b : Bool) (event line : ℕ) (d : Drive) (r : Request) → b ≡ false → (request_end b event line d r).outcome ≡ answer d r
+pub end_outcome : (b : Bool) (event line : ℕ) (d : Drive) (r : Request) → b ≡ false → (request_end b event line d r).outcome ≡ answer d r
 end_outcome b event line d r e = ap (λ (x : Bool). (request_end x event line d r).outcome) e
 
 ended_outcome : (k : Known) (line u id place : ℕ) (h : Hearing) → Heard k u id place h → Holds place (drive_at k.drives u).trial

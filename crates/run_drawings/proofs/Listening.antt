@@ -51,7 +51,7 @@ pub all_told : (place : ℕ) (start : Hearing) (lines : List Deed) → told_all 
 all_told place start [] = refl
 all_told place start (d ∷ lines) = ap (tell place (told_of d)) (all_told place start lines)
 
-told_same : (place : ℕ) (t : Line) (d : Drive) (r : Request) (h : Hearing) → Same d r h → Same (drives.tells place t d) (requests.tells place d t r) (tell place t h)
+pub told_same : (place : ℕ) (t : Line) (d : Drive) (r : Request) (h : Hearing) → Same d r h → Same (drives.tells place t d) (requests.tells place d t r) (tell place t h)
 told_same place (deed.Search c y) d r h s = record { trial = ap (in_hand place) s.trial; done = s.done; verdict = s.verdict; write = s.write }
 told_same place (deed.Seek c) d r h s = record { trial = ap (in_hand place) s.trial; done = s.done; verdict = s.verdict; write = s.write }
 told_same place deed.Recal d r h s = record { trial = ap (in_hand place) s.trial; done = s.done; verdict = s.verdict; write = s.write }
@@ -72,7 +72,7 @@ found_step : (b : Bool) (n place : ℕ) (rest more : Option ℕ) → (rest ≡ S
 found_step true n place rest more f e = e
 found_step false n place rest more f e = f e
 
-found_more : (n : ℕ) (ids : List ℕ) (i id place : ℕ) → place_from n ids id ≡ Some place → place_from n (ids ++ i ∷ []) id ≡ Some place
+pub found_more : (n : ℕ) (ids : List ℕ) (i id place : ℕ) → place_from n ids id ≡ Some place → place_from n (ids ++ i ∷ []) id ≡ Some place
 found_more n [] i id place e = absurd (none-some place e)
 found_more n (x ∷ ids) i id place e = found_step (x == id) n place (place_from (n + 1) ids id) (place_from (n + 1) (ids ++ i ∷ []) id) (found_more (n + 1) ids i id place) e
 
@@ -80,7 +80,7 @@ from_step : (b : Bool) (n place l : ℕ) (rest : Option ℕ) → (rest ≡ Some 
 from_step true n place l rest f e = let is : n ≡ place = same_Some n place e in (omega (arith, is), omega (arith, is))
 from_step false n place l rest f e = let more : (n + 1 < suc place) × (place < n + 1 + l) = f e in (omega (arith, more.0), omega (arith, more.1))
 
-found_from : (n : ℕ) (ids : List ℕ) (id place : ℕ) → place_from n ids id ≡ Some place → (n < suc place) × (place < n + length ids)
+pub found_from : (n : ℕ) (ids : List ℕ) (id place : ℕ) → place_from n ids id ≡ Some place → (n < suc place) × (place < n + length ids)
 found_from n [] id place e = absurd (none-some place e)
 found_from n (x ∷ ids) id place e = from_step (x == id) n place (length ids) (place_from (n + 1) ids id) (found_from (n + 1) ids id place) e
 
@@ -94,7 +94,7 @@ id_step true false x i id n place one other is so f g h e t = absurd (omega (ari
 id_step false true x i id n place one other is so f g h e t = absurd (omega (arith, same_Some n place t, f e))
 id_step false false x i id n place one other is so f g h e t = h e t
 
-one_id : (n : ℕ) (ids : List ℕ) (i id place : ℕ) → place_from n ids i ≡ Some place → place_from n ids id ≡ Some place → (i == id) ≡ true
+pub one_id : (n : ℕ) (ids : List ℕ) (i id place : ℕ) → place_from n ids i ≡ Some place → place_from n ids id ≡ Some place → (i == id) ≡ true
 one_id n [] i id place e f = absurd (none-some place e)
 one_id n (x ∷ ids) i id place e f =
     id_step (x == i) (x == id) x i id n place (place_from (n + 1) ids i) (place_from (n + 1) ids id) refl refl (λ g. (found_from (n + 1) ids i place g).0) (λ g. (found_from (n + 1) ids id place g).0)
@@ -191,7 +191,7 @@ one_more_request k v d i r lent u place e = record {
     longer : (n : ℕ) → place < n → length (k.requests ++ r ∷ []) ≡ n + 1 → place < length (k.requests ++ r ∷ [])
     longer n p l = omega (arith, p, l)
 
-asked_trial : (a : Result ℕ Outcome) (d : Drive) → (drive_asked a d).trial ≡ d.trial
+pub asked_trial : (a : Result ℕ Outcome) (d : Drive) → (drive_asked a d).trial ≡ d.trial
 asked_trial (Ok cylinder) d = refl
 asked_trial (Err why) d = refl
 

@@ -14,7 +14,7 @@ use Rattle.trace_replay.proofs.AsSaid.{is_as_said}
 use Rattle.trace_replay.proofs.Following.{follow_on}
 use Rattle.trace_replay.proofs.Kept.{UnitFits, moments_all, starts, held_by, refused_is, no}
 use Rattle.trace_replay.proofs.RunExplained.{run_explained}
-use Rattle.trace_work.proofs.Asking.{run_asks}
+use Rattle.trace_replay.proofs.Asking.{run_asks}
 use Rattle.run_outcomes.specs.Hearings.{told_all}
 use Rattle.run_outcomes.specs.Outcomes.{AreAnswered}
 use Rattle.run_outcomes.proofs.Wanting.{UnitWants, moments_want, starts_want, some_asked, wrote_in}

@@ -3,7 +3,7 @@ use Rattle.std.proofs.lemmas.Result.{on_ok_weaker}
 use Rattle.hp_events.specs.Inputs.{input_of}
 use Rattle.script_meaning.specs.Meaning.{statement_of}
 use Rattle.script_reader.specs.Stored.{seen, digits_at}
-use Rattle.trace_replay.specs.Script.{Statement}
+use Rattle.trace_replay.specs.Script.{Statement, Drain}
 use Rattle.event_player.specs.Steps.{Stage, stage}
 use Rattle.event_player.proofs.Statements.{event_line_brings, silent_plays, renumbered}
 use Rattle.event_player.proofs.player.play_line.Goals as goal

@@ -1,0 +1,10 @@
+pub mod Declaring
+pub mod Turning
+pub mod Conditions
+pub mod Tying
+pub mod Telling
+pub mod Asking
+pub mod Running
+pub mod Starting
+pub mod Ended
+pub mod Answered
