@@ -52,7 +52,7 @@ module _ (number : ℕ) (first left : ℕ → Pack) (said said' : List ℕ) (tel
         is.stopped.reach room_on (asks_below number)
         (λ u kind table there some. absurd (no_tables (drives_of (exercise_script number)) first is.tables u table is.read empty some)) unit
         ∙ (empty_within first empty).beyond unit;
-    marks = λ unit. by_block unit is.stopped.packs ∙ is.stopped.behind.marks unit ∙ (empty_within first empty).marks unit;
+    marks = λ unit. by_block unit is.stopped.packs ∙ is.stopped.behind.surface.marks unit ∙ (empty_within first empty).marks unit;
   }
     where
       by_block : (unit : ℕ) → (left ≡ is.stopped.held) ⊎ IsNextBlock is.stopped.world is.stopped.held left → (left unit).marks ≡ (is.stopped.held unit).marks

@@ -362,7 +362,11 @@ fn put_piece(out: &mut Vec<u8>, piece: &Piece<'_>, points: &[Point]) -> Result<(
 }
 
 /// The text of a drawing.
-pub(crate) fn render(alloc: Global, pieces: &[Piece<'_>], points: &[Point]) -> Result<Vec<u8>, AllocError>
+pub(crate) fn render(
+    alloc: Global,
+    pieces: &[Piece<'_>],
+    points: &[Point],
+) -> Result<Vec<u8>, AllocError>
     ensures { IfOk result (λ text. text.items ≡ text_of points.now pieces.now) }
 {
     let mut out = Vec::new(alloc);
