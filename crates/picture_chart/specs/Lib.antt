@@ -1,0 +1,5 @@
+pub mod Pages
+pub mod Panels
+pub mod Rows
+pub mod Signs
+pub mod Tables
