@@ -70,11 +70,7 @@ fn panel_columns(columns: &[Column], from: usize, to: usize) -> &[Column]
 }
 
 /// Puts the panels, each with an empty line.
-fn put_panels(
-    page: &mut Vec<ChartLine>,
-    sheet: &Sheet<'_>,
-    units: &[u8],
-) -> Result<(), AllocError>
+fn put_panels(page: &mut Vec<ChartLine>, sheet: &Sheet<'_>, units: &[u8]) -> Result<(), AllocError>
     requires { units.now ≡ units_shown sheet.now }
     ensures { OnOk result (page.new.items ≡ with_panels sheet.now page.old.items (panels_of sheet.now.run.now.columns)) }
 {
@@ -82,7 +78,13 @@ fn put_panels(
     let panels = (columns.len() + (PANEL - 1)) / PANEL;
     for panel in 0..panels {
         let from = PANEL * panel;
-        put_panel(page, sheet, units, panel_columns(columns, from, from + PANEL), from)?;
+        put_panel(
+            page,
+            sheet,
+            units,
+            panel_columns(columns, from, from + PANEL),
+            from,
+        )?;
         put_line(page, ChartLine::new())?;
     }
     Ok(())
@@ -93,9 +95,24 @@ fn put_panels(
 fn put_drive_signs(page: &mut Vec<ChartLine>) -> Result<(), AllocError>
     ensures { OnOk result (page.new.items ≡ fold with_words page.old.items of_drives) }
 {
-    put_line(page, line_of(b"drive  S arm moves  s turns to its sector  C recalibrates  O sets an offset  ! arrived, attention up"))?;
-    put_line(page, line_of(b"       : ready, adapter busy  # sectors move  T tries again  R at a replacement  ^ interrupt up"))?;
-    put_line(page, line_of(b"marks  q asked for  ' attention up  a taken  i interrupt taken  o sector  v ok  B burst, repaired"))?;
+    put_line(
+        page,
+        line_of(
+            b"drive  S arm moves  s turns to its sector  C recalibrates  O sets an offset  ! arrived, attention up",
+        ),
+    )?;
+    put_line(
+        page,
+        line_of(
+            b"       : ready, adapter busy  # sectors move  T tries again  R at a replacement  ^ interrupt up",
+        ),
+    )?;
+    put_line(
+        page,
+        line_of(
+            b"marks  q asked for  ' attention up  a taken  i interrupt taken  o sector  v ok  B burst, repaired",
+        ),
+    )?;
     Ok(())
 }
 
@@ -104,9 +121,24 @@ fn put_drive_signs(page: &mut Vec<ChartLine>) -> Result<(), AllocError>
 fn put_mark_signs(page: &mut Vec<ChartLine>) -> Result<(), AllocError>
     ensures { OnOk result (page.new.items ≡ fold with_words page.old.items of_marks) }
 {
-    put_line(page, line_of(b"       E not repairable  F fault  M marked  x offline  t try failed  X stopped  + - offset"))?;
-    put_line(page, line_of(b"       n noise  f fault armed  @ turned  d offline  u online  l locked  k unlocked  P acknowledged"))?;
-    put_line(page, line_of(b"arm    0 to 9, from cylinder 0 to the highest         queue  requests not answered, + above 9"))
+    put_line(
+        page,
+        line_of(
+            b"       E not repairable  F fault  M marked  x offline  t try failed  X stopped  + - offset",
+        ),
+    )?;
+    put_line(
+        page,
+        line_of(
+            b"       n noise  f fault armed  @ turned  d offline  u online  l locked  k unlocked  P acknowledged",
+        ),
+    )?;
+    put_line(
+        page,
+        line_of(
+            b"arm    0 to 9, from cylinder 0 to the highest         queue  requests not answered, + above 9",
+        ),
+    )
 }
 
 /// Puts what the signs say.

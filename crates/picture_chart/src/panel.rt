@@ -130,7 +130,9 @@ fn put_number(numbers: &mut Numbers, place: u64, column: &Column)
     ensures { numbers.new ≡ with_number place numbers.old column.now }
 {
     let line = column.head.line;
-    numbers.strip.put_byte(line_byte(place, numbers.before, line));
+    numbers
+        .strip
+        .put_byte(line_byte(place, numbers.before, line));
     numbers.before = line;
 }
 
