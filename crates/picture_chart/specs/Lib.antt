@@ -1,3 +1,4 @@
+pub mod Legends
 pub mod Pages
 pub mod Panels
 pub mod Rows

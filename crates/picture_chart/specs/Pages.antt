@@ -1,8 +1,7 @@
 -- THE CHART OF A SHEET: its title, what is seen at a glance, the panels of 72 columns each, the requests, and what the signs say.
 use Rattle.std.specs.Prelude.{◌≡◌, ℕ, zero, suc, ◌+◌, ◌*◌, ◌/◌, List, [], ◌∷◌, Option, Some, None, length, fold, decimal, slice_range}
-use denote.Ref.{Bor}
 use Rattle.chart_lines.specs.Charts.{with_text, text_of, IsChart}
-use Rattle.picture_chart.specs.declared.TheConstants.{LEGEND}
+use Rattle.picture_chart.specs.Legends.{with_legend}
 use Rattle.picture_chart.specs.Panels.{with_panel}
 use Rattle.picture_chart.specs.Rows.{line_of, with_line}
 use Rattle.picture_chart.specs.Tables.{with_table}
@@ -42,13 +41,6 @@ with_panels sheet page (suc n) =
 
 abbrev pub panels_of : List Column → ℕ
 panels_of columns = (length columns + 71) / 72
-
--- what the signs say
-abbrev pub with_words : List (List ℕ) → Bor (List ℕ) → List (List ℕ)
-with_words page words = with_line (line_of (words.now ∷ [])) page
-
-unfoldable pub with_legend : List (List ℕ) → List (List ℕ)
-with_legend page = fold with_words (with_line [] page) LEGEND
 
 unfoldable pub page_of : Sheet → List Sentence → List (List ℕ)
 page_of sheet sentences =

@@ -1,8 +1,9 @@
 //! The whole chart.
 
-ghost use Rattle.std.specs.Prelude.{◌≡◌, slice_range, IfOk, OnOk};
+ghost use Rattle.std.specs.Prelude.{◌≡◌, fold, slice_range, IfOk, OnOk};
 ghost use Rattle.picture_sheet.specs.Units.{units_shown};
-ghost use Rattle.picture_chart.specs.Pages.{with_phrase, with_third, with_sentence, with_head, panels_of, with_panels, with_legend, IsChartOf};
+ghost use Rattle.picture_chart.specs.Pages.{with_phrase, with_third, with_sentence, with_head, panels_of, with_panels, IsChartOf};
+ghost use Rattle.picture_chart.specs.Legends.{with_words, of_drives, of_marks, with_legend};
 
 use crate::panel::put_panel;
 use crate::rows::{line_of, put_line};
@@ -15,16 +16,6 @@ use std::alloc::{AllocError, Global};
 /// The columns of a panel.
 const PANEL: usize = 72;
 
-/// What the signs of a chart say.
-pub const LEGEND: [&str; 6] = [
-    "drive  S arm moves  s turns to its sector  C recalibrates  O sets an offset  ! arrived, attention up",
-    "       : ready, adapter busy  # sectors move  T tries again  R at a replacement  ^ interrupt up",
-    "marks  q asked for  ' attention up  a taken  i interrupt taken  o sector  v ok  B burst, repaired",
-    "       E not repairable  F fault  M marked  x offline  t try failed  X stopped  + - offset",
-    "       n noise  f fault armed  @ turned  d offline  u online  l locked  k unlocked  P acknowledged",
-    "arm    0 to 9, from cylinder 0 to the highest         queue  requests not answered, + above 9",
-];
-
 /// Puts words, and the number behind them.
 fn put_phrase(line: &mut ChartLine, phrase: &Phrase)
     ensures { line.new ≡ with_phrase line.old phrase.now }
@@ -35,7 +26,7 @@ fn put_phrase(line: &mut ChartLine, phrase: &Phrase)
 
 /// Puts the third phrase of a sentence, where it has one.
 fn put_third(line: &mut ChartLine, third: Option<Phrase>)
-    ensures { line.new ≡ with_third line.old third.entry }
+    ensures { line.new ≡ with_third line.old third }
 {
     if let Some(phrase) = third {
         put_phrase(line, &phrase);
@@ -79,11 +70,7 @@ fn panel_columns(columns: &[Column], from: usize, to: usize) -> &[Column]
 }
 
 /// Puts the panels, each with an empty line.
-fn put_panels(
-    page: &mut Vec<ChartLine>,
-    sheet: &Sheet<'_>,
-    units: &[u8],
-) -> Result<(), AllocError>
+fn put_panels(page: &mut Vec<ChartLine>, sheet: &Sheet<'_>, units: &[u8]) -> Result<(), AllocError>
     requires { units.now ≡ units_shown sheet.now }
     ensures { OnOk result (page.new.items ≡ with_panels sheet.now page.old.items (panels_of sheet.now.run.now.columns)) }
 {
@@ -91,22 +78,76 @@ fn put_panels(
     let panels = (columns.len() + (PANEL - 1)) / PANEL;
     for panel in 0..panels {
         let from = PANEL * panel;
-        put_panel(page, sheet, units, panel_columns(columns, from, from + PANEL), from)?;
+        put_panel(
+            page,
+            sheet,
+            units,
+            panel_columns(columns, from, from + PANEL),
+            from,
+        )?;
         put_line(page, ChartLine::new())?;
     }
     Ok(())
 }
 
+/// Puts what the signs of a drive say, and the first marks.
+#[tactic(auto, unfolding(crate::specs::Legends::of_drives))]
+fn put_drive_signs(page: &mut Vec<ChartLine>) -> Result<(), AllocError>
+    ensures { OnOk result (page.new.items ≡ fold with_words page.old.items of_drives) }
+{
+    put_line(
+        page,
+        line_of(
+            b"drive  S arm moves  s turns to its sector  C recalibrates  O sets an offset  ! arrived, attention up",
+        ),
+    )?;
+    put_line(
+        page,
+        line_of(
+            b"       : ready, adapter busy  # sectors move  T tries again  R at a replacement  ^ interrupt up",
+        ),
+    )?;
+    put_line(
+        page,
+        line_of(
+            b"marks  q asked for  ' attention up  a taken  i interrupt taken  o sector  v ok  B burst, repaired",
+        ),
+    )?;
+    Ok(())
+}
+
+/// Puts what the other marks say, and the digits.
+#[tactic(auto, unfolding(crate::specs::Legends::of_marks))]
+fn put_mark_signs(page: &mut Vec<ChartLine>) -> Result<(), AllocError>
+    ensures { OnOk result (page.new.items ≡ fold with_words page.old.items of_marks) }
+{
+    put_line(
+        page,
+        line_of(
+            b"       E not repairable  F fault  M marked  x offline  t try failed  X stopped  + - offset",
+        ),
+    )?;
+    put_line(
+        page,
+        line_of(
+            b"       n noise  f fault armed  @ turned  d offline  u online  l locked  k unlocked  P acknowledged",
+        ),
+    )?;
+    put_line(
+        page,
+        line_of(
+            b"arm    0 to 9, from cylinder 0 to the highest         queue  requests not answered, + above 9",
+        ),
+    )
+}
+
 /// Puts what the signs say.
-#[tactic(auto, unfolding(crate::specs::Pages::with_legend))]
 fn put_legend(page: &mut Vec<ChartLine>) -> Result<(), AllocError>
     ensures { OnOk result (page.new.items ≡ with_legend page.old.items) }
 {
     put_line(page, ChartLine::new())?;
-    for text in LEGEND.iter() {
-        put_line(page, line_of(text.as_bytes()))?;
-    }
-    Ok(())
+    put_drive_signs(page)?;
+    put_mark_signs(page)
 }
 
 /// The chart of a sheet, for a terminal.

@@ -1,6 +1,6 @@
 //! A panel of a chart: some columns.
 
-ghost use Rattle.std.specs.Prelude.{◌≡◌, ◌+◌, ◌<◌, ◌^◌, ◌∷◌, [], length, OnOk};
+ghost use Rattle.std.specs.Prelude.{◌≡◌, ◌+◌, ◌<◌, ◌^◌, ◌∷◌, [], fold, length, OnOk};
 ghost use Rattle.picture_chart.specs.Panels.{numbers_of, with_number, with_place, with_lines, unit_label, with_unit, with_unit_of, with_adapter, with_event, events_to, with_panel};
 ghost use Rattle.picture_chart.specs.Rows.{strip_of};
 ghost use Rattle.picture_chart.specs.Signs.{first_of, digit_of, count_sign, condition_sign, arm_sign, sign_of, no_holder, with_holder, holder_sign, together_sign, line_sign};
@@ -130,7 +130,9 @@ fn put_number(numbers: &mut Numbers, place: u64, column: &Column)
     ensures { numbers.new ≡ with_number place numbers.old column.now }
 {
     let line = column.head.line;
-    numbers.strip.put_byte(line_byte(place, numbers.before, line));
+    numbers
+        .strip
+        .put_byte(line_byte(place, numbers.before, line));
     numbers.before = line;
 }
 
@@ -157,14 +159,25 @@ fn put_place(page: &mut Vec<ChartLine>, columns: &[Column], place: u64) -> Resul
     put_row(page, ChartLine::new(), line_strip(columns, place))
 }
 
+/// Puts their digits at some places.
+fn put_places(
+    page: &mut Vec<ChartLine>,
+    columns: &[Column],
+    places: &[u64],
+) -> Result<(), AllocError>
+    ensures { OnOk result (page.new.items ≡ fold (with_place columns.now) page.old.items places.now) }
+{
+    for place in places.iter() {
+        put_place(page, columns, *place)?;
+    }
+    Ok(())
+}
+
 /// Puts the numbers of the script's lines.
 fn put_lines(page: &mut Vec<ChartLine>, columns: &[Column]) -> Result<(), AllocError>
     ensures { OnOk result (page.new.items ≡ with_lines columns.now page.old.items) }
 {
-    let places = [1_000_000, 100_000, 10_000, 1_000, 100, 10];
-    for place in places.iter() {
-        put_place(page, columns, *place)?;
-    }
+    put_places(page, columns, &[1_000_000, 100_000, 10_000, 1_000, 100, 10])?;
     put_row(page, line_of(b"line"), line_strip(columns, 1))
 }
 

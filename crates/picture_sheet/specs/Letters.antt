@@ -4,7 +4,7 @@ use Rattle.drive_pictures.specs.declared.cells.Tally.{Tally}
 use Rattle.drive_pictures.specs.declared.letters.Letter.{Letter}
 use Rattle.drive_pictures.specs.declared.letters.Letter.TheVariants as letter
 use Rattle.drive_pictures.specs.Counts.{plus}
-use Rattle.picture_sheet.specs.declared.TheConstants.{LETTERS}
+use Rattle.picture_sheet.specs.declared.cells.TheConstants.{LETTERS}
 
 -- the events behind which it holds its adapter; and those behind which it does anything else but rest
 abbrev pub holding : Tally → ℕ

@@ -1,6 +1,6 @@
 //! The letters of a drive in a column.
 
-ghost use Rattle.std.specs.Prelude.{◌≡◌};
+ghost use Rattle.std.specs.Prelude.{◌≡◌, fold};
 ghost use Rattle.run_picture.specs.Fold.{drive_at};
 ghost use Rattle.picture_sheet.specs.Letters.{holding, waiting, count_of, oftener, lead_of};
 
@@ -79,16 +79,23 @@ fn oftener(tally: &Tally, events: u64, letter: Letter, other: Letter) -> Letter
     }
 }
 
+/// Of some letters the one of most of a column's events; of several such, the last; idle if none.
+fn oftenest(letters: &[Letter], tally: &Tally, events: u64) -> Letter
+    ensures { result ≡ fold (oftener tally.now events) Letter.Idle letters.now }
+{
+    let mut lead = Letter::Idle;
+    for letter in letters.iter() {
+        lead = oftener(tally, events, lead, *letter);
+    }
+    lead
+}
+
 /// The letter of most of a column's events; of several such, the last.
 #[tactic(auto, unfolding(crate::specs::Letters::lead_of))]
 pub fn lead(tally: &Tally, events: u64) -> Letter
     ensures { result ≡ lead_of tally.now events }
 {
-    let mut lead = Letter::Idle;
-    for letter in LETTERS.iter() {
-        lead = oftener(tally, events, lead, *letter);
-    }
-    lead
+    oftenest(&LETTERS, tally, events)
 }
 
 /// What is seen of a drive in a column.
