@@ -12,6 +12,7 @@ use Rattle.picture_markup.specs.declared.pieces.Route.TheVariants as route
 use Rattle.picture_markup.specs.declared.pieces.Piece.{Piece}
 use Rattle.picture_markup.specs.declared.pieces.Piece.TheVariants as piece
 use Rattle.picture_markup.specs.Nesting.{Drawn, blank, drawn}
+use Rattle.picture_markup.specs.Places.{coordinates, are_low}
 
 -- WORDS: the signs of elements are written out, and what is not printing is a question mark
 abbrev pub is_printing : ℕ → Bool
@@ -158,12 +159,13 @@ with_label_number class p n text = with_end element.Text (with_opened class p te
 abbrev pub with_label_both : List ℕ → Point → List ℕ → ℕ → List ℕ → List ℕ
 with_label_both class p word n text = with_end element.Text (with_words word (with_opened class p text) ++ decimal n)
 
--- A DRAWING IS WRITTEN AS A TEXT
+-- A DRAWING IS WRITTEN AS A TEXT: of pieces and points whose coordinates are low
 pub record IsWritten (d : Drawn) (text : List ℕ) : Type 0 where
   pub pieces : List Piece
   pub points : List Point
   pub text_is : text ≡ text_of points pieces
   pub drawn_is : drawn pieces ≡ d
+  pub low : are_low (coordinates pieces points) ≡ true
 
 -- A DRAWING SO FAR: what it comes to, its text, and the points of its lines through many
 pub record Drawing : Type 0 where
