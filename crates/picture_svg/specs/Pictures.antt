@@ -16,9 +16,9 @@ text_of note = note.text.now
 abbrev pub lines_seen : Sheet → List (List ℕ)
 lines_seen sheet = if sheet.window.per == 1 then map text_of (filter (names_drawn sheet) sheet.notes.now) else []
 
--- A TEXT IS A PICTURE OF A SHEET: it is written of pieces whose elements nest and have all ended, and the lines of the run that
--- stand in its tooltips are those of each drive that is drawn. Each line that names such a drive stands in just one: of whichever
--- lines, as many are told as there are.
+-- A TEXT IS A PICTURE OF A SHEET: it is written of pieces whose elements nest and have all ended, each coordinate below 20,000,
+-- and the lines of the run that stand in its tooltips are those of each drive that is drawn. Each line that names such a drive
+-- stands in just one: of whichever lines, as many are told as there are.
 pub record IsPicture (sheet : Sheet) (text : List ℕ) : Type 0 where
   pub written : IsWritten (record { within = []; broken = false; told = lines_of_units sheet (units_shown sheet) }) text
   pub once : (which : List ℕ → Bool) → count_by which (lines_of_units sheet (units_shown sheet)) ≡ count_by which (lines_seen sheet)
