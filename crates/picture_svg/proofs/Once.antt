@@ -93,12 +93,24 @@ three u n d (inr a) (inl b) (inr c) = absurd (omega (arith, b.1, c.1))
 three u n d (inr a) (inr b) (inl c) = absurd (b.1 (omega (arith, a.1, c.1)))
 three u n d (inr a) (inr b) (inr c) = inr (inr (a.0, b.0, c.0))
 
+counted_below : (du dn w : Bool) → one ((true && du) && w) + gap dn (one (false && w)) ≡ one ((true && du) && w)
+unfolding one
+counted_below du dn w = omega (arith, gap_zero dn)
+
+counted_here : (d w : Bool) → one ((false && d) && w) + gap d (one (true && w)) ≡ one ((true && d) && w)
+unfolding one gap
+counted_here true w = omega arith
+counted_here false w = omega arith
+
+counted_above : (du dn w : Bool) → one ((false && du) && w) + gap dn (one (false && w)) ≡ one ((false && du) && w)
+unfolding one
+counted_above du dn w = omega (arith, gap_zero dn)
+
 counted_by : (lt eq next du dn w : Bool) → Ways lt eq next du dn → one ((lt && du) && w) + gap dn (one (eq && w)) ≡ one ((next && du) && w)
-unfolding Ways one gap
-counted_by lt eq next du dn w (inl h) = rw (h.0, h.1, h.2) (omega (arith, gap_zero dn))
-counted_by lt eq next du true w (inr (inl h)) = rw (h.0, h.1, h.2, h.3) refl
-counted_by lt eq next du false w (inr (inl h)) = rw (h.0, h.1, h.2, h.3) refl
-counted_by lt eq next du dn w (inr (inr h)) = rw (h.0, h.1, h.2) (omega (arith, gap_zero dn))
+unfolding Ways
+counted_by lt eq next du dn w (inl h) = rw (h.0, h.1, h.2) (counted_below du dn w)
+counted_by lt eq next du dn w (inr (inl h)) = rw (h.0, h.1, h.2, h.3) (counted_here dn w)
+counted_by lt eq next du dn w (inr (inr h)) = rw (h.0, h.1, h.2) (counted_above du dn w)
 
 counted : (u n : ℕ) (d : ℕ → Bool) (w : Bool)
     → one ((nat_lt u n && d u) && w) + gap (d n) (one ((u == n) && w)) ≡ one ((nat_lt u (suc n) && d u) && w)
