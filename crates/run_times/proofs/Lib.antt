@@ -3,3 +3,4 @@ pub mod Requests
 pub mod Blocks
 pub mod Served
 pub mod Since
+pub mod Waiting

@@ -1,5 +1,5 @@
 -- What only the lines that name a request change of it.
-use Rattle.std.proofs.Common.{◌≡◌, ◌≢◌, ℕ, zero, suc, ◌+◌, ◌-◌, ◌^◌, ◌<◌, ◌≤◌, ◌==◌, min, Bool, true, false, not, cond, List, [], ◌∷◌, ◌++◌, length, map, fold, set, Option, Some, None, Result, Ok, Err, refl, sym, ap, ◌∙◌, subst, arith}
+use Rattle.std.proofs.Common.{◌≡◌, ◌≢◌, ℕ, zero, suc, ◌+◌, ◌<◌, ◌≤◌, ◌==◌, Bool, true, false, not, cond, List, [], ◌∷◌, ◌++◌, length, map, fold, set, Option, Some, None, Result, refl, sym, ap, ◌∙◌, subst, arith}
 use Rattle.std.proofs.lemmas.Bool.Decides.{nat_tests}
 use Rattle.std.proofs.lemmas.Option.{same_Some, none-some}
 use Rattle.drive_pictures.specs.declared.drives.Drive.{Drive}
@@ -20,7 +20,7 @@ use Rattle.run_picture.proofs.PlaceLaws.{place-at_end, place-elsewhere}
 use Rattle.script_reader.specs.declared.statement.Request.{Request as Asked}
 use Rattle.trace_lines.specs.declared.telling.Told.{Told as Deed}
 use Rattle.run_counts.specs.Doings.{answers, at_moment}
-use Rattle.run_counts.proofs.Doing.{is_same, is_other}
+use Rattle.run_counts.proofs.Doing.{is_same}
 use Rattle.run_times.specs.Blocks.{request_of}
 
 -- PLACES

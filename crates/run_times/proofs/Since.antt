@@ -1,5 +1,5 @@
 -- What each moment does to the events that a drive has counted since its last answer.
-use Rattle.std.proofs.Common.{◌≡◌, ℕ, zero, suc, ◌<◌, ◌==◌, Bool, true, false, not, cond, List, [], ◌∷◌, ◌++◌, length, map, fold, set, Option, Some, None, Result, Ok, Err, refl, sym, ap, ◌∙◌, subst}
+use Rattle.std.proofs.Common.{◌≡◌, ℕ, zero, suc, ◌<◌, ◌==◌, Bool, true, false, not, cond, List, [], ◌∷◌, ◌++◌, length, map, fold, Option, Some, None, Result, Ok, Err, refl, sym, ap, ◌∙◌, subst}
 use Rattle.std.specs.Prelude.{◌&&◌}
 use Rattle.std.proofs.lemmas.List.{append-nil, append_assoc}
 use Rattle.std.proofs.lemmas.List.Sums.{fold-append}
@@ -16,7 +16,7 @@ use Rattle.drive_pictures.specs.Events.{begins, line_of, is_idle}
 use Rattle.drive_pictures.specs.Requests.{is_refused}
 use Rattle.run_picture.specs.declared.columns.Head.{Head}
 use Rattle.run_picture.specs.Columns.{headed, is_before, is_inside, is_full}
-use Rattle.run_picture.specs.Fold.{Known, heard, asked_at, admitted, drive_asked, drive_at, request_at, met_at, place_in, drive_after, drive_end, event_counted_in, event_ended, shown_by, column_closed, turned, turned_behind, step}
+use Rattle.run_picture.specs.Fold.{Known, heard, asked_at, admitted, drive_asked, drive_at, request_at, met_at, place_in, drive_after, drive_end, event_counted_in, event_ended, shown_by, column_closed, turned_behind, step}
 use Rattle.run_picture.specs.Places.{place_of}
 use Rattle.script_reader.specs.declared.statement.Request.{Request as Asked}
 use Rattle.trace_lines.specs.declared.telling.Told.{Told as Deed}
@@ -26,7 +26,6 @@ use Rattle.run_counts.specs.Doings.{answers, at_moment}
 use Rattle.run_counts.proofs.Doing.{set_here, set_other, met_many, heard_many, turned_letters, is_same, is_other}
 use Rattle.run_counts.proofs.Following.{keeps_set, keeps_map}
 use Rattle.run_counts.proofs.Turns.{step_before}
-use Rattle.run_times.specs.Served.{drive_then}
 use Rattle.run_times.specs.Since.{answers_of, IsUnanswered, ends_within, Times, Begins}
 
 abbrev since_of : Drive → Spans

@@ -2,3 +2,4 @@ pub mod Firsts
 pub mod Blocks
 pub mod Served
 pub mod Since
+pub mod Waiting

@@ -1,9 +1,8 @@
 -- WHAT A REQUEST HAS OF ITS DRIVE as it is answered.
-use Rattle.std.specs.Prelude.{◌≡◌, ℕ, ◌==◌, Bool, true, false, List, ◌∷◌, ◌++◌, Some}
-use Rattle.std.specs.List.{AllByRecursion}
+use Rattle.std.specs.Prelude.{◌≡◌, ℕ, ◌==◌, true, false, List, ◌∷◌, ◌++◌}
 use Rattle.drive_pictures.specs.declared.drives.Drive.{Drive}
 use Rattle.drive_pictures.specs.declared.moments.Moment.{Moment}
-use Rattle.drive_pictures.specs.declared.moments.Moment.TheVariants.{Played, Told, Idle}
+use Rattle.drive_pictures.specs.declared.moments.Moment.TheVariants.{Told}
 use Rattle.drive_pictures.specs.Counts.{plus}
 use Rattle.run_picture.specs.Fold.{Known, drive_at, met_at, run_from}
 use Rattle.run_picture.specs.Places.{place_of}
