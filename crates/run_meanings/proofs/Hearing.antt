@@ -16,9 +16,9 @@ use Rattle.trace_reader.specs.declared.line.TraceLine.TheVariants as lines
 use Rattle.trace_reader.specs.Lines.{line_number}
 use Rattle.trace_reader.specs.RoundTrip.{lines_told}
 use Rattle.trace_reader.specs.RoundTrip as trip
-use Rattle.trace_replay.specs.Events.{Event, Act, Wish, NoLine, DueLine, Arrival, SectorLine, Interrupt, Attention, Refusal, IdleLine}
+use Rattle.trace_replay.specs.Events.{Act, Wish, is_no_line, NoLine, DueLine, Arrival, SectorLine, Interrupt, Attention, Refusal, IdleLine}
 use Rattle.trace_replay.specs.Moments.{Deed, Moment, Played, Told, Idle, played}
-use Rattle.trace_replay.specs.Replay.{Replay, LineMay, ToldMay, MayCome, Follows, after_moment, told_after, replay_told, unit_after, is_no_line, act_drained, next_wish}
+use Rattle.trace_replay.specs.Replay.{Replay, LineMay, ToldMay, MayCome, Follows, after_moment, told_after, replay_told, unit_after, act_drained, next_wish}
 use Rattle.trace_replay.specs.Runs.{start_of}
 use Rattle.trace_replay.specs.Script.{Numbered, Input}
 use Rattle.run_meanings.specs.Meanings.{seen_input, moment_of, IsHeardWhole, AreHeardWhole}
