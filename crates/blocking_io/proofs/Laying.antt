@@ -5,7 +5,7 @@ use Rattle.std.proofs.Math.Nat.{min-le_left, min-le_right}
 use Rattle.std.proofs.lemmas.List.{take_all}
 use Rattle.std.proofs.Math.ListN.{drop_of_length-le}
 use Rattle.driver_machine.specs.World.{bytes_in}
-use Rattle.blocking_io.specs.Given.{laid, laid_at}
+use Rattle.partition_bytes.specs.Laid.{laid, laid_at}
 
 pub laid_none : (into : List ℕ) → laid [] into ≡ into
 laid_none into = refl

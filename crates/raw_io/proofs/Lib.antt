@@ -1,0 +1,6 @@
+mod Asks
+mod Joins
+mod Reading
+mod ReadRanges
+mod Writing
+mod WriteRanges
