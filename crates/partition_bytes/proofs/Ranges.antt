@@ -22,6 +22,16 @@ laid_long [] (y ∷ ys) le = absurd (omega (arith, le))
 laid_long (x ∷ xs) [] le = refl
 laid_long (x ∷ xs) (y ∷ ys) le = ap (λ zs. x ∷ zs) (laid_long xs ys (omega (arith, le)))
 
+-- one behind the other
+pub laid_over_none : (bytes : List ℕ) → laid bytes [] ≡ []
+laid_over_none [] = refl
+laid_over_none (byte ∷ bytes) = refl
+
+laid_more : (xs ys into : List ℕ) → laid_at (length xs) ys (laid xs into) ≡ laid (xs ++ ys) into
+laid_more [] ys into = refl
+laid_more (x ∷ xs) ys [] = laid_over_none ys
+laid_more (x ∷ xs) ys (z ∷ into) = ap (λ zs. x ∷ zs) (laid_more xs ys into)
+
 -- ---- RANGES
 pub length_range : (n : ℕ) (blocks : Blocks) (first at : ℕ) → length (range n blocks first at) ≡ n
 length_range zero blocks first at = refl

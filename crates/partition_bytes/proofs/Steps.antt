@@ -105,15 +105,15 @@ module _ (blocks : Blocks) (first at size d b c skip piece n : ℕ) (so : SoFar 
       let place : first + b + (k - b) ≡ first + k = omega (arith, from) in
       subst (λ z. IsSome (blocks z)) place (r.usable (k - b) (omega (arith, from, below)))
 
-  more : (e : ℕ) → d ≤ e → at + e ≤ 512 * (b + n) → (k : ℕ) → Touches at e k → IsSome (blocks (first + k))
-  more e le ends k touched = elim (leb_tells b k) [
+  pub touched_in : (e : ℕ) → d ≤ e → at + e ≤ 512 * (b + n) → (k : ℕ) → Touches at e k → Touches at d k ⊎ ((b ≤ k) × (k < b + n))
+  touched_in e le ends k touched = elim (leb_tells b k) [
     | inl from ↦
         let begins = touched.begins in
-        own k e from.1 (omega (arith, begins, ends))
-    | inr below ↦ before below.1 at_front
+        inr (from.1, omega (arith, begins, ends))
+    | inr below ↦ inl (before below.1 at_front)
   ]
     where
-      before : k < b → (d ≡ 0) ⊎ (skip ≡ 0) → IsSome (blocks (first + k))
+      before : k < b → (d ≡ 0) ⊎ (skip ≡ 0) → Touches at d k
       before below (inl none) =
           let begins = next.begins in
           let ends_at = touched.ends in
@@ -121,7 +121,32 @@ module _ (blocks : Blocks) (first at size d b c skip piece n : ℕ) (so : SoFar 
       before below (inr aligned) =
           let begins = next.begins in
           let ends_at = touched.ends in
-          so.usable k (record { some = omega (arith, below, aligned, begins, ends_at); begins = omega (arith, below, aligned, begins); ends = ends_at })
+          record { some = omega (arith, below, aligned, begins, ends_at); begins = omega (arith, below, aligned, begins); ends = ends_at }
+
+  pub touched_among : (k : ℕ) → Touches at (d + bytes_among n skip piece) k → Touches at d k ⊎ ((b ≤ k) × (k < b + n))
+  touched_among k touched = elim (eqb_tells n 0) [
+    | inl none ↦ inl (subst (λ z. Touches at z k) (nothing d) (subst (λ z. Touches at (d + bytes_among z skip piece) k) none.1 touched))
+    | inr other ↦ touched_in (d + bytes_among n skip piece) (omega arith) (room (above n other.1)) k touched
+  ]
+    where
+      nothing : (x : ℕ) → x + 0 ≡ x
+      nothing x = omega arith
+
+      above : (n : ℕ) → n ≢ 0 → 0 < n
+      above n ne = grind (arith, ne)
+
+      room : 0 < n → at + (d + bytes_among n skip piece) ≤ 512 * (b + n)
+      room some =
+          let fits : skip + bytes_among n skip piece ≤ 512 * n = among_fits n skip piece next.skip_less some in
+          let begins = next.begins in
+          omega (arith, fits, begins)
+
+  more : (e : ℕ) → d ≤ e → at + e ≤ 512 * (b + n) → (k : ℕ) → Touches at e k → IsSome (blocks (first + k))
+  more e le ends k touched = by (touched_in e le ends k touched)
+    where
+      by : Touches at d k ⊎ ((b ≤ k) × (k < b + n)) → IsSome (blocks (first + k))
+      by (inl before) = so.usable k before
+      by (inr here) = own k e here.0 here.1
 
   pub so_more : n ≡ c → SoFar blocks first at size (d + piece)
   so_more all =

@@ -11,7 +11,7 @@ use Rattle.partitions.specs.declared.Part.{Part}
 use Rattle.partitions.specs.declared.Admission.{Admission}
 use Rattle.partitions.specs.declared.Admission.TheVariants.{Inside}
 use Rattle.partitions.specs.Partitions.{first_of, size_of, admission}
-use Rattle.subsystem_spec.specs.Requests.{Request, IsRequest, first_block, Answer, ReadOk, WriteOk, Failed, Unforwarded}
+use Rattle.subsystem_spec.specs.Requests.{Request, IsRequest, first_block, Answer, ReadOk, WriteOk, OutsidePartition, EndOfPartition, NoFrames, Failed}
 use Rattle.trace_replay.specs.Moments.{Moment}
 use Rattle.block_machine.specs.Machine.{Blocks, kind_of, bytes_of_first, blocks_done, blocks_after, done_in}
 use Rattle.block_machine.specs.Stands.{Setup}
@@ -19,21 +19,20 @@ use Rattle.block_machine.proofs.Blocks.{read_blocks}
 use Rattle.driver_machine.specs.World.{World, unit_at}
 use Rattle.driver_machine.specs.Guards.{IsSetUp}
 use Rattle.driver_machine.specs.Sound.{Sound, AtWork}
-use Rattle.driver_outcome.specs.declared.Stop.{Stop}
-use Rattle.waited_requests.specs.Sessions.{waited}
+use Rattle.waited_requests.specs.Sessions.{waited, told_in}
 use Rattle.waited_requests.specs.Rest.{HasTables}
 use Rattle.waited_requests.specs.Waited.{unusable_or, first_unusable, answer_by, answer_of, answer_at, map_at as map_met, map_of, first_in, met_in, answer_in, map_behind, with_packs}
-use Rattle.quiet_driver.specs.Quiet.{kind_if, setup_of}
+use Rattle.waited_requests.specs.Cleans.{MovedClean, done_by}
+use Rattle.quiet_driver.specs.Quiet.{IsQuiet, kind_if, setup_of}
 use Rattle.blocking_io.specs.declared.reached.Reached.{Reached}
-use Rattle.blocking_io.specs.declared.reached.Reached.TheVariants.{All, Before}
+use Rattle.blocking_io.specs.declared.reached.Reached.TheVariants.{All, Before, Outside, AtEnd}
 use Rattle.blocking_io.specs.Given.{Given, reached_by, bytes_by}
 use Rattle.partition_bytes.specs.Laid.{laid}
 use Rattle.blocking_io.specs.Calls.{Stage}
-use Rattle.blocking_io.specs.Asking.{IsReady, setup_at, Answers, IsMapped}
-use Rattle.blocking_io.specs.Stopping.{Stops}
+use Rattle.blocking_io.specs.Asking.{setup_at, Answers, IsMapped}
 use Rattle.blocking_io.specs.Sessions.{GoesOn, AnswersReach}
-use Rattle.request_fronts.specs.Fronts.{OthersStay, HoldsFront, StoppedHoldsFront}
-use Rattle.raw_io.specs.Transfers.{IsAsk, Transfers, AreBlocks}
+use Rattle.request_fronts.specs.Fronts.{OthersStay, HoldsFront, AnsweredMovesClean}
+use Rattle.raw_io.specs.Transfers.{IsAsk, Transfers, AreClean, AreBlocks}
 use Rattle.raw_io.specs.Calls.{kind_at, map_at, left_map, IsUntouched}
 use Rattle.partition_bytes.specs.Pieces.{Reaches}
 use Rattle.raw_io.specs.Blocks.{blocks_reached, origin, IsUnchanged, ReadsOnce, PutsBlocks, PutsFront}
@@ -60,9 +59,6 @@ transfers_of law reads r old new ask a = record {
     }
 
 -- ---- THE FIRST BLOCK that can't be used
-pub record AreAll (blocks : Blocks) (first from count : ℕ) : Type 0 where
-  pub usable : (j : ℕ) → from ≤ j → j < count → IsSome (blocks (first + j))
-
 some_first : (block : Option (List ℕ)) (k : ℕ) (later : Option ℕ) → unusable_or block k later ≡ None → IsSome block × (later ≡ None)
 some_first None k later is = absurd (none-some k (sym is))
 some_first (Some bytes) k later is = (search rules, is)
@@ -145,6 +141,26 @@ came_by blocks first r (Some k) is =
       none = λ lt into. refl;
     }
 
+below_least : (a b k : ℕ) → k < min a b → k < a
+below_least a b k lt = grind (arith, lt)
+
+done_told : (answer : Answer) (count k : ℕ) → k < blocks_reached (reached_by answer) count → k < done_by answer count
+done_told (ReadOk bytes) count k lt = lt
+done_told WriteOk count k lt = lt
+done_told (Failed cause done) count k lt = below_least done count k lt
+done_told OutsidePartition count k lt = lt
+done_told EndOfPartition count k lt = lt
+done_told NoFrames count k lt = below_least 0 count k lt
+
+pub few_reached : (reached : Reached) (count : ℕ) → blocks_reached reached count ≤ count
+few_reached All count = omega arith
+few_reached (Before done) count = least done count
+  where
+    least : (a b : ℕ) → min a b ≤ b
+    least a b = grind arith
+few_reached Outside count = omega arith
+few_reached AtEnd count = omega arith
+
 -- ---- INSIDE its partition
 pub kind_is : (w : World) (held : ℕ → model.Pack) (unit : ℕ) → IsSetUp w unit → kind_of (setup_of w held).drives unit ≡ kind_at w unit
 kind_is w held unit set = ap (λ b. unwrap_or (kind_if b (unit_at w unit).drive.kind) Rp06) set.declared
@@ -222,6 +238,14 @@ module _ (r : Request) (old : Stage) (unit : IsSetUp old.world r.unit) (is : Are
           written = λ block. m.map r.unit block ∙ ap (λ f. f r.unit block) behind ∙ own_map Answer_now n block it.done;
           map = λ u block ne. m.map u block ∙ ap (λ f. f u block) behind ∙ other_map Answer_now u block ne;
         }
+
+  -- each block that is done moved clean
+  pub clean_of : AnsweredMovesClean → Sound old.world → AtWork old.world → IsQuiet old.world → IsRequest r → (new : Stage) (n : ℕ) (a : Answers 1 r old new) → n ≡ blocks_reached new.given.reached r.count
+      → IsTrue new.packs_tell → HasTables Of → AreClean r.unit (origin old r + r.block) (λ k. k < n) (told_in (waited 1 r a.asked a.drained)) (plain old)
+  clean_of law sound work quiet good new n a e t tables k lt =
+      subst (λ z. MovedClean Of r.unit (z + k) (told_in (waited 1 r a.asked a.drained))) first_at
+      (law 1 r old new sound work quiet unit good tables t a k
+      (done_told (answer_in Of r) r.count k (subst (λ z. k < blocks_reached z r.count) (a.mapped t tables).reached (subst (λ z. k < z) e lt))))
 
   -- ---- where it stopped
   pub front_of : (new : Stage) → HoldsFront Of r new.held → PutsFront r (plain old) (plain new)

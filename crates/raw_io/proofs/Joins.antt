@@ -1,5 +1,9 @@
 -- One transfer behind the other.
-use Rattle.std.proofs.Common.{◌≡◌, ◌≢◌, ℕ, ◌+◌, ◌<◌, Bool, IsTrue, List, [], ◌∷◌, ◌++◌, length, Option, None, Some, refl, sym, ap, ◌∙◌, subst, arith}
+use Rattle.std.proofs.Common.{◌≡◌, ◌≢◌, ℕ, ◌+◌, ◌<◌, Bool, IsTrue, List, [], ◌∷◌, ◌++◌, length, Option, None, Some, refl, sym, ap, ◌∙◌, subst, arith, append-nil, append_assoc, true, false}
+use Rattle.std.specs.Prelude.{Contains}
+use Rattle.std.proofs.lemmas.List.Elements.{Contains-append_left, Contains-append_right}
+use Rattle.hardware_table.specs.declared.Moved.TheVariants.{Clean}
+use Rattle.trace_replay.specs.Moments.{Told, Sector}
 use Rattle.std.proofs.lemmas.Option.{none-some, same_Some}
 use Rattle.pack_geometry.specs.declared.DriveKind.{DriveKind}
 use Rattle.pack_model.specs.Pack as model
@@ -11,7 +15,8 @@ use Rattle.partitions.specs.declared.Part.{Part}
 use Rattle.block_machine.specs.Machine.{Blocks}
 use Rattle.block_machine.specs.Stands.{Setup, home_at, home_in}
 use Rattle.block_machine.proofs.Runs.{home_marks}
-use Rattle.waited_requests.specs.Sessions.{Part as SessionPart}
+use Rattle.waited_requests.specs.Sessions.{Part as SessionPart, told_in}
+use Rattle.waited_requests.specs.Cleans.{MovedClean}
 use Rattle.waited_requests.specs.Rest.{HasTables}
 use Rattle.waited_requests.specs.Waited.{map_of, with_packs}
 use Rattle.blocking_io.specs.Calls.{Stage}
@@ -60,13 +65,21 @@ transfers_none reads unit part s = record {
   parts = [];
   waited = tt;
   goes = record {
-    trace = λ t. sym (Rattle.std.proofs.Common.append-nil s.taken);
+    trace = λ t. sym (append-nil s.taken);
     setup = refl;
     stays = λ t. (others_none (setup_at s)).stay;
     tables = λ t tables. tables;
     reaches = λ t tables replay stands. record { session = tt; stands = stands };
   };
   others = λ t tables. others_none (setup_at s);
+}
+
+pub transfers_for : (reads : Bool) (u unit : ℕ) (q part : Part) (old new : Stage) → u ≡ unit → q ≡ part → Transfers reads u q old new → Transfers reads unit part old new
+transfers_for reads u unit q part old new here same t = record {
+  parts = t.parts;
+  waited = subst (λ z. AreWaited reads unit z t.parts) same (subst (λ z. AreWaited reads z q t.parts) here t.waited);
+  goes = t.goes;
+  others = t.others;
 }
 
 pub transfers_join : SessionsJoin → (reads : Bool) (unit : ℕ) (part : Part) (old mid new : Stage) → Transfers reads unit part old mid → Transfers reads unit part mid new → StillTell mid new
@@ -79,7 +92,7 @@ transfers_join law reads unit part old mid new first next still = record {
 }
 
 -- reads are transfers too
-asks_wider : (unit : ℕ) (part : Part) (xs : List SessionPart) → AreWaited Rattle.std.proofs.Common.true unit part xs → AreWaited Rattle.std.proofs.Common.false unit part xs
+asks_wider : (unit : ℕ) (part : Part) (xs : List SessionPart) → AreWaited true unit part xs → AreWaited false unit part xs
 asks_wider unit part [] are = tt
 asks_wider unit part (one ∷ []) are = are
 asks_wider unit part (one ∷ two ∷ xs) are = (
@@ -101,11 +114,36 @@ asks_wider unit part (one ∷ two ∷ xs) are = (
   asks_wider unit part xs are.1,
 )
   where
-    no : Rattle.std.proofs.Common.false ≡ Rattle.std.proofs.Common.true → ⊥
+    no : false ≡ true → ⊥
     no e = grind (arith, e)
 
-pub transfers_wider : (unit : ℕ) (part : Part) (old new : Stage) → Transfers Rattle.std.proofs.Common.true unit part old new → Transfers Rattle.std.proofs.Common.false unit part old new
+pub transfers_wider : (unit : ℕ) (part : Part) (old new : Stage) → Transfers true unit part old new → Transfers false unit part old new
 transfers_wider unit part old new t = record { parts = t.parts; waited = asks_wider unit part t.parts t.waited; goes = t.goes; others = t.others }
+
+-- ---- clean lines
+told_more : (xs ys : List SessionPart) → told_in (xs ++ ys) ≡ told_in xs ++ told_in ys
+told_more [] ys = refl
+told_more (one ∷ xs) ys = ap (λ z. one.told ++ z) (told_more xs ys) ∙ sym (append_assoc one.told (told_in xs) (told_in ys))
+
+pub clean_before : (setup : Setup) (unit block : ℕ) (xs ys : List SessionPart) → MovedClean setup unit block (told_in xs) → MovedClean setup unit block (told_in (xs ++ ys))
+clean_before setup unit block xs ys c = record {
+  sector = c.sector;
+  home = c.home;
+  line = c.line;
+  id = c.id;
+  moved = subst (λ z. Contains z (Told c.line unit c.id (Sector c.sector Clean))) (sym (told_more xs ys)) (Contains-append_left (told_in xs) (told_in ys) (Told c.line unit c.id (Sector c.sector Clean)) c.moved);
+}
+
+pub clean_behind : (old mid : Stage) (unit block : ℕ) (xs ys : List SessionPart) → setup_at mid ≡ with_packs (setup_at old) mid.held → OthersStay (setup_at old) mid.held
+    → MovedClean (setup_at mid) unit block (told_in ys) → MovedClean (setup_at old) unit block (told_in (xs ++ ys))
+clean_behind old mid unit block xs ys same others c = record {
+  sector = c.sector;
+  home = sym (ap (λ z. home_in z unit block) same
+      ∙ homes_same ((setup_at old).drives unit) ((setup_at old).tables unit) (mid.held unit) (old.held unit) block (others.stay.marks unit)) ∙ c.home;
+  line = c.line;
+  id = c.id;
+  moved = subst (λ z. Contains z (Told c.line unit c.id (Sector c.sector Clean))) (sym (told_more xs ys)) (Contains-append_right (told_in xs) (told_in ys) (Told c.line unit c.id (Sector c.sector Clean)) c.moved);
+}
 
 -- ---- what the packs hold
 bytes_long : (pack : model.Pack) (home : Option ℕ) (bytes : List ℕ) → bytes_at pack home ≡ Some bytes → length bytes ≡ 512

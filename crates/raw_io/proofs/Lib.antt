@@ -1,5 +1,6 @@
-mod Asks
 mod Joins
+mod Asks
+mod Exits
 mod Reading
 mod ReadRanges
 mod Writing

@@ -5,22 +5,23 @@ use Rattle.partitions.specs.declared.Part.{Part}
 use Rattle.partitions.specs.Partitions.{first_of}
 use Rattle.block_machine.specs.Machine.{Blocks}
 use Rattle.driver_machine.specs.Guards.{IsSetUp}
+use Rattle.waited_requests.specs.Sessions.{told_in}
 use Rattle.waited_requests.specs.Rest.{HasTables}
+use Rattle.waited_requests.specs.Cleans.{MovedClean}
 use Rattle.partition_bytes.specs.Laid.{laid, laid_at}
 use Rattle.blocking_io.specs.Calls.{Stage}
 use Rattle.blocking_io.specs.Asking.{setup_at}
 use Rattle.blocking_io.specs.Sessions.{StillTell, SessionsJoin}
-use Rattle.blocking_io.proofs.Laying.{laid_more}
 use Rattle.raw_io.specs.declared.pieces.Piece.{Piece}
-use Rattle.partition_bytes.specs.Bytes.{range, ComesTo}
-use Rattle.raw_io.specs.Transfers.{Transfers}
-use Rattle.raw_io.specs.Calls.{map_at, IsUntouched, ReadsRange}
+use Rattle.partition_bytes.specs.Bytes.{range, Touches, ComesTo}
+use Rattle.raw_io.specs.Transfers.{Transfers, AreClean}
+use Rattle.raw_io.specs.Calls.{kind_at, map_at, IsUntouched, ReadsRange}
 use Rattle.partition_bytes.specs.Pieces.{Reaches, bytes_among}
 use Rattle.raw_io.specs.Blocks.{IsUnchanged}
 use Rattle.raw_io.specs.Pieces.{IsCut, IsPiece, start_at, start_of, ReadsPiece, GivesPiece, GivesRange}
-use Rattle.partition_bytes.proofs.Ranges.{length_range, range_more}
-use Rattle.raw_io.proofs.Joins.{transfers_none, transfers_join, untouched_behind}
-use Rattle.partition_bytes.proofs.Steps.{all_among, among_less, among_few, SoFar, starts_so, comes_whole, IsNext, so_more, comes_to}
+use Rattle.partition_bytes.proofs.Ranges.{laid_more, length_range, range_more}
+use Rattle.raw_io.proofs.Joins.{transfers_none, transfers_for, transfers_join, clean_before, clean_behind, untouched_behind}
+use Rattle.partition_bytes.proofs.Steps.{all_among, among_less, among_few, SoFar, starts_so, comes_whole, IsNext, touched_among, so_more, comes_to}
 use Rattle.raw_io.proofs.Reading.{kind_stays}
 
 -- ---- the next piece of a range
@@ -73,19 +74,25 @@ pub record SoRead (unit : ℕ) (part : Part) (at done : ℕ) (into now : List �
   pub few : done ≤ length into
   pub transfers : Transfers true unit part old new
   pub told : IsTrue new.packs_tell → HasTables (setup_at old) → HasRead unit part at done into now old new
+  pub clean : IsTrue new.packs_tell → HasTables (setup_at old) → AreClean unit (start_of old unit part) (Touches at done) (told_in transfers.parts) old
 
 pub read_none : (unit : ℕ) (part : Part) (at : ℕ) (into : List ℕ) (s : Stage) → SoRead unit part at 0 into into s s
 read_none unit part at into s = record {
   few = omega arith;
   transfers = transfers_none true unit part s;
   told = λ t tables. record { so = starts_so (map_at s unit) (start_of s unit part) at (length into); bytes = refl; same = record { map = refl } };
+  clean = λ t tables k touched. absurd (never touched.some);
 }
+  where
+    never : 0 < 0 → ⊥
+    never lt = omega (arith, lt)
 
 pub read_whole : (unit : ℕ) (part : Part) (at done : ℕ) (into now : List ℕ) (old new : Stage) → (done < length into → ⊥) → SoRead unit part at done into now old new → GivesRange unit part at done into now old new
 read_whole unit part at done into now old new whole so = record {
   few = so.few;
   transfers = so.transfers;
   told = λ t tables. at_end (so.told t tables);
+  clean = so.clean;
 }
   where
     all : done ≡ length into
@@ -109,7 +116,11 @@ module _ (law : SessionsJoin) (unit : ℕ) (part : Part) (at done size : ℕ) (i
     (so : SoRead unit part at done into now old mid) (piece : IsPiece unit part false (at + done) (length into - done) p) (given : GivesPiece p size (drop done now) rest mid new) (now_is : now' ≡ take done now ++ rest) where
   transfers : Transfers true unit part old new
   transfers = transfers_join law true unit part old mid new so.transfers
-      (subst (λ z. Transfers true unit z mid new) piece.part_is (subst (λ z. Transfers true z p.request.part mid new) piece.unit_is given.transfers)) still
+      (transfers_for true p.request.unit unit p.request.part part mid new piece.unit_is piece.part_is given.transfers) still
+
+  start : start_at mid p ≡ start_of old unit part
+  start = ap (λ z. first_of (kind_at mid.world z) p.request.part) piece.unit_is ∙ ap (λ z. first_of (kind_at mid.world unit) z) piece.part_is
+      ∙ ap (λ z. first_of z part) (kind_stays old mid unit so.transfers.goes.setup was is)
 
   next : IsNext at (length into) done p.request.block p.request.count p.skip p.size
   next = next_of unit part false at (length into) done p piece so.few
@@ -122,9 +133,6 @@ module _ (law : SessionsJoin) (unit : ℕ) (part : Part) (at done size : ℕ) (i
   now_read : HasRead unit part at done into now old mid → ReadsPiece p given.blocks size (drop done now) rest mid new → Now
   now_read has g =
       let maps : map_at mid p.request.unit ≡ map_at old unit = ap (λ f. f p.request.unit) has.same.map ∙ ap (map_at old) piece.unit_is in
-      let start : start_at mid p ≡ start_of old unit part =
-      ap (λ z. first_of (Rattle.raw_io.specs.Calls.kind_at mid.world z) p.request.part) piece.unit_is ∙ ap (λ z. first_of (Rattle.raw_io.specs.Calls.kind_at mid.world unit) z) piece.part_is
-      ∙ ap (λ z. first_of z part) (kind_stays old mid unit so.transfers.goes.setup was is) in
       let long : length (range done (map_at old unit) (start_of old unit part) at) ≡ done = length_range done (map_at old unit) (start_of old unit part) at in
       record {
         reaches = subst (λ z. Reaches z (start_of old unit part + p.request.block) p.request.count given.blocks) maps
@@ -147,11 +155,37 @@ module _ (law : SessionsJoin) (unit : ℕ) (part : Part) (at done size : ℕ) (i
       let is_size = given.size_is in
       omega (arith, less, inside, is_size)
 
+  -- each block that is touched now was touched before, or is one of the piece
+  now_clean : IsTrue new.packs_tell → HasTables (setup_at old) → AreClean unit (start_of old unit part) (Touches at (done + size)) (told_in (so.transfers.parts ++ given.transfers.parts)) old
+  now_clean t tables k touched =
+      by (touched_among (map_at old unit) (start_of old unit part) at (length into) done p.request.block p.request.count p.skip p.size given.blocks has.so next
+      (now_read has (given.told t mid_tables)).reaches given.few k (subst (λ z. Touches at (done + z) k) given.size_is touched))
+    where
+      mid_tables : HasTables (setup_at mid)
+      mid_tables = so.transfers.goes.tables (still.packs t) tables
+
+      has : HasRead unit part at done into now old mid
+      has = so.told (still.packs t) tables
+
+      by : Touches at done k ⊎ ((p.request.block ≤ k) × (k < p.request.block + given.blocks)) → MovedClean (setup_at old) unit (start_of old unit part + k) (told_in (so.transfers.parts ++ given.transfers.parts))
+      by (inl before) = clean_before (setup_at old) unit (start_of old unit part + k) so.transfers.parts given.transfers.parts (so.clean (still.packs t) tables k before)
+      by (inr here) =
+          let block : start_of old unit part + p.request.block + (k - p.request.block) ≡ start_of old unit part + k = omega (arith, here.0) in
+          subst (λ z. MovedClean (setup_at old) unit z (told_in (so.transfers.parts ++ given.transfers.parts))) block
+          (subst (λ z. MovedClean (setup_at old) unit (z + p.request.block + (k - p.request.block)) (told_in (so.transfers.parts ++ given.transfers.parts))) start
+          (subst (λ z. MovedClean (setup_at old) z (start_at mid p + p.request.block + (k - p.request.block)) (told_in (so.transfers.parts ++ given.transfers.parts))) piece.unit_is
+          (clean_behind old mid p.request.unit (start_at mid p + p.request.block + (k - p.request.block)) so.transfers.parts given.transfers.parts so.transfers.goes.setup
+          (so.transfers.others (still.packs t) tables) (given.clean t mid_tables (k - p.request.block) (less p.request.block k given.blocks here.0 here.1)))))
+        where
+          less : (b k n : ℕ) → b ≤ k → k < b + n → k - b < n
+          less b k n le lt = omega (arith, le, lt)
+
   pub read_more : (size < p.size → ⊥) → SoRead unit part at (done + size) into now' old new
   read_more whole = record {
     few = few_now;
     transfers = transfers;
     told = λ t tables. more (so.told (still.packs t) tables) (given.told t (so.transfers.goes.tables (still.packs t) tables));
+    clean = now_clean;
   }
     where
       all : given.blocks ≡ p.request.count
@@ -175,6 +209,7 @@ module _ (law : SessionsJoin) (unit : ℕ) (part : Part) (at done size : ℕ) (i
     few = few_now;
     transfers = transfers;
     told = λ t tables. ends (so.told (still.packs t) tables) (given.told t (so.transfers.goes.tables (still.packs t) tables));
+    clean = now_clean;
   }
     where
       less : given.blocks < p.request.count

@@ -28,7 +28,7 @@ use Rattle.raw_io.specs.Pieces.{IsCut, IsPiece, start_at, start_of, ReadsPiece, 
 use Rattle.partition_bytes.specs.Laws.{IsBlock}
 use Rattle.partition_bytes.proofs.Ranges.{laid_short, length_range, range_laid, range_more, blocks_range}
 use Rattle.raw_io.proofs.Asks.{kind_is}
-use Rattle.raw_io.proofs.Joins.{transfers_join, map_long, untouched_behind}
+use Rattle.raw_io.proofs.Joins.{transfers_join, clean_before, map_long, untouched_behind}
 use Rattle.partition_bytes.proofs.Steps.{some_among, among_few, among_fits, SoFar, IsNext, so_more, comes_to}
 
 -- ---- a block that can be used has 512 bytes
@@ -66,6 +66,7 @@ gives_first r n into into' old new either some last x = record {
   few = x.few;
   transfers = x.transfers;
   told = λ t tables. some_blocks r n into into' old new either some last (x.told t tables);
+  clean = x.clean;
 }
 
 -- ---- the kind stays
@@ -115,6 +116,7 @@ module _ (law : SessionsJoin) (r : Request) (n m : ℕ) (into between into' : Li
     few = omega (arith, fewer);
     transfers = transfers_join law true r.unit r.part old mid new x.transfers y.transfers still;
     told = given_again;
+    clean = λ t tables k lt. clean_before (setup_at old) r.unit (origin old r + r.block + k) x.transfers.parts y.transfers.parts (x.clean (still.packs t) tables k lt);
   }
 
 pub untouched_again : (r : Request) (n : ℕ) (into between : List ℕ) (old mid new : Stage) → (IsTrue new.packs_tell → IsTrue mid.packs_tell) → Reads r n into between old mid
@@ -155,6 +157,7 @@ gives_piece p n buffer buffer' into into' old new in_block room fits is x = reco
   size_is = refl;
   transfers = x.transfers;
   told = λ t tables. told (x.told t tables);
+  clean = x.clean;
 }
   where
     told : GivesBlocks (asked p.request []) n buffer buffer' old new → ReadsPiece p n (bytes_among n p.skip p.size) into into' old new

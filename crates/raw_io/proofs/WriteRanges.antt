@@ -19,7 +19,7 @@ use Rattle.raw_io.specs.Calls.{kind_at, map_at, left_map, WritesRange, StopsAt}
 use Rattle.partition_bytes.specs.Pieces.{Reaches, bytes_among, EndsBlock}
 use Rattle.raw_io.specs.Pieces.{IsCut, IsPiece, start_at, start_of, WritesPiece, PutsPiece, StopsPiece, PutsRange}
 use Rattle.partition_bytes.proofs.Replaced.{none_replaced, had_some, had_none}
-use Rattle.raw_io.proofs.Joins.{transfers_none, transfers_join, map_long, left_over, others_over}
+use Rattle.raw_io.proofs.Joins.{transfers_none, transfers_for, transfers_join, map_long, left_over, others_over}
 use Rattle.partition_bytes.proofs.Steps.{all_among, fewer_among, among_few, SoFar, starts_so, comes_whole, IsNext, front_or_aligned, so_more, comes_to}
 use Rattle.raw_io.proofs.Reading.{kind_stays}
 use Rattle.raw_io.proofs.ReadRanges.{next_of, all_blocks, fewer_blocks}
@@ -105,7 +105,7 @@ module _ (law : SessionsJoin) (unit : ℕ) (part : Part) (at done : ℕ) (from b
   module _ (size : ℕ) (still : StillTell mid new) (given : PutsPiece p size bytes mid new) where
     transfers : Transfers false unit part old new
     transfers = transfers_join law false unit part old mid new so.transfers
-        (subst (λ z. Transfers false unit z mid new) piece.part_is (subst (λ z. Transfers false z p.request.part mid new) piece.unit_is given.transfers)) still
+        (transfers_for false p.request.unit unit p.request.part part mid new piece.unit_is piece.part_is given.transfers) still
 
     few_now : done + size ≤ length from
     few_now =

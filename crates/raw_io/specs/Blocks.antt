@@ -3,6 +3,7 @@ use Rattle.std.specs.Prelude.{◌≡◌, ◌≢◌, ℕ, ◌+◌, ◌*◌, ◌<�
 use Rattle.partitions.specs.Partitions.{first_of}
 use Rattle.subsystem_spec.specs.Requests.{Request}
 use Rattle.block_machine.specs.Machine.{Blocks, blocks_done, bytes_of_first}
+use Rattle.waited_requests.specs.Sessions.{told_in}
 use Rattle.waited_requests.specs.Rest.{HasTables}
 use Rattle.blocking_io.specs.declared.reached.Reached.{Reached}
 use Rattle.blocking_io.specs.declared.reached.Reached.TheVariants.{All, Before, Outside, AtEnd}
@@ -12,7 +13,7 @@ use Rattle.blocking_io.specs.Asking.{setup_at}
 use Rattle.request_fronts.specs.Fronts.{OthersStay}
 use Rattle.partition_bytes.specs.Pieces.{Reaches}
 use Rattle.partition_bytes.specs.Bytes.{range}
-use Rattle.raw_io.specs.Transfers.{Transfers}
+use Rattle.raw_io.specs.Transfers.{Transfers, AreClean}
 use Rattle.raw_io.specs.Calls.{kind_at, map_at, left_map}
 
 -- how many blocks an answer says to be done
@@ -40,6 +41,7 @@ pub record Reads (r : Request) (n : ℕ) (into into' : List ℕ) (old new : Stag
   pub few : n ≤ r.count
   pub transfers : Transfers true r.unit r.part old new
   pub told : IsTrue new.packs_tell → HasTables (setup_at old) → ReadsOnce r n into into' old new
+  pub clean : IsTrue new.packs_tell → HasTables (setup_at old) → AreClean r.unit (origin old r + r.block) (λ k. k < n) (told_in transfers.parts) old
 
 -- THE BLOCKS that can be used are given.
 pub record GivesBlocks (r : Request) (n : ℕ) (into into' : List ℕ) (old new : Stage) : Type 0 where
@@ -51,6 +53,7 @@ pub record Gives (r : Request) (n : ℕ) (into into' : List ℕ) (old new : Stag
   pub few : n ≤ r.count
   pub transfers : Transfers true r.unit r.part old new
   pub told : IsTrue new.packs_tell → HasTables (setup_at old) → GivesBlocks r n into into' old new
+  pub clean : IsTrue new.packs_tell → HasTables (setup_at old) → AreClean r.unit (origin old r + r.block) (λ k. k < n) (told_in transfers.parts) old
 
 -- A WRITE of them replaces those that can be used,
 pub record PutsBlocks (r : Request) (n : ℕ) (old new : Stage) : Type 0 where

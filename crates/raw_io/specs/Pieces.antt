@@ -5,14 +5,15 @@ use Rattle.partitions.specs.declared.Part.{Part}
 use Rattle.hp_driver.specs.Subsystem.{asked}
 use Rattle.partitions.specs.Partitions.{first_of}
 use Rattle.block_machine.specs.Machine.{Blocks}
+use Rattle.waited_requests.specs.Sessions.{told_in}
 use Rattle.waited_requests.specs.Rest.{HasTables}
 use Rattle.request_fronts.specs.Fronts.{OthersStay}
 use Rattle.partition_bytes.specs.Laid.{laid}
 use Rattle.blocking_io.specs.Calls.{Stage}
 use Rattle.blocking_io.specs.Asking.{setup_at}
 use Rattle.raw_io.specs.declared.pieces.Piece.{Piece}
-use Rattle.partition_bytes.specs.Bytes.{range, with_range}
-use Rattle.raw_io.specs.Transfers.{Transfers, AreBlocks}
+use Rattle.partition_bytes.specs.Bytes.{range, Touches, with_range}
+use Rattle.raw_io.specs.Transfers.{Transfers, AreClean, AreBlocks}
 use Rattle.raw_io.specs.Calls.{kind_at, map_at, left_map, ReadsRange, WritesRange}
 use Rattle.partition_bytes.specs.Pieces.{Reaches, bytes_among}
 use Rattle.raw_io.specs.Blocks.{IsUnchanged}
@@ -61,6 +62,7 @@ pub record GivesPiece (p : Piece) (size : ℕ) (into into' : List ℕ) (old new 
   pub size_is : size ≡ bytes_among blocks p.skip p.size
   pub transfers : Transfers true p.request.unit p.request.part old new
   pub told : IsTrue new.packs_tell → HasTables (setup_at old) → ReadsPiece p blocks size into into' old new
+  pub clean : IsTrue new.packs_tell → HasTables (setup_at old) → AreClean p.request.unit (start_at old p + p.request.block) (λ k. k < blocks) (told_in transfers.parts) old
 
 -- a piece to write, and its bytes
 pub record IsWritten (kind : DriveKind) (p : Piece) (bytes : List ℕ) : Type 0 where
@@ -100,11 +102,14 @@ pub record StopsPiece (p : Piece) (bytes : List ℕ) (old new : Stage) : Type 0 
 abbrev pub start_of : Stage → ℕ → Part → ℕ
 start_of s unit part = first_of (kind_at s.world unit) part
 
+-- that was read, each block of which a byte was given moved clean
 pub record GivesRange (unit : ℕ) (part : Part) (at done : ℕ) (into into' : List ℕ) (old new : Stage) : Type 0 where
   pub few : done ≤ length into
   pub transfers : Transfers true unit part old new
   pub told : IsTrue new.packs_tell → HasTables (setup_at old) → ReadsRange unit (start_of old unit part) at done into into' old new
+  pub clean : IsTrue new.packs_tell → HasTables (setup_at old) → AreClean unit (start_of old unit part) (Touches at done) (told_in transfers.parts) old
 
+-- or written
 pub record PutsRange (unit : ℕ) (part : Part) (at done : ℕ) (from : List ℕ) (old new : Stage) : Type 0 where
   pub few : done ≤ length from
   pub transfers : Transfers false unit part old new

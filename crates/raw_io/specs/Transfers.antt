@@ -6,6 +6,7 @@ use Rattle.pack_model.specs.Pack.{Pack}
 use Rattle.partitions.specs.declared.Part.{Part}
 use Rattle.subsystem_spec.specs.Requests.{Request}
 use Rattle.trace_replay.specs.Script.{Submit, Drain}
+use Rattle.trace_replay.specs.Moments.{Moment}
 use Rattle.driver_machine.specs.World.{World}
 use Rattle.driver_machine.specs.Guards.{IsSetUp}
 use Rattle.driver_outcome.specs.declared.Stop.{Stop}
@@ -13,6 +14,7 @@ use Rattle.hp_core.specs.Done.{HasCauses}
 use Rattle.hp_driver.specs.Subsystem.{State}
 use Rattle.waited_requests.specs.Sessions.{Part as SessionPart}
 use Rattle.waited_requests.specs.Rest.{HasTables}
+use Rattle.waited_requests.specs.Cleans.{MovedClean}
 use Rattle.blocking_io.specs.declared.reached.Reached.TheVariants.{Before}
 use Rattle.blocking_io.specs.Calls.{Stage, stage}
 use Rattle.blocking_io.specs.Asking.{IsReady, setup_at}
@@ -53,6 +55,10 @@ pub record Transfers (reads : Bool) (unit : ℕ) (part : Part) (old new : Stage)
   pub waited : AreWaited reads unit part parts
   pub goes : GoesOn parts old new
   pub others : IsTrue new.packs_tell → HasTables (setup_at old) → OthersStay (setup_at old) new.held
+
+-- Blocks of a partition MOVED CLEAN, as lines tell: those of them, counted from one on.
+abbrev pub AreClean : (unit first : ℕ) → (which : ℕ → Type 0) → List Moment → Stage → Type 0
+AreClean unit first which told old = (k : ℕ) → which k → MovedClean (setup_at old) unit (first + k) told
 
 -- WHAT IS KEPT by each call, at every answer.
 pub record Keeps {O Q : Type 0} (holds : Q → Bool) (packs_faults : Q → ℕ) (tells : O → Bool) (faults : O → ℕ) (old new : State) (packs packs' : Q) (trace trace' : O) (stop : Option Stop) : Type 0 where

@@ -11,7 +11,7 @@ ghost use Rattle.raw_io.specs.Calls.{kind_at, IsUntouched};
 use blocking_io::{Reached, ask_read, ask_write, sessions_law};
 use hp_driver::{Request, Stop, Subsystem};
 use outside_traits::traits::{Packs, Sink};
-use request_fronts::fronts_law;
+use request_fronts::{clean_law, fronts_law};
 
 /// How many blocks of a request were done, of so many.
 fn blocks_done(reached: Reached, count: u32) -> u32
@@ -46,6 +46,7 @@ fn read_once<P: Packs, T: Sink>(
 {
     sessions_law();
     fronts_law();
+    clean_law();
     subsystem.law();
     let reached = ask_read(subsystem, 1, request, into, packs, trace)?;
     Ok(blocks_done(reached, request.count))

@@ -44,14 +44,15 @@ use Rattle.waited_requests.specs.Sessions.{Part, IsPart, IsSession, behind, behi
 use Rattle.waited_requests.specs.Rest.{HasTables}
 use Rattle.waited_requests.specs.Waited.{map_of, first_in, with_packs, IsAskable}
 use Rattle.waited_requests.proofs.Parts.{PartStep, part_step}
+use Rattle.waited_requests.proofs.Cleans.{done_moves_clean}
 use Rattle.waited_requests.proofs.Restful.{rest_keeps, rest_stands}
 use Rattle.quiet_driver.specs.Quiet.{IsQuiet, kind_if, setup_of, rested, StandsQuiet}
 use Rattle.quiet_driver.proofs.Calls.{played_consistent}
 use Rattle.quiet_driver.proofs.Rests.{quiet_rests}
 use Rattle.blocking_io.specs.Calls.{Stage}
-use Rattle.blocking_io.specs.Asking.{setup_at}
+use Rattle.blocking_io.specs.Asking.{setup_at, Follows}
 use Rattle.blocking_io.specs.Stopping.{LeftAt, IsCut, begun, Stops}
-use Rattle.request_fronts.specs.Fronts.{OthersStay, HoldsFront, StoppedHoldsFront}
+use Rattle.request_fronts.specs.Fronts.{OthersStay, HoldsFront, StoppedHoldsFront, AnsweredMovesClean}
 use Rattle.request_fronts.proofs.Few.{no, done_few}
 
 -- ---- WHERE THE MACHINE IS behind a submission and some answers: the request was refused, is outstanding, or was answered
@@ -411,3 +412,12 @@ stopped_holds_front stop line r old new sound work quiet unit good are tells e =
     let q : StandsQuiet old.held old.world s = quiet_rests old.world old.held sound work quiet in
     let at : IsCut stop (begun line r e.asked e.drained) old new s = e.stops.cut tells are s q in
     cut old.world old.held line r are unit good s q stop new.held e.asked e.drained at.session at.packs
+
+-- ---- WHERE IT WAS ANSWERED
+pub answered_moves_clean : AnsweredMovesClean
+answered_moves_clean line r old new sound work quiet unit good are tells a k lt =
+    let s : Replay = rested old.world old.held in
+    let q : StandsQuiet old.held old.world s = quiet_rests old.world old.held sound work quiet in
+    let f : Follows line r a.asked a.drained old new s = (a.mapped tells are).follows s q in
+    done_moves_clean (setup_at old) s line r a.asked a.drained
+    (record { tables = are; rest = q.rest; askable = askable old.world old.held r unit good; session = f.session; over = f.over }) k lt

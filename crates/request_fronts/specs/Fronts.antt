@@ -12,10 +12,12 @@ use Rattle.driver_machine.specs.Sound.{Sound, AtWork}
 use Rattle.driver_outcome.specs.declared.Stop.{Stop}
 use Rattle.driver_runs.specs.Runs.{Stay}
 use Rattle.waited_requests.specs.Rest.{HasTables}
-use Rattle.waited_requests.specs.Waited.{map_of, first_in, with_packs}
+use Rattle.waited_requests.specs.Sessions.{waited, told_in}
+use Rattle.waited_requests.specs.Waited.{map_of, first_in, answer_in, with_packs}
+use Rattle.waited_requests.specs.Cleans.{MovedClean, done_by}
 use Rattle.quiet_driver.specs.Quiet.{IsQuiet}
 use Rattle.blocking_io.specs.Calls.{Stage}
-use Rattle.blocking_io.specs.Asking.{setup_at}
+use Rattle.blocking_io.specs.Asking.{setup_at, Answers}
 use Rattle.blocking_io.specs.Stopping.{Stops}
 
 -- what is no home of a data block stays
@@ -35,3 +37,9 @@ pub record HoldsFront (setup : Setup) (r : Request) (left : ℕ → Pack) : Type
 abbrev pub StoppedHoldsFront : Type 0
 StoppedHoldsFront = (stop : Stop) (line : ℕ) (r : Request) (old new : Stage) → Sound old.world → AtWork old.world → IsQuiet old.world → IsSetUp old.world r.unit → IsRequest r
     → HasTables (setup_at old) → IsTrue new.packs_tell → Stops stop line r old new → HoldsFront (setup_at old) r new.held
+
+-- WHERE IT WAS ANSWERED each block that is done moved clean: its lines tell of the sector at the block's home.
+abbrev pub AnsweredMovesClean : Type 0
+AnsweredMovesClean = (line : ℕ) (r : Request) (old new : Stage) → Sound old.world → AtWork old.world → IsQuiet old.world → IsSetUp old.world r.unit → IsRequest r
+    → HasTables (setup_at old) → IsTrue new.packs_tell → (answers : Answers line r old new) → (k : ℕ) → k < done_by (answer_in (setup_at old) r) r.count
+    → MovedClean (setup_at old) r.unit (first_in (setup_at old) r + k) (told_in (waited line r answers.asked answers.drained))
