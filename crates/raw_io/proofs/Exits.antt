@@ -87,6 +87,10 @@ pub on_err : {T E : Type 0} (result : Result T E) (P : Type 0) → P → OnErr r
 on_err (Ok value) P holds = tt
 on_err (Err other) P holds = holds
 
+pub stop_handed : {T : Type 0} (P : Option Stop → Type 0) (result : Result T Stop) (stop : Stop) → IsErrAnd result (λ x. x ≡ stop) → P (Some stop) → P (stop_in result)
+stop_handed P (Ok value) stop is holds = absurd is
+stop_handed P (Err other) stop is holds = subst (λ z. P (Some z)) (sym is) holds
+
 pub keeps_err : {T O Q : Type 0} (holds : Q → Bool) (packs_faults : Q → ℕ) (tells : O → Bool) (faults : O → ℕ) (old new : State) (packs packs' : Q) (trace trace' : O) (result : Result T Stop) (stop : Stop)
     → IsErrAnd result (λ x. x ≡ stop) → new.outstanding ≡ old.outstanding → (IsTrue (holds packs') → IsTrue (holds packs)) → (IsTrue (tells trace') → IsTrue (tells trace))
     → HasCauses (packs_faults packs) (packs_faults packs') (faults trace) (faults trace') (Some stop) → Keeps holds packs_faults tells faults old new packs packs' trace trace' (stop_in result)

@@ -1,6 +1,7 @@
 mod Joins
 mod Asks
 mod Exits
+mod Loops
 mod Reading
 mod ReadRanges
 mod Writing
