@@ -27,7 +27,7 @@ pub laid_over_none : (bytes : List ℕ) → laid bytes [] ≡ []
 laid_over_none [] = refl
 laid_over_none (byte ∷ bytes) = refl
 
-laid_more : (xs ys into : List ℕ) → laid_at (length xs) ys (laid xs into) ≡ laid (xs ++ ys) into
+pub laid_more : (xs ys into : List ℕ) → laid_at (length xs) ys (laid xs into) ≡ laid (xs ++ ys) into
 laid_more [] ys into = refl
 laid_more (x ∷ xs) ys [] = laid_over_none ys
 laid_more (x ∷ xs) ys (z ∷ into) = ap (λ zs. x ∷ zs) (laid_more xs ys into)

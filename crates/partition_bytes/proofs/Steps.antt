@@ -99,12 +99,12 @@ module _ (blocks : Blocks) (first at size d b c skip piece n : ℕ) (so : SoFar 
   at_front : (d ≡ 0) ⊎ (skip ≡ 0)
   at_front = front_or_aligned blocks first at size d b c skip piece so next
 
-  -- a block that more bytes touch was touched before, or is one of the piece
   own : (k e : ℕ) → b ≤ k → k < b + n → IsSome (blocks (first + k))
   own k e from below =
       let place : first + b + (k - b) ≡ first + k = omega (arith, from) in
       subst (λ z. IsSome (blocks z)) place (r.usable (k - b) (omega (arith, from, below)))
 
+  -- a block that more bytes touch was touched before, or is one of the piece
   pub touched_in : (e : ℕ) → d ≤ e → at + e ≤ 512 * (b + n) → (k : ℕ) → Touches at e k → Touches at d k ⊎ ((b ≤ k) × (k < b + n))
   touched_in e le ends k touched = elim (leb_tells b k) [
     | inl from ↦

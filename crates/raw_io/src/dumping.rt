@@ -1,5 +1,5 @@
 // Memory is dumped to the end of the partition for swapping.
-ghost use Rattle.std.specs.Prelude.{◌≡◌, ◌+◌, ◌-◌, ◌*◌, ◌<◌, ◌≤◌, ◌++◌, ◌↔◌, ℕ, IsTrue, IfOk, OnErr, length, replicate, Some, Err};
+ghost use Rattle.std.specs.Prelude.{◌≡◌, ◌+◌, ◌-◌, ◌*◌, ◌<◌, ◌≤◌, ◌++◌, ◌↔◌, ℕ, IsTrue, IfOk, OnErr, length, take, drop, replicate, Some, Err};
 ghost use Rattle.partitions.specs.declared.Part.TheVariants.{B};
 ghost use Rattle.partitions.specs.Partitions.{size_of};
 ghost use Rattle.driver_outcome.specs.declared.Stop.{Stop};
@@ -32,7 +32,10 @@ fn fill(buffer: &mut [u8], from: &[u8])
 }
 
 /// The piece of memory from one place to another, as far as memory goes.
-fn part_of(memory: &[u8], start: usize, end: usize) -> &[u8] {
+fn part_of(memory: &[u8], start: usize, end: usize) -> &[u8]
+    requires { start ≤ end }
+    ensures { result.now ≡ take (end - start) (drop start memory.now) }
+{
     let end = end.min(memory.len());
     &memory[start.min(end)..end]
 }
