@@ -1,5 +1,5 @@
 -- One request for whole blocks: what it is answered, and what it leaves.
-use Rattle.std.proofs.Common.{◌≡◌, ◌≢◌, ◌⊎◌, inl, inr, ℕ, zero, suc, ◌<◌, ◌≤◌, ◌+◌, ◌*◌, ◌==◌, nat_le, nat_lt, Bool, true, false, IsTrue, List, [], ◌∷◌, length, Option, None, Some, refl, sym, ap, ◌∙◌, subst, arith}
+use Rattle.std.proofs.Common.{◌≡◌, ◌≢◌, inl, inr, ℕ, zero, suc, ◌<◌, ◌≤◌, ◌+◌, ◌==◌, nat_le, Bool, true, false, IsTrue, List, [], Option, None, Some, refl, sym, ap, ◌∙◌, subst, arith}
 use Rattle.std.specs.Prelude.{min, is_some, IsSome, unwrap_or, if◌then◌else◌}
 use Rattle.std.proofs.lemmas.Option.{none-some, same_Some}
 use Rattle.std.proofs.lemmas.Bool.{eq-eqb, ne_eqb}
@@ -8,10 +8,9 @@ use Rattle.pack_geometry.specs.declared.DriveKind.{DriveKind}
 use Rattle.pack_geometry.specs.declared.DriveKind.TheVariants.{Rp06}
 use Rattle.pack_model.specs.Pack as model
 use Rattle.partitions.specs.declared.Part.{Part}
-use Rattle.partitions.specs.declared.Admission.{Admission}
 use Rattle.partitions.specs.declared.Admission.TheVariants.{Inside}
 use Rattle.partitions.specs.Partitions.{first_of, size_of, admission}
-use Rattle.subsystem_spec.specs.Requests.{Request, IsRequest, first_block, Answer, ReadOk, WriteOk, OutsidePartition, EndOfPartition, NoFrames, Failed}
+use Rattle.subsystem_spec.specs.Requests.{Request, IsRequest, Answer, ReadOk, WriteOk, OutsidePartition, EndOfPartition, NoFrames, Failed}
 use Rattle.trace_replay.specs.Moments.{Moment}
 use Rattle.block_machine.specs.Machine.{Blocks, kind_of, bytes_of_first, blocks_done, blocks_after, done_in}
 use Rattle.block_machine.specs.Stands.{Setup}
@@ -21,21 +20,21 @@ use Rattle.driver_machine.specs.Guards.{IsSetUp}
 use Rattle.driver_machine.specs.Sound.{Sound, AtWork}
 use Rattle.waited_requests.specs.Sessions.{waited, told_in}
 use Rattle.waited_requests.specs.Rest.{HasTables}
-use Rattle.waited_requests.specs.Waited.{unusable_or, first_unusable, answer_by, answer_of, answer_at, map_at as map_met, map_of, first_in, met_in, answer_in, map_behind, with_packs}
+use Rattle.waited_requests.specs.Waited.{unusable_or, first_unusable, answer_by, answer_of, answer_at, map_at as map_met, first_in, met_in, answer_in, map_behind}
 use Rattle.waited_requests.specs.Cleans.{MovedClean, done_by}
 use Rattle.quiet_driver.specs.Quiet.{IsQuiet, kind_if, setup_of}
 use Rattle.blocking_io.specs.declared.reached.Reached.{Reached}
 use Rattle.blocking_io.specs.declared.reached.Reached.TheVariants.{All, Before, Outside, AtEnd}
-use Rattle.blocking_io.specs.Given.{Given, reached_by, bytes_by}
+use Rattle.blocking_io.specs.Given.{reached_by, bytes_by}
 use Rattle.partition_bytes.specs.Laid.{laid}
 use Rattle.blocking_io.specs.Calls.{Stage}
 use Rattle.blocking_io.specs.Asking.{setup_at, Answers, IsMapped}
 use Rattle.blocking_io.specs.Sessions.{GoesOn, AnswersReach}
-use Rattle.request_fronts.specs.Fronts.{OthersStay, HoldsFront, AnsweredMovesClean}
+use Rattle.request_fronts.specs.Fronts.{HoldsFront, AnsweredMovesClean}
 use Rattle.raw_io.specs.Transfers.{IsAsk, Transfers, AreClean, AreBlocks}
 use Rattle.raw_io.specs.Calls.{kind_at, map_at, left_map, IsUntouched}
 use Rattle.partition_bytes.specs.Pieces.{Reaches}
-use Rattle.raw_io.specs.Blocks.{blocks_reached, origin, IsUnchanged, ReadsOnce, PutsBlocks, PutsFront}
+use Rattle.raw_io.specs.Blocks.{blocks_reached, origin, ReadsOnce, PutsBlocks, PutsFront}
 
 -- ---- what was given to a caller is not seen
 abbrev pub plain : Stage → Stage

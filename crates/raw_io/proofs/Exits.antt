@@ -1,9 +1,8 @@
 -- What the functions over whole blocks owe, from what `ask_read` and `ask_write` promise.
-use Rattle.std.proofs.Common.{◌≡◌, ℕ, ◌<◌, ◌≤◌, ◌+◌, ◌-◌, ◌*◌, Bool, true, false, IsTrue, List, [], length, Option, None, Some, refl, sym, ap, ◌∙◌, subst, arith}
-use Rattle.std.specs.Prelude.{Result, Ok, Err, OnErr, IsErrAnd, if◌then◌else◌}
+use Rattle.std.proofs.Common.{◌≡◌, ℕ, ◌<◌, ◌≤◌, ◌+◌, ◌-◌, ◌*◌, Bool, true, false, IsTrue, List, length, Option, None, Some, refl, sym, ap, ◌∙◌, subst, arith}
+use Rattle.std.specs.Prelude.{Result, Ok, Err, OnErr, IsErrAnd}
 use Rattle.std.proofs.lemmas.Option.{none-some, same_Some}
 use Rattle.pack_geometry.specs.declared.DriveKind.{DriveKind}
-use Rattle.outside_traits.specs.Causes.{Rose}
 use Rattle.mass_gather.proofs.GatherLaws.{rose_more}
 use Rattle.subsystem_spec.specs.Requests.{Request, IsRequest}
 use Rattle.driver_machine.specs.Guards.{IsSetUp}

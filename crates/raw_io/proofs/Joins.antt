@@ -1,5 +1,5 @@
 -- One transfer behind the other.
-use Rattle.std.proofs.Common.{◌≡◌, ◌≢◌, ℕ, ◌+◌, ◌<◌, Bool, IsTrue, List, [], ◌∷◌, ◌++◌, length, Option, None, Some, refl, sym, ap, ◌∙◌, subst, arith, append-nil, append_assoc, true, false}
+use Rattle.std.proofs.Common.{◌≡◌, ℕ, ◌+◌, Bool, List, [], ◌∷◌, ◌++◌, length, Option, None, Some, refl, sym, ap, ◌∙◌, subst, arith, append-nil, append_assoc, true, false}
 use Rattle.std.specs.Prelude.{Contains}
 use Rattle.std.proofs.lemmas.List.Elements.{Contains-append_left, Contains-append_right}
 use Rattle.hardware_table.specs.declared.Moved.TheVariants.{Clean}
@@ -12,19 +12,17 @@ use Rattle.pack_model.specs.TableSpelling.{Table}
 use Rattle.pack_model.specs.Homes.{home_of, content_at}
 use Rattle.pack_model.proofs.PackLaws.{length-block_at}
 use Rattle.partitions.specs.declared.Part.{Part}
-use Rattle.block_machine.specs.Machine.{Blocks}
 use Rattle.block_machine.specs.Stands.{Setup, home_at, home_in}
 use Rattle.block_machine.proofs.Runs.{home_marks}
 use Rattle.waited_requests.specs.Sessions.{Part as SessionPart, told_in}
 use Rattle.waited_requests.specs.Cleans.{MovedClean}
-use Rattle.waited_requests.specs.Rest.{HasTables}
 use Rattle.waited_requests.specs.Waited.{map_of, with_packs}
 use Rattle.blocking_io.specs.Calls.{Stage}
 use Rattle.blocking_io.specs.Asking.{setup_at}
-use Rattle.blocking_io.specs.Sessions.{GoesOn, StillTell, SessionsJoin}
+use Rattle.blocking_io.specs.Sessions.{StillTell, SessionsJoin}
 use Rattle.request_fronts.specs.Fronts.{OthersStay}
 use Rattle.raw_io.specs.Transfers.{AreWaited, Transfers}
-use Rattle.raw_io.specs.Calls.{map_at, left_map, IsUntouched}
+use Rattle.raw_io.specs.Calls.{left_map, IsUntouched}
 use Rattle.raw_io.specs.Blocks.{IsUnchanged}
 
 -- ---- what is no home

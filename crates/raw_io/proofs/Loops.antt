@@ -1,11 +1,10 @@
 -- What a piece of a range may be asked for, at each turn.
-use Rattle.std.proofs.Common.{◌≡◌, ℕ, ◌+◌, ◌-◌, ◌*◌, ◌<◌, ◌≤◌, Bool, List, length, None, refl, sym, ap, ◌∙◌, subst, arith}
+use Rattle.std.proofs.Common.{◌≡◌, ℕ, ◌+◌, ◌-◌, ◌*◌, ◌<◌, ◌≤◌, Bool, List, None, refl, sym, subst, arith}
 use Rattle.pack_geometry.specs.declared.DriveKind.{DriveKind}
 use Rattle.pack_geometry.specs.declared.DriveKind.TheVariants.{Rp06, Rm03, Rm05}
 use Rattle.partitions.specs.declared.Part.{Part}
 use Rattle.partitions.specs.declared.Part.TheVariants.{A, B, C, D, E, F, G, H}
 use Rattle.partitions.specs.Partitions.{size_of}
-use Rattle.driver_machine.specs.Guards.{IsSetUp}
 use Rattle.hp_driver.specs.Subsystem.{State, asked}
 use Rattle.raw_io.specs.declared.pieces.Piece.{Piece}
 use Rattle.raw_io.specs.Transfers.{Keeps, MayTransfer, AreBlocks}

@@ -1,9 +1,8 @@
 -- A range that is read, piece by piece.
-use Rattle.std.proofs.Common.{◌≡◌, ◌≢◌, ◌⊎◌, inl, inr, ℕ, ◌<◌, ◌≤◌, ◌+◌, ◌-◌, ◌*◌, true, false, IsTrue, List, [], ◌++◌, length, take, drop, refl, sym, ap, ◌∙◌, subst, arith}
-use Rattle.std.proofs.lemmas.Bool.Decides.{nat_tests, eqb_tells}
+use Rattle.std.proofs.Common.{◌≡◌, ◌≢◌, ◌⊎◌, inl, inr, ℕ, ◌<◌, ◌≤◌, ◌+◌, ◌-◌, ◌*◌, true, false, IsTrue, List, ◌++◌, length, take, drop, refl, sym, ap, ◌∙◌, subst, arith}
+use Rattle.std.proofs.lemmas.Bool.Decides.{eqb_tells}
 use Rattle.partitions.specs.declared.Part.{Part}
 use Rattle.partitions.specs.Partitions.{first_of}
-use Rattle.block_machine.specs.Machine.{Blocks}
 use Rattle.driver_machine.specs.Guards.{IsSetUp}
 use Rattle.waited_requests.specs.Sessions.{told_in}
 use Rattle.waited_requests.specs.Rest.{HasTables}

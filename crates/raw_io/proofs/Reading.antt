@@ -1,15 +1,12 @@
 -- Whole blocks and pieces of a range that are read.
-use Rattle.std.proofs.Common.{◌≡◌, ◌≢◌, ◌⊎◌, inl, inr, ℕ, ◌<◌, ◌≤◌, ◌+◌, ◌-◌, ◌*◌, ◌==◌, Bool, true, false, IsTrue, List, [], ◌∷◌, ◌++◌, length, take, drop, Option, None, Some, refl, sym, ap, ◌∙◌, subst, arith}
+use Rattle.std.proofs.Common.{◌≡◌, ◌≢◌, ◌⊎◌, inl, inr, ℕ, ◌<◌, ◌≤◌, ◌+◌, ◌-◌, ◌*◌, ◌==◌, Bool, true, false, IsTrue, List, [], ◌++◌, length, take, drop, Option, None, Some, refl, sym, ap, ◌∙◌, subst, arith}
 use Rattle.std.specs.Prelude.{IsSome, if◌then◌else◌}
-use Rattle.std.proofs.lemmas.Bool.Decides.{nat_tests, eqb_tells}
+use Rattle.std.proofs.lemmas.Bool.Decides.{eqb_tells}
 use Rattle.std.proofs.lemmas.Option.{none-some}
-use Rattle.pack_geometry.specs.declared.DriveKind.{DriveKind}
-use Rattle.partitions.specs.declared.Part.{Part}
 use Rattle.partitions.specs.Partitions.{first_of}
 use Rattle.subsystem_spec.specs.Requests.{Request}
 use Rattle.trace_replay.specs.Packs.{size_of_block}
 use Rattle.block_machine.specs.Machine.{Blocks, bytes_of_first, kind_of}
-use Rattle.driver_machine.specs.World.{World}
 use Rattle.driver_machine.specs.Guards.{IsSetUp}
 use Rattle.hp_driver.specs.Subsystem.{asked}
 use Rattle.waited_requests.specs.Rest.{HasTables}
@@ -19,17 +16,16 @@ use Rattle.blocking_io.specs.Calls.{Stage}
 use Rattle.blocking_io.specs.Asking.{setup_at}
 use Rattle.blocking_io.specs.Sessions.{StillTell, SessionsJoin}
 use Rattle.raw_io.specs.declared.pieces.Piece.{Piece}
-use Rattle.partition_bytes.specs.Bytes.{range, ComesTo}
-use Rattle.raw_io.specs.Transfers.{Transfers, AreBlocks}
-use Rattle.raw_io.specs.Calls.{kind_at, map_at, IsUntouched, ReadsRange}
+use Rattle.partition_bytes.specs.Bytes.{range}
+use Rattle.raw_io.specs.Calls.{kind_at, map_at, IsUntouched}
 use Rattle.partition_bytes.specs.Pieces.{Reaches, bytes_among}
-use Rattle.raw_io.specs.Blocks.{origin, IsUnchanged, ReadsOnce, Reads, GivesBlocks, Gives}
-use Rattle.raw_io.specs.Pieces.{IsCut, IsPiece, start_at, start_of, ReadsPiece, GivesPiece, GivesRange}
+use Rattle.raw_io.specs.Blocks.{origin, ReadsOnce, Reads, GivesBlocks, Gives}
+use Rattle.raw_io.specs.Pieces.{start_at, ReadsPiece, GivesPiece}
 use Rattle.partition_bytes.specs.Laws.{IsBlock}
-use Rattle.partition_bytes.proofs.Ranges.{laid_short, length_range, range_laid, range_more, blocks_range}
+use Rattle.partition_bytes.proofs.Ranges.{laid_short, length_range, range_laid, blocks_range}
 use Rattle.raw_io.proofs.Asks.{kind_is}
 use Rattle.raw_io.proofs.Joins.{transfers_join, clean_before, map_long, untouched_behind}
-use Rattle.partition_bytes.proofs.Steps.{some_among, among_few, among_fits, SoFar, IsNext, so_more, comes_to}
+use Rattle.partition_bytes.proofs.Steps.{among_few, among_fits}
 
 -- ---- a block that can be used has 512 bytes
 pub some_block : (block : Option (List ℕ)) → IsSome block → ((bytes : List ℕ) → block ≡ Some bytes → length bytes ≡ 512) → IsBlock block

@@ -1,9 +1,7 @@
 -- A range that is written, piece by piece.
-use Rattle.std.proofs.Common.{◌≡◌, ◌≢◌, ◌⊎◌, inl, inr, ℕ, ◌<◌, ◌≤◌, ◌+◌, ◌-◌, ◌*◌, ◌%◌, true, false, IsTrue, List, [], length, take, drop, Option, None, Some, refl, sym, ap, ◌∙◌, subst, arith}
+use Rattle.std.proofs.Common.{◌≡◌, ◌≢◌, ◌⊎◌, inl, inr, ℕ, ◌<◌, ◌≤◌, ◌+◌, ◌-◌, ◌*◌, true, false, IsTrue, List, length, take, drop, refl, sym, ap, ◌∙◌, subst, arith}
 use Rattle.std.specs.Prelude.{IsSome}
-use Rattle.std.proofs.lemmas.Bool.Decides.{nat_tests, eqb_tells}
-use Rattle.std.proofs.lemmas.Option.{none-some}
-use Rattle.std.proofs.lemmas.List.{take_all}
+use Rattle.std.proofs.lemmas.Bool.Decides.{eqb_tells}
 use Rattle.partitions.specs.declared.Part.{Part}
 use Rattle.partitions.specs.Partitions.{first_of}
 use Rattle.block_machine.specs.Machine.{Blocks}
@@ -17,7 +15,7 @@ use Rattle.partition_bytes.specs.Bytes.{ComesTo, with_range}
 use Rattle.raw_io.specs.Transfers.{Transfers}
 use Rattle.raw_io.specs.Calls.{kind_at, map_at, left_map, WritesRange, StopsAt}
 use Rattle.partition_bytes.specs.Pieces.{Reaches, bytes_among, EndsBlock}
-use Rattle.raw_io.specs.Pieces.{IsCut, IsPiece, start_at, start_of, WritesPiece, PutsPiece, StopsPiece, PutsRange}
+use Rattle.raw_io.specs.Pieces.{IsPiece, start_at, start_of, WritesPiece, PutsPiece, StopsPiece, PutsRange}
 use Rattle.partition_bytes.proofs.Replaced.{none_replaced, had_some, had_none}
 use Rattle.raw_io.proofs.Joins.{transfers_none, transfers_for, transfers_join, map_long, left_over, others_over}
 use Rattle.partition_bytes.proofs.Steps.{all_among, fewer_among, among_few, SoFar, starts_so, comes_whole, IsNext, front_or_aligned, so_more, comes_to}

@@ -1,19 +1,16 @@
 -- Pieces of a range that are written.
-use Rattle.std.proofs.Common.{◌≡◌, ◌≢◌, ◌⊎◌, inl, inr, ℕ, ◌<◌, ◌≤◌, ◌+◌, ◌-◌, ◌*◌, ◌==◌, Bool, true, false, IsTrue, List, [], ◌∷◌, ◌++◌, length, take, drop, Option, None, Some, refl, sym, ap, ◌∙◌, subst, arith}
+use Rattle.std.proofs.Common.{◌≡◌, ◌≢◌, ◌⊎◌, inl, inr, ℕ, ◌<◌, ◌≤◌, ◌+◌, ◌-◌, ◌*◌, ◌==◌, true, false, IsTrue, List, [], length, take, drop, None, Some, refl, sym, ap, ◌∙◌, subst, arith}
 use Rattle.std.specs.Prelude.{IsSome, if◌then◌else◌}
-use Rattle.std.proofs.lemmas.Bool.Decides.{nat_tests, eqb_tells}
+use Rattle.std.proofs.lemmas.Bool.Decides.{eqb_tells}
 use Rattle.std.proofs.lemmas.List.{take_all}
-use Rattle.pack_geometry.specs.declared.DriveKind.{DriveKind}
-use Rattle.partitions.specs.declared.Part.{Part}
 use Rattle.partitions.specs.Partitions.{first_of}
-use Rattle.subsystem_spec.specs.Requests as told_requests
 use Rattle.block_machine.specs.Machine.{Blocks, blocks_done}
 use Rattle.block_machine.proofs.Blocks.{begun_blocks}
 use Rattle.driver_machine.specs.Guards.{IsSetUp}
 use Rattle.hp_driver.specs.Subsystem.{asked}
 use Rattle.hp_driver.specs.declared.request.Request.{Request}
 use Rattle.waited_requests.specs.Rest.{HasTables}
-use Rattle.partition_bytes.specs.Laid.{laid, laid_at}
+use Rattle.partition_bytes.specs.Laid.{laid_at}
 use Rattle.blocking_io.specs.Calls.{Stage}
 use Rattle.blocking_io.specs.Asking.{setup_at}
 use Rattle.blocking_io.specs.Sessions.{StillTell, SessionsJoin}
@@ -22,8 +19,8 @@ use Rattle.partition_bytes.specs.Bytes.{range, with_range}
 use Rattle.raw_io.specs.Transfers.{Transfers}
 use Rattle.raw_io.specs.Calls.{map_at, left_map, IsUntouched}
 use Rattle.partition_bytes.specs.Pieces.{Reaches, bytes_among}
-use Rattle.raw_io.specs.Blocks.{origin, GivesBlocks, Gives, PutsBlocks, Puts, PutsFront}
-use Rattle.raw_io.specs.Pieces.{IsCut, IsWritten, start_at, Continues, WritesPiece, PutsPiece, StopsPiece}
+use Rattle.raw_io.specs.Blocks.{GivesBlocks, Gives, PutsBlocks, Puts, PutsFront}
+use Rattle.raw_io.specs.Pieces.{IsCut, start_at, Continues, WritesPiece, PutsPiece, StopsPiece}
 use Rattle.partition_bytes.specs.Laws.{IsBlock}
 use Rattle.partition_bytes.proofs.Ranges.{laid_long, length_range, block_range}
 use Rattle.partition_bytes.proofs.Replaced.{whole_written, edge_written}

@@ -1,8 +1,8 @@
 -- WHOLE BLOCKS of a partition, read or written by requests that are waited for.
-use Rattle.std.specs.Prelude.{◌≡◌, ◌≢◌, ℕ, ◌+◌, ◌*◌, ◌<◌, ◌≤◌, min, IsTrue, true, false, List, None, Some, IsSome}
+use Rattle.std.specs.Prelude.{◌≡◌, ◌≢◌, ℕ, ◌+◌, ◌*◌, ◌<◌, ◌≤◌, min, IsTrue, true, false, List, IsSome}
 use Rattle.partitions.specs.Partitions.{first_of}
 use Rattle.subsystem_spec.specs.Requests.{Request}
-use Rattle.block_machine.specs.Machine.{Blocks, blocks_done, bytes_of_first}
+use Rattle.block_machine.specs.Machine.{blocks_done, bytes_of_first}
 use Rattle.waited_requests.specs.Sessions.{told_in}
 use Rattle.waited_requests.specs.Rest.{HasTables}
 use Rattle.blocking_io.specs.declared.reached.Reached.{Reached}

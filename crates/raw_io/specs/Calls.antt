@@ -1,5 +1,5 @@
 -- WHAT A RAW TRANSFER COMES TO, over what the packs hold before.
-use Rattle.std.specs.Prelude.{◌≡◌, ◌≢◌, ◌⊎◌, ℕ, ◌+◌, ◌%◌, ◌≤◌, List, take, length, Option, None, Some, Result, Ok, Err}
+use Rattle.std.specs.Prelude.{◌≡◌, ◌≢◌, ℕ, ◌≤◌, List, take, length, Option, None, Some, Result, Ok, Err}
 use Rattle.pack_geometry.specs.declared.DriveKind.{DriveKind}
 use Rattle.block_machine.specs.Machine.{Blocks}
 use Rattle.driver_machine.specs.World.{World, unit_at}
@@ -11,7 +11,7 @@ use Rattle.blocking_io.specs.Calls.{Stage}
 use Rattle.blocking_io.specs.Asking.{setup_at}
 use Rattle.request_fronts.specs.Fronts.{OthersStay}
 use Rattle.raw_io.specs.declared.fault.RawFault.{RawFault}
-use Rattle.raw_io.specs.declared.fault.RawFault.TheVariants.{Outside, Unusable, Store, Sink}
+use Rattle.raw_io.specs.declared.fault.RawFault.TheVariants.{Unusable, Store, Sink}
 use Rattle.partition_bytes.specs.Pieces.{EndsBlock}
 use Rattle.partition_bytes.specs.Bytes.{range, ComesTo, with_range}
 

@@ -1,5 +1,5 @@
 -- What the packs hold where a request stopped.
-use Rattle.std.proofs.Common.{◌≡◌, ◌≢◌, ◌⊎◌, inl, inr, ℕ, zero, suc, ◌<◌, ◌≤◌, ◌+◌, ◌==◌, Bool, true, false, IsTrue, List, [], ◌∷◌, ◌++◌, Option, None, Some, refl, sym, ap, ◌∙◌, subst, arith}
+use Rattle.std.proofs.Common.{◌≡◌, ◌≢◌, ◌⊎◌, inl, inr, ℕ, zero, suc, ◌<◌, ◌≤◌, ◌+◌, ◌==◌, Bool, true, false, List, [], ◌∷◌, ◌++◌, Option, None, Some, refl, sym, ap, ◌∙◌, subst, arith}
 use Rattle.std.specs.Prelude.{is_some, IsSome, unwrap_or}
 use Rattle.std.proofs.lemmas.Option.{none-some, same_Some}
 use Rattle.std.proofs.lemmas.Bool.{eq-eqb, ne_eqb}
@@ -17,8 +17,8 @@ use Rattle.trace_replay.specs.Script.{Submit, Drain, IsThere}
 use Rattle.trace_replay.specs.Moments.{Moment, Played, Answered}
 use Rattle.trace_replay.specs.Packs.{Surface}
 use Rattle.trace_replay.specs.Service.{in_hand, first_waiting, request_or_none}
-use Rattle.trace_replay.specs.Conversation.{Progress, not_begun, is_waiting}
-use Rattle.trace_replay.specs.Replay.{Replay, UnitSeen, hand_of, Submission, Refused, Joined, AreLeft, after_moment, after_moments}
+use Rattle.trace_replay.specs.Conversation.{Progress, is_waiting}
+use Rattle.trace_replay.specs.Replay.{Replay, UnitSeen, hand_of, Submission, Refused, Joined, AreLeft, after_moment}
 use Rattle.trace_replay.proofs.Histories.{Fits, Open, CleanFits}
 use Rattle.trace_replay.proofs.Kept.{IsHeld}
 use Rattle.trace_work.specs.Consistent.{IsConsistent}
@@ -35,23 +35,19 @@ use Rattle.block_machine.proofs.Units.{Keeps}
 use Rattle.block_machine.proofs.Runs.{home_marks, left_at, room_at, below_count}
 use Rattle.driver_machine.specs.World.{World, unit_at}
 use Rattle.driver_machine.specs.Guards.{IsSetUp}
-use Rattle.driver_machine.specs.Sound.{Sound, AtWork}
 use Rattle.driver_outcome.specs.declared.Stop.{Stop}
 use Rattle.driver_outcome.specs.declared.Stop.TheVariants.{Store, Sink}
-use Rattle.driver_runs.specs.Runs.{Stay}
-use Rattle.driver_runs.specs.NextBlock.{HasNext}
-use Rattle.waited_requests.specs.Sessions.{Part, IsPart, IsSession, behind, behind_all, waited}
+use Rattle.waited_requests.specs.Sessions.{Part, IsPart, IsSession, behind, behind_all}
 use Rattle.waited_requests.specs.Rest.{HasTables}
 use Rattle.waited_requests.specs.Waited.{map_of, first_in, with_packs, IsAskable}
 use Rattle.waited_requests.proofs.Parts.{PartStep, part_step}
 use Rattle.waited_requests.proofs.Cleans.{done_moves_clean}
 use Rattle.waited_requests.proofs.Restful.{rest_keeps, rest_stands}
-use Rattle.quiet_driver.specs.Quiet.{IsQuiet, kind_if, setup_of, rested, StandsQuiet}
+use Rattle.quiet_driver.specs.Quiet.{kind_if, setup_of, rested, StandsQuiet}
 use Rattle.quiet_driver.proofs.Calls.{played_consistent}
 use Rattle.quiet_driver.proofs.Rests.{quiet_rests}
-use Rattle.blocking_io.specs.Calls.{Stage}
 use Rattle.blocking_io.specs.Asking.{setup_at, Follows}
-use Rattle.blocking_io.specs.Stopping.{LeftAt, IsCut, begun, Stops}
+use Rattle.blocking_io.specs.Stopping.{LeftAt, IsCut, begun}
 use Rattle.request_fronts.specs.Fronts.{OthersStay, HoldsFront, StoppedHoldsFront, AnsweredMovesClean}
 use Rattle.request_fronts.proofs.Few.{no, done_few}
 

@@ -1,5 +1,5 @@
 -- Each block that a request that is waited for has done moved clean: its sector line stands among the lines.
-use Rattle.std.proofs.Common.{◌≡◌, ◌≢◌, inl, inr, ℕ, ◌<◌, ◌≤◌, ◌+◌, ◌==◌, Bool, true, false, List, [], ◌∷◌, ◌++◌, length, Option, None, Some, refl, sym, ap, ◌∙◌, subst, arith}
+use Rattle.std.proofs.Common.{◌≡◌, inl, inr, ℕ, ◌<◌, ◌≤◌, ◌+◌, ◌==◌, Bool, true, false, List, [], ◌∷◌, ◌++◌, Option, None, Some, refl, sym, ap, ◌∙◌, subst, arith}
 use Rattle.std.specs.Prelude.{if◌then◌else◌, Contains}
 use Rattle.std.specs.List.{AllByRecursion}
 use Rattle.std.proofs.lemmas.Option.{none-some, same_Some}
@@ -20,7 +20,7 @@ use Rattle.hardware_table.specs.Noise.{LiveNoise, strikes}
 use Rattle.trace_replay.specs.Service.{in_hand, target_of}
 use Rattle.trace_replay.specs.Conversation.{Stage, Waiting, Steps as StepsLeft, UnderWay, AtOnce, Moving, Saying, Ending, Progress, not_begun, last_of, progress_tried, progress_interrupted}
 use Rattle.trace_replay.specs.Events.{Wish, NoLine, DueLine, Arrival, SectorLine, Interrupt, Attention, Refusal, IdleLine}
-use Rattle.trace_replay.specs.Replay.{Replay, UnitSeen, next_wish, hand_of, at_unit, LineMay, ToldMay, Follows, after_moment, after_moments, unit_after, replay_told, Submission, Refused, Joined, submission, submitted, unit_joined}
+use Rattle.trace_replay.specs.Replay.{Replay, UnitSeen, next_wish, hand_of, at_unit, LineMay, ToldMay, Follows, after_moment, after_moments, unit_after, Submission, Refused, Joined, submission, submitted, unit_joined}
 use Rattle.trace_replay.proofs.Kept.{after_kind}
 use Rattle.trace_replay.proofs.Unchanged.{told_keeps}
 use Rattle.block_machine.specs.Machine.{Machine, idle, request_of, without, kind_of, done_in, Steps}

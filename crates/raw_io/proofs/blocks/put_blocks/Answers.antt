@@ -1,5 +1,5 @@
-use Rattle.std.proofs.Common.{◌≡◌, Bool, true, false, [], sym, ap, ◌∙◌, arith}
-use Rattle.std.specs.Prelude.{if◌then◌else◌, ◌*◌, length, Some, None}
+use Rattle.std.proofs.Common.{◌≡◌, Bool, true, false, [], ap}
+use Rattle.std.specs.Prelude.{if◌then◌else◌, Some, None}
 use Rattle.subsystem_spec.specs.Requests as told
 use Rattle.hp_driver.specs.Subsystem.{asked}
 use Rattle.blocking_io.specs.declared.reached.Reached.TheVariants.{Before}
