@@ -1,23 +1,31 @@
 -- Memory filled up with zeros, piece by piece.
 use Rattle.std.proofs.Common.{◌≡◌, ℕ, zero, suc, ◌+◌, ◌-◌, ◌≤◌, List, [], ◌∷◌, ◌++◌, length, take, drop, replicate, refl, sym, ap, ◌∙◌, arith}
 
-zeros : (n d m : ℕ) → d + n ≤ m → take n (drop d (replicate m 0)) ≡ replicate n 0
+abbrev pub nulls : ℕ → List ℕ
+nulls n = replicate n 0
+
+zeros : (n d m : ℕ) → d + n ≤ m → take n (drop d (nulls m)) ≡ nulls n
 zeros zero d m le = refl
 zeros (suc n) zero zero le = absurd (omega (arith, le))
 zeros (suc n) zero (suc m) le = ap (λ zs. 0 ∷ zs) (zeros n zero m (omega (arith, le)))
 zeros (suc n) (suc d) zero le = absurd (omega (arith, le))
 zeros (suc n) (suc d) (suc m) le = zeros (suc n) d m (omega (arith, le))
 
-none_left : (n d : ℕ) → take n (drop d []) ++ replicate (n - length (take n (drop d []))) 0 ≡ replicate n 0
-none_left zero zero = refl
-none_left zero (suc d) = refl
-none_left (suc n) zero = refl
-none_left (suc n) (suc d) = refl
+-- of no memory nothing is left
+none_left : (n d : ℕ) (none : List ℕ) → none ≡ [] → take n (drop d none) ++ nulls (n - length (take n (drop d none))) ≡ nulls n
+none_left zero zero [] is = refl
+none_left zero (suc d) [] is = refl
+none_left (suc n) zero [] is = refl
+none_left (suc n) (suc d) [] is = refl
+none_left n d (x ∷ xs) is = absurd (cons x xs is)
+  where
+    cons : (x : ℕ) (xs : List ℕ) → x ∷ xs ≡ [] → ⊥
+    cons x xs e = cc
 
 -- a piece is what is left of the memory there, and zeros
 pub padded : (m n d : ℕ) (memory : List ℕ) → d + n ≤ length memory + m
-    → take n (drop d (memory ++ replicate m 0)) ≡ take n (drop d memory) ++ replicate (n - length (take n (drop d memory))) 0
-padded m n d [] le = zeros n d m (omega (arith, le)) ∙ sym (none_left n d)
+    → take n (drop d (memory ++ nulls m)) ≡ take n (drop d memory) ++ nulls (n - length (take n (drop d memory)))
+padded m n d [] le = zeros n d m (omega (arith, le)) ∙ sym (none_left n d [] refl)
 padded m zero zero (x ∷ xs) le = refl
 padded m (suc n) zero (x ∷ xs) le = ap (λ zs. x ∷ zs) (padded m n zero xs (omega (arith, le)))
 padded m n (suc d) (x ∷ xs) le = padded m n d xs (omega (arith, le))

@@ -1,9 +1,7 @@
 -- Ranges of bytes, and bytes that are laid over others.
-use Rattle.std.proofs.Common.{◌≡◌, ◌⊎◌, inl, inr, ℕ, zero, suc, ◌+◌, ◌-◌, ◌*◌, ◌/◌, ◌%◌, ◌<◌, ◌≤◌, List, [], ◌∷◌, ◌++◌, length, take, drop, length-append, Option, None, Some, refl, sym, ap, ◌∙◌, subst, arith, append_assoc}
+use Rattle.std.proofs.Common.{◌≡◌, ℕ, zero, suc, ◌+◌, ◌-◌, ◌*◌, ◌/◌, ◌%◌, ◌<◌, ◌≤◌, List, [], ◌∷◌, ◌++◌, length, take, drop, Some, refl, sym, ap, ◌∙◌, arith}
 use Rattle.std.specs.Prelude.{get_or}
-use Rattle.std.proofs.lemmas.List.{length-take-le, take_all, take-take, take_at, take-append-le, drop-drop, drop-append-le, drop_more, drop_all}
-use Rattle.std.proofs.Math.ListN.{length-drop}
-use Rattle.subsystem_spec.specs.Requests.{Request}
+use Rattle.std.proofs.lemmas.List.{take_all, take_at, take-append-le, drop-append-le, drop_more, drop_all}
 use Rattle.trace_replay.specs.Packs.{size_of_block}
 use Rattle.block_machine.specs.Machine.{Blocks, bytes_or_none, bytes_of_first}
 use Rattle.partition_bytes.specs.Laid.{laid, laid_at}

@@ -2,7 +2,7 @@ mod Joins
 mod Asks
 mod Exits
 mod Loops
-mod Reading
+mod ReadPieces
 mod ReadRanges
-mod Writing
+mod WritePieces
 mod WriteRanges

@@ -21,7 +21,7 @@ use Rattle.raw_io.specs.Pieces.{IsCut, IsPiece, start_at, start_of, ReadsPiece, 
 use Rattle.partition_bytes.proofs.Ranges.{laid_more, length_range, range_more}
 use Rattle.raw_io.proofs.Joins.{transfers_none, transfers_for, transfers_join, clean_before, clean_behind, untouched_behind}
 use Rattle.partition_bytes.proofs.Steps.{all_among, among_less, among_few, SoFar, starts_so, comes_whole, IsNext, touched_among, so_more, comes_to}
-use Rattle.raw_io.proofs.Reading.{kind_stays}
+use Rattle.raw_io.proofs.ReadPieces.{kind_stays}
 
 -- ---- the next piece of a range
 pub next_of : (unit : ℕ) (part : Part) (write : _) (at size done : ℕ) (p : Piece) → IsPiece unit part write (at + done) (size - done) p → done ≤ size

@@ -19,7 +19,7 @@ use Rattle.raw_io.specs.Pieces.{IsPiece, start_at, start_of, WritesPiece, PutsPi
 use Rattle.partition_bytes.proofs.Replaced.{none_replaced, had_some, had_none}
 use Rattle.raw_io.proofs.Joins.{transfers_none, transfers_for, transfers_join, map_long, left_over, others_over}
 use Rattle.partition_bytes.proofs.Steps.{all_among, fewer_among, among_few, SoFar, starts_so, comes_whole, IsNext, front_or_aligned, so_more, comes_to}
-use Rattle.raw_io.proofs.Reading.{kind_stays}
+use Rattle.raw_io.proofs.ReadPieces.{kind_stays}
 use Rattle.raw_io.proofs.ReadRanges.{next_of, all_blocks, fewer_blocks}
 
 -- ---- SO FAR

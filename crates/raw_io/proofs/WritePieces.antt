@@ -26,7 +26,7 @@ use Rattle.partition_bytes.proofs.Ranges.{laid_long, length_range, block_range}
 use Rattle.partition_bytes.proofs.Replaced.{whole_written, edge_written}
 use Rattle.raw_io.proofs.Joins.{transfers_join, transfers_wider, map_long, left_over, others_over}
 use Rattle.partition_bytes.proofs.Steps.{some_among}
-use Rattle.raw_io.proofs.Reading.{kind_stays, some_block, whole_size}
+use Rattle.raw_io.proofs.ReadPieces.{kind_stays, some_block, whole_size}
 
 written_is : (r : Request) (bytes : List ℕ) → r.write ≡ true → (asked r bytes).written ≡ Some bytes
 written_is r bytes writes = ap (λ b. if b then Some bytes else None) writes
