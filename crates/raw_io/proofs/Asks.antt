@@ -40,7 +40,7 @@ use Rattle.raw_io.specs.Blocks.{blocks_reached, origin, ReadsOnce, PutsBlocks, P
 abbrev pub plain : Stage → Stage
 plain s = record s { given = record { reached = Before 0; bytes = [] } }
 
-pub transfers_of : AnswersReach → (reads : Bool) (r : Request) (old new : Stage) → IsAsk reads r.unit r.part r → Answers 1 r old new → Transfers reads r.unit r.part (plain old) (plain new)
+unfoldable pub transfers_of : AnswersReach → (reads : Bool) (r : Request) (old new : Stage) → IsAsk reads r.unit r.part r → Answers 1 r old new → Transfers reads r.unit r.part (plain old) (plain new)
 transfers_of law reads r old new ask a = record {
   parts = waited 1 r a.asked a.drained;
   waited = (record { request = r; ask = ask; submitted_is = refl; drained_is = refl }, tt);
@@ -60,7 +60,7 @@ transfers_of law reads r old new ask a = record {
 -- ---- THE FIRST BLOCK that can't be used
 some_first : (block : Option (List ℕ)) (k : ℕ) (later : Option ℕ) → unusable_or block k later ≡ None → IsSome block × (later ≡ None)
 some_first None k later is = absurd (none-some k (sym is))
-some_first (Some bytes) k later is = (search rules, is)
+some_first (Some bytes) k later is = (refl, is)
 
 pub none_unusable : (left : ℕ) (blocks : Blocks) (first k : ℕ) → first_unusable left blocks first k ≡ None → (j : ℕ) → k ≤ j → j < k + left → IsSome (blocks (first + j))
 none_unusable zero blocks first k is j from to = absurd (omega (arith, from, to))
@@ -80,10 +80,11 @@ pub record IsFirst (blocks : Blocks) (first k limit n : ℕ) : Type 0 where
 
 pub first_is : (left : ℕ) (blocks : Blocks) (first k n : ℕ) → first_unusable left blocks first k ≡ Some n → IsFirst blocks first k (k + left) n
 first_is zero blocks first k n is = absurd (none-some n is)
-first_is (suc left) blocks first k n is = by (blocks (first + k)) refl (subst (λ z. unusable_or z k (first_unusable left blocks first (suc k)) ≡ Some n) refl is)
+first_is (suc left) blocks first k n is = by (blocks (first + k)) refl is (λ later. first_is left blocks first (suc k) n later)
   where
-    by : (block : Option (List ℕ)) → blocks (first + k) ≡ block → unusable_or block k (first_unusable left blocks first (suc k)) ≡ Some n → IsFirst blocks first k (k + suc left) n
-    by None none here =
+    by : (block : Option (List ℕ)) → blocks (first + k) ≡ block → unusable_or block k (first_unusable left blocks first (suc k)) ≡ Some n
+        → (first_unusable left blocks first (suc k) ≡ Some n → IsFirst blocks first (suc k) (suc k + left) n) → IsFirst blocks first k (k + suc left) n
+    by None none here go =
         let same : k ≡ n = same_Some k n here in
         record {
           from = omega (arith, same);
@@ -91,14 +92,14 @@ first_is (suc left) blocks first k n is = by (blocks (first + k)) refl (subst (�
           unusable = ap (λ z. blocks (first + z)) (sym same) ∙ none;
           before = λ j le lt. absurd (omega (arith, same, le, lt));
         }
-    by (Some bytes) some later =
-        let rest : IsFirst blocks first (suc k) (suc k + left) n = first_is left blocks first (suc k) n later in
+    by (Some bytes) some later go =
+        let rest : IsFirst blocks first (suc k) (suc k + left) n = go later in
         record {
           from = omega (arith, rest.from);
           below = omega (arith, rest.below);
           unusable = rest.unusable;
           before = λ j le lt. elim (eqb_tells k j) [
-            | inl same ↦ subst (λ z. IsSome (blocks (first + z))) same.1 (subst IsSome (sym some) (search rules))
+            | inl same ↦ subst (λ z. IsSome (blocks (first + z))) same.1 (subst IsSome (sym some) refl)
             | inr other ↦ rest.before j (after k j le other.1) lt
           ];
         }

@@ -52,6 +52,7 @@ module _ (r : Request) (n : ℕ) (old new : Stage) (unit : IsSetUp old.world r.u
   few_now = subst (λ z. z ≤ r.count) (sym e) (few_reached new.given.reached r.count)
 
   pub reads_of : AnswersReach → AnsweredMovesClean → Sound old.world → AtWork old.world → IsQuiet old.world → r.written ≡ None → Reads r n old.given.bytes new.given.bytes (plain old) (plain new)
+  unfolding transfers_of
   reads_of law moves sound work quiet none = record {
     few = few_now;
     transfers = transfers_of law true r old new (is_ask true (kind_at old.world r.unit) r is (λ same. none)) a;

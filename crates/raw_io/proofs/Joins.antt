@@ -72,7 +72,7 @@ transfers_none reads unit part s = record {
   others = λ t tables. others_none (setup_at s);
 }
 
-pub transfers_for : (reads : Bool) (u unit : ℕ) (q part : Part) (old new : Stage) → u ≡ unit → q ≡ part → Transfers reads u q old new → Transfers reads unit part old new
+unfoldable pub transfers_for : (reads : Bool) (u unit : ℕ) (q part : Part) (old new : Stage) → u ≡ unit → q ≡ part → Transfers reads u q old new → Transfers reads unit part old new
 transfers_for reads u unit q part old new here same t = record {
   parts = t.parts;
   waited = subst (λ z. AreWaited reads unit z t.parts) same (subst (λ z. AreWaited reads z q t.parts) here t.waited);
@@ -80,7 +80,7 @@ transfers_for reads u unit q part old new here same t = record {
   others = t.others;
 }
 
-pub transfers_join : SessionsJoin → (reads : Bool) (unit : ℕ) (part : Part) (old mid new : Stage) → Transfers reads unit part old mid → Transfers reads unit part mid new → StillTell mid new
+unfoldable pub transfers_join : SessionsJoin → (reads : Bool) (unit : ℕ) (part : Part) (old mid new : Stage) → Transfers reads unit part old mid → Transfers reads unit part mid new → StillTell mid new
     → Transfers reads unit part old new
 transfers_join law reads unit part old mid new first next still = record {
   parts = first.parts ++ next.parts;

@@ -108,6 +108,7 @@ module _ (law : SessionsJoin) (r : Request) (n m : ℕ) (into between into' : Li
       }
 
   pub gives_again : Gives r n into into' old new
+  unfolding transfers_join
   gives_again = record {
     few = omega (arith, fewer);
     transfers = transfers_join law true r.unit r.part old mid new x.transfers y.transfers still;
