@@ -180,7 +180,7 @@ module _ (law : SessionsJoin) (unit : ℕ) (part : Part) (at done size : ℕ) (i
           less b k n le lt = omega (arith, le, lt)
 
   pub read_more : (size < p.size → ⊥) → SoRead unit part at (done + size) into now' old new
-  unfolding (transfers, transfers_join, transfers_for)
+  unfolding transfers transfers_join transfers_for
   read_more whole = record {
     few = few_now;
     transfers = transfers;
@@ -205,7 +205,7 @@ module _ (law : SessionsJoin) (unit : ℕ) (part : Part) (at done size : ℕ) (i
           }
 
   pub read_ends : size < p.size → GivesRange unit part at (done + size) into now' old new
-  unfolding (transfers, transfers_join, transfers_for)
+  unfolding transfers transfers_join transfers_for
   read_ends short = record {
     few = few_now;
     transfers = transfers;
