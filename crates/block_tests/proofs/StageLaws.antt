@@ -5,7 +5,7 @@ use Rattle.std.proofs.lemmas.Bool.Decides.{Decides-eqb, nat_tests}
 use Rattle.pack_model.specs.Pack.{Pack, block_at, is_marked, with_pack, with_written, written}
 use Rattle.pack_model.proofs.PackLaws.{block_at-with_block_same, block_at-with_block_other}
 use Rattle.block_polls.specs.Polls.{IsOldOrNew, Polls, Sides, answer_for}
-use Rattle.block_tests.specs.Stages.{Fills, Reaches, Stops, between, if_done, one, ranged, unmarked_of}
+use Rattle.block_tests.specs.Stages.{Fills, Reaches, Stops, between, if_done, one, ranged}
 use Rattle.block_polls.specs.declared.station.Polled.{Polled}
 use Rattle.block_polls.specs.declared.station.Polled.TheVariants.{Clean, Marked}
 
@@ -21,6 +21,10 @@ eq_other x y ne = at (x == y) (λ e. absurd (ne ((Decides-eqb x y).0 e))) (λ e.
 
 pub false_true : false ≡ true → ⊥
 false_true e = cc
+
+-- the unmarked ones of a set
+abbrev pub unmarked_of : Pack → (ℕ → Bool) → ℕ → Bool
+unmarked_of pack set sector = set sector && not (is_marked pack sector)
 
 -- ---- the packs of all units with one of them changed
 

@@ -12,10 +12,7 @@ unfoldable pub is_copy : DriveKind → ℕ → ℕ → Bool
 is_copy kind zero sector = false
 is_copy kind (suc k) sector = is_copy kind k sector || (sector == copy_at kind k)
 
--- the unmarked ones of a set; this one block, where it is unmarked; and those of these sets
-abbrev pub unmarked_of : Pack → (ℕ → Bool) → ℕ → Bool
-unmarked_of pack set sector = set sector && not (is_marked pack sector)
-
+-- this one block, where it is unmarked; and the unmarked ones of these sets
 abbrev pub one : Pack → ℕ → ℕ → Bool
 one pack block sector = (sector == block) && not (is_marked pack sector)
 

@@ -19,7 +19,8 @@ use Rattle.driver_work.specs.Runs.{Run, CanCome}
 use Rattle.driver_work.proofs.Next.{next_none}
 use Rattle.driver_replay.specs.Shows.{counted_by, outstanding_in, IsOnSurface}
 use Rattle.driver_trace.specs.Within.{Rests}
-use Rattle.driver_trace.specs.Calls.{IsSurfaceOf, Stands, IsOverWithin, Ends, IsTold, IsLeft, AreThere, act_named, IsTriedOn}
+use Rattle.driver_trace.specs.Calls.{IsSurfaceOf, Stands, IsOverWithin, Ends, IsTold, IsLeft, AreThere}
+use Rattle.driver_trace.proofs.Named.{act_named, IsTriedOn}
 use Rattle.driver_trace.proofs.Starting.{other_act}
 use Rattle.driver_trace.proofs.Events.{attend_told, idle_told, not_drained, drained_there}
 use Rattle.driver_trace.proofs.Inputs.{arrive_told, played_rests, same_surface, found_by, nothing_by, run_where}

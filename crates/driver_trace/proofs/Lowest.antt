@@ -11,7 +11,8 @@ use Rattle.driver_machine.specs.World.{World, AdapterView, adapter_of, unit_at, 
 use Rattle.driver_machine.specs.Events.{can_arrive, can_move, can_attend, lowest, drain_by, next_event}
 use Rattle.driver_machine.specs.Sound.{Sound}
 use Rattle.driver_trace.specs.Within.{ShowsAll}
-use Rattle.driver_trace.specs.Calls.{AreThere, act_named}
+use Rattle.driver_trace.specs.Calls.{AreThere}
+use Rattle.driver_trace.proofs.Named.{act_named}
 use Rattle.driver_trace.proofs.Starting.{set_up}
 use Rattle.driver_trace.proofs.Events.{can_attend_is}
 use Rattle.driver_trace.proofs.Inputs.{going_phase}

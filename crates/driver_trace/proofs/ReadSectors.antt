@@ -23,7 +23,8 @@ use Rattle.driver_machine.specs.Acts.{Tried, Of, Sector, scene_of}
 use Rattle.driver_outcome.specs.Packs.{Reads}
 use Rattle.driver_replay.specs.Shows.{IsOnSurface}
 use Rattle.driver_trace.specs.Within.{ShowsAll}
-use Rattle.driver_trace.specs.Calls.{IsSurfaceOf, IsTriedOn, IsReadOf}
+use Rattle.driver_trace.specs.Calls.{IsSurfaceOf, IsReadOf}
+use Rattle.driver_trace.proofs.Named.{IsTriedOn}
 
 -- two words with the same places flipped have the same bytes
 row : (i j : ℕ) → j < 8 → (8 * i + j) / 8 ≡ i

@@ -5,17 +5,16 @@ use Rattle.pack_model.specs.Pack.{Pack, block_at, is_marked}
 use Rattle.hardware_table.specs.Adapter.{next_block}
 use Rattle.trace_replay.specs.Script as script
 use Rattle.trace_replay.specs.Script.{Input}
-use Rattle.trace_replay.specs.Events.{Act, Done, Arriving, Trying, NoLine, serving}
+use Rattle.trace_replay.specs.Events.{Act, NoLine}
 use Rattle.trace_replay.specs.Replay.{Replay, all_units, next_wish, drained, after_moments, Follows}
 use Rattle.driver_machine.specs.World.{World, unit_at, adapter_at, unit_of}
 use Rattle.driver_machine.specs.Acts as machine
-use Rattle.driver_machine.specs.Acts.{Tried, Sector, scene_of, after_all}
+use Rattle.driver_machine.specs.Acts.{Tried, after_all}
 use Rattle.driver_machine.specs.Lines.{lines_of_all}
 use Rattle.driver_machine.specs.Events.{can_move}
 use Rattle.drive_model.specs.Move.{struck_at}
 use Rattle.trace_replay.specs.Bytes.{ArePlaces}
 use Rattle.driver_outcome.specs.Packs.{IsOfPack, packs_after_all}
-use Rattle.driver_replay.specs.Shows.{IsOnSurface}
 use Rattle.driver_machine.specs.Sound.{Sound, AtWork}
 use Rattle.trace_replay.specs.Conversation.{goes_on}
 use Rattle.driver_trace.specs.Within.{ShowsAll, Rests}
@@ -56,19 +55,6 @@ pub record IsTold (line : ℕ) (drains : Bool) (held : ℕ → Pack) (w : World)
 -- THE UNITS that are there are those that are set up.
 abbrev pub AreThere : World → Replay → Type 0
 AreThere w s = s.there ≡ filter (λ u. (unit_at w u).declared) all_units
-
--- the event that a drain goes on with, as the replay names it
-abbrev pub act_named : Replay → Input → Act
-act_named s (script.ArriveAt u) = Arriving u
-act_named s (script.MoveAt a) = Trying a
-act_named s (script.AttendTo a) = serving a (s.adapters a).state
-act_named s input = Done
-
--- a sector that a move tries is that of the surface
-abbrev pub IsTriedOn : World → Replay → Input → Tried → Type 0
-IsTriedOn w s (script.MoveAt a) tried =
-    IsTrue (can_move (adapter_at w a)) → IsOnSurface s (unit_of w a) (Sector (next_block (adapter_at w a).state) tried) (scene_of w (unit_of w a))
-IsTriedOn w s input tried = Unit {0}
 
 -- A sector that a move tries is that of the packs, as live noise leaves it, which flips places of a sector.
 pub record IsReadFrom (w : World) (held : ℕ → Pack) (u block : ℕ) (tried : Tried) : Type 0 where

@@ -58,7 +58,3 @@ drawn_with d p = d
 
 abbrev pub drawn : List Piece → Drawn
 drawn pieces = fold drawn_with blank pieces
-
--- ELEMENTS NEST: each that started has ended, the innermost first
-abbrev pub all_nest : List Piece → Bool
-all_nest pieces = not (drawn pieces).broken
