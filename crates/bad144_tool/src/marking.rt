@@ -1,6 +1,5 @@
-ghost use Rattle.std.specs.Prelude.{◌≡◌, ◌<◌, ◌≤◌, ◌+◌, [], ◌∷◌, if◌then◌else◌, IsTrue, IfOk, IfErr, OnOk, length};
-ghost use Rattle.pack_geometry.specs.Geometry.{block_number, block_count, IsInside};
-ghost use Rattle.pack_model.specs.TableSpelling.{IsTable};
+ghost use Rattle.std.specs.Prelude.{◌≡◌, ◌<◌, ◌+◌, [], ◌∷◌, if◌then◌else◌, IsTrue, IfOk, IfErr, length};
+ghost use Rattle.pack_geometry.specs.Geometry.{block_number, IsInside};
 ghost use Rattle.outside_traits.specs.Causes.{HasCause};
 ghost use Rattle.bad144_tool.specs.Changes.{DoesAll};
 ghost use Rattle.bad144_tool.specs.Faults.{IsCounted, IsMarkFault, IsWhy, LeavesMarks};
