@@ -1,5 +1,5 @@
 // The script of a number is played, and its tally is printed.
-ghost use Rattle.std.specs.Prelude.{◌≡◌, ◌⊎◌, ◌≤◌, IfOk, OnOk, IsErrOf};
+ghost use Rattle.std.specs.Prelude.{◌≡◌, ◌⊎◌, IfOk, OnOk, IsErrOf};
 ghost use Rattle.outside_traits.specs.Causes.{Rose};
 ghost use Rattle.exercise_run.specs.Exercises.{Exercised, IsCutShort, IsDone, IsStopped};
 

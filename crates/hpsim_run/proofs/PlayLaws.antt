@@ -1,5 +1,5 @@
 -- What a run of `play` comes to.
-use Rattle.std.proofs.Common.{◌≡◌, ◌⊎◌, inl, inr, ℕ, ◌++◌, List, [], Bool, IsTrue, Result, Ok, Err, OnOk, OnErr, refl, ap, subst, sym}
+use Rattle.std.proofs.Common.{◌≡◌, inl, inr, ℕ, ◌++◌, List, Bool, IsTrue, Result, Ok, Err, OnOk, OnErr, ap, subst, sym}
 use Rattle.outside_traits.specs.Causes.{HasCause}
 use Rattle.outside_traits.specs.Puts.{TakesFront}
 use Rattle.pack_model.specs.Pack.{Pack}
@@ -65,10 +65,6 @@ pub left_by : (fault other : PlayFault) (script : Script) (first left : ℕ → 
     → Leaves fault script first left out_tells said said' trace_tells taken taken' → Leaves other script first left out_tells said said' trace_tells taken taken'
 left_by fault other script first left out_tells said said' trace_tells taken taken' e is =
     subst (λ (f : PlayFault). Leaves f script first left out_tells said said' trace_tells taken taken') e is
-
--- nor where there was no memory
-pub memory_before : (fault : PlayFault) → fault ≡ faults.Memory → IsBefore (Err fault)
-memory_before fault e = subst (λ (f : PlayFault). IsBefore (Err f)) (sym e) tt
 
 -- a fault by its name
 pub err_is : {T E : Type 0} {fault other : E} → fault ≡ other → ◌≡◌ {A = Result T E} (Err fault) (Err other)

@@ -1,5 +1,5 @@
 -- A run of `play`, by its status.
-use Rattle.std.proofs.Common.{◌≡◌, ◌⊎◌, inl, inr, ℕ, ◌+◌, ◌≤◌, Bool, IsTrue, List, length, refl, subst, arith}
+use Rattle.std.proofs.Common.{◌≡◌, ◌⊎◌, inl, inr, ℕ, ◌+◌, ◌≤◌, IsTrue, List, length, refl, subst, arith}
 use Rattle.pack_model.specs.Pack.{Pack}
 use Rattle.outside_traits.specs.Causes.{Rose}
 use Rattle.script_reader.specs.Grammar.{Spells}

@@ -1,5 +1,5 @@
 -- Faults of loading a script.
-use Rattle.std.specs.Prelude.{◌≡◌, ℕ, List}
+use Rattle.std.specs.Prelude.{ℕ, List}
 use Rattle.outside_traits.specs.declared.whole.ReadAllFault.{ReadAllFault}
 use Rattle.outside_traits.specs.declared.whole.ReadAllFault.TheVariants.{Memory as AllMemory, Failed as AllFailed}
 use Rattle.script_reader.specs.declared.fault.ReadFault.{ReadFault}
