@@ -1,0 +1,5 @@
+pub mod Firsts
+pub mod Blocks
+pub mod Served
+pub mod Since
+pub mod Waiting
