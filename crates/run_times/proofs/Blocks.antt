@@ -38,20 +38,9 @@ end_done true event line drive r = refl
 end_done false event line drive r = refl
 
 after_done : (event line place : ℕ) (d : Deed) (drive : Drive) (r : Request) → (request_after event line place d drive r).done ≡ done_by drive d (not (is_refused place drive r)) r.done
-after_done event line place (deed.Search c s) drive r = refl
-after_done event line place (deed.Seek c) drive r = refl
-after_done event line place deed.Recal drive r = refl
-after_done event line place (deed.Offset code) drive r = refl
-after_done event line place deed.Centre drive r = refl
-after_done event line place deed.Clear drive r = refl
-after_done event line place deed.Pack drive r = refl
-after_done event line place (deed.Transfer w b n) drive r = refl
-after_done event line place deed.Arrive drive r = refl
 after_done event line place (deed.Sector b v) drive r = whole_done v r.done
-after_done event line place deed.Intr drive r = refl
-after_done event line place (deed.Try b n) drive r = refl
-after_done event line place deed.Attn drive r = refl
 after_done event line place deed.End drive r = end_done (is_refused place drive r) event line drive r
+after_done event line place d drive r = refl
 
 follows_done : Follows (λ r. r.done) done_by
 follows_done = record { asked = asked_done; met = λ event line u id rank. refl; after = after_done; leaves = λ events r. refl }

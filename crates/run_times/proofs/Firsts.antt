@@ -36,6 +36,9 @@ shown_leaves false false last k = record { event = refl; glance = refl; before =
 ended_leaves : (last : Moment) (k : Known) → Leaves (event_counted_in last k) (event_ended last k)
 ended_leaves last k = shown_leaves (is_before k.window k.event) (is_inside k.window k.event) last (event_counted_in last k)
 
+pub ended_event : (last : Moment) (k : Known) → (event_ended last k).event ≡ k.event
+ended_event last k = (ended_leaves last k).event
+
 -- NOTHING IS COUNTED where nothing was seen
 some_before : (k : Known) (m : Moment) (ms : List Moment) → k.before ≡ Some m → (fold step k ms).before ≡ None → ⊥
 some_before k m [] e none = cc

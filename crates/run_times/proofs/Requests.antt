@@ -35,7 +35,7 @@ within n (x ∷ ids) id place e = within_by n (place_from (n + 1) ids id) (lengt
     within_by n o many place true more e = let same = same_Some n place e in (omega (arith, same), omega (arith, same))
     within_by n o many place false more e = let low = (more e).0 in let high = (more e).1 in (omega (arith, low), omega (arith, high))
 
-below : (ids : List ℕ) (id place : ℕ) → place_of ids id ≡ Some place → place < length ids
+pub below : (ids : List ℕ) (id place : ℕ) → place_of ids id ≡ Some place → place < length ids
 below ids id place e = let is = (within 0 ids id place e).1 in omega (arith, is)
 
 only_id : (n : ℕ) (ids : List ℕ) (i id place : ℕ) → place_from n ids i ≡ Some place → place_from n ids id ≡ Some place → (i == id) ≡ true
@@ -51,29 +51,29 @@ only_id n (x ∷ ids) i id place e f = only_by n x ids i id place (x == i) (x ==
         let same = same_Some n place f in let low = (within (n + 1) ids i place e).0 in absurd (omega (arith, same, low))
     only_by n x ids i id place false false more a b e f = more e f
 
-set_same : (rs : List Request) (p : ℕ) (r : Request) → p < length rs → request_at (set rs p r) p ≡ r
+pub set_same : (rs : List Request) (p : ℕ) (r : Request) → p < length rs → request_at (set rs p r) p ≡ r
 set_same [] p r inside = absurd (omega (arith, inside))
 set_same (x ∷ rs) zero r inside = refl
 set_same (x ∷ rs) (suc p) r inside = set_same rs p r (omega (arith, inside))
 
-set_apart : (rs : List Request) (q : ℕ) (r : Request) (p : ℕ) → q ≢ p → request_at (set rs q r) p ≡ request_at rs p
+pub set_apart : (rs : List Request) (q : ℕ) (r : Request) (p : ℕ) → q ≢ p → request_at (set rs q r) p ≡ request_at rs p
 set_apart [] q r p e = refl
 set_apart (x ∷ rs) zero r zero e = absurd (e refl)
 set_apart (x ∷ rs) zero r (suc p) e = refl
 set_apart (x ∷ rs) (suc q) r zero e = refl
 set_apart (x ∷ rs) (suc q) r (suc p) e = set_apart rs q r p (λ same. e (ap (λ (n : ℕ). suc n) same))
 
-set_many : (rs : List Request) (q : ℕ) (r : Request) → length (set rs q r) ≡ length rs
+pub set_many : (rs : List Request) (q : ℕ) (r : Request) → length (set rs q r) ≡ length rs
 set_many [] q r = refl
 set_many (x ∷ rs) zero r = refl
 set_many (x ∷ rs) (suc q) r = ap (λ (n : ℕ). suc n) (set_many rs q r)
 
-more_below : (rs : List Request) (r : Request) (p : ℕ) → p < length rs → request_at (rs ++ r ∷ []) p ≡ request_at rs p
+pub more_below : (rs : List Request) (r : Request) (p : ℕ) → p < length rs → request_at (rs ++ r ∷ []) p ≡ request_at rs p
 more_below [] r p inside = absurd (omega (arith, inside))
 more_below (x ∷ rs) r zero inside = refl
 more_below (x ∷ rs) r (suc p) inside = more_below rs r p (omega (arith, inside))
 
-more_last : (rs : List Request) (r : Request) (p : ℕ) → p ≡ length rs → request_at (rs ++ r ∷ []) p ≡ r
+pub more_last : (rs : List Request) (r : Request) (p : ℕ) → p ≡ length rs → request_at (rs ++ r ∷ []) p ≡ r
 more_last [] r zero e = refl
 more_last [] r (suc p) e = absurd (omega (arith, e))
 more_last (x ∷ rs) r zero e = absurd (omega (arith, e))
@@ -88,7 +88,7 @@ one_longer : {A : Type 0} (l : List A) (a : A) → length (l ++ a ∷ []) ≡ su
 one_longer [] a = refl
 one_longer (x ∷ l) a = ap (λ (n : ℕ). suc n) (one_longer l a)
 
-place_end : (ids : List ℕ) (i : ℕ) → place_of ids i ≡ None → place_of (ids ++ i ∷ []) i ≡ Some (length ids)
+pub place_end : (ids : List ℕ) (i : ℕ) → place_of ids i ≡ None → place_of (ids ++ i ∷ []) i ≡ Some (length ids)
 place_end ids i e = place-at_end 0 ids i e ∙ ap (λ (n : ℕ). Some n) (none_and (length ids))
   where
     none_and : (n : ℕ) → 0 + n ≡ n
@@ -132,7 +132,7 @@ none_own ids rs id fits e =
     same_long : (c d : ℕ) → d ≡ c → c ≤ d
     same_long c d g = omega (arith, g)
 
-apart_from : (ids : List ℕ) (i id p : ℕ) (o : Option ℕ) → place_of ids i ≡ Some p → place_of ids id ≡ o → (i == id) ≡ false → p ≢ place_in o ids
+pub apart_from : (ids : List ℕ) (i id p : ℕ) (o : Option ℕ) → place_of ids i ≡ Some p → place_of ids id ≡ o → (i == id) ≡ false → p ≢ place_in o ids
 apart_from ids i id p None e f other same = let high = below ids i p e in absurd (omega (arith, high, same))
 apart_from ids i id p (Some q) e f other same = both (i == id) (only_id 0 ids i id p e (f ∙ ap (λ (n : ℕ). Some n) (sym same))) other
   where
@@ -194,7 +194,7 @@ met_fits : (o : Option ℕ) (line u i : ℕ) (k : Known) → Fits k → Fits (me
 met_fits (Some place) line u i k fits = fits
 met_fits None line u i k fits = longer_fits k.ids k.requests i (record (new_request k.event line u i false) { rank = plus (drive_at k.drives u).queue.joined 1 }) fits
 
-met_found : (o : Option ℕ) (line u i : ℕ) (k : Known) → place_of k.ids i ≡ o → place_of (met_at o line u i k).ids i ≡ Some (place_in o k.ids)
+pub met_found : (o : Option ℕ) (line u i : ℕ) (k : Known) → place_of k.ids i ≡ o → place_of (met_at o line u i k).ids i ≡ Some (place_in o k.ids)
 met_found (Some place) line u i k e = e
 met_found None line u i k e = place_end k.ids i e
 
@@ -233,9 +233,9 @@ heard_fits (Told line u i d) k fits =
 heard_fits (Idle line) k fits = fits
 
 -- WHERE AN EVENT ENDS it stays
-record Stays (old new : Known) : Type 0 where
-  ids : new.ids ≡ old.ids
-  requests : new.requests ≡ old.requests
+pub record Stays (old new : Known) : Type 0 where
+  pub ids : new.ids ≡ old.ids
+  pub requests : new.requests ≡ old.requests
 
 closed_stays : (full : Bool) (head : Head) (k : Known) → Stays k (column_closed full head k)
 closed_stays true head k = record { ids = refl; requests = refl }
@@ -256,7 +256,7 @@ turned_stays false o k = record { ids = refl; requests = refl }
 turned_stays true None k = record { ids = refl; requests = refl }
 turned_stays true (Some last) k = let s : Stays k (event_ended last k) = ended_stays last k in record { ids = s.ids; requests = s.requests }
 
-at_stays : (m : Moment) (k : Known) → Stays k (at_moment k m)
+pub at_stays : (m : Moment) (k : Known) → Stays k (at_moment k m)
 at_stays m k = let s : Stays k (cond (begins k.before m) (turned_behind k.before k) k) = turned_stays (begins k.before m) k.before k in record { ids = s.ids; requests = s.requests }
 
 stays_fits : (old new : Known) → Stays old new → Fits old → Fits new
@@ -282,7 +282,7 @@ living p by f k id (m ∷ ms) fits =
     (heard_keeps p by f m (at_moment k m) id (stays_fits k (at_moment k m) (at_stays m k) fits)
     ∙ ap (λ (r : Request). lives_after by id (at_moment k m) m (p r)) (stays_of k (at_moment k m) (at_stays m k) id))
 
-behind_stays : (o : Option Moment) (k : Known) → Stays k (ended_behind o k)
+pub behind_stays : (o : Option Moment) (k : Known) → Stays k (ended_behind o k)
 behind_stays None k = record { ids = refl; requests = refl }
 behind_stays (Some last) k = ended_stays last k
 

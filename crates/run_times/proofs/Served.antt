@@ -44,20 +44,8 @@ end_share true event line drive r = refl
 end_share false event line drive r = refl
 
 after_share : (event line place : ℕ) (d : Deed) (drive : Drive) (r : Request) → share_of (request_after event line place d drive r) ≡ share_by drive d (not (is_refused place drive r)) (share_of r)
-after_share event line place (deed.Search c s) drive r = refl
-after_share event line place (deed.Seek c) drive r = refl
-after_share event line place deed.Recal drive r = refl
-after_share event line place (deed.Offset code) drive r = refl
-after_share event line place deed.Centre drive r = refl
-after_share event line place deed.Clear drive r = refl
-after_share event line place deed.Pack drive r = refl
-after_share event line place (deed.Transfer w b n) drive r = refl
-after_share event line place deed.Arrive drive r = refl
-after_share event line place (deed.Sector b v) drive r = refl
-after_share event line place deed.Intr drive r = refl
-after_share event line place (deed.Try b n) drive r = refl
-after_share event line place deed.Attn drive r = refl
 after_share event line place deed.End drive r = end_share (is_refused place drive r) event line drive r
+after_share event line place d drive r = refl
 
 follows_share : Follows share_of share_by
 follows_share = record { asked = asked_share; met = λ event line u id rank. refl; after = after_share; leaves = λ events r. refl }
@@ -68,20 +56,8 @@ same_if true s = refl
 same_if false s = refl
 
 told_share : (id line u i : ℕ) (d : Deed) (k : Known) (s : Share) → IsNoEnd id (Told line u i d) → lives_after share_by id k (Told line u i d) s ≡ s
-told_share id line u i (deed.Search c y) k s sole = same_if (i == id) s
-told_share id line u i (deed.Seek c) k s sole = same_if (i == id) s
-told_share id line u i deed.Recal k s sole = same_if (i == id) s
-told_share id line u i (deed.Offset code) k s sole = same_if (i == id) s
-told_share id line u i deed.Centre k s sole = same_if (i == id) s
-told_share id line u i deed.Clear k s sole = same_if (i == id) s
-told_share id line u i deed.Pack k s sole = same_if (i == id) s
-told_share id line u i (deed.Transfer w b n) k s sole = same_if (i == id) s
-told_share id line u i deed.Arrive k s sole = same_if (i == id) s
-told_share id line u i (deed.Sector b v) k s sole = same_if (i == id) s
-told_share id line u i deed.Intr k s sole = same_if (i == id) s
-told_share id line u i (deed.Try b n) k s sole = same_if (i == id) s
-told_share id line u i deed.Attn k s sole = same_if (i == id) s
 told_share id line u i deed.End k s sole = ap (λ (b : Bool). cond b (cond (answers line u i k) (share_at (drive_at (met_at (place_of k.ids i) line u i k).drives u)) s) s) sole
+told_share id line u i d k s sole = same_if (i == id) s
 
 moment_share : (id : ℕ) (m : Moment) (k : Known) (s : Share) → IsNoEnd id m → lives_after share_by id k m s ≡ s
 moment_share id (Told line u i d) k s sole = told_share id line u i d k s sole

@@ -2,4 +2,3 @@ pub mod Firsts
 pub mod Blocks
 pub mod Served
 pub mod Since
-pub mod Waiting

@@ -3,8 +3,7 @@
 //! What is proved: `first_law`: as many events are counted as end, and the line of the most drives that position at once is that of
 //! the first event behind which so many did. `done_law`: the blocks done of a request are those told clean or with a burst.
 //! `ends_law`: a request has the next turn at its drive, and the events that the drive counted since the answer before; these are
-//! those of `times_law`: behind which it is on its way, ready, or holds its adapter. `waits_law`: as many wait as joined and were
-//! not served.
+//! those of `times_law`: behind which it is on its way, ready, or holds its adapter.
 #![tactic(auto)]
 
 ghost use Rattle.drive_pictures.specs.declared.moments.Moment.{Moment};
@@ -17,7 +16,6 @@ ghost use Rattle.run_times.specs.Firsts.{AreFirsts};
 ghost use Rattle.run_times.specs.Blocks.{AreNone, Moves};
 ghost use Rattle.run_times.specs.Served.{IsAnswered, IsNoEnd, Serves};
 ghost use Rattle.run_times.specs.Since.{IsUnanswered, Times, Begins};
-ghost use Rattle.run_times.specs.Waiting.{AreAwaited, IsBalanced, Waits};
 
 /// The law of events: a run has as many as end, and the line of the most that position at once is that of the first event behind
 /// which it was reached.
@@ -41,9 +39,4 @@ pub fn ends_law()
 pub fn times_law()
     ensures law { (known : Known) (before here : List Moment) (line u id : ℕ) → u < length (behind known before).drives → (drive_behind known u before).since ≡ blank → IsUnanswered u (behind known before) here → Times known before here line u id }
     ensures start { (known : Known) (u : ℕ) (moment : Moment) → u < length known.drives → Begins known u moment }
-{}
-
-/// The law of waiting: where each answer comes while a request waits, as many wait at a drive as joined and were not served.
-pub fn waits_law()
-    ensures { (known : Known) (u : ℕ) (moments : List Moment) → u < length known.drives → IsBalanced (drive_at known.drives u) → AreAwaited u known moments → Waits known u moments }
 {}

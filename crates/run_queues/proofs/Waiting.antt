@@ -9,12 +9,10 @@ use Rattle.drive_pictures.specs.declared.moments.Play.TheVariants as play
 use Rattle.drive_pictures.specs.declared.requests.Outcome.{Outcome}
 use Rattle.drive_pictures.specs.declared.requests.Request.{Request}
 use Rattle.drive_pictures.specs.Counts.{plus}
-use Rattle.drive_pictures.specs.Drives.{event_counted, unseen, cleared, met, changed}
-use Rattle.drive_pictures.specs.Events.{begins, line_of, is_idle}
+use Rattle.drive_pictures.specs.Drives.{met, changed}
+use Rattle.drive_pictures.specs.Events.{begins}
 use Rattle.drive_pictures.specs.Requests.{is_refused}
-use Rattle.run_picture.specs.declared.columns.Head.{Head}
-use Rattle.run_picture.specs.Columns.{headed, is_before, is_inside, is_full}
-use Rattle.run_picture.specs.Fold.{Known, heard, asked_at, admitted, drive_asked, drive_at, request_at, met_at, place_in, drive_after, drive_end, event_counted_in, event_ended, shown_by, column_closed, turned_behind, step}
+use Rattle.run_picture.specs.Fold.{Known, heard, asked_at, admitted, drive_asked, drive_at, request_at, met_at, place_in, drive_after, drive_end, turned_behind, step}
 use Rattle.run_picture.specs.Places.{place_of}
 use Rattle.script_reader.specs.declared.statement.Request.{Request as Asked}
 use Rattle.trace_lines.specs.declared.telling.Told.{Told as Deed}
@@ -22,10 +20,11 @@ use Rattle.trace_lines.specs.declared.telling.Told.TheVariants as deed
 use Rattle.run_counts.specs.Counted.{drive_behind}
 use Rattle.run_counts.specs.Doings.{answers, at_moment}
 use Rattle.run_counts.proofs.Doing.{set_here, set_other, met_many, heard_many, turned_letters, is_same, is_other}
-use Rattle.run_counts.proofs.Following.{keeps_set, keeps_map}
-use Rattle.run_times.specs.Waiting.{IsAwaitedBy, IsAwaited, AreAwaited, IsBalanced, Waits}
+use Rattle.run_counts.proofs.Following.{keeps_set}
+use Rattle.run_times.proofs.Drives.{turned_stands}
+use Rattle.run_queues.specs.Waiting.{IsAwaitedBy, IsAwaited, AreAwaited, IsBalanced, Waits}
 
-abbrev queue_of : Drive → Queue
+abbrev pub queue_of : Drive → Queue
 queue_of d = d.queue
 
 abbrev AreBalanced : Queue → Type 0
@@ -39,23 +38,8 @@ one_less : (w s j : ℕ) → w + s ≡ j → j < 2 ^ 64 - 1 → 0 < w → (w - 1
 one_less w s j e few some = omega (arith, e, few, some)
 
 -- WHERE AN EVENT ENDS they wait on
-closed_queue : (full : Bool) (head : Head) (k : Known) (u : ℕ) → queue_of (drive_at (column_closed full head k).drives u) ≡ queue_of (drive_at k.drives u)
-closed_queue true head k u = keeps_map queue_of cleared k.drives u (λ d. refl)
-closed_queue false head k u = refl
-
-shown_queue : (before inside : Bool) (last : Moment) (k : Known) (u : ℕ) → queue_of (drive_at (shown_by before inside last k).drives u) ≡ queue_of (drive_at k.drives u)
-shown_queue true inside last k u = keeps_map queue_of cleared k.drives u (λ d. refl)
-shown_queue false true last k u =
-    closed_queue (is_full (headed (line_of last) (is_idle last) k.drives k.head) k.window k.event) (headed (line_of last) (is_idle last) k.drives k.head) k u
-shown_queue false false last k u = refl
-
-turned_queue : (b : Bool) (o : Option Moment) (k : Known) (u : ℕ) → queue_of (drive_at (cond b (turned_behind o k) k).drives u) ≡ queue_of (drive_at k.drives u)
-turned_queue false o k u = refl
-turned_queue true None k u = refl
-turned_queue true (Some last) k u =
-    keeps_map queue_of unseen (event_ended last k).drives u (λ d. refl)
-    ∙ shown_queue (is_before k.window k.event) (is_inside k.window k.event) last (event_counted_in last k) u
-    ∙ keeps_map queue_of event_counted k.drives u (λ d. refl)
+pub turned_queue : (b : Bool) (o : Option Moment) (k : Known) (u : ℕ) → queue_of (drive_at (cond b (turned_behind o k) k).drives u) ≡ queue_of (drive_at k.drives u)
+turned_queue b o k u = turned_stands queue_of (record { unseen = λ d. refl; cleared = λ d. refl }) (λ d. refl) b o k u
 
 -- A REQUEST JOINS
 set_balanced : (ds : List Drive) (v : ℕ) (d : Drive) (u : ℕ) (same : Bool) → (v == u) ≡ same → u < length ds → (v ≡ u → IsBalanced d) → IsBalanced (drive_at ds u) → IsBalanced (drive_at (set ds v d) u)
@@ -111,20 +95,8 @@ end_balanced true event old d r m some = m.balanced
 end_balanced false event old d r m some = one_less d.queue.waiting d.queue.served d.queue.joined m.balanced m.room (m.waits (some refl))
 
 after_balanced : (event place : ℕ) (d : Deed) (old drive : Drive) (r : Request) → Met old drive → IsAwaitedBy d (not (is_refused place drive r)) old → IsBalanced (drive_after event place d drive r)
-after_balanced event place (deed.Search c s) old drive r m is = m.balanced
-after_balanced event place (deed.Seek c) old drive r m is = m.balanced
-after_balanced event place deed.Recal old drive r m is = m.balanced
-after_balanced event place (deed.Offset code) old drive r m is = m.balanced
-after_balanced event place deed.Centre old drive r m is = m.balanced
-after_balanced event place deed.Clear old drive r m is = m.balanced
-after_balanced event place deed.Pack old drive r m is = m.balanced
-after_balanced event place (deed.Transfer w b n) old drive r m is = m.balanced
-after_balanced event place deed.Arrive old drive r m is = m.balanced
-after_balanced event place (deed.Sector b v) old drive r m is = m.balanced
-after_balanced event place deed.Intr old drive r m is = m.balanced
-after_balanced event place (deed.Try b n) old drive r m is = m.balanced
-after_balanced event place deed.Attn old drive r m is = m.balanced
 after_balanced event place deed.End old drive r m is = end_balanced (is_refused place drive r) event old drive r m is
+after_balanced event place d old drive r m is = m.balanced
 
 told_balanced : (line v id : ℕ) (d : Deed) (k : Known) (u : ℕ) (same : Bool) → (v == u) ≡ same → u < length k.drives → IsBalanced (drive_at k.drives u) → HasRoom (drive_at k.drives u)
     → ((v == u) ≡ true → IsAwaitedBy d (answers line v id k) (drive_at k.drives u)) → IsBalanced (drive_at (heard (Told line v id d) k).drives u)
