@@ -39,15 +39,15 @@ use Rattle.trace_replay.proofs.Following.{follow_on}
 use Rattle.trace_replay.proofs.Kept.{AllFit, moments_all, starts, end_kept}
 use Rattle.trace_replay.proofs.Asking.{run_asks}
 use Rattle.run_answers.specs.Answers.{IsDrawn, AreAnswersDrawn, AreFramesLent}
-use Rattle.run_answers.specs.Hears.{seen_of, known_of}
-use Rattle.run_answers.proofs.Declaring.{IsDeclared, script_declared}
-use Rattle.run_answers.proofs.Conditions.{conditions_of}
+use Rattle.run_conditions.specs.Hears.{seen_of, known_of}
+use Rattle.run_conditions.proofs.Declaring.{IsDeclared, script_declared}
+use Rattle.run_conditions.proofs.Conditions.{conditions_of}
 use Rattle.run_answers.proofs.Ended.{IsEnded, all_ended, finished_ended}
 use Rattle.run_answers.proofs.Running.{refused_is_so, Both, AreGood, WishTied, next_tied, turned_both, moment_both, moment_fits}
 use Rattle.run_answers.proofs.Starting.{run_good, names_behind, good_parts, some_parts, all_both, start_both}
-use Rattle.run_answers.proofs.Telling.{request_many}
-use Rattle.run_answers.proofs.Turning.{Core, moment_core}
-use Rattle.run_answers.proofs.Tying.{IsTied, Tied}
+use Rattle.run_conditions.proofs.Telling.{request_many}
+use Rattle.run_conditions.proofs.Turning.{Core, moment_core}
+use Rattle.run_conditions.proofs.Tying.{IsTied, Tied}
 
 -- THE HEAD, and what it has heard
 record FullHead (names : List ℕ) (l : List Request) (x : Drive) (u : ℕ) (lines : List Deed) (id : ℕ) : Type 0 where

@@ -23,13 +23,13 @@ use Rattle.trace_replay.specs.Replay.{Replay, LineMay, ToldMay, MayCome, Follows
 use Rattle.trace_replay.specs.Script.{Input, Submit, ArriveAt, MoveAt, AttendTo, Drain, Turn, Noise, Arm, SetOnline, SetLocked}
 use Rattle.trace_replay.proofs.Kept.{AllFit}
 use Rattle.run_answers.specs.Answers.{IsDrawn}
-use Rattle.run_answers.specs.Hears.{seen_of, play_of, asked_of}
-use Rattle.run_answers.proofs.Asking.{append_grows, below_end}
+use Rattle.run_conditions.specs.Hears.{seen_of, play_of, asked_of}
+use Rattle.run_conditions.proofs.Asking.{append_grows, below_end}
 use Rattle.run_answers.proofs.Running.{Both, AreGood, names_after, AsksSomeAt, WishTied, next_tied, turned_both, moment_both, moment_fits}
 use Rattle.run_answers.proofs.Starting.{some_parts}
-use Rattle.run_answers.proofs.Telling.{HeadAt, head_at, set_grows}
-use Rattle.run_answers.proofs.Turning.{Rest, rest_of, ended_rest}
-use Rattle.run_answers.proofs.Tying.{Tied, Grows, Stays, moment_stays}
+use Rattle.run_conditions.proofs.Telling.{HeadAt, head_at, set_grows}
+use Rattle.run_conditions.proofs.Turning.{Rest, rest_of, ended_rest}
+use Rattle.run_conditions.proofs.Tying.{Tied, Grows, Stays, moment_stays}
 
 -- IT HAS ENDED, with its answer's word or stopped
 pub record IsEnded (names : List ℕ) (l : List Request) (id : ℕ) (a : Answer) (number : ℕ) : Type 0 where

@@ -35,10 +35,10 @@ use Rattle.trace_replay.specs.Replay.{Replay, LineMay, ToldMay, MayCome, submiss
 use Rattle.trace_replay.specs.Script.{Input, Submit, ArriveAt, MoveAt, AttendTo, Drain, Turn, Noise, Arm, SetOnline, SetLocked}
 use Rattle.trace_replay.proofs.Kept.{AllFit, played_kind, refused_is, told_all, played_all}
 use Rattle.trace_replay.proofs.Unchanged.{drained_keeps, either}
-use Rattle.run_answers.specs.Hears.{seen_of, play_of, asked_of}
-use Rattle.run_answers.proofs.Tying.{IsAsked, IsTied, Tied, IsToRefuse, ActTied, Grows, Stays, stays_tied, moment_stays, act_stays, all_apart, queue_stays}
-use Rattle.run_answers.proofs.Telling.{HeadAt, head_at, line_tied, line_ids, set_grows, request_many}
-use Rattle.run_answers.proofs.Asking.{taken_by}
+use Rattle.run_conditions.specs.Hears.{seen_of, play_of, asked_of}
+use Rattle.run_conditions.proofs.Tying.{IsAsked, IsTied, Tied, IsToRefuse, ActTied, Grows, Stays, stays_tied, moment_stays, act_stays, all_apart, queue_stays}
+use Rattle.run_conditions.proofs.Telling.{HeadAt, head_at, line_tied, line_ids, set_grows, request_many}
+use Rattle.run_conditions.proofs.Asking.{taken_by}
 
 -- WHAT IS KNOWN behind any moments
 pub record Both (drives : ℕ → Option DriveKind) (names : List ℕ) (s : Replay) (k : Known) (lines : ℕ → List Deed) : Type 0 where

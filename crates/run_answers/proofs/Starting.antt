@@ -24,8 +24,8 @@ use Rattle.trace_replay.specs.Replay.{Replay, new_replay, after_moment, after_mo
 use Rattle.trace_replay.specs.Runs.{IsLegalRun}
 use Rattle.trace_replay.specs.Script.{Script, Input, Submit, ArriveAt, MoveAt, AttendTo, Drain, Turn, Noise, Arm, SetOnline, SetLocked, Statement, Declares, Plays, Line, Numbered, with_input, inputs_before, drives_of, IsThere, IsInput, IsStatement, with_id, ids_of, AreApart}
 use Rattle.trace_replay.proofs.Kept.{AllFit, performed_kind}
-use Rattle.run_answers.specs.Hears.{seen_of}
-use Rattle.run_answers.proofs.Declaring.{IsDeclared}
+use Rattle.run_conditions.specs.Hears.{seen_of}
+use Rattle.run_conditions.proofs.Declaring.{IsDeclared}
 use Rattle.run_answers.proofs.Running.{Both, IsGood, IsGoodMoment, AreGood, names_after, AsksSomeAt, moment_both, moment_fits}
 
 -- THE INPUTS of a script ask for new ids

@@ -4,7 +4,7 @@ use Rattle.std.specs.Prelude.{nat_le, nat_lt, ◌&&◌}
 use Rattle.std.proofs.lemmas.Bool.Decides.{nat_tests}
 use Rattle.drive_pictures.specs.declared.moments.Moment.{Moment as Seen}
 use Rattle.drive_pictures.specs.Events as events
-use Rattle.run_answers.specs.Hears.{seen_of}
+use Rattle.run_conditions.specs.Hears.{seen_of}
 use Rattle.run_lines.specs.Plays.{plays_of}
 use Rattle.run_lines.specs.Runs.{told_of, up_to, beyond, run_of}
 use Rattle.run_lines.specs.Saids.{Said}

@@ -8,8 +8,8 @@ use Rattle.std.proofs.lemmas.List.{append_assoc}
 use Rattle.drive_pictures.specs.declared.moments.Moment.TheVariants as seen
 use Rattle.drive_pictures.specs.declared.moments.Play.TheVariants as play
 use Rattle.drive_pictures.specs.declared.drives.Change.TheVariants as change
-use Rattle.run_answers.specs.Hears.{known_of}
-use Rattle.run_answers.specs.Hears as hears
+use Rattle.run_conditions.specs.Hears.{known_of}
+use Rattle.run_conditions.specs.Hears as hears
 use Rattle.run_lines.specs.Plays.{play_of, names_of, played_as, line_played, last_drain, drain_text, text_at}
 use Rattle.run_lines.specs.Saids.{Said}
 use Rattle.run_picture.specs.declared.columns.Window.{Window}

@@ -3,7 +3,7 @@ use Rattle.std.specs.Prelude.{◌≡◌, ℕ, ◌==◌, false, List, map, Option
 use Rattle.drive_pictures.specs.declared.moments.Moment.{Moment as Seen}
 use Rattle.pack_model.specs.Pack as model
 use Rattle.pack_model.specs.TableSpelling.{Table}
-use Rattle.run_answers.specs.Hears.{seen_of, known_of}
+use Rattle.run_conditions.specs.Hears.{seen_of, known_of}
 use Rattle.run_lines.specs.Plays.{plays_of}
 use Rattle.run_lines.specs.Runs.{run_of}
 use Rattle.run_lines.specs.Saids.{Said}

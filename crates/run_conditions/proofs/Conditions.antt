@@ -23,11 +23,11 @@ use Rattle.trace_reader.specs.RoundTrip.{told_of}
 use Rattle.trace_replay.specs.Conditions.{online_behind, locked_behind, online_said, locked_said}
 use Rattle.trace_replay.specs.Moments.{Moment, Played, Told, Idle}
 use Rattle.trace_replay.specs.Script.{drives_of, Input, Submit, ArriveAt, MoveAt, AttendTo, Drain, Turn, Noise, Arm, SetOnline, SetLocked}
-use Rattle.run_answers.specs.Answers.{AreConditions}
+use Rattle.run_conditions.specs.Conditions.{AreConditions}
 use Rattle.pack_geometry.specs.declared.DriveKind.{DriveKind}
-use Rattle.run_answers.proofs.Declaring.{IsDeclared, script_declared}
-use Rattle.run_answers.specs.Hears.{known_of, seen_of, play_of, asked_of}
-use Rattle.run_answers.proofs.Turning.{Core, Rest, moment_rest, moment_core}
+use Rattle.run_conditions.proofs.Declaring.{IsDeclared, script_declared}
+use Rattle.run_conditions.specs.Hears.{known_of, seen_of, play_of, asked_of}
+use Rattle.run_conditions.proofs.Turning.{Core, Rest, moment_rest, moment_core}
 
 record Bits : Type 0 where
   offline : Bool
