@@ -29,7 +29,7 @@ use Rattle.trace_lines.specs.declared.telling.Told.TheVariants as deed
 use Rattle.trace_replay.specs.Causes.{AskSome}
 use Rattle.trace_replay.specs.Events.{Wish, NoLine, DueLine, Arrival, SectorLine, Interrupt, Attention, Refusal, IdleLine}
 use Rattle.trace_replay.specs.History.{is_refusal, with_deed, lines_after, lines_behind, lines_of}
-use Rattle.trace_replay.specs.Moments.{Deed, Search, Seek, Recal, Offset, Centre, Clear, Pack, Transfer, Arrive, Sector, Intr, Try, Attn, End, Moment, Played, Told, Idle}
+use Rattle.trace_replay.specs.Moments.{Deed, End, Moment, Played, Told, Idle}
 use Rattle.trace_replay.specs.Packs.{surface_of}
 use Rattle.trace_replay.specs.Replay.{Replay, LineMay, ToldMay, Follows, after_moment, after_moments, next_wish, hand_of}
 use Rattle.trace_replay.specs.Runs.{IsLegalRun, start_of}
@@ -97,17 +97,8 @@ end_is k line u id place a b found inside refused event ended word =
         ∙ ap (λ (x : Bool). request_end x k.event line (drive_at k.drives u) (request_at k.requests place)) refused
 
 word_is : (o : Outcome) (a : Answer) → outcome_word o ≡ answer_word a → IsWordOf o a
-word_is outcome.Open a e = e
-word_is outcome.Ok a e = e
-word_is outcome.Eof a e = e
-word_is outcome.Partition a e = e
-word_is outcome.Frames a e = e
-word_is outcome.Refused a e = e
-word_is outcome.Unforwarded a e = e
-word_is outcome.Offline a e = e
-word_is outcome.Fault a e = e
-word_is outcome.Locked a e = e
 word_is outcome.Stopped a e = tt
+word_is o a e = e
 
 answer_in : Deed → Answer
 answer_in (End a) = a
@@ -154,20 +145,8 @@ end_short true l = less_short (length l)
 end_short false l = none_short (length l)
 
 with_short : (d : Deed) (l : List Deed) → length (with_deed d l) ≤ suc (length l)
-with_short (Search c y) l = self_short (length l)
-with_short (Seek c) l = self_short (length l)
-with_short Recal l = self_short (length l)
-with_short (Offset o) l = self_short (length l)
-with_short Centre l = self_short (length l)
-with_short Clear l = self_short (length l)
-with_short Pack l = self_short (length l)
-with_short (Transfer w b n) l = self_short (length l)
-with_short Arrive l = self_short (length l)
-with_short (Sector b v) l = self_short (length l)
-with_short Intr l = self_short (length l)
-with_short (Try b n) l = self_short (length l)
-with_short Attn l = self_short (length l)
 with_short (End a) l = end_short (is_refusal a) l
+with_short d l = self_short (length l)
 
 own_short : (b : Bool) (d : Deed) (l : List Deed) → length (if b then with_deed d l else l) ≤ suc (length l)
 own_short true d l = with_short d l

@@ -107,15 +107,7 @@ all_new (id ∷ ids) = (refl, all_new ids)
 
 moment_good : (drives : ℕ → Option DriveKind) (names : List ℕ) (line : ℕ) (input : Input) → IsGoodInput drives names input → IsGoodMoment drives names (Played line input) × (names_after names (Played line input) ≡ names_in names input)
 moment_good drives names line (Submit r) g = (g, refl)
-moment_good drives names line (ArriveAt u) g = (tt, refl)
-moment_good drives names line (MoveAt a) g = (tt, refl)
-moment_good drives names line (AttendTo a) g = (tt, refl)
-moment_good drives names line Drain g = (tt, refl)
-moment_good drives names line (Turn u y) g = (tt, refl)
-moment_good drives names line (Noise n) g = (tt, refl)
-moment_good drives names line (Arm u what n) g = (tt, refl)
-moment_good drives names line (SetOnline u b) g = (tt, refl)
-moment_good drives names line (SetLocked u b) g = (tt, refl)
+moment_good drives names line input g = (tt, refl)
 
 moments_good : (drives : ℕ → Option DriveKind) (names : List ℕ) (ms : List Moment) → AreGoodInputs drives names (played ms) → AreGood drives names ms
 unfolding AreGoodInputs

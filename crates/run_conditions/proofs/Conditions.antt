@@ -46,20 +46,8 @@ end_bits true event d r = refl
 end_bits false event d r = refl
 
 after_bits : (event place : ℕ) (t : Line) (d : Drive) (r : Request) → bits_of (drive_after event place t d r) ≡ bits_of d
-after_bits event place (deed.Search c s) d r = refl
-after_bits event place (deed.Seek c) d r = refl
-after_bits event place deed.Recal d r = refl
-after_bits event place (deed.Offset code) d r = refl
-after_bits event place deed.Centre d r = refl
-after_bits event place deed.Clear d r = refl
-after_bits event place deed.Pack d r = refl
-after_bits event place (deed.Transfer w b n) d r = refl
-after_bits event place deed.Arrive d r = refl
-after_bits event place (deed.Sector b v) d r = refl
-after_bits event place deed.Intr d r = refl
-after_bits event place (deed.Try b n) d r = refl
-after_bits event place deed.Attn d r = refl
 after_bits event place deed.End d r = end_bits (is_refused place d r) event d r
+after_bits event place t d r = refl
 
 asked_keeps : (o : Option ℕ) (line : ℕ) (r : Asked) (write : Bool) (k : Known) (u : ℕ) → bits_of (drive_at (asked_at o line r write k).drives u) ≡ bits_of (drive_at k.drives u)
 asked_keeps (Some place) line r write k u = refl

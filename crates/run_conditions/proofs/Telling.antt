@@ -60,11 +60,7 @@ record Goes (d : Deed) : Type 0 where
 
 verdict_hand : (v : Moved) (t : Trial) → (verdict_trial v t).hand ≡ t.hand
 verdict_hand verdict.Clean t = refl
-verdict_hand (verdict.Burst at pattern) t = refl
-verdict_hand verdict.Hard t = refl
-verdict_hand (verdict.Faulted kind) t = refl
-verdict_hand verdict.Marked t = refl
-verdict_hand verdict.Offline t = refl
+verdict_hand v t = refl
 
 sort : (d : Deed) → Goes d ⊎ ((a : Answer) × (d ≡ End a))
 sort (Search c y) =

@@ -42,13 +42,7 @@ told_line IdleLine s u d = let t : Replay = replay_told s u d (unit_after s u d)
 
 told_number : (wish : Wish) (s : Replay) (line u id : ℕ) (d : Deed) → ToldMay wish s line u id d → line ≡ s.event.line
 told_number (Refusal v i why) s line u id d may = may.number
-told_number NoLine s line u id d may = may.number
-told_number (DueLine v) s line u id d may = may.number
-told_number (Arrival v) s line u id d may = may.number
-told_number (SectorLine v) s line u id d may = may.number
-told_number (Interrupt v) s line u id d may = may.number
-told_number (Attention v) s line u id d may = may.number
-told_number IdleLine s line u id d may = may.number
+told_number wish s line u id d may = may.number
 
 -- WHAT COMES FIRST of the lines that are told is of no line before; and what is played is of one behind
 IsFrom : ℕ → List TraceLine → Type 0

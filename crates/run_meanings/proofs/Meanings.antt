@@ -33,19 +33,7 @@ meant_line text line = line_of (stands_for text line)
 -- THE DRIVES
 one_before : (text : List ℕ) (st : Stated) (k : Known) → views.declares st k ≡ hears.declares (statement_of (renamed (digits_at text) box_value st)) k
 one_before text (says.Unit u kind) k = refl
-one_before text (says.Read r) k = refl
-one_before text (says.Write r content) k = refl
-one_before text (says.Arrive u) k = refl
-one_before text (says.Turn u sector) k = refl
-one_before text (says.Move a) k = refl
-one_before text (says.Attend a) k = refl
-one_before text (says.Noise u block span n) k = refl
-one_before text (says.Fault u what times) k = refl
-one_before text (says.Offline u) k = refl
-one_before text (says.Online u) k = refl
-one_before text (says.Lock u) k = refl
-one_before text (says.Unlock u) k = refl
-one_before text says.Drain k = refl
+one_before text st k = refl
 
 all_before : (text : List ℕ) (lines : List Kept) (k : Known) → fold views.declared_line k lines ≡ fold hears.declared_by k (map line_of (map (stands_for text) lines))
 all_before text [] k = refl
@@ -59,17 +47,14 @@ one_played : (text t : List ℕ) (n : ℕ) (st : Stated) (plays : List Said) (in
 one_played text t n (says.Unit u kind) plays inputs e = e
 one_played text t n (says.Read r) plays inputs e = ap (λ l. seen.Played n (play.Ask r false) ∷ l) e
 one_played text t n (says.Write r content) plays inputs e = ap (λ l. seen.Played n (play.Ask r true) ∷ l) e
-one_played text t n (says.Arrive u) plays inputs e = ap (λ l. seen.Played n play.Other ∷ l) e
 one_played text t n (says.Turn u sector) plays inputs e = ap (λ l. seen.Played n (play.Change u change.Turn) ∷ l) e
-one_played text t n (says.Move a) plays inputs e = ap (λ l. seen.Played n play.Other ∷ l) e
-one_played text t n (says.Attend a) plays inputs e = ap (λ l. seen.Played n play.Other ∷ l) e
 one_played text t n (says.Noise u block span p) plays inputs e = ap (λ l. seen.Played n (play.Change u change.Noise) ∷ l) e
 one_played text t n (says.Fault u what times) plays inputs e = ap (λ l. seen.Played n (play.Change u change.Fault) ∷ l) e
 one_played text t n (says.Offline u) plays inputs e = ap (λ l. seen.Played n (play.Change u change.Offline) ∷ l) e
 one_played text t n (says.Online u) plays inputs e = ap (λ l. seen.Played n (play.Change u change.Online) ∷ l) e
 one_played text t n (says.Lock u) plays inputs e = ap (λ l. seen.Played n (play.Change u change.Lock) ∷ l) e
 one_played text t n (says.Unlock u) plays inputs e = ap (λ l. seen.Played n (play.Change u change.Unlock) ∷ l) e
-one_played text t n says.Drain plays inputs e = ap (λ l. seen.Played n play.Other ∷ l) e
+one_played text t n st plays inputs e = ap (λ l. seen.Played n play.Other ∷ l) e
 
 all_played : (text : List ℕ) (lines : List Kept) (last : List Said) (inputs : List Numbered) → map moment_of last ≡ map seen_input inputs
     → map moment_of (flat_map (line_played text) lines ++ last) ≡ map seen_input (inputs_before inputs (map line_of (map (stands_for text) lines)))

@@ -27,11 +27,7 @@ asked_done (Err why) frames joined event line u id write = refl
 
 whole_done : (v : Moved) (n : ℕ) → done_after v n ≡ cond (is_whole v) (plus n 1) n
 whole_done verdict.Clean n = refl
-whole_done (verdict.Burst at pattern) n = refl
-whole_done verdict.Hard n = refl
-whole_done verdict.Marked n = refl
-whole_done (verdict.Faulted fault) n = refl
-whole_done verdict.Offline n = refl
+whole_done v n = refl
 
 end_done : (refused : Bool) (event line : ℕ) (drive : Drive) (r : Request) → (request_end refused event line drive r).done ≡ r.done
 end_done true event line drive r = refl
