@@ -29,7 +29,7 @@ use Rattle.trace_lines.specs.declared.telling.Told.TheVariants as deed
 use Rattle.trace_replay.specs.Causes.{AskSome}
 use Rattle.trace_replay.specs.Events.{Wish, NoLine, DueLine, Arrival, SectorLine, Interrupt, Attention, Refusal, IdleLine}
 use Rattle.trace_replay.specs.History.{is_refusal, with_deed, lines_after, lines_behind, lines_of}
-use Rattle.trace_replay.specs.Moments.{Deed, Search, Seek, Recal, Offset, Centre, Clear, Pack, Transfer, Arrive, Sector, Intr, Try, Attn, End, Moment, Played, Told, Idle}
+use Rattle.trace_replay.specs.Moments.{Deed, End, Moment, Played, Told, Idle}
 use Rattle.trace_replay.specs.Packs.{surface_of}
 use Rattle.trace_replay.specs.Replay.{Replay, LineMay, ToldMay, Follows, after_moment, after_moments, next_wish, hand_of}
 use Rattle.trace_replay.specs.Runs.{IsLegalRun, start_of}
@@ -39,15 +39,15 @@ use Rattle.trace_replay.proofs.Following.{follow_on}
 use Rattle.trace_replay.proofs.Kept.{AllFit, moments_all, starts, end_kept}
 use Rattle.trace_replay.proofs.Asking.{run_asks}
 use Rattle.run_answers.specs.Answers.{IsDrawn, AreAnswersDrawn, AreFramesLent}
-use Rattle.run_answers.specs.Hears.{seen_of, known_of}
-use Rattle.run_answers.proofs.Declaring.{IsDeclared, script_declared}
-use Rattle.run_answers.proofs.Conditions.{conditions_of}
+use Rattle.run_conditions.specs.Hears.{seen_of, known_of}
+use Rattle.run_conditions.proofs.Declaring.{IsDeclared, script_declared}
+use Rattle.run_conditions.proofs.Conditions.{conditions_of}
 use Rattle.run_answers.proofs.Ended.{IsEnded, all_ended, finished_ended}
 use Rattle.run_answers.proofs.Running.{refused_is_so, Both, AreGood, WishTied, next_tied, turned_both, moment_both, moment_fits}
 use Rattle.run_answers.proofs.Starting.{run_good, names_behind, good_parts, some_parts, all_both, start_both}
-use Rattle.run_answers.proofs.Telling.{request_many}
-use Rattle.run_answers.proofs.Turning.{Core, moment_core}
-use Rattle.run_answers.proofs.Tying.{IsTied, Tied}
+use Rattle.run_conditions.proofs.Telling.{request_many}
+use Rattle.run_conditions.proofs.Turning.{Core, moment_core}
+use Rattle.run_conditions.proofs.Tying.{IsTied, Tied}
 
 -- THE HEAD, and what it has heard
 record FullHead (names : List ℕ) (l : List Request) (x : Drive) (u : ℕ) (lines : List Deed) (id : ℕ) : Type 0 where
@@ -97,17 +97,8 @@ end_is k line u id place a b found inside refused event ended word =
         ∙ ap (λ (x : Bool). request_end x k.event line (drive_at k.drives u) (request_at k.requests place)) refused
 
 word_is : (o : Outcome) (a : Answer) → outcome_word o ≡ answer_word a → IsWordOf o a
-word_is outcome.Open a e = e
-word_is outcome.Ok a e = e
-word_is outcome.Eof a e = e
-word_is outcome.Partition a e = e
-word_is outcome.Frames a e = e
-word_is outcome.Refused a e = e
-word_is outcome.Unforwarded a e = e
-word_is outcome.Offline a e = e
-word_is outcome.Fault a e = e
-word_is outcome.Locked a e = e
 word_is outcome.Stopped a e = tt
+word_is o a e = e
 
 answer_in : Deed → Answer
 answer_in (End a) = a
@@ -154,20 +145,8 @@ end_short true l = less_short (length l)
 end_short false l = none_short (length l)
 
 with_short : (d : Deed) (l : List Deed) → length (with_deed d l) ≤ suc (length l)
-with_short (Search c y) l = self_short (length l)
-with_short (Seek c) l = self_short (length l)
-with_short Recal l = self_short (length l)
-with_short (Offset o) l = self_short (length l)
-with_short Centre l = self_short (length l)
-with_short Clear l = self_short (length l)
-with_short Pack l = self_short (length l)
-with_short (Transfer w b n) l = self_short (length l)
-with_short Arrive l = self_short (length l)
-with_short (Sector b v) l = self_short (length l)
-with_short Intr l = self_short (length l)
-with_short (Try b n) l = self_short (length l)
-with_short Attn l = self_short (length l)
 with_short (End a) l = end_short (is_refusal a) l
+with_short d l = self_short (length l)
 
 own_short : (b : Bool) (d : Deed) (l : List Deed) → length (if b then with_deed d l else l) ≤ suc (length l)
 own_short true d l = with_short d l

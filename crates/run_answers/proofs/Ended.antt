@@ -20,16 +20,16 @@ use Rattle.trace_replay.specs.Events.{Wish, NoLine, DueLine, Arrival, SectorLine
 use Rattle.trace_replay.specs.History.{lines_after}
 use Rattle.trace_replay.specs.Moments.{Deed, Moment, Played, Told, Idle}
 use Rattle.trace_replay.specs.Replay.{Replay, LineMay, ToldMay, MayCome, Follows, after_moment, next_wish}
-use Rattle.trace_replay.specs.Script.{Input, Submit, ArriveAt, MoveAt, AttendTo, Drain, Turn, Noise, Arm, SetOnline, SetLocked}
+use Rattle.trace_replay.specs.Script.{Input, Submit, SetOnline, SetLocked}
 use Rattle.trace_replay.proofs.Kept.{AllFit}
 use Rattle.run_answers.specs.Answers.{IsDrawn}
-use Rattle.run_answers.specs.Hears.{seen_of, play_of, asked_of}
-use Rattle.run_answers.proofs.Asking.{append_grows, below_end}
+use Rattle.run_conditions.specs.Hears.{seen_of, play_of, asked_of}
+use Rattle.run_conditions.proofs.Asking.{append_grows, below_end}
 use Rattle.run_answers.proofs.Running.{Both, AreGood, names_after, AsksSomeAt, WishTied, next_tied, turned_both, moment_both, moment_fits}
 use Rattle.run_answers.proofs.Starting.{some_parts}
-use Rattle.run_answers.proofs.Telling.{HeadAt, head_at, set_grows}
-use Rattle.run_answers.proofs.Turning.{Rest, rest_of, ended_rest}
-use Rattle.run_answers.proofs.Tying.{Tied, Grows, Stays, moment_stays}
+use Rattle.run_conditions.proofs.Telling.{HeadAt, head_at, set_grows}
+use Rattle.run_conditions.proofs.Turning.{Rest, rest_of, ended_rest}
+use Rattle.run_conditions.proofs.Tying.{Tied, Grows, Stays, moment_stays}
 
 -- IT HAS ENDED, with its answer's word or stopped
 pub record IsEnded (names : List ℕ) (l : List Request) (id : ℕ) (a : Answer) (number : ℕ) : Type 0 where
@@ -94,17 +94,11 @@ asked_ended None line r write k other a number e =
 played_ended : (input : Input) (line : ℕ) (k : Known) (other : ℕ) (a : Answer) (number : ℕ) → IsEnded k.ids k.requests other a number
     → IsEnded (heard (seen.Played line (play_of input)) k).ids (heard (seen.Played line (play_of input)) k).requests other a number
 played_ended (Submit r) line k other a number e = asked_ended (place_of k.ids r.id) line r (is_some r.written) k other a number e
-played_ended (ArriveAt u) line k other a number e = e
-played_ended (MoveAt u) line k other a number e = e
-played_ended (AttendTo u) line k other a number e = e
-played_ended Drain line k other a number e = e
-played_ended (Turn u y) line k other a number e = e
-played_ended (Noise n) line k other a number e = e
-played_ended (Arm u what n) line k other a number e = e
 played_ended (SetOnline u true) line k other a number e = e
 played_ended (SetOnline u false) line k other a number e = e
 played_ended (SetLocked u true) line k other a number e = e
 played_ended (SetLocked u false) line k other a number e = e
+played_ended input line k other a number e = e
 
 turned_ended : (m : Seen) (k : Known) (other : ℕ) (a : Answer) (number : ℕ) → IsEnded k.ids k.requests other a number → IsEnded (at_moment k m).ids (at_moment k m).requests other a number
 turned_ended m k other a number e =

@@ -1,9 +1,3 @@
-pub mod Declaring
-pub mod Turning
-pub mod Conditions
-pub mod Tying
-pub mod Telling
-pub mod Asking
 pub mod Running
 pub mod Starting
 pub mod Ended

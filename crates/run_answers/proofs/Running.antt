@@ -30,15 +30,15 @@ use Rattle.trace_replay.specs.Conversation.{goes_on}
 use Rattle.trace_replay.specs.Causes.{AsksSome}
 use Rattle.trace_replay.specs.Events.{Act, Done, Refusing, Arriving, Trying, Serving, NothingToDo, Event, Wish, NoLine, DueLine, Arrival, SectorLine, Interrupt, Attention, Refusal, IdleLine, is_no_line, act_after, can_attend, act_of_attend, act_of_move, act_of_arrival, adapters_there, interrupt_taken, attention_taken, serving, first_ready, wish_in_serving, wish_in}
 use Rattle.trace_replay.specs.History.{with_deed, lines_after}
-use Rattle.trace_replay.specs.Moments.{Deed, Search, Seek, Recal, Offset, Centre, Clear, Pack, Transfer, Arrive, Sector, Intr, Try, Attn, End, Moment, Played, Told, Idle}
+use Rattle.trace_replay.specs.Moments.{Deed, Arrive, Sector, Intr, Attn, End, Moment, Played, Told, Idle}
 use Rattle.trace_replay.specs.Replay.{Replay, LineMay, ToldMay, MayCome, submission, submission_by, submitted, has_frames, act_submitted, conditions_after, act_of, event_of, act_drained, drained, replay_played, replay_told, unit_after, told_after, after_moment, next_wish, act_done}
 use Rattle.trace_replay.specs.Script.{Input, Submit, ArriveAt, MoveAt, AttendTo, Drain, Turn, Noise, Arm, SetOnline, SetLocked}
 use Rattle.trace_replay.proofs.Kept.{AllFit, played_kind, refused_is, told_all, played_all}
 use Rattle.trace_replay.proofs.Unchanged.{drained_keeps, either}
-use Rattle.run_answers.specs.Hears.{seen_of, play_of, asked_of}
-use Rattle.run_answers.proofs.Tying.{IsAsked, IsTied, Tied, IsToRefuse, ActTied, Grows, Stays, stays_tied, moment_stays, act_stays, all_apart, queue_stays}
-use Rattle.run_answers.proofs.Telling.{HeadAt, head_at, line_tied, line_ids, set_grows, request_many}
-use Rattle.run_answers.proofs.Asking.{taken_by}
+use Rattle.run_conditions.specs.Hears.{seen_of, play_of, asked_of}
+use Rattle.run_conditions.proofs.Tying.{IsAsked, IsTied, Tied, IsToRefuse, ActTied, Grows, Stays, stays_tied, moment_stays, act_stays, all_apart, queue_stays}
+use Rattle.run_conditions.proofs.Telling.{HeadAt, head_at, line_tied, line_ids, set_grows, request_many}
+use Rattle.run_conditions.proofs.Asking.{taken_by}
 
 -- WHAT IS KNOWN behind any moments
 pub record Both (drives : ℕ → Option DriveKind) (names : List ℕ) (s : Replay) (k : Known) (lines : ℕ → List Deed) : Type 0 where
@@ -91,36 +91,19 @@ same_act : (names : List ℕ) (l : List Request) (a b : Act) → a ≡ b → Act
 same_act names l a b e p = subst (ActTied names l) e p
 
 taken_interrupt : (names : List ℕ) (l : List Request) (a : Act) → ActTied names l a → ActTied names l (interrupt_taken a)
-taken_interrupt names l Done t = tt
 taken_interrupt names l (Refusing u i why) t = t
-taken_interrupt names l (Arriving u) t = tt
-taken_interrupt names l (Trying u) t = tt
-taken_interrupt names l (Serving x i ds) t = tt
-taken_interrupt names l NothingToDo t = tt
+taken_interrupt names l a t = tt
 
 taken_attention : (names : List ℕ) (l : List Request) (a : Act) → ActTied names l a → ActTied names l (attention_taken a)
-taken_attention names l Done t = tt
 taken_attention names l (Refusing u i why) t = t
-taken_attention names l (Arriving u) t = tt
-taken_attention names l (Trying u) t = tt
-taken_attention names l (Serving x i ds) t = tt
-taken_attention names l NothingToDo t = tt
+taken_attention names l a t = tt
 
 after_act : (names : List ℕ) (l : List Request) (d : Deed) (a : Act) → ActTied names l a → ActTied names l (act_after d a)
-after_act names l (Search c y) a t = t
-after_act names l (Seek c) a t = t
-after_act names l Recal a t = t
-after_act names l (Offset o) a t = t
-after_act names l Centre a t = t
-after_act names l Clear a t = t
-after_act names l Pack a t = t
-after_act names l (Transfer w b n) a t = t
 after_act names l Arrive a t = tt
 after_act names l (Sector b v) a t = tt
 after_act names l Intr a t = taken_interrupt names l a t
-after_act names l (Try b n) a t = t
 after_act names l Attn a t = taken_attention names l a t
-after_act names l (End answer) a t = t
+after_act names l d a t = t
 
 -- A LINE OF THE SCRIPT
 event_tied : (drives : ℕ → Option DriveKind) (s : Replay) (event : Event) (k : Known) (lines : ℕ → List Deed) → Tied drives s k lines → Tied drives (record s { event = event }) k lines
@@ -225,12 +208,8 @@ refuse_stays names l l' id why place g none t =
     }
 
 any_stays : (names : List ℕ) (l l' : List Request) (place : ℕ) (a : Act) → Grows names names l l' place → (request_at l place).why ≡ None → ActTied names l a → ActTied names l' a
-any_stays names l l' place Done g none t = tt
 any_stays names l l' place (Refusing u i why) g none t = refuse_stays names l l' i why place g none t
-any_stays names l l' place (Arriving u) g none t = tt
-any_stays names l l' place (Trying u) g none t = tt
-any_stays names l l' place (Serving x i ds) g none t = tt
-any_stays names l l' place NothingToDo g none t = tt
+any_stays names l l' place a g none t = tt
 
 line_act : (drives : ℕ → Option DriveKind) (s : Replay) (k : Known) (lines : ℕ → List Deed) (line u id : ℕ) (d : Deed) (a : Act) → LineMay s line u id d → Tied drives s k lines → ActTied k.ids k.requests a
     → ActTied (heard (seen.Told line u id (told_of d)) k).ids (heard (seen.Told line u id (told_of d)) k).requests a
@@ -318,12 +297,9 @@ serving_wish names l adapter a false [] = start_wish names l a.state.busy a.read
 serving_wish names l adapter a false (d ∷ ds) = tt
 
 act_wish : (names : List ℕ) (l : List Request) (adapters : ℕ → AdapterSeen) (a : Act) → ActTied names l a → WishTied names l (wish_in adapters a)
-act_wish names l adapters Done t = tt
 act_wish names l adapters (Refusing u i why) t = t
-act_wish names l adapters (Arriving u) t = tt
-act_wish names l adapters (Trying u) t = tt
 act_wish names l adapters (Serving x i ds) t = serving_wish names l x (adapters x) i ds
-act_wish names l adapters NothingToDo t = tt
+act_wish names l adapters a t = tt
 
 wanted_wish : (names : List ℕ) (l : List Request) (goes_on : Bool) (speaker : ℕ) (wish : Wish) → WishTied names l wish → WishTied names l (if goes_on then DueLine speaker else wish)
 wanted_wish names l true speaker wish t = tt

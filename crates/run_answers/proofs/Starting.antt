@@ -24,8 +24,8 @@ use Rattle.trace_replay.specs.Replay.{Replay, new_replay, after_moment, after_mo
 use Rattle.trace_replay.specs.Runs.{IsLegalRun}
 use Rattle.trace_replay.specs.Script.{Script, Input, Submit, ArriveAt, MoveAt, AttendTo, Drain, Turn, Noise, Arm, SetOnline, SetLocked, Statement, Declares, Plays, Line, Numbered, with_input, inputs_before, drives_of, IsThere, IsInput, IsStatement, with_id, ids_of, AreApart}
 use Rattle.trace_replay.proofs.Kept.{AllFit, performed_kind}
-use Rattle.run_answers.specs.Hears.{seen_of}
-use Rattle.run_answers.proofs.Declaring.{IsDeclared}
+use Rattle.run_conditions.specs.Hears.{seen_of}
+use Rattle.run_conditions.proofs.Declaring.{IsDeclared}
 use Rattle.run_answers.proofs.Running.{Both, IsGood, IsGoodMoment, AreGood, names_after, AsksSomeAt, moment_both, moment_fits}
 
 -- THE INPUTS of a script ask for new ids
@@ -107,15 +107,7 @@ all_new (id ∷ ids) = (refl, all_new ids)
 
 moment_good : (drives : ℕ → Option DriveKind) (names : List ℕ) (line : ℕ) (input : Input) → IsGoodInput drives names input → IsGoodMoment drives names (Played line input) × (names_after names (Played line input) ≡ names_in names input)
 moment_good drives names line (Submit r) g = (g, refl)
-moment_good drives names line (ArriveAt u) g = (tt, refl)
-moment_good drives names line (MoveAt a) g = (tt, refl)
-moment_good drives names line (AttendTo a) g = (tt, refl)
-moment_good drives names line Drain g = (tt, refl)
-moment_good drives names line (Turn u y) g = (tt, refl)
-moment_good drives names line (Noise n) g = (tt, refl)
-moment_good drives names line (Arm u what n) g = (tt, refl)
-moment_good drives names line (SetOnline u b) g = (tt, refl)
-moment_good drives names line (SetLocked u b) g = (tt, refl)
+moment_good drives names line input g = (tt, refl)
 
 moments_good : (drives : ℕ → Option DriveKind) (names : List ℕ) (ms : List Moment) → AreGoodInputs drives names (played ms) → AreGood drives names ms
 unfolding AreGoodInputs

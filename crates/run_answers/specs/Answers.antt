@@ -3,22 +3,16 @@ use Rattle.std.specs.Prelude.{◌≡◌, ℕ, ◌<◌, ◌^◌, List, ◌∷◌,
 use Rattle.pack_model.specs.Pack as model
 use Rattle.pack_model.specs.TableSpelling.{Table}
 use Rattle.run_counts.specs.Counted.{behind}
-use Rattle.run_outcomes.specs.Hearings.{IsInCondition}
 use Rattle.run_outcomes.specs.Outcomes.{IsWordOf}
 use Rattle.run_picture.specs.declared.columns.Window.{Window}
-use Rattle.run_picture.specs.Fold.{Known, drive_at, request_at, run_from}
+use Rattle.run_picture.specs.Fold.{Known, request_at, run_from}
 use Rattle.run_picture.specs.Places.{place_of}
 use Rattle.subsystem_spec.specs.Requests.{Answer}
 use Rattle.trace_replay.specs.Moments.{Moment, Told, End}
 use Rattle.trace_replay.specs.Replay.{after_moments}
 use Rattle.trace_replay.specs.Runs.{IsLegalRun, start_of}
-use Rattle.trace_replay.specs.Script.{Script, IsScript}
-use Rattle.run_answers.specs.Hears.{seen_of, known_of}
-
--- THE CONDITIONS: behind any moments a drive is offline or locked as the script said last of it.
-abbrev pub AreConditions : Type 0
-AreConditions = (script : Script) (window : Window) (ms : List Moment) (u : ℕ) → IsScript script → u < 32
-    → IsInCondition u ms (drive_at (behind (known_of script window) (map seen_of ms)).drives u)
+use Rattle.trace_replay.specs.Script.{Script}
+use Rattle.run_conditions.specs.Hears.{seen_of, known_of}
 
 -- what a picture has of a request that was answered: the answer's word, or `stopped`; and the line at which it was
 pub record IsDrawn (known : Known) (id : ℕ) (a : Answer) (number : ℕ) : Type 0 where

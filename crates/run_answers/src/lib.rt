@@ -1,21 +1,16 @@
 //! The answers of a legal run, as a picture draws them.
 //!
 //! What is proved: `answers_law`: behind a legal run each request that was answered, with fewer than 2^64 moments before its end, has
-//! its end's line, and as its outcome the word of its answer, or `stopped`. `conditions_law`: a drive is drawn offline or locked as
-//! the script said last of it. `frames_law`: the frames that a picture counts as lent are those of the run.
+//! its end's line, and as its outcome the word of its answer, or `stopped`. `frames_law`: the frames that a picture counts as lent
+//! are those of the run.
 #![tactic(auto)]
 
-ghost use Rattle.run_answers.specs.Answers.{AreConditions, AreAnswersDrawn, AreFramesLent};
+ghost use Rattle.run_answers.specs.Answers.{AreAnswersDrawn, AreFramesLent};
 
 /// The law of answers: behind a legal run a request has the line of its end, and its outcome is its answer's word, or `stopped`,
 /// whether it was refused as it was submitted or not.
 pub fn answers_law()
     ensures { AreAnswersDrawn }
-{}
-
-/// The law of conditions: behind any moments of a run a drive is offline or locked as the script said last of it.
-pub fn conditions_law()
-    ensures { AreConditions }
 {}
 
 /// The law of frames: behind any moments of a legal run as many are lent as its requests that are outstanding need.

@@ -76,20 +76,8 @@ end_keeps true event d r = refl
 end_keeps false event d r = refl
 
 after_keeps : (event place : ℕ) (t : Deed) (d : Drive) (r : Request) → (drive_after event place t d r).all ≡ d.all
-after_keeps event place (deed.Search c s) d r = refl
-after_keeps event place (deed.Seek c) d r = refl
-after_keeps event place deed.Recal d r = refl
-after_keeps event place (deed.Offset code) d r = refl
-after_keeps event place deed.Centre d r = refl
-after_keeps event place deed.Clear d r = refl
-after_keeps event place deed.Pack d r = refl
-after_keeps event place (deed.Transfer w b n) d r = refl
-after_keeps event place deed.Arrive d r = refl
-after_keeps event place (deed.Sector b v) d r = refl
-after_keeps event place deed.Intr d r = refl
-after_keeps event place (deed.Try b n) d r = refl
-after_keeps event place deed.Attn d r = refl
 after_keeps event place deed.End d r = end_keeps (is_refused place d r) event d r
+after_keeps event place t d r = refl
 
 asked_at_keeps : (o : Option ℕ) (line : ℕ) (r : Asked) (write : Bool) (k : Known) (u : ℕ) → (drive_at (asked_at o line r write k).drives u).all ≡ (drive_at k.drives u).all
 asked_at_keeps (Some place) line r write k u = refl

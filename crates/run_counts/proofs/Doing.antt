@@ -195,11 +195,7 @@ verdict_by false = refl
 
 verdict_positions : (v : Moved) (left : ℕ) → is_positioning (verdict_letter v left) ≡ false
 verdict_positions verdict.Clean left = verdict_by (nat_lt 0 left)
-verdict_positions (verdict.Burst at pattern) left = refl
-verdict_positions verdict.Hard left = refl
-verdict_positions verdict.Marked left = refl
-verdict_positions (verdict.Faulted kind) left = refl
-verdict_positions verdict.Offline left = refl
+verdict_positions v left = refl
 
 freed_positions : (b : Bool) → is_positioning (cond b letter.Ready letter.Idle) ≡ false
 freed_positions true = refl
@@ -211,32 +207,14 @@ end_positions false event d r = freed_positions (nat_lt 0 (d.queue.waiting - 1))
 
 asked_positions : (l : Letter) → is_positioning (asked_letter l) ≡ is_positioning l
 asked_positions letter.Idle = refl
-asked_positions letter.Seeks = refl
-asked_positions letter.Turns = refl
-asked_positions letter.Recalibrates = refl
-asked_positions letter.Offsets = refl
-asked_positions letter.Arrived = refl
-asked_positions letter.Ready = refl
-asked_positions letter.Moves = refl
-asked_positions letter.Retries = refl
-asked_positions letter.Replaces = refl
-asked_positions letter.Moved = refl
+asked_positions l = refl
 
 after_positions : (event place : ℕ) (d : Deed) (drive : Drive) (r : Request) → is_positioning (drive_after event place d drive r).letter ≡ under_way_by d (not (is_refused place drive r)) (is_positioning drive.letter)
 after_positions event place (deed.Search c s) drive r = going_positions (c == drive.arm.cylinder)
-after_positions event place (deed.Seek c) drive r = refl
-after_positions event place deed.Recal drive r = refl
-after_positions event place (deed.Offset code) drive r = refl
-after_positions event place deed.Centre drive r = refl
-after_positions event place deed.Clear drive r = refl
-after_positions event place deed.Pack drive r = refl
 after_positions event place (deed.Transfer w b n) drive r = moves_positions (nat_lt 0 drive.trial.marks) (nat_lt 0 drive.trial.fails)
-after_positions event place deed.Arrive drive r = refl
 after_positions event place (deed.Sector b v) drive r = verdict_positions v (verdict_trial v (in_hand place drive.trial)).left
-after_positions event place deed.Intr drive r = refl
-after_positions event place (deed.Try b n) drive r = refl
-after_positions event place deed.Attn drive r = refl
 after_positions event place deed.End drive r = end_positions (is_refused place drive r) event drive r
+after_positions event place d drive r = refl
 
 -- HOLDING
 going_holds : (b : Bool) → is_holding (cond b letter.Turns letter.Seeks) ≡ false
@@ -254,11 +232,7 @@ verdict_held false = refl
 
 verdict_holds : (v : Moved) (left : ℕ) → is_holding (verdict_letter v left) ≡ true
 verdict_holds verdict.Clean left = verdict_held (nat_lt 0 left)
-verdict_holds (verdict.Burst at pattern) left = refl
-verdict_holds verdict.Hard left = refl
-verdict_holds verdict.Marked left = refl
-verdict_holds (verdict.Faulted kind) left = refl
-verdict_holds verdict.Offline left = refl
+verdict_holds v left = refl
 
 freed_holds : (b : Bool) → is_holding (cond b letter.Ready letter.Idle) ≡ false
 freed_holds true = refl
@@ -270,32 +244,14 @@ end_holds false event d r = freed_holds (nat_lt 0 (d.queue.waiting - 1))
 
 asked_holds : (l : Letter) → is_holding (asked_letter l) ≡ is_holding l
 asked_holds letter.Idle = refl
-asked_holds letter.Seeks = refl
-asked_holds letter.Turns = refl
-asked_holds letter.Recalibrates = refl
-asked_holds letter.Offsets = refl
-asked_holds letter.Arrived = refl
-asked_holds letter.Ready = refl
-asked_holds letter.Moves = refl
-asked_holds letter.Retries = refl
-asked_holds letter.Replaces = refl
-asked_holds letter.Moved = refl
+asked_holds l = refl
 
 after_holds : (event place : ℕ) (d : Deed) (drive : Drive) (r : Request) → is_holding (drive_after event place d drive r).letter ≡ held_by d (not (is_refused place drive r)) (is_holding drive.letter)
 after_holds event place (deed.Search c s) drive r = going_holds (c == drive.arm.cylinder)
-after_holds event place (deed.Seek c) drive r = refl
-after_holds event place deed.Recal drive r = refl
-after_holds event place (deed.Offset code) drive r = refl
-after_holds event place deed.Centre drive r = refl
-after_holds event place deed.Clear drive r = refl
-after_holds event place deed.Pack drive r = refl
 after_holds event place (deed.Transfer w b n) drive r = moves_holds (nat_lt 0 drive.trial.marks) (nat_lt 0 drive.trial.fails)
-after_holds event place deed.Arrive drive r = refl
 after_holds event place (deed.Sector b v) drive r = verdict_holds v (verdict_trial v (in_hand place drive.trial)).left
-after_holds event place deed.Intr drive r = refl
-after_holds event place (deed.Try b n) drive r = refl
-after_holds event place deed.Attn drive r = refl
 after_holds event place deed.End drive r = end_holds (is_refused place drive r) event drive r
+after_holds event place d drive r = refl
 
 pub does : (known : Known) (u : ℕ) (moments : List Moment) → u < length known.drives → Does known u moments
 does known u moments inside = record {

@@ -124,20 +124,8 @@ end_served true event d r = refl
 end_served false event d r = refl
 
 after_served : (event place : ℕ) (d : Deed) (drive : Drive) (r : Request) → (drive_after event place d drive r).queue.served ≡ served_by d (not (is_refused place drive r)) drive.queue.served
-after_served event place (deed.Search c s) drive r = refl
-after_served event place (deed.Seek c) drive r = refl
-after_served event place deed.Recal drive r = refl
-after_served event place (deed.Offset code) drive r = refl
-after_served event place deed.Centre drive r = refl
-after_served event place deed.Clear drive r = refl
-after_served event place deed.Pack drive r = refl
-after_served event place (deed.Transfer w b n) drive r = refl
-after_served event place deed.Arrive drive r = refl
-after_served event place (deed.Sector b v) drive r = refl
-after_served event place deed.Intr drive r = refl
-after_served event place (deed.Try b n) drive r = refl
-after_served event place deed.Attn drive r = refl
 after_served event place deed.End drive r = end_served (is_refused place drive r) event drive r
+after_served event place d drive r = refl
 
 pub serves : (known : Known) (u : ℕ) (moments : List Moment) → u < length known.drives → Serves known u moments
 serves known u moments inside = record {
@@ -182,32 +170,17 @@ stopped_track kind stop arm = record { kind = kind; aim = at_stop stop (record {
 
 sector_track : (v : Moved) (kind : Option DriveKind) (block : ℕ) (arm : Arm) → arm_track kind (verdict_arm v kind block arm) ≡ stopped_track kind (sector_stop v kind block) arm
 sector_track verdict.Offline kind block arm = refl
-sector_track verdict.Clean None block arm = refl
 sector_track verdict.Clean (Some kind) block arm = refl
-sector_track (verdict.Burst at pattern) None block arm = refl
 sector_track (verdict.Burst at pattern) (Some kind) block arm = refl
-sector_track verdict.Hard None block arm = refl
 sector_track verdict.Hard (Some kind) block arm = refl
-sector_track verdict.Marked None block arm = refl
 sector_track verdict.Marked (Some kind) block arm = refl
-sector_track (verdict.Faulted fault) None block arm = refl
 sector_track (verdict.Faulted fault) (Some kind) block arm = refl
+sector_track v None block arm = refl
 
 after_track : (event place : ℕ) (d : Deed) (drive : Drive) (r : Request) → track_of (drive_after event place d drive r) ≡ tracked d (not (is_refused place drive r)) (track_of drive)
-after_track event place (deed.Search c s) drive r = refl
-after_track event place (deed.Seek c) drive r = refl
-after_track event place deed.Recal drive r = refl
-after_track event place (deed.Offset code) drive r = refl
-after_track event place deed.Centre drive r = refl
-after_track event place deed.Clear drive r = refl
-after_track event place deed.Pack drive r = refl
-after_track event place (deed.Transfer w b n) drive r = refl
-after_track event place deed.Arrive drive r = refl
 after_track event place (deed.Sector b v) drive r = sector_track v drive.kind b drive.arm
-after_track event place deed.Intr drive r = refl
-after_track event place (deed.Try b n) drive r = refl
-after_track event place deed.Attn drive r = refl
 after_track event place deed.End drive r = end_track (is_refused place drive r) event drive r
+after_track event place d drive r = refl
 
 -- THE SUM of the ways from stop to stop
 more : (travel way rest : ℕ) → min (plus travel way + rest) (2 ^ 64 - 1) ≡ min (travel + (way + rest)) (2 ^ 64 - 1)
@@ -235,19 +208,7 @@ stop_at (Some cylinder) aim aim' e = refl
 
 aimed_at : (d : Deed) (aim : Aim) → (aimed d aim).at ≡ aim.at
 aimed_at (deed.Search c s) aim = refl
-aimed_at (deed.Seek c) aim = refl
-aimed_at deed.Recal aim = refl
-aimed_at (deed.Offset code) aim = refl
-aimed_at deed.Centre aim = refl
-aimed_at deed.Clear aim = refl
-aimed_at deed.Pack aim = refl
-aimed_at (deed.Transfer w b n) aim = refl
-aimed_at deed.Arrive aim = refl
-aimed_at (deed.Sector b v) aim = refl
-aimed_at deed.Intr aim = refl
-aimed_at (deed.Try b n) aim = refl
-aimed_at deed.Attn aim = refl
-aimed_at deed.End aim = refl
+aimed_at d aim = refl
 
 abbrev total : ℕ → Track → List Moment → ℕ
 total u t ms = min (t.travel + way_over t.aim.at (stops_from t.kind u t.aim ms)) (2 ^ 64 - 1)

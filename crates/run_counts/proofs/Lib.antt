@@ -3,3 +3,4 @@ pub mod Doing
 pub mod Following
 pub mod OnAdapters
 pub mod Turns
+pub mod OnColumns

@@ -3,3 +3,4 @@ pub mod Counted
 pub mod Doings
 pub mod Ends
 pub mod Travels
+pub mod Shown

@@ -1,10 +1,10 @@
 //! The laws of what is counted over a whole run.
 //!
 //! What is proved: `counts_law`: what a run's picture counts and times is what the ends of its events give. `adapters_law`: the most
-//! that the columns show for an adapter is that of its own drives, behind one event that is shown. `doings_law`: a drive's
-//! letter says just whether, by its own lines, a positioning is under way, and whether it holds its adapter. `travel_law`: the
-//! cylinders moved over are those between the stops of the arm. `served_law`: the number by which requests are served counts the
-//! ends that answered one.
+//! that the columns show for an adapter is that of its own drives, behind one event that is shown. `columns_law`: the columns have
+//! as many events as are shown. `doings_law`: a drive's letter says just whether, by its own lines, a positioning is under way,
+//! and whether it holds its adapter. `travel_law`: the cylinders moved over are those between the stops of the arm. `served_law`:
+//! the number by which requests are served counts the ends that answered one.
 #![tactic(auto)]
 
 ghost use Rattle.drive_pictures.specs.declared.moments.Moment.{Moment};
@@ -13,6 +13,7 @@ ghost use Rattle.run_picture.specs.Fold.{Known, drive_at};
 ghost use Rattle.run_counts.specs.Adapters.{IsMostOn};
 ghost use Rattle.run_counts.specs.Counted.{IsBefore, Counts};
 ghost use Rattle.run_counts.specs.Doings.{Does};
+ghost use Rattle.run_counts.specs.Shown.{AreShown};
 ghost use Rattle.run_counts.specs.Travels.{Serves, Travels};
 
 /// The law of counts: behind the last moment of a run, what was counted and timed is what the ends of its events give.
@@ -24,6 +25,11 @@ pub fn counts_law()
 /// behind one event that is shown.
 pub fn adapters_law()
     ensures { (known : Known) (adapter : ℕ) (moments : List Moment) → known.before ≡ None → adapter < 4 → IsMostOn known adapter moments }
+{}
+
+/// The law of columns: the columns of a run have as many events as are shown of it.
+pub fn columns_law()
+    ensures { (known : Known) (moments : List Moment) → known.before ≡ None → AreShown known moments }
 {}
 
 /// The law of doings: behind any moments of a run a drive's letter says just whether, by its own lines, a positioning is under

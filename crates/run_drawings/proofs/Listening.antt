@@ -52,20 +52,10 @@ all_told place start [] = refl
 all_told place start (d ∷ lines) = ap (tell place (told_of d)) (all_told place start lines)
 
 pub told_same : (place : ℕ) (t : Line) (d : Drive) (r : Request) (h : Hearing) → Same d r h → Same (drives.tells place t d) (requests.tells place d t r) (tell place t h)
-told_same place (deed.Search c y) d r h s = record { trial = ap (in_hand place) s.trial; done = s.done; verdict = s.verdict; write = s.write }
-told_same place (deed.Seek c) d r h s = record { trial = ap (in_hand place) s.trial; done = s.done; verdict = s.verdict; write = s.write }
-told_same place deed.Recal d r h s = record { trial = ap (in_hand place) s.trial; done = s.done; verdict = s.verdict; write = s.write }
-told_same place (deed.Offset o) d r h s = record { trial = ap (in_hand place) s.trial; done = s.done; verdict = s.verdict; write = s.write }
-told_same place deed.Centre d r h s = record { trial = ap (in_hand place) s.trial; done = s.done; verdict = s.verdict; write = s.write }
-told_same place deed.Clear d r h s = record { trial = ap (in_hand place) s.trial; done = s.done; verdict = s.verdict; write = s.write }
-told_same place deed.Pack d r h s = record { trial = ap (in_hand place) s.trial; done = s.done; verdict = s.verdict; write = s.write }
 told_same place (deed.Transfer w b n) d r h s = record { trial = ap (λ (t : Trial). wanted n (in_hand place t)) s.trial; done = s.done; verdict = s.verdict; write = refl }
-told_same place deed.Arrive d r h s = record { trial = ap (in_hand place) s.trial; done = s.done; verdict = s.verdict; write = s.write }
 told_same place (deed.Sector k x) d r h s = record { trial = ap (λ (t : Trial). verdict_trial x (in_hand place t)) s.trial; done = ap (done_after x) s.done; verdict = refl; write = s.write }
-told_same place deed.Intr d r h s = record { trial = ap (in_hand place) s.trial; done = s.done; verdict = s.verdict; write = s.write }
 told_same place (deed.Try b n) d r h s = record { trial = ap (λ (t : Trial). record (in_hand place t) { fails = n }) s.trial; done = s.done; verdict = s.verdict; write = s.write }
-told_same place deed.Attn d r h s = record { trial = ap (in_hand place) s.trial; done = s.done; verdict = s.verdict; write = s.write }
-told_same place deed.End d r h s = record { trial = ap (in_hand place) s.trial; done = s.done; verdict = s.verdict; write = s.write }
+told_same place t d r h s = record { trial = ap (in_hand place) s.trial; done = s.done; verdict = s.verdict; write = s.write }
 
 -- A PLACE stays, and is of one id
 found_step : (b : Bool) (n place : ℕ) (rest more : Option ℕ) → (rest ≡ Some place → more ≡ Some place) → cond b (Some n) rest ≡ Some place → cond b (Some n) more ≡ Some place

@@ -256,40 +256,16 @@ end_tail true event d r = refl
 end_tail false event d r = refl
 
 after_tail : (event place : ℕ) (t : Deed) (d : Drive) (r : Request) → tail_of (drive_after event place t d r) ≡ tail_of d
-after_tail event place (deed.Search c s) d r = refl
-after_tail event place (deed.Seek c) d r = refl
-after_tail event place deed.Recal d r = refl
-after_tail event place (deed.Offset code) d r = refl
-after_tail event place deed.Centre d r = refl
-after_tail event place deed.Clear d r = refl
-after_tail event place deed.Pack d r = refl
-after_tail event place (deed.Transfer w b n) d r = refl
-after_tail event place deed.Arrive d r = refl
-after_tail event place (deed.Sector b v) d r = refl
-after_tail event place deed.Intr d r = refl
-after_tail event place (deed.Try b n) d r = refl
-after_tail event place deed.Attn d r = refl
 after_tail event place deed.End d r = end_tail (is_refused place d r) event d r
+after_tail event place t d r = refl
 
 end_asking : (refused : Bool) (event line : ℕ) (d : Drive) (r : Request) → asking_of (request_end refused event line d r) ≡ asking_of r
 end_asking true event line d r = refl
 end_asking false event line d r = refl
 
 after_asking : (event line place : ℕ) (t : Deed) (d : Drive) (r : Request) → asking_of (request_after event line place t d r) ≡ asking_of r
-after_asking event line place (deed.Search c s) d r = refl
-after_asking event line place (deed.Seek c) d r = refl
-after_asking event line place deed.Recal d r = refl
-after_asking event line place (deed.Offset code) d r = refl
-after_asking event line place deed.Centre d r = refl
-after_asking event line place deed.Clear d r = refl
-after_asking event line place deed.Pack d r = refl
-after_asking event line place (deed.Transfer w b n) d r = refl
-after_asking event line place deed.Arrive d r = refl
-after_asking event line place (deed.Sector b v) d r = refl
-after_asking event line place deed.Intr d r = refl
-after_asking event line place (deed.Try b n) d r = refl
-after_asking event line place deed.Attn d r = refl
 after_asking event line place deed.End d r = end_asking (is_refused place d r) event line d r
+after_asking event line place t d r = refl
 
 set_askings : (rs : List Request) (place : ℕ) (r : Request) → asking_of r ≡ asking_of (request_at rs place) → map asking_of (set rs place r) ≡ map asking_of rs
 set_askings [] place r e = refl

@@ -118,8 +118,8 @@ fn without_cr(line: &[u8]) -> &[u8]
     &line[..line.len() - 1]
 }
 
-/// The first line of a text, without CR; empty where there is none.
-fn first_text(text: &[u8]) -> &[u8]
+/// The first line of a text, without CR at its end; empty where there is none.
+pub fn first_text(text: &[u8]) -> &[u8]
     ensures { result.now ≡ slice_index_or (lines_of text.now) 0 [] }
 {
     if text.is_empty() {

@@ -1,5 +1,5 @@
 -- The outcome that is drawn of a request's lines is the word of its answer.
-use Rattle.std.proofs.Common.{◌≡◌, ◌⊎◌, inl, inr, ℕ, ◌≤◌, ◌==◌, ◌&&◌, ◌||◌, Bool, true, false, not, cond, List, [], ◌∷◌, Some, refl, sym, ap, ◌∙◌, subst, arith}
+use Rattle.std.proofs.Common.{◌≡◌, ◌⊎◌, inl, inr, ℕ, ◌≤◌, ◌==◌, ◌&&◌, ◌||◌, Bool, true, false, not, cond, List, ◌∷◌, Some, refl, sym, ap, ◌∙◌, subst, arith}
 use Rattle.std.specs.Prelude.{if◌then◌else◌, nat_lt, is_some}
 use Rattle.std.proofs.lemmas.Option.{same_Some, none-some}
 use Rattle.std.proofs.lemmas.Bool.Decides.{nat_tests}
@@ -13,7 +13,7 @@ use Rattle.hardware_table.specs.declared.Moved.TheVariants as verdict
 use Rattle.hardware_table.specs.Drive.{DriveState}
 use Rattle.subsystem_spec.specs.Requests.{Answer, ReadOk, WriteOk, OutsidePartition, EndOfPartition, NoFrames, Failed, Cause, Offline, Locked, Unforwarded, Fault}
 use Rattle.trace_replay.specs.Moments.{Deed, Centre, Clear, Try, End}
-use Rattle.trace_replay.specs.Conversation.{Hand, Segment, Stage, Waiting, Steps, UnderWay, AtOnce, Moving, Saying, Ending, due}
+use Rattle.trace_replay.specs.Conversation.{Hand, Segment, Stage, Steps, AtOnce, Saying, Ending, due}
 use Rattle.trace_replay.specs.Replay.{UnitSeen, hand_of}
 use Rattle.trace_replay.specs.History.{is_refusal, done_in, Tried, Untried, TriedAt, last_tried, last_try, marks_in}
 use Rattle.trace_replay.specs.Causes.{IsCutOff, WasTriedOffline, IsOk, IsExplained}
@@ -94,15 +94,12 @@ said_no_end line rest a = absurd a
 pub stands_at : (d : DriveState) (h : Hand) (stage : Stage) (lines : List Deed) (a : Answer) → Fits h stage lines → Wants h.request h.progress.done stage lines
     → due d h stage ≡ Some (End a) → Stands h lines a
 unfolding end_answer is_end
-stands_at d h Waiting lines a f w is = absurd (none-some (End a) is)
 stands_at d h (Steps left segment) lines a f w is = open_stands h segment lines a f w
-stands_at d h (UnderWay left segment) lines a f w is = absurd (none-some (End a) is)
 stands_at d h (AtOnce segment) lines a f w is = open_stands h segment lines a f w
-stands_at d h (Moving segment left last) lines a f w is = absurd (none-some (End a) is)
-stands_at d h (Saying [] next) lines a f w is = absurd (none-some (End a) is)
 stands_at d h (Saying (line ∷ rest) next) lines a f w is = absurd (no (sym (said_no_end line rest f.0) ∙ ap is_end (same_Some line (End a) is)))
 stands_at d h (Ending other) lines a f w is =
     record { waits = inr w; marked = subst (λ z. sort_of (last_tried lines) ≡ 2 → (marks_in lines ≡ 1) ⊎ ((done : ℕ) × (z ≡ Failed Unforwarded done))) (ap end_answer (same_Some (End other) (End a) is)) (end_marked h lines other f) }
+stands_at d h stage lines a f w is = absurd (none-some (End a) is)
 
 -- WHAT IS KNOWN of a request and its drive as the end comes
 pub record Ends (u : UnitSeen) (lines : List Deed) (a : Answer) (d : Drive) (r : Request) : Type 0 where
@@ -123,10 +120,7 @@ pub record Ends (u : UnitSeen) (lines : List Deed) (a : Answer) (d : Drive) (r :
 ok_word : (a : Answer) → IsOk a → IsWordOf outcome.Ok a
 ok_word (ReadOk bytes) ok = refl
 ok_word WriteOk ok = refl
-ok_word OutsidePartition ok = absurd ok
-ok_word EndOfPartition ok = absurd ok
-ok_word NoFrames ok = absurd ok
-ok_word (Failed cause done) ok = absurd ok
+ok_word a ok = absurd ok
 
 only_cause : (a : Answer) (c : Cause) → is_refusal a ≡ false → (IsOk a → ⊥) → ((cause : Cause) (done : ℕ) → a ≡ Failed cause done → cause ≡ c) → answer_word a ≡ cause_word c
 only_cause (ReadOk bytes) c kept never is = absurd (never tt)

@@ -4,7 +4,7 @@ use Rattle.drive_pictures.specs.declared.trials.Trial.{Trial}
 use Rattle.subsystem_spec.specs.Requests.{Answer}
 use Rattle.trace_replay.specs.Moments.{Deed, Told, End}
 use Rattle.trace_replay.specs.Conditions.{online_behind, locked_behind}
-use Rattle.trace_replay.specs.Events.{NoLine, DueLine, Arrival, SectorLine, Interrupt, Attention, Refusal, IdleLine, Wish}
+use Rattle.trace_replay.specs.Events.{Refusal, Wish}
 use Rattle.trace_replay.specs.History.{is_refusal, lines_of}
 use Rattle.trace_replay.specs.Packs.{surface_of}
 use Rattle.trace_replay.specs.Replay.{Replay, next_wish, hand_of, ToldMay, LineMay, Follows, after_moments}
@@ -29,13 +29,7 @@ answer_in deed other = other
 line_comes : (wish : Wish) (s : Replay) (line u id : ℕ) (a : Answer) → is_refusal a ≡ false → ToldMay wish s line u id (End a) → LineMay s line u id (End a)
 unfolding answer_in
 line_comes (Refusal v i why) s line u id a kept may = absurd (no (sym kept ∙ ap is_refusal (ap (λ d. answer_in d a) may.answered) ∙ refused_is why))
-line_comes NoLine s line u id a kept may = may
-line_comes (DueLine v) s line u id a kept may = may
-line_comes (Arrival v) s line u id a kept may = may
-line_comes (SectorLine v) s line u id a kept may = may
-line_comes (Interrupt v) s line u id a kept may = may
-line_comes (Attention v) s line u id a kept may = may
-line_comes IdleLine s line u id a kept may = may
+line_comes wish s line u id a kept may = may
 
 wrote : (o : Option Bool) (start : Bool) (w : Bool) → o ≡ Some w → wrote_or o start ≡ w
 wrote o start w e = ap (λ x. wrote_or x start) e

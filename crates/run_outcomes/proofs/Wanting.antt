@@ -10,7 +10,7 @@ use Rattle.pack_model.specs.TableSpelling.{Table}
 use Rattle.subsystem_spec.specs.ServiceOrder.{Waiting as Waiter, put, Service, after_leave}
 use Rattle.subsystem_spec.proofs.ServiceOrderRuns.{newcomer, after_join-waiting}
 use Rattle.subsystem_spec.specs.Requests.{Request, Rejection, rejection_answer}
-use Rattle.trace_replay.specs.Script.{Input, Submit, ArriveAt, MoveAt, AttendTo, Drain, Turn, Noise, Arm, SetOnline, SetLocked}
+use Rattle.trace_replay.specs.Script.{Input, Submit}
 use Rattle.trace_replay.specs.Moments.{Deed, Search, Seek, Recal, Offset, Centre, Clear, Pack, Transfer, Arrive, Sector, Intr, Try, Attn, End, Moment, Played, Told, Idle}
 use Rattle.trace_replay.specs.Drives.{drive_after}
 use Rattle.trace_replay.specs.Packs.{Surface}
@@ -140,31 +140,17 @@ due_wants d d' h next (Ending answer) deed lines some is f w = subst (AfterWants
 arrive_wants : (r : Request) (done : ℕ) (stage : Stage) (lines : List Deed) → is_under_way stage ≡ true → Wants r done stage lines → Wants r done stage (Arrive ∷ lines)
 arrive_wants r done (UnderWay left segment) lines is w = waits_more Arrive r done segment lines (record { want = refl; wrote = refl }) refl w
 arrive_wants r done Waiting lines is w = tt
-arrive_wants r done (Steps left segment) lines is w = absurd (no is)
-arrive_wants r done (AtOnce segment) lines is w = absurd (no is)
-arrive_wants r done (Moving segment left last) lines is w = absurd (no is)
-arrive_wants r done (Saying rest next) lines is w = absurd (no is)
-arrive_wants r done (Ending answer) lines is w = absurd (no is)
+arrive_wants r done stage lines is w = absurd (no is)
 
 attn_wants : (r : Request) (done : ℕ) (d : DriveState) (h : Hand) (next : Option Request) (stage : Stage) (lines : List Deed) → is_under_way stage ≡ true → Wants r done stage lines
     → Wants r done (stage_after stage Attn d h next) (Attn ∷ lines)
 attn_wants r done d h next (UnderWay left segment) lines is w = waits_more Attn r done segment lines (record { want = refl; wrote = refl }) refl w
-attn_wants r done d h next Waiting lines is w = absurd (no is)
-attn_wants r done d h next (Steps left segment) lines is w = absurd (no is)
-attn_wants r done d h next (AtOnce segment) lines is w = absurd (no is)
-attn_wants r done d h next (Moving segment left last) lines is w = absurd (no is)
-attn_wants r done d h next (Saying rest then_stage) lines is w = absurd (no is)
-attn_wants r done d h next (Ending answer) lines is w = absurd (no is)
+attn_wants r done d h next stage lines is w = absurd (no is)
 
 sector_wants : (r : Request) (done done' : ℕ) (h : Hand) (stage : Stage) (block : ℕ) (v : Moved) (d : DriveState) (h' : Hand) (next : Option Request) (lines : List Deed)
     → sector_may h stage block ≡ true → Wants r done stage lines → Wants r done' (stage_after stage (Sector block v) d h' next) (Sector block v ∷ lines)
 sector_wants r done done' h (Moving segment left last) block v d h' next lines is w = began_more (Sector block v) r lines (record { want = refl; wrote = refl }) w
-sector_wants r done done' h Waiting block v d h' next lines is w = absurd (no is)
-sector_wants r done done' h (Steps left segment) block v d h' next lines is w = absurd (no is)
-sector_wants r done done' h (UnderWay left segment) block v d h' next lines is w = absurd (no is)
-sector_wants r done done' h (AtOnce segment) block v d h' next lines is w = absurd (no is)
-sector_wants r done done' h (Saying rest then_stage) block v d h' next lines is w = absurd (no is)
-sector_wants r done done' h (Ending answer) block v d h' next lines is w = absurd (no is)
+sector_wants r done done' h stage block v d h' next lines is w = absurd (no is)
 
 intr_wants : (r : Request) (done done' : ℕ) (d : DriveState) (h' : Hand) (next : Option Request) (stage : Stage) (lines : List Deed) → intr_may stage ≡ true → Wants r done stage lines
     → Wants r done' (stage_after stage Intr d h' next) (Intr ∷ lines)
@@ -288,15 +274,7 @@ submitted_want s r Joined lines all want = λ x. elim (eqb_tells x r.unit) [
 
 played_want : (s : Replay) (input : Input) (lines : ℕ → List Deed) → AllFit s lines → AllWant s lines → AllWant (replay_played s input) lines
 played_want s (Submit r) lines all want = submitted_want s r (submission s r) lines all want
-played_want s (Turn u y) lines all want = want
-played_want s (Noise n) lines all want = want
-played_want s (Arm u k n) lines all want = want
-played_want s (SetOnline u b) lines all want = want
-played_want s (SetLocked u b) lines all want = want
-played_want s (ArriveAt u) lines all want = want
-played_want s (MoveAt a) lines all want = want
-played_want s (AttendTo a) lines all want = want
-played_want s Drain lines all want = want
+played_want s input lines all want = want
 
 pub moments_want : (s : Replay) (ms : List Moment) (lines : ℕ → List Deed) → AskSome ms → Follows s ms → AllFit s lines → AllWant s lines
     → AllWant (after_moments s ms) (λ x. lines_behind x (lines x) ms)

@@ -1,5 +1,5 @@
 -- The text of what is played of a line.
-use Rattle.std.proofs.Common.{◌≡◌, ℕ, ◌+◌, ◌<◌, ◌==◌, Bool, true, false, cond, List, [], ◌∷◌, length, drop, get_or, ap, ◌∙◌}
+use Rattle.std.proofs.Common.{◌≡◌, ℕ, ◌+◌, ◌<◌, ◌==◌, Bool, true, false, cond, List, ◌∷◌, length, drop, get_or, ap, ◌∙◌}
 use Rattle.drive_pictures.specs.Events.{line_of}
 use Rattle.run_lines.specs.Saids.{Said}
 use Rattle.run_lines.proofs.SeeLaws.{front}

@@ -1,5 +1,5 @@
 -- What was counted, watched and noted makes a view.
-use Rattle.std.proofs.Common.{◌≡◌, ℕ, List, [], ◌∷◌, ◌++◌, map, fold, refl, sym, ap, ◌∙◌, subst}
+use Rattle.std.proofs.Common.{◌≡◌, ℕ, List, ◌++◌, map, fold, ap, ◌∙◌}
 use Rattle.script_reader.specs.Stored.{Stored}
 use Rattle.trace_reader.specs.declared.line.TraceLine.{TraceLine}
 use Rattle.trace_reader.specs.Grammar.{Spells}
@@ -7,14 +7,13 @@ use Rattle.run_lines.specs.Plays.{plays_of}
 use Rattle.run_lines.specs.Runs.{run_of}
 use Rattle.run_lines.specs.Runs as runs
 use Rattle.run_lines.specs.Saids.{Said}
-use Rattle.run_picture.specs.declared.columns.Window.{Window}
 use Rattle.run_picture.specs.Columns.{window_of}
-use Rattle.run_picture.specs.Fold.{Known, step, finished, events_in}
+use Rattle.run_picture.specs.Fold.{step, finished, events_in}
 use Rattle.run_view.specs.declared.counter.Counter.{Counter}
 use Rattle.run_view.specs.declared.view.View.{View}
 use Rattle.run_view.specs.Events.{new_counter, counted}
 use Rattle.run_view.specs.Notes.{noted_of, notes_from}
-use Rattle.run_view.specs.Views.{declared_line, known_before, played_text, Views}
+use Rattle.run_view.specs.Views.{known_before, played_text, Views}
 use Rattle.run_view.specs.Watched.{Watched, new_watched, saw}
 use Rattle.run_view.proofs.WatchLaws.{known_all, notes_all}
 

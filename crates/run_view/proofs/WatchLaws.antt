@@ -1,11 +1,9 @@
 -- A run as it is watched, and what is counted and noted of it.
-use Rattle.std.proofs.Common.{◌≡◌, ℕ, List, [], ◌∷◌, ◌++◌, map, fold, Option, refl, sym, ap, ◌∙◌, append_assoc, append-nil}
-use Rattle.drive_pictures.specs.declared.moments.Moment.{Moment}
+use Rattle.std.proofs.Common.{◌≡◌, List, [], ◌∷◌, ◌++◌, map, fold, refl, sym, ◌∙◌, append_assoc, append-nil}
 use Rattle.run_lines.specs.Saids.{Said}
-use Rattle.run_picture.specs.declared.columns.Window.{Window}
 use Rattle.run_picture.specs.Fold.{step}
 use Rattle.run_view.specs.Events.{counted}
-use Rattle.run_view.specs.Notes.{Noted, note_at, notes_from}
+use Rattle.run_view.specs.Notes.{note_at, notes_from}
 use Rattle.run_view.specs.Watched.{Watched, saw}
 
 -- WHAT IS KNOWN of a run that is watched is what the fold makes of its moments

@@ -2,3 +2,4 @@ pub mod Events
 pub mod Notes
 pub mod Watched
 pub mod Views
+pub mod Captions

@@ -1,28 +1,43 @@
-use trace_reader::first_line;
+ghost use Rattle.std.specs.Prelude.{◌≡◌};
+ghost use Rattle.run_view.specs.Captions.{without_front, without_back, caption_in, caption_of};
 
-/// A text without the blanks around it.
-fn without_blanks(text: &[u8]) -> &[u8] {
-    let mut from = 0;
-    'front: while from < text.len() && text[from] == b' ' {
-        from += 1;
+use run_lines::first_text;
+
+/// A text without the blanks before it.
+fn without_front(text: &[u8]) -> &[u8]
+    ensures { result.now ≡ without_front text.now }
+{
+    let mut rest = text;
+    'blanks: while !rest.is_empty() && rest[0] == b' ' {
+        rest = &rest[1..];
     }
-    let mut to = text.len();
-    'back: while to > from && text[to - 1] == b' ' {
-        to -= 1;
+    rest
+}
+
+/// A text without the blanks behind it.
+fn without_back(text: &[u8]) -> &[u8]
+    ensures { result.now ≡ without_back text.now }
+{
+    let mut rest = text;
+    'blanks: while !rest.is_empty() && rest[rest.len() - 1] == b' ' {
+        rest = &rest[..rest.len() - 1];
     }
-    &text[from..to]
+    rest
+}
+
+/// What stands behind `#` on a line, without the blanks around it; empty where the line is none such.
+fn caption_in(line: &[u8]) -> &[u8]
+    ensures { result.now ≡ caption_in line.now }
+{
+    if line.is_empty() || line[0] != b'#' {
+        return &[];
+    }
+    without_back(without_front(&line[1..]))
 }
 
 /// What stands behind `#` on the first line of a script, without the blanks around it; empty where that line is none such.
-pub fn caption_of(script: &[u8]) -> &[u8] {
-    if script.is_empty() || script[0] != b'#' {
-        return &[];
-    }
-    let (line, _) = first_line(script);
-    let line = if line.is_empty() || line[line.len() - 1] != b'\r' {
-        line
-    } else {
-        &line[..line.len() - 1]
-    };
-    without_blanks(&line[1..])
+pub fn caption_of(script: &[u8]) -> &[u8]
+    ensures { result.now ≡ caption_of script.now }
+{
+    caption_in(first_text(script))
 }

@@ -1,4 +1,4 @@
-use Rattle.std.proofs.Common.{◌≡◌, List, map, fold, ap, ◌∙◌, subst}
+use Rattle.std.proofs.Common.{List, map, fold, ap, ◌∙◌, subst}
 use Rattle.run_lines.specs.declared.seen.Seen.{Seen}
 use Rattle.run_lines.specs.Runs as runs
 use Rattle.run_lines.specs.Saids.{said_of}

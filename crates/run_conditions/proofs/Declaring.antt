@@ -13,7 +13,7 @@ use Rattle.run_picture.specs.declared.columns.Window.{Window}
 use Rattle.run_picture.specs.Fold.{Known, new_known, declared, drive_at}
 use Rattle.trace_replay.specs.Script.{Script, IsScript, Line, Statement, Declares, Plays, drives_in, drives_of, AreUnitsFirst, IsFirst}
 use Rattle.trace_replay.specs.Script as script
-use Rattle.run_answers.specs.Hears.{declares, declared_by, known_of}
+use Rattle.run_conditions.specs.Hears.{declares, declared_by, known_of}
 
 -- no line of a request was told yet
 pub record IsIdle (trial : Trial) : Type 0 where

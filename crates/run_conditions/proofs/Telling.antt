@@ -33,8 +33,8 @@ use Rattle.trace_replay.specs.Replay.{Replay, LineMay, replay_told, unit_after, 
 use Rattle.trace_replay.specs.Service.{service_after, first_waiting, ids, frames_needed, request_or_none, target_of}
 use Rattle.trace_replay.specs.Service as service
 use Rattle.trace_replay.proofs.Kept.{AllFit, after_kind, end_kept}
-use Rattle.run_answers.proofs.Declaring.{IsIdle}
-use Rattle.run_answers.proofs.Tying.{IsAsked, IsQueue, IsTied, Tied, Grows, all_stay, all_apart, own_apart, queue_stays, next_in_hand}
+use Rattle.run_conditions.proofs.Declaring.{IsIdle}
+use Rattle.run_conditions.proofs.Tying.{IsAsked, IsQueue, IsTied, Tied, Grows, all_stay, all_apart, own_apart, queue_stays, next_in_hand}
 
 -- what is written of a request
 record Paper : Type 0 where
@@ -60,11 +60,7 @@ record Goes (d : Deed) : Type 0 where
 
 verdict_hand : (v : Moved) (t : Trial) → (verdict_trial v t).hand ≡ t.hand
 verdict_hand verdict.Clean t = refl
-verdict_hand (verdict.Burst at pattern) t = refl
-verdict_hand verdict.Hard t = refl
-verdict_hand (verdict.Faulted kind) t = refl
-verdict_hand verdict.Marked t = refl
-verdict_hand verdict.Offline t = refl
+verdict_hand v t = refl
 
 sort : (d : Deed) → Goes d ⊎ ((a : Answer) × (d ≡ End a))
 sort (Search c y) =

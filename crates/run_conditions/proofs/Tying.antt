@@ -24,8 +24,8 @@ use Rattle.trace_replay.specs.Events.{Act, Refusing}
 use Rattle.trace_replay.specs.Moments.{Deed}
 use Rattle.trace_replay.specs.Replay.{Replay}
 use Rattle.trace_replay.specs.Service.{frames_needed}
-use Rattle.run_answers.proofs.Declaring.{IsIdle}
-use Rattle.run_answers.proofs.Turning.{Core, Rest, moment_rest, moment_core}
+use Rattle.run_conditions.proofs.Declaring.{IsIdle}
+use Rattle.run_conditions.proofs.Turning.{Core, Rest, moment_rest, moment_core}
 
 -- A REQUEST THAT WAITS is at a place of the picture's list
 pub record IsAsked (ids : List ℕ) (requests : List Request) (u : ℕ) (r : Wish) (place : ℕ) : Type 0 where

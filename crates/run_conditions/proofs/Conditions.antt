@@ -23,11 +23,11 @@ use Rattle.trace_reader.specs.RoundTrip.{told_of}
 use Rattle.trace_replay.specs.Conditions.{online_behind, locked_behind, online_said, locked_said}
 use Rattle.trace_replay.specs.Moments.{Moment, Played, Told, Idle}
 use Rattle.trace_replay.specs.Script.{drives_of, Input, Submit, ArriveAt, MoveAt, AttendTo, Drain, Turn, Noise, Arm, SetOnline, SetLocked}
-use Rattle.run_answers.specs.Answers.{AreConditions}
+use Rattle.run_conditions.specs.Conditions.{AreConditions}
 use Rattle.pack_geometry.specs.declared.DriveKind.{DriveKind}
-use Rattle.run_answers.proofs.Declaring.{IsDeclared, script_declared}
-use Rattle.run_answers.specs.Hears.{known_of, seen_of, play_of, asked_of}
-use Rattle.run_answers.proofs.Turning.{Core, Rest, moment_rest, moment_core}
+use Rattle.run_conditions.proofs.Declaring.{IsDeclared, script_declared}
+use Rattle.run_conditions.specs.Hears.{known_of, seen_of, play_of, asked_of}
+use Rattle.run_conditions.proofs.Turning.{Core, Rest, moment_rest, moment_core}
 
 record Bits : Type 0 where
   offline : Bool
@@ -46,20 +46,8 @@ end_bits true event d r = refl
 end_bits false event d r = refl
 
 after_bits : (event place : ℕ) (t : Line) (d : Drive) (r : Request) → bits_of (drive_after event place t d r) ≡ bits_of d
-after_bits event place (deed.Search c s) d r = refl
-after_bits event place (deed.Seek c) d r = refl
-after_bits event place deed.Recal d r = refl
-after_bits event place (deed.Offset code) d r = refl
-after_bits event place deed.Centre d r = refl
-after_bits event place deed.Clear d r = refl
-after_bits event place deed.Pack d r = refl
-after_bits event place (deed.Transfer w b n) d r = refl
-after_bits event place deed.Arrive d r = refl
-after_bits event place (deed.Sector b v) d r = refl
-after_bits event place deed.Intr d r = refl
-after_bits event place (deed.Try b n) d r = refl
-after_bits event place deed.Attn d r = refl
 after_bits event place deed.End d r = end_bits (is_refused place d r) event d r
+after_bits event place t d r = refl
 
 asked_keeps : (o : Option ℕ) (line : ℕ) (r : Asked) (write : Bool) (k : Known) (u : ℕ) → bits_of (drive_at (asked_at o line r write k).drives u) ≡ bits_of (drive_at k.drives u)
 asked_keeps (Some place) line r write k u = refl

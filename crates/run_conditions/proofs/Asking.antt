@@ -30,8 +30,8 @@ use Rattle.trace_replay.specs.Moments.{Deed}
 use Rattle.trace_replay.specs.Replay.{Replay, Submission, submission_by, submitted, joined_by, unit_joined, act_submitted, has_frames}
 use Rattle.trace_replay.specs.Service.{frames_needed, cylinder_of}
 use Rattle.trace_replay.proofs.Kept.{UnitFits}
-use Rattle.run_answers.specs.Hears.{asked_of}
-use Rattle.run_answers.proofs.Tying.{IsAsked, Waits, WaitsAt, IsHead, IsOther, IsTied, Tied, IsToRefuse, ActTied, Grows, Apart, all_stay, all_apart, queue_stays, head_stays, first_stays, swapped, once_more, comes_in_hand}
+use Rattle.run_conditions.specs.Hears.{asked_of}
+use Rattle.run_conditions.proofs.Tying.{IsAsked, Waits, WaitsAt, IsHead, IsOther, IsTied, Tied, IsToRefuse, ActTied, Grows, Apart, all_stay, all_apart, queue_stays, head_stays, first_stays, swapped, once_more, comes_in_hand}
 
 -- THE NEXT PLACE
 new_step : (b : Bool) (n m : ℕ) (rest more : Option ℕ) → (rest ≡ None → more ≡ Some m) → cond b (Some n) rest ≡ None → cond b (Some n) more ≡ Some m

@@ -1,0 +1,4 @@
+pub mod Waiting
+pub mod Events
+pub mod Knowing
+pub mod Queueing

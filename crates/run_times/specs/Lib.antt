@@ -1,0 +1,4 @@
+pub mod Firsts
+pub mod Blocks
+pub mod Served
+pub mod Since
