@@ -17,7 +17,7 @@ use Rattle.script_lines.specs.declared.statement.Statement.TheVariants as says
 use Rattle.script_reader.specs.Stored.{Kept, Stored, seen, digits_at}
 use Rattle.script_lines.specs.Renamed.{renamed}
 use Rattle.script_meaning.specs.Meaning.{statement_of, line_of, meaning_of}
-use Rattle.trace_replay.specs.Script.{Script, Statement, Declares, Plays, Line, declared_by, drives_in, drives_of, IsPlayed, AreUnitsFirst}
+use Rattle.trace_replay.specs.Script.{Script, Statement, Declares, Plays, Line, declared_by, drives_in, IsPlayed, AreUnitsFirst}
 use Rattle.driver_machine.specs.World.{Setup}
 use Rattle.one_run.specs.Steps.{tables_in, AreSetFor}
 use Rattle.one_run.proofs.Attached as one

@@ -6,7 +6,7 @@ use Rattle.subsystem_spec.specs.Requests.{Request}
 use Rattle.trace_replay.specs.Moments.{Moment}
 use Rattle.trace_replay.specs.Causes.{AsksSome}
 use Rattle.trace_replay.specs.Script as says
-use Rattle.trace_replay.specs.Script.{Script, Input, Statement, Declares, Plays, Line, Numbered, with_input, drives_of, inputs_before, inputs_of}
+use Rattle.trace_replay.specs.Script.{Script, Input, Statement, Declares, Plays, Line, Numbered, with_input, drives_of, inputs_before}
 use Rattle.trace_replay.specs.Packs.{surface_of}
 use Rattle.trace_replay.specs.Replay.{Replay, after_moments}
 use Rattle.trace_replay.specs.Runs.{start_of}

@@ -1,6 +1,6 @@
 -- What a line of a script leaves where it stopped, and a whole script.
-use Rattle.std.proofs.Common.{◌≡◌, inl, inr, ℕ, ◌+◌, ◌<◌, ◌≤◌, Bool, true, false, IsTrue, List, [], ◌∷◌, ◌++◌, length, take, drop, Option, Some, None, refl, sym, ap, subst, arith, ◌∙◌, append-nil, append_assoc, take-append-drop}
-use Rattle.std.specs.Prelude.{Result, Ok, Err, IfErr, IsErrAnd, IsErrOf, min}
+use Rattle.std.proofs.Common.{◌≡◌, inr, ℕ, ◌+◌, ◌<◌, ◌≤◌, Bool, true, false, IsTrue, List, [], ◌∷◌, ◌++◌, length, take, drop, Option, Some, None, refl, sym, ap, subst, arith, ◌∙◌, append-nil, append_assoc, take-append-drop}
+use Rattle.std.specs.Prelude.{Result, Ok, Err, IfErr, IsErrAnd, min}
 use Rattle.std.proofs.lemmas.List.{take_all, drop_all}
 use Rattle.pack_model.specs.Pack.{Pack}
 use Rattle.pack_model.specs.PackTable.{AreTablesOf}
@@ -9,7 +9,7 @@ use Rattle.outside_traits.specs.Puts.{TakesFront}
 use Rattle.subsystem_spec.specs.Requests.{Request}
 use Rattle.trace_replay.specs.Moments.{Played, Idle}
 use Rattle.trace_replay.specs.Script as says
-use Rattle.trace_replay.specs.Script.{Script, Input, Statement, Declares, Plays, Line, Numbered, AreNumbered, IsScript, drives_of, inputs_of, inputs_before, with_input}
+use Rattle.trace_replay.specs.Script.{Script, Input, Statement, Declares, Plays, Line, Numbered, AreNumbered, drives_of, inputs_before}
 use Rattle.trace_replay.specs.Text.{moment_text}
 use Rattle.hardware_table.specs.declared.Moved.TheVariants.{Clean}
 use Rattle.driver_machine.specs.World.{World, new_world}
@@ -223,13 +223,3 @@ play_halts s units slice requests noises state held fault old new same set read 
     subst (λ (h : ℕ → Pack). Leaves fault s h new.held new.out_tells old.said new.said new.trace_tells old.taken new.taken) same_held
     (stopped_leaves fault s old.held new.held new.out_tells old.said new.said new.trace_tells old.taken new.taken tables
     (subst (λ (h : ℕ → Pack). AreTablesOf (drives_of s) h tables) (sym same_held) read) (stops tables run))
-
--- or the packs failed at one of them.
-pub attach_halts : {T : Type 0} (result : Result T PlayFault) (s : Script) (first left : ℕ → Pack) (out_tells : Bool) (said : List ℕ) (trace_tells : Bool) (taken : List ℕ)
-    → left ≡ first → (IsErrOf result faults.Sink → ⊥)
-    → IfErr result (λ fault. Leaves fault s first left out_tells said said trace_tells taken taken)
-attach_halts (Ok value) s first left out_tells said trace_tells taken same no_sink = tt
-attach_halts (Err faults.Memory) s first left out_tells said trace_tells taken same no_sink = tt
-attach_halts (Err (faults.TooLong u n)) s first left out_tells said trace_tells taken same no_sink = tt
-attach_halts (Err faults.Store) s first left out_tells said trace_tells taken same no_sink = inl (record { packs = same; out = refl; trace = refl })
-attach_halts (Err faults.Sink) s first left out_tells said trace_tells taken same no_sink = absurd (no_sink refl)

@@ -6,7 +6,6 @@ use Rattle.std.proofs.lemmas.Bool.Decides.{nat_tests}
 use Rattle.std.proofs.lemmas.List.Elements.{Contains-append_left, Contains-push}
 use Rattle.std.proofs.lemmas.Option.{none-some}
 use Rattle.hardware_table.specs.Noise.{LiveNoise}
-use Rattle.pack_geometry.specs.declared.DriveKind.{DriveKind}
 use Rattle.subsystem_spec.specs.Requests.{Request, IsRequest}
 use Rattle.trace_replay.specs.Script as script
 use Rattle.trace_replay.specs.Script.{Script, Input, Statement, Declares, Plays, Line, IsScript, IsStatement, IsInput, drives_of, ids_of, with_id, AreApart}
@@ -140,11 +139,7 @@ brings_both old mid new one other s r n f xs ready =
     ready_more s ((r + 0) + 0) (r + 0) ((n + 0) + 0) (n + 0) ((f + 0) + 0) (f + 0) xs xs new (omega arith) (omega arith) (omega arith) (λ id has. has)
     (other s (r + 0) (n + 0) (f + 0) xs (one s r n f xs ready))
 
--- a line that declares a drive brings nothing,
-pub declares_brings : (u : ℕ) (kind : DriveKind) (w : World) → Brings (Declares u kind) w w
-declares_brings u kind w s r n f xs ready = ready_more s r (r + 0) n (n + 0) f (f + 0) xs xs w (omega arith) (omega arith) (omega arith) (λ id has. has) ready
-
--- and a submission one request.
+-- a submission brings one request.
 pub submission_brings : (line : ℕ) (r : Request) (old new : Stage) → PlaysSubmission line r old new → Brings (Plays (script.Submit r)) old.world new.world
 submission_brings line r old new plays s k n f xs ready =
     let acts : List Act = submit_acts r line plays.slot plays.held old.world in

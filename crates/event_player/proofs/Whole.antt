@@ -14,7 +14,7 @@ use Rattle.script_reader.specs.Stored.{Stored, Kept, seen, lines_in}
 use Rattle.script_meaning.specs.Meaning.{line_of, meaning_of}
 use Rattle.trace_replay.specs.Moments.{Moment}
 use Rattle.trace_replay.specs.Script as says
-use Rattle.trace_replay.specs.Script.{Script, Input, Statement, Declares, Plays, Line, IsScript, IsStatement, AreNumbered, drives_of, ids_of, inputs_before}
+use Rattle.trace_replay.specs.Script.{Script, Statement, Declares, Plays, Line, IsScript, IsStatement, AreNumbered, drives_of, inputs_before}
 use Rattle.trace_replay.specs.Runs.{ArePlayed}
 use Rattle.trace_replay.specs.Text.{trace_text}
 use Rattle.pack_geometry.specs.declared.DriveKind.TheVariants.{Rp06}

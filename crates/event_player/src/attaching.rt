@@ -81,10 +81,7 @@ fn attach_line<P: Packs>(
     match &line.statement {
         Statement::Unit { unit, kind } => {
             let setup = attach_unit(*unit, *kind, packs)?;
-            match units.push(setup) {
-                Ok(()) => Ok(()),
-                Err(_) => Err(PlayFault::Memory),
-            }
+            units.push(setup).map_err(|_| PlayFault::Memory)
         }
         _ => Ok(()),
     }

@@ -1,9 +1,10 @@
 // A drain: events happen until no request is outstanding.
-ghost use Rattle.std.specs.Prelude.{◌≡◌, ℕ, ◌≤◌, [], length, false, IsTrue, OnOk, IfErr};
+ghost use Rattle.std.specs.Prelude.{◌≤◌, length, OnOk};
 ghost use Rattle.outside_traits.specs.Puts.{Puts};
 ghost use Rattle.trace_replay.specs.Moments.{Idle};
 ghost use Rattle.trace_replay.specs.Script.{Plays, Drain};
 ghost use Rattle.trace_replay.specs.Text.{moment_text};
+ghost use Rattle.event_player.specs.Calls.{MayGoOn, KeepsGoing, IsPlayed};
 ghost use Rattle.event_player.specs.Steps.{stage, GoesOnDraining, PlaysDrain, Brings, HasCauses};
 ghost use Rattle.event_player.specs.Stops.{StopsDraining, StopsInput};
 
@@ -31,23 +32,12 @@ fn go_on<P: Packs, O: Sink, T: Sink>(
     out: &mut O,
     trace: &mut T,
 ) -> Result<(), PlayFault>
-    requires going { subsystem.old.failed ≡ false }
-    requires none_waits { subsystem.old.world.answers ≡ [] }
-    requires kept { desk.old.gather ≡ [] }
-    ensures plays { OnOk result (IsTrue (P.tells packs.new) → GoesOnDraining number
+    requires ready { MayGoOn subsystem.old desk.old.gather }
+    ensures played { IsPlayed (GoesOnDraining number) (StopsDraining number)
         (stage P.tells P.held O.tells O.taken T.tells T.taken subsystem.old.world packs.old out.old trace.old desk.old.tally)
-        (stage P.tells P.held O.tells O.taken T.tells T.taken subsystem.new.world packs.new out.new trace.new desk.new.tally)) }
-    ensures stops { IfErr result (λ fault. IsTrue (P.tells packs.new) → StopsDraining number fault
-        (stage P.tells P.held O.tells O.taken T.tells T.taken subsystem.old.world packs.old out.old trace.old desk.old.tally)
-        (stage P.tells P.held O.tells O.taken T.tells T.taken subsystem.new.world packs.new out.new trace.new desk.new.tally)) }
+        (stage P.tells P.held O.tells O.taken T.tells T.taken subsystem.new.world packs.new out.new trace.new desk.new.tally) result }
     ensures brings { OnOk result (Brings (Plays Drain) subsystem.old.world subsystem.new.world) }
-    ensures going { OnOk result (subsystem.new.failed ≡ false) }
-    ensures outstanding { OnOk result (subsystem.new.outstanding ≡ subsystem.old.outstanding) }
-    ensures kept { OnOk result (desk.new.gather ≡ []) }
-    ensures requests { desk.new.tally.requests ≡ desk.old.tally.requests }
-    ensures never_again { IsTrue (P.tells packs.new) → IsTrue (P.tells packs.old) }
-    ensures never_again_out { IsTrue (O.tells out.new) → IsTrue (O.tells out.old) }
-    ensures never_again_trace { IsTrue (T.tells trace.new) → IsTrue (T.tells trace.old) }
+    ensures goes { OnOk result (KeepsGoing subsystem.old subsystem.new desk.new.gather) }
     ensures causes { HasCauses (P.faults packs.old) (P.faults packs.new) (O.faults out.old) (O.faults out.new) (T.faults trace.old) (T.faults trace.new) result }
 {
     for turn in 0..u64::MAX {
@@ -68,24 +58,13 @@ pub fn drain<P: Packs, O: Sink, T: Sink>(
     out: &mut O,
     trace: &mut T,
 ) -> Result<(), PlayFault>
-    requires going { subsystem.old.failed ≡ false }
-    requires none_waits { subsystem.old.world.answers ≡ [] }
+    requires ready { MayGoOn subsystem.old desk.old.gather }
     requires few { length subsystem.old.world.slots ≤ 65536 }
-    requires kept { desk.old.gather ≡ [] }
-    ensures plays { OnOk result (IsTrue (P.tells packs.new) → PlaysDrain number
+    ensures played { IsPlayed (PlaysDrain number) (StopsInput number Drain)
         (stage P.tells P.held O.tells O.taken T.tells T.taken subsystem.old.world packs.old out.old trace.old desk.old.tally)
-        (stage P.tells P.held O.tells O.taken T.tells T.taken subsystem.new.world packs.new out.new trace.new desk.new.tally)) }
-    ensures stops { IfErr result (λ fault. IsTrue (P.tells packs.new) → StopsInput number Drain fault
-        (stage P.tells P.held O.tells O.taken T.tells T.taken subsystem.old.world packs.old out.old trace.old desk.old.tally)
-        (stage P.tells P.held O.tells O.taken T.tells T.taken subsystem.new.world packs.new out.new trace.new desk.new.tally)) }
+        (stage P.tells P.held O.tells O.taken T.tells T.taken subsystem.new.world packs.new out.new trace.new desk.new.tally) result }
     ensures brings { OnOk result (Brings (Plays Drain) subsystem.old.world subsystem.new.world) }
-    ensures going { OnOk result (subsystem.new.failed ≡ false) }
-    ensures outstanding { OnOk result (subsystem.new.outstanding ≡ subsystem.old.outstanding) }
-    ensures kept { OnOk result (desk.new.gather ≡ []) }
-    ensures requests { desk.new.tally.requests ≡ desk.old.tally.requests }
-    ensures never_again { IsTrue (P.tells packs.new) → IsTrue (P.tells packs.old) }
-    ensures never_again_out { IsTrue (O.tells out.new) → IsTrue (O.tells out.old) }
-    ensures never_again_trace { IsTrue (T.tells trace.new) → IsTrue (T.tells trace.old) }
+    ensures goes { OnOk result (KeepsGoing subsystem.old subsystem.new desk.new.gather) }
     ensures causes { HasCauses (P.faults packs.old) (P.faults packs.new) (O.faults out.old) (O.faults out.new) (T.faults trace.old) (T.faults trace.new) result }
 {
     let Some(first) = subsystem.next_event() else {

@@ -1,6 +1,5 @@
 // A script is played to its end.
-ghost use Rattle.std.specs.Prelude.{◌≡◌, ◌⊎◌, ◌≤◌, ℕ, [], false, length, IsTrue, Result, Ok, Err, OnOk, OnErr, IsErrOf, IfOk, IfErr, vec_len, Option};
-ghost use Rattle.outside_traits.specs.Causes.{Rose};
+ghost use Rattle.std.specs.Prelude.{◌≡◌, ℕ, [], length, IsTrue, Result, Ok, IfOk, IfErr, vec_len, Option};
 ghost use Rattle.pack_model.specs.TableSpelling.{Table};
 ghost use Rattle.script_reader.specs.Grammar.{Spells};
 ghost use Rattle.script_reader.specs.Stored.{lines_in};
@@ -10,6 +9,7 @@ ghost use Rattle.answer_tally.specs.Counting.{tally_by};
 ghost use Rattle.event_player.specs.Plays.{Tallied, IsTooLong};
 ghost use Rattle.event_player.specs.Faults.{IsPlaying, IsBefore, IsLongFor, AreUntouched, HaveTold, Rise};
 ghost use Rattle.event_player.specs.Playing.{counted, one_request};
+ghost use Rattle.event_player.specs.Calls.{MayGoOn, IsPlayed};
 ghost use Rattle.event_player.specs.Steps.{stage, Ready, PlaysScript, HasCauses};
 ghost use Rattle.event_player.specs.Stops.{StopsScript, Leaves};
 
@@ -134,22 +134,15 @@ fn play_lines<P: Packs, O: Sink, T: Sink>(
     trace: &mut T,
 ) -> Result<Tally, PlayFault>
     requires good { Spells all_verbs script.now.text (lines_in script.now) script.now.count }
-    requires going { subsystem.old.failed ≡ false }
+    requires may { MayGoOn subsystem.old desk.old.gather }
     requires ready { Ready (meaning_of script.now) 0 0 0 [] subsystem.old.world }
     requires outstanding { subsystem.old.outstanding ≡ counted one_request (meaning_of script.now).lines }
     requires room { length room.old ≡ 65024 }
-    requires kept { desk.old.gather ≡ [] }
-    ensures plays { OnOk result (IsTrue (P.tells packs.new) → (tables : ℕ → Option Table) → PlaysScript (meaning_of script.now) tables
+    ensures played { IsPlayed (λ old new. (tables : ℕ → Option Table) → PlaysScript (meaning_of script.now) tables old new)
+        (λ fault old new. (tables : ℕ → Option Table) → StopsScript (meaning_of script.now) tables fault old new)
         (stage P.tells P.held O.tells O.taken T.tells T.taken subsystem.old.world packs.old out.old trace.old desk.old.tally)
-        (stage P.tells P.held O.tells O.taken T.tells T.taken subsystem.new.world packs.new out.new trace.new desk.new.tally)) }
-    ensures stops { IfErr result (λ fault. IsTrue (P.tells packs.new) → (tables : ℕ → Option Table) → StopsScript (meaning_of script.now) tables fault
-        (stage P.tells P.held O.tells O.taken T.tells T.taken subsystem.old.world packs.old out.old trace.old desk.old.tally)
-        (stage P.tells P.held O.tells O.taken T.tells T.taken subsystem.new.world packs.new out.new trace.new desk.new.tally)) }
+        (stage P.tells P.held O.tells O.taken T.tells T.taken subsystem.new.world packs.new out.new trace.new desk.new.tally) result }
     ensures told { IfOk result (λ tally. tally ≡ desk.new.tally) }
-    ensures requests { desk.new.tally.requests ≡ desk.old.tally.requests }
-    ensures never_again { IsTrue (P.tells packs.new) → IsTrue (P.tells packs.old) }
-    ensures never_again_out { IsTrue (O.tells out.new) → IsTrue (O.tells out.old) }
-    ensures never_again_trace { IsTrue (T.tells trace.new) → IsTrue (T.tells trace.old) }
     ensures causes { HasCauses (P.faults packs.old) (P.faults packs.new) (O.faults out.old) (O.faults out.new) (T.faults trace.old) (T.faults trace.new) result }
 {
     meaning_law();

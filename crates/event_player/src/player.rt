@@ -1,5 +1,5 @@
 // What a line of a script does.
-ghost use Rattle.std.specs.Prelude.{◌≡◌, ◌*◌, ◌≤◌, ℕ, List, [], ◌++◌, length, take, false, IsTrue, OnOk, OnErr, IfSome, IfNone, IfErr};
+ghost use Rattle.std.specs.Prelude.{◌≡◌, ◌*◌, ◌≤◌, ℕ, List, [], ◌++◌, length, take, IsTrue, OnOk, OnErr, IfSome, IfNone};
 ghost use Rattle.std.specs.Box.{box_value};
 ghost use Rattle.hardware_table.specs.Noise.{LiveNoise};
 ghost use Rattle.outside_traits.specs.Causes.{HasCause};
@@ -8,12 +8,13 @@ ghost use Rattle.script_reader.specs.Formed.{IsWritten};
 ghost use Rattle.script_lines.specs.declared.statement.Span.{Span};
 ghost use Rattle.script_reader.specs.Stored.{seen, digits_at};
 ghost use Rattle.script_lines.specs.Renamed.{renamed, content_by};
-ghost use Rattle.script_meaning.specs.Meaning.{statement_of, request_of, written_of, bytes_of};
+ghost use Rattle.script_meaning.specs.Meaning.{statement_of, written_of};
 ghost use Rattle.trace_replay.specs.Moments.{Played};
 ghost use Rattle.trace_replay.specs.Script.{Noise as NoiseInput, Plays};
 ghost use Rattle.answer_lines.specs.AnswerText.{said_text};
 ghost use Rattle.answer_tally.specs.Counting.{Counts};
 ghost use Rattle.hp_events.specs.Inputs.{input_of};
+ghost use Rattle.event_player.specs.Calls.{MayGoOn, KeepsGoing, IsPlayed};
 ghost use Rattle.event_player.specs.Steps.{stage, IsNoEvent, PlaysLine, Brings, MayPlay, HasData, HasCauses};
 ghost use Rattle.event_player.specs.Stops.{StopsLine};
 
@@ -149,26 +150,15 @@ fn play_other<P: Packs, O: Sink, T: Sink>(
     trace: &mut T,
 ) -> Result<(), PlayFault>
     requires no_event { IsNoEvent line.now.statement }
-    requires going { subsystem.old.failed ≡ false }
-    requires none_waits { subsystem.old.world.answers ≡ [] }
+    requires ready { MayGoOn subsystem.old desk.old.gather }
     requires may { MayPlay subsystem.old (statement_of (seen script.now.text line.now).statement) }
     requires data { HasData (seen script.now.text line.now).statement }
     requires room { length room.old ≡ 65024 }
-    requires kept { desk.old.gather ≡ [] }
-    ensures plays { OnOk result (IsTrue (P.tells packs.new) → PlaysLine line.now.number (statement_of (seen script.now.text line.now).statement)
+    ensures played { IsPlayed (PlaysLine line.now.number (statement_of (seen script.now.text line.now).statement)) (StopsLine line.now.number (statement_of (seen script.now.text line.now).statement))
         (stage P.tells P.held O.tells O.taken T.tells T.taken subsystem.old.world packs.old out.old trace.old desk.old.tally)
-        (stage P.tells P.held O.tells O.taken T.tells T.taken subsystem.new.world packs.new out.new trace.new desk.new.tally)) }
-    ensures stops { IfErr result (λ fault. IsTrue (P.tells packs.new) → StopsLine line.now.number (statement_of (seen script.now.text line.now).statement) fault
-        (stage P.tells P.held O.tells O.taken T.tells T.taken subsystem.old.world packs.old out.old trace.old desk.old.tally)
-        (stage P.tells P.held O.tells O.taken T.tells T.taken subsystem.new.world packs.new out.new trace.new desk.new.tally)) }
+        (stage P.tells P.held O.tells O.taken T.tells T.taken subsystem.new.world packs.new out.new trace.new desk.new.tally) result }
     ensures brings { OnOk result (Brings (statement_of (seen script.now.text line.now).statement) subsystem.old.world subsystem.new.world) }
-    ensures going { OnOk result (subsystem.new.failed ≡ false) }
-    ensures outstanding { OnOk result (subsystem.new.outstanding ≡ subsystem.old.outstanding) }
-    ensures kept { OnOk result (desk.new.gather ≡ []) }
-    ensures requests { desk.new.tally.requests ≡ desk.old.tally.requests }
-    ensures never_again { IsTrue (P.tells packs.new) → IsTrue (P.tells packs.old) }
-    ensures never_again_out { IsTrue (O.tells out.new) → IsTrue (O.tells out.old) }
-    ensures never_again_trace { IsTrue (T.tells trace.new) → IsTrue (T.tells trace.old) }
+    ensures goes { OnOk result (KeepsGoing subsystem.old subsystem.new desk.new.gather) }
     ensures causes { HasCauses (P.faults packs.old) (P.faults packs.new) (O.faults out.old) (O.faults out.new) (T.faults trace.old) (T.faults trace.new) result }
 {
     let number = u64::from(line.number);
@@ -213,26 +203,15 @@ pub(crate) fn play_line<P: Packs, O: Sink, T: Sink>(
     out: &mut O,
     trace: &mut T,
 ) -> Result<(), PlayFault>
-    requires going { subsystem.old.failed ≡ false }
-    requires none_waits { subsystem.old.world.answers ≡ [] }
+    requires ready { MayGoOn subsystem.old desk.old.gather }
     requires may { MayPlay subsystem.old (statement_of (seen script.now.text line.now).statement) }
     requires data { HasData (seen script.now.text line.now).statement }
     requires room { length room.old ≡ 65024 }
-    requires kept { desk.old.gather ≡ [] }
-    ensures plays { OnOk result (IsTrue (P.tells packs.new) → PlaysLine line.now.number (statement_of (seen script.now.text line.now).statement)
+    ensures played { IsPlayed (PlaysLine line.now.number (statement_of (seen script.now.text line.now).statement)) (StopsLine line.now.number (statement_of (seen script.now.text line.now).statement))
         (stage P.tells P.held O.tells O.taken T.tells T.taken subsystem.old.world packs.old out.old trace.old desk.old.tally)
-        (stage P.tells P.held O.tells O.taken T.tells T.taken subsystem.new.world packs.new out.new trace.new desk.new.tally)) }
-    ensures stops { IfErr result (λ fault. IsTrue (P.tells packs.new) → StopsLine line.now.number (statement_of (seen script.now.text line.now).statement) fault
-        (stage P.tells P.held O.tells O.taken T.tells T.taken subsystem.old.world packs.old out.old trace.old desk.old.tally)
-        (stage P.tells P.held O.tells O.taken T.tells T.taken subsystem.new.world packs.new out.new trace.new desk.new.tally)) }
+        (stage P.tells P.held O.tells O.taken T.tells T.taken subsystem.new.world packs.new out.new trace.new desk.new.tally) result }
     ensures brings { OnOk result (Brings (statement_of (seen script.now.text line.now).statement) subsystem.old.world subsystem.new.world) }
-    ensures going { OnOk result (subsystem.new.failed ≡ false) }
-    ensures outstanding { OnOk result (subsystem.new.outstanding ≡ subsystem.old.outstanding) }
-    ensures kept { OnOk result (desk.new.gather ≡ []) }
-    ensures requests { desk.new.tally.requests ≡ desk.old.tally.requests }
-    ensures never_again { IsTrue (P.tells packs.new) → IsTrue (P.tells packs.old) }
-    ensures never_again_out { IsTrue (O.tells out.new) → IsTrue (O.tells out.old) }
-    ensures never_again_trace { IsTrue (T.tells trace.new) → IsTrue (T.tells trace.old) }
+    ensures goes { OnOk result (KeepsGoing subsystem.old subsystem.new desk.new.gather) }
     ensures causes { HasCauses (P.faults packs.old) (P.faults packs.new) (O.faults out.old) (O.faults out.new) (T.faults trace.old) (T.faults trace.new) result }
 {
     match event_of(&line.statement) {

@@ -8,7 +8,7 @@ pub returns-clause-plays : goal.returns-clause-plays
 returns-clause-plays g c =
     submits_plays g.T.Sink.tells g.T.Sink.taken c.args.trace.now c.submit.new.trace c.args.number _ c.args.subsystem.now c.submit.new.self c.write_answers.new.subsystem
     (g.O.Sink.tells c.args.out.now) (g.O.Sink.tells c.write_answers.new.out) (g.O.Sink.taken c.args.out.now) (g.O.Sink.taken c.write_answers.new.out)
-    c.law.ensures.sound (c.law.ensures.work c.requires.going) c.in_ok-submit.ensures.does c.in_ok-write_answers.ensures.taken c.in_ok-write_answers.ensures.puts.bytes
+    c.law.ensures.sound (c.law.ensures.work c.requires.ready.going) c.in_ok-submit.ensures.does c.in_ok-write_answers.ensures.taken c.in_ok-write_answers.ensures.puts.bytes
     c.args.desk.now.tally c.write_answers.new.desk.tally c.in_ok-write_answers.ensures.counts
 
 pub returns-in_err-submit-clause-stops : goal.returns-in_err-submit-clause-stops
@@ -23,4 +23,4 @@ returns-in_err-write_answers-clause-stops g c =
     (λ tells held. submission_unsaid g.T.Sink.tells g.T.Sink.taken c.args.trace.now c.submit.new.trace c.args.number _ c.args.subsystem.now.world (g.O.Sink.tells c.args.out.now)
     (g.O.Sink.taken c.args.out.now) c.args.desk.now.tally tells held c.submit.new.self.world c.write_answers.new.subsystem.world (g.O.Sink.tells c.write_answers.new.out)
     (g.O.Sink.taken c.write_answers.new.out) c.write_answers.new.desk.tally
-    c.law.ensures.sound (c.law.ensures.work c.requires.going) c.in_ok-submit.ensures.does c.in_err-write_answers.ensures.puts.front)
+    c.law.ensures.sound (c.law.ensures.work c.requires.ready.going) c.in_ok-submit.ensures.does c.in_err-write_answers.ensures.puts.front)

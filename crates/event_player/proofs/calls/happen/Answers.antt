@@ -9,7 +9,7 @@ pub returns-clause-plays : goal.returns-clause-plays
 returns-clause-plays g c =
     event_plays g.P.Packs.tells g.P.Packs.held g.T.Sink.tells g.T.Sink.taken c.args.packs.now c.event.new.packs c.args.trace.now c.event.new.trace c.args.number (input_of c.args.event)
     c.args.subsystem.now.world (g.O.Sink.tells c.args.out.now) (g.O.Sink.taken c.args.out.now) c.args.desk.now.tally c.in_ok-event.ensures.still c.event.new.self c.write_answers.new.subsystem
-    (g.O.Sink.tells c.write_answers.new.out) (g.O.Sink.taken c.write_answers.new.out) c.write_answers.new.desk.tally c.law.ensures.sound (c.law.ensures.work c.requires.going)
+    (g.O.Sink.tells c.write_answers.new.out) (g.O.Sink.taken c.write_answers.new.out) c.write_answers.new.desk.tally c.law.ensures.sound (c.law.ensures.work c.requires.ready.going)
     c.in_ok-event.ensures.does c.in_ok-write_answers.ensures.taken c.in_ok-write_answers.ensures.puts.bytes c.in_ok-write_answers.ensures.counts
 
 pub returns-in_err-event-clause-stops : goal.returns-in_err-event-clause-stops
@@ -23,4 +23,4 @@ returns-in_err-write_answers-clause-stops g c =
     err_is _ c.from_residual-in_err-write_answers.result faults.Sink c.from_residual-in_err-write_answers.ensures.1
     (event_unsaid g.P.Packs.tells g.P.Packs.held g.T.Sink.tells g.T.Sink.taken c.args.packs.now c.event.new.packs c.args.trace.now c.event.new.trace c.args.number (input_of c.args.event)
     c.args.subsystem.now.world (g.O.Sink.tells c.args.out.now) (g.O.Sink.taken c.args.out.now) c.args.desk.now.tally c.in_ok-event.ensures.still c.event.new.self.world c.write_answers.new.subsystem.world
-    (g.O.Sink.tells c.write_answers.new.out) (g.O.Sink.taken c.write_answers.new.out) c.write_answers.new.desk.tally c.law.ensures.sound (c.law.ensures.work c.requires.going) c.in_ok-event.ensures.does c.in_err-write_answers.ensures.puts.front)
+    (g.O.Sink.tells c.write_answers.new.out) (g.O.Sink.taken c.write_answers.new.out) c.write_answers.new.desk.tally c.law.ensures.sound (c.law.ensures.work c.requires.ready.going) c.in_ok-event.ensures.does c.in_err-write_answers.ensures.puts.front)

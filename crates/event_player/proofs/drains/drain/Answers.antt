@@ -1,4 +1,4 @@
-use Rattle.std.proofs.Common.{refl}
+use Rattle.std.proofs.Common.{refl, rules}
 use Rattle.hp_events.specs.Inputs.{input_of}
 use Rattle.event_player.specs.Steps.{Stage, stage}
 use Rattle.event_player.proofs.Draining.{drain_plays, drain_nothing}
@@ -8,24 +8,36 @@ use Rattle.event_player.proofs.drains.drain.Goals as goal
 use Rattle.event_player.specs.declared.play.PlayFault.TheVariants as faults
 use Rattle.event_player.proofs.Halting.{err_is, idle_halts, first_halts, rest_halts}
 
-pub returns-in_default-clause-plays : goal.returns-in_default-clause-plays
-returns-in_default-clause-plays g c =
-    let old : Stage = stage g.P.Packs.tells g.P.Packs.held g.O.Sink.tells g.O.Sink.taken g.T.Sink.tells g.T.Sink.taken c.args.subsystem.now.world c.args.packs.now c.args.out.now c.args.trace.now c.args.desk.now.tally in
-    let new : Stage = stage g.P.Packs.tells g.P.Packs.held g.O.Sink.tells g.O.Sink.taken g.T.Sink.tells g.T.Sink.taken c.args.subsystem.now.world c.args.packs.now c.args.out.now c.say_idle.new.trace c.args.desk.now.tally in
-    λ t. drain_nothing c.args.number old new c.in_default.ensures.over refl refl refl refl c.in_ok-say_idle.ensures.bytes
+pub returns-in_default-clause-played : goal.returns-in_default-clause-played
+returns-in_default-clause-played g c = record {
+  plays =
+      let old : Stage = stage g.P.Packs.tells g.P.Packs.held g.O.Sink.tells g.O.Sink.taken g.T.Sink.tells g.T.Sink.taken c.args.subsystem.now.world c.args.packs.now c.args.out.now c.args.trace.now c.args.desk.now.tally in
+      let new : Stage = stage g.P.Packs.tells g.P.Packs.held g.O.Sink.tells g.O.Sink.taken g.T.Sink.tells g.T.Sink.taken c.args.subsystem.now.world c.args.packs.now c.args.out.now c.say_idle.new.trace c.args.desk.now.tally in
+      λ t. drain_nothing c.args.number old new c.in_default.ensures.over refl refl refl refl c.in_ok-say_idle.ensures.bytes;
+  stops = search rules;
+  told = search rules;
+  requests = search rules;
+}
 
-pub go_on-requires-clause-none_waits : goal.go_on-requires-clause-none_waits
-go_on-requires-clause-none_waits g c = plays_none c.in_ok-happen.ensures.plays.plays
+pub go_on-requires : goal.go_on-requires
+go_on-requires g c =
+    let goes = c.in_ok-happen.ensures.goes in
+    record { ready = record { going = goes.going; none_waits = plays_none c.in_ok-happen.ensures.plays.plays; kept = goes.kept } }
 
-pub returns-clause-plays : goal.returns-clause-plays
-returns-clause-plays g c =
-    let happens = c.in_ok-happen.ensures in
-    let goes = c.in_ok-go_on.ensures in
-    let old : Stage = stage g.P.Packs.tells g.P.Packs.held g.O.Sink.tells g.O.Sink.taken g.T.Sink.tells g.T.Sink.taken c.args.subsystem.now.world c.args.packs.now c.args.out.now c.args.trace.now c.args.desk.now.tally in
-    let mid : Stage = stage g.P.Packs.tells g.P.Packs.held g.O.Sink.tells g.O.Sink.taken g.T.Sink.tells g.T.Sink.taken c.happen.new.subsystem.world c.happen.new.packs c.happen.new.out c.happen.new.trace c.happen.new.desk.tally in
-    let new : Stage = stage g.P.Packs.tells g.P.Packs.held g.O.Sink.tells g.O.Sink.taken g.T.Sink.tells g.T.Sink.taken c.go_on.new.subsystem.world c.go_on.new.packs c.go_on.new.out c.go_on.new.trace c.go_on.new.desk.tally in
-    λ t. drain_plays c.args.number (input_of c.in-Some.first) old mid new (goes.never_again t) goes.never_again_out goes.never_again_trace c.in-Some.ensures.next c.requires.none_waits c.requires.few
-    happens.plays (goes.plays t)
+pub returns-clause-played : goal.returns-clause-played
+returns-clause-played g c = record {
+  plays =
+      let happens = c.in_ok-happen.ensures in
+      let goes = c.in_ok-go_on.ensures in
+      let old : Stage = stage g.P.Packs.tells g.P.Packs.held g.O.Sink.tells g.O.Sink.taken g.T.Sink.tells g.T.Sink.taken c.args.subsystem.now.world c.args.packs.now c.args.out.now c.args.trace.now c.args.desk.now.tally in
+      let mid : Stage = stage g.P.Packs.tells g.P.Packs.held g.O.Sink.tells g.O.Sink.taken g.T.Sink.tells g.T.Sink.taken c.happen.new.subsystem.world c.happen.new.packs c.happen.new.out c.happen.new.trace c.happen.new.desk.tally in
+      let new : Stage = stage g.P.Packs.tells g.P.Packs.held g.O.Sink.tells g.O.Sink.taken g.T.Sink.tells g.T.Sink.taken c.go_on.new.subsystem.world c.go_on.new.packs c.go_on.new.out c.go_on.new.trace c.go_on.new.desk.tally in
+      λ t. drain_plays c.args.number (input_of c.in-Some.first) old mid new (goes.played.told.never_again t) goes.played.told.never_again_out goes.played.told.never_again_trace c.in-Some.ensures.next c.requires.ready.none_waits c.requires.few
+      happens.plays (goes.played.plays t);
+  stops = search rules;
+  told = search rules;
+  requests = search rules;
+}
 
 pub returns-clause-brings : goal.returns-clause-brings
 returns-clause-brings g c =
@@ -34,29 +46,44 @@ returns-clause-brings g c =
     brings_both c.args.subsystem.now.world c.happen.new.subsystem.world c.go_on.new.subsystem.world
     (drain_brings c.args.number (input_of c.in-Some.first) old mid c.in-Some.ensures.next c.in_ok-happen.ensures.plays) c.in_ok-go_on.ensures.brings
 
-pub returns-in_err-say_idle-clause-stops : goal.returns-in_err-say_idle-clause-stops
-returns-in_err-say_idle-clause-stops g c =
-    let old : Stage = stage g.P.Packs.tells g.P.Packs.held g.O.Sink.tells g.O.Sink.taken g.T.Sink.tells g.T.Sink.taken c.args.subsystem.now.world c.args.packs.now c.args.out.now c.args.trace.now c.args.desk.now.tally in
-    let new : Stage = stage g.P.Packs.tells g.P.Packs.held g.O.Sink.tells g.O.Sink.taken g.T.Sink.tells g.T.Sink.taken c.args.subsystem.now.world c.args.packs.now c.args.out.now c.say_idle.new.trace c.args.desk.now.tally in
-    err_is _ c.from_residual.result faults.Sink c.from_residual.ensures.1
-    (λ t. idle_halts c.args.number old new c.in_default.ensures.over refl c.in_err-say_idle.ensures.never_again (λ s. s) refl c.in_err-say_idle.ensures.front)
+pub returns-in_err-say_idle-clause-played : goal.returns-in_err-say_idle-clause-played
+returns-in_err-say_idle-clause-played g c = record {
+  plays = search rules;
+  stops =
+      let old : Stage = stage g.P.Packs.tells g.P.Packs.held g.O.Sink.tells g.O.Sink.taken g.T.Sink.tells g.T.Sink.taken c.args.subsystem.now.world c.args.packs.now c.args.out.now c.args.trace.now c.args.desk.now.tally in
+      let new : Stage = stage g.P.Packs.tells g.P.Packs.held g.O.Sink.tells g.O.Sink.taken g.T.Sink.tells g.T.Sink.taken c.args.subsystem.now.world c.args.packs.now c.args.out.now c.say_idle.new.trace c.args.desk.now.tally in
+      err_is _ c.from_residual.result faults.Sink c.from_residual.ensures.1
+      (λ t. idle_halts c.args.number old new c.in_default.ensures.over refl c.in_err-say_idle.ensures.never_again (λ s. s) refl c.in_err-say_idle.ensures.front);
+  told = search rules;
+  requests = search rules;
+}
 
-pub returns-in_err-happen-clause-stops : goal.returns-in_err-happen-clause-stops
-returns-in_err-happen-clause-stops g c =
-    let happens = c.in_err-happen.ensures in
-    let old : Stage = stage g.P.Packs.tells g.P.Packs.held g.O.Sink.tells g.O.Sink.taken g.T.Sink.tells g.T.Sink.taken c.args.subsystem.now.world c.args.packs.now c.args.out.now c.args.trace.now c.args.desk.now.tally in
-    let new : Stage = stage g.P.Packs.tells g.P.Packs.held g.O.Sink.tells g.O.Sink.taken g.T.Sink.tells g.T.Sink.taken c.happen.new.subsystem.world c.happen.new.packs c.happen.new.out c.happen.new.trace c.happen.new.desk.tally in
-    err_is _ c.from_residual-in_err-happen.result c.in_err-happen.field-0.0 c.from_residual-in_err-happen.ensures.1
-    (λ t. first_halts c.args.number c.in_err-happen.field-0.0 (input_of c.in-Some.first) old new happens.never_again_trace happens.never_again_out c.in-Some.ensures.next c.in-Some.ensures.there
-    c.requires.none_waits happens.stops t)
+pub returns-in_err-happen-clause-played : goal.returns-in_err-happen-clause-played
+returns-in_err-happen-clause-played g c = record {
+  plays = search rules;
+  stops =
+      let happens = c.in_err-happen.ensures in
+      let old : Stage = stage g.P.Packs.tells g.P.Packs.held g.O.Sink.tells g.O.Sink.taken g.T.Sink.tells g.T.Sink.taken c.args.subsystem.now.world c.args.packs.now c.args.out.now c.args.trace.now c.args.desk.now.tally in
+      let new : Stage = stage g.P.Packs.tells g.P.Packs.held g.O.Sink.tells g.O.Sink.taken g.T.Sink.tells g.T.Sink.taken c.happen.new.subsystem.world c.happen.new.packs c.happen.new.out c.happen.new.trace c.happen.new.desk.tally in
+      err_is _ c.from_residual-in_err-happen.result c.in_err-happen.field-0.0 c.from_residual-in_err-happen.ensures.1
+      (λ t. first_halts c.args.number c.in_err-happen.field-0.0 (input_of c.in-Some.first) old new happens.told.never_again_trace happens.told.never_again_out c.in-Some.ensures.next c.in-Some.ensures.there
+      c.requires.ready.none_waits happens.stops t);
+  told = search rules;
+  requests = search rules;
+}
 
-pub returns-in_err-go_on-clause-stops : goal.returns-in_err-go_on-clause-stops
-returns-in_err-go_on-clause-stops g c =
-    let happens = c.in_ok-happen.ensures in
-    let goes = c.in_err-go_on.ensures in
-    let old : Stage = stage g.P.Packs.tells g.P.Packs.held g.O.Sink.tells g.O.Sink.taken g.T.Sink.tells g.T.Sink.taken c.args.subsystem.now.world c.args.packs.now c.args.out.now c.args.trace.now c.args.desk.now.tally in
-    let mid : Stage = stage g.P.Packs.tells g.P.Packs.held g.O.Sink.tells g.O.Sink.taken g.T.Sink.tells g.T.Sink.taken c.happen.new.subsystem.world c.happen.new.packs c.happen.new.out c.happen.new.trace c.happen.new.desk.tally in
-    let new : Stage = stage g.P.Packs.tells g.P.Packs.held g.O.Sink.tells g.O.Sink.taken g.T.Sink.tells g.T.Sink.taken c.go_on.new.subsystem.world c.go_on.new.packs c.go_on.new.out c.go_on.new.trace c.go_on.new.desk.tally in
-    err_is _ c.from_residual-in_err-go_on.result c.in_err-go_on.field-0.0 c.from_residual-in_err-go_on.ensures.1
-    (λ t. rest_halts c.args.number c.in_err-go_on.field-0.0 (input_of c.in-Some.first) old mid new (goes.never_again t) happens.never_again_trace happens.never_again_out c.in-Some.ensures.next
-    c.requires.none_waits happens.plays (goes.stops t))
+pub returns-in_err-go_on-clause-played : goal.returns-in_err-go_on-clause-played
+returns-in_err-go_on-clause-played g c = record {
+  plays = search rules;
+  stops =
+      let happens = c.in_ok-happen.ensures in
+      let goes = c.in_err-go_on.ensures in
+      let old : Stage = stage g.P.Packs.tells g.P.Packs.held g.O.Sink.tells g.O.Sink.taken g.T.Sink.tells g.T.Sink.taken c.args.subsystem.now.world c.args.packs.now c.args.out.now c.args.trace.now c.args.desk.now.tally in
+      let mid : Stage = stage g.P.Packs.tells g.P.Packs.held g.O.Sink.tells g.O.Sink.taken g.T.Sink.tells g.T.Sink.taken c.happen.new.subsystem.world c.happen.new.packs c.happen.new.out c.happen.new.trace c.happen.new.desk.tally in
+      let new : Stage = stage g.P.Packs.tells g.P.Packs.held g.O.Sink.tells g.O.Sink.taken g.T.Sink.tells g.T.Sink.taken c.go_on.new.subsystem.world c.go_on.new.packs c.go_on.new.out c.go_on.new.trace c.go_on.new.desk.tally in
+      err_is _ c.from_residual-in_err-go_on.result c.in_err-go_on.field-0.0 c.from_residual-in_err-go_on.ensures.1
+      (λ t. rest_halts c.args.number c.in_err-go_on.field-0.0 (input_of c.in-Some.first) old mid new (goes.played.told.never_again t) happens.told.never_again_trace happens.told.never_again_out c.in-Some.ensures.next
+      c.requires.ready.none_waits happens.plays (goes.played.stops t));
+  told = search rules;
+  requests = search rules;
+}

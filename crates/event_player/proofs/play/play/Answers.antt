@@ -43,13 +43,13 @@ play_lines-requires-clause-ready g c =
     c.as_slice.ensures.value c.in_ok-units.ensures.set c.count_noises-noises.ensures.count c.in_ok-subsystem.ensures
 
 pub returns-clause-fits : goal.returns-clause-fits
-returns-clause-fits g c = λ playing t. c.in_ok-units.ensures.fits (c.play_lines.ensures.never_again t)
+returns-clause-fits g c = λ playing t. c.in_ok-units.ensures.fits (c.play_lines.ensures.played.told.never_again t)
 
 pub returns-clause-requests : goal.returns-clause-requests
 returns-clause-requests g c =
     let lines = c.play_lines.ensures in
-    at_told _ c.play_lines.result c.play_lines.new.desk.tally lines.told lines.plays
-    (λ plays. lines.requests ∙ ap (λ (x : Tally). x.requests) c.in_ok-bench.ensures.tally ∙ c.from.ensures ∙ c.count_requests-requests.ensures.count)
+    at_told _ c.play_lines.result c.play_lines.new.desk.tally lines.told lines.played.plays
+    (λ plays. lines.played.requests ∙ ap (λ (x : Tally). x.requests) c.in_ok-bench.ensures.tally ∙ c.from.ensures ∙ c.count_requests-requests.ensures.count)
 
 pub returns-clause-tallied : goal.returns-clause-tallied
 returns-clause-tallied g c =
@@ -57,10 +57,10 @@ returns-clause-tallied g c =
     let lines = c.play_lines.ensures in
     let old : Stage = stage g.P.Packs.tells g.P.Packs.held g.O.Sink.tells g.O.Sink.taken g.T.Sink.tells g.T.Sink.taken c.in_ok-subsystem.subsystem.world c.attach_units.new.packs c.args.out.now c.args.trace.now c.in_ok-bench.bench.desk.tally in
     let new : Stage = stage g.P.Packs.tells g.P.Packs.held g.O.Sink.tells g.O.Sink.taken g.T.Sink.tells g.T.Sink.taken c.play_lines.new.subsystem.world c.play_lines.new.packs c.play_lines.new.out c.play_lines.new.trace c.play_lines.new.desk.tally in
-    at_told _ c.play_lines.result c.play_lines.new.desk.tally lines.told lines.plays (λ plays t.
+    at_told _ c.play_lines.result c.play_lines.new.desk.tally lines.told lines.played.plays (λ plays t.
     whole_for (meaning_of c.args.script.now) c.in_ok-units.units.items c.as_slice.result.now c.count_requests-requests.result c.count_noises-noises.result c.in_ok-subsystem.subsystem
     (g.P.Packs.held c.args.packs.now) old new (c.meaning_law.ensures.read c.args.script.now.text c.args.script.now c.requires.good) c.as_slice.ensures.value units.set
-    (units.tables (lines.never_again t)) (units.same (lines.never_again t)) c.in_ok-subsystem.ensures refl
+    (units.tables (lines.played.told.never_again t)) (units.same (lines.played.told.never_again t)) c.in_ok-subsystem.ensures refl
     (c.in_ok-bench.ensures.tally ∙ ap (λ (n : ℕ). tally_by n [] []) (c.from.ensures ∙ c.count_requests-requests.ensures.count)) (plays t))
 
 pub returns-clause-stopped : goal.returns-clause-stopped
@@ -69,10 +69,10 @@ returns-clause-stopped g c =
     let lines = c.play_lines.ensures in
     let old : Stage = stage g.P.Packs.tells g.P.Packs.held g.O.Sink.tells g.O.Sink.taken g.T.Sink.tells g.T.Sink.taken c.in_ok-subsystem.subsystem.world c.attach_units.new.packs c.args.out.now c.args.trace.now c.in_ok-bench.bench.desk.tally in
     let new : Stage = stage g.P.Packs.tells g.P.Packs.held g.O.Sink.tells g.O.Sink.taken g.T.Sink.tells g.T.Sink.taken c.play_lines.new.subsystem.world c.play_lines.new.packs c.play_lines.new.out c.play_lines.new.trace c.play_lines.new.desk.tally in
-    at_err c.play_lines.result lines.stops (λ stop stops t.
+    at_err c.play_lines.result lines.played.stops (λ stop stops t.
     play_halts (meaning_of c.args.script.now) c.in_ok-units.units.items c.as_slice.result.now c.count_requests-requests.result c.count_noises-noises.result c.in_ok-subsystem.subsystem
     (g.P.Packs.held c.args.packs.now) stop old new c.as_slice.ensures.value units.set
-    (units.tables (lines.never_again t)) (units.same (lines.never_again t)) c.in_ok-subsystem.ensures refl (stops t))
+    (units.tables (lines.played.told.never_again t)) (units.same (lines.played.told.never_again t)) c.in_ok-subsystem.ensures refl (stops t))
 
 pub returns-clause-too_long : goal.returns-clause-too_long
 returns-clause-too_long g c = never_long c.play_lines.result c.play_lines.ensures.causes _ _ _

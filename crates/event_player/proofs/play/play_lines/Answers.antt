@@ -15,9 +15,7 @@ loop-i-init g c =
     let old : Stage = stage g.P.Packs.tells g.P.Packs.held g.O.Sink.tells g.O.Sink.taken g.T.Sink.tells g.T.Sink.taken c.args.subsystem.now.world c.args.packs.now c.args.out.now c.args.trace.now c.args.desk.now.tally in
     let script : IsScript (meaning_of c.args.script.now) = c.meaning_law.ensures.read c.args.script.now.text c.args.script.now c.requires.good in
     record {
-      never_again = search rules;
-      never_again_out = search rules;
-      never_again_trace = search rules;
+      told = record { never_again = λ t. t; never_again_out = λ t. t; never_again_trace = λ t. t };
       later = search rules;
       later_out = search rules;
       later_trace = search rules;
@@ -59,59 +57,76 @@ loop-i-preserved g c =
     let is : item ≡ get_or stored.lines c.loop-i.i item = subst (λ (xs : List Kept). item ≡ get_or xs c.loop-i.i item) c.lines-lines.ensures c.index-lines-i.is in
     let lt : c.loop-i.i < length stored.lines = subst (λ (xs : List Kept). c.loop-i.i < length xs) c.lines-lines.ensures c.loop-i-test.true in
     record {
-      never_again = λ t. so.never_again (plays.never_again t);
-      never_again_out = λ t. so.never_again_out (plays.never_again_out t);
-      never_again_trace = λ t. so.never_again_trace (plays.never_again_trace t);
+      told = record {
+        never_again = λ t. so.told.never_again (plays.played.told.never_again t);
+        never_again_out = λ t. so.told.never_again_out (plays.played.told.never_again_out t);
+        never_again_trace = λ t. so.told.never_again_trace (plays.played.told.never_again_trace t);
+      };
       later = search rules;
       later_out = search rules;
       later_trace = search rules;
-      going = plays.going;
-      outstanding = plays.outstanding ∙ so.outstanding;
-      kept = plays.kept;
-      requests = plays.requests ∙ so.requests;
+      going = plays.goes.going;
+      outstanding = plays.goes.outstanding ∙ so.outstanding;
+      kept = plays.goes.kept;
+      requests = plays.played.requests ∙ so.requests;
       ready = next_ready stored c.loop-i.i item is lt c.loop-i.subsystem.world c.play_line.new.subsystem.world plays.brings so.ready;
-      plays = λ t. next_plays stored c.loop-i.i item is lt old mid new plays.never_again_out plays.never_again_trace (plays.plays t) (so.plays (plays.never_again t));
+      plays = λ t. next_plays stored c.loop-i.i item is lt old mid new plays.played.told.never_again_out plays.played.told.never_again_trace (plays.played.plays t) (so.plays (plays.played.told.never_again t));
     }
 
-pub returns-clause-plays : goal.returns-clause-plays
-returns-clause-plays g c =
-    let drains = c.in_ok-drain.ensures in
-    let old : Stage = stage g.P.Packs.tells g.P.Packs.held g.O.Sink.tells g.O.Sink.taken g.T.Sink.tells g.T.Sink.taken c.args.subsystem.now.world c.args.packs.now c.args.out.now c.args.trace.now c.args.desk.now.tally in
-    let mid : Stage = stage g.P.Packs.tells g.P.Packs.held g.O.Sink.tells g.O.Sink.taken g.T.Sink.tells g.T.Sink.taken c.loop-i.subsystem.world c.loop-i.packs c.loop-i.out c.loop-i.trace c.loop-i.desk.tally in
-    let new : Stage = stage g.P.Packs.tells g.P.Packs.held g.O.Sink.tells g.O.Sink.taken g.T.Sink.tells g.T.Sink.taken c.drain.new.subsystem.world c.drain.new.packs c.drain.new.out c.drain.new.trace c.drain.new.desk.tally in
-    let stored = c.args.script.now in
-    let past : length stored.lines ≤ c.loop-i.i = subst (λ (xs : List Kept). length xs ≤ c.loop-i.i) c.lines-lines.ensures c.loop-i-test.false in
-    let all : length (meaning_of stored).lines ≤ c.loop-i.i =
-    subst (λ (n : ℕ). n ≤ c.loop-i.i) (sym (length-map (lines_in stored) line_of ∙ length-map stored.lines (seen stored.text))) past in
-    let number : c.from-number.result + 1 ≡ stored.count + 1 = ap (λ (n : ℕ). n + 1) (c.from-number.ensures ∙ c.count.ensures) in
-    λ t. plays_end (meaning_of stored) c.loop-i.i old mid new all drains.never_again_out drains.never_again_trace
-    (subst (λ (n : ℕ). PlaysDrain n mid new) number (drains.plays t)) (c.loop-i.invariant.plays (drains.never_again t))
+pub returns-clause-played : goal.returns-clause-played
+returns-clause-played g c = record {
+  plays =
+      let drains = c.in_ok-drain.ensures in
+      let old : Stage = stage g.P.Packs.tells g.P.Packs.held g.O.Sink.tells g.O.Sink.taken g.T.Sink.tells g.T.Sink.taken c.args.subsystem.now.world c.args.packs.now c.args.out.now c.args.trace.now c.args.desk.now.tally in
+      let mid : Stage = stage g.P.Packs.tells g.P.Packs.held g.O.Sink.tells g.O.Sink.taken g.T.Sink.tells g.T.Sink.taken c.loop-i.subsystem.world c.loop-i.packs c.loop-i.out c.loop-i.trace c.loop-i.desk.tally in
+      let new : Stage = stage g.P.Packs.tells g.P.Packs.held g.O.Sink.tells g.O.Sink.taken g.T.Sink.tells g.T.Sink.taken c.drain.new.subsystem.world c.drain.new.packs c.drain.new.out c.drain.new.trace c.drain.new.desk.tally in
+      let stored = c.args.script.now in
+      let past : length stored.lines ≤ c.loop-i.i = subst (λ (xs : List Kept). length xs ≤ c.loop-i.i) c.lines-lines.ensures c.loop-i-test.false in
+      let all : length (meaning_of stored).lines ≤ c.loop-i.i =
+      subst (λ (n : ℕ). n ≤ c.loop-i.i) (sym (length-map (lines_in stored) line_of ∙ length-map stored.lines (seen stored.text))) past in
+      let number : c.from-number.result + 1 ≡ stored.count + 1 = ap (λ (n : ℕ). n + 1) (c.from-number.ensures ∙ c.count.ensures) in
+      λ t. plays_end (meaning_of stored) c.loop-i.i old mid new all drains.played.told.never_again_out drains.played.told.never_again_trace
+      (subst (λ (n : ℕ). PlaysDrain n mid new) number (drains.played.plays t)) (c.loop-i.invariant.plays (drains.played.told.never_again t));
+  stops = search rules;
+  told = search rules;
+  requests = search rules;
+}
 
-pub returns-in_err-play_line-clause-stops : goal.returns-in_err-play_line-clause-stops
-returns-in_err-play_line-clause-stops g c =
-    let so = c.loop-i.invariant in
-    let plays = c.in_err-play_line.ensures in
-    let old : Stage = stage g.P.Packs.tells g.P.Packs.held g.O.Sink.tells g.O.Sink.taken g.T.Sink.tells g.T.Sink.taken c.args.subsystem.now.world c.args.packs.now c.args.out.now c.args.trace.now c.args.desk.now.tally in
-    let mid : Stage = stage g.P.Packs.tells g.P.Packs.held g.O.Sink.tells g.O.Sink.taken g.T.Sink.tells g.T.Sink.taken c.loop-i.subsystem.world c.loop-i.packs c.loop-i.out c.loop-i.trace c.loop-i.desk.tally in
-    let new : Stage = stage g.P.Packs.tells g.P.Packs.held g.O.Sink.tells g.O.Sink.taken g.T.Sink.tells g.T.Sink.taken c.play_line.new.subsystem.world c.play_line.new.packs c.play_line.new.out c.play_line.new.trace c.play_line.new.desk.tally in
-    let stored = c.args.script.now in
-    let item = c.index-lines-i.result in
-    let is : item ≡ get_or stored.lines c.loop-i.i item = subst (λ (xs : List Kept). item ≡ get_or xs c.loop-i.i item) c.lines-lines.ensures c.index-lines-i.is in
-    let lt : c.loop-i.i < length stored.lines = subst (λ (xs : List Kept). c.loop-i.i < length xs) c.lines-lines.ensures c.loop-i-test.true in
-    err_is _ c.from_residual.result c.in_err-play_line.field-0.0 c.from_residual.ensures.1
-    (λ t. line_halts (meaning_of stored) c.loop-i.i (line_of (seen stored.text item)) c.in_err-play_line.field-0.0 old mid new (here_is stored c.loop-i.i item is lt)
-    (so.plays (plays.never_again t)) (plays.stops t))
+pub returns-in_err-play_line-clause-played : goal.returns-in_err-play_line-clause-played
+returns-in_err-play_line-clause-played g c = record {
+  plays = search rules;
+  stops =
+      let so = c.loop-i.invariant in
+      let plays = c.in_err-play_line.ensures in
+      let old : Stage = stage g.P.Packs.tells g.P.Packs.held g.O.Sink.tells g.O.Sink.taken g.T.Sink.tells g.T.Sink.taken c.args.subsystem.now.world c.args.packs.now c.args.out.now c.args.trace.now c.args.desk.now.tally in
+      let mid : Stage = stage g.P.Packs.tells g.P.Packs.held g.O.Sink.tells g.O.Sink.taken g.T.Sink.tells g.T.Sink.taken c.loop-i.subsystem.world c.loop-i.packs c.loop-i.out c.loop-i.trace c.loop-i.desk.tally in
+      let new : Stage = stage g.P.Packs.tells g.P.Packs.held g.O.Sink.tells g.O.Sink.taken g.T.Sink.tells g.T.Sink.taken c.play_line.new.subsystem.world c.play_line.new.packs c.play_line.new.out c.play_line.new.trace c.play_line.new.desk.tally in
+      let stored = c.args.script.now in
+      let item = c.index-lines-i.result in
+      let is : item ≡ get_or stored.lines c.loop-i.i item = subst (λ (xs : List Kept). item ≡ get_or xs c.loop-i.i item) c.lines-lines.ensures c.index-lines-i.is in
+      let lt : c.loop-i.i < length stored.lines = subst (λ (xs : List Kept). c.loop-i.i < length xs) c.lines-lines.ensures c.loop-i-test.true in
+      err_is _ c.from_residual.result c.in_err-play_line.field-0.0 c.from_residual.ensures.1
+      (λ t. line_halts (meaning_of stored) c.loop-i.i (line_of (seen stored.text item)) c.in_err-play_line.field-0.0 old mid new (here_is stored c.loop-i.i item is lt)
+      (so.plays (plays.played.told.never_again t)) (plays.played.stops t));
+  told = search rules;
+  requests = search rules;
+}
 
-pub returns-in_err-drain-clause-stops : goal.returns-in_err-drain-clause-stops
-returns-in_err-drain-clause-stops g c =
-    let drains = c.in_err-drain.ensures in
-    let old : Stage = stage g.P.Packs.tells g.P.Packs.held g.O.Sink.tells g.O.Sink.taken g.T.Sink.tells g.T.Sink.taken c.args.subsystem.now.world c.args.packs.now c.args.out.now c.args.trace.now c.args.desk.now.tally in
-    let mid : Stage = stage g.P.Packs.tells g.P.Packs.held g.O.Sink.tells g.O.Sink.taken g.T.Sink.tells g.T.Sink.taken c.loop-i.subsystem.world c.loop-i.packs c.loop-i.out c.loop-i.trace c.loop-i.desk.tally in
-    let new : Stage = stage g.P.Packs.tells g.P.Packs.held g.O.Sink.tells g.O.Sink.taken g.T.Sink.tells g.T.Sink.taken c.drain.new.subsystem.world c.drain.new.packs c.drain.new.out c.drain.new.trace c.drain.new.desk.tally in
-    let stored = c.args.script.now in
-    let past : length stored.lines ≤ c.loop-i.i = subst (λ (xs : List Kept). length xs ≤ c.loop-i.i) c.lines-lines.ensures c.loop-i-test.false in
-    let all : length (meaning_of stored).lines ≤ c.loop-i.i =
-    subst (λ (n : ℕ). n ≤ c.loop-i.i) (sym (length-map (lines_in stored) line_of ∙ length-map stored.lines (seen stored.text))) past in
-    let number : c.from-number.result + 1 ≡ stored.count + 1 = ap (λ (n : ℕ). n + 1) (c.from-number.ensures ∙ c.count.ensures) in
-    err_is _ c.from_residual-in_err-drain.result c.in_err-drain.field-0.0 c.from_residual-in_err-drain.ensures.1
-    (λ t. end_halts (meaning_of stored) c.loop-i.i (c.from-number.result + 1) c.in_err-drain.field-0.0 old mid new all number (drains.stops t) (c.loop-i.invariant.plays (drains.never_again t)))
+pub returns-in_err-drain-clause-played : goal.returns-in_err-drain-clause-played
+returns-in_err-drain-clause-played g c = record {
+  plays = search rules;
+  stops =
+      let drains = c.in_err-drain.ensures in
+      let old : Stage = stage g.P.Packs.tells g.P.Packs.held g.O.Sink.tells g.O.Sink.taken g.T.Sink.tells g.T.Sink.taken c.args.subsystem.now.world c.args.packs.now c.args.out.now c.args.trace.now c.args.desk.now.tally in
+      let mid : Stage = stage g.P.Packs.tells g.P.Packs.held g.O.Sink.tells g.O.Sink.taken g.T.Sink.tells g.T.Sink.taken c.loop-i.subsystem.world c.loop-i.packs c.loop-i.out c.loop-i.trace c.loop-i.desk.tally in
+      let new : Stage = stage g.P.Packs.tells g.P.Packs.held g.O.Sink.tells g.O.Sink.taken g.T.Sink.tells g.T.Sink.taken c.drain.new.subsystem.world c.drain.new.packs c.drain.new.out c.drain.new.trace c.drain.new.desk.tally in
+      let stored = c.args.script.now in
+      let past : length stored.lines ≤ c.loop-i.i = subst (λ (xs : List Kept). length xs ≤ c.loop-i.i) c.lines-lines.ensures c.loop-i-test.false in
+      let all : length (meaning_of stored).lines ≤ c.loop-i.i =
+      subst (λ (n : ℕ). n ≤ c.loop-i.i) (sym (length-map (lines_in stored) line_of ∙ length-map stored.lines (seen stored.text))) past in
+      let number : c.from-number.result + 1 ≡ stored.count + 1 = ap (λ (n : ℕ). n + 1) (c.from-number.ensures ∙ c.count.ensures) in
+      err_is _ c.from_residual-in_err-drain.result c.in_err-drain.field-0.0 c.from_residual-in_err-drain.ensures.1
+      (λ t. end_halts (meaning_of stored) c.loop-i.i (c.from-number.result + 1) c.in_err-drain.field-0.0 old mid new all number (drains.played.stops t) (c.loop-i.invariant.plays (drains.played.told.never_again t)));
+  told = search rules;
+  requests = search rules;
+}

@@ -1,5 +1,6 @@
 use Rattle.std.proofs.Common.{◌≡◌, ◌≤◌, [], false, take, IsTrue}
 use Rattle.script_meaning.specs.Meaning.{meaning_of}
+use Rattle.event_player.specs.Faults.{HaveTold}
 use Rattle.event_player.specs.Steps.{stage}
 use Rattle.event_player.proofs.Rooms.{ReadyBehind}
 use Rattle.event_player.proofs.Whole.{PlaysTo}
@@ -8,9 +9,7 @@ use Rattle.event_player.proofs.play.play_lines.Given as goal
 -- the lines below i are played
 abbrev pub invariant-loop-i : goal.invariant-loop-i
 invariant-loop-i g l = record {
-  never_again : IsTrue (g.P.Packs.tells l.packs) → IsTrue (g.P.Packs.tells l.fn.packs);
-  never_again_out : IsTrue (g.O.Sink.tells l.out) → IsTrue (g.O.Sink.tells l.fn.out);
-  never_again_trace : IsTrue (g.T.Sink.tells l.trace) → IsTrue (g.T.Sink.tells l.fn.trace);
+  told : HaveTold (g.P.Packs.tells l.fn.packs) (g.P.Packs.tells l.packs) (g.O.Sink.tells l.fn.out) (g.O.Sink.tells l.out) (g.T.Sink.tells l.fn.trace) (g.T.Sink.tells l.trace);
   later : g.P.Packs.faults l.fn.packs ≤ g.P.Packs.faults l.packs;
   later_out : g.O.Sink.faults l.fn.out ≤ g.O.Sink.faults l.out;
   later_trace : g.T.Sink.faults l.fn.trace ≤ g.T.Sink.faults l.trace;
