@@ -31,11 +31,10 @@ use Rattle.run_counts.specs.Counted.{behind}
 use Rattle.run_counts.specs.Doings.{answers, answers_at, at_moment}
 use Rattle.run_counts.specs.Ends.{ends_from}
 use Rattle.run_counts.proofs.Doing.{set_length, is_same}
-use Rattle.run_counts.proofs.Following.{keeps_set}
 use Rattle.run_counts.proofs.Turns.{step_before}
 use Rattle.run_times.specs.Blocks.{request_of}
 use Rattle.run_times.specs.Since.{ends_within}
-use Rattle.run_times.proofs.Drives.{turned_stands, IsAway, heard_away}
+use Rattle.run_counts.proofs.Keeping.{keeps_set, turned_keeps, IsAway, heard_away}
 use Rattle.run_times.proofs.Requests.{Fits, step_fits, all_fits, at_stays, behind_stays, more_last, place_end}
 use Rattle.run_queues.specs.Queued.{IsAtStart, Course, asking, asked_for, IsOfOther, IsCourse, is_end, IsServed, ComesInHand, up_to_answer, events_since, queued_in, Queues}
 use Rattle.run_queues.proofs.Events.{at_event, all_small, fewer, events_within, fewer_within, one_ends, at_inside, step_inside, free_of, at_free, all_free, all_inside, free_at, free_since, fewer_up_to}
@@ -118,7 +117,7 @@ abbrev hand_of : Known → ℕ → Option ℕ
 hand_of k u = (drive_at k.drives u).trial.hand
 
 at_hand : (m : Moment) (k : Known) (u : ℕ) → hand_of (at_moment k m) u ≡ hand_of k u
-at_hand m k u = turned_stands (λ (d : Drive). d.trial.hand) (record { unseen = λ d. refl; cleared = λ d. refl }) (λ d. refl) (begins k.before m) k.before k u
+at_hand m k u = turned_keeps (λ (d : Drive). d.trial.hand) (record { unseen = λ d. refl; cleared = λ d. refl }) (λ d. refl) (begins k.before m) k.before k u
 
 asked_hand : (a : Result ℕ Outcome) (d : Drive) → (drive_asked a d).trial.hand ≡ d.trial.hand
 asked_hand (Ok cylinder) d = refl
