@@ -22,7 +22,7 @@ use Rattle.hardware_table.specs.declared.Moved.{Moved}
 use Rattle.hardware_table.specs.declared.Moved.TheVariants as verdict
 use Rattle.pack_geometry.specs.declared.DriveKind.{DriveKind}
 use Rattle.run_picture.specs.declared.columns.Window.{Window}
-use Rattle.run_picture.specs.Fold.{Known, new_known, declared, asked_at, admitted, request_asked, frames_of, drive_asked, drive_at, request_at, met_at, place_in, drive_after, request_after, request_end, events_in, finished, step, run_from}
+use Rattle.run_picture.specs.Fold.{Known, new_known, declared, asked_at, admitted, request_asked, frames_of, drive_asked, drive_at, request_at, met_at, place_in, drive_after, request_after, request_end, events_in, finished, step, run_from, drive_end, heard}
 use Rattle.run_picture.specs.Places.{place_of}
 use Rattle.script_reader.specs.declared.statement.Request.{Request as Wish}
 use Rattle.trace_lines.specs.declared.telling.Told.{Told as Deed}
@@ -30,11 +30,11 @@ use Rattle.trace_lines.specs.declared.telling.Told.TheVariants as deed
 use Rattle.run_counts.specs.Counted.{behind}
 use Rattle.run_counts.specs.Doings.{answers, answers_at, at_moment}
 use Rattle.run_counts.specs.Ends.{ends_from}
-use Rattle.run_counts.proofs.Doing.{set_length, is_same}
+use Rattle.run_counts.proofs.Doing.{set_here, set_length, met_many, is_same}
 use Rattle.run_counts.proofs.Turns.{step_before}
 use Rattle.run_times.specs.Blocks.{request_of}
 use Rattle.run_times.specs.Since.{ends_within}
-use Rattle.run_counts.proofs.Keeping.{keeps_set, turned_keeps, IsAway, heard_away}
+use Rattle.run_counts.proofs.Keeping.{keeps_set, turned_keeps, IsAway, heard_away, met_leaves}
 use Rattle.run_times.proofs.Requests.{Fits, step_fits, all_fits, at_stays, behind_stays, more_last, place_end}
 use Rattle.run_queues.specs.Queued.{IsAtStart, Course, asking, asked_for, IsOfOther, IsCourse, is_end, IsServed, ComesInHand, up_to_answer, events_since, queued_in, Queues}
 use Rattle.run_queues.proofs.Events.{at_event, all_small, fewer, events_within, fewer_within, one_ends, at_inside, step_inside, free_of, at_free, all_free, all_inside, free_at, free_since, fewer_up_to}
@@ -155,8 +155,8 @@ record IsHeld (k : Known) (u id q a n : ℕ) : Type 0 where
 
 -- behind a line of its own that is its end none is of it, and behind another it is in hand
 own_rest : (line : ℕ) (d : Deed) (ms : List Moment) (k : Known) (u id q a n : ℕ) → Has k id q → u < length k.drives → core_of (request_at (step k (Told line u id d)).requests q) ≡ core_in a n
-    → ((k : Known) → IsHeld k u id q a n → IsServed u id ms → core_of (request_at (fold step k ms).requests q) ≡ core_in a n)
-    → (b : Bool) → is_end d ≡ b → MatchBool b (AllByRecursion (IsOfOther id) ms) (IsServed u id ms)
+    → ((k : Known) → IsHeld k u id q a n → IsServed u id k ms → core_of (request_at (fold step k ms).requests q) ≡ core_in a n)
+    → (b : Bool) → is_end d ≡ b → MatchBool b (AllByRecursion (IsOfOther id) ms) (IsServed u id (step k (Told line u id d)) ms)
     → core_of (request_at (fold step k (Told line u id d ∷ ms)).requests q) ≡ core_in a n
 own_rest line d ms k u id q a n h here core rest true e others =
     ap core_of (all_other ms (step k (Told line u id d)) id q (step_has (Told line u id d) k id q h) others) ∙ core
@@ -178,11 +178,37 @@ held_own line d k u id q a n i =
     own_core line u d k id q false i.has (held_is (drive_at now.drives u) (request_at now.requests q) q (at_why m k q (ap (λ (c : Core). c.why) i.core)) hand)
     ∙ held_core d now.event q (drive_at now.drives u) (core_of (request_at k.requests q)) hand ∙ i.core
 
-held_other : (m : Moment) (k : Known) (u id q a n : ℕ) → IsAway u m → IsOfOther id m → IsHeld k u id q a n → IsHeld (step k m) u id q a n
-held_other m k u id q a n away other i = record {
+-- another's leaves the hand, where it is not heard at the drive
+turned_not : (b : Bool) → not b ≡ false → b ≡ true
+turned_not true e = refl
+turned_not false e = cc
+
+refused_hand : (line u i : ℕ) (k : Known) → u < length k.drives → answers line u i k ≡ false → hand_of (heard (Told line u i deed.End) k) u ≡ hand_of k u
+refused_hand line u i k inside none =
+    let met : Known = met_at (place_of k.ids i) line u i k in
+    let place : ℕ = place_in (place_of k.ids i) k.ids in
+    let x : Drive = drive_at met.drives u in
+    let r : Request = request_at met.requests place in
+    ap (λ (d : Drive). d.trial.hand) (set_here met.drives u (drive_after met.event place deed.End x r) (subst (λ (n : ℕ). u < n) (sym (met_many (place_of k.ids i) line u i k)) inside))
+    ∙ ap (λ (b : Bool). (drive_end b met.event x r).trial.hand) (turned_not (is_refused place x r) none)
+    ∙ met_leaves (λ (d : Drive). d.trial.hand) (record { asked = asked_hand; met = λ d. refl; changes = λ c d. refl }) (place_of k.ids i) line u i k u
+
+unheard_hand : (line v i : ℕ) (d : Deed) (k : Known) (u : ℕ) (b : Bool) → (v == u) ≡ b → u < length k.drives → b && (not (is_end d) || answers line v i (at_moment k (Told line v i d))) ≡ false
+    → hand_of (step k (Told line v i d)) u ≡ hand_of k u
+unheard_hand line v i d k u false e inside none = away_hand (Told line v i d) k u e
+unheard_hand line v i deed.End k u true e inside none = at_unit (is_same v u e) none
+  where
+    at_unit : v ≡ u → answers line v i (at_moment k (Told line v i deed.End)) ≡ false → hand_of (step k (Told line v i deed.End)) u ≡ hand_of k u
+    at_unit is none =
+        subst (λ (w : ℕ). answers line w i (at_moment k (Told line w i deed.End)) ≡ false → hand_of (step k (Told line w i deed.End)) u ≡ hand_of k u) (sym is)
+        (λ none. refused_hand line u i (at_moment k (Told line u i deed.End)) (at_inside (Told line u i deed.End) k u inside) none ∙ at_hand (Told line u i deed.End) k u) none
+unheard_hand line v i d k u true e inside none = cc
+
+held_other : (m : Moment) (k : Known) (u id q a n : ℕ) → hand_of (step k m) u ≡ hand_of k u → IsOfOther id m → IsHeld k u id q a n → IsHeld (step k m) u id q a n
+held_other m k u id q a n hand other i = record {
   has = step_has m k id q i.has;
   here = step_inside m k u i.here;
-  hand = away_hand m k u away ∙ i.hand;
+  hand = hand ∙ i.hand;
   core = ap core_of (step_other m k id q i.has other) ∙ i.core;
 }
 
@@ -194,26 +220,37 @@ and_true : (a b : Bool) → b ≡ true → (a && b) ≡ a
 and_true true b e = e
 and_true false b e = refl
 
-served_stays : (ms : List Moment) (k : Known) (u id q a n : ℕ) → IsHeld k u id q a n → IsServed u id ms → core_of (request_at (fold step k ms).requests q) ≡ core_in a n
+both_first : (a b : Bool) → (a && b) ≡ true → a ≡ true
+both_first true b e = refl
+both_first false b e = cc
+
+served_stays : (ms : List Moment) (k : Known) (u id q a n : ℕ) → IsHeld k u id q a n → IsServed u id k ms → core_of (request_at (fold step k ms).requests q) ≡ core_in a n
 served_stays [] k u id q a n i served = i.core
-served_stays (Played line play ∷ ms) k u id q a n i served = served_stays ms (step k (Played line play)) u id q a n (held_other (Played line play) k u id q a n tt tt i) served
-served_stays (Idle line ∷ ms) k u id q a n i served = served_stays ms (step k (Idle line)) u id q a n (held_other (Idle line) k u id q a n tt tt i) served
+served_stays (Played line play ∷ ms) k u id q a n i served =
+    served_stays ms (step k (Played line play)) u id q a n (held_other (Played line play) k u id q a n (away_hand (Played line play) k u tt) tt i) served
+served_stays (Idle line ∷ ms) k u id q a n i served =
+    served_stays ms (step k (Idle line)) u id q a n (held_other (Idle line) k u id q a n (away_hand (Idle line) k u tt) tt i) served
 served_stays (Told line v i d ∷ ms) k u id q a n held served = told_stays (i == id) refl (λ k held served. served_stays ms k u id q a n held served)
   where
-    told_stays : (b : Bool) → (i == id) ≡ b → ((k : Known) → IsHeld k u id q a n → IsServed u id ms → core_of (request_at (fold step k ms).requests q) ≡ core_in a n)
+    told_stays : (b : Bool) → (i == id) ≡ b → ((k : Known) → IsHeld k u id q a n → IsServed u id k ms → core_of (request_at (fold step k ms).requests q) ≡ core_in a n)
         → core_of (request_at (fold step k (Told line v i d ∷ ms)).requests q) ≡ core_in a n
     told_stays false e rest =
-        rest (step k (Told line v i d)) (held_other (Told line v i d) k u id q a n (served.0 ∙ e) e held)
-        (MatchBool-at_false (AllByRecursion (IsOfOther id) ms) (IsServed u id ms) (and_false (is_end d) (i == id) e) served.1)
+        rest (step k (Told line v i d)) (held_other (Told line v i d) k u id q a n (unheard_hand line v i d k u (v == u) refl held.here (served.0 ∙ e)) e held)
+        (MatchBool-at_false (AllByRecursion (IsOfOther id) ms) (IsServed u id (step k (Told line v i d)) ms) (and_false (is_end d) (i == id) e) served.1)
     told_stays true e rest =
-        ap (λ (w : ℕ). core_of (request_at (fold step k (Told line w i d ∷ ms)).requests q)) (is_same v u (served.0 ∙ e))
-        ∙ ap (λ (w : ℕ). core_of (request_at (fold step k (Told line u w d ∷ ms)).requests q)) (is_same i id e)
-        ∙ own_rest line d ms k u id q a n held.has held.here (held_own line d k u id q a n held) rest (is_end d) refl
-        (subst (λ (b : Bool). MatchBool b (AllByRecursion (IsOfOther id) ms) (IsServed u id ms)) (and_true (is_end d) (i == id) e) served.1)
+        let same : v ≡ u = is_same v u (both_first (v == u) (not (is_end d) || answers line v i (at_moment k (Told line v i d))) (served.0 ∙ e)) in
+        at_own v same i (is_same i id e) (subst (λ (b : Bool). MatchBool b (AllByRecursion (IsOfOther id) ms) (IsServed u id (step k (Told line v i d)) ms)) (and_true (is_end d) (i == id) e) served.1)
+      where
+        at_own : (v : ℕ) → v ≡ u → (i : ℕ) → i ≡ id → MatchBool (is_end d) (AllByRecursion (IsOfOther id) ms) (IsServed u id (step k (Told line v i d)) ms)
+            → core_of (request_at (fold step k (Told line v i d ∷ ms)).requests q) ≡ core_in a n
+        at_own v same i is more =
+            subst (λ (w : ℕ). MatchBool (is_end d) (AllByRecursion (IsOfOther id) ms) (IsServed u id (step k (Told line w i d)) ms) → core_of (request_at (fold step k (Told line w i d ∷ ms)).requests q) ≡ core_in a n) (sym same)
+            (subst (λ (w : ℕ). MatchBool (is_end d) (AllByRecursion (IsOfOther id) ms) (IsServed u id (step k (Told line u w d)) ms) → core_of (request_at (fold step k (Told line u w d ∷ ms)).requests q) ≡ core_in a n) (sym is)
+            (own_rest line d ms k u id q a n held.has held.here (held_own line d k u id q a n held) rest (is_end d) refl)) more
 
 -- IT COMES IN HAND with its first line, where no other is
 comes : (line : ℕ) (d : Deed) (ms : List Moment) (k : Known) (u id q : ℕ) → Has k id q → u < length k.drives → hand_of k u ≡ None → (request_at k.requests q).why ≡ None
-    → IsServed u id (Told line u id d ∷ ms)
+    → IsServed u id k (Told line u id d ∷ ms)
     → core_of (request_at (fold step k (Told line u id d ∷ ms)).requests q) ≡ core_in (request_at k.requests q).asked (max (request_at k.requests q).asked (free_of k u))
 comes line d ms k u id q h here none why served =
     let m : Moment = Told line u id d in
@@ -228,7 +265,7 @@ comes line d ms k u id q h here none why served =
     ∙ ap (λ (n : ℕ). core_in a (max a n)) (at_free m k u))
     (λ k. served_stays ms k u id q a n)
     (is_end d) refl
-    (subst (λ (b : Bool). MatchBool b (AllByRecursion (IsOfOther id) ms) (IsServed u id ms)) (and_true (is_end d) (id == id) (same_place id)) served.1)
+    (subst (λ (b : Bool). MatchBool b (AllByRecursion (IsOfOther id) ms) (IsServed u id (step k m) ms)) (and_true (is_end d) (id == id) (same_place id)) served.1)
 
 -- BEHIND THE LAST MOMENT
 left_at : (rs : List Request) (events q : ℕ) → q < length rs → request_at (map (left events) rs) q ≡ left events (request_at rs q)
@@ -434,10 +471,6 @@ refused_is known c line u rest r others none =
     refused_at : (line u id q : ℕ) (k : Known) → Has k id q → answers line u id k ≡ false → is_refused q (drive_at k.drives u) (request_at k.requests q) ≡ true
     refused_at line u id q k h none =
         turned_not (is_refused q (drive_at k.drives u) (request_at k.requests q)) (sym (ap (λ (o : Option ℕ). answers_at (place_in o k.ids) u (met_at o line u id k)) h.found) ∙ none)
-      where
-        turned_not : (b : Bool) → not b ≡ false → b ≡ true
-        turned_not true e = refl
-        turned_not false e = cc
 
     end_later : (e f w n l : ℕ) → f ≡ min (e + w) (2 ^ 64 - 1) → w ≤ n → n ≡ l + 1 → e + l < 2 ^ 64 - 1 → f - e ≡ w
     end_later e f w n l same low many few = omega (arith, same, low, many, few)
