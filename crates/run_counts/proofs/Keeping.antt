@@ -13,7 +13,7 @@ use Rattle.run_picture.specs.declared.columns.Head.{Head}
 use Rattle.run_picture.specs.Columns.{headed, is_before, is_inside, is_full}
 use Rattle.run_picture.specs.Fold.{Known, heard, asked_at, admitted, drive_asked, drive_at, met_at, event_counted_in, event_ended, shown_by, column_closed, turned_behind}
 use Rattle.run_picture.specs.Places.{place_of}
-use Rattle.script_reader.specs.declared.statement.Request.{Request as Asked}
+use Rattle.script_lines.specs.declared.statement.Request.{Request as Asked}
 use Rattle.run_counts.proofs.Doing.{set_other, is_other}
 
 -- LISTS OF DRIVES

@@ -16,10 +16,11 @@ use Rattle.run_picture.specs.declared.columns.Window.{Window}
 use Rattle.run_picture.specs.Fold.{Known, new_known}
 use Rattle.run_view.specs.Views as views
 use Rattle.script_meaning.specs.Meaning.{statement_of, line_of}
-use Rattle.script_reader.specs.declared.statement.Span.{Span}
-use Rattle.script_reader.specs.declared.statement.Statement.{Statement}
-use Rattle.script_reader.specs.declared.statement.Statement.TheVariants as says
-use Rattle.script_reader.specs.Stored.{Kept, Stored, renamed, digits_at, seen as stands_for}
+use Rattle.script_lines.specs.declared.statement.Span.{Span}
+use Rattle.script_lines.specs.declared.statement.Statement.{Statement}
+use Rattle.script_lines.specs.declared.statement.Statement.TheVariants as says
+use Rattle.script_lines.specs.Renamed.{renamed}
+use Rattle.script_reader.specs.Stored.{Kept, Stored, digits_at, seen as stands_for}
 use Rattle.trace_replay.specs.Script.{Numbered, Line, Drain, with_input, inputs_before}
 use Rattle.run_meanings.specs.Meanings.{seen_input, moment_of, IsReadAsMeant}
 

@@ -11,7 +11,7 @@ use Rattle.drive_pictures.specs.Requests.{new_request}
 use Rattle.run_picture.specs.Fold.{Known, heard, asked_at, admitted, request_asked, frames_of, drive_at, request_at, met_at, told_at, place_in, drive_after, request_after, step}
 use Rattle.run_picture.specs.Places.{place_of}
 use Rattle.run_picture.proofs.PlaceLaws.{place-elsewhere}
-use Rattle.script_reader.specs.declared.statement.Request.{Request as Asked}
+use Rattle.script_lines.specs.declared.statement.Request.{Request as Asked}
 use Rattle.trace_lines.specs.declared.telling.Told.{Told as Deed}
 use Rattle.run_counts.specs.Doings.{at_moment}
 use Rattle.run_counts.proofs.Doing.{set_here, is_same}

@@ -24,7 +24,7 @@ use Rattle.pack_geometry.specs.declared.DriveKind.{DriveKind}
 use Rattle.run_picture.specs.declared.columns.Window.{Window}
 use Rattle.run_picture.specs.Fold.{Known, new_known, declared, asked_at, admitted, request_asked, frames_of, drive_asked, drive_at, request_at, met_at, place_in, drive_after, request_after, request_end, events_in, finished, step, run_from, drive_end, heard}
 use Rattle.run_picture.specs.Places.{place_of}
-use Rattle.script_reader.specs.declared.statement.Request.{Request as Wish}
+use Rattle.script_lines.specs.declared.statement.Request.{Request as Wish}
 use Rattle.trace_lines.specs.declared.telling.Told.{Told as Deed}
 use Rattle.trace_lines.specs.declared.telling.Told.TheVariants as deed
 use Rattle.run_counts.specs.Counted.{behind}

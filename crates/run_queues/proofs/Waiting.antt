@@ -14,7 +14,7 @@ use Rattle.drive_pictures.specs.Events.{begins}
 use Rattle.drive_pictures.specs.Requests.{is_refused}
 use Rattle.run_picture.specs.Fold.{Known, heard, asked_at, admitted, drive_asked, drive_at, request_at, met_at, place_in, drive_after, drive_end, turned_behind, step}
 use Rattle.run_picture.specs.Places.{place_of}
-use Rattle.script_reader.specs.declared.statement.Request.{Request as Asked}
+use Rattle.script_lines.specs.declared.statement.Request.{Request as Asked}
 use Rattle.trace_lines.specs.declared.telling.Told.{Told as Deed}
 use Rattle.trace_lines.specs.declared.telling.Told.TheVariants as deed
 use Rattle.run_counts.specs.Counted.{drive_behind}

@@ -9,7 +9,7 @@ use Rattle.drive_pictures.specs.Drives.{new_queue}
 use Rattle.drive_pictures.specs.Requests.{queued}
 use Rattle.run_picture.specs.Fold.{Known, drive_at, run_from, step}
 use Rattle.run_picture.specs.Places.{place_of}
-use Rattle.script_reader.specs.declared.statement.Request.{Request as Asked}
+use Rattle.script_lines.specs.declared.statement.Request.{Request as Asked}
 use Rattle.trace_lines.specs.declared.telling.Told.{Told as Deed}
 use Rattle.trace_lines.specs.declared.telling.Told.TheVariants.{End}
 use Rattle.run_counts.specs.Counted.{behind}

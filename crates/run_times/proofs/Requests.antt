@@ -17,7 +17,7 @@ use Rattle.run_picture.specs.Columns.{headed, is_before, is_inside, is_full}
 use Rattle.run_picture.specs.Fold.{Known, heard, asked_at, admitted, request_asked, frames_of, drive_at, request_at, met_at, told_at, place_in, request_after, event_counted_in, event_ended, ended_behind, events_in, finished, shown_by, column_closed, turned_behind, step}
 use Rattle.run_picture.specs.Places.{place_from, place_of}
 use Rattle.run_picture.proofs.PlaceLaws.{place-at_end, place-elsewhere}
-use Rattle.script_reader.specs.declared.statement.Request.{Request as Asked}
+use Rattle.script_lines.specs.declared.statement.Request.{Request as Asked}
 use Rattle.trace_lines.specs.declared.telling.Told.{Told as Deed}
 use Rattle.run_counts.specs.Doings.{answers, at_moment}
 use Rattle.run_counts.proofs.Doing.{is_same}
