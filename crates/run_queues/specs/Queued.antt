@@ -57,11 +57,11 @@ pub record IsCourse (known : Known) (c : Course) : Type 0 where
   pub between : AllByRecursion (IsOfOther c.wish.id) c.between
   pub few : length (asked_for c) + length c.between < 2 ^ 64 - 1
 
--- a line of the trace is of the drive, and no end of a request that is refused
 abbrev pub is_end : Deed → Bool
 is_end End = true
 is_end deed = false
 
+-- a line of the trace is of the drive, and no end of a request that is refused
 abbrev pub is_heard_at : ℕ → Known → Moment → Bool
 is_heard_at u known (Told line v i deed) = (v == u) && (not (is_end deed) || answers line v i known)
 is_heard_at u known moment = false
