@@ -50,16 +50,16 @@ use Rattle.run_conditions.proofs.Turning.{Core, moment_core}
 use Rattle.run_conditions.proofs.Tying.{IsTied, Tied}
 
 -- THE HEAD, and what it has heard
-record FullHead (names : List ℕ) (l : List Request) (x : Drive) (u : ℕ) (lines : List Deed) (id : ℕ) : Type 0 where
-  there : u < 32
-  place : ℕ
-  found : place_of names id ≡ Some place
-  inside : place < length l
-  joined : (request_at l place).why ≡ None
-  heard : HasHeard place lines x (request_at l place)
-  holds : Holds place x.trial
+pub record FullHead (names : List ℕ) (l : List Request) (x : Drive) (u : ℕ) (lines : List Deed) (id : ℕ) : Type 0 where
+  pub there : u < 32
+  pub place : ℕ
+  pub found : place_of names id ≡ Some place
+  pub inside : place < length l
+  pub joined : (request_at l place).why ≡ None
+  pub heard : HasHeard place lines x (request_at l place)
+  pub holds : Holds place x.trial
 
-full_head : (names : List ℕ) (l : List Request) (x : Drive) (u : ℕ) (lines : List Deed) (id : ℕ) (ws : List (Waiting Wished)) → IsTied names l x u lines ws → ids (first_waiting ws) ≡ Some id
+pub full_head : (names : List ℕ) (l : List Request) (x : Drive) (u : ℕ) (lines : List Deed) (id : ℕ) (ws : List (Waiting Wished)) → IsTied names l x u lines ws → ids (first_waiting ws) ≡ Some id
     → FullHead names l x u lines id
 full_head names l x u lines id [] q is = absurd (none-some id is)
 full_head names l x u lines id (w ∷ rest) q is = record {

@@ -16,7 +16,7 @@ use Rattle.hardware_table.specs.Adapter.{AdapterState}
 use Rattle.pack_geometry.specs.declared.DriveKind.{DriveKind}
 use Rattle.partitions.specs.Partitions.{admission}
 use Rattle.run_counts.proofs.Doing.{set_length}
-use Rattle.run_counts.proofs.Following.{keeps_set}
+use Rattle.run_counts.proofs.Keeping.{keeps_set}
 use Rattle.run_counts.specs.Doings.{at_moment}
 use Rattle.run_drawings.proofs.Listening.{own_at}
 use Rattle.run_picture.specs.Fold.{Known, heard, asked_at, asked_with, admitted, admitted_by, drive_at, request_at, told_at, drive_after, drive_end, request_after, frames_back, step}
@@ -129,12 +129,12 @@ conditions_tied input drives s k lines t = record {
   queues = t.queues;
 }
 
-in_range : (ds : List Drive) (u : ℕ) (kind : DriveKind) → (drive_at ds u).kind ≡ Some kind → u < length ds
+pub in_range : (ds : List Drive) (u : ℕ) (kind : DriveKind) → (drive_at ds u).kind ≡ Some kind → u < length ds
 in_range [] u kind e = absurd (none-some kind e)
 in_range (d ∷ ds) zero kind e = omega arith
 in_range (d ∷ ds) (suc u) kind e = omega (arith, in_range ds u kind e)
 
-asked_is : (line : ℕ) (r : Wished) (write : Bool) (kind : DriveKind) (k : Known) → place_of k.ids r.id ≡ None → (drive_at k.drives r.unit).kind ≡ Some kind
+pub asked_is : (line : ℕ) (r : Wished) (write : Bool) (kind : DriveKind) (k : Known) → place_of k.ids r.id ≡ None → (drive_at k.drives r.unit).kind ≡ Some kind
     → asked_at (place_of k.ids r.id) line (asked_of r) write k ≡ asked_with (admitted_by (admission kind r.part r.block r.count) kind (asked_of r) k.lent) line (asked_of r) write k
 asked_is line r write kind k none e =
     ap (λ (o : Option ℕ). asked_at o line (asked_of r) write k) none

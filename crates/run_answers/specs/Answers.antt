@@ -1,11 +1,11 @@
 -- THE ANSWERS OF A LEGAL RUN, as they are drawn.
-use Rattle.std.specs.Prelude.{◌≡◌, ℕ, ◌<◌, ◌^◌, List, ◌∷◌, ◌++◌, length, map, Option, Some}
+use Rattle.std.specs.Prelude.{◌≡◌, ℕ, ◌-◌, ◌<◌, ◌^◌, List, ◌∷◌, ◌++◌, length, map, Option, Some}
 use Rattle.pack_model.specs.Pack as model
 use Rattle.pack_model.specs.TableSpelling.{Table}
 use Rattle.run_counts.specs.Counted.{behind}
 use Rattle.run_outcomes.specs.Outcomes.{IsWordOf}
 use Rattle.run_picture.specs.declared.columns.Window.{Window}
-use Rattle.run_picture.specs.Fold.{Known, request_at, run_from}
+use Rattle.run_picture.specs.Fold.{Known, drive_at, request_at, run_from}
 use Rattle.run_picture.specs.Places.{place_of}
 use Rattle.subsystem_spec.specs.Requests.{Answer}
 use Rattle.trace_replay.specs.Moments.{Moment, Told, End}
@@ -32,3 +32,9 @@ abbrev pub AreFramesLent : Type 0
 AreFramesLent = (script : Script) (tables : ℕ → Option Table) (old new : ℕ → model.Pack) (ms ns : List Moment) (window : Window)
     → IsLegalRun script tables old new (ms ++ ns)
     → (behind (known_of script window) (map seen_of ms)).lent ≡ (after_moments (start_of script tables old) ms).frames
+
+-- THOSE THAT WAIT at a drive are as many as in the queue of the replay's unit, behind any moments of a legal run.
+abbrev pub AreWaiting : Type 0
+AreWaiting = (script : Script) (tables : ℕ → Option Table) (old new : ℕ → model.Pack) (ms ns : List Moment) (window : Window) (u : ℕ)
+    → IsLegalRun script tables old new (ms ++ ns) → length ms < 2 ^ 64 - 1
+    → (drive_at (behind (known_of script window) (map seen_of ms)).drives u).queue.waiting ≡ length ((after_moments (start_of script tables old) ms).units u).service.waiting

@@ -2,10 +2,10 @@
 //!
 //! What is proved: `answers_law`: behind a legal run each request that was answered, with fewer than 2^64 moments before its end, has
 //! its end's line, and as its outcome the word of its answer, or `stopped`. `frames_law`: the frames that a picture counts as lent
-//! are those of the run.
+//! are those of the run. `waiting_law`: as many requests wait at a drive as in the queue of the run's unit.
 #![tactic(auto)]
 
-ghost use Rattle.run_answers.specs.Answers.{AreAnswersDrawn, AreFramesLent};
+ghost use Rattle.run_answers.specs.Answers.{AreAnswersDrawn, AreFramesLent, AreWaiting};
 
 /// The law of answers: behind a legal run a request has the line of its end, and its outcome is its answer's word, or `stopped`,
 /// whether it was refused as it was submitted or not.
@@ -16,4 +16,10 @@ pub fn answers_law()
 /// The law of frames: behind any moments of a legal run as many are lent as its requests that are outstanding need.
 pub fn frames_law()
     ensures { AreFramesLent }
+{}
+
+/// The law of waiting: behind any moments of a legal run, of fewer than 2^64 - 1, as many requests wait at a drive as in the queue
+/// of the run's unit.
+pub fn waiting_law()
+    ensures { AreWaiting }
 {}

@@ -18,7 +18,7 @@ use Rattle.partitions.specs.declared.Admission.{Admission}
 use Rattle.partitions.specs.declared.Admission.TheVariants as meets
 use Rattle.picture_sheet.specs.Words.{outcome_word}
 use Rattle.run_counts.proofs.Doing.{set_length, is_same}
-use Rattle.run_counts.proofs.Following.{keeps_set}
+use Rattle.run_counts.proofs.Keeping.{keeps_set}
 use Rattle.run_drawings.proofs.Listening.{found_more}
 use Rattle.run_outcomes.specs.Outcomes.{answer_word}
 use Rattle.run_picture.specs.Fold.{Known, drive_at, request_at, asked_with, admitted_by, drive_asked, request_asked, frames_of}
@@ -232,7 +232,7 @@ pub record Taken (drives : ℕ → Option DriveKind) (s : Replay) (k : Known) (l
   pub tied : Tied drives (submitted s r met) k lines
   pub act : ActTied k.ids k.requests (act_submitted r met)
 
-same_room : (lent frames needed : ℕ) (room : Bool) → lent ≡ frames → nat_le (frames + needed) 16384 ≡ room → nat_lt 16384 (plus lent needed) ≡ not room
+pub same_room : (lent frames needed : ℕ) (room : Bool) → lent ≡ frames → nat_le (frames + needed) 16384 ≡ room → nat_lt 16384 (plus lent needed) ≡ not room
 same_room lent frames needed room e f = ap (λ (n : ℕ). nat_lt 16384 (plus n needed)) e ∙ at frames needed ∙ ap not f
   where
     at : (a b : ℕ) → nat_lt 16384 (plus a b) ≡ not (nat_le (a + b) 16384)

@@ -17,7 +17,7 @@ use Rattle.hardware_table.specs.declared.Moved.{Moved}
 use Rattle.hardware_table.specs.declared.Moved.TheVariants as verdict
 use Rattle.pack_geometry.specs.declared.DriveKind.{DriveKind}
 use Rattle.run_counts.proofs.Doing.{set_here, set_other, set_length}
-use Rattle.run_counts.proofs.Following.{keeps_set}
+use Rattle.run_counts.proofs.Keeping.{keeps_set}
 use Rattle.run_drawings.proofs.Drawing.{no_refusal}
 use Rattle.run_drawings.proofs.Listening.{Same, told_same, own_at}
 use Rattle.run_outcomes.specs.Hearings.{told_all}
@@ -28,7 +28,7 @@ use Rattle.subsystem_spec.specs.ServiceOrder.{Waiting, Service}
 use Rattle.trace_lines.specs.declared.telling.Told.TheVariants as deed
 use Rattle.trace_reader.specs.RoundTrip.{told_of}
 use Rattle.trace_replay.specs.History.{is_refusal, with_deed, lines_after}
-use Rattle.trace_replay.specs.Moments.{Deed, Search, Seek, Recal, Offset, Centre, Clear, Pack, Transfer, Arrive, Sector, Intr, Try, Attn, End, Told}
+use Rattle.trace_replay.specs.Moments.{Deed, Sector, End, Told}
 use Rattle.trace_replay.specs.Replay.{Replay, LineMay, replay_told, unit_after, frames_after, at_unit, hand_of}
 use Rattle.trace_replay.specs.Service.{service_after, first_waiting, ids, frames_needed, request_or_none, target_of}
 use Rattle.trace_replay.specs.Service as service
@@ -63,33 +63,11 @@ verdict_hand verdict.Clean t = refl
 verdict_hand v t = refl
 
 sort : (d : Deed) → Goes d ⊎ ((a : Answer) × (d ≡ End a))
-sort (Search c y) =
-    inl (record { drive = λ e p x r. refl; request = λ e l p x r. refl; back = λ p x r. refl; kind = λ p x. refl; hand = λ p x. refl; paper = λ p x r. refl; service = λ s. refl; frames = λ s u. refl; lines = λ l. refl })
-sort (Seek c) =
-    inl (record { drive = λ e p x r. refl; request = λ e l p x r. refl; back = λ p x r. refl; kind = λ p x. refl; hand = λ p x. refl; paper = λ p x r. refl; service = λ s. refl; frames = λ s u. refl; lines = λ l. refl })
-sort Recal =
-    inl (record { drive = λ e p x r. refl; request = λ e l p x r. refl; back = λ p x r. refl; kind = λ p x. refl; hand = λ p x. refl; paper = λ p x r. refl; service = λ s. refl; frames = λ s u. refl; lines = λ l. refl })
-sort (Offset o) =
-    inl (record { drive = λ e p x r. refl; request = λ e l p x r. refl; back = λ p x r. refl; kind = λ p x. refl; hand = λ p x. refl; paper = λ p x r. refl; service = λ s. refl; frames = λ s u. refl; lines = λ l. refl })
-sort Centre =
-    inl (record { drive = λ e p x r. refl; request = λ e l p x r. refl; back = λ p x r. refl; kind = λ p x. refl; hand = λ p x. refl; paper = λ p x r. refl; service = λ s. refl; frames = λ s u. refl; lines = λ l. refl })
-sort Clear =
-    inl (record { drive = λ e p x r. refl; request = λ e l p x r. refl; back = λ p x r. refl; kind = λ p x. refl; hand = λ p x. refl; paper = λ p x r. refl; service = λ s. refl; frames = λ s u. refl; lines = λ l. refl })
-sort Pack =
-    inl (record { drive = λ e p x r. refl; request = λ e l p x r. refl; back = λ p x r. refl; kind = λ p x. refl; hand = λ p x. refl; paper = λ p x r. refl; service = λ s. refl; frames = λ s u. refl; lines = λ l. refl })
-sort (Transfer w b n) =
-    inl (record { drive = λ e p x r. refl; request = λ e l p x r. refl; back = λ p x r. refl; kind = λ p x. refl; hand = λ p x. refl; paper = λ p x r. refl; service = λ s. refl; frames = λ s u. refl; lines = λ l. refl })
-sort Arrive =
-    inl (record { drive = λ e p x r. refl; request = λ e l p x r. refl; back = λ p x r. refl; kind = λ p x. refl; hand = λ p x. refl; paper = λ p x r. refl; service = λ s. refl; frames = λ s u. refl; lines = λ l. refl })
 sort (Sector b v) =
     inl (record { drive = λ e p x r. refl; request = λ e l p x r. refl; back = λ p x r. refl; kind = λ p x. refl; hand = λ p x. verdict_hand v (in_hand p x.trial); paper = λ p x r. refl; service = λ s. refl; frames = λ s u. refl; lines = λ l. refl })
-sort Intr =
-    inl (record { drive = λ e p x r. refl; request = λ e l p x r. refl; back = λ p x r. refl; kind = λ p x. refl; hand = λ p x. refl; paper = λ p x r. refl; service = λ s. refl; frames = λ s u. refl; lines = λ l. refl })
-sort (Try b n) =
-    inl (record { drive = λ e p x r. refl; request = λ e l p x r. refl; back = λ p x r. refl; kind = λ p x. refl; hand = λ p x. refl; paper = λ p x r. refl; service = λ s. refl; frames = λ s u. refl; lines = λ l. refl })
-sort Attn =
-    inl (record { drive = λ e p x r. refl; request = λ e l p x r. refl; back = λ p x r. refl; kind = λ p x. refl; hand = λ p x. refl; paper = λ p x r. refl; service = λ s. refl; frames = λ s u. refl; lines = λ l. refl })
 sort (End a) = inr (a, refl)
+sort d =
+    inl (record { drive = λ e p x r. refl; request = λ e l p x r. refl; back = λ p x r. refl; kind = λ p x. refl; hand = λ p x. refl; paper = λ p x r. refl; service = λ s. refl; frames = λ s u. refl; lines = λ l. refl })
 
 -- ITS PLACE ALONE CHANGES
 pub request_many : (l : List Request) (n : ℕ) (r : Request) → length (set l n r) ≡ length l

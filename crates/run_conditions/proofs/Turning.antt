@@ -9,7 +9,7 @@ use Rattle.drive_pictures.specs.Events.{begins, line_of, is_idle}
 use Rattle.pack_geometry.specs.declared.DriveKind.{DriveKind}
 use Rattle.run_counts.proofs.Doing.{map_length}
 use Rattle.run_counts.specs.Doings.{at_moment}
-use Rattle.run_drawings.proofs.Drawing.{turned_keeps}
+use Rattle.run_counts.proofs.Keeping.{turned_keeps}
 use Rattle.run_picture.specs.declared.columns.Head.{Head}
 use Rattle.run_picture.specs.Columns.{headed, is_before, is_inside, is_full}
 use Rattle.run_picture.specs.Fold.{Known, drive_at, event_counted_in, event_ended, shown_by, column_closed, turned_behind}
@@ -62,4 +62,4 @@ pub moment_rest : (m : Moment) (k : Known) → rest_of (at_moment k m) ≡ rest_
 moment_rest m k = turned_rest (begins k.before m) k.before k
 
 pub moment_core : (m : Moment) (k : Known) (u : ℕ) → core_of (drive_at (at_moment k m).drives u) ≡ core_of (drive_at k.drives u)
-moment_core m k u = turned_keeps core_of (record { cleared = λ d. refl; counted = λ d. refl; unseen = λ d. refl }) (begins k.before m) k.before k u
+moment_core m k u = turned_keeps core_of (record { unseen = λ d. refl; cleared = λ d. refl }) (λ d. refl) (begins k.before m) k.before k u

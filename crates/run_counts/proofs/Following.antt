@@ -1,82 +1,33 @@
 -- What only a drive's own deeds change, over all moments of a run.
-use Rattle.std.proofs.Common.{◌≡◌, ℕ, zero, suc, ◌+◌, ◌-◌, ◌^◌, ◌<◌, ◌≤◌, ◌==◌, min, Bool, true, false, not, cond, List, [], ◌∷◌, ◌++◌, length, map, fold, set, Option, Some, None, Result, Ok, Err, refl, sym, ap, ◌∙◌, subst, arith}
+use Rattle.std.proofs.Common.{◌≡◌, ℕ, ◌+◌, ◌-◌, ◌^◌, ◌<◌, ◌≤◌, ◌==◌, min, Bool, true, false, not, cond, List, [], ◌∷◌, ◌++◌, length, fold, Option, Some, None, Result, Ok, Err, refl, sym, ap, ◌∙◌, subst, arith}
 use Rattle.pack_geometry.specs.declared.DriveKind.{DriveKind}
 use Rattle.hardware_table.specs.declared.Moved.{Moved}
 use Rattle.hardware_table.specs.declared.Moved.TheVariants as verdict
 use Rattle.drive_pictures.specs.declared.arms.Arm.{Arm}
 use Rattle.drive_pictures.specs.declared.drives.Drive.{Drive}
-use Rattle.drive_pictures.specs.declared.drives.Change.{Change}
 use Rattle.drive_pictures.specs.declared.moments.Moment.{Moment}
 use Rattle.drive_pictures.specs.declared.moments.Moment.TheVariants.{Played, Told, Idle}
-use Rattle.drive_pictures.specs.declared.moments.Play.TheVariants.{Ask, Other}
-use Rattle.drive_pictures.specs.declared.moments.Play.TheVariants as play
 use Rattle.drive_pictures.specs.declared.requests.Outcome.{Outcome}
 use Rattle.drive_pictures.specs.declared.requests.Request.{Request}
 use Rattle.drive_pictures.specs.Counts.{plus, apart}
-use Rattle.drive_pictures.specs.Drives.{event_counted, unseen, cleared, met, changed, verdict_arm}
-use Rattle.drive_pictures.specs.Events.{begins, line_of, is_idle}
+use Rattle.drive_pictures.specs.Drives.{event_counted, verdict_arm}
+use Rattle.drive_pictures.specs.Events.{begins}
 use Rattle.drive_pictures.specs.Requests.{is_refused}
-use Rattle.run_picture.specs.declared.columns.Head.{Head}
-use Rattle.run_picture.specs.Columns.{headed, is_before, is_inside, is_full}
-use Rattle.run_picture.specs.Fold.{Known, heard, asked_at, admitted, drive_asked, drive_at, request_at, met_at, place_in, drive_after, drive_end, event_counted_in, event_ended, shown_by, column_closed, turned_behind, step}
+use Rattle.run_picture.specs.Fold.{Known, heard, drive_asked, drive_at, request_at, met_at, place_in, drive_after, drive_end, step}
 use Rattle.run_picture.specs.Places.{place_of}
-use Rattle.script_lines.specs.declared.statement.Request.{Request as Asked}
 use Rattle.trace_lines.specs.declared.telling.Told.{Told as Deed}
 use Rattle.trace_lines.specs.declared.telling.Told.TheVariants as deed
 use Rattle.run_counts.specs.Doings.{answers, at_moment}
 use Rattle.run_counts.specs.Travels.{Aim, aimed, sector_stop, stop_by, at_stop, stop_list, stop_in, aim_after, stops_from, way_over, Travels, served_by, follows_after, follows_from, Serves}
-use Rattle.run_counts.proofs.Doing.{set_here, set_other, turned_letters, met_many, heard_many, is_same, is_other}
+use Rattle.run_counts.proofs.Keeping.{Keeps, Leaves, met_leaves, heard_away, turned_keeps}
+use Rattle.run_counts.proofs.Doing.{set_here, turned_letters, met_many, heard_many, is_same}
 
 -- SOMETHING OF A DRIVE that its own deeds alone change
 pub record Follows {A : Type 0} (p : Drive → A) (by : Deed → Bool → A → A) : Type 0 where
-  pub asked : (a : Result ℕ Outcome) (d : Drive) → p (drive_asked a d) ≡ p d
-  pub met : (d : Drive) → p (met d) ≡ p d
-  pub changes : (c : Change) (d : Drive) → p (changed c d) ≡ p d
-  pub unseen : (d : Drive) → p (unseen d) ≡ p d
-  pub cleared : (d : Drive) → p (cleared d) ≡ p d
+  pub leaves : Leaves p
+  pub keeps : Keeps p
   pub counted : (d : Drive) → p (event_counted d) ≡ p d
   pub after : (event place : ℕ) (d : Deed) (drive : Drive) (r : Request) → p (drive_after event place d drive r) ≡ by d (not (is_refused place drive r)) (p drive)
-
-pub keeps_set : {A : Type 0} (p : Drive → A) (ds : List Drive) (v : ℕ) (d : Drive) (u : ℕ) → p d ≡ p (drive_at ds v) → p (drive_at (set ds v d) u) ≡ p (drive_at ds u)
-keeps_set p [] v d u e = refl
-keeps_set p (x ∷ ds) zero d zero e = e
-keeps_set p (x ∷ ds) zero d (suc u) e = refl
-keeps_set p (x ∷ ds) (suc v) d zero e = refl
-keeps_set p (x ∷ ds) (suc v) d (suc u) e = keeps_set p ds v d u e
-
-pub keeps_map : {A : Type 0} (p : Drive → A) (h : Drive → Drive) (ds : List Drive) (u : ℕ) → ((d : Drive) → p (h d) ≡ p d) → p (drive_at (map h ds) u) ≡ p (drive_at ds u)
-keeps_map p h [] u e = refl
-keeps_map p h (d ∷ ds) zero e = e d
-keeps_map p h (d ∷ ds) (suc u) e = keeps_map p h ds u e
-
-closed_keeps : {A : Type 0} (p : Drive → A) (by : Deed → Bool → A → A) → Follows p by → (full : Bool) (head : Head) (k : Known) (u : ℕ) → p (drive_at (column_closed full head k).drives u) ≡ p (drive_at k.drives u)
-closed_keeps p by f true head k u = keeps_map p cleared k.drives u f.cleared
-closed_keeps p by f false head k u = refl
-
-shown_keeps : {A : Type 0} (p : Drive → A) (by : Deed → Bool → A → A) → Follows p by → (before inside : Bool) (last : Moment) (k : Known) (u : ℕ) → p (drive_at (shown_by before inside last k).drives u) ≡ p (drive_at k.drives u)
-shown_keeps p by f true inside last k u = keeps_map p cleared k.drives u f.cleared
-shown_keeps p by f false true last k u =
-    closed_keeps p by f (is_full (headed (line_of last) (is_idle last) k.drives k.head) k.window k.event) (headed (line_of last) (is_idle last) k.drives k.head) k u
-shown_keeps p by f false false last k u = refl
-
-turned_keeps : {A : Type 0} (p : Drive → A) (by : Deed → Bool → A → A) → Follows p by → (b : Bool) (o : Option Moment) (k : Known) (u : ℕ) → p (drive_at (cond b (turned_behind o k) k).drives u) ≡ p (drive_at k.drives u)
-turned_keeps p by f false o k u = refl
-turned_keeps p by f true None k u = refl
-turned_keeps p by f true (Some last) k u =
-    keeps_map p unseen (event_ended last k).drives u f.unseen
-    ∙ shown_keeps p by f (is_before k.window k.event) (is_inside k.window k.event) last (event_counted_in last k) u
-    ∙ keeps_map p event_counted k.drives u f.counted
-
-asked_keeps : {A : Type 0} (p : Drive → A) (by : Deed → Bool → A → A) → Follows p by → (o : Option ℕ) (line : ℕ) (r : Asked) (write : Bool) (k : Known) (u : ℕ)
-    → p (drive_at (asked_at o line r write k).drives u) ≡ p (drive_at k.drives u)
-asked_keeps p by f (Some place) line r write k u = refl
-asked_keeps p by f None line r write k u =
-    keeps_set p k.drives r.unit (drive_asked (admitted (drive_at k.drives r.unit).kind r k.lent) (drive_at k.drives r.unit)) u
-    (f.asked (admitted (drive_at k.drives r.unit).kind r k.lent) (drive_at k.drives r.unit))
-
-met_keeps : {A : Type 0} (p : Drive → A) (by : Deed → Bool → A → A) → Follows p by → (o : Option ℕ) (line v id : ℕ) (k : Known) (u : ℕ) → p (drive_at (met_at o line v id k).drives u) ≡ p (drive_at k.drives u)
-met_keeps p by f (Some place) line v id k u = refl
-met_keeps p by f None line v id k u = keeps_set p k.drives v (met (drive_at k.drives v)) u (f.met (drive_at k.drives v))
 
 told_keeps : {A : Type 0} (p : Drive → A) (by : Deed → Bool → A → A) → Follows p by → (line v id : ℕ) (d : Deed) (k : Known) (u : ℕ) (same : Bool) → (v == u) ≡ same → u < length k.drives
     → p (drive_at (heard (Told line v id d) k).drives u) ≡ cond same (by d (answers line v id k) (p (drive_at k.drives u))) (p (drive_at k.drives u))
@@ -89,17 +40,13 @@ told_keeps p by f line v id d k u true e inside =
     ap (λ (w : ℕ). p (drive_at (heard (Told line v id d) k).drives w)) (sym is)
     ∙ ap p (set_here met.drives v (drive_after met.event place d (drive_at met.drives v) (request_at met.requests place)) here)
     ∙ f.after met.event place d (drive_at met.drives v) (request_at met.requests place)
-    ∙ ap (by d (answers line v id k)) (met_keeps p by f (place_of k.ids id) line v id k v)
+    ∙ ap (by d (answers line v id k)) (met_leaves p f.leaves (place_of k.ids id) line v id k v)
     ∙ ap (λ (w : ℕ). by d (answers line v id k) (p (drive_at k.drives w))) is
-told_keeps p by f line v id d k u false e inside =
-    let met : Known = met_at (place_of k.ids id) line v id k in
-    ap p (set_other met.drives v _ u (is_other v u e)) ∙ met_keeps p by f (place_of k.ids id) line v id k u
+told_keeps p by f line v id d k u false e inside = heard_away p f.leaves (Told line v id d) k u e
 
 heard_keeps : {A : Type 0} (p : Drive → A) (by : Deed → Bool → A → A) → Follows p by → (m : Moment) (k : Known) (u : ℕ) → u < length k.drives
     → p (drive_at (heard m k).drives u) ≡ follows_after by u k m (p (drive_at k.drives u))
-heard_keeps p by f (Played line (Ask r write)) k u inside = asked_keeps p by f (place_of k.ids r.id) line r write k u
-heard_keeps p by f (Played line (play.Change v c)) k u inside = keeps_set p k.drives v (changed c (drive_at k.drives v)) u (f.changes c (drive_at k.drives v))
-heard_keeps p by f (Played line Other) k u inside = refl
+heard_keeps p by f (Played line play) k u inside = heard_away p f.leaves (Played line play) k u tt
 heard_keeps p by f (Told line v id d) k u inside = told_keeps p by f line v id d k u (v == u) refl inside
 heard_keeps p by f (Idle line) k u inside = refl
 
@@ -112,7 +59,7 @@ following p by f k u (m ∷ ms) inside =
     let there : u < length (step k m).drives = subst (λ (n : ℕ). u < n) (sym (heard_many m (at_moment k m))) here in
     following p by f (step k m) u ms there
     ∙ ap (λ (a : _). follows_from by u (step k m) a ms)
-    (heard_keeps p by f m (at_moment k m) u here ∙ ap (follows_after by u (at_moment k m) m) (turned_keeps p by f (begins k.before m) k.before k u))
+    (heard_keeps p by f m (at_moment k m) u here ∙ ap (follows_after by u (at_moment k m) m) (turned_keeps p f.keeps f.counted (begins k.before m) k.before k u))
 
 -- THOSE SERVED
 asked_served : (a : Result ℕ Outcome) (d : Drive) → (drive_asked a d).queue.served ≡ d.queue.served
@@ -130,7 +77,7 @@ after_served event place d drive r = refl
 pub serves : (known : Known) (u : ℕ) (moments : List Moment) → u < length known.drives → Serves known u moments
 serves known u moments inside = record {
   served = following (λ d. d.queue.served) served_by
-      (record { asked = asked_served; met = λ d. refl; changes = λ c d. refl; unseen = λ d. refl; cleared = λ d. refl; counted = λ d. refl; after = after_served })
+      (record { leaves = record { asked = asked_served; met = λ d. refl; changes = λ c d. refl }; keeps = record { unseen = λ d. refl; cleared = λ d. refl }; counted = λ d. refl; after = after_served })
       known u moments inside;
 }
 
@@ -248,7 +195,7 @@ pub travels : (known : Known) (u : ℕ) (moments : List Moment) → u < length k
 travels known u moments inside small = record {
   travel = ap (λ (t : Track). t.travel)
       (following track_of tracked
-      (record { asked = asked_track; met = λ d. refl; changes = λ c d. refl; unseen = λ d. refl; cleared = λ d. refl; counted = λ d. refl; after = after_track })
+      (record { leaves = record { asked = asked_track; met = λ d. refl; changes = λ c d. refl }; keeps = record { unseen = λ d. refl; cleared = λ d. refl }; counted = λ d. refl; after = after_track })
       known u moments inside)
       ∙ all_total known u (track_of (drive_at known.drives u)) moments (omega (arith, small));
 }

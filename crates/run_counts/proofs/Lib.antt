@@ -1,5 +1,6 @@
 pub mod Counting
 pub mod Doing
+pub mod Keeping
 pub mod Following
 pub mod OnAdapters
 pub mod Turns

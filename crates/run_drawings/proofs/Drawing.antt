@@ -1,24 +1,20 @@
 -- The outcome that a picture has of a request behind its end.
-use Rattle.std.proofs.Common.{◌≡◌, inl, inr, ℕ, ◌==◌, Bool, true, false, not, cond, [], ◌∷◌, fold, Option, Some, None, refl, sym, ap, ◌∙◌, subst, arith}
+use Rattle.std.proofs.Common.{◌≡◌, inl, inr, ℕ, ◌==◌, Bool, false, not, [], ◌∷◌, fold, Option, None, refl, sym, ap, ◌∙◌, subst, arith}
 use Rattle.std.specs.Prelude.{◌&&◌, ◌||◌, is_some}
 use Rattle.std.proofs.lemmas.Bool.Decides.{nat_tests}
 use Rattle.std.proofs.lemmas.List.{get_or-set_same}
 use Rattle.std.proofs.lemmas.List.Sums.{fold-append}
 use Rattle.drive_pictures.specs.declared.drives.Drive.{Drive}
-use Rattle.drive_pictures.specs.declared.moments.Moment.{Moment}
 use Rattle.drive_pictures.specs.declared.moments.Moment.TheVariants.{Told}
 use Rattle.drive_pictures.specs.declared.requests.Outcome.{Outcome}
 use Rattle.drive_pictures.specs.declared.requests.Request.{Request}
 use Rattle.drive_pictures.specs.declared.trials.Trial.{Trial}
-use Rattle.drive_pictures.specs.Drives.{event_counted, unseen, cleared}
-use Rattle.drive_pictures.specs.Events.{begins, line_of, is_idle}
+use Rattle.drive_pictures.specs.Events.{begins}
 use Rattle.drive_pictures.specs.Requests.{new_request, answer, is_refused}
 use Rattle.drive_pictures.specs.Trials.{is_at}
-use Rattle.run_counts.proofs.Following.{keeps_map}
+use Rattle.run_counts.proofs.Keeping.{turned_keeps}
 use Rattle.run_counts.specs.Doings.{at_moment}
-use Rattle.run_picture.specs.declared.columns.Head.{Head}
-use Rattle.run_picture.specs.Columns.{headed, is_before, is_inside, is_full}
-use Rattle.run_picture.specs.Fold.{Known, heard, drive_at, request_at, request_after, request_end, event_counted_in, event_ended, shown_by, column_closed, turned_behind, step}
+use Rattle.run_picture.specs.Fold.{Known, heard, drive_at, request_at, request_after, request_end, step}
 use Rattle.run_picture.specs.Places.{place_of}
 use Rattle.trace_lines.specs.declared.telling.Told.TheVariants as deed
 use Rattle.trace_replay.specs.History.{lines_of}
@@ -28,30 +24,6 @@ use Rattle.run_drawings.specs.Drawings.{AreDrawn}
 use Rattle.run_outcomes.proofs.Hearing.{Holds, behind as facts_behind}
 use Rattle.run_drawings.proofs.Listening.{Heard, heard_all, all_heard, left_heard, moment_leaves, own_at, tell_all, tells_all, all_told}
 use Rattle.run_outcomes.proofs.OfRuns.{are_answered}
-
--- WHERE AN EVENT ENDS a drive keeps its condition
-pub record Keeps {A : Type 0} (p : Drive → A) : Type 0 where
-  pub cleared : (d : Drive) → p (cleared d) ≡ p d
-  pub counted : (d : Drive) → p (event_counted d) ≡ p d
-  pub unseen : (d : Drive) → p (unseen d) ≡ p d
-
-closed_keeps : {A : Type 0} (p : Drive → A) → Keeps p → (full : Bool) (head : Head) (k : Known) (u : ℕ) → p (drive_at (column_closed full head k).drives u) ≡ p (drive_at k.drives u)
-closed_keeps p f true head k u = keeps_map p cleared k.drives u f.cleared
-closed_keeps p f false head k u = refl
-
-shown_keeps : {A : Type 0} (p : Drive → A) → Keeps p → (before inside : Bool) (last : Moment) (k : Known) (u : ℕ) → p (drive_at (shown_by before inside last k).drives u) ≡ p (drive_at k.drives u)
-shown_keeps p f true inside last k u = keeps_map p cleared k.drives u f.cleared
-shown_keeps p f false true last k u =
-    closed_keeps p f (is_full (headed (line_of last) (is_idle last) k.drives k.head) k.window k.event) (headed (line_of last) (is_idle last) k.drives k.head) k u
-shown_keeps p f false false last k u = refl
-
-pub turned_keeps : {A : Type 0} (p : Drive → A) → Keeps p → (b : Bool) (o : Option Moment) (k : Known) (u : ℕ) → p (drive_at (cond b (turned_behind o k) k).drives u) ≡ p (drive_at k.drives u)
-turned_keeps p f false o k u = refl
-turned_keeps p f true None k u = refl
-turned_keeps p f true (Some last) k u =
-    keeps_map p unseen (event_ended last k).drives u f.unseen
-    ∙ shown_keeps p f (is_before k.window k.event) (is_inside k.window k.event) last (event_counted_in last k) u
-    ∙ keeps_map p event_counted k.drives u f.counted
 
 -- its end is no refusal
 own_place : (place : ℕ) → not (place == place) ≡ false
@@ -115,6 +87,6 @@ are_drawn script tables old new ms ns line u id a run kept short known place mom
 
     condition : IsInCondition u ms (drive_at k.drives u)
     condition = record {
-      offline = turned_keeps (λ d. d.offline) (record { cleared = λ d. refl; counted = λ d. refl; unseen = λ d. refl }) (begins before.before (Told line u id deed.End)) before.before before u ∙ is.offline;
-      locked = turned_keeps (λ d. d.locked) (record { cleared = λ d. refl; counted = λ d. refl; unseen = λ d. refl }) (begins before.before (Told line u id deed.End)) before.before before u ∙ is.locked;
+      offline = turned_keeps (λ d. d.offline) (record { unseen = λ d. refl; cleared = λ d. refl }) (λ d. refl) (begins before.before (Told line u id deed.End)) before.before before u ∙ is.offline;
+      locked = turned_keeps (λ d. d.locked) (record { unseen = λ d. refl; cleared = λ d. refl }) (λ d. refl) (begins before.before (Told line u id deed.End)) before.before before u ∙ is.locked;
     }

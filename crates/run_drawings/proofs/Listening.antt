@@ -19,7 +19,7 @@ use Rattle.drive_pictures.specs.Requests as requests
 use Rattle.drive_pictures.specs.Requests.{new_request, done_after}
 use Rattle.drive_pictures.specs.Trials.{in_hand, wanted, verdict_trial}
 use Rattle.run_counts.proofs.Doing.{set_here, set_other, map_length, set_length, is_same, is_other}
-use Rattle.run_counts.proofs.Following.{keeps_set, keeps_map}
+use Rattle.run_counts.proofs.Keeping.{keeps_set, keeps_map}
 use Rattle.run_counts.specs.Doings.{at_moment}
 use Rattle.run_picture.specs.declared.columns.Head.{Head}
 use Rattle.run_picture.specs.Columns.{headed, is_before, is_inside, is_full}

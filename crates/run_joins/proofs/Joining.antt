@@ -29,7 +29,7 @@ use Rattle.run_counts.specs.Doings.{at_moment}
 use Rattle.run_joins.specs.Joins.{Asking, asking_of, askings_of, joined_at, joined_in, rank_behind, AreRanked, asked_list, cylinders_in, IsUnasked, Joins}
 use Rattle.run_counts.specs.Travels.{way_over}
 use Rattle.run_counts.proofs.Doing.{set_here, set_other, map_length, set_length, is_same, is_other}
-use Rattle.run_counts.proofs.Following.{keeps_set, keeps_map}
+use Rattle.run_counts.proofs.Keeping.{keeps_set, keeps_map}
 
 -- WHAT A DRIVE COUNTS of those that join
 record Tail : Type 0 where

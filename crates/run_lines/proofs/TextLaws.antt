@@ -1,5 +1,5 @@
 -- The lines of a text, one after another.
-use Rattle.std.proofs.Common.{◌≡◌, ℕ, zero, suc, ◌+◌, ◌-◌, ◌<◌, ◌≤◌, List, [], ◌∷◌, ◌++◌, length, map, take, drop, get_or, slice_index_or, arith, refl, sym, ap, ◌∙◌, subst, append-nil}
+use Rattle.std.proofs.Common.{◌≡◌, ℕ, suc, ◌+◌, ◌-◌, ◌<◌, ◌≤◌, List, [], ◌∷◌, ◌++◌, length, map, take, drop, get_or, slice_index_or, arith, sym, ap, ◌∙◌, append-nil}
 use Rattle.std.proofs.lemmas.List.{drop-drop, drop-map, get_or-drop, take_more}
 use Rattle.script_reader.specs.Stored.{Kept}
 use Rattle.run_lines.specs.Plays.{line_played, played_as, play_of, names_of, text_at}

@@ -1,8 +1,8 @@
 -- Each unit that a well-formed script names is one of 32.
-use Rattle.std.proofs.Common.{◌≡◌, ℕ, zero, suc, ◌<◌, ◌≤◌, ◌+◌, ◌-◌, ◌^◌, ◌==◌, Bool, true, false, cond, List, [], ◌∷◌, length, map, arith, refl, sym, ap, ◌∙◌, subst}
+use Rattle.std.proofs.Common.{◌≡◌, ℕ, zero, suc, ◌<◌, ◌≤◌, ◌+◌, ◌-◌, ◌^◌, ◌==◌, Bool, true, false, cond, List, [], ◌∷◌, length, map, arith, refl, ap}
 use Rattle.script_reader.specs.Grammar.{Spells}
 use Rattle.script_lines.specs.Known.{Numbered, Known}
-use Rattle.script_reader.specs.Lines.{pieces_of, lines_of, onto_first, without_cr}
+use Rattle.script_reader.specs.Lines.{pieces_of, onto_first, without_cr}
 use Rattle.script_words.specs.Words.{all_verbs}
 use Rattle.std.specs.Prelude.{Box}
 use Rattle.std.specs.Box.{box_value}

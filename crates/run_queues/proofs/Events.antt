@@ -10,7 +10,8 @@ use Rattle.run_counts.specs.Doings.{at_moment}
 use Rattle.run_counts.specs.Ends.{ends_from}
 use Rattle.run_counts.proofs.Doing.{heard_many, turned_letters}
 use Rattle.run_counts.proofs.Turns.{heard_still, step_before}
-use Rattle.run_times.proofs.Drives.{Post, post_of, heard_post, turned_stands}
+use Rattle.run_counts.proofs.Keeping.{turned_keeps}
+use Rattle.run_times.proofs.Drives.{Post, post_of, heard_post}
 use Rattle.run_times.proofs.Firsts.{ended_event}
 use Rattle.run_times.specs.Since.{answers_of, ends_within}
 use Rattle.run_queues.specs.Queued.{with_answer, up_to_answer}
@@ -132,7 +133,7 @@ abbrev pub free_of : Known → ℕ → ℕ
 free_of k u = (drive_at k.drives u).queue.free
 
 pub at_free : (m : Moment) (k : Known) (u : ℕ) → free_of (at_moment k m) u ≡ free_of k u
-at_free m k u = turned_stands (λ (d : Drive). d.queue.free) (record { unseen = λ d. refl; cleared = λ d. refl }) (λ d. refl) (begins k.before m) k.before k u
+at_free m k u = turned_keeps (λ (d : Drive). d.queue.free) (record { unseen = λ d. refl; cleared = λ d. refl }) (λ d. refl) (begins k.before m) k.before k u
 
 step_free : (m : Moment) (k : Known) (u : ℕ) → u < length k.drives → free_of (step k m) u ≡ cond (answers_of u (at_moment k m) m) (step k m).event (free_of k u)
 step_free m k u inside =

@@ -1,4 +1,5 @@
 pub mod Waiting
 pub mod Events
 pub mod Knowing
+pub mod Holding
 pub mod Queueing

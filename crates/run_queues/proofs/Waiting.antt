@@ -20,8 +20,7 @@ use Rattle.trace_lines.specs.declared.telling.Told.TheVariants as deed
 use Rattle.run_counts.specs.Counted.{drive_behind}
 use Rattle.run_counts.specs.Doings.{answers, at_moment}
 use Rattle.run_counts.proofs.Doing.{set_here, set_other, met_many, heard_many, turned_letters, is_same, is_other}
-use Rattle.run_counts.proofs.Following.{keeps_set}
-use Rattle.run_times.proofs.Drives.{turned_stands}
+use Rattle.run_counts.proofs.Keeping.{keeps_set, turned_keeps}
 use Rattle.run_queues.specs.Waiting.{IsAwaitedBy, IsAwaited, AreAwaited, IsBalanced, Waits}
 
 abbrev pub queue_of : Drive → Queue
@@ -39,7 +38,7 @@ one_less w s j e few some = omega (arith, e, few, some)
 
 -- WHERE AN EVENT ENDS they wait on
 pub turned_queue : (b : Bool) (o : Option Moment) (k : Known) (u : ℕ) → queue_of (drive_at (cond b (turned_behind o k) k).drives u) ≡ queue_of (drive_at k.drives u)
-turned_queue b o k u = turned_stands queue_of (record { unseen = λ d. refl; cleared = λ d. refl }) (λ d. refl) b o k u
+turned_queue b o k u = turned_keeps queue_of (record { unseen = λ d. refl; cleared = λ d. refl }) (λ d. refl) b o k u
 
 -- A REQUEST JOINS
 set_balanced : (ds : List Drive) (v : ℕ) (d : Drive) (u : ℕ) (same : Bool) → (v == u) ≡ same → u < length ds → (v ≡ u → IsBalanced d) → IsBalanced (drive_at ds u) → IsBalanced (drive_at (set ds v d) u)

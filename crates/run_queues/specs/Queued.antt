@@ -1,5 +1,5 @@
 -- HOW LONG A REQUEST WAITED IN THE QUEUE: from its asking on, until the answer before it.
-use Rattle.std.specs.Prelude.{◌≡◌, ℕ, ◌+◌, ◌-◌, ◌<◌, ◌^◌, ◌==◌, Bool, true, false, ◌&&◌, if◌then◌else◌, List, [], ◌∷◌, ◌++◌, length, Some, None}
+use Rattle.std.specs.Prelude.{◌≡◌, ℕ, ◌+◌, ◌-◌, ◌<◌, ◌^◌, ◌==◌, Bool, true, false, not, ◌&&◌, ◌||◌, if◌then◌else◌, List, [], ◌∷◌, ◌++◌, length, Some, None}
 use Rattle.std.specs.Bool.{MatchBool}
 use Rattle.std.specs.List.{AllByRecursion}
 use Rattle.drive_pictures.specs.declared.moments.Moment.{Moment}
@@ -41,6 +41,10 @@ asking c = Played c.line (Ask c.wish c.write)
 abbrev pub asked_for : Course → List Moment
 asked_for c = c.before ++ asking c ∷ []
 
+-- what is known where its first line comes
+abbrev pub first_at : Known → Course → Known
+first_at known c = behind (behind known (asked_for c)) c.between
+
 -- a moment is no line of the trace that is of the id
 abbrev pub IsOfOther : ℕ → Moment → Type 0
 IsOfOther id (Told line u i deed) = (i == id) ≡ false
@@ -53,23 +57,30 @@ pub record IsCourse (known : Known) (c : Course) : Type 0 where
   pub between : AllByRecursion (IsOfOther c.wish.id) c.between
   pub few : length (asked_for c) + length c.between < 2 ^ 64 - 1
 
--- From its first line on the lines of its drive are its own, up to its end; and behind that none is of it.
 abbrev pub is_end : Deed → Bool
 is_end End = true
 is_end deed = false
 
-abbrev pub IsServed : ℕ → ℕ → List Moment → Type 0
-IsServed u id [] = Unit {0}
-IsServed u id (Told line v i deed ∷ rest) =
-    ((v == u) ≡ (i == id)) × MatchBool (is_end deed && (i == id)) (AllByRecursion (IsOfOther id) rest) (IsServed u id rest)
-IsServed u id (Played line play ∷ rest) = IsServed u id rest
-IsServed u id (Idle line ∷ rest) = IsServed u id rest
+-- a line of the trace is of the drive, and no end of a request that is refused
+abbrev pub is_heard_at : ℕ → Known → Moment → Bool
+is_heard_at u known (Told line v i deed) = (v == u) && (not (is_end deed) || answers line v i known)
+is_heard_at u known moment = false
+
+-- From its first line on all such lines are its own, up to its end; and behind that none is of it.
+abbrev pub IsServed : ℕ → ℕ → Known → List Moment → Type 0
+IsServed u id known [] = Unit {0}
+IsServed u id known (Told line v i deed ∷ rest) =
+    let moment = Told line v i deed in
+    (is_heard_at u (at_moment known moment) moment ≡ (i == id))
+    × MatchBool (is_end deed && (i == id)) (AllByRecursion (IsOfOther id) rest) (IsServed u id (step known moment) rest)
+IsServed u id known (Played line play ∷ rest) = IsServed u id (step known (Played line play)) rest
+IsServed u id known (Idle line ∷ rest) = IsServed u id (step known (Idle line)) rest
 
 -- one that was not refused as it was submitted comes in hand where no other is
 pub record ComesInHand (known : Known) (c : Course) (moments : List Moment) : Type 0 where
   pub joined : (request_of c.wish.id (behind known (asked_for c))).why ≡ None
-  pub free : (drive_at (behind (behind known (asked_for c)) c.between).drives c.wish.unit).trial.hand ≡ None
-  pub served : IsServed c.wish.unit c.wish.id moments
+  pub free : (drive_at (first_at known c).drives c.wish.unit).trial.hand ≡ None
+  pub served : IsServed c.wish.unit c.wish.id (first_at known c) moments
 
 -- up to the last of some moments that is an answer at the drive
 abbrev pub with_answer : Bool → Moment → List Moment → List Moment
@@ -95,7 +106,7 @@ pub record Queues (known : Known) (c : Course) : Type 0 where
       → queued_in known c (Told line c.wish.unit c.wish.id deed ∷ rest) ≡ events_since c (up_to_answer c.wish.unit (behind known (asked_for c)) c.between)
   -- up to its end, where that does not answer it;
   pub refused : (line u : ℕ) (rest : List Moment) → AllByRecursion (IsOfOther c.wish.id) rest
-      → answers line u c.wish.id (at_moment (behind (behind known (asked_for c)) c.between) (Told line u c.wish.id End)) ≡ false
+      → answers line u c.wish.id (at_moment (first_at known c) (Told line u c.wish.id End)) ≡ false
       → queued_in known c (Told line u c.wish.id End ∷ rest) ≡ events_since c (c.between ++ Told line u c.wish.id End ∷ [])
   -- and to the run's last, where no line is of it.
   pub unserved : queued_in known c [] ≡ length (ends_from (Some (asking c)) (asked_for c) c.between)

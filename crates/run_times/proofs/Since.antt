@@ -15,7 +15,8 @@ use Rattle.run_counts.specs.Counted.{behind, drive_behind}
 use Rattle.run_counts.specs.Doings.{at_moment}
 use Rattle.run_counts.proofs.Doing.{heard_many, turned_letters}
 use Rattle.run_counts.proofs.Turns.{step_before}
-use Rattle.run_times.proofs.Drives.{Post, post_of, heard_post, met_post, ended_stands}
+use Rattle.run_counts.proofs.Keeping.{ended_keeps}
+use Rattle.run_times.proofs.Drives.{Post, post_of, heard_post, met_post}
 use Rattle.run_times.specs.Since.{answers_of, IsUnanswered, ends_within, Times, Begins}
 
 abbrev since_of : Drive → Spans
@@ -43,7 +44,7 @@ turns_by true (Some last) d = counted d.letter d.since
 turned_since : (b : Bool) (o : Option Moment) (k : Known) (u : ℕ) → since_of (drive_at (cond b (turned_behind o k) k).drives u) ≡ turns_by b o (drive_at k.drives u)
 turned_since false o k u = refl
 turned_since true None k u = refl
-turned_since true (Some last) k u = ended_stands since_of (record { unseen = λ d. refl; cleared = λ d. refl }) last k u ∙ counted_at k.drives u
+turned_since true (Some last) k u = ended_keeps since_of (record { unseen = λ d. refl; cleared = λ d. refl }) last k u ∙ counted_at k.drives u
 
 -- BEHIND MOMENTS that answer nothing
 abbrev with_end : Known → ℕ → Spans → List Moment → Spans

@@ -1,4 +1,4 @@
-use Rattle.std.proofs.Common.{◌≡◌, ◌<◌, ◌-◌, List, ℕ, map, length, rules, sym, ap, ◌∙◌, subst}
+use Rattle.std.proofs.Common.{◌≡◌, ◌-◌, List, ℕ, map, ap, ◌∙◌}
 use Rattle.script_reader.specs.Stored.{Kept}
 use Rattle.run_lines.specs.Plays.{text_at}
 use Rattle.run_lines.specs.Saids.{said_of}

@@ -1,4 +1,4 @@
-use Rattle.std.proofs.Common.{◌≡◌, ◌<◌, List, map, length}
+use Rattle.std.proofs.Common.{◌<◌, List, map, length}
 use Rattle.run_lines.specs.Saids.{Said, said_of}
 use Rattle.run_lines.proofs.SeeLaws.{inside_all, saw_rest_more}
 use Rattle.run_lines.proofs.watching.see_rest.Goals as goal
