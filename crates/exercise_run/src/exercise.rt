@@ -9,7 +9,7 @@ use answer_tally::Tally;
 use event_player::play::{PlayFault, play};
 use hp_exercise::{bounds_law, script_of, spelling_law};
 use mass_outside::mem_streams::SureSink;
-use outside_traits::traits::Sink;
+use outside_traits::traits::{Sink, SinkFailed};
 use outside_traits::whole::write_all;
 use run_promises::promises_law;
 use script_meaning::meaning_law;
@@ -26,6 +26,17 @@ pub enum ExerciseFault {
     /// A call of a sink failed.
     #[error("a sink failed")]
     Sink,
+}
+
+impl From<SinkFailed> for ExerciseFault {
+    ghost use Rattle.std.specs.Prelude.{◌≡◌};
+    ghost use Rattle.exercise_run.specs.declared.exercise.ExerciseFault.TheVariants.{Sink};
+
+    ghost from_gives = { λ _ e. e ≡ Sink };
+
+    fn from(_: SinkFailed) -> ExerciseFault {
+        ExerciseFault::Sink
+    }
 }
 
 /// Plays the script of a number over empty packs in memory, and answers its tally.
@@ -84,11 +95,7 @@ pub fn run_exercise<O: Sink, T: Sink>(
     ensures silent { IsErrOf result ExerciseFault.Memory → out.new ≡ out.old }
     ensures untraced { IsErrOf result ExerciseFault.Memory → trace.new ≡ trace.old }
 {
-    match play_exercise(alloc, number, trace) {
-        Ok(tally) => match write_all(out, exercise_lines(number, tally).as_bytes()) {
-            Ok(()) => Ok(()),
-            Err(_) => Err(ExerciseFault::Sink),
-        },
-        Err(fault) => Err(fault),
-    }
+    let tally = play_exercise(alloc, number, trace)?;
+    write_all(out, exercise_lines(number, tally).as_bytes())?;
+    Ok(())
 }

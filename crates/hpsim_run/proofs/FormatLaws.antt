@@ -12,18 +12,7 @@ use Rattle.hpsim_run.specs.Formats.{RunsFormat, format_status, format_text, form
 use Rattle.hpsim_run.specs.Statuses.{status_code}
 use Rattle.hpsim_run.specs.Words.{Told}
 use Rattle.hpsim_run.specs.declared.status.Status.{Status}
-use Rattle.hpsim_run.specs.declared.status.Status.TheVariants.{OutOfMemory}
 use Rattle.hpsim_run.proofs.ToolLaws.{nothing_more}
-
--- only want of memory has that status
-pub only_memory : (f : FormatFault) → format_status f ≡ OutOfMemory → f ≡ fault.Memory
-only_memory (fault.TooMany n) e = absurd cc
-only_memory (fault.Spare i) e = absurd cc
-only_memory fault.NoCopy e = absurd cc
-only_memory (fault.Differs b a w r) e = absurd cc
-only_memory (fault.TooLong n) e = absurd cc
-only_memory fault.Store e = absurd cc
-only_memory fault.Memory e = refl
 
 -- where there was no memory nothing is printed
 pub told_nothing : (taken : List ℕ) (unit faults : ℕ) (f : FormatFault) → f ≡ fault.Memory → Told taken taken (format_text unit f) faults faults

@@ -1,5 +1,5 @@
 -- A script that is too long is refused by its front.
-use Rattle.std.proofs.Common.{◌≡◌, ◌⊎◌, inl, inr, ℕ, ◌+◌, ◌<◌, List, [], ◌++◌, length, subst, sym, ap, ◌∙◌, arith, append-nil, length-append}
+use Rattle.std.proofs.Common.{◌≡◌, ◌⊎◌, inl, inr, ℕ, ◌+◌, ◌<◌, List, [], ◌++◌, length, subst, sym, ap, ◌∙◌, arith, append-nil, length-append, Result, Ok, Err, IfErr, IsErrAnd}
 use Rattle.script_words.specs.declared.kinds.ScriptKind.{ScriptKind}
 use Rattle.script_reader.specs.declared.fault.ReadFault.{ReadFault}
 use Rattle.script_reader.specs.declared.fault.ReadFault.TheVariants.{Memory, Refused}
@@ -30,5 +30,9 @@ refuses left bytes after (Refused line kind) no_fault all end r =
     let it : IsRefused all_verbs left line kind = longer left bytes after line kind all end r in
     ((λ lines count s. no_fault left lines count s line kind it), it)
 
-pub refused_all : (left bytes after : List ℕ) (fault : ReadFault) (answer : LoadFault) → NoFault → left ≡ bytes ++ after → (after ≡ []) ⊎ (longest < length bytes) → Refuses all_verbs fault bytes → answer ≡ from_read fault → RefusesAll answer left
-refused_all left bytes after fault answer no_fault all end r same = subst (λ (f : LoadFault). RefusesAll f left) (sym same) (refuses left bytes after fault no_fault all end r)
+-- and so it is where that is handed on
+pub refused_all : {T : Type 0} {A : Type 0} (left bytes after : List ℕ) (fault : ReadFault) (result : Result T LoadFault) → NoFault
+    → (A → left ≡ bytes ++ after) → (A → (after ≡ []) ⊎ (longest < length bytes)) → Refuses all_verbs fault bytes → IsErrAnd result (λ answer. answer ≡ from_read fault)
+    → IfErr result (λ answer. A → RefusesAll answer left)
+refused_all left bytes after fault (Ok value) no_fault all end r is = tt
+refused_all left bytes after fault (Err answer) no_fault all end r is = λ a. subst (λ (f : LoadFault). RefusesAll f left) (sym is) (refuses left bytes after fault no_fault (all a) (end a) r)

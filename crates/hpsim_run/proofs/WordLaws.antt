@@ -1,6 +1,6 @@
 -- The word of a kind.
-use Rattle.std.proofs.Common.{arith, ◌≡◌, ◌≢◌, ℕ, Bool, true, false, List, [], ◌∷◌, length, map, refl, ap, ◌∙◌, None, Some}
-use Rattle.std.specs.Prelude.{cond}
+use Rattle.std.proofs.Common.{arith, ◌≡◌, ◌≢◌, ℕ, Bool, true, false, List, [], ◌∷◌, length, map, refl, ap, sym, ◌∙◌, None, Some}
+use Rattle.std.specs.Prelude.{◌↔◌, cond, IfNone, Option}
 use Rattle.std.specs.List.{find}
 use Rattle.std.specs.Str.{bytes_eq}
 use Rattle.std.proofs.lemmas.Slice.Eq.{bytes_eq-Decides}
@@ -26,11 +26,10 @@ kind_of_word Rp06 = refl
 kind_of_word Rm03 = refl
 kind_of_word Rm05 = refl
 
-pub a_kind : (text : List ℕ) (kind : DriveKind) → text ≡ kind_word kind → kind_named text ≡ Some kind
-a_kind text kind e = ap kind_named e ∙ kind_of_word kind
-
-pub no_kind : (text : List ℕ) → ((kind : DriveKind) → text ≢ kind_word kind) → kind_named text ≡ None
-no_kind text none = none_named kinds text none
+pub kind_is : (found : Option DriveKind) (text : List ℕ) → ((kind : DriveKind) → (found ≡ Some kind) ↔ (text ≡ kind_word kind))
+    → IfNone found ((kind : DriveKind) → text ≢ kind_word kind) → found ≡ kind_named text
+kind_is None text named none = sym (none_named kinds text none)
+kind_is (Some kind) text named none = sym (ap kind_named ((named kind).0 refl) ∙ kind_of_word kind)
 
 -- three words are no command
 pub three_words : {X : Type 0} (text : X → List ℕ) (words : List X) → length words ≡ 3 → None ≡ command_named (map text words)

@@ -72,8 +72,6 @@ pub fn load<S: Source>(alloc: Global, source: &mut S) -> Result<Script, LoadFaul
 {
     grammar_law();
     let bytes = read_all(alloc, source, LONGEST)?;
-    match read_script(alloc, bytes) {
-        Ok(script) => Ok(script),
-        Err(fault) => Err(LoadFault::from(fault)),
-    }
+    let script = read_script(alloc, bytes)?;
+    Ok(script)
 }

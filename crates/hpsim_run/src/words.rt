@@ -52,10 +52,8 @@ fn unit_in(word: &str) -> Option<u8>
     ensures unit { result ≡ unit_named word.now }
     ensures small { IfSome result (λ unit. unit < 32) }
 {
-    match number(word.as_bytes(), Radix::Decimal, 31) {
-        Ok(unit) => Some(unit as u8),
-        Err(_) => None,
-    }
+    let unit = number(word.as_bytes(), Radix::Decimal, 31).ok()?;
+    Some(unit as u8)
 }
 
 /// A block of the drive in decimal.
@@ -63,40 +61,30 @@ fn block_in(kind: DriveKind, word: &str) -> Option<u32>
     ensures block { result ≡ block_named kind word.now }
     ensures small { IfSome result (λ block. block < block_count kind) }
 {
-    match number(word.as_bytes(), Radix::Decimal, u64::from(blocks(kind)) - 1) {
-        Ok(block) => Some(block as u32),
-        Err(_) => None,
-    }
+    let block = number(word.as_bytes(), Radix::Decimal, u64::from(blocks(kind)) - 1).ok()?;
+    Some(block as u32)
 }
 
 /// A serial number in decimal, below 2^32.
 fn serial_in(word: &str) -> Option<u32>
     ensures { result ≡ serial_named word.now }
 {
-    match number(word.as_bytes(), Radix::Decimal, u64::from(u32::MAX)) {
-        Ok(serial) => Some(serial as u32),
-        Err(_) => None,
-    }
+    let serial = number(word.as_bytes(), Radix::Decimal, u64::from(u32::MAX)).ok()?;
+    Some(serial as u32)
 }
 
 /// The number of an exercise in decimal, below 2^64.
 fn number_in(word: &str) -> Option<u64>
     ensures { result ≡ number_named word.now }
 {
-    match number(word.as_bytes(), Radix::Decimal, u64::MAX) {
-        Ok(value) => Some(value),
-        Err(_) => None,
-    }
+    number(word.as_bytes(), Radix::Decimal, u64::MAX).ok()
 }
 
 /// The kind that a word names.
 fn kind_in(word: &str) -> Option<DriveKind>
     ensures { result ≡ kind_named word.now }
 {
-    match kind_of(word.as_bytes()) {
-        Some(kind) => Some(kind),
-        None => None,
-    }
+    kind_of(word.as_bytes())
 }
 
 /// `copy` or `mark`.
@@ -150,12 +138,8 @@ fn list_command(unit: &str, kind: &str) -> Option<Command>
     ensures named { result ≡ list_named (unit_named unit.now) (kind_named kind.now) }
     ensures valid { IfSome result IsValid }
 {
-    let Some(unit) = unit_in(unit) else {
-        return None;
-    };
-    let Some(kind) = kind_in(kind) else {
-        return None;
-    };
+    let unit = unit_in(unit)?;
+    let kind = kind_in(kind)?;
     Some(Command::ListTable { unit, kind })
 }
 
@@ -163,12 +147,8 @@ fn mark_command(unit: &str, kind: &str) -> Option<Command>
     ensures named { result ≡ mark_named (unit_named unit.now) (kind_named kind.now) }
     ensures valid { IfSome result IsValid }
 {
-    let Some(unit) = unit_in(unit) else {
-        return None;
-    };
-    let Some(kind) = kind_in(kind) else {
-        return None;
-    };
+    let unit = unit_in(unit)?;
+    let kind = kind_in(kind)?;
     Some(Command::MarkBlocks { unit, kind })
 }
 
@@ -176,18 +156,10 @@ fn add_command(unit: &str, kind: &str, block: &str, rest: &[String]) -> Option<C
     ensures named { result ≡ add_named (unit_named unit.now) (kind_named kind.now) block.now (way_named (map string_bytes rest.now)) }
     ensures valid { IfSome result IsValid }
 {
-    let Some(unit) = unit_in(unit) else {
-        return None;
-    };
-    let Some(kind) = kind_in(kind) else {
-        return None;
-    };
-    let Some(block) = block_in(kind, block) else {
-        return None;
-    };
-    let Some(way) = way_in(rest) else {
-        return None;
-    };
+    let unit = unit_in(unit)?;
+    let kind = kind_in(kind)?;
+    let block = block_in(kind, block)?;
+    let way = way_in(rest)?;
     Some(Command::AddBlock {
         unit,
         kind,
@@ -200,15 +172,9 @@ fn fresh_command(unit: &str, kind: &str, serial: &str) -> Option<Command>
     ensures named { result ≡ fresh_named (unit_named unit.now) (kind_named kind.now) (serial_named serial.now) }
     ensures valid { IfSome result IsValid }
 {
-    let Some(unit) = unit_in(unit) else {
-        return None;
-    };
-    let Some(kind) = kind_in(kind) else {
-        return None;
-    };
-    let Some(serial) = serial_in(serial) else {
-        return None;
-    };
+    let unit = unit_in(unit)?;
+    let kind = kind_in(kind)?;
+    let serial = serial_in(serial)?;
     Some(Command::FreshTable { unit, kind, serial })
 }
 
@@ -216,9 +182,7 @@ fn exercise_command(number: &str) -> Option<Command>
     ensures named { result ≡ exercise_named (number_named number.now) }
     ensures valid { IfSome result IsValid }
 {
-    let Some(number) = number_in(number) else {
-        return None;
-    };
+    let number = number_in(number)?;
     Some(Command::Exercise { number })
 }
 
@@ -253,15 +217,9 @@ fn format_command(unit: &str, kind: &str, serial: &str) -> Option<Command>
     ensures named { result ≡ format_named (unit_named unit.now) (kind_named kind.now) (serial_named serial.now) }
     ensures valid { IfSome result IsValid }
 {
-    let Some(unit) = unit_in(unit) else {
-        return None;
-    };
-    let Some(kind) = kind_in(kind) else {
-        return None;
-    };
-    let Some(serial) = serial_in(serial) else {
-        return None;
-    };
+    let unit = unit_in(unit)?;
+    let kind = kind_in(kind)?;
+    let serial = serial_in(serial)?;
     Some(Command::FormatPack { unit, kind, serial })
 }
 

@@ -2,6 +2,7 @@ use Rattle.script_words.specs.Words.{all_verbs}
 use Rattle.hpsim_run.proofs.LoadLaws.{refused_all}
 use Rattle.hpsim_run.proofs.load.load.Goals as goal
 
-pub returns-in-Err-clause-refused : goal.returns-in-Err-clause-refused
-returns-in-Err-clause-refused g c = λ t.
-    refused_all _ c.in_ok-bytes.bytes.items _ c.in-Err.fault _ (λ bytes lines count s number kind. c.grammar_law.ensures.no_fault all_verbs bytes lines count s number kind) (c.in_ok-bytes.ensures.bytes t) (c.in_ok-bytes.ensures.end t) c.in-Err.ensures.err c.from.ensures
+pub returns-in_err-script-clause-refused : goal.returns-in_err-script-clause-refused
+returns-in_err-script-clause-refused g c =
+    refused_all _ c.in_ok-bytes.bytes.items _ c.in_err-script.field-0.0 c.from_residual-in_err-script.result (λ bytes lines count s number kind. c.grammar_law.ensures.no_fault all_verbs bytes lines count s number kind)
+    c.in_ok-bytes.ensures.bytes c.in_ok-bytes.ensures.end c.in_err-script.ensures.err c.from_residual-in_err-script.ensures.1

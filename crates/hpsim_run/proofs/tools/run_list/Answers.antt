@@ -1,5 +1,4 @@
 use Rattle.std.proofs.Common.{ap, Err, subst}
-use Rattle.bad144_tool.specs.declared.fault.ToolFault.TheVariants as fault
 use Rattle.hpsim_run.specs.Tools.{fault_text}
 use Rattle.hpsim_run.specs.Words.{Told}
 use Rattle.hpsim_run.proofs.ToolLaws.{list_front, list_run, sink_text}

@@ -1,9 +1,7 @@
-use Rattle.std.proofs.Common.{refl, sym, ◌∙◌}
-use Rattle.hpsim_run.proofs.WordLaws.{a_kind, no_kind}
+use Rattle.std.proofs.Common.{ap, ◌∙◌}
+use Rattle.hpsim_run.specs.Commands.{kind_named}
+use Rattle.hpsim_run.proofs.WordLaws.{kind_is}
 use Rattle.hpsim_run.proofs.words.kind_in.Goals as goal
 
-pub returns-in-Some : goal.returns-in-Some
-returns-in-Some c = sym (a_kind c.args.word.now c.in-Some.kind (sym c.as_bytes.ensures.value ∙ (c.in-Some.ensures.named c.in-Some.kind).0 refl))
-
-pub returns-in-None : goal.returns-in-None
-returns-in-None c = sym (no_kind c.args.word.now (λ kind e. c.in-None.ensures.none kind (c.as_bytes.ensures.value ∙ e)))
+pub returns : goal.returns
+returns c = kind_is c.kind_of.result c.as_bytes.result.now c.kind_of.ensures.named c.kind_of.ensures.none ∙ ap kind_named c.as_bytes.ensures.value
