@@ -62,7 +62,7 @@ fn put_holders(
     column: &Column,
     adapter: u8,
 ) -> Result<(), AllocError>
-    ensures { OnOk result (out.new ≡ out.old) }
+    ensures { OnOk result (out.new.stands ≡ out.old.stands) }
 {
     let mut first = true;
     for lane in scene.lanes.iter() {
@@ -98,7 +98,7 @@ fn draw_holder(
     adapter: u8,
     y: u32,
 ) -> Result<(), AllocError>
-    ensures { OnOk result (out.new ≡ out.old) }
+    ensures { OnOk result (out.new.stands ≡ out.old.stands) }
 {
     let x = scene.frame.x(stretch.from);
     let width = scene.width(stretch);
@@ -134,7 +134,7 @@ fn draw_held(
     adapter: u8,
     y: u32,
 ) -> Result<(), AllocError>
-    ensures { OnOk result (out.new ≡ out.old) }
+    ensures { OnOk result (out.new.stands ≡ out.old.stands) }
 {
     let columns = scene.columns();
     let keys = held_keys(alloc, columns, scene.lanes, adapter)?;
@@ -173,7 +173,7 @@ fn draw_count(
     count: u64,
     y: u32,
 ) -> Result<(), AllocError>
-    ensures { OnOk result (out.new ≡ out.old) }
+    ensures { OnOk result (out.new.stands ≡ out.old.stands) }
 {
     let x = scene.frame.x(stretch.from);
     let width = scene.width(stretch);
@@ -202,7 +202,7 @@ fn draw_together(
     adapter: u8,
     y: u32,
 ) -> Result<(), AllocError>
-    ensures { OnOk result (out.new ≡ out.old) }
+    ensures { OnOk result (out.new.stands ≡ out.old.stands) }
 {
     let columns = scene.columns();
     let keys = together_keys(alloc, columns, adapter)?;
@@ -225,7 +225,7 @@ fn draw_words(
     adapter: u8,
     y: u32,
 ) -> Result<(), AllocError>
-    ensures { OnOk result (out.new ≡ out.old) }
+    ensures { OnOk result (out.new.stands ≡ out.old.stands) }
 {
     let mut sum: u64 = 0;
     for column in scene.columns().iter() {
@@ -255,7 +255,7 @@ pub fn draw_adapter(
     adapter: u8,
     y: u32,
 ) -> Result<(), AllocError>
-    ensures { OnOk result (out.new ≡ out.old) }
+    ensures { OnOk result (out.new.stands ≡ out.old.stands) }
 {
     draw_words(out, scene, adapter, y)?;
     draw_held(alloc, out, scene, adapter, y)?;

@@ -47,7 +47,7 @@ fn draw_order(
     known: &[Request],
     y: u32,
 ) -> Result<(), AllocError>
-    ensures { OnOk result (out.new ≡ out.old) }
+    ensures { OnOk result (out.new.stands ≡ out.old.stands) }
 {
     let mut before: Option<&Request> = None;
     for request in known.iter() {
@@ -71,7 +71,7 @@ fn draw_wait(
     request: &Request,
     y: u32,
 ) -> Result<(), AllocError>
-    ensures { OnOk result (out.new ≡ out.old) }
+    ensures { OnOk result (out.new.stands ≡ out.old.stands) }
 {
     let from = at(scene.at(request.asked), level_of(lane, y, request));
     if request.queued() > 0 {
@@ -86,7 +86,7 @@ fn draw_wait(
 
 /// The points of a path in a column.
 fn put_path(out: &mut Markup<'_>, lane: &Lane, path: Path, x: u32, y: u32) -> Result<(), AllocError>
-    ensures { OnOk result (out.new ≡ out.old) }
+    ensures { OnOk result (out.new.stands ≡ out.old.stands) }
 {
     out.point(at(x, level(lane, y, path.first)))?;
     if path.lowest < path.highest {
@@ -105,7 +105,7 @@ fn put_column(
     x: u32,
     y: u32,
 ) -> Result<(), AllocError>
-    ensures { OnOk result (out.new ≡ out.old) }
+    ensures { OnOk result (out.new.stands ≡ out.old.stands) }
 {
     if let Some(drive) = column.drives.get(usize::from(lane.unit)) {
         if let Some(path) = drive.cell.path {
@@ -133,7 +133,7 @@ fn draw_path(
     lane: &Lane,
     y: u32,
 ) -> Result<(), AllocError>
-    ensures { OnOk result (out.new ≡ out.old) }
+    ensures { OnOk result (out.new.stands ≡ out.old.stands) }
 {
     let start = out.points();
     out.point(at(LEFT, level(lane, y, lane.before)))?;
@@ -153,7 +153,7 @@ fn draw_served(
     served: &[Request],
     y: u32,
 ) -> Result<(), AllocError>
-    ensures { OnOk result (out.new ≡ out.old) }
+    ensures { OnOk result (out.new.stands ≡ out.old.stands) }
 {
     let mut free = 0;
     for request in served.iter() {
@@ -176,7 +176,7 @@ fn draw_bounds(
     lane: &Lane,
     y: u32,
 ) -> Result<(), AllocError>
-    ensures { OnOk result (out.new ≡ out.old) }
+    ensures { OnOk result (out.new.stands ≡ out.old.stands) }
 {
     let route = Route::TwoAcross {
         from: at(LEFT, y),
@@ -201,7 +201,7 @@ pub fn draw_arm(
     lane: &Lane,
     y: u32,
 ) -> Result<(), AllocError>
-    ensures { OnOk result (out.new ≡ out.old) }
+    ensures { OnOk result (out.new.stands ≡ out.old.stands) }
 {
     let mut known = known_of(alloc, scene, lane.unit)?;
     draw_bounds(out, scene, lane, y)?;

@@ -20,7 +20,7 @@ fn front(text: &[u8], room: usize) -> &[u8] {
 
 /// A line's number and its text, where it is known, and whether it found nothing to do: the first 20 bytes.
 fn put_label<'a>(out: &mut Markup<'a>, column: &Column, text: &'a [u8]) -> Result<(), AllocError>
-    ensures { OnOk result (out.new ≡ out.old) }
+    ensures { OnOk result (out.new.stands ≡ out.old.stands) }
 {
     let number = u64::from(column.head.line);
     let room = ROOM.saturating_sub(digits(number) as usize + 1);
@@ -41,7 +41,7 @@ fn draw_line<'a>(
     place: usize,
     height: u32,
 ) -> Result<(), AllocError>
-    ensures { OnOk result (out.new ≡ out.old) }
+    ensures { OnOk result (out.new.stands ≡ out.old.stands) }
 {
     let x = scene.frame.x(place);
     out.path(
@@ -67,7 +67,7 @@ fn draw_line<'a>(
 
 /// The columns of a line, if they are several.
 fn draw_bar(out: &mut Markup<'_>, scene: &Scene<'_, '_>, stretch: Stretch) -> Result<(), AllocError>
-    ensures { OnOk result (out.new ≡ out.old) }
+    ensures { OnOk result (out.new.stands ≡ out.old.stands) }
 {
     if stretch.to.saturating_sub(stretch.from) > 1 {
         out.path(
@@ -97,7 +97,7 @@ pub fn draw_lines<'a>(
     scene: &Scene<'_, 'a>,
     height: u32,
 ) -> Result<(), AllocError>
-    ensures { OnOk result (out.new ≡ out.old) }
+    ensures { OnOk result (out.new.stands ≡ out.old.stands) }
 {
     out.text("q e", at(LABEL, AXIS - 4), "line of the script")?;
     let keys = line_keys(alloc, scene.columns())?;
@@ -115,7 +115,7 @@ pub fn draw_lines<'a>(
 
 /// The numbers of the events, where there is room.
 pub fn draw_events(out: &mut Markup<'_>, scene: &Scene<'_, '_>, y: u32) -> Result<(), AllocError>
-    ensures { OnOk result (out.new ≡ out.old) }
+    ensures { OnOk result (out.new.stands ≡ out.old.stands) }
 {
     out.text("q e", at(LABEL, add(y, 8)), "event")?;
     let mut free = 0;

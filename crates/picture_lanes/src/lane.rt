@@ -24,7 +24,7 @@ fn draw_time(
     request: &Request,
     y: u32,
 ) -> Result<(), AllocError>
-    ensures { OnOk result (out.new ≡ out.old) }
+    ensures { OnOk result (out.new.stands ≡ out.old.stands) }
 {
     let x = scene.at(scene.in_hand(request));
     let width = sub(scene.at(scene.ended(request)), x);
@@ -49,7 +49,7 @@ fn draw_in_hand(
     lane: &Lane,
     y: u32,
 ) -> Result<(), AllocError>
-    ensures { OnOk result (out.new ≡ out.old) }
+    ensures { OnOk result (out.new.stands ≡ out.old.stands) }
 {
     out.text("q e", at(LABEL, add(y, 8)), "in hand")?;
     for request in scene.sheet.run.requests().iter() {
@@ -87,7 +87,7 @@ fn draw_count(
     most: u64,
     y: u32,
 ) -> Result<(), AllocError>
-    ensures { OnOk result (out.new ≡ out.old) }
+    ensures { OnOk result (out.new.stands ≡ out.old.stands) }
 {
     let height = part_of(10, count, most);
     begin_span(out, scene, stretch.from, stretch.to)?;
@@ -108,7 +108,7 @@ fn draw_waiting(
     lane: &Lane,
     y: u32,
 ) -> Result<(), AllocError>
-    ensures { OnOk result (out.new ≡ out.old) }
+    ensures { OnOk result (out.new.stands ≡ out.old.stands) }
 {
     let keys = waiting_keys(alloc, scene.columns(), lane.unit)?;
     let most = most_of(keys.as_slice());
@@ -130,7 +130,7 @@ fn draw_requests(
     lane: &Lane,
     y: u32,
 ) -> Result<(), AllocError>
-    ensures { OnOk result (out.new ≡ out.old) }
+    ensures { OnOk result (out.new.stands ≡ out.old.stands) }
 {
     if scene.sheet.is_by_event() {
         draw_in_hand(out, scene, lane, y)
@@ -163,7 +163,7 @@ fn draw_condition(
     offline: bool,
     y: u32,
 ) -> Result<(), AllocError>
-    ensures { OnOk result (out.new ≡ out.old) }
+    ensures { OnOk result (out.new.stands ≡ out.old.stands) }
 {
     begin_span(out, scene, stretch.from, stretch.to)?;
     out.word(if offline { ": offline" } else { ": locked" })?;
@@ -185,7 +185,7 @@ fn draw_conditions(
     offline: bool,
     y: u32,
 ) -> Result<(), AllocError>
-    ensures { OnOk result (out.new ≡ out.old) }
+    ensures { OnOk result (out.new.stands ≡ out.old.stands) }
 {
     let keys = condition_keys(alloc, scene.columns(), unit, offline)?;
     for stretch in stretches(alloc, 0, keys.as_slice())?.iter() {
@@ -222,7 +222,7 @@ fn draw_total(
     number: u64,
     word: &'static str,
 ) -> Result<(), AllocError>
-    ensures { OnOk result (out.new ≡ out.old) }
+    ensures { OnOk result (out.new.stands ≡ out.old.stands) }
 {
     let beside = scene.frame.beside;
     out.text_number("m e", at(add(beside, 36), y), number)?;
@@ -236,7 +236,7 @@ fn draw_answered(
     unit: u8,
     y: u32,
 ) -> Result<(), AllocError>
-    ensures { OnOk result (out.new ≡ out.old) }
+    ensures { OnOk result (out.new.stands ≡ out.old.stands) }
 {
     let (all, ok, queued) = tally_requests(scene, unit);
     let beside = scene.frame.beside;
@@ -252,7 +252,7 @@ fn draw_times(
     drive: &Drive,
     y: u32,
 ) -> Result<(), AllocError>
-    ensures { OnOk result (out.new ≡ out.old) }
+    ensures { OnOk result (out.new.stands ≡ out.old.stands) }
 {
     draw_total(out, scene, y, drive.all.way, "events on its way")?;
     draw_total(
@@ -286,7 +286,7 @@ fn draw_totals(
     unit: u8,
     y: u32,
 ) -> Result<(), AllocError>
-    ensures { OnOk result (out.new ≡ out.old) }
+    ensures { OnOk result (out.new.stands ≡ out.old.stands) }
 {
     draw_answered(out, scene, unit, y)?;
     match scene.sheet.run.drives().get(usize::from(unit)) {
@@ -303,7 +303,7 @@ fn draw_way(
     lane: &Lane,
     y: u32,
 ) -> Result<(), AllocError>
-    ensures { OnOk result (out.new ≡ out.old) }
+    ensures { OnOk result (out.new.stands ≡ out.old.stands) }
 {
     if lane.top > 0 {
         draw_arm(alloc, out, scene, lane, y)
@@ -320,7 +320,7 @@ fn draw_lane<'a>(
     lane: &Lane,
     y: u32,
 ) -> Result<(), AllocError>
-    ensures { OnOk result (out.new ≡ told (lines_shown scene.now.sheet.now lane.now.unit) out.old) }
+    ensures { OnOk result (out.new.stands ≡ told (lines_shown scene.now.sheet.now lane.now.unit) out.old.stands) }
 {
     out.text_with("b", at(16, add(y, 25)), "unit ", u64::from(lane.unit))?;
     out.text("q", at(66, add(y, 25)), lane.kind)?;
@@ -341,7 +341,7 @@ pub fn draw_unit<'a>(
     lane: &Lane,
     y: u32,
 ) -> Result<(), AllocError>
-    ensures { OnOk result (out.new ≡ told (lines_shown scene.now.sheet.now lane.now.unit) out.old) }
+    ensures { OnOk result (out.new.stands ≡ told (lines_shown scene.now.sheet.now lane.now.unit) out.old.stands) }
 {
     begin_group(out)?;
     out.word("unit ")?;

@@ -1,7 +1,7 @@
 //! What happened at a drive: above the marks, below them the signals. What is no trouble is drawn where columns have room for it.
 
-ghost use Rattle.std.specs.Prelude.{◌≡◌, ◌≤◌, ◌∷◌, [], ◌||◌, length, OnOk};
-ghost use Rattle.picture_markup.specs.Nesting.{told};
+ghost use Rattle.std.specs.Prelude.{◌≡◌, ◌≤◌, ◌∷◌, [], ◌||◌, true, length, OnOk};
+ghost use Rattle.picture_markup.specs.Nesting.{in_title, told};
 ghost use Rattle.picture_sheet.specs.Notes.{is_spoken_of, line_of, lines_of, lines_shown};
 
 use drive_pictures::{Cell, Mark};
@@ -73,7 +73,7 @@ fn signal_shape(signal: Mark, roomy: bool) -> Shape {
 
 /// The sign and the hundreds of an offset.
 fn draw_offset(out: &mut Markup<'_>, cell: &Cell, x: u32, y: u32) -> Result<(), AllocError>
-    ensures { OnOk result (out.new ≡ out.old) }
+    ensures { OnOk result (out.new.stands ≡ out.old.stands) }
 {
     begin_text(out, "m b", at(x, add(y, 9)))?;
     out.word(mark_sign(cell.mark))?;
@@ -89,7 +89,7 @@ fn draw_sign(
     y: u32,
     way: &'static str,
 ) -> Result<(), AllocError>
-    ensures { OnOk result (out.new ≡ out.old) }
+    ensures { OnOk result (out.new.stands ≡ out.old.stands) }
 {
     let from = at(x, y);
     out.path(class, Route::Sign { from, way })
@@ -103,7 +103,7 @@ fn draw_shape(
     x: u32,
     y: u32,
 ) -> Result<(), AllocError>
-    ensures { OnOk result (out.new ≡ out.old) }
+    ensures { OnOk result (out.new.stands ≡ out.old.stands) }
 {
     match shape {
         Shape::Nothing => Ok(()),
@@ -128,7 +128,7 @@ fn draw_shapes(
     x: u32,
     y: u32,
 ) -> Result<(), AllocError>
-    ensures { OnOk result (out.new ≡ out.old) }
+    ensures { OnOk result (out.new.stands ≡ out.old.stands) }
 {
     let width = scene.frame.column;
     draw_shape(out, mark_shape(cell.mark, roomy), cell, x, y)?;
@@ -162,7 +162,8 @@ fn speaks_of(notes: &[Note<'_>], unit: u8) -> bool
 
 /// A line of the run, below another or first.
 fn tell_line<'a>(out: &mut Markup<'a>, first: bool, line: &'a [u8]) -> Result<(), AllocError>
-    ensures { OnOk result (out.new ≡ told (line.now ∷ []) out.old) }
+    requires { in_title out.old.stands.within ≡ true }
+    ensures { OnOk result (out.new.stands ≡ told (line.now ∷ []) out.old.stands) }
 {
     if !first {
         out.feed()?;
@@ -177,7 +178,8 @@ fn tell_note<'a>(
     note: &Note<'a>,
     unit: u8,
 ) -> Result<bool, AllocError>
-    ensures { OnOk result (out.new ≡ told (line_of unit note.now) out.old) }
+    requires { in_title out.old.stands.within ≡ true }
+    ensures { OnOk result (out.new.stands ≡ told (line_of unit note.now) out.old.stands) }
 {
     if note.unit == unit {
         tell_line(out, first, note.text)?;
@@ -189,7 +191,8 @@ fn tell_note<'a>(
 
 /// The lines that speak of a unit, one below another.
 fn tell<'a>(out: &mut Markup<'a>, notes: &[Note<'a>], unit: u8) -> Result<(), AllocError>
-    ensures { OnOk result (out.new ≡ told (lines_of unit notes.now) out.old) }
+    requires { in_title out.old.stands.within ≡ true }
+    ensures { OnOk result (out.new.stands ≡ told (lines_of unit notes.now) out.old.stands) }
 {
     let mut first = true;
     for note in notes.iter() {
@@ -207,7 +210,7 @@ fn draw_tip<'a>(
     notes: &[Note<'a>],
     y: u32,
 ) -> Result<(), AllocError>
-    ensures { OnOk result (out.new ≡ told (lines_of unit notes.now) out.old) }
+    ensures { OnOk result (out.new.stands ≡ told (lines_of unit notes.now) out.old.stands) }
 {
     let roomy = scene.frame.column >= 6;
     let cell = scene.cell(unit, column);
@@ -234,7 +237,7 @@ fn draw_event<'a>(
     notes: &[Note<'a>],
     y: u32,
 ) -> Result<(), AllocError>
-    ensures { OnOk result (out.new ≡ told (lines_of unit notes.now) out.old) }
+    ensures { OnOk result (out.new.stands ≡ told (lines_of unit notes.now) out.old.stands) }
 {
     let tells = speaks_of(notes, unit);
     let shows = has_shape(&scene.cell(unit, column), scene.frame.column >= 6);
@@ -253,7 +256,7 @@ fn draw_column(
     column: usize,
     y: u32,
 ) -> Result<(), AllocError>
-    ensures { OnOk result (out.new ≡ out.old) }
+    ensures { OnOk result (out.new.stands ≡ out.old.stands) }
 {
     let cell = scene.cell(unit, column);
     if !has_shape(&cell, false) {
@@ -272,7 +275,7 @@ fn draw_by_event<'a>(
     unit: u8,
     y: u32,
 ) -> Result<(), AllocError>
-    ensures { OnOk result (out.new ≡ told (lines_of unit scene.now.sheet.now.notes.now) out.old) }
+    ensures { OnOk result (out.new.stands ≡ told (lines_of unit scene.now.sheet.now.notes.now) out.old.stands) }
 {
     let notes = scene.sheet.notes;
     let last = scene.columns().len().saturating_sub(1);
@@ -292,7 +295,7 @@ fn draw_by_column(
     unit: u8,
     y: u32,
 ) -> Result<(), AllocError>
-    ensures { OnOk result (out.new ≡ out.old) }
+    ensures { OnOk result (out.new.stands ≡ out.old.stands) }
 {
     for column in 0..scene.columns().len() {
         draw_column(out, scene, unit, column, y)?;
@@ -307,7 +310,7 @@ pub fn draw_marks<'a>(
     unit: u8,
     y: u32,
 ) -> Result<(), AllocError>
-    ensures { OnOk result (out.new ≡ told (lines_shown scene.now.sheet.now unit) out.old) }
+    ensures { OnOk result (out.new.stands ≡ told (lines_shown scene.now.sheet.now unit) out.old.stands) }
 {
     if scene.sheet.is_by_event() {
         draw_by_event(out, scene, unit, y)

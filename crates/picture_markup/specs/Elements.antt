@@ -1,5 +1,6 @@
 -- THE TEXT OF A DRAWING: what stands behind a text with each piece more.
-use Rattle.std.specs.Prelude.{◌≡◌, ℕ, ◌==◌, nat_le, min, Bool, ◌&&◌, if◌then◌else◌, List, [], ◌∷◌, ◌++◌, Option, Some, None, fold, slice_range, codes, decimal}
+use Rattle.std.specs.Prelude.{◌≡◌, ℕ, ◌==◌, nat_le, min, Bool, true, ◌&&◌, if◌then◌else◌, List, [], ◌∷◌, ◌++◌, Option, Some, None, fold, slice_range, codes, decimal}
+use Rattle.std.specs.List.{list_all}
 use denote.Ref.{Bor}
 use Rattle.picture_markup.specs.declared.pieces.Element.{Element}
 use Rattle.picture_markup.specs.declared.pieces.Element.TheVariants as element
@@ -10,7 +11,8 @@ use Rattle.picture_markup.specs.declared.pieces.Route.{Route}
 use Rattle.picture_markup.specs.declared.pieces.Route.TheVariants as route
 use Rattle.picture_markup.specs.declared.pieces.Piece.{Piece}
 use Rattle.picture_markup.specs.declared.pieces.Piece.TheVariants as piece
-use Rattle.picture_markup.specs.Nesting.{Drawn, drawn}
+use Rattle.picture_markup.specs.Nesting.{Drawn, blank, drawn}
+use Rattle.picture_markup.specs.Places.{coordinates, are_low}
 
 -- WORDS: the signs of elements are written out, and what is not printing is a question mark
 abbrev pub is_printing : ℕ → Bool
@@ -143,9 +145,41 @@ with_piece points text (piece.Fixed line) = text ++ line.now ++ codes "\n"
 abbrev pub text_of : List Point → List Piece → List ℕ
 text_of points pieces = fold (with_piece points) [] pieces
 
--- A DRAWING IS WRITTEN AS A TEXT
+-- WORDS AT A PLACE, a number there, and words with a number behind them
+abbrev pub with_opened : List ℕ → Point → List ℕ → List ℕ
+with_opened class p text =
+    with_key (codes "y") p.y (with_key (codes "x") p.x (with_class class (text ++ codes "<text"))) ++ codes ">"
+
+abbrev pub with_label : List ℕ → Point → List ℕ → List ℕ → List ℕ
+with_label class p word text = with_end element.Text (with_words word (with_opened class p text))
+
+abbrev pub with_label_number : List ℕ → Point → ℕ → List ℕ → List ℕ
+with_label_number class p n text = with_end element.Text (with_opened class p text ++ decimal n)
+
+abbrev pub with_label_both : List ℕ → Point → List ℕ → ℕ → List ℕ → List ℕ
+with_label_both class p word n text = with_end element.Text (with_words word (with_opened class p text) ++ decimal n)
+
+-- A DRAWING IS WRITTEN AS A TEXT: of pieces and points whose coordinates are low
 pub record IsWritten (d : Drawn) (text : List ℕ) : Type 0 where
   pub pieces : List Piece
   pub points : List Point
   pub text_is : text ≡ text_of points pieces
   pub drawn_is : drawn pieces ≡ d
+  pub low : are_low (coordinates pieces points) ≡ true
+
+-- A DRAWING SO FAR: what it comes to, its text, and the points of its lines through many
+pub record Drawing : Type 0 where
+  pub stands : Drawn
+  pub text : List ℕ
+  pub points : List Point
+
+abbrev pub empty : Drawing
+empty = record { stands = blank; text = []; points = [] }
+
+-- each line through many points has these
+abbrev pub has_points : ℕ → Piece → Bool
+has_points n (piece.Polyline class from to) = nat_le to n
+has_points n p = true
+
+abbrev pub have_points : ℕ → List Piece → Bool
+have_points n pieces = list_all (has_points n) pieces

@@ -84,7 +84,7 @@ fn put_meanings(
     events: u64,
     by_event: bool,
 ) -> Result<(), AllocError>
-    ensures { OnOk result (out.new ≡ out.old) }
+    ensures { OnOk result (out.new.stands ≡ out.old.stands) }
 {
     let mut first = true;
     for letter in LETTERS.iter() {
@@ -112,7 +112,7 @@ fn draw_letter(
     high: u32,
     y: u32,
 ) -> Result<(), AllocError>
-    ensures { OnOk result (out.new ≡ out.old) }
+    ensures { OnOk result (out.new.stands ≡ out.old.stands) }
 {
     let x = scene.frame.x(stretch.from);
     let width = scene.width(stretch);
@@ -133,7 +133,7 @@ fn draw_letters(
     cell: &Cell,
     y: u32,
 ) -> Result<(), AllocError>
-    ensures { OnOk result (out.new ≡ out.old) }
+    ensures { OnOk result (out.new.stands ≡ out.old.stands) }
 {
     let events = scene.size(stretch.from);
     let mut below: u64 = 0;
@@ -157,7 +157,7 @@ fn draw_stretch(
     cell: &Cell,
     y: u32,
 ) -> Result<(), AllocError>
-    ensures { OnOk result (out.new ≡ out.old) }
+    ensures { OnOk result (out.new.stands ≡ out.old.stands) }
 {
     let events = scene.size(stretch.from);
     begin_span(out, scene, stretch.from, stretch.to)?;
@@ -182,7 +182,7 @@ pub fn draw_ribbon(
     unit: u8,
     y: u32,
 ) -> Result<(), AllocError>
-    ensures { OnOk result (out.new ≡ out.old) }
+    ensures { OnOk result (out.new.stands ≡ out.old.stands) }
 {
     let route = Route::Across {
         from: at(LEFT, add(y, 18)),

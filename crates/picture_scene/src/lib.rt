@@ -11,7 +11,8 @@ mod scene;
 mod span;
 
 pub use frame::{Frame, LABEL, LEFT, add, at, digits, part_of, small, sub, times, width_of};
-pub use scene::{Lane, Scene, Stretch, cell_at, lanes_of, stretches};
+pub use picture_sheet::cell_at;
+pub use scene::{Lane, Scene, Stretch, lanes_of, stretches};
 pub use span::{
     begin_group, begin_span, begin_text, end_group, end_text, end_title, put_sentences,
     text_sentences,

@@ -6,7 +6,7 @@ ghost use Rattle.picture_scene.specs.Lines.{unit_of};
 
 use crate::frame::{Frame, add, small, times};
 use drive_pictures::{Cell, Request};
-use picture_sheet::{Sheet, Shown, is_shown, kind_word, top_of};
+use picture_sheet::{Sheet, Shown, cell_at, is_shown, top_of};
 use run_picture::Column;
 use std::alloc::{AllocError, Global};
 
@@ -55,13 +55,9 @@ impl Lane {
     {
         let top = top_of(sheet, unit);
         let asked = small(count_asked(sheet, unit));
-        let kind = match sheet.run.drives().get(usize::from(unit)) {
-            Some(drive) => kind_word(drive.kind),
-            None => "",
-        };
         Lane {
             unit,
-            kind,
+            kind: sheet.kind_of(unit),
             top,
             before: sheet.arm_before(unit),
             chart: if top > 0 {
@@ -88,14 +84,6 @@ pub fn lanes_of(alloc: Global, sheet: &Sheet<'_>) -> Result<Vec<Lane>, AllocErro
         lanes.push(Lane::new(sheet, *unit))?;
     }
     Ok(lanes)
-}
-
-/// What is seen of a drive in a column.
-pub fn cell_at(column: &Column, unit: u8) -> Cell {
-    match column.drives.get(usize::from(unit)) {
-        Some(drive) => drive.cell,
-        None => Cell::new(),
-    }
 }
 
 /// The stretches of equal numbers, one a column, from a column on.

@@ -12,7 +12,7 @@ use std::alloc::AllocError;
 
 /// A group and its tooltip begin.
 pub fn begin_group(out: &mut Markup<'_>) -> Result<(), AllocError>
-    ensures { OnOk result (out.new ≡ started Title (started Group out.old)) }
+    ensures { OnOk result (out.new.stands ≡ started Title (started Group out.old.stands)) }
 {
     out.start(Start::Group)?;
     out.start(Start::Title)
@@ -20,21 +20,21 @@ pub fn begin_group(out: &mut Markup<'_>) -> Result<(), AllocError>
 
 /// The tooltip ends.
 pub fn end_title(out: &mut Markup<'_>) -> Result<(), AllocError>
-    ensures { OnOk result (out.new ≡ ended Title out.old) }
+    ensures { OnOk result (out.new.stands ≡ ended Title out.old.stands) }
 {
     out.end(Element::Title)
 }
 
 /// The group ends.
 pub fn end_group(out: &mut Markup<'_>) -> Result<(), AllocError>
-    ensures { OnOk result (out.new ≡ ended Group out.old) }
+    ensures { OnOk result (out.new.stands ≡ ended Group out.old.stands) }
 {
     out.end(Element::Group)
 }
 
 /// Words begin, of a class and at a place.
 pub fn begin_text(out: &mut Markup<'_>, class: &'static str, place: Point) -> Result<(), AllocError>
-    ensures { OnOk result (out.new ≡ started Text out.old) }
+    ensures { OnOk result (out.new.stands ≡ started Text out.old.stands) }
 {
     out.start(Start::Text {
         class,
@@ -45,7 +45,7 @@ pub fn begin_text(out: &mut Markup<'_>, class: &'static str, place: Point) -> Re
 
 /// They end.
 pub fn end_text(out: &mut Markup<'_>) -> Result<(), AllocError>
-    ensures { OnOk result (out.new ≡ ended Text out.old) }
+    ensures { OnOk result (out.new.stands ≡ ended Text out.old.stands) }
 {
     out.end(Element::Text)
 }
@@ -71,7 +71,7 @@ pub(crate) fn put_span(
     from: usize,
     to: usize,
 ) -> Result<(), AllocError>
-    ensures { OnOk result (out.new ≡ out.old) }
+    ensures { OnOk result (out.new.stands ≡ out.old.stands) }
 {
     let (first, last) = lines_of(scene, from, to);
     out.word("events ")?;
@@ -92,7 +92,7 @@ pub fn begin_span(
     from: usize,
     to: usize,
 ) -> Result<(), AllocError>
-    ensures { OnOk result (out.new ≡ started Title (started Group out.old)) }
+    ensures { OnOk result (out.new.stands ≡ started Title (started Group out.old.stands)) }
 {
     begin_group(out)?;
     put_span(out, scene, from, to)
@@ -100,7 +100,7 @@ pub fn begin_span(
 
 /// Words, and the number behind them.
 fn put_phrase(out: &mut Markup<'_>, phrase: Phrase) -> Result<(), AllocError>
-    ensures { OnOk result (out.new ≡ out.old) }
+    ensures { OnOk result (out.new.stands ≡ out.old.stands) }
 {
     out.word(phrase.word)?;
     out.number(phrase.number)
@@ -108,7 +108,7 @@ fn put_phrase(out: &mut Markup<'_>, phrase: Phrase) -> Result<(), AllocError>
 
 /// The third phrase of a sentence, where it has one.
 fn put_third(out: &mut Markup<'_>, third: Option<Phrase>) -> Result<(), AllocError>
-    ensures { OnOk result (out.new ≡ out.old) }
+    ensures { OnOk result (out.new.stands ≡ out.old.stands) }
 {
     match third {
         Some(phrase) => put_phrase(out, phrase),
@@ -118,7 +118,7 @@ fn put_third(out: &mut Markup<'_>, third: Option<Phrase>) -> Result<(), AllocErr
 
 /// A sentence.
 pub fn put_sentence(out: &mut Markup<'_>, sentence: Sentence) -> Result<(), AllocError>
-    ensures { OnOk result (out.new ≡ out.old) }
+    ensures { OnOk result (out.new.stands ≡ out.old.stands) }
 {
     put_phrase(out, sentence.first)?;
     put_phrase(out, sentence.second)?;
@@ -132,7 +132,7 @@ pub fn put_sentences(
     first: Sentence,
     second: Sentence,
 ) -> Result<(), AllocError>
-    ensures { OnOk result (out.new ≡ out.old) }
+    ensures { OnOk result (out.new.stands ≡ out.old.stands) }
 {
     put_sentence(out, first)?;
     out.word(" ")?;
@@ -146,7 +146,7 @@ pub fn text_sentences(
     first: Sentence,
     second: Sentence,
 ) -> Result<(), AllocError>
-    ensures { OnOk result (out.new ≡ out.old) }
+    ensures { OnOk result (out.new.stands ≡ out.old.stands) }
 {
     begin_text(out, "", at(16, y))?;
     put_sentences(out, first, second)?;

@@ -54,7 +54,7 @@ fn bottom_of(lanes: &[Lane]) -> u32 {
 
 /// The title and the sentences of the drawing, which no eye sees.
 fn draw_names<'a>(out: &mut Markup<'a>, scene: &Scene<'_, 'a>) -> Result<(), AllocError>
-    ensures { OnOk result (out.new ≡ out.old) }
+    ensures { OnOk result (out.new.stands ≡ out.old.stands) }
 {
     let [first, second, third, fourth] = sentences(scene.sheet);
     out.start(Start::Caption)?;
@@ -69,7 +69,7 @@ fn draw_names<'a>(out: &mut Markup<'a>, scene: &Scene<'_, 'a>) -> Result<(), All
 
 /// Style, patterns and legend.
 fn draw_fixed(out: &mut Markup<'_>) -> Result<(), AllocError>
-    ensures { OnOk result (out.new ≡ out.old) }
+    ensures { OnOk result (out.new.stands ≡ out.old.stands) }
 {
     for line in FIXED.iter() {
         out.fixed(line)?;
@@ -79,7 +79,7 @@ fn draw_fixed(out: &mut Markup<'_>) -> Result<(), AllocError>
 
 /// What stands above the columns.
 fn draw_head<'a>(out: &mut Markup<'a>, scene: &Scene<'_, 'a>) -> Result<(), AllocError>
-    ensures { OnOk result (out.new ≡ out.old) }
+    ensures { OnOk result (out.new.stands ≡ out.old.stands) }
 {
     let [first, second, third, fourth] = sentences(scene.sheet);
     begin_text(out, "h", at(16, 28))?;
@@ -98,7 +98,7 @@ fn draw_first(
     adapter: u8,
     y: u32,
 ) -> Result<u32, AllocError>
-    ensures { OnOk result (out.new ≡ out.old) }
+    ensures { OnOk result (out.new.stands ≡ out.old.stands) }
 {
     if is_first(scene.lanes, place) {
         draw_adapter(alloc, out, scene, adapter, y)?;
@@ -114,7 +114,7 @@ fn draw_drives<'a>(
     out: &mut Markup<'a>,
     scene: &Scene<'_, 'a>,
 ) -> Result<(), AllocError>
-    ensures { OnOk result (out.new ≡ told (lines_of_lanes scene.now.sheet.now scene.now.lanes.now) out.old) }
+    ensures { OnOk result (out.new.stands ≡ told (lines_of_lanes scene.now.sheet.now scene.now.lanes.now) out.old.stands) }
 {
     let mut y = TOP;
     for (place, lane) in scene.lanes.iter().enumerate() {
@@ -133,7 +133,7 @@ fn draw_all<'a>(
     bottom: u32,
     height: u32,
 ) -> Result<(), AllocError>
-    ensures { OnOk result (out.new ≡ told (lines_of_lanes scene.now.sheet.now scene.now.lanes.now) out.old) }
+    ensures { OnOk result (out.new.stands ≡ told (lines_of_lanes scene.now.sheet.now scene.now.lanes.now) out.old.stands) }
 {
     draw_names(out, scene)?;
     draw_fixed(out)?;
@@ -146,7 +146,7 @@ fn draw_all<'a>(
 
 /// The drawing.
 fn draw<'a>(alloc: Global, out: &mut Markup<'a>, scene: &Scene<'_, 'a>) -> Result<(), AllocError>
-    ensures { OnOk result (out.new ≡ told (lines_of_lanes scene.now.sheet.now scene.now.lanes.now) out.old) }
+    ensures { OnOk result (out.new.stands ≡ told (lines_of_lanes scene.now.sheet.now scene.now.lanes.now) out.old.stands) }
 {
     let bottom = bottom_of(scene.lanes);
     let listed = times(13, small(scene.shown.listed.len() as u64));

@@ -17,7 +17,7 @@ const ENDS: [u32; 6] = [84, 124, 164, 200, 234, 262];
 
 /// The names of the table's columns.
 fn draw_names(out: &mut Markup<'_>, scene: &Scene<'_, '_>, y: u32) -> Result<(), AllocError>
-    ensures { OnOk result (out.new ≡ out.old) }
+    ensures { OnOk result (out.new.stands ≡ out.old.stands) }
 {
     let beside = scene.frame.beside;
     let y = add(y, 9);
@@ -38,7 +38,7 @@ fn draw_names(out: &mut Markup<'_>, scene: &Scene<'_, '_>, y: u32) -> Result<(),
 
 /// The tooltip of a request.
 fn put_tip(out: &mut Markup<'_>, request: &Request) -> Result<(), AllocError>
-    ensures { OnOk result (out.new ≡ out.old) }
+    ensures { OnOk result (out.new.stands ≡ out.old.stands) }
 {
     out.word("request ")?;
     out.number(u64::from(request.id))?;
@@ -52,7 +52,7 @@ fn put_tip(out: &mut Markup<'_>, request: &Request) -> Result<(), AllocError>
 
 /// The cylinder of a request, where it joined.
 fn put_cylinder(out: &mut Markup<'_>, cylinder: Option<u32>) -> Result<(), AllocError>
-    ensures { OnOk result (out.new ≡ out.old) }
+    ensures { OnOk result (out.new.stands ≡ out.old.stands) }
 {
     match cylinder {
         Some(cylinder) => {
@@ -65,7 +65,7 @@ fn put_cylinder(out: &mut Markup<'_>, cylinder: Option<u32>) -> Result<(), Alloc
 
 /// What a request asks.
 fn draw_label(out: &mut Markup<'_>, request: &Request, y: u32) -> Result<(), AllocError>
-    ensures { OnOk result (out.new ≡ out.old) }
+    ensures { OnOk result (out.new.stands ≡ out.old.stands) }
 {
     begin_text(out, "m e", at(LABEL, add(y, 9)))?;
     out.number(u64::from(request.id))?;
@@ -99,7 +99,7 @@ fn draw_stretch(
     stretch: Stretch,
     y: u32,
 ) -> Result<(), AllocError>
-    ensures { OnOk result (out.new ≡ out.old) }
+    ensures { OnOk result (out.new.stands ≡ out.old.stands) }
 {
     let letter = lead(
         &scene.cell(unit, stretch.from).tally,
@@ -125,7 +125,7 @@ fn draw_wait(
     request: &Request,
     y: u32,
 ) -> Result<(), AllocError>
-    ensures { OnOk result (out.new ≡ out.old) }
+    ensures { OnOk result (out.new.stands ≡ out.old.stands) }
 {
     let asked = scene.at(request.asked);
     let hand = scene.at(scene.in_hand(request));
@@ -143,7 +143,7 @@ fn draw_time(
     request: &Request,
     y: u32,
 ) -> Result<(), AllocError>
-    ensures { OnOk result (out.new ≡ out.old) }
+    ensures { OnOk result (out.new.stands ≡ out.old.stands) }
 {
     let from = scene.sheet.column_of(scene.in_hand(request));
     let to = scene.sheet.column_of(scene.ended(request));
@@ -165,7 +165,7 @@ fn draw_numbers(
     request: &Request,
     y: u32,
 ) -> Result<(), AllocError>
-    ensures { OnOk result (out.new ≡ out.old) }
+    ensures { OnOk result (out.new.stands ≡ out.old.stands) }
 {
     let beside = scene.frame.beside;
     let turn = if request.is_out_of_order() {
@@ -188,7 +188,7 @@ fn draw_answer(
     request: &Request,
     y: u32,
 ) -> Result<(), AllocError>
-    ensures { OnOk result (out.new ≡ out.old) }
+    ensures { OnOk result (out.new.stands ≡ out.old.stands) }
 {
     let class = if request.outcome == Outcome::Ok {
         "m"
@@ -210,7 +210,7 @@ fn draw_request(
     request: &Request,
     y: u32,
 ) -> Result<(), AllocError>
-    ensures { OnOk result (out.new ≡ out.old) }
+    ensures { OnOk result (out.new.stands ≡ out.old.stands) }
 {
     let route = Route::Across {
         from: at(LEFT, add(y, 12)),
@@ -235,7 +235,7 @@ pub(crate) fn draw_table(
     scene: &Scene<'_, '_>,
     y: u32,
 ) -> Result<(), AllocError>
-    ensures { OnOk result (out.new ≡ out.old) }
+    ensures { OnOk result (out.new.stands ≡ out.old.stands) }
 {
     draw_names(out, scene, y)?;
     let mut y = y;

@@ -2,4 +2,4 @@ use Rattle.std.proofs.Common.{◌≡◌}
 use Rattle.picture_arms.proofs.arm.draw_served.Given as goal
 
 abbrev pub invariant-loop-request : goal.invariant-loop-request
-invariant-loop-request l = l.out ≡ l.initial.out
+invariant-loop-request l = l.out.stands ≡ l.initial.out.stands

@@ -2,4 +2,4 @@ use Rattle.std.proofs.Common.{◌≡◌}
 use Rattle.picture_marks.proofs.marks.draw_by_column.Given as goal
 
 abbrev pub invariant-loop-column : goal.invariant-loop-column
-invariant-loop-column l = l.out ≡ l.initial.out
+invariant-loop-column l = l.out.stands ≡ l.initial.out.stands

@@ -4,12 +4,12 @@ use Rattle.picture_marks.proofs.Telling.{tell_all, tell_range, fits_in, le_more}
 use Rattle.picture_marks.proofs.marks.draw_by_event.Goals as goal
 
 pub loop-column-init : goal.loop-column-init
-loop-column-init c = (tell_all (line_of c.args.unit) c.args.scene.now.sheet.now.notes.now c.args.out.now, omega arith)
+loop-column-init c = (tell_all (line_of c.args.unit) c.args.scene.now.sheet.now.notes.now c.args.out.now.stands, omega arith)
 
 pub loop-column-preserved : goal.loop-column-preserved
 loop-column-preserved c = (
   tell_range (line_of c.args.unit) c.args.scene.now.sheet.now.notes.now c.loop-column.from
-      (c.loop-column.from + c.count_to.result) c.loop-column.out c.draw_event.new.out _
+      (c.loop-column.from + c.count_to.result) c.loop-column.out.stands c.draw_event.new.out.stands _
       (le_more c.loop-column.from c.count_to.result) c.in_ok-draw_event.ensures c.loop-column.invariant.0,
   fits_in c.args.scene.now.sheet.now.notes.now c.loop-column.from c.count_to.result c.loop-column.invariant.1 c.count_to.ensures,
 )

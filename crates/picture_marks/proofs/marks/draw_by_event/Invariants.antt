@@ -5,4 +5,4 @@ use Rattle.picture_marks.proofs.marks.draw_by_event.Given as goal
 
 abbrev pub invariant-loop-column : goal.invariant-loop-column
 invariant-loop-column l =
-    (told (lines_of l.unit (drop l.from l.notes)) l.out ≡ told (lines_of l.unit l.notes) l.initial.out) × (l.from ≤ length l.notes)
+    (told (lines_of l.unit (drop l.from l.notes)) l.out.stands ≡ told (lines_of l.unit l.notes) l.initial.out.stands) × (l.from ≤ length l.notes)

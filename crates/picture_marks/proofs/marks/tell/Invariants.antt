@@ -5,4 +5,4 @@ use Rattle.picture_sheet.specs.Notes.{line_of}
 use Rattle.picture_marks.proofs.marks.tell.Given as goal
 
 abbrev pub invariant-loop-note : goal.invariant-loop-note
-invariant-loop-note l = l.out ≡ told (flat_map (line_of l.unit) (take l.note-index l.notes)) l.initial.out
+invariant-loop-note l = l.out.stands ≡ told (flat_map (line_of l.unit) (take l.note-index l.notes)) l.initial.out.stands

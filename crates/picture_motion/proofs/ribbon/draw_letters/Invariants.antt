@@ -2,4 +2,4 @@ use Rattle.std.proofs.Common.{◌≡◌}
 use Rattle.picture_motion.proofs.ribbon.draw_letters.Given as goal
 
 abbrev pub invariant-loop-letter : goal.invariant-loop-letter
-invariant-loop-letter l = l.out ≡ l.initial.out
+invariant-loop-letter l = l.out.stands ≡ l.initial.out.stands
