@@ -138,7 +138,7 @@ fn draw_held(
 {
     let columns = scene.columns();
     let keys = held_keys(alloc, columns, scene.lanes, adapter)?;
-    for stretch in stretches(alloc, 0, keys.as_slice())?.iter() {
+    for stretch in stretches(alloc, keys.as_slice())?.iter() {
         if let Some(column) = columns.get(stretch.from) {
             if held(column, scene.lanes, adapter) > 0 {
                 draw_holder(out, scene, column, *stretch, adapter, y)?;
@@ -206,7 +206,7 @@ fn draw_together(
 {
     let columns = scene.columns();
     let keys = together_keys(alloc, columns, adapter)?;
-    for stretch in stretches(alloc, 0, keys.as_slice())?.iter() {
+    for stretch in stretches(alloc, keys.as_slice())?.iter() {
         let count = match columns.get(stretch.from) {
             Some(column) => together(column, adapter),
             None => 0,

@@ -2,8 +2,8 @@
 use Rattle.std.specs.Prelude.{◌≡◌, ℕ, zero, suc, ◌+◌, ◌*◌, ◌/◌, List, [], ◌∷◌, Option, Some, None, length, fold, decimal, slice_range}
 use Rattle.chart_lines.specs.Charts.{with_text, text_of, IsChart}
 use Rattle.picture_chart.specs.Legends.{with_legend}
-use Rattle.picture_chart.specs.Panels.{with_panel}
-use Rattle.picture_chart.specs.Rows.{line_of, with_line}
+use Rattle.chart_panels.specs.Panels.{with_panel}
+use Rattle.chart_lines.specs.Rows.{line_of, with_line}
 use Rattle.picture_chart.specs.Tables.{with_table}
 use Rattle.picture_sheet.specs.declared.sheet.Sheet.{Sheet}
 use Rattle.picture_sheet.specs.declared.summary.Phrase.{Phrase}

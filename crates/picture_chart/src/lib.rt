@@ -6,8 +6,6 @@
 #![tactic(auto)]
 
 mod page;
-mod panel;
-mod rows;
 mod table;
 
 pub use page::chart;

@@ -5,10 +5,9 @@ ghost use Rattle.picture_sheet.specs.Units.{units_shown};
 ghost use Rattle.picture_chart.specs.Pages.{with_phrase, with_third, with_sentence, with_head, panels_of, with_panels, IsChartOf};
 ghost use Rattle.picture_chart.specs.Legends.{with_words, of_drives, of_marks, with_legend};
 
-use crate::panel::put_panel;
-use crate::rows::{line_of, put_line};
 use crate::table::put_table;
-use chart_lines::{ChartLine, text_of};
+use chart_lines::{ChartLine, line_of, put_line, text_of};
+use chart_panels::put_panel;
 use picture_sheet::{Phrase, Sentence, Sheet, Shown, sentences};
 use run_picture::Column;
 use std::alloc::{AllocError, Global};

@@ -113,7 +113,7 @@ fn draw_waiting(
     let keys = waiting_keys(alloc, scene.columns(), lane.unit)?;
     let most = most_of(keys.as_slice());
     out.text_with("q e", at(LABEL, add(y, 8)), "asked for, most ", most)?;
-    for stretch in stretches(alloc, 0, keys.as_slice())?.iter() {
+    for stretch in stretches(alloc, keys.as_slice())?.iter() {
         let count = scene.cell(lane.unit, stretch.from).waiting;
         if count > 0 {
             draw_count(out, scene, *stretch, count, most, y)?;
@@ -188,7 +188,7 @@ fn draw_conditions(
     ensures { OnOk result (out.new.stands ≡ out.old.stands) }
 {
     let keys = condition_keys(alloc, scene.columns(), unit, offline)?;
-    for stretch in stretches(alloc, 0, keys.as_slice())?.iter() {
+    for stretch in stretches(alloc, keys.as_slice())?.iter() {
         let cell = scene.cell(unit, stretch.from);
         if if offline { cell.offline } else { cell.locked } {
             draw_condition(out, scene, *stretch, offline, y)?;

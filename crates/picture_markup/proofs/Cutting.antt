@@ -1,7 +1,7 @@
 -- Pieces whose coordinates are cut off at the highest make the same text.
-use Rattle.std.proofs.Common.{◌≡◌, ℕ, zero, suc, ◌≤◌, ◌-◌, ◌&&◌, min, nat_lt, Bool, true, List, [], ◌∷◌, ◌++◌, map, take, drop, refl, sym, ◌∙◌, ap, arith}
+use Rattle.std.proofs.Common.{◌≡◌, ℕ, suc, ◌-◌, min, true, List, [], ◌∷◌, ◌++◌, map, take, drop, refl, sym, ◌∙◌, ap, arith}
 use Rattle.std.specs.Prelude.{fold, codes}
-use Rattle.std.specs.List.{list_all, flat_map, slice_range}
+use Rattle.std.specs.List.{flat_map, slice_range}
 use Rattle.std.proofs.Math.Nat.{min-le_right, min-eq_left}
 use Rattle.std.proofs.lemmas.Bool.{le-leb}
 use Rattle.std.proofs.lemmas.List.{take-map, drop-map}
@@ -14,8 +14,8 @@ use Rattle.picture_markup.specs.declared.pieces.Route.TheVariants as route
 use Rattle.picture_markup.specs.declared.pieces.Piece.{Piece}
 use Rattle.picture_markup.specs.declared.pieces.Piece.TheVariants as piece
 use Rattle.picture_markup.specs.Nesting.{Drawn, blank, element_of, started, drawn_with, drawn}
-use Rattle.picture_markup.specs.Places.{of_point, of_route, of_start, of_piece, coordinates, is_low, are_low}
-use Rattle.picture_markup.specs.Elements.{with_route, with_start, with_next, with_points, with_polyline, with_piece, text_of, IsWritten}
+use Rattle.picture_markup.specs.Places.{of_point, of_route, of_start, of_piece, is_low, are_low}
+use Rattle.picture_markup.specs.Elements.{with_route, with_start, with_rect, with_circle, with_path, with_polyline, with_next, with_points, with_piece, text_of, IsWritten}
 
 abbrev cut : ℕ → ℕ
 cut n = min n 19999
@@ -59,6 +59,7 @@ route_same (route.Tick from) text = rw (cut_cut from.x, cut_cut from.y) refl
 route_same (route.Sign from way) text = rw (cut_cut from.x, cut_cut from.y) refl
 
 start_same : (s : Start) (text : List ℕ) → with_start (cut_start s) text ≡ with_start s text
+unfolding with_start
 start_same (start.Svg width height) text = rw (cut_cut width, cut_cut height) refl
 start_same (start.Text class x y) text = rw (cut_cut x, cut_cut y) refl
 start_same (start.Upwards x y) text = rw (cut_cut x, cut_cut y) refl
@@ -85,6 +86,7 @@ line_same points from to text =
     ap (λ part. with_points part text) (range_same points from to) ∙ points_same (slice_range points from to) text
 
 piece_same : (points : List Point) (p : Piece) (text : List ℕ) → with_piece (map cut_point points) text (cut_piece p) ≡ with_piece points text p
+unfolding with_rect with_circle with_path with_polyline
 piece_same points (piece.Start s) text = start_same s text
 piece_same points (piece.Rect class corner width height fill) text =
     rw (cut_cut corner.x, cut_cut corner.y, cut_cut width, cut_cut height) refl

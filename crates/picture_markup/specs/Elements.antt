@@ -29,7 +29,7 @@ escaped b =
 abbrev pub with_byte : List ℕ → ℕ → List ℕ
 with_byte text b = text ++ escaped b
 
-abbrev pub with_words : List ℕ → List ℕ → List ℕ
+unfoldable pub with_words : List ℕ → List ℕ → List ℕ
 with_words bytes text = fold with_byte text bytes
 
 -- A COORDINATE is below 20,000
@@ -67,19 +67,19 @@ abbrev pub with_fill : Option (Bor (List ℕ)) → List ℕ → List ℕ
 with_fill None text = text
 with_fill (Some name) text = text ++ codes " fill=\"url(#" ++ name.now ++ codes ")\""
 
-abbrev pub with_rect : List ℕ → Point → ℕ → ℕ → Option (Bor (List ℕ)) → List ℕ → List ℕ
+unfoldable pub with_rect : List ℕ → Point → ℕ → ℕ → Option (Bor (List ℕ)) → List ℕ → List ℕ
 with_rect class corner width height fill text =
     with_fill fill (with_key (codes "height") height (with_key (codes "width") width
     (with_key (codes "y") corner.y (with_key (codes "x") corner.x (with_class class (text ++ codes "<rect"))))))
     ++ codes "/>\n"
 
-abbrev pub with_circle : List ℕ → Point → ℕ → List ℕ → List ℕ
+unfoldable pub with_circle : List ℕ → Point → ℕ → List ℕ → List ℕ
 with_circle class middle radius text =
     with_key (codes "r") radius (with_key (codes "cy") middle.y (with_key (codes "cx") middle.x
     (with_class class (text ++ codes "<circle"))))
     ++ codes "/>\n"
 
-abbrev pub with_path : List ℕ → Route → List ℕ → List ℕ
+unfoldable pub with_path : List ℕ → Route → List ℕ → List ℕ
 with_path class way text =
     with_route way (with_class class (text ++ codes "<path") ++ codes " d=\"") ++ codes "\"/>\n"
 
@@ -91,7 +91,7 @@ abbrev pub with_points : List Point → List ℕ → List ℕ
 with_points [] text = text
 with_points (p ∷ points) text = fold with_next (with_leg (codes ",") p.y (with_leg [] p.x text)) points
 
-abbrev pub with_polyline : List ℕ → List Point → List ℕ → List ℕ
+unfoldable pub with_polyline : List ℕ → List Point → List ℕ → List ℕ
 with_polyline class points text =
     with_points points (with_class class (text ++ codes "<polyline") ++ codes " points=\"") ++ codes "\"/>\n"
 
@@ -108,7 +108,7 @@ with_svg width height text =
     (with_key (codes "height") height (with_key (codes "width") width (text ++ svg_front))))
     ++ svg_back
 
-abbrev pub with_start : Start → List ℕ → List ℕ
+unfoldable pub with_start : Start → List ℕ → List ℕ
 with_start (start.Svg width height) text = with_svg width height text
 with_start start.Group text = text ++ codes "<g>"
 with_start start.Title text = text ++ codes "<title>"
@@ -120,7 +120,7 @@ with_start (start.Upwards x y) text =
     with_leg (codes " ") y (with_leg (codes " transform=\"translate(") x (with_class (codes "m") (text ++ codes "<text")))
     ++ codes ")rotate(-90)\">"
 
-abbrev pub with_end : Element → List ℕ → List ℕ
+unfoldable pub with_end : Element → List ℕ → List ℕ
 with_end element.Svg text = text ++ codes "</svg>\n"
 with_end element.Group text = text ++ codes "</g>\n"
 with_end element.Title text = text ++ codes "</title>\n"
@@ -146,17 +146,17 @@ abbrev pub text_of : List Point → List Piece → List ℕ
 text_of points pieces = fold (with_piece points) [] pieces
 
 -- WORDS AT A PLACE, a number there, and words with a number behind them
-abbrev pub with_opened : List ℕ → Point → List ℕ → List ℕ
+unfoldable pub with_opened : List ℕ → Point → List ℕ → List ℕ
 with_opened class p text =
     with_key (codes "y") p.y (with_key (codes "x") p.x (with_class class (text ++ codes "<text"))) ++ codes ">"
 
-abbrev pub with_label : List ℕ → Point → List ℕ → List ℕ → List ℕ
+unfoldable pub with_label : List ℕ → Point → List ℕ → List ℕ → List ℕ
 with_label class p word text = with_end element.Text (with_words word (with_opened class p text))
 
-abbrev pub with_label_number : List ℕ → Point → ℕ → List ℕ → List ℕ
+unfoldable pub with_label_number : List ℕ → Point → ℕ → List ℕ → List ℕ
 with_label_number class p n text = with_end element.Text (with_opened class p text ++ decimal n)
 
-abbrev pub with_label_both : List ℕ → Point → List ℕ → ℕ → List ℕ → List ℕ
+unfoldable pub with_label_both : List ℕ → Point → List ℕ → ℕ → List ℕ → List ℕ
 with_label_both class p word n text = with_end element.Text (with_words word (with_opened class p text) ++ decimal n)
 
 -- A DRAWING IS WRITTEN AS A TEXT: of pieces and points whose coordinates are low

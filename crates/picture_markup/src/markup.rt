@@ -187,6 +187,7 @@ impl<'a> Markup<'a> {
     }
 
     /// Words at a place.
+    #[tactic(auto, unfolding(crate::specs::Elements::with_label, crate::specs::Elements::with_opened, crate::specs::Elements::with_start))]
     pub fn text(
         &mut self,
         class: &'static str,
@@ -206,6 +207,7 @@ impl<'a> Markup<'a> {
     }
 
     /// A number at a place.
+    #[tactic(auto, unfolding(crate::specs::Elements::with_label_number, crate::specs::Elements::with_opened, crate::specs::Elements::with_start))]
     pub fn text_number(
         &mut self,
         class: &'static str,
@@ -225,6 +227,7 @@ impl<'a> Markup<'a> {
     }
 
     /// Words and a number behind them, at a place.
+    #[tactic(auto, unfolding(crate::specs::Elements::with_label_both, crate::specs::Elements::with_opened, crate::specs::Elements::with_start))]
     pub fn text_with(
         &mut self,
         class: &'static str,

@@ -50,6 +50,7 @@ fn put_escaped(out: &mut Vec<u8>, byte: u8) -> Result<(), AllocError>
 }
 
 /// Puts bytes, so written.
+#[tactic(auto, unfolding(crate::specs::Elements::with_words))]
 fn put_words(out: &mut Vec<u8>, bytes: &[u8]) -> Result<(), AllocError>
     ensures { OnOk result (out.new.items ≡ with_words bytes.now out.old.items) }
 {
@@ -172,6 +173,7 @@ fn put_svg(out: &mut Vec<u8>, width: u32, height: u32) -> Result<(), AllocError>
 }
 
 /// Puts the start of an element.
+#[tactic(auto, unfolding(crate::specs::Elements::with_start))]
 fn put_start(out: &mut Vec<u8>, start: Start) -> Result<(), AllocError>
     ensures { OnOk result (out.new.items ≡ with_start start out.old.items) }
 {
@@ -199,6 +201,7 @@ fn put_start(out: &mut Vec<u8>, start: Start) -> Result<(), AllocError>
 }
 
 /// Puts the end of an element.
+#[tactic(auto, unfolding(crate::specs::Elements::with_end))]
 fn put_end(out: &mut Vec<u8>, element: Element) -> Result<(), AllocError>
     ensures { OnOk result (out.new.items ≡ with_end element out.old.items) }
 {
@@ -226,6 +229,7 @@ fn put_fill(out: &mut Vec<u8>, fill: Option<&'static str>) -> Result<(), AllocEr
 }
 
 /// Puts a rectangle.
+#[tactic(auto, unfolding(crate::specs::Elements::with_rect))]
 fn put_rect(
     out: &mut Vec<u8>,
     class: &str,
@@ -247,6 +251,7 @@ fn put_rect(
 }
 
 /// Puts a circle.
+#[tactic(auto, unfolding(crate::specs::Elements::with_circle))]
 fn put_circle(out: &mut Vec<u8>, class: &str, middle: Point, radius: u32) -> Result<(), AllocError>
     ensures { OnOk result (out.new.items ≡ with_circle class.now middle radius out.old.items) }
 {
@@ -259,6 +264,7 @@ fn put_circle(out: &mut Vec<u8>, class: &str, middle: Point, radius: u32) -> Res
 }
 
 /// Puts a path.
+#[tactic(auto, unfolding(crate::specs::Elements::with_path))]
 fn put_path(out: &mut Vec<u8>, class: &str, route: Route) -> Result<(), AllocError>
     ensures { OnOk result (out.new.items ≡ with_path class.now route out.old.items) }
 {
@@ -302,6 +308,7 @@ fn put_points(out: &mut Vec<u8>, points: &[Point]) -> Result<(), AllocError>
 }
 
 /// Puts a line through points.
+#[tactic(auto, unfolding(crate::specs::Elements::with_polyline))]
 fn put_polyline(out: &mut Vec<u8>, class: &str, points: &[Point]) -> Result<(), AllocError>
     ensures { OnOk result (out.new.items ≡ with_polyline class.now points.now out.old.items) }
 {

@@ -190,7 +190,7 @@ pub fn draw_ribbon(
     };
     out.path("g", route)?;
     let keys = ribbon_keys(alloc, scene.columns(), unit)?;
-    for stretch in stretches(alloc, 0, keys.as_slice())?.iter() {
+    for stretch in stretches(alloc, keys.as_slice())?.iter() {
         let cell = scene.cell(unit, stretch.from);
         if is_busy(&cell, scene.size(stretch.from)) {
             draw_stretch(out, scene, *stretch, &cell, y)?;

@@ -148,8 +148,8 @@ fn draw_time(
     let from = scene.sheet.column_of(scene.in_hand(request));
     let to = scene.sheet.column_of(scene.ended(request));
     let keys = lead_keys(alloc, scene, request.unit, from, to)?;
-    for stretch in stretches(alloc, from, keys.as_slice())?.iter() {
-        draw_stretch(out, scene, request.unit, *stretch, y)?;
+    for stretch in stretches(alloc, keys.as_slice())?.iter() {
+        draw_stretch(out, scene, request.unit, stretch.moved(from), y)?;
     }
     if scene.ended(request) < scene.sheet.window.last {
         let from = at(scene.at(scene.ended(request)), y);
