@@ -63,11 +63,15 @@ with_route (route.Tick from) text = with_point (codes "M") from text ++ codes "v
 with_route (route.Sign from way) text = with_point (codes "M") from text ++ way.now
 
 -- ELEMENTS WITH NOTHING IN THEM
-abbrev pub with_fill : Option (Bor (List ℕ)) → List ℕ → List ℕ
+abbrev pub with_fill : Option (List ℕ) → List ℕ → List ℕ
 with_fill None text = text
-with_fill (Some name) text = text ++ codes " fill=\"url(#" ++ name.now ++ codes ")\""
+with_fill (Some name) text = text ++ codes " fill=\"url(#" ++ name ++ codes ")\""
 
-unfoldable pub with_rect : List ℕ → Point → ℕ → ℕ → Option (Bor (List ℕ)) → List ℕ → List ℕ
+abbrev pub name_of : Option (Bor (List ℕ)) → Option (List ℕ)
+name_of None = None
+name_of (Some name) = Some name.now
+
+unfoldable pub with_rect : List ℕ → Point → ℕ → ℕ → Option (List ℕ) → List ℕ → List ℕ
 with_rect class corner width height fill text =
     with_fill fill (with_key (codes "height") height (with_key (codes "width") width
     (with_key (codes "y") corner.y (with_key (codes "x") corner.x (with_class class (text ++ codes "<rect"))))))
@@ -136,7 +140,7 @@ with_piece points text (piece.Number n) = text ++ decimal n
 with_piece points text (piece.Said bytes) = with_words bytes.now text
 with_piece points text (piece.Told line) = with_words line.now text
 with_piece points text piece.Feed = text ++ codes "\n"
-with_piece points text (piece.Rect class corner width height fill) = with_rect class.now corner width height fill text
+with_piece points text (piece.Rect class corner width height fill) = with_rect class.now corner width height (name_of fill) text
 with_piece points text (piece.Circle class middle radius) = with_circle class.now middle radius text
 with_piece points text (piece.Path class way) = with_path class.now way text
 with_piece points text (piece.Polyline class from to) = with_polyline class.now (slice_range points from to) text

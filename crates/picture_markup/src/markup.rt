@@ -2,7 +2,7 @@
 
 ghost use Rattle.std.specs.Prelude.{◌≡◌, ◌∷◌, [], ◌++◌, true, length, codes, decimal, slice_range, IfOk, OnOk};
 ghost use Rattle.picture_markup.specs.Nesting.{element_of, started, ended, in_title, told, drawn_with};
-ghost use Rattle.picture_markup.specs.Elements.{empty, has_points, with_start, with_end, with_words, with_rect, with_circle, with_path, with_polyline, with_piece, with_label, with_label_number, with_label_both, IsWritten};
+ghost use Rattle.picture_markup.specs.Elements.{empty, has_points, with_start, with_end, with_words, name_of, with_rect, with_circle, with_path, with_polyline, with_piece, with_label, with_label_number, with_label_both, IsWritten};
 
 use crate::pieces::{Element, Piece, Point, Route, Start};
 use crate::render::render;
@@ -124,7 +124,7 @@ impl<'a> Markup<'a> {
         fill: Option<&'static str>,
     ) -> Result<(), AllocError>
         ensures stands { OnOk result (self.new.stands ≡ self.old.stands) }
-        ensures text { OnOk result (self.new.text ≡ with_rect class.now corner width height fill.entry self.old.text) }
+        ensures text { OnOk result (self.new.text ≡ with_rect class.now corner width height (name_of fill.entry) self.old.text) }
     {
         self.put(Piece::Rect {
             class,

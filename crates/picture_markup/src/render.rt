@@ -1,7 +1,7 @@
 //! The text of the pieces of a drawing.
 
 ghost use Rattle.std.specs.Prelude.{◌≡◌, ◌++◌, fold, slice_range, codes, decimal, IfOk, OnOk};
-ghost use Rattle.picture_markup.specs.Elements.{with_byte, with_words, with_place, with_class, with_key, with_leg, with_point, with_route, with_fill, with_rect, with_circle, with_path, with_next, with_points, with_polyline, svg_front, svg_back, with_svg, with_start, with_end, with_piece, text_of};
+ghost use Rattle.picture_markup.specs.Elements.{with_byte, with_words, with_place, with_class, with_key, with_leg, with_point, with_route, with_fill, name_of, with_rect, with_circle, with_path, with_next, with_points, with_polyline, svg_front, svg_back, with_svg, with_start, with_end, with_piece, text_of};
 
 use crate::pieces::{Element, Piece, Point, Route, Start};
 use itoa::Buffer;
@@ -216,7 +216,7 @@ fn put_end(out: &mut Vec<u8>, element: Element) -> Result<(), AllocError>
 
 /// Puts what fills a rectangle.
 fn put_fill(out: &mut Vec<u8>, fill: Option<&'static str>) -> Result<(), AllocError>
-    ensures { OnOk result (out.new.items ≡ with_fill fill.entry out.old.items) }
+    ensures { OnOk result (out.new.items ≡ with_fill (name_of fill.entry) out.old.items) }
 {
     match fill {
         Some(name) => {
@@ -238,7 +238,7 @@ fn put_rect(
     height: u32,
     fill: Option<&'static str>,
 ) -> Result<(), AllocError>
-    ensures { OnOk result (out.new.items ≡ with_rect class.now corner width height fill.entry out.old.items) }
+    ensures { OnOk result (out.new.items ≡ with_rect class.now corner width height (name_of fill.entry) out.old.items) }
 {
     put(out, "<rect")?;
     put_class(out, class)?;

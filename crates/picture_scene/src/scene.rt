@@ -1,6 +1,7 @@
 //! What is drawn, and where.
 
-ghost use Rattle.std.specs.Prelude.{◌≡◌, map, All, IfOk};
+ghost use Rattle.std.specs.Prelude.{◌≡◌, if◌then◌else◌, [], ◌∷◌, ◌++◌, map, All, IfOk, OnOk};
+ghost use Rattle.picture_sheet.specs.Requests.{top_of};
 ghost use Rattle.picture_sheet.specs.Units.{units_shown};
 ghost use Rattle.picture_scene.specs.Lines.{unit_of};
 ghost use Rattle.picture_scene.specs.Scenes.{is_of, asked_of, chart_of, IsLane, height_of, column_at, size_of, cell_in, place_of, width_in, in_hand, ended};
@@ -121,6 +122,24 @@ fn goes_on(keys: &[u64]) -> bool
     }
 }
 
+/// Puts a stretch, unless it goes on; and where the stretch at hand then begins.
+fn put_ended(
+    stretches: &mut Vec<Stretch>,
+    on: bool,
+    from: usize,
+    to: usize,
+) -> Result<usize, AllocError>
+    ensures from { IfOk result (λ next. next ≡ (if on then from else to)) }
+    ensures stretches { OnOk result (stretches.new.items ≡ (if on then stretches.old.items else stretches.old.items ++ record { from = from; to = to } ∷ [])) }
+{
+    if on {
+        Ok(from)
+    } else {
+        stretches.push(Stretch { from, to })?;
+        Ok(to)
+    }
+}
+
 /// The stretches of equal numbers, of which each column has one.
 #[tactic(auto, unfolding(crate::specs::Stretches::stretches_of))]
 pub fn stretches(alloc: Global, keys: &[u64]) -> Result<Vec<Stretch>, AllocError>
@@ -129,11 +148,8 @@ pub fn stretches(alloc: Global, keys: &[u64]) -> Result<Vec<Stretch>, AllocError
     let mut stretches = Vec::new(alloc);
     let mut from: usize = 0;
     for column in 0..keys.len() {
-        if !goes_on(&keys[column..]) {
-            let to = column + 1;
-            stretches.push(Stretch { from, to })?;
-            from = to;
-        }
+        let on = goes_on(&keys[column..]);
+        from = put_ended(&mut stretches, on, from, column + 1)?;
     }
     Ok(stretches)
 }

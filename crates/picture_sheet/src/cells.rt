@@ -107,26 +107,3 @@ pub fn cell_at(column: &Column, unit: u8) -> Cell
         None => Cell::new(),
     }
 }
-
-/// The letters on the way to a sector are as many in both.
-fn is_same_way(tally: &Tally, other: &Tally) -> bool {
-    tally.seeks == other.seeks
-        && tally.turns == other.turns
-        && tally.recalibrates == other.recalibrates
-        && tally.offsets == other.offsets
-        && tally.arrived == other.arrived
-}
-
-/// The others are as many in both.
-fn is_same_rest(tally: &Tally, other: &Tally) -> bool {
-    tally.ready == other.ready
-        && tally.moves == other.moves
-        && tally.retries == other.retries
-        && tally.replaces == other.replaces
-        && tally.moved == other.moved
-}
-
-/// Each letter is as often in both.
-pub fn is_same_tally(tally: &Tally, other: &Tally) -> bool {
-    is_same_way(tally, other) && is_same_rest(tally, other)
-}

@@ -13,7 +13,7 @@ mod shown;
 mod summary;
 mod words;
 
-pub use cells::{LETTERS, cell_at, count_of, holding, is_same_tally, lead};
+pub use cells::{LETTERS, cell_at, count_of, holding, lead};
 pub use sheet::{Note, Sheet};
 pub use shown::{Shown, is_shown, top_of};
 pub use summary::{Phrase, Sentence, sentences};
