@@ -5,7 +5,6 @@ use Rattle.drive_pictures.specs.Counts.{plus}
 use Rattle.run_picture.specs.declared.columns.Column.{Column}
 use Rattle.run_picture.specs.declared.columns.Head.{Head}
 use Rattle.picture_markup.specs.declared.pieces.Element.TheVariants as element
-use Rattle.picture_markup.specs.declared.pieces.Point.{Point}
 use Rattle.picture_markup.specs.declared.pieces.Route.TheVariants as route
 use Rattle.picture_markup.specs.declared.pieces.Start.TheVariants as start
 use Rattle.picture_markup.specs.Elements.{with_start, with_end, with_words, with_path, with_label, with_label_number}
@@ -14,8 +13,8 @@ use Rattle.picture_sheet.specs.Window.{head_of}
 use Rattle.picture_scene.specs.declared.frame.Frame.{Frame}
 use Rattle.picture_scene.specs.declared.scene.Scene.{Scene}
 use Rattle.picture_scene.specs.declared.scene.Stretch.{Stretch}
-use Rattle.picture_scene.specs.Frames.{add, x_of}
-use Rattle.picture_scene.specs.Groups.{drawn, with_number}
+use Rattle.picture_scene.specs.Frames.{point, add, x_of}
+use Rattle.picture_scene.specs.Groups.{Row, drawn, with_number}
 use Rattle.picture_scene.specs.Scenes.{column_at}
 use Rattle.picture_scene.specs.Stretches.{stretches_of}
 
@@ -46,7 +45,7 @@ words_at sheet column = words_in (slice_get sheet.texts.now column)
 -- upwards over the first of its columns, in a picture so high
 unfoldable pub with_line : Scene → ℕ → ℕ → List ℕ → List ℕ
 with_line scene column height = drawn
-    (with_path (codes "g") (route.Down (record { x = x_of scene.frame column; y = 278 }) (height - 16))
+    (with_path (codes "g") (route.Down (point (x_of scene.frame column) 278) (height - 16))
     ∷ with_start (start.Upwards (add (x_of scene.frame column) 4) 272)
     ∷ with_line_words (column_at scene.sheet.now column).head (words_at scene.sheet.now column)
     ∷ with_end element.Text
@@ -56,13 +55,8 @@ with_line scene column height = drawn
 unfoldable pub with_bar : Frame → Stretch → List ℕ → List ℕ
 with_bar frame s text =
     if nat_lt 1 (s.to - s.from)
-    then with_path (codes "k") (route.Across (record { x = x_of frame s.from; y = 276 }) (x_of frame s.to - 2)) text
+    then with_path (codes "k") (route.Across (point (x_of frame s.from) 276) (x_of frame s.to - 2)) text
     else text
-
--- A ROW OF WORDS that do not touch: the place from which there is room, and the text
-pub record Row : Type 0 where
-  pub free : ℕ
-  pub text : List ℕ
 
 -- THE SCRIPT above the columns: each of its lines, where there is room
 unfoldable pub with_stretch : Scene → ℕ → Row → Stretch → Row
@@ -77,7 +71,7 @@ line_of column = column.head.line
 unfoldable pub with_lines : Scene → ℕ → List ℕ → List ℕ
 with_lines scene height text =
     (fold (with_stretch scene height)
-    (record { free = 0; text = with_label (codes "q e") (record { x = 150; y = 272 }) (codes "line of the script") text })
+    (record { free = 0; text = with_label (codes "q e") (point 150 272) (codes "line of the script") text })
     (stretches_of (map line_of scene.sheet.now.run.now.columns))).text
 
 -- THE NUMBERS OF THE EVENTS below them: of each column the first event, from 1, where there is room
@@ -86,7 +80,7 @@ with_event scene y row column =
     if nat_le row.free (x_of scene.frame column)
     then record {
       free = add (x_of scene.frame column) 48;
-      text = with_label_number (codes "m q") (record { x = x_of scene.frame column; y = add y 8 }) (plus (head_of scene.sheet.now column) 1) row.text;
+      text = with_label_number (codes "m q") (point (x_of scene.frame column) (add y 8)) (plus (head_of scene.sheet.now column) 1) row.text;
     }
     else row
 
@@ -96,5 +90,5 @@ events_to scene y row (suc n) = with_event scene y (events_to scene y row n) n
 
 unfoldable pub with_events : Scene → ℕ → List ℕ → List ℕ
 with_events scene y text =
-    (events_to scene y (record { free = 0; text = with_label (codes "q e") (record { x = 150; y = add y 8 }) (codes "event") text })
+    (events_to scene y (record { free = 0; text = with_label (codes "q e") (point 150 (add y 8)) (codes "event") text })
     (length scene.sheet.now.run.now.columns)).text

@@ -7,6 +7,7 @@
 #![tactic(auto)]
 
 mod lane;
+mod totals;
 
 pub use lane::draw_unit;
 pub use picture_motion::pattern_of;

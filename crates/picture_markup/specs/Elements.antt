@@ -9,6 +9,8 @@ use Rattle.picture_markup.specs.declared.pieces.Start.TheVariants as start
 use Rattle.picture_markup.specs.declared.pieces.Point.{Point}
 use Rattle.picture_markup.specs.declared.pieces.Route.{Route}
 use Rattle.picture_markup.specs.declared.pieces.Route.TheVariants as route
+use Rattle.picture_markup.specs.declared.pieces.Sign.{Sign}
+use Rattle.picture_markup.specs.declared.pieces.Sign.TheVariants as sign
 use Rattle.picture_markup.specs.declared.pieces.Piece.{Piece}
 use Rattle.picture_markup.specs.declared.pieces.Piece.TheVariants as piece
 use Rattle.picture_markup.specs.Nesting.{Drawn, blank, drawn}
@@ -50,7 +52,12 @@ with_leg letter n text = with_place n (text ++ letter)
 abbrev pub with_point : List ℕ → Point → List ℕ → List ℕ
 with_point letter p text = with_leg (codes " ") p.y (with_leg letter p.x text)
 
--- THE WAY OF A PATH
+-- THE WAY OF A SIGN from its point on, and of a path
+abbrev pub way_of : Sign → List ℕ
+way_of sign.Tick = codes "l2 3l4 -6"
+way_of sign.Diamond = codes "l-3 4l3 4l3 -4z"
+way_of sign.Triangle = codes "l-3 6h6z"
+
 abbrev pub with_route : Route → List ℕ → List ℕ
 with_route (route.Across from to) text = with_leg (codes "H") to (with_point (codes "M") from text)
 with_route (route.TwoAcross from to lower) text =
@@ -60,7 +67,7 @@ with_route (route.Down from to) text = with_leg (codes "V") to (with_point (code
 with_route (route.Line from to) text = with_point (codes "L") to (with_point (codes "M") from text)
 with_route (route.Bracket from width) text = with_leg (codes "v-4h") width (with_point (codes "M") from text)
 with_route (route.Tick from) text = with_point (codes "M") from text ++ codes "v12"
-with_route (route.Sign from way) text = with_point (codes "M") from text ++ way.now
+with_route (route.Sign from s) text = with_point (codes "M") from text ++ way_of s
 
 -- ELEMENTS WITH NOTHING IN THEM
 abbrev pub with_fill : Option (List ℕ) → List ℕ → List ℕ

@@ -12,4 +12,4 @@ mod pieces;
 mod render;
 
 pub use markup::Markup;
-pub use pieces::{Element, Piece, Point, Route, Start};
+pub use pieces::{Element, Piece, Point, Route, Sign, Start};

@@ -1,9 +1,9 @@
 //! The text of the pieces of a drawing.
 
 ghost use Rattle.std.specs.Prelude.{◌≡◌, ◌++◌, fold, slice_range, codes, decimal, IfOk, OnOk};
-ghost use Rattle.picture_markup.specs.Elements.{with_byte, with_words, with_place, with_class, with_key, with_leg, with_point, with_route, with_fill, name_of, with_rect, with_circle, with_path, with_next, with_points, with_polyline, svg_front, svg_back, with_svg, with_start, with_end, with_piece, text_of};
+ghost use Rattle.picture_markup.specs.Elements.{with_byte, with_words, with_place, with_class, with_key, with_leg, with_point, way_of, with_route, with_fill, name_of, with_rect, with_circle, with_path, with_next, with_points, with_polyline, svg_front, svg_back, with_svg, with_start, with_end, with_piece, text_of};
 
-use crate::pieces::{Element, Piece, Point, Route, Start};
+use crate::pieces::{Element, Piece, Point, Route, Sign, Start};
 use itoa::Buffer;
 use std::alloc::{AllocError, Global};
 
@@ -96,6 +96,17 @@ fn put_point(out: &mut Vec<u8>, letter: &str, point: Point) -> Result<(), AllocE
     put_leg(out, " ", point.y)
 }
 
+/// The way of a sign from its point on.
+fn way_of(sign: Sign) -> &'static str
+    ensures { result.now ≡ way_of sign }
+{
+    match sign {
+        Sign::Tick => "l2 3l4 -6",
+        Sign::Diamond => "l-3 4l3 4l3 -4z",
+        Sign::Triangle => "l-3 6h6z",
+    }
+}
+
 /// Puts the way of a path.
 fn put_route(out: &mut Vec<u8>, route: Route) -> Result<(), AllocError>
     ensures { OnOk result (out.new.items ≡ with_route route out.old.items) }
@@ -134,9 +145,9 @@ fn put_route(out: &mut Vec<u8>, route: Route) -> Result<(), AllocError>
             put_point(out, "M", from)?;
             put(out, "v12")
         }
-        Route::Sign { from, way } => {
+        Route::Sign { from, sign } => {
             put_point(out, "M", from)?;
-            put(out, way)
+            put(out, way_of(sign))
         }
     }
 }

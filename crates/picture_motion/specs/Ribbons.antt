@@ -15,8 +15,8 @@ use Rattle.picture_sheet.specs.Letters.{count_of}
 use Rattle.picture_sheet.specs.Words.{letter_sign}
 use Rattle.picture_scene.specs.declared.scene.Scene.{Scene}
 use Rattle.picture_scene.specs.declared.scene.Stretch.{Stretch}
-use Rattle.picture_scene.specs.Frames.{add, part_of, x_of}
-use Rattle.picture_scene.specs.Groups.{drawn, with_number, with_group, with_span}
+use Rattle.picture_scene.specs.Frames.{point, add, part_of, x_of}
+use Rattle.picture_scene.specs.Groups.{Listing, drawn, with_number, with_group, with_span}
 use Rattle.picture_scene.specs.Scenes.{size_of, cell_in, width_in}
 use Rattle.picture_scene.specs.Stretches.{stretches_of, numbered}
 use Rattle.picture_motion.specs.declared.ribbon.TheConstants.{STACK}
@@ -54,10 +54,6 @@ unfoldable pub is_same : ℕ → Column → Column → Bool
 is_same unit column next = column.head.events == next.head.events && list_all (is_as_often unit column next) LETTERS
 
 -- WHAT IT DOES IN A COLUMN, in words; where a column is several events, behind how many
-pub record Words : Type 0 where
-  pub first : Bool
-  pub text : List ℕ
-
 abbrev pub with_times : Bool → ℕ → List ℕ → List ℕ
 with_times true count text = text
 with_times false count text = with_number count (with_words (codes " ") text)
@@ -66,13 +62,13 @@ abbrev pub between : Bool → List ℕ
 between true = codes ": "
 between false = codes ", "
 
-unfoldable pub with_meaning : ℕ → Bool → Words → Letter → Words
+unfoldable pub with_meaning : ℕ → Bool → Listing → Letter → Listing
 with_meaning count single w l =
     if nat_lt 0 count
     then record { first = false; text = with_times single count (with_words (meaning_of l) (with_words (between w.first) w.text)) }
     else w
 
-abbrev pub with_meaning_in : Tally → ℕ → Bool → Words → Letter → Words
+abbrev pub with_meaning_in : Tally → ℕ → Bool → Listing → Letter → Listing
 with_meaning_in tally events single w l = with_meaning (count_of tally events l) single w l
 
 unfoldable pub with_meanings : Tally → ℕ → Bool → List ℕ → List ℕ
@@ -81,7 +77,7 @@ with_meanings tally events single text = (fold (with_meaning_in tally events sin
 -- A LETTER'S PART of a stretch, from its lower edge to its upper, with its sign where a column is one event and there is room
 abbrev pub with_sign : Bool → Scene → Stretch → Letter → ℕ → List ℕ → List ℕ
 with_sign true scene s l y text =
-    with_label (codes "m b c l") (record { x = add (x_of scene.frame s.from) (width_in scene.frame s / 2); y = add y 13 }) (letter_sign l) text
+    with_label (codes "m b c l") (point (add (x_of scene.frame s.from) (width_in scene.frame s / 2)) (add y 13)) (letter_sign l) text
 with_sign false scene s l y text = text
 
 abbrev pub is_signed : Scene → Stretch → Bool
@@ -90,7 +86,7 @@ is_signed scene s = scene.sheet.now.window.per == 1 && nat_le 12 (width_in scene
 unfoldable pub with_letter : Scene → Stretch → Letter → ℕ → ℕ → ℕ → List ℕ → List ℕ
 with_letter scene s l low high y text =
     with_sign (is_signed scene s) scene s l y
-    (with_rect (codes "r") (record { x = x_of scene.frame s.from; y = add y 18 - high }) (width_in scene.frame s) (high - low) (Some (pattern_of l)) text)
+    (with_rect (codes "r") (point (x_of scene.frame s.from) (add y 18 - high)) (width_in scene.frame s) (high - low) (Some (pattern_of l)) text)
 
 -- ONE UPON ANOTHER, each as high as its part of the events: the events below, and the text
 pub record Pile : Type 0 where
@@ -139,5 +135,5 @@ with_motion scene unit y text s =
 unfoldable pub with_ribbon : Scene → ℕ → ℕ → List ℕ → List ℕ
 with_ribbon scene unit y text =
     fold (with_motion scene unit y)
-    (with_path (codes "g") (route.Across (record { x = 160; y = add y 18 }) scene.frame.right) text)
+    (with_path (codes "g") (route.Across (point 160 (add y 18)) scene.frame.right) text)
     (stretches_of (numbered (is_same unit) 0 scene.sheet.now.run.now.columns))

@@ -1,8 +1,10 @@
 //! What a drive does, as a ribbon over the columns.
 
-ghost use Rattle.std.specs.Prelude.{◌≡◌, IfOk, OnOk};
+ghost use Rattle.std.specs.Prelude.{◌≡◌, true, fold, IfOk, OnOk};
+ghost use Rattle.std.specs.List.{list_all};
+ghost use Rattle.picture_sheet.specs.declared.cells.TheConstants.{LETTERS};
 ghost use Rattle.picture_scene.specs.Stretches.{next_number, numbered};
-ghost use Rattle.picture_motion.specs.Ribbons.{pattern_of, meaning_of, is_same, with_times, between, with_meaning, with_meanings, with_sign, with_letter, with_part, with_letters, with_stretch, is_busy, with_motion, with_ribbon};
+ghost use Rattle.picture_motion.specs.Ribbons.{pattern_of, meaning_of, is_as_often, is_same, with_times, between, with_meaning, with_meaning_in, with_meanings, with_sign, with_letter, with_part, with_letters, with_stretch, is_busy, with_motion, with_ribbon};
 
 use drive_pictures::{Letter, Tally, plus};
 use picture_markup::{Markup, Route};
@@ -60,17 +62,23 @@ fn meaning_of(letter: Letter) -> &'static str
     }
 }
 
+/// Each letter of a drive is as often in both columns.
+fn is_as_often(column: &Column, next: &Column, unit: u8) -> bool
+    ensures { result ≡ list_all (is_as_often unit column.now next.now) LETTERS }
+{
+    let here = cell_at(column, unit).tally;
+    let there = cell_at(next, unit).tally;
+    let (events, others) = (column.head.events, next.head.events);
+    LETTERS.iter().all(|letter| count_of(&here, events, *letter)
+        == count_of(&there, others, *letter))
+}
+
 /// A drive does the same in both columns: of as many events, each letter is as often.
 #[tactic(auto, unfolding(crate::specs::Ribbons::is_same))]
 fn is_same(column: &Column, next: &Column, unit: u8) -> bool
     ensures { result ≡ is_same unit column.now next.now }
 {
-    let here = cell_at(column, unit).tally;
-    let there = cell_at(next, unit).tally;
-    let (events, others) = (column.head.events, next.head.events);
-    events == others
-        && LETTERS.iter().all(|letter| count_of(&here, events, *letter)
-            == count_of(&there, others, *letter))
+    column.head.events == next.head.events && is_as_often(column, next, unit)
 }
 
 /// The number of the second column, where that of the first is given.
@@ -144,6 +152,30 @@ fn put_meaning(
     }
 }
 
+/// What some letters say of a drive in a column.
+fn put_letters(
+    out: &mut Markup<'_>,
+    letters: &[Letter],
+    tally: &Tally,
+    events: u64,
+    single: bool,
+) -> Result<(), AllocError>
+    ensures stands { OnOk result (out.new.stands ≡ out.old.stands) }
+    ensures text { OnOk result (out.new.text ≡ (fold (with_meaning_in tally.now events single) (record { first = true; text = out.old.text }) letters.now).text) }
+{
+    let mut first = true;
+    for letter in letters.iter() {
+        first = put_meaning(
+            out,
+            *letter,
+            count_of(tally, events, *letter),
+            single,
+            first,
+        )?;
+    }
+    Ok(())
+}
+
 /// What a drive does in a column, in words.
 #[tactic(auto, unfolding(crate::specs::Ribbons::with_meanings))]
 fn put_meanings(
@@ -155,17 +187,7 @@ fn put_meanings(
     ensures stands { OnOk result (out.new.stands ≡ out.old.stands) }
     ensures text { OnOk result (out.new.text ≡ with_meanings tally.now events single out.old.text) }
 {
-    let mut first = true;
-    for letter in LETTERS.iter() {
-        first = put_meaning(
-            out,
-            *letter,
-            count_of(tally, events, *letter),
-            single,
-            first,
-        )?;
-    }
-    Ok(())
+    put_letters(out, &LETTERS, tally, events, single)
 }
 
 /// The sign of a letter, where a column is one event and there is room.

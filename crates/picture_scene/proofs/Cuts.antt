@@ -1,6 +1,6 @@
 -- Stretches, column by column: where the one at hand began, and those before it.
 use Rattle.std.proofs.Common.{◌≡◌, ℕ, ◌+◌, ◌<◌, ◌-◌, ◌==◌, Bool, true, false, if◌then◌else◌, List, [], ◌∷◌, ◌++◌, length, take, drop, get_or, refl, sym, ◌∙◌, ap}
-use Rattle.std.proofs.lemmas.List.{append_assoc, append-nil, drop_more, length-drop}
+use Rattle.std.proofs.lemmas.List.{append_assoc, drop_more, length-drop}
 use Rattle.std.proofs.Math.Seq.{take-length}
 use Rattle.picture_scene.specs.declared.scene.Stretch.{Stretch}
 use Rattle.picture_scene.specs.Stretches.{goes_on, in_front, stretches_from}

@@ -1,6 +1,10 @@
 -- WHERE THINGS STAND: coordinates, and the frame of the columns.
 use Rattle.std.specs.Prelude.{ℕ, ◌+◌, ◌-◌, ◌*◌, ◌/◌, ◌^◌, min, max, length, decimal}
+use Rattle.picture_markup.specs.declared.pieces.Point.{Point}
 use Rattle.picture_scene.specs.declared.frame.Frame.{Frame}
+
+abbrev pub point : ℕ → ℕ → Point
+point x y = record { x = x; y = y }
 
 -- A SUM of coordinates, and a multiple. No picture comes near the number at which they stop.
 unfoldable pub add : ℕ → ℕ → ℕ

@@ -1,5 +1,5 @@
 -- GROUPS WITH THEIR TOOLTIPS, AND SENTENCES, as they are written behind a text.
-use Rattle.std.specs.Prelude.{ℕ, ◌-◌, List, [], ◌∷◌, ◌++◌, Option, Some, None, fold, codes, decimal}
+use Rattle.std.specs.Prelude.{ℕ, ◌-◌, Bool, List, [], ◌∷◌, ◌++◌, Option, Some, None, fold, codes, decimal}
 use Rattle.drive_pictures.specs.Counts.{plus}
 use Rattle.picture_markup.specs.declared.pieces.Element.TheVariants as element
 use Rattle.picture_markup.specs.declared.pieces.Start.TheVariants as start
@@ -8,6 +8,7 @@ use Rattle.picture_sheet.specs.declared.sheet.Sheet.{Sheet}
 use Rattle.picture_sheet.specs.declared.summary.Phrase.{Phrase}
 use Rattle.picture_sheet.specs.declared.summary.Sentence.{Sentence}
 use Rattle.picture_sheet.specs.Window.{head_of}
+use Rattle.picture_scene.specs.Frames.{point}
 use Rattle.picture_scene.specs.Scenes.{column_at}
 
 -- some parts, one behind another
@@ -16,6 +17,16 @@ drawn parts text = fold (λ text part. part text) text parts
 
 abbrev pub with_number : ℕ → List ℕ → List ℕ
 with_number n text = text ++ decimal n
+
+-- WORDS ONE BEHIND ANOTHER, where the first differ from the others: whether the next are the first, and the text
+pub record Listing : Type 0 where
+  pub first : Bool
+  pub text : List ℕ
+
+-- WORDS SIDE BY SIDE that do not touch: the place from which there is room, and the text
+pub record Row : Type 0 where
+  pub free : ℕ
+  pub text : List ℕ
 
 -- A GROUP AND ITS TOOLTIP begin
 unfoldable pub with_group : List ℕ → List ℕ
@@ -52,4 +63,4 @@ with_sentences first second = drawn (with_sentence first ∷ with_words (codes "
 
 unfoldable pub with_sentence_line : ℕ → Sentence → Sentence → List ℕ → List ℕ
 with_sentence_line y first second = drawn
-    (with_opened (codes "") (record { x = 16; y = y }) ∷ with_sentences first second ∷ with_end element.Text ∷ [])
+    (with_opened (codes "") (point 16 y) ∷ with_sentences first second ∷ with_end element.Text ∷ [])

@@ -1,5 +1,5 @@
 -- WHAT IS DRAWN, and where.
-use Rattle.std.specs.Prelude.{◌≡◌, ℕ, ◌-◌, ◌==◌, nat_lt, min, max, Bool, ◌&&◌, if◌then◌else◌, List, [], count_by, get_or, unwrap_or}
+use Rattle.std.specs.Prelude.{◌≡◌, ℕ, ◌-◌, ◌==◌, nat_lt, min, max, Bool, ◌&&◌, if◌then◌else◌, [], count_by, get_or, unwrap_or}
 use Rattle.drive_pictures.specs.declared.cells.Cell.{Cell}
 use Rattle.drive_pictures.specs.declared.requests.Request.{Request}
 use Rattle.run_picture.specs.declared.columns.Column.{Column}

@@ -1,7 +1,7 @@
 //! Where things stand in a picture.
 
 ghost use Rattle.std.specs.Prelude.{◌≡◌, ◌-◌, length, decimal};
-ghost use Rattle.picture_scene.specs.Frames.{add, times, small, part_of, width_of, frame_of, x_of};
+ghost use Rattle.picture_scene.specs.Frames.{point, add, times, small, part_of, width_of, frame_of, x_of};
 
 use itoa::Buffer;
 use picture_markup::Point;
@@ -51,7 +51,7 @@ pub fn times(place: u32, count: u32) -> u32
 
 /// A point.
 pub fn at(x: u32, y: u32) -> Point
-    ensures { result ≡ record { x = x; y = y } }
+    ensures { result ≡ point x y }
 {
     Point { x, y }
 }

@@ -1,4 +1,4 @@
-use Rattle.std.proofs.Common.{◌≡◌, ◌++◌, ◌∙◌, ap, sym}
+use Rattle.std.proofs.Common.{◌++◌, ◌∙◌, ap}
 use Rattle.picture_scene.specs.Stretches.{stretches_from}
 use Rattle.picture_scene.proofs.Cuts.{begun, begun_there, all_behind, cut_more}
 use Rattle.picture_scene.proofs.scene.stretches.Goals as goal
