@@ -1,5 +1,5 @@
 -- AN ADAPTER OVER THE COLUMNS: who holds it, and how many of its drives position.
-use Rattle.std.specs.Prelude.{ℕ, ◌-◌, ◌*◌, ◌/◌, ◌==◌, nat_le, nat_lt, Bool, true, false, not, ◌&&◌, ◌||◌, if◌then◌else◌, List, [], ◌∷◌, Option, Some, None, map, fold, find, get_or, slice_get, codes}
+use Rattle.std.specs.Prelude.{ℕ, ◌-◌, ◌*◌, ◌/◌, ◌==◌, nat_le, nat_lt, Bool, true, false, not, ◌&&◌, ◌||◌, if◌then◌else◌, List, [], ◌∷◌, Option, Some, None, map, fold, unwrap_or, get_or, slice_get, codes}
 use Rattle.std.specs.List.{list_all}
 use Rattle.drive_pictures.specs.Counts.{plus}
 use Rattle.run_picture.specs.declared.columns.Column.{Column}
@@ -53,12 +53,12 @@ unfoldable pub with_holders : List Lane → Column → ℕ → List ℕ → List
 with_holders lanes column adapter text = (fold (with_holder column adapter) (record { first = true; text = text }) lanes).text
 
 -- the first of them
-abbrev pub unit_in : Option Lane → ℕ
-unit_in None = 0
-unit_in (Some lane) = lane.unit
+unfoldable pub first_with : Column → ℕ → Option ℕ → Lane → Option ℕ
+first_with column adapter None lane = if holds column adapter lane then Some lane.unit else None
+first_with column adapter found lane = found
 
 abbrev pub first_holder : List Lane → Column → ℕ → ℕ
-first_holder lanes column adapter = unit_in (find (holds column adapter) lanes)
+first_holder lanes column adapter = unwrap_or (fold (first_with column adapter) None lanes) 0
 
 -- WHERE A STRETCH IS: its left edge, and the middle of it
 abbrev pub left_of : Scene → Stretch → ℕ

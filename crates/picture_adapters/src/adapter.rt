@@ -2,7 +2,7 @@
 
 ghost use Rattle.std.specs.Prelude.{◌≡◌, Some, map, IfOk, OnOk};
 ghost use Rattle.picture_scene.specs.Stretches.{next_number, numbered};
-ghost use Rattle.picture_adapters.specs.Adapters.{is_on, held_by, holds, with_held, held_in, is_same_held, comma, with_holder, with_holders, first_holder, middle_of, with_unit, with_held_bar, with_hold_in, with_hold, with_holds, together_in, together_at, with_many, with_count_bar, with_count, with_counts, all_held, with_beside, with_adapter};
+ghost use Rattle.picture_adapters.specs.Adapters.{is_on, held_by, holds, with_held, held_in, is_same_held, comma, with_holder, with_holders, first_with, first_holder, middle_of, with_unit, with_held_bar, with_hold_in, with_hold, with_holds, together_in, together_at, with_many, with_count_bar, with_count, with_counts, all_held, with_beside, with_adapter};
 
 use drive_pictures::plus;
 use picture_markup::{Markup, Route};
@@ -147,14 +147,32 @@ fn put_holders(
     Ok(())
 }
 
+/// The first drive that holds the adapter in a column, with one drive more.
+#[tactic(auto, unfolding(crate::specs::Adapters::first_with))]
+fn first_with(column: &Column, lane: &Lane, adapter: u8, found: Option<u8>) -> Option<u8>
+    ensures { result ≡ first_with column.now adapter found lane.now }
+{
+    match found {
+        Some(unit) => Some(unit),
+        None => {
+            if holds(column, lane, adapter) {
+                Some(lane.unit)
+            } else {
+                None
+            }
+        }
+    }
+}
+
 /// The first drive that holds the adapter in a column.
 fn first_holder(column: &Column, lanes: &[Lane], adapter: u8) -> u8
     ensures { result ≡ first_holder lanes.now column.now adapter }
 {
-    match lanes.iter().find(|lane| holds(column, lane, adapter)) {
-        Some(lane) => lane.unit,
-        None => 0,
+    let mut found = None;
+    for lane in lanes.iter() {
+        found = first_with(column, lane, adapter, found);
     }
+    found.unwrap_or(0)
 }
 
 /// The middle of a stretch.

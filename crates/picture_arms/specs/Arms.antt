@@ -88,8 +88,11 @@ abbrev pub with_way : Scene → Lane → ℕ → List ℕ → List ℕ
 with_way scene lane y text = with_polyline (codes "p") (way_points scene lane y) text
 
 -- THE REQUESTS AS SERVED: by their turns
+abbrev pub first_behind : ℕ → List Request → Option ℕ
+first_behind turn served = position (λ r. nat_lt turn r.turn) served
+
 unfoldable pub place_of_turn : ℕ → List Request → ℕ
-place_of_turn turn served = unwrap_or (position (λ r. nat_lt turn r.turn) served) (length served)
+place_of_turn turn served = unwrap_or (first_behind turn served) (length served)
 
 unfoldable pub served_with : List Request → Request → List Request
 served_with served r = insert served (place_of_turn r.turn served) r

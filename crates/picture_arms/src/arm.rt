@@ -1,7 +1,7 @@
 //! The arm of a drive over the events; the requests that wait, as lines at their cylinders; dotted, the order in which they came.
 
-ghost use Rattle.std.specs.Prelude.{◌≡◌, ◌≤◌, ◌∷◌, [], ◌++◌, length, fold, IfOk, OnOk};
-ghost use Rattle.picture_arms.specs.Arms.{level_at, level_of, known_with, known_of, is_asked_here, asked_at, with_link, links_to, with_waiting, with_asked, with_wait, lowest_highest, path_points, column_points, way_points, with_way, place_of_turn, served_with, served_at, is_served_here, with_served, with_ids, with_bounds, with_arm};
+ghost use Rattle.std.specs.Prelude.{◌≡◌, ◌≤◌, ◌∷◌, [], ◌++◌, length, fold, IfSome, IfOk, OnOk};
+ghost use Rattle.picture_arms.specs.Arms.{level_at, level_of, known_with, known_of, is_asked_here, asked_at, with_link, links_to, with_waiting, with_asked, with_wait, lowest_highest, path_points, column_points, way_points, with_way, first_behind, place_of_turn, served_with, served_at, is_served_here, with_served, with_ids, with_bounds, with_arm};
 
 use drive_pictures::{Path, Request};
 use picture_markup::{Markup, Point, Route};
@@ -267,13 +267,21 @@ fn draw_path(
     out.polyline("p", start)
 }
 
-/// Behind how many of the requests, which stand by their turns, one of a turn stands.
+/// The place of the first request of a turn behind one, if there is such.
+fn first_behind(served: &[Request], turn: u64) -> Option<usize>
+    ensures fits { IfSome result (λ place. place ≤ length served.now) }
+    ensures place { result ≡ first_behind turn served.now }
+{
+    served.iter().position(|other| turn < other.turn)
+}
+
+/// Where one of a turn stands among requests that stand by their turns.
 #[tactic(auto, unfolding(crate::specs::Arms::place_of_turn))]
 fn place_of_turn(served: &[Request], turn: u64) -> usize
     ensures fits { result ≤ length served.now }
     ensures place { result ≡ place_of_turn turn served.now }
 {
-    match served.iter().position(|other| turn < other.turn) {
+    match first_behind(served, turn) {
         Some(place) => place,
         None => served.len(),
     }

@@ -1,23 +1,32 @@
 -- The lines of a drive, told event by event.
-use Rattle.std.proofs.Common.{◌≡◌, ℕ, List, [], ◌∷◌, ◌++◌, take, drop, refl, sym, ◌∙◌, ap, subst}
+use Rattle.std.proofs.Common.{◌≡◌, ℕ, suc, ◌+◌, ◌-◌, ◌<◌, ◌≤◌, List, [], ◌∷◌, ◌++◌, length, take, drop, get_or, refl, sym, ◌∙◌, ap, subst, arith}
+use Rattle.std.specs.List.{flat_map, slice_range}
+use Rattle.std.proofs.lemmas.List.Folds.{drop_split}
 use Rattle.std.proofs.lemmas.Grind.{flat_map-append}
-use Rattle.std.proofs.lemmas.List.{take-append-drop}
+use Rattle.std.proofs.lemmas.List.{append-nil, length-drop, length-take-le}
+use Rattle.std.proofs.Math.Seq.{take-suc}
+use Rattle.std.proofs.lemmas.List.{append_assoc}
 use Rattle.std.specs.Prelude.{Bool, true, false, ◌==◌, ◌||◌, if◌then◌else◌}
-use Rattle.std.specs.List.{flat_map, list_any}
+use Rattle.std.specs.List.{list_any}
 use Rattle.picture_markup.specs.Nesting.{Drawn, told}
 use Rattle.picture_markup.proofs.Telling.{told_nil, told_more}
 use Rattle.picture_sheet.specs.declared.sheet.Note.{Note}
 use Rattle.picture_sheet.specs.Notes.{is_spoken_of, line_of, lines_of}
 
--- some of the lines, and those behind them
-pub tell_front : {X : Type 0} (f : X → List (List ℕ)) (xs : List X) (count : ℕ) (d middle goal : Drawn)
-    → middle ≡ told (flat_map f (take count xs)) d → told (flat_map f xs) d ≡ goal
-    → told (flat_map f (drop count xs)) middle ≡ goal
-tell_front f xs count d middle goal is_middle so_far =
-    ap (told (flat_map f (drop count xs))) is_middle
-    ∙ told_more (flat_map f (take count xs)) (flat_map f (drop count xs)) d
-    ∙ ap (λ t. told t d) (sym (flat_map-append f (take count xs) (drop count xs)))
-    ∙ ap (λ t. told (flat_map f t) d) (take-append-drop count xs) ∙ so_far
+-- before the first
+pub tell_all : {X : Type 0} (f : X → List (List ℕ)) (xs : List X) (d : Drawn) → told (flat_map f (drop 0 xs)) d ≡ told (flat_map f xs) d
+tell_all f [] d = refl
+tell_all f (x ∷ xs) d = refl
+
+-- those from a place on: some, and those behind them
+pub tell_range : {X : Type 0} (f : X → List (List ℕ)) (xs : List X) (from to : ℕ) (d middle goal : Drawn) → from ≤ to
+    → middle ≡ told (flat_map f (slice_range xs from to)) d → told (flat_map f (drop from xs)) d ≡ goal
+    → told (flat_map f (drop to xs)) middle ≡ goal
+tell_range f xs from to d middle goal le is_middle so_far =
+    ap (told (flat_map f (drop to xs))) is_middle
+    ∙ told_more (flat_map f (slice_range xs from to)) (flat_map f (drop to xs)) d
+    ∙ ap (λ t. told t d) (sym (flat_map-append f (slice_range xs from to) (drop to xs)))
+    ∙ ap (λ t. told (flat_map f t) d) (sym (drop_split xs from to le)) ∙ so_far
 
 true_not_false : true ≡ false → ⊥
 true_not_false h = let P : Bool → Type 0 = λ b. elim b as (λ _. Type 0) [ true ↦ Unit {0} | false ↦ ⊥ ] in subst P h tt
@@ -41,3 +50,16 @@ pub quiet : (unit : ℕ) (notes : List Note) (tells shows tip : Bool) (d : Drawn
     → tip ≡ (tells || shows) → tip ≡ false → d ≡ told (lines_of unit notes) d
 quiet unit notes tells shows tip d is or h =
     sym (told_nil d) ∙ ap (λ t. told t d) (sym (silent unit notes (sym is ∙ or_left tells shows (sym or ∙ h))))
+
+pub le_more : (n m : ℕ) → n ≤ n + m
+le_more n m = omega arith
+
+-- so many of those from a place on are inside
+pub fits_in : {X : Type 0} (xs : List X) (from count : ℕ) → from ≤ length xs
+    → count ≤ length (take (length xs - from) (drop from xs)) → from + count ≤ length xs
+fits_in xs from count inside fits =
+    let d : length (drop from xs) ≡ length xs - from = length-drop from xs in
+    let le : length xs - from ≤ length (drop from xs) = omega (arith, d) in
+    let e : length (take (length xs - from) (drop from xs)) ≡ length xs - from =
+    length-take-le (length xs - from) (drop from xs) le in
+    omega (arith, e, inside, fits)

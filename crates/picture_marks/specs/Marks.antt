@@ -1,5 +1,5 @@
 -- WHAT HAPPENED AT A DRIVE, over the columns: its marks and signals, with their tooltips.
-use Rattle.std.specs.Prelude.{ℕ, zero, suc, ◌+◌, ◌-◌, ◌/◌, ◌==◌, nat_le, nat_lt, Bool, true, false, ◌||◌, if◌then◌else◌, List, [], ◌∷◌, ◌++◌, None, length, take, drop, position, unwrap_or, fold, codes}
+use Rattle.std.specs.Prelude.{ℕ, zero, suc, ◌+◌, ◌-◌, ◌/◌, ◌==◌, nat_le, nat_lt, Bool, true, false, ◌||◌, if◌then◌else◌, List, [], ◌∷◌, ◌++◌, Option, None, length, take, drop, position, unwrap_or, fold, codes}
 use Rattle.drive_pictures.specs.Counts.{plus}
 use Rattle.drive_pictures.specs.declared.cells.Cell.{Cell}
 use Rattle.drive_pictures.specs.declared.marks.Mark.{Mark}
@@ -126,8 +126,11 @@ pub record Left : Type 0 where
   pub notes : List Note
   pub text : List ℕ
 
+abbrev pub first_behind : ℕ → List Note → Option ℕ
+first_behind column notes = position (λ note. nat_lt column note.column) notes
+
 unfoldable pub count_to : ℕ → List Note → ℕ
-count_to column notes = unwrap_or (position (λ note. nat_lt column note.column) notes) (length notes)
+count_to column notes = unwrap_or (first_behind column notes) (length notes)
 
 abbrev pub behind : Scene → ℕ → ℕ → ℕ → Left → Left
 behind scene unit column y left = record {

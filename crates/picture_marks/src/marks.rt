@@ -1,9 +1,9 @@
 //! What happened at a drive: above the marks, below them the signals. What is no trouble is drawn where columns have room for it.
 
-ghost use Rattle.std.specs.Prelude.{◌≡◌, ◌≤◌, ◌∷◌, [], ◌||◌, true, length, fold, IfOk, OnOk};
+ghost use Rattle.std.specs.Prelude.{◌≡◌, ◌≤◌, ◌∷◌, [], ◌||◌, true, length, IfSome, IfOk, OnOk};
 ghost use Rattle.picture_markup.specs.Nesting.{in_title, told};
 ghost use Rattle.picture_sheet.specs.Notes.{is_spoken_of, line_of, lines_of, lines_shown};
-ghost use Rattle.picture_marks.specs.Marks.{where_roomy, mark_shape, signal_shape, with_offset, sign_at, with_shape, with_shapes, is_drawn, has_shape, below, with_note, with_notes, with_tip, with_event, count_to, with_by_event, with_column_tip, with_column, columns_to, with_marks};
+ghost use Rattle.picture_marks.specs.Marks.{where_roomy, mark_shape, signal_shape, with_offset, sign_at, with_shape, with_shapes, is_drawn, has_shape, below, with_note, with_notes, with_tip, with_event, first_behind, count_to, with_by_event, with_column_tip, with_column, columns_to, with_marks};
 
 use drive_pictures::{Cell, Mark};
 use picture_markup::{Markup, Route, Sign};
@@ -162,13 +162,21 @@ fn has_shape(cell: &Cell, roomy: bool) -> bool
     is_drawn(mark_shape(cell.mark, roomy)) || is_drawn(signal_shape(cell.signal, roomy))
 }
 
+/// Behind how many of the lines the first of a column behind one stands, if there is such.
+fn first_behind(notes: &[Note<'_>], column: usize) -> Option<usize>
+    ensures fits { IfSome result (λ place. place ≤ length notes.now) }
+    ensures place { result ≡ first_behind column notes.now }
+{
+    notes.iter().position(|note| column < note.column)
+}
+
 /// How many of the lines, from the first on, are of a column or of one before it.
 #[tactic(auto, unfolding(crate::specs::Marks::count_to))]
 fn count_to(notes: &[Note<'_>], column: usize) -> usize
     ensures fits { result ≤ length notes.now }
     ensures count { result ≡ count_to column notes.now }
 {
-    match notes.iter().position(|note| column < note.column) {
+    match first_behind(notes, column) {
         Some(count) => count,
         None => notes.len(),
     }
@@ -324,14 +332,15 @@ fn draw_by_event<'a>(
     ensures stands { OnOk result (out.new.stands ≡ told (lines_of unit scene.now.sheet.now.notes.now) out.old.stands) }
     ensures text { OnOk result (out.new.text ≡ with_by_event scene.now unit y out.old.text) }
 {
-    let mut notes = scene.sheet.notes;
+    let notes = scene.sheet.notes;
     let last = scene.columns().len().saturating_sub(1);
+    let mut from: usize = 0;
     for column in 0..last {
-        let (here, behind) = notes.split_at(count_to(notes, column));
-        draw_event(out, scene, unit, column, here, y)?;
-        notes = behind;
+        let to = from + count_to(&notes[from..], column);
+        draw_event(out, scene, unit, column, &notes[from..to], y)?;
+        from = to;
     }
-    draw_event(out, scene, unit, last, notes, y)
+    draw_event(out, scene, unit, last, &notes[from..], y)
 }
 
 /// The marks of each column of several events.
