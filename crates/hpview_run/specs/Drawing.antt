@@ -2,7 +2,7 @@
 use Rattle.std.specs.Prelude.{◌≡◌, ◌⊎◌, ℕ, ◌-◌, Bool, IsTrue, List, ◌++◌}
 use Rattle.outside_traits.specs.Causes.{Rose}
 use Rattle.outside_traits.specs.Puts.{TakesFront}
-use Rattle.chart_lines.specs.Charts.{IsChart}
+use Rattle.picture_chart.specs.Pages.{IsChartOf}
 use Rattle.picture_sheet.specs.declared.sheet.Sheet.{Sheet}
 use Rattle.picture_svg.specs.Pictures.{IsPicture}
 use Rattle.run_view.specs.declared.view.View.{View}
@@ -21,10 +21,10 @@ use Rattle.hpview_run.specs.declared.words.Form.TheVariants.{Svg, Chart}
 use Rattle.hpview_run.specs.Loading.{Loads, RefusesBeside}
 use Rattle.hpview_run.specs.Words.{trace_refusal}
 
--- the picture of a sheet, in a form: for a browser such a picture, for a terminal a chart
+-- the picture of a sheet, in a form: for a browser such a picture, for a terminal its chart
 abbrev pub IsDrawnAs : Form → Sheet → List ℕ → Type 0
 IsDrawnAs Svg sheet text = IsPicture sheet text
-IsDrawnAs Chart sheet text = IsChart text
+IsDrawnAs Chart sheet text = IsChartOf sheet text
 
 -- DRAWN IN A FORM: a text is the picture of a sheet with what is shown
 pub record IsDrawn (form : Form) (view : View) (text : List ℕ) : Type 0 where

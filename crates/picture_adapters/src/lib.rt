@@ -1,8 +1,7 @@
 //! An adapter of a run over the columns: who holds it, and how many of its drives position.
 //!
-//! What is proved: `draw_adapter` leaves the elements that are open as they were, and tells no line of the run in a tooltip.
-//!
-//! Only tested, as pictures byte for byte: what is drawn, and where.
+//! What is proved: `draw_adapter` writes just this adapter (`specs/Adapters.antt`), leaves the elements that are open as they were,
+//! and tells no line of the run in a tooltip.
 #![tactic(auto)]
 
 mod adapter;

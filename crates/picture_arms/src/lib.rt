@@ -1,8 +1,7 @@
 //! The way of a drive's arm over the columns, with the requests that wait for it.
 //!
-//! What is proved: `draw_arm` leaves the elements that are open as they were, and tells no line of the run in a tooltip.
-//!
-//! Only tested, as pictures byte for byte: what is drawn, and where.
+//! What is proved: `draw_arm` writes just the way of an arm (`specs/Arms.antt`), leaves the elements that are open as they were, and
+//! tells no line of the run in a tooltip.
 #![tactic(auto)]
 
 mod arm;

@@ -1,10 +1,12 @@
 //! The script's lines above the columns, and the events below them.
 
-ghost use Rattle.std.specs.Prelude.{◌≡◌, OnOk};
+ghost use Rattle.std.specs.Prelude.{◌≡◌, map, take, IfOk, OnOk};
+ghost use Rattle.picture_axes.specs.Axes.{with_idle, with_line_words, words_at, with_line, with_bar, with_stretch, line_of, with_lines, with_event, with_events};
 
-use picture_markup::{Markup, Route, Start};
-use picture_scene::{LABEL, Scene, Stretch, add, at, digits, end_text, stretches, sub};
-use run_picture::Column;
+use drive_pictures::plus;
+use picture_markup::{Element, Markup, Route, Start};
+use picture_scene::{LABEL, Scene, Stretch, add, at, digits, stretches, sub};
+use run_picture::{Column, Head};
 use std::alloc::{AllocError, Global};
 
 /// Where the script's lines end.
@@ -14,75 +16,112 @@ const AXIS: u32 = 276;
 const ROOM: usize = 20;
 
 /// The front of a text for which there is room.
-fn front(text: &[u8], room: usize) -> &[u8] {
-    &text[..text.len().min(room)]
+fn front(text: &[u8], room: usize) -> &[u8]
+    ensures { result.now ≡ take room text.now }
+{
+    &text[..room.min(text.len())]
 }
 
-/// A line's number and its text, where it is known, and whether it found nothing to do: the first 20 bytes.
-fn put_label<'a>(out: &mut Markup<'a>, column: &Column, text: &'a [u8]) -> Result<(), AllocError>
-    ensures { OnOk result (out.new ≡ out.old) }
+/// Puts, where a line found nothing to do, that it did, as far as there is room.
+fn put_idle(out: &mut Markup<'_>, idle: bool, room: usize) -> Result<(), AllocError>
+    ensures stands { OnOk result (out.new.stands ≡ out.old.stands) }
+    ensures text { OnOk result (out.new.text ≡ with_idle idle room out.old.text) }
 {
-    let number = u64::from(column.head.line);
+    if idle {
+        out.said(front(b" idle", room))
+    } else {
+        Ok(())
+    }
+}
+
+/// Puts a line's number and its text, and whether it found nothing to do: the first 20 bytes.
+#[tactic(auto, unfolding(crate::specs::Axes::with_line_words))]
+fn put_words<'a>(out: &mut Markup<'a>, head: &Head, words: &'a [u8]) -> Result<(), AllocError>
+    ensures stands { OnOk result (out.new.stands ≡ out.old.stands) }
+    ensures text { OnOk result (out.new.text ≡ with_line_words head.now words.now out.old.text) }
+{
+    let number = u64::from(head.line);
     let room = ROOM.saturating_sub(digits(number) as usize + 1);
-    let shown = front(text, room);
+    let shown = front(words, room);
     out.number(number)?;
     out.word(" ")?;
     out.said(shown)?;
-    if column.head.idle {
-        out.said(front(b" idle", room.saturating_sub(shown.len())))?;
+    put_idle(out, head.idle, room.saturating_sub(shown.len()))
+}
+
+/// The text of the script's line at which a column begins, where it is known.
+fn words_at<'a>(scene: &Scene<'_, 'a>, column: usize) -> &'a [u8]
+    ensures { result.now ≡ words_at scene.now.sheet.now column }
+{
+    match scene.sheet.texts.get(column) {
+        Some(words) => words,
+        None => b"",
     }
-    Ok(())
 }
 
 /// A line of the script over the first of its columns.
+#[tactic(auto, unfolding(crate::specs::Axes::with_line))]
 fn draw_line<'a>(
     out: &mut Markup<'a>,
     scene: &Scene<'_, 'a>,
-    place: usize,
+    column: usize,
     height: u32,
 ) -> Result<(), AllocError>
-    ensures { OnOk result (out.new ≡ out.old) }
+    ensures stands { OnOk result (out.new.stands ≡ out.old.stands) }
+    ensures text { OnOk result (out.new.text ≡ with_line scene.now column height out.old.text) }
 {
-    let x = scene.frame.x(place);
-    out.path(
-        "g",
-        Route::Down {
-            from: at(x, AXIS + 2),
-            to: sub(height, 16),
-        },
-    )?;
-    out.start(Start::Upwards {
-        x: add(x, 4),
-        y: AXIS - 4,
-    })?;
-    if let Some(column) = scene.columns().get(place) {
-        let text: &'a [u8] = match scene.sheet.texts.get(place) {
-            Some(text) => text,
-            None => b"",
-        };
-        put_label(out, column, text)?;
-    }
-    end_text(out)
+    let x = scene.frame.x(column);
+    let from = at(x, AXIS + 2);
+    let to = sub(height, 16);
+    out.path("g", Route::Down { from, to })?;
+    let x = add(x, 4);
+    let y = AXIS - 4;
+    out.start(Start::Upwards { x, y })?;
+    put_words(out, &scene.head(column), words_at(scene, column))?;
+    out.end(Element::Text)
 }
 
 /// The columns of a line, if they are several.
+#[tactic(auto, unfolding(crate::specs::Axes::with_bar))]
 fn draw_bar(out: &mut Markup<'_>, scene: &Scene<'_, '_>, stretch: Stretch) -> Result<(), AllocError>
-    ensures { OnOk result (out.new ≡ out.old) }
+    ensures stands { OnOk result (out.new.stands ≡ out.old.stands) }
+    ensures text { OnOk result (out.new.text ≡ with_bar scene.now.frame stretch out.old.text) }
 {
     if stretch.to.saturating_sub(stretch.from) > 1 {
-        out.path(
-            "k",
-            Route::Across {
-                from: at(scene.frame.x(stretch.from), AXIS),
-                to: sub(scene.frame.x(stretch.to), 2),
-            },
-        )?;
+        let from = at(scene.frame.x(stretch.from), AXIS);
+        let to = sub(scene.frame.x(stretch.to), 2);
+        out.path("k", Route::Across { from, to })
+    } else {
+        Ok(())
     }
-    Ok(())
+}
+
+/// A line of the script, where there is room; and from where there is room behind it.
+#[tactic(auto, unfolding(crate::specs::Axes::with_stretch))]
+fn draw_stretch<'a>(
+    out: &mut Markup<'a>,
+    scene: &Scene<'_, 'a>,
+    stretch: Stretch,
+    height: u32,
+    free: u32,
+) -> Result<u32, AllocError>
+    ensures stands { OnOk result (out.new.stands ≡ out.old.stands) }
+    ensures row { IfOk result (λ behind. with_stretch scene.now height (record { free = free; text = out.old.text }) stretch ≡ record { free = behind; text = out.new.text }) }
+{
+    let x = scene.frame.x(stretch.from);
+    draw_bar(out, scene, stretch)?;
+    if x >= free {
+        draw_line(out, scene, stretch.from, height)?;
+        Ok(add(x, 12))
+    } else {
+        Ok(free)
+    }
 }
 
 /// The numbers of the lines, one a column.
-fn line_keys(alloc: Global, columns: &[Column]) -> Result<Vec<u64>, AllocError> {
+fn line_keys(alloc: Global, columns: &[Column]) -> Result<Vec<u64>, AllocError>
+    ensures { IfOk result (λ keys. keys.items ≡ map line_of columns.now) }
+{
     let mut keys = Vec::new(alloc);
     for column in columns.iter() {
         keys.push(u64::from(column.head.line))?;
@@ -91,41 +130,57 @@ fn line_keys(alloc: Global, columns: &[Column]) -> Result<Vec<u64>, AllocError> 
 }
 
 /// The script, written upwards over the first column of each of its lines, where there is room.
+#[tactic(auto, unfolding(crate::specs::Axes::with_lines))]
 pub fn draw_lines<'a>(
     alloc: Global,
     out: &mut Markup<'a>,
     scene: &Scene<'_, 'a>,
     height: u32,
 ) -> Result<(), AllocError>
-    ensures { OnOk result (out.new ≡ out.old) }
+    ensures stands { OnOk result (out.new.stands ≡ out.old.stands) }
+    ensures text { OnOk result (out.new.text ≡ with_lines scene.now height out.old.text) }
 {
     out.text("q e", at(LABEL, AXIS - 4), "line of the script")?;
     let keys = line_keys(alloc, scene.columns())?;
     let mut free = 0;
-    for stretch in stretches(alloc, 0, keys.as_slice())?.iter() {
-        let x = scene.frame.x(stretch.from);
-        draw_bar(out, scene, *stretch)?;
-        if x >= free {
-            free = add(x, 12);
-            draw_line(out, scene, stretch.from, height)?;
-        }
+    for stretch in stretches(alloc, keys.as_slice())?.iter() {
+        free = draw_stretch(out, scene, *stretch, height, free)?;
     }
     Ok(())
 }
 
+/// The number of a column's first event, where there is room; and from where there is room behind it.
+#[tactic(auto, unfolding(crate::specs::Axes::with_event))]
+fn draw_event(
+    out: &mut Markup<'_>,
+    scene: &Scene<'_, '_>,
+    column: usize,
+    y: u32,
+    free: u32,
+) -> Result<u32, AllocError>
+    ensures stands { OnOk result (out.new.stands ≡ out.old.stands) }
+    ensures row { IfOk result (λ behind. with_event scene.now y (record { free = free; text = out.old.text }) column ≡ record { free = behind; text = out.new.text }) }
+{
+    let x = scene.frame.x(column);
+    if x >= free {
+        let event = plus(scene.sheet.head(column), 1);
+        out.text_number("m q", at(x, add(y, 8)), event)?;
+        Ok(add(x, 48))
+    } else {
+        Ok(free)
+    }
+}
+
 /// The numbers of the events, where there is room.
+#[tactic(auto, unfolding(crate::specs::Axes::with_events))]
 pub fn draw_events(out: &mut Markup<'_>, scene: &Scene<'_, '_>, y: u32) -> Result<(), AllocError>
-    ensures { OnOk result (out.new ≡ out.old) }
+    ensures stands { OnOk result (out.new.stands ≡ out.old.stands) }
+    ensures text { OnOk result (out.new.text ≡ with_events scene.now y out.old.text) }
 {
     out.text("q e", at(LABEL, add(y, 8)), "event")?;
     let mut free = 0;
-    for place in 0..scene.columns().len() {
-        let x = scene.frame.x(place);
-        if x >= free {
-            free = add(x, 48);
-            let event = scene.sheet.head(place).saturating_add(1);
-            out.text_number("m q", at(x, add(y, 8)), event)?;
-        }
+    for column in 0..scene.columns().len() {
+        free = draw_event(out, scene, column, y, free)?;
     }
     Ok(())
 }

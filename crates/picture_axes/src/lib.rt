@@ -1,8 +1,7 @@
 //! What stands around the drives of a picture: the script's lines above the columns, the events below them, and each adapter.
 //!
-//! What is proved: each call leaves the elements that are open as they were, and tells no line of the run in a tooltip.
-//!
-//! Only tested, as pictures byte for byte: what is drawn, and where.
+//! What is proved: each call writes just its axis (`specs/Axes.antt`), leaves the elements that are open as they were, and tells no
+//! line of the run in a tooltip.
 #![tactic(auto)]
 
 mod axes;

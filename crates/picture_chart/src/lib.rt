@@ -1,12 +1,11 @@
 //! The chart of a run for a terminal.
 //!
-//! What is proved: `chart`: for every run the text is of lines with at most 100 printing characters, each ended by LF.
-//!
-//! Only tested, as charts byte for byte: what stands on them.
+//! What is proved: `chart`: for every sheet the text is its chart: the lines of its page (`specs/Pages.antt`), which are the title,
+//! the sentences, the panels (`put_panel`), the requests (`put_table`) and what the signs say; each of at most 100 printing
+//! characters, and ended by LF.
 #![tactic(auto)]
 
 mod page;
-mod panel;
 mod table;
 
 pub use page::chart;

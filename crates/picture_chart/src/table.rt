@@ -1,51 +1,66 @@
 //! The requests of a chart.
 
-use chart_lines::ChartLine;
+ghost use Rattle.std.specs.Prelude.{◌≡◌, ◌∷◌, [], OnOk};
+ghost use Rattle.chart_lines.specs.Charts.{with_text};
+ghost use Rattle.chart_lines.specs.Rows.{line_of, with_line};
+ghost use Rattle.picture_chart.specs.Tables.{names, cylinder_text, star, with_times, request_line, with_request, with_count, with_table};
+
+use chart_lines::{ChartLine, line_of, line_with, put_line};
 use drive_pictures::Request;
 use itoa::Buffer;
 use picture_sheet::{Shown, outcome_word};
-use std::alloc::{AllocError, Global};
+use std::alloc::AllocError;
 
-/// Puts the names of the table's columns.
-fn put_names(page: &mut Vec<ChartLine>) -> Result<(), AllocError> {
-    let mut line = ChartLine::new();
-    line.put(
+/// The names of the table's columns.
+#[tactic(auto, unfolding(crate::specs::Tables::names))]
+fn names_line() -> ChartLine
+    ensures { result ≡ line_of (names ∷ []) }
+{
+    line_of(
         b"   request op    unit cylinder   asked answered answer       done queued on way  ready  trans  turn",
-    );
-    page.push(line)?;
-    Ok(())
+    )
 }
 
 /// Puts the cylinder of a request, where it joined.
-fn put_cylinder(line: &mut ChartLine, cylinder: Option<u32>) {
+fn put_cylinder(line: &mut ChartLine, cylinder: Option<u32>)
+    ensures { line.new ≡ with_text line.old (cylinder_text cylinder) }
+{
     match cylinder {
         Some(cylinder) => line.put_count(u64::from(cylinder), 8),
         None => line.put_left(b"", 9),
     }
 }
 
-/// Puts the how many-th of its unit a request was served, with a star where it was out of order.
-fn put_turn(line: &mut ChartLine, request: &Request) {
-    line.put_count(request.turn, 4);
-    line.put_byte(if request.is_out_of_order() {
+/// A star where a request was served out of order.
+fn star(request: &Request) -> u8
+    ensures { result ≡ star request.now }
+{
+    if request.is_out_of_order() {
         b'*'
     } else {
         b' '
-    });
+    }
 }
 
-/// Puts how a request went.
-fn put_events(line: &mut ChartLine, request: &Request) {
+/// Puts how a request went, and the how many-th of its unit it was served.
+#[tactic(auto, unfolding(crate::specs::Tables::with_times))]
+fn put_times(line: &mut ChartLine, request: &Request)
+    ensures { line.new ≡ with_times request.now line.old }
+{
     line.put_count(request.done, 5);
     line.put_count(request.queued(), 6);
     line.put_count(request.times.way, 6);
     line.put_count(request.times.ready, 6);
     line.put_count(request.times.trans, 6);
-    put_turn(line, request);
+    line.put_count(request.turn, 4);
+    line.put_byte(star(request));
 }
 
-/// Puts a request.
-fn put_request(page: &mut Vec<ChartLine>, request: &Request) -> Result<(), AllocError> {
+/// The line of a request.
+#[tactic(auto, unfolding(crate::specs::Tables::request_line))]
+fn request_line(request: &Request) -> ChartLine
+    ensures { result ≡ request_line request.now }
+{
     let mut line = ChartLine::new();
     let mut buffer = Buffer::new();
     line.put_right(buffer.format(request.id).as_bytes(), 10);
@@ -54,24 +69,31 @@ fn put_request(page: &mut Vec<ChartLine>, request: &Request) -> Result<(), Alloc
     put_cylinder(&mut line, request.cylinder);
     line.put_count(u64::from(request.line), 7);
     line.put_count(u64::from(request.ended_line), 8);
-    line.put_byte(b' ');
+    line.put(b" ");
     line.put_left(outcome_word(request.outcome).as_bytes(), 11);
-    put_events(&mut line, request);
-    page.push(line)?;
-    Ok(())
+    put_times(&mut line, request);
+    line
+}
+
+/// Puts how many requests there are, where not all are listed.
+fn put_count(page: &mut Vec<ChartLine>, few: bool, count: usize) -> Result<(), AllocError>
+    ensures { OnOk result (page.new.items ≡ with_count few count page.old.items) }
+{
+    if few {
+        Ok(())
+    } else {
+        put_line(page, line_with(b"with trouble, of ", count as u64))
+    }
 }
 
 /// Puts the requests that are listed, and where they are not all, how many there are.
-pub(crate) fn put_table(page: &mut Vec<ChartLine>, shown: &Shown) -> Result<(), AllocError> {
-    put_names(page)?;
+#[tactic(auto, unfolding(crate::specs::Tables::with_table))]
+pub(crate) fn put_table(page: &mut Vec<ChartLine>, shown: &Shown) -> Result<(), AllocError>
+    ensures { OnOk result (page.new.items ≡ with_table shown.now.listed.items shown.now.few shown.now.count page.old.items) }
+{
+    put_line(page, names_line())?;
     for request in shown.listed.iter() {
-        put_request(page, request)?;
+        put_line(page, request_line(request))?;
     }
-    if !shown.few {
-        let mut line = ChartLine::new();
-        line.put(b"with trouble, of ");
-        line.put_number(shown.count as u64);
-        page.push(line)?;
-    }
-    Ok(())
+    put_count(page, shown.few, shown.count)
 }

@@ -1,10 +1,12 @@
 //! A drive over the columns.
 
-ghost use Rattle.std.specs.Prelude.{◌≡◌, OnOk};
+ghost use Rattle.std.specs.Prelude.{◌≡◌, map, fold, IfOk, OnOk};
 ghost use Rattle.picture_markup.specs.Nesting.{told};
 ghost use Rattle.picture_sheet.specs.Notes.{lines_shown};
+ghost use Rattle.picture_lanes.specs.Lanes.{with_bracket, with_id, with_time, with_in_hand, waiting_in, most_of, with_count_bar, with_count, with_waiting, with_requests, holds, key_of, condition_words, condition_class, with_condition_bar, with_condition, with_conditions, with_way, with_lane, with_unit};
 
-use drive_pictures::{Drive, Outcome, Request};
+use crate::totals::draw_totals;
+use drive_pictures::{Cell, Request};
 use picture_arms::draw_arm;
 use picture_marks::draw_marks;
 use picture_markup::{Markup, Route};
@@ -17,51 +19,89 @@ use picture_sheet::is_shown;
 use run_picture::Column;
 use std::alloc::{AllocError, Global};
 
-/// The time of a request in hand.
-fn draw_time(
+/// The time of a request in hand, as a bracket.
+fn draw_bracket(
     out: &mut Markup<'_>,
     scene: &Scene<'_, '_>,
     request: &Request,
     y: u32,
 ) -> Result<(), AllocError>
-    ensures { OnOk result (out.new ≡ out.old) }
+    ensures stands { OnOk result (out.new.stands ≡ out.old.stands) }
+    ensures text { OnOk result (out.new.text ≡ with_bracket scene.now y request.now out.old.text) }
+{
+    let x = scene.at(scene.in_hand(request));
+    let width = sub(scene.at(scene.ended(request)), x);
+    if width > 0 {
+        let from = at(x, add(y, 11));
+        let width = sub(width, 2);
+        out.path("k", Route::Bracket { from, width })
+    } else {
+        Ok(())
+    }
+}
+
+/// The id of a request in hand, where there is room.
+fn draw_id(
+    out: &mut Markup<'_>,
+    scene: &Scene<'_, '_>,
+    request: &Request,
+    y: u32,
+) -> Result<(), AllocError>
+    ensures stands { OnOk result (out.new.stands ≡ out.old.stands) }
+    ensures text { OnOk result (out.new.text ≡ with_id scene.now y request.now out.old.text) }
 {
     let x = scene.at(scene.in_hand(request));
     let width = sub(scene.at(scene.ended(request)), x);
     let id = u64::from(request.id);
-    if width > 0 {
-        let route = Route::Bracket {
-            from: at(x, add(y, 11)),
-            width: sub(width, 2),
-        };
-        out.path("k", route)?;
-    }
     if width >= add(width_of(id), 4) {
-        out.text_number("m", at(add(x, 2), add(y, 5)), id)?;
+        out.text_number("m", at(add(x, 2), add(y, 5)), id)
+    } else {
+        Ok(())
     }
-    Ok(())
+}
+
+/// The time of a request in hand, if it is of a unit and shown.
+#[tactic(auto, unfolding(crate::specs::Lanes::with_time, picture_scene::specs::Scenes::is_of))]
+fn draw_time(
+    out: &mut Markup<'_>,
+    scene: &Scene<'_, '_>,
+    unit: u8,
+    request: &Request,
+    y: u32,
+) -> Result<(), AllocError>
+    ensures stands { OnOk result (out.new.stands ≡ out.old.stands) }
+    ensures text { OnOk result (out.new.text ≡ with_time scene.now unit y out.old.text request.now) }
+{
+    if request.unit == unit && is_shown(scene.sheet, request) {
+        draw_bracket(out, scene, request, y)?;
+        draw_id(out, scene, request, y)
+    } else {
+        Ok(())
+    }
 }
 
 /// The requests in hand, where a column is one event.
+#[tactic(auto, unfolding(crate::specs::Lanes::with_in_hand))]
 fn draw_in_hand(
     out: &mut Markup<'_>,
     scene: &Scene<'_, '_>,
-    lane: &Lane,
+    unit: u8,
     y: u32,
 ) -> Result<(), AllocError>
-    ensures { OnOk result (out.new ≡ out.old) }
+    ensures stands { OnOk result (out.new.stands ≡ out.old.stands) }
+    ensures text { OnOk result (out.new.text ≡ with_in_hand scene.now unit y out.old.text) }
 {
     out.text("q e", at(LABEL, add(y, 8)), "in hand")?;
     for request in scene.sheet.run.requests().iter() {
-        if request.unit == lane.unit && is_shown(scene.sheet, request) {
-            draw_time(out, scene, request, y)?;
-        }
+        draw_time(out, scene, unit, request, y)?;
     }
     Ok(())
 }
 
 /// How many requests of a drive wait, one number a column.
-fn waiting_keys(alloc: Global, columns: &[Column], unit: u8) -> Result<Vec<u64>, AllocError> {
+fn waiting_keys(alloc: Global, columns: &[Column], unit: u8) -> Result<Vec<u64>, AllocError>
+    ensures { IfOk result (λ keys. keys.items ≡ map (waiting_in unit) columns.now) }
+{
     let mut keys = Vec::new(alloc);
     for column in columns.iter() {
         keys.push(cell_at(column, unit).waiting)?;
@@ -70,8 +110,10 @@ fn waiting_keys(alloc: Global, columns: &[Column], unit: u8) -> Result<Vec<u64>,
 }
 
 /// The most of some numbers.
-fn most_of(keys: &[u64]) -> u64 {
-    let mut most = 0;
+fn most_of(keys: &[u64]) -> u64
+    ensures { result ≡ most_of keys.now }
+{
+    let mut most: u64 = 0;
     for key in keys.iter() {
         most = most.max(*key);
     }
@@ -79,7 +121,8 @@ fn most_of(keys: &[u64]) -> u64 {
 }
 
 /// The bar of how many requests wait.
-fn draw_count(
+#[tactic(auto, unfolding(crate::specs::Lanes::with_count_bar))]
+fn draw_count_bar(
     out: &mut Markup<'_>,
     scene: &Scene<'_, '_>,
     stretch: Stretch,
@@ -87,37 +130,58 @@ fn draw_count(
     most: u64,
     y: u32,
 ) -> Result<(), AllocError>
-    ensures { OnOk result (out.new ≡ out.old) }
+    ensures stands { OnOk result (out.new.stands ≡ out.old.stands) }
+    ensures text { OnOk result (out.new.text ≡ with_count_bar scene.now stretch count most y out.old.text) }
 {
     let height = part_of(10, count, most);
+    let corner = at(scene.frame.x(stretch.from), sub(add(y, 11), height));
     begin_span(out, scene, stretch.from, stretch.to)?;
     out.word(": ")?;
     out.number(count)?;
     out.word(" asked for")?;
     end_title(out)?;
-    let corner = at(scene.frame.x(stretch.from), sub(add(y, 11), height));
     out.rect("v", corner, scene.width(stretch), height, None)?;
     end_group(out)
 }
 
+/// The bar of how many requests wait, if one does.
+#[tactic(auto, unfolding(crate::specs::Lanes::with_count))]
+fn draw_count(
+    out: &mut Markup<'_>,
+    scene: &Scene<'_, '_>,
+    unit: u8,
+    stretch: Stretch,
+    most: u64,
+    y: u32,
+) -> Result<(), AllocError>
+    ensures stands { OnOk result (out.new.stands ≡ out.old.stands) }
+    ensures text { OnOk result (out.new.text ≡ with_count scene.now unit most y out.old.text stretch) }
+{
+    let count = scene.cell(unit, stretch.from).waiting;
+    if count > 0 {
+        draw_count_bar(out, scene, stretch, count, most, y)
+    } else {
+        Ok(())
+    }
+}
+
 /// The requests that wait, where a column is several events.
+#[tactic(auto, unfolding(crate::specs::Lanes::with_waiting))]
 fn draw_waiting(
     alloc: Global,
     out: &mut Markup<'_>,
     scene: &Scene<'_, '_>,
-    lane: &Lane,
+    unit: u8,
     y: u32,
 ) -> Result<(), AllocError>
-    ensures { OnOk result (out.new ≡ out.old) }
+    ensures stands { OnOk result (out.new.stands ≡ out.old.stands) }
+    ensures text { OnOk result (out.new.text ≡ with_waiting scene.now unit y out.old.text) }
 {
-    let keys = waiting_keys(alloc, scene.columns(), lane.unit)?;
+    let keys = waiting_keys(alloc, scene.columns(), unit)?;
     let most = most_of(keys.as_slice());
     out.text_with("q e", at(LABEL, add(y, 8)), "asked for, most ", most)?;
-    for stretch in stretches(alloc, 0, keys.as_slice())?.iter() {
-        let count = scene.cell(lane.unit, stretch.from).waiting;
-        if count > 0 {
-            draw_count(out, scene, *stretch, count, most, y)?;
-        }
+    for stretch in stretches(alloc, keys.as_slice())?.iter() {
+        draw_count(out, scene, unit, *stretch, most, y)?;
     }
     Ok(())
 }
@@ -127,15 +191,35 @@ fn draw_requests(
     alloc: Global,
     out: &mut Markup<'_>,
     scene: &Scene<'_, '_>,
-    lane: &Lane,
+    unit: u8,
     y: u32,
 ) -> Result<(), AllocError>
-    ensures { OnOk result (out.new ≡ out.old) }
+    ensures stands { OnOk result (out.new.stands ≡ out.old.stands) }
+    ensures text { OnOk result (out.new.text ≡ with_requests scene.now unit y out.old.text) }
 {
     if scene.sheet.is_by_event() {
-        draw_in_hand(out, scene, lane, y)
+        draw_in_hand(out, scene, unit, y)
     } else {
-        draw_waiting(alloc, out, scene, lane, y)
+        draw_waiting(alloc, out, scene, unit, y)
+    }
+}
+
+/// A drive is offline, or is locked.
+fn holds(cell: &Cell, offline: bool) -> bool
+    ensures { result ≡ holds offline cell.now }
+{
+    if offline { cell.offline } else { cell.locked }
+}
+
+/// A number for a column, by whether a drive is offline, or is locked.
+#[tactic(auto, unfolding(crate::specs::Lanes::key_of))]
+fn key_of(column: &Column, unit: u8, offline: bool) -> u64
+    ensures { result ≡ key_of unit offline column.now }
+{
+    if holds(&cell_at(column, unit), offline) {
+        1
+    } else {
+        0
     }
 }
 
@@ -145,38 +229,73 @@ fn condition_keys(
     columns: &[Column],
     unit: u8,
     offline: bool,
-) -> Result<Vec<u64>, AllocError> {
+) -> Result<Vec<u64>, AllocError>
+    ensures { IfOk result (λ keys. keys.items ≡ map (key_of unit offline) columns.now) }
+{
     let mut keys = Vec::new(alloc);
     for column in columns.iter() {
-        let cell = cell_at(column, unit);
-        let holds = if offline { cell.offline } else { cell.locked };
-        keys.push(u64::from(holds))?;
+        keys.push(key_of(column, unit, offline))?;
     }
     Ok(keys)
 }
 
-/// A stretch in which a drive is offline, or is locked.
-fn draw_condition(
+/// What a condition says.
+fn condition_words(offline: bool) -> &'static str
+    ensures { result.now ≡ condition_words offline }
+{
+    if offline { ": offline" } else { ": locked" }
+}
+
+/// How a condition is drawn.
+fn condition_class(offline: bool) -> &'static str
+    ensures { result.now ≡ condition_class offline }
+{
+    if offline { "f" } else { "j" }
+}
+
+/// The bar of a stretch in which a drive is offline, or is locked.
+#[tactic(auto, unfolding(crate::specs::Lanes::with_condition_bar))]
+fn draw_condition_bar(
     out: &mut Markup<'_>,
     scene: &Scene<'_, '_>,
     stretch: Stretch,
     offline: bool,
     y: u32,
 ) -> Result<(), AllocError>
-    ensures { OnOk result (out.new ≡ out.old) }
+    ensures stands { OnOk result (out.new.stands ≡ out.old.stands) }
+    ensures text { OnOk result (out.new.text ≡ with_condition_bar scene.now stretch offline y out.old.text) }
 {
+    let from = at(scene.frame.x(stretch.from), y);
+    let to = scene.frame.x(stretch.to);
     begin_span(out, scene, stretch.from, stretch.to)?;
-    out.word(if offline { ": offline" } else { ": locked" })?;
+    out.word(condition_words(offline))?;
     end_title(out)?;
-    let route = Route::Across {
-        from: at(scene.frame.x(stretch.from), y),
-        to: scene.frame.x(stretch.to),
-    };
-    out.path(if offline { "f" } else { "j" }, route)?;
+    out.path(condition_class(offline), Route::Across { from, to })?;
     end_group(out)
 }
 
+/// A stretch in which a drive is offline, or is locked, if it is.
+#[tactic(auto, unfolding(crate::specs::Lanes::with_condition))]
+fn draw_condition(
+    out: &mut Markup<'_>,
+    scene: &Scene<'_, '_>,
+    unit: u8,
+    stretch: Stretch,
+    offline: bool,
+    y: u32,
+) -> Result<(), AllocError>
+    ensures stands { OnOk result (out.new.stands ≡ out.old.stands) }
+    ensures text { OnOk result (out.new.text ≡ with_condition scene.now unit offline y out.old.text stretch) }
+{
+    if holds(&scene.cell(unit, stretch.from), offline) {
+        draw_condition_bar(out, scene, stretch, offline, y)
+    } else {
+        Ok(())
+    }
+}
+
 /// Where a drive is offline, or is locked.
+#[tactic(auto, unfolding(crate::specs::Lanes::with_conditions))]
 fn draw_conditions(
     alloc: Global,
     out: &mut Markup<'_>,
@@ -185,114 +304,14 @@ fn draw_conditions(
     offline: bool,
     y: u32,
 ) -> Result<(), AllocError>
-    ensures { OnOk result (out.new ≡ out.old) }
+    ensures stands { OnOk result (out.new.stands ≡ out.old.stands) }
+    ensures text { OnOk result (out.new.text ≡ with_conditions scene.now unit offline y out.old.text) }
 {
     let keys = condition_keys(alloc, scene.columns(), unit, offline)?;
-    for stretch in stretches(alloc, 0, keys.as_slice())?.iter() {
-        let cell = scene.cell(unit, stretch.from);
-        if if offline { cell.offline } else { cell.locked } {
-            draw_condition(out, scene, *stretch, offline, y)?;
-        }
+    for stretch in stretches(alloc, keys.as_slice())?.iter() {
+        draw_condition(out, scene, unit, *stretch, offline, y)?;
     }
     Ok(())
-}
-
-/// The requests of a unit, how many of them were answered ok, and the longest wait of one.
-fn tally_requests(scene: &Scene<'_, '_>, unit: u8) -> (u64, u64, u64) {
-    let mut all: u64 = 0;
-    let mut ok: u64 = 0;
-    let mut queued: u64 = 0;
-    for request in scene.sheet.run.requests().iter() {
-        if request.unit == unit {
-            all = all.saturating_add(1);
-            queued = queued.max(request.queued());
-            if request.outcome == Outcome::Ok {
-                ok = ok.saturating_add(1);
-            }
-        }
-    }
-    (all, ok, queued)
-}
-
-/// A number and what it counts, beside a drive.
-fn draw_total(
-    out: &mut Markup<'_>,
-    scene: &Scene<'_, '_>,
-    y: u32,
-    number: u64,
-    word: &'static str,
-) -> Result<(), AllocError>
-    ensures { OnOk result (out.new ≡ out.old) }
-{
-    let beside = scene.frame.beside;
-    out.text_number("m e", at(add(beside, 36), y), number)?;
-    out.text("q", at(add(beside, 44), y), word)
-}
-
-/// How many requests were answered ok, and how long one waited at most.
-fn draw_answered(
-    out: &mut Markup<'_>,
-    scene: &Scene<'_, '_>,
-    unit: u8,
-    y: u32,
-) -> Result<(), AllocError>
-    ensures { OnOk result (out.new ≡ out.old) }
-{
-    let (all, ok, queued) = tally_requests(scene, unit);
-    let beside = scene.frame.beside;
-    out.text_number("m e", at(add(beside, 36), y), ok)?;
-    out.text_with("q", at(add(beside, 44), y), "ok, of ", all)?;
-    draw_total(out, scene, add(y, 13), queued, "events queued at most")
-}
-
-/// What a drive did in the whole run.
-fn draw_times(
-    out: &mut Markup<'_>,
-    scene: &Scene<'_, '_>,
-    drive: &Drive,
-    y: u32,
-) -> Result<(), AllocError>
-    ensures { OnOk result (out.new ≡ out.old) }
-{
-    draw_total(out, scene, y, drive.all.way, "events on its way")?;
-    draw_total(
-        out,
-        scene,
-        add(y, 13),
-        drive.all.ready,
-        "ready, adapter busy",
-    )?;
-    draw_total(out, scene, add(y, 26), drive.all.trans, "transferring")?;
-    draw_total(
-        out,
-        scene,
-        add(y, 39),
-        drive.arm.travel,
-        "cylinders moved over",
-    )?;
-    draw_total(
-        out,
-        scene,
-        add(y, 52),
-        drive.queue.as_asked,
-        "in the order asked",
-    )
-}
-
-/// The totals of a drive.
-fn draw_totals(
-    out: &mut Markup<'_>,
-    scene: &Scene<'_, '_>,
-    unit: u8,
-    y: u32,
-) -> Result<(), AllocError>
-    ensures { OnOk result (out.new ≡ out.old) }
-{
-    draw_answered(out, scene, unit, y)?;
-    match scene.sheet.run.drives().get(usize::from(unit)) {
-        Some(drive) => draw_times(out, scene, drive, add(y, 26)),
-        None => Ok(()),
-    }
 }
 
 /// The way of a drive's arm, if it has one.
@@ -303,7 +322,8 @@ fn draw_way(
     lane: &Lane,
     y: u32,
 ) -> Result<(), AllocError>
-    ensures { OnOk result (out.new ≡ out.old) }
+    ensures stands { OnOk result (out.new.stands ≡ out.old.stands) }
+    ensures text { OnOk result (out.new.text ≡ with_way scene.now lane.now y out.old.text) }
 {
     if lane.top > 0 {
         draw_arm(alloc, out, scene, lane, y)
@@ -313,6 +333,7 @@ fn draw_way(
 }
 
 /// A drive over the columns.
+#[tactic(auto, unfolding(crate::specs::Lanes::with_lane))]
 fn draw_lane<'a>(
     alloc: Global,
     out: &mut Markup<'a>,
@@ -320,11 +341,12 @@ fn draw_lane<'a>(
     lane: &Lane,
     y: u32,
 ) -> Result<(), AllocError>
-    ensures { OnOk result (out.new ≡ told (lines_shown scene.now.sheet.now lane.now.unit) out.old) }
+    ensures stands { OnOk result (out.new.stands ≡ told (lines_shown scene.now.sheet.now lane.now.unit) out.old.stands) }
+    ensures text { OnOk result (out.new.text ≡ with_lane scene.now lane.now y out.old.text) }
 {
     out.text_with("b", at(16, add(y, 25)), "unit ", u64::from(lane.unit))?;
     out.text("q", at(66, add(y, 25)), lane.kind)?;
-    draw_requests(alloc, out, scene, lane, y)?;
+    draw_requests(alloc, out, scene, lane.unit, y)?;
     draw_ribbon(alloc, out, scene, lane.unit, add(y, 12))?;
     draw_conditions(alloc, out, scene, lane.unit, true, add(y, 33))?;
     draw_conditions(alloc, out, scene, lane.unit, false, add(y, 33))?;
@@ -334,6 +356,7 @@ fn draw_lane<'a>(
 }
 
 /// A drive as a group.
+#[tactic(auto, unfolding(crate::specs::Lanes::with_unit))]
 pub fn draw_unit<'a>(
     alloc: Global,
     out: &mut Markup<'a>,
@@ -341,7 +364,8 @@ pub fn draw_unit<'a>(
     lane: &Lane,
     y: u32,
 ) -> Result<(), AllocError>
-    ensures { OnOk result (out.new ≡ told (lines_shown scene.now.sheet.now lane.now.unit) out.old) }
+    ensures stands { OnOk result (out.new.stands ≡ told (lines_shown scene.now.sheet.now lane.now.unit) out.old.stands) }
+    ensures text { OnOk result (out.new.text ≡ with_unit scene.now lane.now y out.old.text) }
 {
     begin_group(out)?;
     out.word("unit ")?;

@@ -1,12 +1,11 @@
 //! A drive of a run over the columns: the requests in hand or asked for, how it moved, its marks, and its totals.
 //!
-//! What is proved: `draw_unit` leaves the elements that are open as they were, and the lines of the run that it tells in
-//! tooltips are those that speak of the drive, each once.
-//!
-//! Only tested, as pictures byte for byte: what is drawn, and where.
+//! What is proved: `draw_unit` writes just a drive (`specs/Lanes.antt`, `specs/Totals.antt`), leaves the elements that are open as
+//! they were, and the lines of the run that it tells in tooltips are those that speak of the drive, each once.
 #![tactic(auto)]
 
 mod lane;
+mod totals;
 
 pub use lane::draw_unit;
 pub use picture_motion::pattern_of;

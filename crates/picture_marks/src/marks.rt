@@ -1,11 +1,12 @@
 //! What happened at a drive: above the marks, below them the signals. What is no trouble is drawn where columns have room for it.
 
-ghost use Rattle.std.specs.Prelude.{◌≡◌, ◌≤◌, ◌∷◌, [], ◌||◌, length, OnOk};
-ghost use Rattle.picture_markup.specs.Nesting.{told};
+ghost use Rattle.std.specs.Prelude.{◌≡◌, ◌≤◌, ◌∷◌, [], ◌||◌, true, length, IfSome, IfOk, OnOk};
+ghost use Rattle.picture_markup.specs.Nesting.{in_title, told};
 ghost use Rattle.picture_sheet.specs.Notes.{is_spoken_of, line_of, lines_of, lines_shown};
+ghost use Rattle.picture_marks.specs.Marks.{where_roomy, mark_shape, signal_shape, with_offset, sign_at, with_shape, with_shapes, is_drawn, has_shape, below, with_note, with_notes, with_tip, with_event, first_behind, count_to, with_by_event, with_column_tip, with_column, columns_to, with_marks};
 
 use drive_pictures::{Cell, Mark};
-use picture_markup::{Markup, Route};
+use picture_markup::{Markup, Route, Sign};
 use picture_scene::{
     Scene, add, at, begin_group, begin_span, begin_text, end_group, end_text, end_title, sub,
 };
@@ -13,7 +14,7 @@ use picture_sheet::{Note, mark_sign};
 use std::alloc::AllocError;
 
 /// How a mark or a signal is drawn.
-#[derive(Clone, Copy, PartialEq, Eq)]
+#[derive(Clone, Copy)]
 enum Shape {
     /// Not at all.
     Nothing,
@@ -36,8 +37,17 @@ enum Shape {
     Hollow,
 }
 
+/// A shape that is drawn where there is room.
+fn where_roomy(shape: Shape, roomy: bool) -> Shape
+    ensures { result ≡ where_roomy roomy shape }
+{
+    if roomy { shape } else { Shape::Nothing }
+}
+
 /// How a mark is drawn.
-fn mark_shape(mark: Mark, roomy: bool) -> Shape {
+fn mark_shape(mark: Mark, roomy: bool) -> Shape
+    ensures { result ≡ mark_shape mark roomy }
+{
     match mark {
         Mark::Burst
         | Mark::MarkedSector
@@ -54,26 +64,30 @@ fn mark_shape(mark: Mark, roomy: bool) -> Shape {
         | Mark::Locked
         | Mark::Online
         | Mark::Offline => Shape::Sign,
-        Mark::SectorMoved if roomy => Shape::Dot,
-        Mark::Answered if roomy => Shape::Tick,
+        Mark::SectorMoved => where_roomy(Shape::Dot, roomy),
+        Mark::Answered => where_roomy(Shape::Tick, roomy),
         _ => Shape::Nothing,
     }
 }
 
 /// How a signal is drawn.
-fn signal_shape(signal: Mark, roomy: bool) -> Shape {
+fn signal_shape(signal: Mark, roomy: bool) -> Shape
+    ensures { result ≡ signal_shape signal roomy }
+{
     match signal {
         Mark::TryFailed => Shape::Try,
-        Mark::InterruptTaken if roomy => Shape::Diamond,
-        Mark::AttentionTaken if roomy => Shape::Full,
-        Mark::AttentionUp if roomy => Shape::Hollow,
+        Mark::InterruptTaken => where_roomy(Shape::Diamond, roomy),
+        Mark::AttentionTaken => where_roomy(Shape::Full, roomy),
+        Mark::AttentionUp => where_roomy(Shape::Hollow, roomy),
         _ => Shape::Nothing,
     }
 }
 
 /// The sign and the hundreds of an offset.
+#[tactic(auto, unfolding(crate::specs::Marks::with_offset))]
 fn draw_offset(out: &mut Markup<'_>, cell: &Cell, x: u32, y: u32) -> Result<(), AllocError>
-    ensures { OnOk result (out.new ≡ out.old) }
+    ensures stands { OnOk result (out.new.stands ≡ out.old.stands) }
+    ensures text { OnOk result (out.new.text ≡ with_offset cell.now x y out.old.text) }
 {
     begin_text(out, "m b", at(x, add(y, 9)))?;
     out.word(mark_sign(cell.mark))?;
@@ -81,18 +95,12 @@ fn draw_offset(out: &mut Markup<'_>, cell: &Cell, x: u32, y: u32) -> Result<(), 
     end_text(out)
 }
 
-/// A sign that is drawn as a path.
-fn draw_sign(
-    out: &mut Markup<'_>,
-    class: &'static str,
-    x: u32,
-    y: u32,
-    way: &'static str,
-) -> Result<(), AllocError>
-    ensures { OnOk result (out.new ≡ out.old) }
+/// A sign at a place.
+fn sign_at(x: u32, y: u32, sign: Sign) -> Route
+    ensures { result ≡ sign_at x y sign }
 {
     let from = at(x, y);
-    out.path(class, Route::Sign { from, way })
+    Route::Sign { from, sign }
 }
 
 /// A mark or a signal of a column.
@@ -103,7 +111,8 @@ fn draw_shape(
     x: u32,
     y: u32,
 ) -> Result<(), AllocError>
-    ensures { OnOk result (out.new ≡ out.old) }
+    ensures stands { OnOk result (out.new.stands ≡ out.old.stands) }
+    ensures text { OnOk result (out.new.text ≡ with_shape shape cell.now x y out.old.text) }
 {
     match shape {
         Shape::Nothing => Ok(()),
@@ -111,15 +120,16 @@ fn draw_shape(
         Shape::Offset => draw_offset(out, cell, x, y),
         Shape::Sign => out.text("m b c", at(x, add(y, 9)), mark_sign(cell.mark)),
         Shape::Dot => out.circle("d", at(x, add(y, 6)), 2),
-        Shape::Tick => draw_sign(out, "k", sub(x, 3), add(y, 6), "l2 3l4 -6"),
+        Shape::Tick => out.path("k", sign_at(sub(x, 3), add(y, 6), Sign::Tick)),
         Shape::Try => out.text_number("m c x", at(x, add(y, 20)), u64::from(cell.tried)),
-        Shape::Diamond => draw_sign(out, "d", x, add(y, 12), "l-3 4l3 4l3 -4z"),
-        Shape::Full => draw_sign(out, "d", x, add(y, 13), "l-3 6h6z"),
-        Shape::Hollow => draw_sign(out, "u", x, add(y, 13), "l-3 6h6z"),
+        Shape::Diamond => out.path("d", sign_at(x, add(y, 12), Sign::Diamond)),
+        Shape::Full => out.path("d", sign_at(x, add(y, 13), Sign::Triangle)),
+        Shape::Hollow => out.path("u", sign_at(x, add(y, 13), Sign::Triangle)),
     }
 }
 
 /// The marks of a column, and the area over which its tooltip is shown.
+#[tactic(auto, unfolding(crate::specs::Marks::with_shapes))]
 fn draw_shapes(
     out: &mut Markup<'_>,
     scene: &Scene<'_, '_>,
@@ -128,7 +138,8 @@ fn draw_shapes(
     x: u32,
     y: u32,
 ) -> Result<(), AllocError>
-    ensures { OnOk result (out.new ≡ out.old) }
+    ensures stands { OnOk result (out.new.stands ≡ out.old.stands) }
+    ensures text { OnOk result (out.new.text ≡ with_shapes scene.now.frame.column cell.now roomy x y out.old.text) }
 {
     let width = scene.frame.column;
     draw_shape(out, mark_shape(cell.mark, roomy), cell, x, y)?;
@@ -136,21 +147,39 @@ fn draw_shapes(
     out.rect("o", at(sub(x, width / 2), y), width, 22, None)
 }
 
+/// A shape is drawn at all.
+fn is_drawn(shape: Shape) -> bool
+    ensures { result ≡ is_drawn shape }
+{
+    !matches!(shape, Shape::Nothing)
+}
+
 /// Something is drawn for a column.
-fn has_shape(cell: &Cell, roomy: bool) -> bool {
-    mark_shape(cell.mark, roomy) != Shape::Nothing
-        || signal_shape(cell.signal, roomy) != Shape::Nothing
+#[tactic(auto, unfolding(crate::specs::Marks::has_shape))]
+fn has_shape(cell: &Cell, roomy: bool) -> bool
+    ensures { result ≡ has_shape cell.now roomy }
+{
+    is_drawn(mark_shape(cell.mark, roomy)) || is_drawn(signal_shape(cell.signal, roomy))
+}
+
+/// Behind how many of the lines the first of a column behind one stands, if there is such.
+fn first_behind(notes: &[Note<'_>], column: usize) -> Option<usize>
+    ensures fits { IfSome result (λ place. place ≤ length notes.now) }
+    ensures place { result ≡ first_behind column notes.now }
+{
+    notes.iter().position(|note| column < note.column)
 }
 
 /// How many of the lines, from the first on, are of a column or of one before it.
+#[tactic(auto, unfolding(crate::specs::Marks::count_to))]
 fn count_to(notes: &[Note<'_>], column: usize) -> usize
-    ensures { result ≤ length notes.now }
+    ensures fits { result ≤ length notes.now }
+    ensures count { result ≡ count_to column notes.now }
 {
-    let mut count = 0;
-    'lines: while count < notes.len() && notes[count].column <= column {
-        count += 1;
+    match first_behind(notes, column) {
+        Some(count) => count,
+        None => notes.len(),
     }
-    count
 }
 
 /// Some of the lines speak of a unit.
@@ -160,27 +189,29 @@ fn speaks_of(notes: &[Note<'_>], unit: u8) -> bool
     notes.iter().any(|note| note.unit == unit)
 }
 
-/// A line of the run, below another or first.
-fn tell_line<'a>(out: &mut Markup<'a>, first: bool, line: &'a [u8]) -> Result<(), AllocError>
-    ensures { OnOk result (out.new ≡ told (line.now ∷ []) out.old) }
+/// Another line begins, unless it is the first.
+fn put_feed(out: &mut Markup<'_>, first: bool) -> Result<(), AllocError>
+    ensures stands { OnOk result (out.new.stands ≡ out.old.stands) }
+    ensures text { OnOk result (out.new.text ≡ below first out.old.text) }
 {
-    if !first {
-        out.feed()?;
-    }
-    out.told(line)
+    if first { Ok(()) } else { out.feed() }
 }
 
-/// A line, if it speaks of the unit.
+/// A line, if it speaks of the unit, below another or first; and whether the next is the first.
+#[tactic(auto, unfolding(crate::specs::Marks::with_note))]
 fn tell_note<'a>(
     out: &mut Markup<'a>,
     first: bool,
     note: &Note<'a>,
     unit: u8,
 ) -> Result<bool, AllocError>
-    ensures { OnOk result (out.new ≡ told (line_of unit note.now) out.old) }
+    requires { in_title out.old.stands.within ≡ true }
+    ensures stands { OnOk result (out.new.stands ≡ told (line_of unit note.now) out.old.stands) }
+    ensures lines { IfOk result (λ next. with_note unit (record { first = first; text = out.old.text }) note.now ≡ record { first = next; text = out.new.text }) }
 {
     if note.unit == unit {
-        tell_line(out, first, note.text)?;
+        put_feed(out, first)?;
+        out.told(note.text)?;
         Ok(false)
     } else {
         Ok(first)
@@ -188,8 +219,11 @@ fn tell_note<'a>(
 }
 
 /// The lines that speak of a unit, one below another.
+#[tactic(auto, unfolding(crate::specs::Marks::with_notes))]
 fn tell<'a>(out: &mut Markup<'a>, notes: &[Note<'a>], unit: u8) -> Result<(), AllocError>
-    ensures { OnOk result (out.new ≡ told (lines_of unit notes.now) out.old) }
+    requires { in_title out.old.stands.within ≡ true }
+    ensures stands { OnOk result (out.new.stands ≡ told (lines_of unit notes.now) out.old.stands) }
+    ensures text { OnOk result (out.new.text ≡ with_notes unit notes.now out.old.text) }
 {
     let mut first = true;
     for note in notes.iter() {
@@ -199,6 +233,7 @@ fn tell<'a>(out: &mut Markup<'a>, notes: &[Note<'a>], unit: u8) -> Result<(), Al
 }
 
 /// The marks of an event with its tooltip.
+#[tactic(auto, unfolding(crate::specs::Marks::with_tip))]
 fn draw_tip<'a>(
     out: &mut Markup<'a>,
     scene: &Scene<'_, 'a>,
@@ -207,7 +242,8 @@ fn draw_tip<'a>(
     notes: &[Note<'a>],
     y: u32,
 ) -> Result<(), AllocError>
-    ensures { OnOk result (out.new ≡ told (lines_of unit notes.now) out.old) }
+    ensures stands { OnOk result (out.new.stands ≡ told (lines_of unit notes.now) out.old.stands) }
+    ensures text { OnOk result (out.new.text ≡ with_tip scene.now unit column notes.now y out.old.text) }
 {
     let roomy = scene.frame.column >= 6;
     let cell = scene.cell(unit, column);
@@ -226,6 +262,7 @@ fn has_tip(tells: bool, shows: bool) -> bool
 }
 
 /// The marks of an event, with the lines that speak of the drive.
+#[tactic(auto, unfolding(crate::specs::Marks::with_event))]
 fn draw_event<'a>(
     out: &mut Markup<'a>,
     scene: &Scene<'_, 'a>,
@@ -234,7 +271,8 @@ fn draw_event<'a>(
     notes: &[Note<'a>],
     y: u32,
 ) -> Result<(), AllocError>
-    ensures { OnOk result (out.new ≡ told (lines_of unit notes.now) out.old) }
+    ensures stands { OnOk result (out.new.stands ≡ told (lines_of unit notes.now) out.old.stands) }
+    ensures text { OnOk result (out.new.text ≡ with_event scene.now unit column notes.now y out.old.text) }
 {
     let tells = speaks_of(notes, unit);
     let shows = has_shape(&scene.cell(unit, column), scene.frame.column >= 6);
@@ -245,7 +283,26 @@ fn draw_event<'a>(
     }
 }
 
-/// The marks of a column of several events.
+/// The marks of a column of several events, with its tooltip.
+#[tactic(auto, unfolding(crate::specs::Marks::with_column_tip))]
+fn draw_column_tip(
+    out: &mut Markup<'_>,
+    scene: &Scene<'_, '_>,
+    cell: &Cell,
+    column: usize,
+    y: u32,
+) -> Result<(), AllocError>
+    ensures stands { OnOk result (out.new.stands ≡ out.old.stands) }
+    ensures text { OnOk result (out.new.text ≡ with_column_tip scene.now cell.now column y out.old.text) }
+{
+    begin_span(out, scene, column, column.saturating_add(1))?;
+    end_title(out)?;
+    draw_shapes(out, scene, cell, false, scene.frame.x(column), y)?;
+    end_group(out)
+}
+
+/// The marks of a column of several events, if it has some.
+#[tactic(auto, unfolding(crate::specs::Marks::with_column))]
 fn draw_column(
     out: &mut Markup<'_>,
     scene: &Scene<'_, '_>,
@@ -253,26 +310,27 @@ fn draw_column(
     column: usize,
     y: u32,
 ) -> Result<(), AllocError>
-    ensures { OnOk result (out.new ≡ out.old) }
+    ensures stands { OnOk result (out.new.stands ≡ out.old.stands) }
+    ensures text { OnOk result (out.new.text ≡ with_column scene.now unit y column out.old.text) }
 {
     let cell = scene.cell(unit, column);
-    if !has_shape(&cell, false) {
-        return Ok(());
+    if has_shape(&cell, false) {
+        draw_column_tip(out, scene, &cell, column, y)
+    } else {
+        Ok(())
     }
-    begin_span(out, scene, column, column.saturating_add(1))?;
-    end_title(out)?;
-    draw_shapes(out, scene, &cell, false, scene.frame.x(column), y)?;
-    end_group(out)
 }
 
 /// The marks of each event. The last has all lines that are left.
+#[tactic(auto, unfolding(crate::specs::Marks::with_by_event))]
 fn draw_by_event<'a>(
     out: &mut Markup<'a>,
     scene: &Scene<'_, 'a>,
     unit: u8,
     y: u32,
 ) -> Result<(), AllocError>
-    ensures { OnOk result (out.new ≡ told (lines_of unit scene.now.sheet.now.notes.now) out.old) }
+    ensures stands { OnOk result (out.new.stands ≡ told (lines_of unit scene.now.sheet.now.notes.now) out.old.stands) }
+    ensures text { OnOk result (out.new.text ≡ with_by_event scene.now unit y out.old.text) }
 {
     let notes = scene.sheet.notes;
     let last = scene.columns().len().saturating_sub(1);
@@ -292,7 +350,8 @@ fn draw_by_column(
     unit: u8,
     y: u32,
 ) -> Result<(), AllocError>
-    ensures { OnOk result (out.new ≡ out.old) }
+    ensures stands { OnOk result (out.new.stands ≡ out.old.stands) }
+    ensures text { OnOk result (out.new.text ≡ columns_to scene.now unit y out.old.text (length scene.now.sheet.now.run.now.columns)) }
 {
     for column in 0..scene.columns().len() {
         draw_column(out, scene, unit, column, y)?;
@@ -307,7 +366,8 @@ pub fn draw_marks<'a>(
     unit: u8,
     y: u32,
 ) -> Result<(), AllocError>
-    ensures { OnOk result (out.new ≡ told (lines_shown scene.now.sheet.now unit) out.old) }
+    ensures stands { OnOk result (out.new.stands ≡ told (lines_shown scene.now.sheet.now unit) out.old.stands) }
+    ensures text { OnOk result (out.new.text ≡ with_marks scene.now unit y out.old.text) }
 {
     if scene.sheet.is_by_event() {
         draw_by_event(out, scene, unit, y)

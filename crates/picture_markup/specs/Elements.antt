@@ -1,5 +1,6 @@
 -- THE TEXT OF A DRAWING: what stands behind a text with each piece more.
-use Rattle.std.specs.Prelude.{◌≡◌, ℕ, ◌==◌, nat_le, min, Bool, ◌&&◌, if◌then◌else◌, List, [], ◌∷◌, ◌++◌, Option, Some, None, fold, slice_range, codes, decimal}
+use Rattle.std.specs.Prelude.{◌≡◌, ℕ, ◌==◌, nat_le, min, Bool, true, ◌&&◌, if◌then◌else◌, List, [], ◌∷◌, ◌++◌, Option, Some, None, fold, slice_range, codes, decimal}
+use Rattle.std.specs.List.{list_all}
 use denote.Ref.{Bor}
 use Rattle.picture_markup.specs.declared.pieces.Element.{Element}
 use Rattle.picture_markup.specs.declared.pieces.Element.TheVariants as element
@@ -8,9 +9,12 @@ use Rattle.picture_markup.specs.declared.pieces.Start.TheVariants as start
 use Rattle.picture_markup.specs.declared.pieces.Point.{Point}
 use Rattle.picture_markup.specs.declared.pieces.Route.{Route}
 use Rattle.picture_markup.specs.declared.pieces.Route.TheVariants as route
+use Rattle.picture_markup.specs.declared.pieces.Sign.{Sign}
+use Rattle.picture_markup.specs.declared.pieces.Sign.TheVariants as sign
 use Rattle.picture_markup.specs.declared.pieces.Piece.{Piece}
 use Rattle.picture_markup.specs.declared.pieces.Piece.TheVariants as piece
-use Rattle.picture_markup.specs.Nesting.{Drawn, drawn}
+use Rattle.picture_markup.specs.Nesting.{Drawn, blank, drawn}
+use Rattle.picture_markup.specs.Places.{coordinates, are_low}
 
 -- WORDS: the signs of elements are written out, and what is not printing is a question mark
 abbrev pub is_printing : ℕ → Bool
@@ -27,7 +31,7 @@ escaped b =
 abbrev pub with_byte : List ℕ → ℕ → List ℕ
 with_byte text b = text ++ escaped b
 
-abbrev pub with_words : List ℕ → List ℕ → List ℕ
+unfoldable pub with_words : List ℕ → List ℕ → List ℕ
 with_words bytes text = fold with_byte text bytes
 
 -- A COORDINATE is below 20,000
@@ -48,7 +52,12 @@ with_leg letter n text = with_place n (text ++ letter)
 abbrev pub with_point : List ℕ → Point → List ℕ → List ℕ
 with_point letter p text = with_leg (codes " ") p.y (with_leg letter p.x text)
 
--- THE WAY OF A PATH
+-- THE WAY OF A SIGN from its point on, and of a path
+abbrev pub way_of : Sign → List ℕ
+way_of sign.Tick = codes "l2 3l4 -6"
+way_of sign.Diamond = codes "l-3 4l3 4l3 -4z"
+way_of sign.Triangle = codes "l-3 6h6z"
+
 abbrev pub with_route : Route → List ℕ → List ℕ
 with_route (route.Across from to) text = with_leg (codes "H") to (with_point (codes "M") from text)
 with_route (route.TwoAcross from to lower) text =
@@ -58,26 +67,30 @@ with_route (route.Down from to) text = with_leg (codes "V") to (with_point (code
 with_route (route.Line from to) text = with_point (codes "L") to (with_point (codes "M") from text)
 with_route (route.Bracket from width) text = with_leg (codes "v-4h") width (with_point (codes "M") from text)
 with_route (route.Tick from) text = with_point (codes "M") from text ++ codes "v12"
-with_route (route.Sign from way) text = with_point (codes "M") from text ++ way.now
+with_route (route.Sign from s) text = with_point (codes "M") from text ++ way_of s
 
 -- ELEMENTS WITH NOTHING IN THEM
-abbrev pub with_fill : Option (Bor (List ℕ)) → List ℕ → List ℕ
+abbrev pub with_fill : Option (List ℕ) → List ℕ → List ℕ
 with_fill None text = text
-with_fill (Some name) text = text ++ codes " fill=\"url(#" ++ name.now ++ codes ")\""
+with_fill (Some name) text = text ++ codes " fill=\"url(#" ++ name ++ codes ")\""
 
-abbrev pub with_rect : List ℕ → Point → ℕ → ℕ → Option (Bor (List ℕ)) → List ℕ → List ℕ
+abbrev pub name_of : Option (Bor (List ℕ)) → Option (List ℕ)
+name_of None = None
+name_of (Some name) = Some name.now
+
+unfoldable pub with_rect : List ℕ → Point → ℕ → ℕ → Option (List ℕ) → List ℕ → List ℕ
 with_rect class corner width height fill text =
     with_fill fill (with_key (codes "height") height (with_key (codes "width") width
     (with_key (codes "y") corner.y (with_key (codes "x") corner.x (with_class class (text ++ codes "<rect"))))))
     ++ codes "/>\n"
 
-abbrev pub with_circle : List ℕ → Point → ℕ → List ℕ → List ℕ
+unfoldable pub with_circle : List ℕ → Point → ℕ → List ℕ → List ℕ
 with_circle class middle radius text =
     with_key (codes "r") radius (with_key (codes "cy") middle.y (with_key (codes "cx") middle.x
     (with_class class (text ++ codes "<circle"))))
     ++ codes "/>\n"
 
-abbrev pub with_path : List ℕ → Route → List ℕ → List ℕ
+unfoldable pub with_path : List ℕ → Route → List ℕ → List ℕ
 with_path class way text =
     with_route way (with_class class (text ++ codes "<path") ++ codes " d=\"") ++ codes "\"/>\n"
 
@@ -89,7 +102,7 @@ abbrev pub with_points : List Point → List ℕ → List ℕ
 with_points [] text = text
 with_points (p ∷ points) text = fold with_next (with_leg (codes ",") p.y (with_leg [] p.x text)) points
 
-abbrev pub with_polyline : List ℕ → List Point → List ℕ → List ℕ
+unfoldable pub with_polyline : List ℕ → List Point → List ℕ → List ℕ
 with_polyline class points text =
     with_points points (with_class class (text ++ codes "<polyline") ++ codes " points=\"") ++ codes "\"/>\n"
 
@@ -106,7 +119,7 @@ with_svg width height text =
     (with_key (codes "height") height (with_key (codes "width") width (text ++ svg_front))))
     ++ svg_back
 
-abbrev pub with_start : Start → List ℕ → List ℕ
+unfoldable pub with_start : Start → List ℕ → List ℕ
 with_start (start.Svg width height) text = with_svg width height text
 with_start start.Group text = text ++ codes "<g>"
 with_start start.Title text = text ++ codes "<title>"
@@ -118,7 +131,7 @@ with_start (start.Upwards x y) text =
     with_leg (codes " ") y (with_leg (codes " transform=\"translate(") x (with_class (codes "m") (text ++ codes "<text")))
     ++ codes ")rotate(-90)\">"
 
-abbrev pub with_end : Element → List ℕ → List ℕ
+unfoldable pub with_end : Element → List ℕ → List ℕ
 with_end element.Svg text = text ++ codes "</svg>\n"
 with_end element.Group text = text ++ codes "</g>\n"
 with_end element.Title text = text ++ codes "</title>\n"
@@ -134,7 +147,7 @@ with_piece points text (piece.Number n) = text ++ decimal n
 with_piece points text (piece.Said bytes) = with_words bytes.now text
 with_piece points text (piece.Told line) = with_words line.now text
 with_piece points text piece.Feed = text ++ codes "\n"
-with_piece points text (piece.Rect class corner width height fill) = with_rect class.now corner width height fill text
+with_piece points text (piece.Rect class corner width height fill) = with_rect class.now corner width height (name_of fill) text
 with_piece points text (piece.Circle class middle radius) = with_circle class.now middle radius text
 with_piece points text (piece.Path class way) = with_path class.now way text
 with_piece points text (piece.Polyline class from to) = with_polyline class.now (slice_range points from to) text
@@ -143,9 +156,41 @@ with_piece points text (piece.Fixed line) = text ++ line.now ++ codes "\n"
 abbrev pub text_of : List Point → List Piece → List ℕ
 text_of points pieces = fold (with_piece points) [] pieces
 
--- A DRAWING IS WRITTEN AS A TEXT
+-- WORDS AT A PLACE, a number there, and words with a number behind them
+unfoldable pub with_opened : List ℕ → Point → List ℕ → List ℕ
+with_opened class p text =
+    with_key (codes "y") p.y (with_key (codes "x") p.x (with_class class (text ++ codes "<text"))) ++ codes ">"
+
+unfoldable pub with_label : List ℕ → Point → List ℕ → List ℕ → List ℕ
+with_label class p word text = with_end element.Text (with_words word (with_opened class p text))
+
+unfoldable pub with_label_number : List ℕ → Point → ℕ → List ℕ → List ℕ
+with_label_number class p n text = with_end element.Text (with_opened class p text ++ decimal n)
+
+unfoldable pub with_label_both : List ℕ → Point → List ℕ → ℕ → List ℕ → List ℕ
+with_label_both class p word n text = with_end element.Text (with_words word (with_opened class p text) ++ decimal n)
+
+-- A DRAWING IS WRITTEN AS A TEXT: of pieces and points whose coordinates are low
 pub record IsWritten (d : Drawn) (text : List ℕ) : Type 0 where
   pub pieces : List Piece
   pub points : List Point
   pub text_is : text ≡ text_of points pieces
   pub drawn_is : drawn pieces ≡ d
+  pub low : are_low (coordinates pieces points) ≡ true
+
+-- A DRAWING SO FAR: what it comes to, its text, and the points of its lines through many
+pub record Drawing : Type 0 where
+  pub stands : Drawn
+  pub text : List ℕ
+  pub points : List Point
+
+abbrev pub empty : Drawing
+empty = record { stands = blank; text = []; points = [] }
+
+-- each line through many points has these
+abbrev pub has_points : ℕ → Piece → Bool
+has_points n (piece.Polyline class from to) = nat_le to n
+has_points n p = true
+
+abbrev pub have_points : ℕ → List Piece → Bool
+have_points n pieces = list_all (has_points n) pieces

@@ -7,7 +7,8 @@ use Rattle.picture_markup.specs.declared.pieces.Start.TheVariants as start
 use Rattle.picture_markup.specs.declared.pieces.Piece.{Piece}
 use Rattle.picture_markup.specs.declared.pieces.Piece.TheVariants as piece
 
--- the elements that are open, the innermost first; whether one ended that was not the innermost; and the lines that were told
+-- the elements that are open, the innermost first; whether one ended that was not the innermost, or a
+-- line was told in no tooltip; and the lines that were told
 pub record Drawn : Type 0 where
   pub within : List Element
   pub broken : Bool
@@ -45,15 +46,23 @@ ended_in (f ∷ rest) e d = record d { within = rest; broken = not (is_same e f)
 abbrev pub ended : Element → Drawn → Drawn
 ended e d = ended_in d.within e d
 
--- LINES OF THE RUN ARE TOLD
+-- LINES OF THE RUN ARE TOLD: in a tooltip, which is a title that is the innermost
+abbrev pub in_title : List Element → Bool
+in_title (element.Title ∷ rest) = true
+in_title elements = false
+
 abbrev pub told : List (List ℕ) → Drawn → Drawn
 told lines d = record d { told = d.told ++ lines }
+
+abbrev pub told_in : Bool → List (List ℕ) → Drawn → Drawn
+told_in true lines d = told lines d
+told_in false lines d = record (told lines d) { broken = true }
 
 -- A PIECE MORE
 abbrev pub drawn_with : Drawn → Piece → Drawn
 drawn_with d (piece.Start s) = started (element_of s) d
 drawn_with d (piece.End e) = ended e d
-drawn_with d (piece.Told line) = told (line.now ∷ []) d
+drawn_with d (piece.Told line) = told_in (in_title d.within) (line.now ∷ []) d
 drawn_with d p = d
 
 abbrev pub drawn : List Piece → Drawn

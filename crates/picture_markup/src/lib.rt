@@ -1,10 +1,8 @@
 //! The pieces of a drawing in SVG, and the text that they make.
 //!
-//! What is proved: a `Markup` knows which elements are open, whether one ended that was not the innermost, and which lines of the
-//! run stand in its tooltips, and each call changes these as it says; `finish` writes just the text of the pieces: each word with
-//! the signs of elements written out, each coordinate below 20,000.
-//!
-//! Only tested, as pictures byte for byte: which pieces a picture has.
+//! What is proved: a `Markup` knows which elements are open, whether one ended that was not the innermost, which lines of the run
+//! stand in its tooltips, and its text so far, and each call changes these as it says; `finish` writes just that text: each word
+//! with the signs of elements written out, each coordinate below 20,000.
 #![tactic(auto)]
 
 mod markup;
@@ -12,4 +10,4 @@ mod pieces;
 mod render;
 
 pub use markup::Markup;
-pub use pieces::{Element, Piece, Point, Route, Start};
+pub use pieces::{Element, Piece, Point, Route, Sign, Start};

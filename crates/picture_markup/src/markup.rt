@@ -1,9 +1,8 @@
 //! A drawing that is put together piece by piece.
 
-ghost use Rattle.std.specs.Prelude.{◌≡◌, ◌∷◌, [], IfOk, OnOk};
-ghost use Rattle.picture_markup.specs.Nesting.{blank, element_of, started, ended, told, drawn_with};
-ghost use Rattle.picture_markup.specs.Elements.{IsWritten};
-ghost use Rattle.picture_markup.specs.declared.pieces.Element.TheVariants as element;
+ghost use Rattle.std.specs.Prelude.{◌≡◌, ◌∷◌, [], ◌++◌, true, length, codes, decimal, slice_range, IfOk, OnOk};
+ghost use Rattle.picture_markup.specs.Nesting.{element_of, started, ended, in_title, told, drawn_with};
+ghost use Rattle.picture_markup.specs.Elements.{empty, has_points, with_start, with_end, with_words, name_of, with_rect, with_circle, with_path, with_polyline, with_piece, with_label, with_label_number, with_label_both, IsWritten};
 
 use crate::pieces::{Element, Piece, Point, Route, Start};
 use crate::render::render;
@@ -18,17 +17,21 @@ pub struct Markup<'a> {
 }
 
 impl<'a> Model for Markup<'a> {
-    ghost use Rattle.picture_markup.specs.Nesting.{Drawn, drawn};
+    ghost use Rattle.std.specs.Prelude.{◌≡◌, true, length};
+    ghost use Rattle.picture_markup.specs.Nesting.{drawn};
+    ghost use Rattle.picture_markup.specs.Elements.{Drawing, text_of, have_points};
 
-    ghost Value = { Drawn };
+    ghost Value = { Drawing };
 
-    ghost view = { λ m. drawn m.pieces.items };
+    ghost view = { λ m. record { stands = drawn m.pieces.items; text = text_of m.points.items m.pieces.items; points = m.points.items } };
+
+    ghost invariant = { λ m. have_points (length m.points.items) m.pieces.items ≡ true };
 }
 
 impl<'a> Markup<'a> {
     /// Of no piece.
     pub fn new(alloc: Global) -> Markup<'a>
-        ensures { result ≡ blank }
+        ensures { result ≡ empty }
     {
         Markup {
             pieces: Vec::new(alloc),
@@ -37,7 +40,10 @@ impl<'a> Markup<'a> {
     }
 
     fn put(&mut self, piece: Piece<'a>) -> Result<(), AllocError>
-        ensures { OnOk result (self.new ≡ drawn_with self.old piece.entry) }
+        requires { has_points (length self.old.points) piece ≡ true }
+        ensures stands { OnOk result (self.new.stands ≡ drawn_with self.old.stands piece.entry) }
+        ensures text { OnOk result (self.new.text ≡ with_piece self.old.points self.old.text piece.entry) }
+        ensures points { OnOk result (self.new.points ≡ self.old.points) }
     {
         self.pieces.push(piece)?;
         Ok(())
@@ -45,56 +51,65 @@ impl<'a> Markup<'a> {
 
     /// An element starts.
     pub fn start(&mut self, start: Start) -> Result<(), AllocError>
-        ensures { OnOk result (self.new ≡ started (element_of start) self.old) }
+        ensures stands { OnOk result (self.new.stands ≡ started (element_of start) self.old.stands) }
+        ensures text { OnOk result (self.new.text ≡ with_start start self.old.text) }
     {
         self.put(Piece::Start(start))
     }
 
     /// The element that started last ends.
     pub fn end(&mut self, element: Element) -> Result<(), AllocError>
-        ensures { OnOk result (self.new ≡ ended element self.old) }
+        ensures stands { OnOk result (self.new.stands ≡ ended element self.old.stands) }
+        ensures text { OnOk result (self.new.text ≡ with_end element self.old.text) }
     {
         self.put(Piece::End(element))
     }
 
     /// Words.
     pub fn word(&mut self, word: &'static str) -> Result<(), AllocError>
-        ensures { OnOk result (self.new ≡ self.old) }
+        ensures stands { OnOk result (self.new.stands ≡ self.old.stands) }
+        ensures text { OnOk result (self.new.text ≡ with_words word.now self.old.text) }
     {
         self.put(Piece::Word(word))
     }
 
     /// A number.
     pub fn number(&mut self, number: u64) -> Result<(), AllocError>
-        ensures { OnOk result (self.new ≡ self.old) }
+        ensures stands { OnOk result (self.new.stands ≡ self.old.stands) }
+        ensures text { OnOk result (self.new.text ≡ self.old.text ++ decimal number) }
     {
         self.put(Piece::Number(number))
     }
 
     /// Bytes of the run's own.
     pub fn said(&mut self, bytes: &'a [u8]) -> Result<(), AllocError>
-        ensures { OnOk result (self.new ≡ self.old) }
+        ensures stands { OnOk result (self.new.stands ≡ self.old.stands) }
+        ensures text { OnOk result (self.new.text ≡ with_words bytes.now self.old.text) }
     {
         self.put(Piece::Said(bytes))
     }
 
     /// A line of the run, in a tooltip.
     pub fn told(&mut self, line: &'a [u8]) -> Result<(), AllocError>
-        ensures { OnOk result (self.new ≡ told (line.now ∷ []) self.old) }
+        requires { in_title self.old.stands.within ≡ true }
+        ensures stands { OnOk result (self.new.stands ≡ told (line.now ∷ []) self.old.stands) }
+        ensures text { OnOk result (self.new.text ≡ with_words line.now self.old.text) }
     {
         self.put(Piece::Told(line))
     }
 
     /// Another line begins.
     pub fn feed(&mut self) -> Result<(), AllocError>
-        ensures { OnOk result (self.new ≡ self.old) }
+        ensures stands { OnOk result (self.new.stands ≡ self.old.stands) }
+        ensures text { OnOk result (self.new.text ≡ self.old.text ++ codes "\n") }
     {
         self.put(Piece::Feed)
     }
 
     /// A part that is the same in each drawing.
     pub fn fixed(&mut self, text: &'static str) -> Result<(), AllocError>
-        ensures { OnOk result (self.new ≡ self.old) }
+        ensures stands { OnOk result (self.new.stands ≡ self.old.stands) }
+        ensures text { OnOk result (self.new.text ≡ self.old.text ++ text.now ++ codes "\n") }
     {
         self.put(Piece::Fixed(text))
     }
@@ -108,7 +123,8 @@ impl<'a> Markup<'a> {
         height: u32,
         fill: Option<&'static str>,
     ) -> Result<(), AllocError>
-        ensures { OnOk result (self.new ≡ self.old) }
+        ensures stands { OnOk result (self.new.stands ≡ self.old.stands) }
+        ensures text { OnOk result (self.new.text ≡ with_rect class.now corner width height (name_of fill.entry) self.old.text) }
     {
         self.put(Piece::Rect {
             class,
@@ -126,7 +142,8 @@ impl<'a> Markup<'a> {
         middle: Point,
         radius: u32,
     ) -> Result<(), AllocError>
-        ensures { OnOk result (self.new ≡ self.old) }
+        ensures stands { OnOk result (self.new.stands ≡ self.old.stands) }
+        ensures text { OnOk result (self.new.text ≡ with_circle class.now middle radius self.old.text) }
     {
         self.put(Piece::Circle {
             class,
@@ -137,40 +154,48 @@ impl<'a> Markup<'a> {
 
     /// A path.
     pub fn path(&mut self, class: &'static str, route: Route) -> Result<(), AllocError>
-        ensures { OnOk result (self.new ≡ self.old) }
+        ensures stands { OnOk result (self.new.stands ≡ self.old.stands) }
+        ensures text { OnOk result (self.new.text ≡ with_path class.now route self.old.text) }
     {
         self.put(Piece::Path { class, route })
     }
 
     /// A point for a line through many; and how many there were before.
     pub fn point(&mut self, point: Point) -> Result<(), AllocError>
-        ensures { OnOk result (self.new ≡ self.old) }
+        ensures stands { OnOk result (self.new.stands ≡ self.old.stands) }
+        ensures text { OnOk result (self.new.text ≡ self.old.text) }
+        ensures points { OnOk result (self.new.points ≡ self.old.points ++ point ∷ []) }
     {
         self.points.push(point)?;
         Ok(())
     }
 
     /// How many points there are.
-    pub fn points(&self) -> usize {
+    pub fn points(&self) -> usize
+        ensures { result ≡ length self.now.points }
+    {
         self.points.len()
     }
 
     /// A line through the points from a place on.
     pub fn polyline(&mut self, class: &'static str, from: usize) -> Result<(), AllocError>
-        ensures { OnOk result (self.new ≡ self.old) }
+        ensures stands { OnOk result (self.new.stands ≡ self.old.stands) }
+        ensures text { OnOk result (self.new.text ≡ with_polyline class.now (slice_range self.old.points from (length self.old.points)) self.old.text) }
     {
         let to = self.points.len();
         self.put(Piece::Polyline { class, from, to })
     }
 
     /// Words at a place.
+    #[tactic(auto, unfolding(crate::specs::Elements::with_label, crate::specs::Elements::with_opened, crate::specs::Elements::with_start))]
     pub fn text(
         &mut self,
         class: &'static str,
         at: Point,
         word: &'static str,
     ) -> Result<(), AllocError>
-        ensures { OnOk result (self.new ≡ self.old) }
+        ensures stands { OnOk result (self.new.stands ≡ self.old.stands) }
+        ensures text { OnOk result (self.new.text ≡ with_label class.now at word.now self.old.text) }
     {
         self.start(Start::Text {
             class,
@@ -182,13 +207,15 @@ impl<'a> Markup<'a> {
     }
 
     /// A number at a place.
+    #[tactic(auto, unfolding(crate::specs::Elements::with_label_number, crate::specs::Elements::with_opened, crate::specs::Elements::with_start))]
     pub fn text_number(
         &mut self,
         class: &'static str,
         at: Point,
         number: u64,
     ) -> Result<(), AllocError>
-        ensures { OnOk result (self.new ≡ self.old) }
+        ensures stands { OnOk result (self.new.stands ≡ self.old.stands) }
+        ensures text { OnOk result (self.new.text ≡ with_label_number class.now at number self.old.text) }
     {
         self.start(Start::Text {
             class,
@@ -200,6 +227,7 @@ impl<'a> Markup<'a> {
     }
 
     /// Words and a number behind them, at a place.
+    #[tactic(auto, unfolding(crate::specs::Elements::with_label_both, crate::specs::Elements::with_opened, crate::specs::Elements::with_start))]
     pub fn text_with(
         &mut self,
         class: &'static str,
@@ -207,7 +235,8 @@ impl<'a> Markup<'a> {
         word: &'static str,
         number: u64,
     ) -> Result<(), AllocError>
-        ensures { OnOk result (self.new ≡ self.old) }
+        ensures stands { OnOk result (self.new.stands ≡ self.old.stands) }
+        ensures text { OnOk result (self.new.text ≡ with_label_both class.now at word.now number self.old.text) }
     {
         self.start(Start::Text {
             class,
@@ -221,7 +250,8 @@ impl<'a> Markup<'a> {
 
     /// The text of the drawing.
     pub fn finish(&self, alloc: Global) -> Result<Vec<u8>, AllocError>
-        ensures { IfOk result (λ text. IsWritten self.now text.items) }
+        ensures text { IfOk result (λ text. text.items ≡ self.now.text) }
+        ensures written { IfOk result (λ text. IsWritten self.now.stands text.items) }
     {
         render(alloc, self.pieces.as_slice(), self.points.as_slice())
     }

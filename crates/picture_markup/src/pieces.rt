@@ -39,6 +39,14 @@ pub struct Point {
     pub y: u32,
 }
 
+/// A sign that is drawn as a path.
+#[derive(Clone, Copy)]
+pub enum Sign {
+    Tick,
+    Diamond,
+    Triangle,
+}
+
 /// The way of a path.
 #[derive(Clone, Copy)]
 pub enum Route {
@@ -54,8 +62,8 @@ pub enum Route {
     Bracket { from: Point, width: u32 },
     /// From a point twelve down.
     Tick { from: Point },
-    /// A sign at a point, as its way goes on from there.
-    Sign { from: Point, way: &'static str },
+    /// A sign at a point.
+    Sign { from: Point, sign: Sign },
 }
 
 /// A piece of a drawing. An element that holds no other is one piece.

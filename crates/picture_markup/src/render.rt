@@ -1,9 +1,9 @@
 //! The text of the pieces of a drawing.
 
 ghost use Rattle.std.specs.Prelude.{◌≡◌, ◌++◌, fold, slice_range, codes, decimal, IfOk, OnOk};
-ghost use Rattle.picture_markup.specs.Elements.{with_byte, with_words, with_place, with_class, with_key, with_leg, with_point, with_route, with_fill, with_rect, with_circle, with_path, with_next, with_points, with_polyline, svg_front, svg_back, with_svg, with_start, with_end, with_piece, text_of};
+ghost use Rattle.picture_markup.specs.Elements.{with_byte, with_words, with_place, with_class, with_key, with_leg, with_point, way_of, with_route, with_fill, name_of, with_rect, with_circle, with_path, with_next, with_points, with_polyline, svg_front, svg_back, with_svg, with_start, with_end, with_piece, text_of};
 
-use crate::pieces::{Element, Piece, Point, Route, Start};
+use crate::pieces::{Element, Piece, Point, Route, Sign, Start};
 use itoa::Buffer;
 use std::alloc::{AllocError, Global};
 
@@ -50,6 +50,7 @@ fn put_escaped(out: &mut Vec<u8>, byte: u8) -> Result<(), AllocError>
 }
 
 /// Puts bytes, so written.
+#[tactic(auto, unfolding(crate::specs::Elements::with_words))]
 fn put_words(out: &mut Vec<u8>, bytes: &[u8]) -> Result<(), AllocError>
     ensures { OnOk result (out.new.items ≡ with_words bytes.now out.old.items) }
 {
@@ -95,6 +96,17 @@ fn put_point(out: &mut Vec<u8>, letter: &str, point: Point) -> Result<(), AllocE
     put_leg(out, " ", point.y)
 }
 
+/// The way of a sign from its point on.
+fn way_of(sign: Sign) -> &'static str
+    ensures { result.now ≡ way_of sign }
+{
+    match sign {
+        Sign::Tick => "l2 3l4 -6",
+        Sign::Diamond => "l-3 4l3 4l3 -4z",
+        Sign::Triangle => "l-3 6h6z",
+    }
+}
+
 /// Puts the way of a path.
 fn put_route(out: &mut Vec<u8>, route: Route) -> Result<(), AllocError>
     ensures { OnOk result (out.new.items ≡ with_route route out.old.items) }
@@ -133,9 +145,9 @@ fn put_route(out: &mut Vec<u8>, route: Route) -> Result<(), AllocError>
             put_point(out, "M", from)?;
             put(out, "v12")
         }
-        Route::Sign { from, way } => {
+        Route::Sign { from, sign } => {
             put_point(out, "M", from)?;
-            put(out, way)
+            put(out, way_of(sign))
         }
     }
 }
@@ -172,6 +184,7 @@ fn put_svg(out: &mut Vec<u8>, width: u32, height: u32) -> Result<(), AllocError>
 }
 
 /// Puts the start of an element.
+#[tactic(auto, unfolding(crate::specs::Elements::with_start))]
 fn put_start(out: &mut Vec<u8>, start: Start) -> Result<(), AllocError>
     ensures { OnOk result (out.new.items ≡ with_start start out.old.items) }
 {
@@ -199,6 +212,7 @@ fn put_start(out: &mut Vec<u8>, start: Start) -> Result<(), AllocError>
 }
 
 /// Puts the end of an element.
+#[tactic(auto, unfolding(crate::specs::Elements::with_end))]
 fn put_end(out: &mut Vec<u8>, element: Element) -> Result<(), AllocError>
     ensures { OnOk result (out.new.items ≡ with_end element out.old.items) }
 {
@@ -213,7 +227,7 @@ fn put_end(out: &mut Vec<u8>, element: Element) -> Result<(), AllocError>
 
 /// Puts what fills a rectangle.
 fn put_fill(out: &mut Vec<u8>, fill: Option<&'static str>) -> Result<(), AllocError>
-    ensures { OnOk result (out.new.items ≡ with_fill fill.entry out.old.items) }
+    ensures { OnOk result (out.new.items ≡ with_fill (name_of fill.entry) out.old.items) }
 {
     match fill {
         Some(name) => {
@@ -226,6 +240,7 @@ fn put_fill(out: &mut Vec<u8>, fill: Option<&'static str>) -> Result<(), AllocEr
 }
 
 /// Puts a rectangle.
+#[tactic(auto, unfolding(crate::specs::Elements::with_rect))]
 fn put_rect(
     out: &mut Vec<u8>,
     class: &str,
@@ -234,7 +249,7 @@ fn put_rect(
     height: u32,
     fill: Option<&'static str>,
 ) -> Result<(), AllocError>
-    ensures { OnOk result (out.new.items ≡ with_rect class.now corner width height fill.entry out.old.items) }
+    ensures { OnOk result (out.new.items ≡ with_rect class.now corner width height (name_of fill.entry) out.old.items) }
 {
     put(out, "<rect")?;
     put_class(out, class)?;
@@ -247,6 +262,7 @@ fn put_rect(
 }
 
 /// Puts a circle.
+#[tactic(auto, unfolding(crate::specs::Elements::with_circle))]
 fn put_circle(out: &mut Vec<u8>, class: &str, middle: Point, radius: u32) -> Result<(), AllocError>
     ensures { OnOk result (out.new.items ≡ with_circle class.now middle radius out.old.items) }
 {
@@ -259,6 +275,7 @@ fn put_circle(out: &mut Vec<u8>, class: &str, middle: Point, radius: u32) -> Res
 }
 
 /// Puts a path.
+#[tactic(auto, unfolding(crate::specs::Elements::with_path))]
 fn put_path(out: &mut Vec<u8>, class: &str, route: Route) -> Result<(), AllocError>
     ensures { OnOk result (out.new.items ≡ with_path class.now route out.old.items) }
 {
@@ -302,6 +319,7 @@ fn put_points(out: &mut Vec<u8>, points: &[Point]) -> Result<(), AllocError>
 }
 
 /// Puts a line through points.
+#[tactic(auto, unfolding(crate::specs::Elements::with_polyline))]
 fn put_polyline(out: &mut Vec<u8>, class: &str, points: &[Point]) -> Result<(), AllocError>
     ensures { OnOk result (out.new.items ≡ with_polyline class.now points.now out.old.items) }
 {

@@ -1,14 +1,18 @@
 //! What a drive does, as a ribbon over the columns.
 
-ghost use Rattle.std.specs.Prelude.{◌≡◌, OnOk};
+ghost use Rattle.std.specs.Prelude.{◌≡◌, true, fold, IfOk, OnOk};
+ghost use Rattle.std.specs.List.{list_all};
+ghost use Rattle.picture_sheet.specs.declared.cells.TheConstants.{LETTERS};
+ghost use Rattle.picture_scene.specs.Stretches.{next_number, numbered};
+ghost use Rattle.picture_motion.specs.Ribbons.{pattern_of, meaning_of, is_as_often, is_same, with_times, between, with_meaning, with_meaning_in, with_meanings, with_sign, with_letter, with_part, with_letters, with_stretch, is_busy, with_motion, with_ribbon};
 
-use drive_pictures::{Cell, Letter};
+use drive_pictures::{Letter, Tally, plus};
 use picture_markup::{Markup, Route};
 use picture_scene::{
     LEFT, Scene, Stretch, add, at, begin_span, cell_at, end_group, end_title, part_of, stretches,
     sub,
 };
-use picture_sheet::{LETTERS, count_of, is_same_tally, letter_sign};
+use picture_sheet::{LETTERS, count_of, letter_sign};
 use run_picture::Column;
 use std::alloc::{AllocError, Global};
 
@@ -27,7 +31,9 @@ static STACK: [Letter; 10] = [
 ];
 
 /// The name of a letter's pattern.
-pub fn pattern_of(letter: Letter) -> &'static str {
+pub fn pattern_of(letter: Letter) -> &'static str
+    ensures { result.now ≡ pattern_of letter }
+{
     match letter {
         Letter::Arrived => "a",
         Letter::Ready => "w",
@@ -38,7 +44,9 @@ pub fn pattern_of(letter: Letter) -> &'static str {
 }
 
 /// What a letter says.
-fn meaning_of(letter: Letter) -> &'static str {
+fn meaning_of(letter: Letter) -> &'static str
+    ensures { result.now ≡ meaning_of letter }
+{
     match letter {
         Letter::Idle => "idle",
         Letter::Seeks => "arm moves",
@@ -54,55 +62,156 @@ fn meaning_of(letter: Letter) -> &'static str {
     }
 }
 
-/// A drive does the same in both columns.
-fn is_same(column: &Column, other: &Column, unit: u8) -> bool {
-    column.head.events == other.head.events
-        && is_same_tally(&cell_at(column, unit).tally, &cell_at(other, unit).tally)
+/// Each letter of a drive is as often in both columns.
+fn is_as_often(column: &Column, next: &Column, unit: u8) -> bool
+    ensures { result ≡ list_all (is_as_often unit column.now next.now) LETTERS }
+{
+    let here = cell_at(column, unit).tally;
+    let there = cell_at(next, unit).tally;
+    let (events, others) = (column.head.events, next.head.events);
+    LETTERS.iter().all(|letter| count_of(&here, events, *letter)
+        == count_of(&there, others, *letter))
+}
+
+/// A drive does the same in both columns: of as many events, each letter is as often.
+#[tactic(auto, unfolding(crate::specs::Ribbons::is_same))]
+fn is_same(column: &Column, next: &Column, unit: u8) -> bool
+    ensures { result ≡ is_same unit column.now next.now }
+{
+    column.head.events == next.head.events && is_as_often(column, next, unit)
+}
+
+/// The number of the second column, where that of the first is given.
+fn next_key(columns: &[Column], unit: u8, key: u64) -> u64
+    ensures { result ≡ next_number (is_same unit) key columns.now }
+{
+    match columns {
+        [column, next, ..] => {
+            if is_same(column, next, unit) {
+                key
+            } else {
+                plus(key, 1)
+            }
+        }
+        _ => key,
+    }
 }
 
 /// Numbers, one a column, that are equal where a drive does the same in columns side by side.
-fn ribbon_keys(alloc: Global, columns: &[Column], unit: u8) -> Result<Vec<u64>, AllocError> {
+fn ribbon_keys(alloc: Global, columns: &[Column], unit: u8) -> Result<Vec<u64>, AllocError>
+    ensures { IfOk result (λ keys. keys.items ≡ numbered (is_same unit) 0 columns.now) }
+{
     let mut keys = Vec::new(alloc);
     let mut key: u64 = 0;
-    let mut before: Option<&Column> = None;
-    for column in columns.iter() {
-        if let Some(other) = before {
-            if !is_same(column, other, unit) {
-                key = key.saturating_add(1);
-            }
-        }
+    for column in 0..columns.len() {
         keys.push(key)?;
-        before = Some(column);
+        key = next_key(&columns[column..], unit, key);
     }
     Ok(keys)
 }
 
-/// What a drive does in a column, in words.
-fn put_meanings(
+/// Puts, where a column is several events, behind how many a letter stands.
+fn put_times(out: &mut Markup<'_>, single: bool, count: u64) -> Result<(), AllocError>
+    ensures stands { OnOk result (out.new.stands ≡ out.old.stands) }
+    ensures text { OnOk result (out.new.text ≡ with_times single count out.old.text) }
+{
+    if single {
+        Ok(())
+    } else {
+        out.word(" ")?;
+        out.number(count)
+    }
+}
+
+/// What stands in front of the first words, and between words.
+fn between(first: bool) -> &'static str
+    ensures { result.now ≡ between first }
+{
+    if first { ": " } else { ", " }
+}
+
+/// Puts what a letter says, if it stands behind an event; and whether the next are the first words.
+#[tactic(auto, unfolding(crate::specs::Ribbons::with_meaning))]
+fn put_meaning(
     out: &mut Markup<'_>,
-    cell: &Cell,
+    letter: Letter,
+    count: u64,
+    single: bool,
+    first: bool,
+) -> Result<bool, AllocError>
+    ensures stands { OnOk result (out.new.stands ≡ out.old.stands) }
+    ensures words { IfOk result (λ next. with_meaning count single (record { first = first; text = out.old.text }) letter ≡ record { first = next; text = out.new.text }) }
+{
+    if count > 0 {
+        out.word(between(first))?;
+        out.word(meaning_of(letter))?;
+        put_times(out, single, count)?;
+        Ok(false)
+    } else {
+        Ok(first)
+    }
+}
+
+/// What some letters say of a drive in a column.
+fn put_letters(
+    out: &mut Markup<'_>,
+    letters: &[Letter],
+    tally: &Tally,
     events: u64,
-    by_event: bool,
+    single: bool,
 ) -> Result<(), AllocError>
-    ensures { OnOk result (out.new ≡ out.old) }
+    ensures stands { OnOk result (out.new.stands ≡ out.old.stands) }
+    ensures text { OnOk result (out.new.text ≡ (fold (with_meaning_in tally.now events single) (record { first = true; text = out.old.text }) letters.now).text) }
 {
     let mut first = true;
-    for letter in LETTERS.iter() {
-        let count = count_of(&cell.tally, events, *letter);
-        if count > 0 {
-            out.word(if first { ": " } else { ", " })?;
-            out.word(meaning_of(*letter))?;
-            first = false;
-            if !by_event {
-                out.word(" ")?;
-                out.number(count)?;
-            }
-        }
+    for letter in letters.iter() {
+        first = put_meaning(
+            out,
+            *letter,
+            count_of(tally, events, *letter),
+            single,
+            first,
+        )?;
     }
     Ok(())
 }
 
+/// What a drive does in a column, in words.
+#[tactic(auto, unfolding(crate::specs::Ribbons::with_meanings))]
+fn put_meanings(
+    out: &mut Markup<'_>,
+    tally: &Tally,
+    events: u64,
+    single: bool,
+) -> Result<(), AllocError>
+    ensures stands { OnOk result (out.new.stands ≡ out.old.stands) }
+    ensures text { OnOk result (out.new.text ≡ with_meanings tally.now events single out.old.text) }
+{
+    put_letters(out, &LETTERS, tally, events, single)
+}
+
+/// The sign of a letter, where a column is one event and there is room.
+fn draw_sign(
+    out: &mut Markup<'_>,
+    scene: &Scene<'_, '_>,
+    stretch: Stretch,
+    letter: Letter,
+    y: u32,
+    signed: bool,
+) -> Result<(), AllocError>
+    ensures stands { OnOk result (out.new.stands ≡ out.old.stands) }
+    ensures text { OnOk result (out.new.text ≡ with_sign signed scene.now stretch letter y out.old.text) }
+{
+    if signed {
+        let x = add(scene.frame.x(stretch.from), scene.width(stretch) / 2);
+        out.text("m b c l", at(x, add(y, 13)), letter_sign(letter))
+    } else {
+        Ok(())
+    }
+}
+
 /// A letter's part of a stretch, from its lower edge to its upper.
+#[tactic(auto, unfolding(crate::specs::Ribbons::with_letter))]
 fn draw_letter(
     out: &mut Markup<'_>,
     scene: &Scene<'_, '_>,
@@ -112,69 +221,116 @@ fn draw_letter(
     high: u32,
     y: u32,
 ) -> Result<(), AllocError>
-    ensures { OnOk result (out.new ≡ out.old) }
+    ensures stands { OnOk result (out.new.stands ≡ out.old.stands) }
+    ensures text { OnOk result (out.new.text ≡ with_letter scene.now stretch letter low high y out.old.text) }
 {
-    let x = scene.frame.x(stretch.from);
+    let corner = at(scene.frame.x(stretch.from), sub(add(y, 18), high));
     let width = scene.width(stretch);
-    let corner = at(x, sub(add(y, 18), high));
-    out.rect("r", corner, width, sub(high, low), Some(pattern_of(letter)))?;
-    if scene.sheet.is_by_event() && width >= 12 {
-        let middle = at(add(x, width / 2), add(y, 13));
-        out.text("m b c l", middle, letter_sign(letter))?;
+    let height = sub(high, low);
+    out.rect("r", corner, width, height, Some(pattern_of(letter)))?;
+    let signed = scene.sheet.is_by_event() && width >= 12;
+    draw_sign(out, scene, stretch, letter, y, signed)
+}
+
+/// A letter's part of a stretch, as high as it has events, upon what is below; and the events below the next.
+#[tactic(auto, unfolding(crate::specs::Ribbons::with_part))]
+fn draw_part(
+    out: &mut Markup<'_>,
+    scene: &Scene<'_, '_>,
+    stretch: Stretch,
+    letter: Letter,
+    count: u64,
+    below: u64,
+    y: u32,
+) -> Result<u64, AllocError>
+    ensures stands { OnOk result (out.new.stands ≡ out.old.stands) }
+    ensures pile { IfOk result (λ next. with_part scene.now stretch count y (record { below = below; text = out.old.text }) letter ≡ record { below = next; text = out.new.text }) }
+{
+    if count > 0 {
+        let events = scene.size(stretch.from);
+        let above = plus(below, count);
+        let low = part_of(18, below, events);
+        let high = part_of(18, above, events);
+        draw_letter(out, scene, stretch, letter, low, high, y)?;
+        Ok(above)
+    } else {
+        Ok(below)
     }
-    Ok(())
 }
 
 /// The letters of a stretch.
+#[tactic(auto, unfolding(crate::specs::Ribbons::with_letters))]
 fn draw_letters(
     out: &mut Markup<'_>,
     scene: &Scene<'_, '_>,
     stretch: Stretch,
-    cell: &Cell,
+    tally: &Tally,
     y: u32,
 ) -> Result<(), AllocError>
-    ensures { OnOk result (out.new ≡ out.old) }
+    ensures stands { OnOk result (out.new.stands ≡ out.old.stands) }
+    ensures text { OnOk result (out.new.text ≡ with_letters scene.now stretch tally.now y out.old.text) }
 {
     let events = scene.size(stretch.from);
     let mut below: u64 = 0;
     for letter in STACK.iter() {
-        let count = count_of(&cell.tally, events, *letter);
-        if count > 0 {
-            let low = part_of(18, below, events);
-            below = below.saturating_add(count);
-            let high = part_of(18, below, events);
-            draw_letter(out, scene, stretch, *letter, low, high, y)?;
-        }
+        let count = count_of(tally, events, *letter);
+        below = draw_part(out, scene, stretch, *letter, count, below, y)?;
     }
     Ok(())
 }
 
 /// A stretch in which a drive does the same.
+#[tactic(auto, unfolding(crate::specs::Ribbons::with_stretch))]
 fn draw_stretch(
     out: &mut Markup<'_>,
     scene: &Scene<'_, '_>,
     stretch: Stretch,
-    cell: &Cell,
+    tally: &Tally,
     y: u32,
 ) -> Result<(), AllocError>
-    ensures { OnOk result (out.new ≡ out.old) }
+    ensures stands { OnOk result (out.new.stands ≡ out.old.stands) }
+    ensures text { OnOk result (out.new.text ≡ with_stretch scene.now y stretch tally.now out.old.text) }
 {
     let events = scene.size(stretch.from);
     begin_span(out, scene, stretch.from, stretch.to)?;
-    put_meanings(out, cell, events, scene.sheet.is_by_event())?;
+    put_meanings(out, tally, events, scene.sheet.is_by_event())?;
     end_title(out)?;
-    draw_letters(out, scene, stretch, cell, y)?;
+    draw_letters(out, scene, stretch, tally, y)?;
     end_group(out)
 }
 
 /// A drive is not idle behind some event of a column.
-fn is_busy(cell: &Cell, events: u64) -> bool {
+#[tactic(auto, unfolding(crate::specs::Ribbons::is_busy))]
+fn is_busy(tally: &Tally, events: u64) -> bool
+    ensures { result ≡ is_busy tally.now events }
+{
     STACK
         .iter()
-        .any(|letter| count_of(&cell.tally, events, *letter) > 0)
+        .any(|letter| count_of(tally, events, *letter) > 0)
+}
+
+/// A stretch in which a drive does the same, if it is not idle.
+#[tactic(auto, unfolding(crate::specs::Ribbons::with_motion))]
+fn draw_motion(
+    out: &mut Markup<'_>,
+    scene: &Scene<'_, '_>,
+    unit: u8,
+    stretch: Stretch,
+    y: u32,
+) -> Result<(), AllocError>
+    ensures stands { OnOk result (out.new.stands ≡ out.old.stands) }
+    ensures text { OnOk result (out.new.text ≡ with_motion scene.now unit y out.old.text stretch) }
+{
+    let cell = scene.cell(unit, stretch.from);
+    if is_busy(&cell.tally, scene.size(stretch.from)) {
+        draw_stretch(out, scene, stretch, &cell.tally, y)
+    } else {
+        Ok(())
+    }
 }
 
 /// What a drive does.
+#[tactic(auto, unfolding(crate::specs::Ribbons::with_ribbon))]
 pub fn draw_ribbon(
     alloc: Global,
     out: &mut Markup<'_>,
@@ -182,7 +338,8 @@ pub fn draw_ribbon(
     unit: u8,
     y: u32,
 ) -> Result<(), AllocError>
-    ensures { OnOk result (out.new ≡ out.old) }
+    ensures stands { OnOk result (out.new.stands ≡ out.old.stands) }
+    ensures text { OnOk result (out.new.text ≡ with_ribbon scene.now unit y out.old.text) }
 {
     let route = Route::Across {
         from: at(LEFT, add(y, 18)),
@@ -190,11 +347,8 @@ pub fn draw_ribbon(
     };
     out.path("g", route)?;
     let keys = ribbon_keys(alloc, scene.columns(), unit)?;
-    for stretch in stretches(alloc, 0, keys.as_slice())?.iter() {
-        let cell = scene.cell(unit, stretch.from);
-        if is_busy(&cell, scene.size(stretch.from)) {
-            draw_stretch(out, scene, *stretch, &cell, y)?;
-        }
+    for stretch in stretches(alloc, keys.as_slice())?.iter() {
+        draw_motion(out, scene, unit, *stretch, y)?;
     }
     Ok(())
 }

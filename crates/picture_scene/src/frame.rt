@@ -1,5 +1,9 @@
 //! Where things stand in a picture.
 
+ghost use Rattle.std.specs.Prelude.{◌≡◌, ◌-◌, length, decimal};
+ghost use Rattle.picture_scene.specs.Frames.{point, add, times, small, part_of, width_of, frame_of, x_of};
+
+use itoa::Buffer;
 use picture_markup::Point;
 
 /// The left edge of the columns.
@@ -23,56 +27,73 @@ pub struct Frame {
 }
 
 /// A sum of coordinates.
-pub fn add(place: u32, more: u32) -> u32 {
+#[tactic(auto, unfolding(crate::specs::Frames::add))]
+pub fn add(place: u32, more: u32) -> u32
+    ensures { result ≡ add place more }
+{
     place.saturating_add(more)
 }
 
 /// A difference of coordinates, which stops at 0.
-pub fn sub(place: u32, less: u32) -> u32 {
+pub fn sub(place: u32, less: u32) -> u32
+    ensures { result ≡ place - less }
+{
     place.saturating_sub(less)
 }
 
 /// A multiple of a coordinate.
-pub fn times(place: u32, count: u32) -> u32 {
+#[tactic(auto, unfolding(crate::specs::Frames::times))]
+pub fn times(place: u32, count: u32) -> u32
+    ensures { result ≡ times place count }
+{
     place.saturating_mul(count)
 }
 
 /// A point.
-pub fn at(x: u32, y: u32) -> Point {
+pub fn at(x: u32, y: u32) -> Point
+    ensures { result ≡ point x y }
+{
     Point { x, y }
 }
 
 /// A number as a coordinate.
-pub fn small(number: u64) -> u32 {
+#[tactic(auto, unfolding(crate::specs::Frames::small))]
+pub fn small(number: u64) -> u32
+    ensures { result ≡ small number }
+{
     number.min(1_000_000) as u32
 }
 
 /// So much of a height as some events are of all.
-pub fn part_of(height: u64, some: u64, all: u64) -> u32 {
+#[tactic(auto, unfolding(crate::specs::Frames::part_of))]
+pub fn part_of(height: u64, some: u64, all: u64) -> u32
+    ensures { result ≡ part_of height some all }
+{
     small(height.saturating_mul(some) / all.max(1))
 }
 
 /// How many digits a number has.
-pub fn digits(number: u64) -> u32 {
-    let mut digits: u32 = 1;
-    let mut rest = number;
-    for _ in 0..19u32 {
-        if rest >= 10 {
-            rest /= 10;
-            digits = digits.saturating_add(1);
-        }
-    }
-    digits
+pub fn digits(number: u64) -> u32
+    ensures { result ≡ length (decimal number) }
+{
+    let mut buffer = Buffer::new();
+    buffer.format(number).len() as u32
 }
 
 /// How wide a number is written.
-pub fn width_of(number: u64) -> u32 {
+#[tactic(auto, unfolding(crate::specs::Frames::width_of))]
+pub fn width_of(number: u64) -> u32
+    ensures { result ≡ width_of number }
+{
     times(6, digits(number))
 }
 
 impl Frame {
     /// Of so many columns.
-    pub fn new(columns: usize) -> Frame {
+    #[tactic(auto, unfolding(crate::specs::Frames::frame_of))]
+    pub fn new(columns: usize) -> Frame
+        ensures { result ≡ frame_of columns }
+    {
         let count = small(columns as u64);
         let column = WIDEST.min(PLOT / count.max(1));
         let right = add(LEFT, times(count, column));
@@ -86,7 +107,10 @@ impl Frame {
     }
 
     /// The left edge of a column.
-    pub fn x(&self, column: usize) -> u32 {
+    #[tactic(auto, unfolding(crate::specs::Frames::x_of))]
+    pub fn x(&self, column: usize) -> u32
+        ensures { result ≡ x_of self.now column }
+    {
         add(LEFT, times(small(column as u64), self.column))
     }
 }

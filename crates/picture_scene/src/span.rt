@@ -1,8 +1,10 @@
 //! Groups with their tooltips.
 
 ghost use Rattle.std.specs.Prelude.{◌≡◌, OnOk};
+ghost use Rattle.picture_markup.specs.Elements.{with_start, with_end, with_opened};
 ghost use Rattle.picture_markup.specs.Nesting.{started, ended};
 ghost use Rattle.picture_markup.specs.declared.pieces.Element.TheVariants.{Title, Group, Text};
+ghost use Rattle.picture_scene.specs.Groups.{with_group, with_span, with_phrase, with_third, with_sentence, with_sentences, with_sentence_line};
 
 use crate::frame::at;
 use crate::scene::Scene;
@@ -11,8 +13,10 @@ use picture_sheet::{Phrase, Sentence};
 use std::alloc::AllocError;
 
 /// A group and its tooltip begin.
+#[tactic(auto, unfolding(crate::specs::Groups::with_group))]
 pub fn begin_group(out: &mut Markup<'_>) -> Result<(), AllocError>
-    ensures { OnOk result (out.new ≡ started Title (started Group out.old)) }
+    ensures stands { OnOk result (out.new.stands ≡ started Title (started Group out.old.stands)) }
+    ensures text { OnOk result (out.new.text ≡ with_group out.old.text) }
 {
     out.start(Start::Group)?;
     out.start(Start::Title)
@@ -20,21 +24,25 @@ pub fn begin_group(out: &mut Markup<'_>) -> Result<(), AllocError>
 
 /// The tooltip ends.
 pub fn end_title(out: &mut Markup<'_>) -> Result<(), AllocError>
-    ensures { OnOk result (out.new ≡ ended Title out.old) }
+    ensures stands { OnOk result (out.new.stands ≡ ended Title out.old.stands) }
+    ensures text { OnOk result (out.new.text ≡ with_end Title out.old.text) }
 {
     out.end(Element::Title)
 }
 
 /// The group ends.
 pub fn end_group(out: &mut Markup<'_>) -> Result<(), AllocError>
-    ensures { OnOk result (out.new ≡ ended Group out.old) }
+    ensures stands { OnOk result (out.new.stands ≡ ended Group out.old.stands) }
+    ensures text { OnOk result (out.new.text ≡ with_end Group out.old.text) }
 {
     out.end(Element::Group)
 }
 
 /// Words begin, of a class and at a place.
+#[tactic(auto, unfolding(picture_markup::specs::Elements::with_start, picture_markup::specs::Elements::with_opened))]
 pub fn begin_text(out: &mut Markup<'_>, class: &'static str, place: Point) -> Result<(), AllocError>
-    ensures { OnOk result (out.new ≡ started Text out.old) }
+    ensures stands { OnOk result (out.new.stands ≡ started Text out.old.stands) }
+    ensures text { OnOk result (out.new.text ≡ with_opened class.now place out.old.text) }
 {
     out.start(Start::Text {
         class,
@@ -45,35 +53,25 @@ pub fn begin_text(out: &mut Markup<'_>, class: &'static str, place: Point) -> Re
 
 /// They end.
 pub fn end_text(out: &mut Markup<'_>) -> Result<(), AllocError>
-    ensures { OnOk result (out.new ≡ ended Text out.old) }
+    ensures stands { OnOk result (out.new.stands ≡ ended Text out.old.stands) }
+    ensures text { OnOk result (out.new.text ≡ with_end Text out.old.text) }
 {
     out.end(Element::Text)
 }
 
-/// The lines at which a stretch of columns begins and ends.
-fn lines_of(scene: &Scene<'_, '_>, from: usize, to: usize) -> (u32, u32) {
-    let columns = scene.columns();
-    let first = match columns.get(from) {
-        Some(column) => column.head.line,
-        None => 0,
-    };
-    let last = match columns.get(to.saturating_sub(1)) {
-        Some(column) => column.head.last_line,
-        None => 0,
-    };
-    (first, last)
-}
-
 /// The events and the lines of a stretch of columns.
+#[tactic(auto, unfolding(crate::specs::Groups::with_span))]
 pub(crate) fn put_span(
     out: &mut Markup<'_>,
     scene: &Scene<'_, '_>,
     from: usize,
     to: usize,
 ) -> Result<(), AllocError>
-    ensures { OnOk result (out.new ≡ out.old) }
+    ensures stands { OnOk result (out.new.stands ≡ out.old.stands) }
+    ensures text { OnOk result (out.new.text ≡ with_span scene.now.sheet.now from to out.old.text) }
 {
-    let (first, last) = lines_of(scene, from, to);
+    let first = scene.head(from).line;
+    let last = scene.head(to.saturating_sub(1)).last_line;
     out.word("events ")?;
     out.number(scene.sheet.head(from).saturating_add(1))?;
     out.word(" to ")?;
@@ -92,7 +90,8 @@ pub fn begin_span(
     from: usize,
     to: usize,
 ) -> Result<(), AllocError>
-    ensures { OnOk result (out.new ≡ started Title (started Group out.old)) }
+    ensures stands { OnOk result (out.new.stands ≡ started Title (started Group out.old.stands)) }
+    ensures text { OnOk result (out.new.text ≡ with_span scene.now.sheet.now from to (with_group out.old.text)) }
 {
     begin_group(out)?;
     put_span(out, scene, from, to)
@@ -100,7 +99,8 @@ pub fn begin_span(
 
 /// Words, and the number behind them.
 fn put_phrase(out: &mut Markup<'_>, phrase: Phrase) -> Result<(), AllocError>
-    ensures { OnOk result (out.new ≡ out.old) }
+    ensures stands { OnOk result (out.new.stands ≡ out.old.stands) }
+    ensures text { OnOk result (out.new.text ≡ with_phrase phrase out.old.text) }
 {
     out.word(phrase.word)?;
     out.number(phrase.number)
@@ -108,7 +108,8 @@ fn put_phrase(out: &mut Markup<'_>, phrase: Phrase) -> Result<(), AllocError>
 
 /// The third phrase of a sentence, where it has one.
 fn put_third(out: &mut Markup<'_>, third: Option<Phrase>) -> Result<(), AllocError>
-    ensures { OnOk result (out.new ≡ out.old) }
+    ensures stands { OnOk result (out.new.stands ≡ out.old.stands) }
+    ensures text { OnOk result (out.new.text ≡ with_third third out.old.text) }
 {
     match third {
         Some(phrase) => put_phrase(out, phrase),
@@ -117,8 +118,10 @@ fn put_third(out: &mut Markup<'_>, third: Option<Phrase>) -> Result<(), AllocErr
 }
 
 /// A sentence.
+#[tactic(auto, unfolding(crate::specs::Groups::with_sentence))]
 pub fn put_sentence(out: &mut Markup<'_>, sentence: Sentence) -> Result<(), AllocError>
-    ensures { OnOk result (out.new ≡ out.old) }
+    ensures stands { OnOk result (out.new.stands ≡ out.old.stands) }
+    ensures text { OnOk result (out.new.text ≡ with_sentence sentence out.old.text) }
 {
     put_phrase(out, sentence.first)?;
     put_phrase(out, sentence.second)?;
@@ -127,12 +130,14 @@ pub fn put_sentence(out: &mut Markup<'_>, sentence: Sentence) -> Result<(), Allo
 }
 
 /// Two sentences.
+#[tactic(auto, unfolding(crate::specs::Groups::with_sentences))]
 pub fn put_sentences(
     out: &mut Markup<'_>,
     first: Sentence,
     second: Sentence,
 ) -> Result<(), AllocError>
-    ensures { OnOk result (out.new ≡ out.old) }
+    ensures stands { OnOk result (out.new.stands ≡ out.old.stands) }
+    ensures text { OnOk result (out.new.text ≡ with_sentences first second out.old.text) }
 {
     put_sentence(out, first)?;
     out.word(" ")?;
@@ -140,13 +145,15 @@ pub fn put_sentences(
 }
 
 /// Two sentences in a line of their own.
+#[tactic(auto, unfolding(crate::specs::Groups::with_sentence_line))]
 pub fn text_sentences(
     out: &mut Markup<'_>,
     y: u32,
     first: Sentence,
     second: Sentence,
 ) -> Result<(), AllocError>
-    ensures { OnOk result (out.new ≡ out.old) }
+    ensures stands { OnOk result (out.new.stands ≡ out.old.stands) }
+    ensures text { OnOk result (out.new.text ≡ with_sentence_line y first second out.old.text) }
 {
     begin_text(out, "", at(16, y))?;
     put_sentences(out, first, second)?;

@@ -1,9 +1,10 @@
 -- THE LETTERS OF A DRIVE IN A COLUMN.
-use Rattle.std.specs.Prelude.{ℕ, ◌-◌, ◌==◌, Bool, ◌&&◌}
+use Rattle.std.specs.Prelude.{ℕ, ◌-◌, nat_le, if◌then◌else◌, fold}
 use Rattle.drive_pictures.specs.declared.cells.Tally.{Tally}
 use Rattle.drive_pictures.specs.declared.letters.Letter.{Letter}
 use Rattle.drive_pictures.specs.declared.letters.Letter.TheVariants as letter
 use Rattle.drive_pictures.specs.Counts.{plus}
+use Rattle.picture_sheet.specs.declared.cells.TheConstants.{LETTERS}
 
 -- the events behind which it holds its adapter; and those behind which it does anything else but rest
 abbrev pub holding : Tally → ℕ
@@ -25,3 +26,10 @@ count_of t events letter.Moves = t.moves
 count_of t events letter.Retries = t.retries
 count_of t events letter.Replaces = t.replaces
 count_of t events letter.Moved = t.moved
+
+-- THE LETTER THAT LEADS A COLUMN: of two the one of more events, of as many the second; and so of all, in their order
+unfoldable pub oftener : Tally → ℕ → Letter → Letter → Letter
+oftener t events l other = if nat_le (count_of t events l) (count_of t events other) then other else l
+
+unfoldable pub lead_of : Tally → ℕ → Letter
+lead_of t events = fold (oftener t events) letter.Idle LETTERS

@@ -2,6 +2,7 @@
 use Rattle.std.specs.Prelude.{ℕ, ◌+◌, ◌-◌, ◌*◌, ◌/◌, ◌==◌, min, max, if◌then◌else◌, List, length, codes}
 use Rattle.run_picture.specs.Fold.{drive_at}
 use Rattle.picture_sheet.specs.declared.sheet.Sheet.{Sheet}
+use Rattle.picture_sheet.specs.Words.{kind_word}
 
 -- what stands above a run whose script has no caption
 unfoldable pub no_caption : List ℕ
@@ -20,3 +21,7 @@ column_of sheet event = min ((event - sheet.window.first) / max sheet.window.per
 -- where an arm is before the first column
 abbrev pub arm_before : Sheet → ℕ → ℕ
 arm_before sheet unit = (drive_at sheet.run.now.start unit).arm.cylinder
+
+-- the word of a drive's kind
+abbrev pub kind_of : Sheet → ℕ → List ℕ
+kind_of sheet unit = kind_word (drive_at sheet.run.now.drives unit).kind

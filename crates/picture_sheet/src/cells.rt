@@ -1,9 +1,11 @@
 //! The letters of a drive in a column.
 
-ghost use Rattle.std.specs.Prelude.{◌≡◌};
-ghost use Rattle.picture_sheet.specs.Letters.{holding, waiting, count_of};
+ghost use Rattle.std.specs.Prelude.{◌≡◌, fold};
+ghost use Rattle.run_picture.specs.Fold.{drive_at};
+ghost use Rattle.picture_sheet.specs.Letters.{holding, waiting, count_of, oftener, lead_of};
 
-use drive_pictures::{Letter, Tally};
+use drive_pictures::{Cell, Letter, Tally};
+use run_picture::Column;
 
 /// The letters, in their order.
 pub static LETTERS: [Letter; 11] = [
@@ -65,39 +67,43 @@ pub fn count_of(tally: &Tally, events: u64, letter: Letter) -> u64
     }
 }
 
-/// The letter of most of a column's events; of several such, the last.
-pub fn lead(tally: &Tally, events: u64) -> Letter {
+/// Of two letters the one of more events; the second where they are of as many.
+#[tactic(auto, unfolding(crate::specs::Letters::oftener))]
+fn oftener(tally: &Tally, events: u64, letter: Letter, other: Letter) -> Letter
+    ensures { result ≡ oftener tally.now events letter other }
+{
+    if count_of(tally, events, letter) <= count_of(tally, events, other) {
+        other
+    } else {
+        letter
+    }
+}
+
+/// Of some letters the one of most of a column's events; of several such, the last; idle if none.
+fn oftenest(letters: &[Letter], tally: &Tally, events: u64) -> Letter
+    ensures { result ≡ fold (oftener tally.now events) Letter.Idle letters.now }
+{
     let mut lead = Letter::Idle;
-    let mut most = 0;
-    for letter in LETTERS.iter() {
-        let count = count_of(tally, events, *letter);
-        if count >= most {
-            most = count;
-            lead = *letter;
-        }
+    for letter in letters.iter() {
+        lead = oftener(tally, events, lead, *letter);
     }
     lead
 }
 
-/// The letters on the way to a sector are as many in both.
-fn is_same_way(tally: &Tally, other: &Tally) -> bool {
-    tally.seeks == other.seeks
-        && tally.turns == other.turns
-        && tally.recalibrates == other.recalibrates
-        && tally.offsets == other.offsets
-        && tally.arrived == other.arrived
+/// The letter of most of a column's events; of several such, the last.
+#[tactic(auto, unfolding(crate::specs::Letters::lead_of))]
+pub fn lead(tally: &Tally, events: u64) -> Letter
+    ensures { result ≡ lead_of tally.now events }
+{
+    oftenest(&LETTERS, tally, events)
 }
 
-/// The others are as many in both.
-fn is_same_rest(tally: &Tally, other: &Tally) -> bool {
-    tally.ready == other.ready
-        && tally.moves == other.moves
-        && tally.retries == other.retries
-        && tally.replaces == other.replaces
-        && tally.moved == other.moved
-}
-
-/// Each letter is as often in both.
-pub fn is_same_tally(tally: &Tally, other: &Tally) -> bool {
-    is_same_way(tally, other) && is_same_rest(tally, other)
+/// What is seen of a drive in a column.
+pub fn cell_at(column: &Column, unit: u8) -> Cell
+    ensures { result ≡ (drive_at column.now.drives unit).cell }
+{
+    match column.drives.get(usize::from(unit)) {
+        Some(drive) => drive.cell,
+        None => Cell::new(),
+    }
 }

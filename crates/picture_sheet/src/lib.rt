@@ -3,10 +3,8 @@
 //!
 //! What is proved: `Sheet`: its title, its columns, at which event each begins and which one an event is in, and the drives that are
 //! shown: those that have requests, by their number; `Shown`: which requests are listed; `top_of`: the highest cylinder of a unit;
-//! behind how many of a column's events a letter stands; `sentences`: which words and numbers they say; and each word and sign.
-//! No call fails but for want of memory.
-//!
-//! Only tested, as pictures byte for byte: the letter that leads a column.
+//! behind how many of a column's events a letter stands, and which one leads; `sentences`: which words and numbers they say; and
+//! each word and sign. No call fails but for want of memory.
 #![tactic(auto)]
 
 mod cells;
@@ -15,7 +13,7 @@ mod shown;
 mod summary;
 mod words;
 
-pub use cells::{LETTERS, count_of, holding, is_same_tally, lead};
+pub use cells::{LETTERS, cell_at, count_of, holding, lead};
 pub use sheet::{Note, Sheet};
 pub use shown::{Shown, is_shown, top_of};
 pub use summary::{Phrase, Sentence, sentences};

@@ -1,9 +1,10 @@
 //! A run as a picture shows it.
 
 ghost use Rattle.std.specs.Prelude.{◌≡◌, ◌==◌, ◌++◌, IfOk, OnOk};
-ghost use Rattle.picture_sheet.specs.Window.{no_caption, title_of, head_of, column_of, arm_before};
+ghost use Rattle.picture_sheet.specs.Window.{no_caption, title_of, head_of, column_of, arm_before, kind_of};
 ghost use Rattle.picture_sheet.specs.Units.{has_request, is_drawn, unit_drawn, units_shown};
 
+use crate::words::kind_word;
 use drive_pictures::Request;
 use run_picture::{Column, Run, Window};
 use std::alloc::{AllocError, Global};
@@ -123,6 +124,16 @@ impl<'a> Sheet<'a> {
         match self.run.start().get(usize::from(unit)) {
             Some(drive) => drive.arm.cylinder,
             None => 0,
+        }
+    }
+
+    /// The word of a drive's kind; none where no script declares it.
+    pub fn kind_of(&self, unit: u8) -> &'static str
+        ensures { result.now ≡ kind_of self.now unit }
+    {
+        match self.run.drives().get(usize::from(unit)) {
+            Some(drive) => kind_word(drive.kind),
+            None => "",
         }
     }
 }

@@ -1,1 +1,3 @@
+pub mod Drawings
 pub mod Pictures
+pub mod Tables

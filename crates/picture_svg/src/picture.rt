@@ -2,7 +2,8 @@
 
 ghost use Rattle.std.specs.Prelude.{◌≡◌, IfOk, OnOk};
 ghost use Rattle.picture_markup.specs.Nesting.{told};
-ghost use Rattle.picture_scene.specs.Lines.{lines_of_lanes};
+ghost use Rattle.picture_scene.specs.Lines.{lines_of_lane, lines_of_lanes};
+ghost use Rattle.picture_svg.specs.Drawings.{caption_of, with_names, with_fixed, with_head, is_first, top_of, below, bottom_of, with_first, with_drive, with_drives, height_in, with_drawing};
 ghost use Rattle.picture_svg.specs.Pictures.{IsPicture};
 
 use crate::fixed::FIXED;
@@ -14,7 +15,7 @@ use picture_scene::{
     Frame, Lane, Scene, add, at, begin_text, end_text, lanes_of, put_sentences, small,
     text_sentences, times,
 };
-use picture_sheet::{Sheet, Shown, sentences};
+use picture_sheet::{Sentence, Sheet, Shown, sentences};
 use std::alloc::{AllocError, Global};
 
 /// Where the adapters begin.
@@ -27,38 +28,78 @@ const ADAPTER: u32 = 50;
 const CAPTION: usize = 120;
 
 /// The front of the caption that is drawn.
-fn caption_of<'a>(sheet: &Sheet<'a>) -> &'a [u8] {
+fn caption_of<'a>(sheet: &Sheet<'a>) -> &'a [u8]
+    ensures { result.now ≡ caption_of sheet.now }
+{
     let title = sheet.title();
-    &title[..title.len().min(CAPTION)]
+    &title[..CAPTION.min(title.len())]
+}
+
+/// Where the next drive stands: the adapter of the one before it, if there is one, and how far below the top.
+#[derive(Clone, Copy)]
+struct Place {
+    adapter: Option<u8>,
+    y: u32,
 }
 
 /// A drive stands on another adapter than the one before it.
-fn is_first(lanes: &[Lane], place: usize) -> bool {
-    match (lanes.get(place), lanes.get(place.saturating_sub(1))) {
-        (Some(lane), Some(before)) => place == 0 || lane.unit / 8 != before.unit / 8,
-        _ => true,
+fn is_first(place: Place, lane: &Lane) -> bool
+    ensures { result ≡ is_first place lane.now }
+{
+    match place.adapter {
+        Some(adapter) => adapter != lane.unit / 8,
+        None => true,
+    }
+}
+
+/// Where a drive stands, below its adapter where it is the first of it.
+fn top_of(place: Place, lane: &Lane) -> u32
+    ensures { result ≡ top_of place lane.now }
+{
+    if is_first(place, lane) {
+        add(place.y, ADAPTER)
+    } else {
+        place.y
+    }
+}
+
+/// Where the next drive stands.
+#[tactic(auto, unfolding(crate::specs::Drawings::below))]
+fn below(place: Place, lane: &Lane) -> Place
+    ensures { result ≡ below place lane.now }
+{
+    Place {
+        adapter: Some(lane.unit / 8),
+        y: add(top_of(place, lane), lane.height()),
     }
 }
 
 /// Where the adapters end.
-fn bottom_of(lanes: &[Lane]) -> u32 {
-    let mut y = TOP;
-    for (place, lane) in lanes.iter().enumerate() {
-        if is_first(lanes, place) {
-            y = add(y, ADAPTER);
-        }
-        y = add(y, lane.height());
+fn bottom_of(lanes: &[Lane]) -> u32
+    ensures { result ≡ bottom_of lanes.now }
+{
+    let mut place = Place {
+        adapter: None,
+        y: TOP,
+    };
+    for lane in lanes.iter() {
+        place = below(place, lane);
     }
-    y
+    place.y
 }
 
 /// The title and the sentences of the drawing, which no eye sees.
-fn draw_names<'a>(out: &mut Markup<'a>, scene: &Scene<'_, 'a>) -> Result<(), AllocError>
-    ensures { OnOk result (out.new ≡ out.old) }
+fn draw_names<'a>(
+    out: &mut Markup<'a>,
+    sheet: &Sheet<'a>,
+    sentences: &[Sentence; 4],
+) -> Result<(), AllocError>
+    ensures stands { OnOk result (out.new.stands ≡ out.old.stands) }
+    ensures text { OnOk result (out.new.text ≡ with_names sheet.now sentences.now out.old.text) }
 {
-    let [first, second, third, fourth] = sentences(scene.sheet);
+    let [first, second, third, fourth] = *sentences;
     out.start(Start::Caption)?;
-    out.said(caption_of(scene.sheet))?;
+    out.said(caption_of(sheet))?;
     out.end(Element::Title)?;
     out.start(Start::Desc)?;
     put_sentences(out, first, second)?;
@@ -68,8 +109,10 @@ fn draw_names<'a>(out: &mut Markup<'a>, scene: &Scene<'_, 'a>) -> Result<(), All
 }
 
 /// Style, patterns and legend.
+#[tactic(auto, unfolding(crate::specs::Drawings::with_fixed))]
 fn draw_fixed(out: &mut Markup<'_>) -> Result<(), AllocError>
-    ensures { OnOk result (out.new ≡ out.old) }
+    ensures stands { OnOk result (out.new.stands ≡ out.old.stands) }
+    ensures text { OnOk result (out.new.text ≡ with_fixed out.old.text) }
 {
     for line in FIXED.iter() {
         out.fixed(line)?;
@@ -78,84 +121,108 @@ fn draw_fixed(out: &mut Markup<'_>) -> Result<(), AllocError>
 }
 
 /// What stands above the columns.
-fn draw_head<'a>(out: &mut Markup<'a>, scene: &Scene<'_, 'a>) -> Result<(), AllocError>
-    ensures { OnOk result (out.new ≡ out.old) }
+fn draw_head<'a>(
+    out: &mut Markup<'a>,
+    sheet: &Sheet<'a>,
+    sentences: &[Sentence; 4],
+) -> Result<(), AllocError>
+    ensures stands { OnOk result (out.new.stands ≡ out.old.stands) }
+    ensures text { OnOk result (out.new.text ≡ with_head sheet.now sentences.now out.old.text) }
 {
-    let [first, second, third, fourth] = sentences(scene.sheet);
+    let [first, second, third, fourth] = *sentences;
     begin_text(out, "h", at(16, 28))?;
-    out.said(caption_of(scene.sheet))?;
+    out.said(caption_of(sheet))?;
     end_text(out)?;
     text_sentences(out, 48, first, second)?;
     text_sentences(out, 64, third, fourth)
 }
 
-/// The adapter of a drive, where it is the first of it; and where the drive stands.
+/// The adapter of a drive, where it is the first of it.
 fn draw_first(
     alloc: Global,
     out: &mut Markup<'_>,
     scene: &Scene<'_, '_>,
-    place: usize,
-    adapter: u8,
-    y: u32,
-) -> Result<u32, AllocError>
-    ensures { OnOk result (out.new ≡ out.old) }
+    place: Place,
+    lane: &Lane,
+) -> Result<(), AllocError>
+    ensures stands { OnOk result (out.new.stands ≡ out.old.stands) }
+    ensures text { OnOk result (out.new.text ≡ with_first scene.now place lane.now out.old.text) }
 {
-    if is_first(scene.lanes, place) {
-        draw_adapter(alloc, out, scene, adapter, y)?;
-        Ok(add(y, ADAPTER))
+    if is_first(place, lane) {
+        draw_adapter(alloc, out, scene, lane.unit / 8, place.y)
     } else {
-        Ok(y)
+        Ok(())
     }
 }
 
+/// A drive, below its adapter where it is the first of it; and where the next stands.
+#[tactic(auto, unfolding(crate::specs::Drawings::with_drive))]
+fn draw_drive<'a>(
+    alloc: Global,
+    out: &mut Markup<'a>,
+    scene: &Scene<'_, 'a>,
+    place: Place,
+    lane: &Lane,
+) -> Result<Place, AllocError>
+    ensures stands { OnOk result (out.new.stands ≡ told (lines_of_lane scene.now.sheet.now lane.now) out.old.stands) }
+    ensures drives { IfOk result (λ next. with_drive scene.now (record { place = place; text = out.old.text }) lane.now ≡ record { place = next; text = out.new.text }) }
+{
+    draw_first(alloc, out, scene, place, lane)?;
+    draw_unit(alloc, out, scene, lane, top_of(place, lane))?;
+    Ok(below(place, lane))
+}
+
 /// The drives, each first one of an adapter below that.
+#[tactic(auto, unfolding(crate::specs::Drawings::with_drives))]
 fn draw_drives<'a>(
     alloc: Global,
     out: &mut Markup<'a>,
     scene: &Scene<'_, 'a>,
 ) -> Result<(), AllocError>
-    ensures { OnOk result (out.new ≡ told (lines_of_lanes scene.now.sheet.now scene.now.lanes.now) out.old) }
+    ensures stands { OnOk result (out.new.stands ≡ told (lines_of_lanes scene.now.sheet.now scene.now.lanes.now) out.old.stands) }
+    ensures text { OnOk result (out.new.text ≡ with_drives scene.now out.old.text) }
 {
-    let mut y = TOP;
-    for (place, lane) in scene.lanes.iter().enumerate() {
-        y = draw_first(alloc, out, scene, place, lane.unit / 8, y)?;
-        draw_unit(alloc, out, scene, lane, y)?;
-        y = add(y, lane.height());
+    let mut place = Place {
+        adapter: None,
+        y: TOP,
+    };
+    for lane in scene.lanes.iter() {
+        place = draw_drive(alloc, out, scene, place, lane)?;
     }
     Ok(())
 }
 
-/// What stands in the drawing.
-fn draw_all<'a>(
-    alloc: Global,
-    out: &mut Markup<'a>,
-    scene: &Scene<'_, 'a>,
-    bottom: u32,
-    height: u32,
-) -> Result<(), AllocError>
-    ensures { OnOk result (out.new ≡ told (lines_of_lanes scene.now.sheet.now scene.now.lanes.now) out.old) }
+/// How high the drawing is.
+fn height_in(scene: &Scene<'_, '_>, bottom: u32) -> u32
+    requires { bottom ≡ bottom_of scene.now.lanes.now }
+    ensures { result ≡ height_in scene.now }
 {
-    draw_names(out, scene)?;
-    draw_fixed(out)?;
-    draw_head(out, scene)?;
-    draw_lines(alloc, out, scene, height)?;
-    draw_drives(alloc, out, scene)?;
-    draw_events(out, scene, bottom)?;
-    draw_table(alloc, out, scene, add(bottom, 22))
+    let listed = times(13, small(scene.shown.listed.len() as u64));
+    add(add(bottom, 60), listed)
 }
 
 /// The drawing.
-fn draw<'a>(alloc: Global, out: &mut Markup<'a>, scene: &Scene<'_, 'a>) -> Result<(), AllocError>
-    ensures { OnOk result (out.new ≡ told (lines_of_lanes scene.now.sheet.now scene.now.lanes.now) out.old) }
+#[tactic(auto, unfolding(crate::specs::Drawings::with_drawing))]
+fn draw<'a>(
+    alloc: Global,
+    out: &mut Markup<'a>,
+    scene: &Scene<'_, 'a>,
+    sentences: &[Sentence; 4],
+) -> Result<(), AllocError>
+    ensures stands { OnOk result (out.new.stands ≡ told (lines_of_lanes scene.now.sheet.now scene.now.lanes.now) out.old.stands) }
+    ensures text { OnOk result (out.new.text ≡ with_drawing scene.now sentences.now out.old.text) }
 {
     let bottom = bottom_of(scene.lanes);
-    let listed = times(13, small(scene.shown.listed.len() as u64));
-    let height = add(add(bottom, 60), listed);
-    out.start(Start::Svg {
-        width: scene.frame.width,
-        height,
-    })?;
-    draw_all(alloc, out, scene, bottom, height)?;
+    let height = height_in(scene, bottom);
+    let width = scene.frame.width;
+    out.start(Start::Svg { width, height })?;
+    draw_names(out, scene.sheet, sentences)?;
+    draw_fixed(out)?;
+    draw_head(out, scene.sheet, sentences)?;
+    draw_lines(alloc, out, scene, height)?;
+    draw_drives(alloc, out, scene)?;
+    draw_events(out, scene, bottom)?;
+    draw_table(alloc, out, scene, add(bottom, 22))?;
     out.end(Element::Svg)
 }
 
@@ -165,6 +232,7 @@ pub fn svg(alloc: Global, sheet: &Sheet<'_>) -> Result<Vec<u8>, AllocError>
 {
     let shown = Shown::new(alloc, sheet)?;
     let lanes = lanes_of(alloc, sheet)?;
+    let sentences = sentences(sheet);
     let scene = Scene {
         sheet,
         frame: Frame::new(sheet.columns().len()),
@@ -172,6 +240,6 @@ pub fn svg(alloc: Global, sheet: &Sheet<'_>) -> Result<Vec<u8>, AllocError>
         shown: &shown,
     };
     let mut out = Markup::new(alloc);
-    draw(alloc, &mut out, &scene)?;
+    draw(alloc, &mut out, &scene, &sentences)?;
     out.finish(alloc)
 }

@@ -1,32 +1,44 @@
 //! The requests, in the order asked.
 
-ghost use Rattle.std.specs.Prelude.{◌≡◌, OnOk};
+ghost use Rattle.std.specs.Prelude.{◌≡◌, ◌∷◌, [], map, fold, slice_range, IfOk, OnOk};
+ghost use Rattle.drive_pictures.specs.Requests.{is_ok};
+ghost use Rattle.picture_sheet.specs.Letters.{lead_of};
+ghost use Rattle.run_picture.specs.Fold.{drive_at};
+ghost use Rattle.picture_svg.specs.Tables.{table_name, with_table_names, with_tip, with_cylinder, verb_of, with_asking, with_wait, is_idle, letter_at, lead_bar, with_lead, number_of, lead_in, leads_of, with_leads, with_tick, with_hand, answer_class, turn_class, with_numbers, with_request, with_row, with_count, with_table};
 
 use drive_pictures::{Letter, Outcome, Request};
 use picture_lanes::pattern_of;
 use picture_markup::{Markup, Route};
 use picture_scene::{
-    LABEL, LEFT, Scene, Stretch, add, at, begin_group, begin_text, end_group, end_text, end_title,
-    stretches, sub,
+    LABEL, LEFT, Scene, Stretch, add, at, begin_group, begin_text, cell_at, end_group, end_text,
+    end_title, stretches, sub,
 };
 use picture_sheet::{lead, outcome_word};
+use run_picture::Column;
 use std::alloc::{AllocError, Global};
 
 /// Where the numbers of a request end.
 const ENDS: [u32; 6] = [84, 124, 164, 200, 234, 262];
 
-/// The names of the table's columns.
-fn draw_names(out: &mut Markup<'_>, scene: &Scene<'_, '_>, y: u32) -> Result<(), AllocError>
-    ensures { OnOk result (out.new ≡ out.old) }
+/// What the table is called.
+fn table_name(few: bool) -> &'static str
+    ensures { result.now ≡ table_name few }
 {
-    let beside = scene.frame.beside;
-    let y = add(y, 9);
-    let name = if scene.shown.few {
+    if few {
         "requests, as asked"
     } else {
         "requests with trouble"
-    };
-    out.text("b e", at(LABEL, y), name)?;
+    }
+}
+
+/// The names of the table's columns.
+#[tactic(auto, unfolding(crate::specs::Tables::with_table_names))]
+fn draw_names(out: &mut Markup<'_>, scene: &Scene<'_, '_>, y: u32) -> Result<(), AllocError>
+    ensures stands { OnOk result (out.new.stands ≡ out.old.stands) }
+    ensures text { OnOk result (out.new.text ≡ with_table_names scene.now y out.old.text) }
+{
+    let beside = scene.frame.beside;
+    out.text("b e", at(LABEL, y), table_name(scene.shown.few))?;
     out.text("q", at(beside, y), "answer")?;
     out.text("m q e", at(add(beside, ENDS[0]), y), "done")?;
     out.text("m q e", at(add(beside, ENDS[1]), y), "queued")?;
@@ -37,8 +49,10 @@ fn draw_names(out: &mut Markup<'_>, scene: &Scene<'_, '_>, y: u32) -> Result<(),
 }
 
 /// The tooltip of a request.
+#[tactic(auto, unfolding(crate::specs::Tables::with_tip))]
 fn put_tip(out: &mut Markup<'_>, request: &Request) -> Result<(), AllocError>
-    ensures { OnOk result (out.new ≡ out.old) }
+    ensures stands { OnOk result (out.new.stands ≡ out.old.stands) }
+    ensures text { OnOk result (out.new.text ≡ with_tip request.now out.old.text) }
 {
     out.word("request ")?;
     out.number(u64::from(request.id))?;
@@ -52,7 +66,8 @@ fn put_tip(out: &mut Markup<'_>, request: &Request) -> Result<(), AllocError>
 
 /// The cylinder of a request, where it joined.
 fn put_cylinder(out: &mut Markup<'_>, cylinder: Option<u32>) -> Result<(), AllocError>
-    ensures { OnOk result (out.new ≡ out.old) }
+    ensures stands { OnOk result (out.new.stands ≡ out.old.stands) }
+    ensures text { OnOk result (out.new.text ≡ with_cylinder cylinder out.old.text) }
 {
     match cylinder {
         Some(cylinder) => {
@@ -63,116 +78,230 @@ fn put_cylinder(out: &mut Markup<'_>, cylinder: Option<u32>) -> Result<(), Alloc
     }
 }
 
+/// What a request does, and of a unit.
+fn verb_of(write: bool) -> &'static str
+    ensures { result.now ≡ verb_of write }
+{
+    if write { " write u" } else { " read u" }
+}
+
 /// What a request asks.
-fn draw_label(out: &mut Markup<'_>, request: &Request, y: u32) -> Result<(), AllocError>
-    ensures { OnOk result (out.new ≡ out.old) }
+#[tactic(auto, unfolding(crate::specs::Tables::with_asking))]
+fn draw_asking(out: &mut Markup<'_>, request: &Request, y: u32) -> Result<(), AllocError>
+    ensures stands { OnOk result (out.new.stands ≡ out.old.stands) }
+    ensures text { OnOk result (out.new.text ≡ with_asking request.now y out.old.text) }
 {
     begin_text(out, "m e", at(LABEL, add(y, 9)))?;
     out.number(u64::from(request.id))?;
-    out.word(if request.write { " write u" } else { " read u" })?;
+    out.word(verb_of(request.write))?;
     out.number(u64::from(request.unit))?;
     put_cylinder(out, request.cylinder)?;
     end_text(out)
 }
 
-/// The letters of a request's drive in columns, as numbers, one a column.
-fn lead_keys(
-    alloc: Global,
-    scene: &Scene<'_, '_>,
-    unit: u8,
-    from: usize,
-    to: usize,
-) -> Result<Vec<u64>, AllocError> {
-    let mut keys = Vec::new(alloc);
-    for column in from..to {
-        let letter = lead(&scene.cell(unit, column).tally, scene.size(column));
-        keys.push(letter as u64)?;
-    }
-    Ok(keys)
-}
-
-/// A stretch in which the drive does the same.
-fn draw_stretch(
-    out: &mut Markup<'_>,
-    scene: &Scene<'_, '_>,
-    unit: u8,
-    stretch: Stretch,
-    y: u32,
-) -> Result<(), AllocError>
-    ensures { OnOk result (out.new ≡ out.old) }
-{
-    let letter = lead(
-        &scene.cell(unit, stretch.from).tally,
-        scene.size(stretch.from),
-    );
-    if letter != Letter::Idle {
-        let corner = at(scene.frame.x(stretch.from), add(y, 1));
-        out.rect(
-            "r",
-            corner,
-            scene.width(stretch),
-            10,
-            Some(pattern_of(letter)),
-        )?;
-    }
-    Ok(())
-}
-
 /// The time that a request waits.
+#[tactic(auto, unfolding(crate::specs::Tables::with_wait))]
 fn draw_wait(
     out: &mut Markup<'_>,
     scene: &Scene<'_, '_>,
     request: &Request,
     y: u32,
 ) -> Result<(), AllocError>
-    ensures { OnOk result (out.new ≡ out.old) }
+    ensures stands { OnOk result (out.new.stands ≡ out.old.stands) }
+    ensures text { OnOk result (out.new.text ≡ with_wait scene.now request.now y out.old.text) }
 {
     let asked = scene.at(request.asked);
     let hand = scene.at(scene.in_hand(request));
     if hand > asked {
-        out.rect("w", at(asked, add(y, 4)), sub(hand, asked), 4, None)?;
+        out.rect("w", at(asked, add(y, 4)), sub(hand, asked), 4, None)
+    } else {
+        Ok(())
+    }
+}
+
+/// A number for a letter.
+fn number_of(letter: Letter) -> u64
+    ensures { result ≡ number_of letter }
+{
+    match letter {
+        Letter::Idle => 0,
+        Letter::Seeks => 1,
+        Letter::Turns => 2,
+        Letter::Recalibrates => 3,
+        Letter::Offsets => 4,
+        Letter::Arrived => 5,
+        Letter::Ready => 6,
+        Letter::Moves => 7,
+        Letter::Retries => 8,
+        Letter::Replaces => 9,
+        Letter::Moved => 10,
+    }
+}
+
+/// The number of the letter that leads a drive in a column.
+#[tactic(auto, unfolding(crate::specs::Tables::lead_in))]
+fn lead_in(column: &Column, unit: u8) -> u64
+    ensures { result ≡ lead_in unit column.now }
+{
+    number_of(lead(&cell_at(column, unit).tally, column.head.events))
+}
+
+/// The letters that lead a drive in columns, as numbers.
+fn lead_keys(alloc: Global, columns: &[Column], unit: u8) -> Result<Vec<u64>, AllocError>
+    ensures { IfOk result (λ keys. keys.items ≡ map (lead_in unit) columns.now) }
+{
+    let mut keys = Vec::new(alloc);
+    for column in columns.iter() {
+        keys.push(lead_in(column, unit))?;
+    }
+    Ok(keys)
+}
+
+/// The letter that leads a drive in a column of a number.
+fn letter_at(scene: &Scene<'_, '_>, unit: u8, column: usize) -> Letter
+    ensures { result ≡ letter_at scene.now unit column }
+{
+    lead(&scene.cell(unit, column).tally, scene.size(column))
+}
+
+/// A stretch in which a letter leads, but for an idle one.
+fn draw_bar(
+    out: &mut Markup<'_>,
+    scene: &Scene<'_, '_>,
+    letter: Letter,
+    stretch: Stretch,
+    y: u32,
+) -> Result<(), AllocError>
+    ensures stands { OnOk result (out.new.stands ≡ out.old.stands) }
+    ensures text { OnOk result (out.new.text ≡ lead_bar scene.now letter y stretch out.old.text) }
+{
+    if matches!(letter, Letter::Idle) {
+        Ok(())
+    } else {
+        let corner = at(scene.frame.x(stretch.from), add(y, 1));
+        let width = scene.width(stretch);
+        out.rect("r", corner, width, 10, Some(pattern_of(letter)))
+    }
+}
+
+/// A stretch in which the drive does the same, so many columns behind the first.
+#[tactic(auto, unfolding(crate::specs::Tables::with_lead))]
+fn draw_lead(
+    out: &mut Markup<'_>,
+    scene: &Scene<'_, '_>,
+    unit: u8,
+    from: usize,
+    stretch: Stretch,
+    y: u32,
+) -> Result<(), AllocError>
+    ensures stands { OnOk result (out.new.stands ≡ out.old.stands) }
+    ensures text { OnOk result (out.new.text ≡ with_lead scene.now unit from y out.old.text stretch) }
+{
+    let stretch = stretch.moved(from);
+    let letter = letter_at(scene, unit, stretch.from);
+    draw_bar(out, scene, letter, stretch, y)
+}
+
+/// The columns from one up to another.
+fn columns_in<'a>(scene: &Scene<'_, 'a>, from: usize, to: usize) -> &'a [Column]
+    ensures { result.now ≡ slice_range scene.now.sheet.now.run.now.columns from to }
+{
+    let columns = scene.columns();
+    let (_, behind) = columns.split_at(from.min(columns.len()));
+    let count = to.saturating_sub(from).min(behind.len());
+    &behind[..count]
+}
+
+/// What the drive does in columns from one up to another.
+#[tactic(auto, unfolding(crate::specs::Tables::with_leads))]
+fn draw_leads(
+    alloc: Global,
+    out: &mut Markup<'_>,
+    scene: &Scene<'_, '_>,
+    unit: u8,
+    from: usize,
+    to: usize,
+    y: u32,
+) -> Result<(), AllocError>
+    ensures stands { OnOk result (out.new.stands ≡ out.old.stands) }
+    ensures text { OnOk result (out.new.text ≡ with_leads scene.now unit from to y out.old.text) }
+{
+    let keys = lead_keys(alloc, columns_in(scene, from, to), unit)?;
+    for stretch in stretches(alloc, keys.as_slice())?.iter() {
+        draw_lead(out, scene, unit, from, *stretch, y)?;
     }
     Ok(())
 }
 
-/// The time that it is in hand.
-fn draw_time(
+/// The end of a request, if it ended in the events that are shown.
+fn draw_tick(
+    out: &mut Markup<'_>,
+    scene: &Scene<'_, '_>,
+    request: &Request,
+    y: u32,
+) -> Result<(), AllocError>
+    ensures stands { OnOk result (out.new.stands ≡ out.old.stands) }
+    ensures text { OnOk result (out.new.text ≡ with_tick scene.now request.now y out.old.text) }
+{
+    let ended = scene.ended(request);
+    if ended < scene.sheet.window.last {
+        let from = at(scene.at(ended), y);
+        out.path("k", Route::Tick { from })
+    } else {
+        Ok(())
+    }
+}
+
+/// The time that a request is in hand.
+#[tactic(auto, unfolding(crate::specs::Tables::with_hand))]
+fn draw_hand(
     alloc: Global,
     out: &mut Markup<'_>,
     scene: &Scene<'_, '_>,
     request: &Request,
     y: u32,
 ) -> Result<(), AllocError>
-    ensures { OnOk result (out.new ≡ out.old) }
+    ensures stands { OnOk result (out.new.stands ≡ out.old.stands) }
+    ensures text { OnOk result (out.new.text ≡ with_hand scene.now request.now y out.old.text) }
 {
     let from = scene.sheet.column_of(scene.in_hand(request));
     let to = scene.sheet.column_of(scene.ended(request));
-    let keys = lead_keys(alloc, scene, request.unit, from, to)?;
-    for stretch in stretches(alloc, from, keys.as_slice())?.iter() {
-        draw_stretch(out, scene, request.unit, *stretch, y)?;
-    }
-    if scene.ended(request) < scene.sheet.window.last {
-        let from = at(scene.at(scene.ended(request)), y);
-        out.path("k", Route::Tick { from })?;
-    }
-    Ok(())
+    draw_leads(alloc, out, scene, request.unit, from, to, y)?;
+    draw_tick(out, scene, request, y)
 }
 
-/// The numbers of a request.
+/// How an answer is drawn.
+fn answer_class(outcome: Outcome) -> &'static str
+    ensures { result.now ≡ answer_class (is_ok outcome) }
+{
+    match outcome {
+        Outcome::Ok => "m",
+        _ => "m x",
+    }
+}
+
+/// How a turn is drawn.
+fn turn_class(out_of_order: bool) -> &'static str
+    ensures { result.now ≡ turn_class out_of_order }
+{
+    if out_of_order { "m e b" } else { "m e" }
+}
+
+/// The answer of a request, and its numbers.
+#[tactic(auto, unfolding(crate::specs::Tables::with_numbers))]
 fn draw_numbers(
     out: &mut Markup<'_>,
     scene: &Scene<'_, '_>,
     request: &Request,
     y: u32,
 ) -> Result<(), AllocError>
-    ensures { OnOk result (out.new ≡ out.old) }
+    ensures stands { OnOk result (out.new.stands ≡ out.old.stands) }
+    ensures text { OnOk result (out.new.text ≡ with_numbers scene.now.frame request.now y out.old.text) }
 {
     let beside = scene.frame.beside;
-    let turn = if request.is_out_of_order() {
-        "m e b"
-    } else {
-        "m e"
-    };
+    let outcome = request.outcome;
+    let turn = turn_class(request.is_out_of_order());
+    out.text(answer_class(outcome), at(beside, y), outcome_word(outcome))?;
     out.text_number("m e", at(add(beside, ENDS[0]), y), request.done)?;
     out.text_number("m e", at(add(beside, ENDS[1]), y), request.queued())?;
     out.text_number("m e", at(add(beside, ENDS[2]), y), request.times.way)?;
@@ -181,28 +310,8 @@ fn draw_numbers(
     out.text_number(turn, at(add(beside, ENDS[5]), y), request.turn)
 }
 
-/// The answer of a request.
-fn draw_answer(
-    out: &mut Markup<'_>,
-    scene: &Scene<'_, '_>,
-    request: &Request,
-    y: u32,
-) -> Result<(), AllocError>
-    ensures { OnOk result (out.new ≡ out.old) }
-{
-    let class = if request.outcome == Outcome::Ok {
-        "m"
-    } else {
-        "m x"
-    };
-    out.text(
-        class,
-        at(scene.frame.beside, y),
-        outcome_word(request.outcome),
-    )
-}
-
 /// A request.
+#[tactic(auto, unfolding(crate::specs::Tables::with_request))]
 fn draw_request(
     alloc: Global,
     out: &mut Markup<'_>,
@@ -210,42 +319,66 @@ fn draw_request(
     request: &Request,
     y: u32,
 ) -> Result<(), AllocError>
-    ensures { OnOk result (out.new ≡ out.old) }
+    ensures stands { OnOk result (out.new.stands ≡ out.old.stands) }
+    ensures text { OnOk result (out.new.text ≡ with_request scene.now request.now y out.old.text) }
 {
-    let route = Route::Across {
-        from: at(LEFT, add(y, 12)),
-        to: scene.frame.right,
-    };
+    let from = at(LEFT, add(y, 12));
+    let to = scene.frame.right;
     begin_group(out)?;
     put_tip(out, request)?;
     end_title(out)?;
-    out.path("g", route)?;
-    draw_label(out, request, y)?;
+    out.path("g", Route::Across { from, to })?;
+    draw_asking(out, request, y)?;
     draw_wait(out, scene, request, y)?;
-    draw_time(alloc, out, scene, request, y)?;
-    draw_answer(out, scene, request, add(y, 9))?;
+    draw_hand(alloc, out, scene, request, y)?;
     draw_numbers(out, scene, request, add(y, 9))?;
     end_group(out)
 }
 
+/// A request below the one before it; and where it stands.
+#[tactic(auto, unfolding(crate::specs::Tables::with_row))]
+fn draw_row(
+    alloc: Global,
+    out: &mut Markup<'_>,
+    scene: &Scene<'_, '_>,
+    request: &Request,
+    y: u32,
+) -> Result<u32, AllocError>
+    ensures stands { OnOk result (out.new.stands ≡ out.old.stands) }
+    ensures rows { IfOk result (λ below. with_row scene.now (record { y = y; text = out.old.text }) request.now ≡ record { y = below; text = out.new.text }) }
+{
+    let below = add(y, 13);
+    draw_request(alloc, out, scene, request, below)?;
+    Ok(below)
+}
+
+/// How many requests there are, where not all are listed.
+fn draw_count(out: &mut Markup<'_>, few: bool, count: u64, y: u32) -> Result<(), AllocError>
+    ensures stands { OnOk result (out.new.stands ≡ out.old.stands) }
+    ensures text { OnOk result (out.new.text ≡ with_count few count y out.old.text) }
+{
+    if few {
+        Ok(())
+    } else {
+        out.text_with("q e", at(LABEL, add(y, 22)), "of ", count)
+    }
+}
+
 /// The requests that are listed.
+#[tactic(auto, unfolding(crate::specs::Tables::with_table))]
 pub(crate) fn draw_table(
     alloc: Global,
     out: &mut Markup<'_>,
     scene: &Scene<'_, '_>,
     y: u32,
 ) -> Result<(), AllocError>
-    ensures { OnOk result (out.new ≡ out.old) }
+    ensures stands { OnOk result (out.new.stands ≡ out.old.stands) }
+    ensures text { OnOk result (out.new.text ≡ with_table scene.now y out.old.text) }
 {
-    draw_names(out, scene, y)?;
+    draw_names(out, scene, add(y, 9))?;
     let mut y = y;
     for request in scene.shown.listed.iter() {
-        y = add(y, 13);
-        draw_request(alloc, out, scene, request, y)?;
+        y = draw_row(alloc, out, scene, request, y)?;
     }
-    if !scene.shown.few {
-        let count = scene.shown.count as u64;
-        out.text_with("q e", at(LABEL, add(y, 22)), "of ", count)?;
-    }
-    Ok(())
+    draw_count(out, scene.shown.few, scene.shown.count as u64, y)
 }

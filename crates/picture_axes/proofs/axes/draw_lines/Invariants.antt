@@ -1,5 +1,10 @@
-use Rattle.std.proofs.Common.{◌≡◌}
+use Rattle.std.proofs.Common.{◌≡◌, take, fold}
+use Rattle.std.specs.Prelude.{codes}
+use Rattle.picture_axes.specs.Axes.{with_stretch}
 use Rattle.picture_axes.proofs.axes.draw_lines.Given as goal
 
 abbrev pub invariant-loop-stretch : goal.invariant-loop-stretch
-invariant-loop-stretch l = l.out ≡ l.initial.out
+invariant-loop-stretch l = record {
+  stands : l.out.stands ≡ l.initial.out.stands;
+  row : fold (with_stretch l.scene l.height) (record { free = 0; text = l.initial.out.text }) (take l.stretch-index l.stretch-items) ≡ record { free = l.free; text = l.out.text };
+}

@@ -1,0 +1,3 @@
+pub mod Panels
+pub mod Signs
+pub mod Strips

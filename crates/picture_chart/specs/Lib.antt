@@ -1,0 +1,3 @@
+pub mod Legends
+pub mod Pages
+pub mod Tables

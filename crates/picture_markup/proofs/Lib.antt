@@ -1,0 +1,3 @@
+mod Cutting
+mod Points
+pub mod Telling
