@@ -26,7 +26,8 @@ use Rattle.driver_work.proofs.Calls.{event_works}
 use Rattle.driver_work.proofs.Next.{next_can}
 use Rattle.driver_invariant.proofs.Sound.{sound_after}
 use Rattle.driver_trace.specs.Runs.{IsDraining, with_call}
-use Rattle.driver_trace.specs.Calls.{IsTold, IsReadOf}
+use Rattle.driver_trace.specs.Calls.{IsReadOf}
+use Rattle.driver_trace.proofs.Telling.{IsTold}
 use Rattle.driver_trace.proofs.Named.{IsTriedOn}
 use Rattle.driver_trace.proofs.Inputted.{lines_play_nothing}
 use Rattle.driver_trace.proofs.ReadSectors.{tried_on}

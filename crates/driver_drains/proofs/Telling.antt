@@ -16,7 +16,8 @@ use Rattle.driver_due.proofs.DueFacts.{false_true}
 use Rattle.driver_work.specs.Runs.{Run, CanCome}
 use Rattle.driver_outcome.specs.Packs.{packs_after_all}
 use Rattle.driver_trace.specs.Within.{Rests}
-use Rattle.driver_trace.specs.Calls.{IsSurfaceOf, Ends, IsTold}
+use Rattle.driver_trace.specs.Calls.{IsSurfaceOf, Ends}
+use Rattle.driver_trace.proofs.Telling.{IsTold}
 use Rattle.driver_trace.proofs.Named.{act_named, IsTriedOn}
 use Rattle.driver_trace.proofs.Starting.{wish_resting}
 use Rattle.driver_trace.proofs.Events.{can_attend_is, not_drained}

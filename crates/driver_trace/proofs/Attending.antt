@@ -11,7 +11,7 @@ use Rattle.driver_machine.specs.declared.Task.{Task}
 use Rattle.driver_machine.specs.declared.Task.TheVariants.{Clear, Judge, Steps, Command, GiveUp}
 use Rattle.driver_machine.specs.World.{World, UnitView, AdapterView, Held, adapter_of, unit_on, unit_of, unit_at, adapter_at, held_in, slot_in_hand}
 use Rattle.driver_machine.specs.Acts as deed
-use Rattle.driver_machine.specs.Acts.{Deed, Of, effect, scene_of, after, after_all}
+use Rattle.driver_machine.specs.Acts.{Deed, effect, scene_of, after, after_all}
 use Rattle.driver_machine.proofs.Measure.{is_resting}
 use Rattle.driver_machine.specs.Events.{and_then, when_by, each, begun, data_interrupt, attention, steps_taken, drives, attended, adapter_start}
 use Rattle.driver_machine.specs.Guards.{IsSetUp}
@@ -23,7 +23,8 @@ use Rattle.driver_work.proofs.Deeds.{deed_at, own_adapter}
 use Rattle.driver_work.proofs.Due.{begun_one}
 use Rattle.driver_work.proofs.Calls.{IsServing, serving}
 use Rattle.driver_replay.specs.Shows.{is_coming}
-use Rattle.driver_trace.specs.Within.{Rests, Tells}
+use Rattle.driver_trace.specs.Within.{Rests}
+use Rattle.driver_trace.proofs.Telling.{Tells}
 use Rattle.driver_trace.proofs.Joined.{nothing_told, then_tells, tells_too}
 use Rattle.driver_trace.proofs.Due.{IsQuiet, rest_quiet}
 use Rattle.driver_trace.proofs.Resting.{Rested, shows_one, begun_told}

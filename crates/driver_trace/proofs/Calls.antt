@@ -20,7 +20,8 @@ use Rattle.driver_work.specs.Runs.{Run, Works, MaySubmit, MayCome}
 use Rattle.driver_work.proofs.Calls.{submit_works, event_works, taken_works}
 use Rattle.driver_invariant.proofs.Sound.{sound_after}
 use Rattle.driver_outcome.specs.Packs.{packs_after_all}
-use Rattle.driver_trace.specs.Calls.{Stands, IsTold}
+use Rattle.driver_trace.specs.Calls.{Stands}
+use Rattle.driver_trace.proofs.Telling.{IsTold}
 use Rattle.driver_trace.proofs.Named.{IsTriedOn}
 use Rattle.driver_trace.specs.Runs.{IsSoFar, IsDraining, IsOfUnits, with_call, EventsGo, SubmissionsGo, AnswersGo, DrainsStart, DrainsGoOn}
 use Rattle.driver_trace.proofs.Inputs.{arrive_played, attend_played}

@@ -11,7 +11,7 @@ use Rattle.trace_replay.specs.Events.{Trying, NothingToDo, NoLine, Event, is_no_
 use Rattle.trace_replay.specs.Replay.{Replay, are_at_work, next_wish, drained, act_drained, after_moment, event_of, act_of}
 use Rattle.driver_machine.specs.World.{World, Held, unit_of, adapter_at}
 use Rattle.driver_machine.specs.Acts as deed
-use Rattle.driver_machine.specs.Acts.{Act as MachineAct, Tried, Nothing, scene_of}
+use Rattle.driver_machine.specs.Acts.{Tried, Nothing, scene_of}
 use Rattle.driver_machine.specs.Events.{in_hand, or_nothing, can_move, attended, move_acts, event_acts, next_event}
 use Rattle.driver_machine.specs.Sound.{Sound, AtWork}
 use Rattle.driver_due.proofs.DueFacts.{false_true}
@@ -19,7 +19,8 @@ use Rattle.driver_work.specs.Runs.{Run, CanCome}
 use Rattle.driver_work.proofs.Next.{next_none}
 use Rattle.driver_replay.specs.Shows.{counted_by, outstanding_in, IsOnSurface}
 use Rattle.driver_trace.specs.Within.{Rests}
-use Rattle.driver_trace.specs.Calls.{IsSurfaceOf, Stands, IsOverWithin, Ends, IsTold, IsLeft, AreThere}
+use Rattle.driver_trace.specs.Calls.{IsSurfaceOf, Stands, IsOverWithin, Ends, IsLeft, AreThere}
+use Rattle.driver_trace.proofs.Telling.{IsTold}
 use Rattle.driver_trace.proofs.Named.{act_named, IsTriedOn}
 use Rattle.driver_trace.proofs.Starting.{other_act}
 use Rattle.driver_trace.proofs.Events.{attend_told, idle_told, not_drained, drained_there}

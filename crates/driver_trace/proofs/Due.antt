@@ -15,7 +15,7 @@ use Rattle.trace_replay.specs.Moments as moment
 use Rattle.trace_replay.specs.Events.{DueLine, wish_of, Act, act_after}
 use Rattle.trace_replay.specs.Service.{head_of, first_waiting}
 use Rattle.trace_replay.specs.Conversation as told
-use Rattle.trace_replay.specs.Conversation.{Stage, Hand, goes_on, waits, outcome}
+use Rattle.trace_replay.specs.Conversation.{Stage, Hand, goes_on, outcome}
 use Rattle.trace_replay.specs.Replay.{UnitSeen, hand_of}
 use Rattle.driver_machine.specs.declared.RetryStep.{RetryStep}
 use Rattle.driver_machine.specs.declared.RetryStep.TheVariants as step

@@ -7,20 +7,21 @@ use Rattle.std.proofs.lemmas.Bool.Decides.{eqb_tells}
 use Rattle.pack_model.specs.Pack.{Pack}
 use Rattle.trace_replay.specs.Moments.{Moment}
 use Rattle.trace_replay.specs.Adapters as told
-use Rattle.trace_replay.specs.Events.{Wish, NoLine, IdleLine, wish_in, wanted, is_no_line, Act, Done, Serving, Arriving, Trying, NothingToDo, act_after, serving}
+use Rattle.trace_replay.specs.Events.{NoLine, wanted, is_no_line, Act, Done, Serving, NothingToDo, serving}
 use Rattle.trace_replay.specs.Events as event
 use Rattle.trace_replay.specs.Replay.{Replay, next_wish, act_done, drained, act_drained, after_moments, WorkMay}
 use Rattle.driver_machine.specs.World.{World, unit_on, unit_at, adapter_at}
 use Rattle.driver_machine.specs.Acts as deed
-use Rattle.driver_machine.specs.Acts.{Deed, Of, Nothing, effect, scene_of, after, after_all}
+use Rattle.driver_machine.specs.Acts.{Nothing, after}
 use Rattle.driver_machine.specs.Lines.{lines_of_all}
 use Rattle.driver_machine.specs.Events.{attended, drives, can_attend}
 use Rattle.driver_machine.specs.Sound.{Sound, Among}
 use Rattle.driver_due.proofs.DueFacts.{false_true}
 use Rattle.driver_work.specs.Runs.{Run}
 use Rattle.driver_outcome.specs.Packs.{packs_after_all}
-use Rattle.driver_trace.specs.Within.{within_all, ShowsAll, Rests, Tells}
-use Rattle.driver_trace.specs.Calls.{IsSurfaceOf, IsOverWithin, IsTold}
+use Rattle.driver_trace.specs.Within.{ShowsAll, Rests}
+use Rattle.driver_trace.proofs.Telling.{within_all, Tells, IsTold}
+use Rattle.driver_trace.specs.Calls.{IsSurfaceOf, IsOverWithin}
 use Rattle.driver_trace.proofs.Joined.{Followed, lines_follow, drained_by}
 use Rattle.driver_trace.proofs.Starting.{wish_resting, other_act}
 use Rattle.driver_trace.proofs.Attending.{raised_by, raised_in, are_drives, attended_told}

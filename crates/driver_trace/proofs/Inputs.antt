@@ -6,19 +6,19 @@ use Rattle.hardware_table.specs.Drive.{is_positioning}
 use Rattle.hardware_table.specs.declared.Work.{Work}
 use Rattle.hardware_table.specs.declared.Work.TheVariants as doing
 use Rattle.trace_replay.specs.Moments as moment
-use Rattle.trace_replay.specs.Moments.{Moment, Played}
+use Rattle.trace_replay.specs.Moments.{Played}
 use Rattle.trace_replay.specs.Script as script
 use Rattle.trace_replay.specs.Script.{Input}
-use Rattle.trace_replay.specs.Events.{Wish, NoLine, IdleLine, wish_in, wanted, is_no_line, Act, Done, Serving, Arriving, Trying, NothingToDo, act_after, Event}
+use Rattle.trace_replay.specs.Events.{is_no_line, Act, Done, Arriving, NothingToDo, Event}
 use Rattle.trace_replay.specs.Events as event
-use Rattle.trace_replay.specs.Replay.{UnitSeen, Replay, next_wish, drained, after_moment, after_moments, Follows, act_of, event_of, is_drain, replay_played}
+use Rattle.trace_replay.specs.Replay.{Replay, after_moment, act_of, event_of, is_drain}
 use Rattle.driver_machine.specs.declared.Phase.{Phase}
 use Rattle.driver_machine.specs.declared.Phase.TheVariants.{Waiting, Positioning, Queued, Transferring, Due}
 use Rattle.driver_machine.specs.declared.Task.{Task}
 use Rattle.driver_machine.specs.declared.Task.TheVariants.{Clear, Judge, Steps, Command, GiveUp}
 use Rattle.driver_machine.specs.World.{World, UnitView, AdapterView, Held, adapter_of, unit_at, adapter_at, held_in, slot_in_hand}
 use Rattle.driver_machine.specs.Acts as deed
-use Rattle.driver_machine.specs.Acts.{Deed, Of, Change, Nothing, effect, scene_of, with_drive, after, after_all}
+use Rattle.driver_machine.specs.Acts.{Nothing, effect, scene_of, after}
 use Rattle.driver_machine.proofs.Measure.{is_resting}
 use Rattle.driver_machine.specs.Events.{in_hand, can_arrive, can_attend, or_nothing, attended, arrive_acts, attend_acts}
 use Rattle.driver_machine.specs.Guards.{IsSetUp}
@@ -28,8 +28,9 @@ use Rattle.driver_due.proofs.Until.{own_unit, resting}
 use Rattle.driver_work.specs.Runs.{Run}
 use Rattle.driver_work.proofs.Deeds.{deed_at}
 use Rattle.driver_work.proofs.Due.{in_hand_one}
-use Rattle.driver_trace.specs.Within.{Rests, Speaks}
-use Rattle.driver_trace.specs.Calls.{IsSurfaceOf, Stands, IsOverWithin, IsTold}
+use Rattle.driver_trace.specs.Within.{Rests}
+use Rattle.driver_trace.proofs.Telling.{Speaks, IsTold}
+use Rattle.driver_trace.specs.Calls.{IsSurfaceOf, Stands, IsOverWithin}
 use Rattle.driver_trace.proofs.Joined.{tells_too}
 use Rattle.driver_trace.proofs.Due.{IsQuiet, rest_quiet}
 use Rattle.driver_trace.proofs.Speaking.{tells_line}

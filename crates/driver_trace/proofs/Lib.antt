@@ -18,3 +18,4 @@ pub mod Inputted
 pub mod LiveNoises
 pub mod Marks
 pub mod Named
+pub mod Telling

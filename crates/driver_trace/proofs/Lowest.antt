@@ -5,7 +5,7 @@ use Rattle.hardware_table.specs.Drive.{DriveState, is_positioning}
 use Rattle.trace_replay.specs.Script.{Input}
 use Rattle.trace_replay.specs.Adapters as told
 use Rattle.trace_replay.specs.Events as event
-use Rattle.trace_replay.specs.Events.{Act, Done, Arriving, Trying, serving, adapters_there, act_of_attend, act_of_move, act_of_arrival}
+use Rattle.trace_replay.specs.Events.{adapters_there, act_of_attend, act_of_move, act_of_arrival}
 use Rattle.trace_replay.specs.Replay.{Replay, all_units, act_drained}
 use Rattle.driver_machine.specs.World.{World, AdapterView, adapter_of, unit_at, adapter_at, held_in, slot_in_hand, no_unit, new_adapter_view}
 use Rattle.driver_machine.specs.Events.{can_arrive, can_move, can_attend, lowest, drain_by, next_event}

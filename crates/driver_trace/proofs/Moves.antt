@@ -1,6 +1,6 @@
 -- A move: one sector is tried, and the surface stays what the packs hold.
 use Rattle.std.proofs.Common.{◌≡◌, ◌≢◌, ◌⊎◌, inl, inr, ℕ, ◌+◌, ◌-◌, ◌==◌, ◌<◌, ◌≤◌, Bool, true, false, not, ◌&&◌, List, [], ◌∷◌, ◌++◌, take, length, refl, sym, ap, subst, arith, ◌∙◌}
-use Rattle.std.specs.Prelude.{if◌then◌else◌, nat_lt, replicate, IsTrue}
+use Rattle.std.specs.Prelude.{if◌then◌else◌, replicate}
 use Rattle.std.proofs.lemmas.Bool.Decides.{eqb_tells}
 use Rattle.std.proofs.lemmas.List.{take-replicate}
 use Rattle.std.proofs.Math.Seq.{take-append-add}
@@ -14,7 +14,7 @@ use Rattle.hardware_table.specs.Moves.{was_read, was_written}
 use Rattle.hardware_table.specs.Adapter.{AdapterState, next_block, next_window}
 use Rattle.subsystem_spec.specs.Requests.{Request}
 use Rattle.trace_replay.specs.Moments as moment
-use Rattle.trace_replay.specs.Moments.{Moment, Played, Told}
+use Rattle.trace_replay.specs.Moments.{Told}
 use Rattle.trace_replay.specs.Packs.{Surface, this_sector_or, surface_tried, surface_read, surface_written, sector_of_block}
 use Rattle.trace_replay.specs.Service.{in_hand}
 use Rattle.trace_replay.specs.Events.{SectorLine, Trying}
@@ -23,7 +23,7 @@ use Rattle.driver_machine.specs.declared.Phase.{Phase}
 use Rattle.driver_machine.specs.declared.Phase.TheVariants.{Transferring}
 use Rattle.driver_machine.specs.World.{World, UnitView, Held, adapter_of, unit_on, unit_of, unit_at, adapter_at, held_in, slot_in_hand, transfer_of}
 use Rattle.driver_machine.specs.Acts as deed
-use Rattle.driver_machine.specs.Acts.{Deed, Of, Tried, effect, scene_of, after, after_all}
+use Rattle.driver_machine.specs.Acts.{Deed, Of, Tried, effect, scene_of, after}
 use Rattle.driver_machine.proofs.Measure.{is_resting}
 use Rattle.driver_machine.specs.Events.{can_move}
 use Rattle.driver_machine.specs.Events as part
@@ -40,8 +40,9 @@ use Rattle.driver_replay.specs.Shows.{Shows, is_coming, IsOnSurface}
 use Rattle.driver_replay.proofs.Writes.{writes_show}
 use Rattle.driver_replay.proofs.Facts.{At, at_facts}
 use Rattle.driver_replay.proofs.Sector.{IsSector, sector_facts}
-use Rattle.driver_trace.specs.Within.{told_within, Rests}
-use Rattle.driver_trace.specs.Calls.{IsSurfaceOf, IsOverWithin, IsTold}
+use Rattle.driver_trace.specs.Within.{Rests}
+use Rattle.driver_trace.proofs.Telling.{told_within, IsTold}
+use Rattle.driver_trace.specs.Calls.{IsSurfaceOf, IsOverWithin}
 use Rattle.driver_trace.proofs.Joined.{Followed, lines_follow}
 use Rattle.driver_trace.proofs.Due.{IsQuiet, rest_quiet}
 use Rattle.driver_trace.proofs.Speaking.{MayTell, may_follow, then_speaks}

@@ -18,7 +18,8 @@ use Rattle.driver_work.specs.Runs.{Run}
 use Rattle.driver_work.proofs.Deeds.{deed_at}
 use Rattle.driver_work.proofs.Due.{begun_one}
 use Rattle.driver_replay.specs.Shows.{Shows, with_coming, is_coming}
-use Rattle.driver_trace.specs.Within.{ShowsAll, Rests, Speaks, Tells}
+use Rattle.driver_trace.specs.Within.{ShowsAll, Rests}
+use Rattle.driver_trace.proofs.Telling.{Speaks, Tells}
 use Rattle.driver_trace.proofs.Joined.{tells_append, tells_too}
 use Rattle.driver_trace.proofs.Due.{IsQuiet, rest_quiet}
 use Rattle.driver_trace.proofs.Speaking.{IsUntried, MayTell, tells_line, due_turns}

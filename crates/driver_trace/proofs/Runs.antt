@@ -24,7 +24,8 @@ use Rattle.driver_work.specs.Runs.{Run}
 use Rattle.driver_work.proofs.Next.{next_can}
 use Rattle.driver_invariant.proofs.Sound.{sound_after}
 use Rattle.driver_outcome.specs.Packs.{packs_after_all}
-use Rattle.driver_trace.specs.Calls.{Ends, IsTold, IsLeft, AreThere}
+use Rattle.driver_trace.specs.Calls.{Ends, IsLeft, AreThere}
+use Rattle.driver_trace.proofs.Telling.{IsTold}
 use Rattle.driver_trace.proofs.Named.{IsTriedOn}
 use Rattle.driver_trace.specs.Runs.{IsSoFar, IsDraining}
 use Rattle.driver_trace.proofs.Drains.{GoesOn, drain_goes_on, drain_between, drain_begins, drain_idle, event_goes, call_left, drain_left, none_outstanding}

@@ -11,7 +11,7 @@ use Rattle.driver_machine.specs.declared.RetryStep.{RetryStep}
 use Rattle.driver_machine.specs.declared.RetryStep.TheVariants as step
 use Rattle.driver_machine.specs.World.{World, UnitView, Held, adapter_of, unit_at, adapter_at, held_in, slot_in_hand}
 use Rattle.driver_machine.specs.Acts as deed
-use Rattle.driver_machine.specs.Acts.{Deed, Of, Scene, effect, scene_of, after, after_all}
+use Rattle.driver_machine.specs.Acts.{Deed, Of, Scene, effect, scene_of, after}
 use Rattle.driver_machine.specs.Due.{next_of}
 use Rattle.driver_machine.specs.Lines.{deed_told, step_told, lines_with, lines_of_all}
 use Rattle.driver_machine.specs.Events.{go_on, until, next_acts}
@@ -27,7 +27,8 @@ use Rattle.driver_outcome.specs.Packs.{packs_after}
 use Rattle.driver_replay.specs.Shows.{Shows, IsOnSurface}
 use Rattle.driver_replay.specs.Laws.{IsSaid, told_by}
 use Rattle.driver_replay.proofs.EachDeed.{lines_are_said, silent_deeds_show}
-use Rattle.driver_trace.specs.Within.{told_within, within_all, LinesFollow, IsEvent, Speaks, Tells}
+use Rattle.driver_trace.specs.Within.{IsEvent}
+use Rattle.driver_trace.proofs.Telling.{told_within, within_all, LinesFollow, Speaks, Tells}
 use Rattle.driver_trace.proofs.Joined.{nothing_told, then_tells}
 use Rattle.driver_trace.proofs.Due.{IsOwn, told_cases, due_own, own_line, same_raised, due_goes}
 

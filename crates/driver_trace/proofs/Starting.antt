@@ -10,7 +10,7 @@ use Rattle.driver_machine.specs.declared.Phase.{Phase}
 use Rattle.driver_machine.specs.declared.Phase.TheVariants.{Queued}
 use Rattle.driver_machine.specs.World.{World, UnitView, Held, adapter_of, unit_at, adapter_at, held_in, slot_in_hand}
 use Rattle.driver_machine.specs.Acts as deed
-use Rattle.driver_machine.specs.Acts.{Deed, Of, scene_of, after, after_all}
+use Rattle.driver_machine.specs.Acts.{Deed, scene_of, after, after_all}
 use Rattle.driver_machine.specs.Due.{command_of}
 use Rattle.driver_machine.specs.Lines.{deed_told, lines_of_all}
 use Rattle.driver_machine.specs.Events.{Part, go_on, until, begun, choose_by, choose_acts, adapter_start}
@@ -24,7 +24,8 @@ use Rattle.driver_work.proofs.Start.{start_is, no_more}
 use Rattle.driver_invariant.proofs.Sound.{sound_after}
 use Rattle.driver_replay.specs.Shows.{is_coming}
 use Rattle.driver_replay.specs.Laws.{told_by}
-use Rattle.driver_trace.specs.Within.{within_all, Rests, Tells}
+use Rattle.driver_trace.specs.Within.{Rests}
+use Rattle.driver_trace.proofs.Telling.{within_all, Tells}
 use Rattle.driver_trace.specs.Calls.{IsOverWithin}
 use Rattle.driver_trace.proofs.Joined.{nothing_told, then_tells, tells_too}
 use Rattle.driver_trace.proofs.Due.{IsOwn, IsOwnLine, told_cases, own_line}

@@ -12,7 +12,7 @@ use Rattle.disksort.specs.declared.Waiter.{Waiter}
 use Rattle.subsystem_spec.proofs.ServiceOrderRuns.{IsService}
 use Rattle.subsystem_spec.specs.Requests.{Request, Rejection, rejection_answer}
 use Rattle.trace_replay.specs.Moments as moment
-use Rattle.trace_replay.specs.Moments.{Moment, Played, Told}
+use Rattle.trace_replay.specs.Moments.{Moment, Played}
 use Rattle.trace_replay.specs.Script as script
 use Rattle.trace_replay.specs.Script.{Input}
 use Rattle.trace_replay.specs.Service.{cylinder_of, frames_needed}
@@ -34,11 +34,12 @@ use Rattle.driver_work.proofs.Leads.{run_split}
 use Rattle.driver_work.proofs.Start.{until_stop}
 use Rattle.driver_invariant.proofs.Sound.{sound_after}
 use Rattle.driver_outcome.specs.Packs.{packs_after_all}
-use Rattle.driver_replay.specs.Shows.{Shows, is_coming}
+use Rattle.driver_replay.specs.Shows.{Shows}
 use Rattle.driver_replay.specs.Acts.{IsRefused, IsAtWorkFor}
 use Rattle.driver_replay.proofs.Rest.{refusals_show, joins_show, changes_show}
-use Rattle.driver_trace.specs.Within.{within_all, ShowsAll, Rests, Speaks, Tells}
-use Rattle.driver_trace.specs.Calls.{IsSurfaceOf, Stands, IsOverWithin, Ends, IsTold}
+use Rattle.driver_trace.specs.Within.{ShowsAll, Rests}
+use Rattle.driver_trace.proofs.Telling.{within_all, Speaks, Tells, IsTold}
+use Rattle.driver_trace.specs.Calls.{IsSurfaceOf, Stands, IsOverWithin, Ends}
 use Rattle.driver_trace.proofs.Joined.{Followed, lines_follow, then_tells, drained_by}
 use Rattle.driver_trace.proofs.Due.{IsQuiet, rest_quiet}
 use Rattle.driver_trace.proofs.Speaking.{quiet_after}

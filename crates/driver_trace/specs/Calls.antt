@@ -1,20 +1,19 @@
 -- A call of the driver in the replay: its lines follow, and behind them the replay shows the world behind its acts, with the
 -- packs as they are left.
-use Rattle.std.specs.Prelude.{◌≡◌, ℕ, Bool, false, List, filter, ◌&&◌, nat_lt, IsTrue}
+use Rattle.std.specs.Prelude.{◌≡◌, ℕ, Bool, false, filter, ◌&&◌, nat_lt, IsTrue}
 use Rattle.pack_model.specs.Pack.{Pack, block_at, is_marked}
 use Rattle.hardware_table.specs.Adapter.{next_block}
 use Rattle.trace_replay.specs.Script as script
 use Rattle.trace_replay.specs.Script.{Input}
 use Rattle.trace_replay.specs.Events.{Act, NoLine}
-use Rattle.trace_replay.specs.Replay.{Replay, all_units, next_wish, drained, after_moments, Follows}
+use Rattle.trace_replay.specs.Replay.{Replay, all_units, next_wish, drained}
 use Rattle.driver_machine.specs.World.{World, unit_at, adapter_at, unit_of}
 use Rattle.driver_machine.specs.Acts as machine
-use Rattle.driver_machine.specs.Acts.{Tried, after_all}
-use Rattle.driver_machine.specs.Lines.{lines_of_all}
+use Rattle.driver_machine.specs.Acts.{Tried}
 use Rattle.driver_machine.specs.Events.{can_move}
 use Rattle.drive_model.specs.Move.{struck_at}
 use Rattle.trace_replay.specs.Bytes.{ArePlaces}
-use Rattle.driver_outcome.specs.Packs.{IsOfPack, packs_after_all}
+use Rattle.driver_outcome.specs.Packs.{IsOfPack}
 use Rattle.driver_machine.specs.Sound.{Sound, AtWork}
 use Rattle.trace_replay.specs.Conversation.{goes_on}
 use Rattle.driver_trace.specs.Within.{ShowsAll, Rests}
@@ -45,12 +44,6 @@ pub record Ends (line : ℕ) (drains : Bool) (held : ℕ → Pack) (w : World) (
   pub is : s ≡ drained last
   pub over : IsOverWithin line drains w last
   pub packs : IsSurfaceOf held last
-
--- THE LINES of acts follow, and behind them their event is over.
-pub record IsTold (line : ℕ) (drains : Bool) (held : ℕ → Pack) (w : World) (s : Replay) (acts : List machine.Act) : Type 0 where
-  pub follows : Follows s (lines_of_all w acts)
-  pub ends : Ends line drains (packs_after_all w held acts) (after_all w acts) (after_moments s (lines_of_all w acts))
-  pub there : (after_moments s (lines_of_all w acts)).there ≡ s.there
 
 -- THE UNITS that are there are those that are set up.
 abbrev pub AreThere : World → Replay → Type 0

@@ -21,7 +21,7 @@ use Rattle.hp_core.specs.State.{State}
 use Rattle.hp_events.specs.Submissions.{MayRefuse}
 use Rattle.subsystem_spec.specs.declared.request.Request.{Request}
 use Rattle.hp_driver.specs.Subsystem as subsystem
-use Rattle.hp_driver.specs.Subsystem.{seen, asked, Submits, IsAsked}
+use Rattle.hp_driver.specs.Subsystem.{asked, Submits, IsAsked}
 use Rattle.hp_driver.specs.Calls.{Stands, SendsActs, Asks, MayAsk, asked_at}
 use Rattle.hp_driver.proofs.Calls.{left_by, ran_sent, works_sent, no_store}
 use Rattle.hp_driver.proofs.Bytes.{submit_keeps}

@@ -1,9 +1,10 @@
 -- Whatever a call comes to, some acts ran, and they leave what holds between any two acts.
 use Rattle.std.proofs.Common.{◌≡◌, List, length, Option, Some, None, sym, ap, ◌∙◌, subst}
 use Rattle.driver_machine.specs.World.{World}
-use Rattle.driver_machine.specs.Acts.{Act}
+use Rattle.driver_machine.specs.Acts.{Act, after_all}
 use Rattle.driver_machine.specs.Sound.{Sound}
 use Rattle.driver_slots.proofs.Sizes.{sizes_all}
+use Rattle.driver_work.specs.Runs.{Run}
 use Rattle.driver_work.proofs.Leads.{sound_along}
 use Rattle.driver_invariant.proofs.Sound.{sound_after}
 use Rattle.driver_outcome.specs.Outcome.{Site, Told, Outcome}
@@ -11,7 +12,12 @@ use Rattle.driver_outcome.specs.declared.Stop.{Stop}
 use Rattle.driver_outcome.specs.declared.Stop.TheVariants.{Store, Sink}
 use Rattle.driver_trace.specs.Noises.{AllFlip}
 use Rattle.driver_trace.proofs.LiveNoises.{acts_keep_noise}
-use Rattle.hp_driver.specs.Calls.{Ran}
+
+-- some acts ran, and left this world
+pub record Ran (w now : World) : Type 0 where
+  pub acts : List Act
+  pub run : Run w acts
+  pub world : now ≡ after_all w acts
 
 pub ran_by : (told : Told) (acts : List Act) (old new : Site) (stop : Option Stop) → Outcome told acts old new stop → Ran old.world new.world
 ran_by told acts old new None is = record { acts = acts; run = is.does.run; world = is.does.world }

@@ -22,10 +22,10 @@ use Rattle.hp_core.specs.State.{State, site}
 use Rattle.hp_core.specs.Done.{Tells, DoesSilently, HasCauses}
 use Rattle.hp_events.specs.Done.{DoesActs}
 use Rattle.hp_driver.specs.Subsystem.{seen, Comes}
-use Rattle.hp_driver.specs.Calls.{Ran, Stands, Leaves, SendsActs, Happens}
+use Rattle.hp_driver.specs.Calls.{Stands, Leaves, SendsActs, Happens}
 use Rattle.hp_driver.proofs.Sent.{sent_all, sent_front, front_taken}
 use Rattle.hp_driver.proofs.Bytes.{event_keeps}
-use Rattle.hp_driver.proofs.Behind.{ran_by, ran_sound, ran_noise, ran_slots}
+use Rattle.hp_driver.proofs.Behind.{Ran, ran_by, ran_sound, ran_noise, ran_slots}
 
 -- CAUSES, one call behind the other
 pub most : (a b c : ℕ) → a ≤ b → b ≤ c → a ≤ c

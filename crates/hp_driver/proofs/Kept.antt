@@ -29,8 +29,7 @@ use Rattle.hp_events.specs.declared.drain.Event.{Event}
 use Rattle.hp_events.specs.Inputs.{input_of}
 use Rattle.driver_drains.specs.Drains.{DrainsFallFrom}
 use Rattle.hp_driver.specs.Subsystem.{IsKept, IsThere, LeavesFewer, IsOldest, Reads}
-use Rattle.hp_driver.specs.Calls.{Ran}
-use Rattle.hp_driver.proofs.Behind.{ran_sound, ran_noise, ran_slots}
+use Rattle.hp_driver.proofs.Behind.{Ran, ran_sound, ran_noise, ran_slots}
 use Rattle.hp_driver.proofs.Calls.{silent_kept}
 
 -- AT THE START,

@@ -6,10 +6,9 @@ use Rattle.subsystem_spec.specs.Requests as told
 use Rattle.subsystem_spec.specs.Requests.{IsRequest}
 use Rattle.trace_replay.specs.Script.{Input}
 use Rattle.driver_machine.specs.World.{World}
-use Rattle.driver_machine.specs.Acts.{Act, after_all}
+use Rattle.driver_machine.specs.Acts.{Act}
 use Rattle.driver_machine.specs.Guards.{IsSetUp, IsFresh}
 use Rattle.driver_machine.specs.Sound.{Sound, AtWork}
-use Rattle.driver_work.specs.Runs.{Run}
 use Rattle.driver_outcome.specs.declared.Stop.{Stop}
 use Rattle.driver_outcome.specs.declared.Stop.TheVariants.{Sink}
 use Rattle.driver_outcome.specs.Outcome.{Outcome, stop_in}
@@ -21,12 +20,6 @@ use Rattle.hp_core.specs.Done.{HasCauses}
 use Rattle.subsystem_spec.specs.declared.request.Request.{Request}
 use Rattle.hp_driver.specs.Subsystem.{seen, asked, is_move, Submits, Comes}
 use Rattle.hp_driver.specs.Bytes.{KeepsMaps, KeepsMapsIn}
-
--- some acts ran, and left this world
-pub record Ran (w now : World) : Type 0 where
-  pub acts : List Act
-  pub run : Run w acts
-  pub world : now ≡ after_all w acts
 
 -- BETWEEN TWO CALLS, none of which failed
 pub record Stands (s : State) : Type 0 where

@@ -1,5 +1,5 @@
 // An event, over the core.
-ghost use Rattle.std.specs.Prelude.{◌≡◌, ◌<◌};
+ghost use Rattle.std.specs.Prelude.{◌<◌};
 ghost use Rattle.trace_replay.specs.Script as script;
 ghost use Rattle.driver_machine.specs.Events.{arrive_acts, attend_acts};
 ghost use Rattle.hp_events.specs.Inputs.{input_of};

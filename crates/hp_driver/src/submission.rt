@@ -1,5 +1,5 @@
 // A submission, over the core.
-ghost use Rattle.std.specs.Prelude.{◌≡◌, ◌<◌, ◌≤◌, ◌+◌, ◌-◌, ◌*◌, ◌∷◌, [], length, None, Some, IfOk, IfErr, if◌then◌else◌, min};
+ghost use Rattle.std.specs.Prelude.{◌≡◌, ◌<◌, ◌≤◌, ◌+◌, ◌-◌, ◌∷◌, [], length, None, Some, IfOk, IfErr};
 ghost use Rattle.main_memory.specs.Frames.{frames_needed};
 ghost use Rattle.pack_geometry.specs.Geometry.{limit_of};
 ghost use Rattle.subsystem_spec.specs.Requests as told;

@@ -27,7 +27,8 @@ use Rattle.driver_invariant.proofs.Sound.{sound_after}
 use Rattle.driver_outcome.specs.Packs.{packs_after_all}
 use Rattle.driver_replay.specs.Shows.{Shows}
 use Rattle.driver_replay.proofs.Rest.{rest_shows}
-use Rattle.driver_trace.specs.Calls.{Stands, Ends, IsTold, IsLeft, AreThere}
+use Rattle.driver_trace.specs.Calls.{Stands, Ends, IsLeft, AreThere}
+use Rattle.driver_trace.proofs.Telling.{IsTold}
 use Rattle.driver_trace.specs.Runs.{IsDraining}
 use Rattle.driver_trace.proofs.ReadSectors.{tried_on}
 use Rattle.driver_trace.proofs.Resting.{shows_one, shows_all}

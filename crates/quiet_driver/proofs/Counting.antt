@@ -30,7 +30,8 @@ use Rattle.driver_work.proofs.Calls.{event_works, taken_works}
 use Rattle.driver_work.proofs.Next.{next_can}
 use Rattle.driver_invariant.proofs.Sound.{sound_after}
 use Rattle.driver_outcome.specs.Packs.{packs_after_all}
-use Rattle.driver_trace.specs.Calls.{Stands, Ends, IsTold, AreThere, IsReadOf}
+use Rattle.driver_trace.specs.Calls.{Stands, Ends, AreThere, IsReadOf}
+use Rattle.driver_trace.proofs.Telling.{IsTold}
 use Rattle.driver_trace.proofs.Named.{IsTriedOn}
 use Rattle.driver_trace.proofs.ReadSectors.{tried_on}
 use Rattle.driver_trace.proofs.Inputted.{lines_play_nothing}

@@ -1,5 +1,6 @@
 -- The reader's way through a script gives what the grammar says, and nothing else does.
 use Rattle.std.proofs.Common.{◌≡◌, ◌⊎◌, inl, inr, ℕ, ◌+◌, ◌<◌, ◌≤◌, List, [], ◌∷◌, ◌++◌, length, refl, sym, ap, ◌∙◌, arith, Option, Result, Ok, Err}
+use Rattle.std.specs.Prelude.{nat_lt, if◌then◌else◌}
 use Rattle.std.proofs.lemmas.Bool.Decides.{nat_tests}
 use Rattle.script_words.specs.declared.kinds.ScriptKind.{ScriptKind}
 use Rattle.script_words.specs.declared.kinds.ScriptKind.TheVariants.{ScriptLong}
@@ -9,7 +10,7 @@ use Rattle.script_words.specs.declared.verbs.Verb.{Verb}
 use Rattle.script_lines.specs.Known.{Said, Numbered, known_of}
 use Rattle.script_reader.specs.Lines.{lines_of}
 use Rattle.script_reader.specs.Grammar.{line_says, more, SayTheRest, Spells, FirstFault, IsRefused}
-use Rattle.script_reader.specs.Reading.{Refusal, Read, on, reading, script_of, Finds, Refuses}
+use Rattle.script_reader.specs.Reading.{Refusal, Read, on, reading, Finds, Refuses}
 use Rattle.script_words.proofs.Results.{same_Ok, same_Err, err-ok}
 
 -- what comes next gave a value, or a fault
@@ -113,6 +114,11 @@ stopped played lines n (t ∷ ts) text behind reached number kind good number_is
     ∙ stopped played (more lines n good.0) (n + 1) ts text behind reached number kind good.2 here faulty
 
 -- SCRIPTS
+-- a whole script
+abbrev script_of : List Verb → List ℕ → Result Read Refusal
+script_of played bytes =
+    if nat_lt 16777216 (length bytes) then Err (record { line = 0; kind = ScriptLong }) else reading played [] 1 (lines_of bytes)
+
 short_script : (played : List Verb) (bytes : List ℕ) → length bytes ≤ 16777216 → script_of played bytes ≡ reading played [] 1 (lines_of bytes)
 short_script played bytes short = grind (arith, nat_tests)
 

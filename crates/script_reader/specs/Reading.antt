@@ -1,12 +1,10 @@
 -- How the reader goes through a script, line by line: an inner form, which is proved to give what the grammar says.
-use Rattle.std.specs.Prelude.{◌≡◌, ℕ, ◌+◌, nat_lt, if◌then◌else◌, List, [], ◌∷◌, length, Result, Ok, Err}
+use Rattle.std.specs.Prelude.{◌≡◌, ℕ, ◌+◌, List, [], ◌∷◌, Result, Ok, Err}
 use Rattle.script_words.specs.declared.kinds.ScriptKind.{ScriptKind}
-use Rattle.script_words.specs.declared.kinds.ScriptKind.TheVariants.{ScriptLong}
 use Rattle.script_reader.specs.declared.fault.ReadFault.{ReadFault}
 use Rattle.script_reader.specs.declared.fault.ReadFault.TheVariants.{Memory, Refused}
 use Rattle.script_words.specs.declared.verbs.Verb.{Verb}
 use Rattle.script_lines.specs.Known.{Numbered, known_of}
-use Rattle.script_reader.specs.Lines.{lines_of}
 use Rattle.script_reader.specs.Grammar.{line_says, more, IsRefused}
 
 -- the number of the first faulty line, and what is wrong with it
@@ -28,10 +26,6 @@ abbrev pub reading : List Verb → List Numbered → ℕ → List (List ℕ) →
 reading played lines n [] = Ok (record { lines = lines; next = n })
 reading played lines n (text ∷ texts) =
     on (line_says played (known_of lines) n text) (λ entry. reading played (more lines n entry) (n + 1) texts) (λ kind. Err (record { line = n; kind = kind }))
-
-abbrev pub script_of : List Verb → List ℕ → Result Read Refusal
-script_of played bytes =
-    if nat_lt 16777216 (length bytes) then Err (record { line = 0; kind = ScriptLong }) else reading played [] 1 (lines_of bytes)
 
 -- what a reader refuses is what it found, unless memory ran out
 abbrev pub Finds : ReadFault → Result Read Refusal → Type 0

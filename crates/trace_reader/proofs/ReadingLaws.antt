@@ -13,7 +13,7 @@ use Rattle.trace_reader.specs.declared.line.TraceLine.{TraceLine}
 use Rattle.trace_reader.specs.Asked.{is_of_script}
 use Rattle.trace_reader.specs.Grammar.{Says, MayStand, IsFaulty, Say, last_number, Spells, Refuses}
 use Rattle.trace_reader.specs.Lines.{line_number}
-use Rattle.trace_reader.specs.Reading.{Finds, Refusal, judged, line_form, reading, standing, words_of}
+use Rattle.trace_reader.specs.Reading.{Refusal, judged, line_form, reading, standing, words_of}
 use Rattle.trace_reader.proofs.LineLaws.{is_said, says}
 
 -- ONE LINE
@@ -148,6 +148,11 @@ pub spelled : (script : Stored) (bytes : List ℕ) (lines : List TraceLine) → 
 spelled script bytes lines short e =
     let r = read_ok script [] 0 1 (pieces_of bytes) lines e in
     record { short = short; says = subst (λ (ls : List TraceLine). Say script 0 (pieces_of bytes) ls) (sym r.all_are) r.say }
+
+-- what a reader refuses is what it found, unless memory ran out
+abbrev pub Finds : TraceFault → Result (List TraceLine) Refusal → Type 0
+Finds Memory found = Unit {0}
+Finds (Refused line kind) found = found ≡ Err (record { line = line; kind = kind })
 
 pub refused : (script : Stored) (bytes : List ℕ) (fault : TraceFault) → length bytes ≤ 268435456 → Finds fault (reading script [] 0 1 (pieces_of bytes)) → Refuses script bytes fault
 refused script bytes Memory short e = tt

@@ -1,5 +1,5 @@
 -- A line more of a trace that is read a line at a time.
-use Rattle.std.proofs.Common.{◌≡◌, ℕ, ◌+◌, Result, Ok, Err, List, [], ◌∷◌, ◌++◌, length, refl, sym, ap, ◌∙◌, subst}
+use Rattle.std.proofs.Common.{◌≡◌, ℕ, ◌+◌, Ok, Err, List, [], ◌∷◌, ◌++◌, length, refl, ap, ◌∙◌}
 use Rattle.script_reader.specs.Lines.{pieces_of}
 use Rattle.script_reader.specs.Stored.{Stored}
 use Rattle.trace_reader.specs.declared.fault.TraceFault.TheVariants.{Refused}

@@ -1,5 +1,5 @@
 -- How a line is read, word by word, and a trace, line by line: an inner form, which is proved to give what the grammar says.
-use Rattle.std.specs.Prelude.{◌≡◌, ℕ, ◌+◌, ◌==◌, ◌&&◌, nat_lt, if◌then◌else◌, Bool, true, false, List, [], ◌∷◌, ◌++◌, length, slice_index, codes, Option, Some, None, Result, Ok, Err}
+use Rattle.std.specs.Prelude.{ℕ, ◌+◌, ◌==◌, ◌&&◌, nat_lt, if◌then◌else◌, Bool, true, false, List, [], ◌∷◌, ◌++◌, length, slice_index, codes, Option, Some, None, Result, Ok, Err}
 use Rattle.std.specs.List.{slice_split}
 use Rattle.std.specs.Str.{bytes_eq}
 use Rattle.drive_registers.specs.declared.OffsetCode.{OffsetCode}
@@ -15,8 +15,6 @@ use Rattle.script_reader.specs.Stored.{Stored}
 use Rattle.script_words.specs.Words.{named, offsets}
 use Rattle.trace_lines.specs.declared.telling.Told.{Told}
 use Rattle.trace_lines.specs.declared.telling.Told.TheVariants as told
-use Rattle.trace_reader.specs.declared.fault.TraceFault.{TraceFault}
-use Rattle.trace_reader.specs.declared.fault.TraceFault.TheVariants.{Memory, Refused}
 use Rattle.trace_reader.specs.declared.fault.TraceKind.{TraceKind}
 use Rattle.trace_reader.specs.declared.fault.TraceKind.TheVariants.{Word, Order, Script}
 use Rattle.trace_reader.specs.declared.line.TraceLine.{TraceLine}
@@ -205,8 +203,3 @@ abbrev pub reading : Stored → List TraceLine → ℕ → ℕ → List (List �
 reading script lines before n [] = Ok lines
 reading script lines before n (text ∷ texts) =
     on (judged script before text) (λ line. reading script (lines ++ line ∷ []) (line_number line) (n + 1) texts) (λ kind. Err (record { line = n; kind = kind }))
-
--- what a reader refuses is what it found, unless memory ran out
-abbrev pub Finds : TraceFault → Result (List TraceLine) Refusal → Type 0
-Finds Memory found = Unit {0}
-Finds (Refused line kind) found = found ≡ Err (record { line = line; kind = kind })

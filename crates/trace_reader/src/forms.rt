@@ -1,5 +1,5 @@
 // What the words of a line say.
-ghost use Rattle.std.specs.Prelude.{◌≡◌, true, false, IfOk, ◌≤◌};
+ghost use Rattle.std.specs.Prelude.{◌≡◌, true, false};
 ghost use Rattle.trace_reader.specs.declared.verbs.Command.TheVariants as commands;
 ghost use Rattle.trace_reader.specs.declared.verbs.Verb.TheVariants as verbs;
 ghost use Rattle.trace_reader.specs.Reading.{none, transfer_form, command_form, burst_form, verdict_form, told_form, deed_form, line_form, first, line_in, words_of};

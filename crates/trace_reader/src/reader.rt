@@ -1,11 +1,8 @@
-ghost use Rattle.std.specs.Prelude.{◌≡◌, ◌<◌, ◌≤◌, ◌-◌, ◌==◌, ◌∷◌, ℕ, ◌⊎◌, List, length, [], Ok, IfOk, IfErr, position};
-ghost use Rattle.script_reader.specs.Lines.{pieces_of};
+ghost use Rattle.std.specs.Prelude.{◌≡◌, ◌<◌, ◌-◌, ℕ, ◌⊎◌, List, Ok, IfOk, IfErr};
 ghost use Rattle.script_reader.specs.Stored.{Stored};
 ghost use Rattle.trace_reader.specs.declared.fault.TraceKind.{TraceKind};
 ghost use Rattle.trace_reader.specs.declared.line.TraceLine.{TraceLine};
 ghost use Rattle.trace_reader.specs.Grammar.{Spells, Refuses, IsRefused};
-ghost use Rattle.trace_reader.specs.Knowing.{Knows};
-ghost use Rattle.trace_reader.specs.Reading.{judged, reading, Finds, standing};
 ghost use Rattle.trace_reader.specs.RoundTrip.{ReadsAsTold, WritesAsRead, ReadsOfRun};
 
 use crate::fault::TraceFault;

@@ -1,6 +1,5 @@
 // The words of a line.
 ghost use Rattle.std.specs.Prelude.{◌≡◌, ◌≤◌, ◌==◌, ◌∷◌, [], ℕ, position, IfOk, MatchOption, MatchResult};
-ghost use Rattle.std.specs.Str.{bytes_eq};
 ghost use Rattle.trace_reader.specs.declared.fault.TraceKind.{TraceKind};
 ghost use Rattle.trace_reader.specs.Reading.{words_of, words_left, number_in, decimal_in, verb_in, command_in, code_in, plain_verdict_in};
 
