@@ -1,11 +1,11 @@
 //! The script's lines above the columns, and the events below them.
 
-ghost use Rattle.std.specs.Prelude.{◌≡◌, map, take, IfOk, OnOk};
+ghost use Rattle.std.specs.Prelude.{◌≡◌, map, IfOk, OnOk};
 ghost use Rattle.picture_axes.specs.Axes.{with_idle, with_line_words, words_at, with_line, with_bar, with_stretch, line_of, with_lines, with_event, with_events};
 
 use drive_pictures::plus;
 use picture_markup::{Element, Markup, Route, Start};
-use picture_scene::{LABEL, Scene, Stretch, add, at, digits, stretches, sub};
+use picture_scene::{LABEL, Scene, Stretch, add, at, digits, front, stretches, sub};
 use run_picture::{Column, Head};
 use std::alloc::{AllocError, Global};
 
@@ -14,13 +14,6 @@ const AXIS: u32 = 276;
 
 /// How many bytes of a line are drawn.
 const ROOM: usize = 20;
-
-/// The front of a text for which there is room.
-fn front(text: &[u8], room: usize) -> &[u8]
-    ensures { result.now ≡ take room text.now }
-{
-    &text[..room.min(text.len())]
-}
 
 /// Puts, where a line found nothing to do, that it did, as far as there is room.
 fn put_idle(out: &mut Markup<'_>, idle: bool, room: usize) -> Result<(), AllocError>

@@ -13,6 +13,6 @@ pub use frame::{Frame, LABEL, LEFT, add, at, digits, part_of, small, sub, times,
 pub use picture_sheet::cell_at;
 pub use scene::{Lane, Scene, Stretch, lanes_of, stretches};
 pub use span::{
-    begin_group, begin_span, begin_text, end_group, end_text, end_title, put_sentences,
+    begin_group, begin_span, begin_text, end_group, end_text, end_title, front, put_sentences,
     text_sentences,
 };

@@ -1,6 +1,6 @@
-//! Groups with their tooltips.
+//! Groups with their tooltips, and words.
 
-ghost use Rattle.std.specs.Prelude.{◌≡◌, OnOk};
+ghost use Rattle.std.specs.Prelude.{◌≡◌, take, OnOk};
 ghost use Rattle.picture_markup.specs.Elements.{with_start, with_end, with_opened};
 ghost use Rattle.picture_markup.specs.Nesting.{started, ended};
 ghost use Rattle.picture_markup.specs.declared.pieces.Element.TheVariants.{Title, Group, Text};
@@ -11,6 +11,13 @@ use crate::scene::Scene;
 use picture_markup::{Element, Markup, Point, Start};
 use picture_sheet::{Phrase, Sentence};
 use std::alloc::AllocError;
+
+/// The front of a text for which there is room.
+pub fn front(text: &[u8], room: usize) -> &[u8]
+    ensures { result.now ≡ take room text.now }
+{
+    &text[..room.min(text.len())]
+}
 
 /// A group and its tooltip begin.
 #[tactic(auto, unfolding(crate::specs::Groups::with_group))]

@@ -8,7 +8,7 @@ use Rattle.std.proofs.lemmas.List.Sums.{sum_by-append}
 use Rattle.std.proofs.lemmas.Bool.Decides.{leb_tells, eqb_tells}
 use Rattle.picture_sheet.specs.declared.sheet.Note.{Note}
 use Rattle.picture_sheet.specs.declared.sheet.Sheet.{Sheet}
-use Rattle.picture_sheet.specs.Notes.{line_of, lines_of, lines_shown}
+use Rattle.picture_sheet.specs.Notes.{lines_of}
 use Rattle.picture_sheet.specs.Units.{is_drawn, unit_drawn, units_below, units_shown}
 use Rattle.picture_scene.specs.Lines.{lines_of_units}
 use Rattle.picture_svg.specs.Pictures.{names_drawn, text_of, lines_seen}

@@ -43,7 +43,7 @@ abbrev pub with_fixed_line : List ℕ → Bor (List ℕ) → List ℕ
 with_fixed_line text line = text ++ line.now ++ codes "\n"
 
 unfoldable pub with_fixed : List ℕ → List ℕ
-with_fixed text = fold with_fixed_line text FIXED
+with_fixed text = fold (λ text line. text ++ line.now ++ codes "\n") text FIXED
 
 -- WHAT STANDS ABOVE the columns
 abbrev pub with_head : Sheet → List Sentence → List ℕ → List ℕ

@@ -1,9 +1,9 @@
 //! The whole picture.
 
-ghost use Rattle.std.specs.Prelude.{◌≡◌, IfOk, OnOk};
+ghost use Rattle.std.specs.Prelude.{◌≡◌, fold, IfOk, OnOk};
 ghost use Rattle.picture_markup.specs.Nesting.{told};
 ghost use Rattle.picture_scene.specs.Lines.{lines_of_lane, lines_of_lanes};
-ghost use Rattle.picture_svg.specs.Drawings.{caption_of, with_names, with_fixed, with_head, is_first, top_of, below, bottom_of, with_first, with_drive, with_drives, height_in, with_drawing};
+ghost use Rattle.picture_svg.specs.Drawings.{caption_of, with_names, with_fixed_line, with_fixed, with_head, is_first, top_of, below, bottom_of, with_first, with_drive, with_drives, height_in, with_drawing};
 ghost use Rattle.picture_svg.specs.Pictures.{IsPicture};
 
 use crate::fixed::FIXED;
@@ -12,7 +12,7 @@ use picture_axes::{draw_adapter, draw_events, draw_lines};
 use picture_lanes::draw_unit;
 use picture_markup::{Element, Markup, Start};
 use picture_scene::{
-    Frame, Lane, Scene, add, at, begin_text, end_text, lanes_of, put_sentences, small,
+    Frame, Lane, Scene, add, at, begin_text, end_text, front, lanes_of, put_sentences, small,
     text_sentences, times,
 };
 use picture_sheet::{Sentence, Sheet, Shown, sentences};
@@ -31,8 +31,7 @@ const CAPTION: usize = 120;
 fn caption_of<'a>(sheet: &Sheet<'a>) -> &'a [u8]
     ensures { result.now ≡ caption_of sheet.now }
 {
-    let title = sheet.title();
-    &title[..CAPTION.min(title.len())]
+    front(sheet.title(), CAPTION)
 }
 
 /// Where the next drive stands: the adapter of the one before it, if there is one, and how far below the top.
@@ -108,16 +107,24 @@ fn draw_names<'a>(
     out.end(Element::Desc)
 }
 
+/// Lines that are the same in each picture.
+fn draw_lines_of(out: &mut Markup<'_>, lines: &[&'static str]) -> Result<(), AllocError>
+    ensures stands { OnOk result (out.new.stands ≡ out.old.stands) }
+    ensures text { OnOk result (out.new.text ≡ fold with_fixed_line out.old.text lines.now) }
+{
+    for line in lines.iter() {
+        out.fixed(line)?;
+    }
+    Ok(())
+}
+
 /// Style, patterns and legend.
 #[tactic(auto, unfolding(crate::specs::Drawings::with_fixed))]
 fn draw_fixed(out: &mut Markup<'_>) -> Result<(), AllocError>
     ensures stands { OnOk result (out.new.stands ≡ out.old.stands) }
     ensures text { OnOk result (out.new.text ≡ with_fixed out.old.text) }
 {
-    for line in FIXED.iter() {
-        out.fixed(line)?;
-    }
-    Ok(())
+    draw_lines_of(out, &FIXED)
 }
 
 /// What stands above the columns.
