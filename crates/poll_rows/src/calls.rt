@@ -1,128 +1,192 @@
-// Single calls of formatting that fail, each over an RM03 of its own that holds nothing.
-ghost use Rattle.std.specs.Prelude.{◌<◌, ◌≤◌};
-ghost use Rattle.pack_geometry.specs.Geometry.{block_count};
-ghost use Rattle.pack_geometry.specs.declared.DriveKind.TheVariants.{Rm03};
-
-use block_polls::Station;
-use block_tests::{TestFault, write_copies};
-use mass_outside::mem_packs::{FailCall, MemPacks, PackOp};
-use mass_outside::slots::Image;
-use outside_traits::traits::Packs;
-use pack_geometry::{DriveKind, copy_block};
+// One whole run of formatting, and each of its calls that goes wrong.
+use crate::cut_packs::{CutPacks, SURVEYED, Written, Wrong, cut};
+use pack_format::{FormatFault, FormatReport, format};
+use pack_geometry::DriveKind;
 use std::alloc::Global;
 use std::test::Fail;
 
-/// Unit 0 with an empty image that has room for so many blocks, and one call that is to fail.
-fn failing(alloc: Global, blocks: u32, op: PackOp, number: u64) -> Result<MemPacks, Fail> {
-    let mut images = Vec::new(alloc);
-    images.push(Image {
-        unit: 0,
-        bytes: Vec::new(alloc),
-        marks: Vec::new(alloc),
-        blocks,
-    })?;
-    let fail = FailCall { op, number };
-    Ok(MemPacks::new(alloc, images, Vec::from_slice(alloc, &[fail])?)?)
+/// Formats these packs.
+fn run(alloc: Global, packs: &mut CutPacks) -> Result<FormatReport, FormatFault> {
+    format(alloc, packs, 0, DriveKind::Rm03, 9)
 }
 
-/// Whether the reading of a block fails with its first call of an operation, and the packs hold nothing then, as before.
-fn fails_alone(alloc: Global, block: u32, op: PackOp) -> Result<bool, Fail>
-    requires { block < block_count Rm03 }
-{
-    let mut packs = failing(alloc, 0, op, 1)?;
-    let mut station = Station::new(alloc, DriveKind::Rm03)?;
-    let mut bytes = [0x5a; 512];
-    let polled = station.poll_read(&mut packs, 0, DriveKind::Rm03, block, &mut bytes);
-    Ok(polled.is_err() && packs.length(0)? == 0 && !packs.marked(0, block)?)
+/// So many calls a whole run makes.
+const CALLS: u64 = 526_403;
+
+/// What a whole run writes: the blocks, by the byte that each begins with.
+const WRITES: [(u32, u8); 15] = [
+    (0, 0xa5),
+    (0, 0x00),
+    (65_760, 0xa5),
+    (65_760, 0x00),
+    (131_521, 0xa5),
+    (131_521, 0x00),
+    (131_646, 0xa5),
+    (131_646, 0x00),
+    (131_647, 0xa5),
+    (131_647, 0x00),
+    (131_648, 0x09),
+    (131_650, 0x09),
+    (131_652, 0x09),
+    (131_654, 0x09),
+    (131_656, 0x09),
+];
+
+/// The table with the serial number 9 that lists blocks 5 and 160.
+fn table() -> [u8; 512] {
+    let mut bytes = [0xff; 512];
+    bytes[..16].copy_from_slice(&[9, 0, 0, 0, 0, 0, 0, 0, 0, 0, 5, 0, 1, 0, 0, 0]);
+    bytes
 }
 
-/// The first block of these whose reading does not so fail, or the one behind them.
-fn other_reading(alloc: Global, op: PackOp, from: u32, to: u32) -> Result<u32, Fail>
-    requires { to ≤ block_count Rm03 }
-{
-    for block in from..to {
-        if !fails_alone(alloc, block, op)? {
-            return Ok(block);
-        }
+/// Whether a block was written, with the table or with such bytes.
+fn is_so(written: &Written, block: u32, first: u8) -> bool {
+    let bytes = if first == 9 { table() } else { [first; 512] };
+    written.block == block && written.bytes == bytes
+}
+
+/// Whether all was written, in this order.
+fn is_whole(written: &[Written]) -> bool {
+    written.len() == WRITES.len()
+        && written
+            .iter()
+            .zip(&WRITES)
+            .all(|(it, (block, first))| is_so(it, *block, *first))
+}
+
+/// What a whole run writes, where it ends well with all its calls.
+fn whole(alloc: Global) -> Result<Option<CutPacks>, Fail> {
+    let mut packs = cut(alloc, 0, Wrong::Fails);
+    let result = run(alloc, &mut packs);
+    if result == Ok(FormatReport { bad: 2 })
+        && packs.calls == CALLS
+        && is_whole(packs.written.as_slice())
+    {
+        return Ok(Some(packs));
     }
-    Ok(to)
+    Ok(None)
 }
 
-#[test]
-fn each_mark_of_a_lower_block_fails(rt: HostRuntime) -> Result<(), Fail> {
-    assert_eq!(rt;
-        other_reading(rt.alloc(), PackOp::Marked, 0, 65_840)?,
-        65_840
-    );
-    Ok(())
+/// Whether a run that this call stops fails, makes no call behind it, and has written just what a whole run has by then.
+fn stops(alloc: Global, whole: &CutPacks, number: u64, wrong: Wrong) -> bool {
+    let mut packs = cut(alloc, number, wrong);
+    let result = run(alloc, &mut packs);
+    result == Err(FormatFault::Store) && packs.calls == number && packs.is_front(whole)
 }
 
-#[test]
-fn each_mark_of_an_upper_block_fails(rt: HostRuntime) -> Result<(), Fail> {
-    assert_eq!(rt;
-        other_reading(rt.alloc(), PackOp::Marked, 65_840, 131_680)?,
-        131_680
-    );
-    Ok(())
-}
+/// Calls of a whole run: the first one, how many, and by which steps. The steps are odd, so that marks and reads take turns.
+type Calls = (u64, u64, u64);
 
-#[test]
-fn each_reading_of_a_lower_block_fails(rt: HostRuntime) -> Result<(), Fail> {
-    assert_eq!(rt; other_reading(rt.alloc(), PackOp::Read, 0, 65_840)?, 65_840);
-    Ok(())
-}
-
-#[test]
-fn each_reading_of_an_upper_block_fails(rt: HostRuntime) -> Result<(), Fail> {
-    assert_eq!(rt;
-        other_reading(rt.alloc(), PackOp::Read, 65_840, 131_680)?,
-        131_680
-    );
-    Ok(())
-}
-
-/// How many copies hold these bytes.
-fn copies_of(packs: &mut MemPacks, bytes: &[u8; 512]) -> Result<u64, Fail> {
-    let mut count = 0u64;
-    let mut held = [0u8; 512];
-    for k in 0..5u32 {
-        packs.read(0, copy_block(DriveKind::Rm03, k), &mut held)?;
-        if held == *bytes {
-            count = count.saturating_add(1);
-        }
-    }
-    Ok(count)
-}
-
-/// Whether the writing of copies that one call stops fails, and has written so many of them.
-fn leaves_copies(alloc: Global, op: PackOp, number: u64, count: u64) -> Result<bool, Fail> {
-    let mut packs = failing(alloc, 131_680, op, number)?;
-    let mut station = Station::new(alloc, DriveKind::Rm03)?;
-    let bytes = [0x5a; 512];
-    let result = write_copies(&mut station, &mut packs, 0, DriveKind::Rm03, &bytes);
-    Ok(result == Err(TestFault::Store) && copies_of(&mut packs, &bytes)? == count)
-}
-
-/// The first copy of which one of the four calls that write it and read it back does not so fail, or how many copies there are.
-fn other_copy(alloc: Global) -> Result<u64, Fail> {
-    for k in 0..5u64 {
-        let calls = [
-            (PackOp::Marked, 2 * k + 1, k),
-            (PackOp::Write, k + 1, k),
-            (PackOp::Marked, 2 * k + 2, k + 1),
-            (PackOp::Read, k + 1, k + 1),
-        ];
-        for (op, number, count) in calls {
-            if !leaves_copies(alloc, op, number, count)? {
-                return Ok(k);
+/// The first of these calls that does not so stop a run; 0 where each does.
+fn other_stop(alloc: Global, calls: &[Calls]) -> Result<u64, Fail> {
+    let Some(whole) = whole(alloc)? else {
+        return Ok(CALLS);
+    };
+    for (first, count, step) in calls {
+        for k in 0..*count {
+            let number = first.saturating_add(k.saturating_mul(*step));
+            if !stops(alloc, &whole, number, Wrong::Fails) {
+                return Ok(number);
             }
         }
     }
-    Ok(5)
+    Ok(0)
+}
+
+/// The length, the first reading of two cylinders, and of data blocks from there on.
+#[test]
+fn readings_of_data_fail(rt: HostRuntime) -> Result<(), Fail> {
+    assert_eq!(rt; other_stop(rt.alloc(), &[(1, 660, 1), (661, 263, 997)])?, 0);
+    Ok(())
+}
+
+/// The first reading of the last data blocks, the replacements and the copies.
+#[test]
+fn readings_of_replacements_fail(rt: HostRuntime) -> Result<(), Fail> {
+    assert_eq!(rt; other_stop(rt.alloc(), &[(SURVEYED - 269, 140, 1)])?, 0);
+    Ok(())
 }
 
 #[test]
-fn each_call_at_a_copy_fails(rt: HostRuntime) -> Result<(), Fail> {
-    assert_eq!(rt; other_copy(rt.alloc())?, 5);
+fn readings_of_copies_fail(rt: HostRuntime) -> Result<(), Fail> {
+    assert_eq!(rt; other_stop(rt.alloc(), &[(SURVEYED - 129, 130, 1)])?, 0);
+    Ok(())
+}
+
+/// The tests of the first data block, and of marked ones behind it.
+#[test]
+fn calls_at_the_first_block_fail(rt: HostRuntime) -> Result<(), Fail> {
+    assert_eq!(rt;
+        other_stop(
+            rt.alloc(),
+            &[(SURVEYED + 1, 16, 1), (SURVEYED + 17, 66, 1_999)]
+        )?,
+        0
+    );
+    Ok(())
+}
+
+/// The tests of the data block in the middle, and of marked ones behind it.
+#[test]
+fn calls_at_the_middle_block_fail(rt: HostRuntime) -> Result<(), Fail> {
+    assert_eq!(rt;
+        other_stop(rt.alloc(), &[(394_830, 16, 1), (394_847, 33, 3_985)])?,
+        0
+    );
+    Ok(())
+}
+
+/// The tests of the last data block and of the replacements, and the writing of the copies.
+#[test]
+fn calls_at_the_last_blocks_fail(rt: HostRuntime) -> Result<(), Fail> {
+    assert_eq!(rt; other_stop(rt.alloc(), &[(CALLS - 47, 48, 1)])?, 0);
+    Ok(())
+}
+
+/// Whether a run that this call leads astray ends with that fault behind so many calls, and has written just what a whole run has by then.
+fn differs(alloc: Global, whole: &CutPacks, number: u64, calls: u64, fault: FormatFault) -> bool {
+    let mut packs = cut(alloc, number, Wrong::Lies);
+    let result = run(alloc, &mut packs);
+    result == Err(fault) && packs.calls == calls && packs.is_front(whole)
+}
+
+/// Whether runs end so at a write that writes nothing, at a mark behind it, so that nothing comes back, and at another byte that does.
+fn ends_at(alloc: Global, whole: &CutPacks, written: &Written) -> bool {
+    let block = written.block;
+    let (wrote, last) = (written.bytes[0], written.bytes[300]);
+    let had = if wrote == 0 { 0xa5 } else { 0x77 };
+    let (write, mark, read) = (
+        written.call,
+        written.call.saturating_add(1),
+        written.call.saturating_add(2),
+    );
+    let fault = |at: u16, wrote: u8, read: u8| FormatFault::Differs {
+        block,
+        at,
+        wrote,
+        read,
+    };
+    stops(alloc, whole, write, Wrong::FailsBehind)
+        && differs(alloc, whole, write, read, fault(0, wrote, had))
+        && differs(alloc, whole, mark, mark, fault(0, wrote, !wrote))
+        && differs(alloc, whole, read, read, fault(300, last, !last))
+}
+
+/// The first write at which runs do not so end, by its call; 0 where they do at each.
+fn other_end(alloc: Global) -> Result<u64, Fail> {
+    let Some(whole) = whole(alloc)? else {
+        return Ok(CALLS);
+    };
+    for written in &whole.written {
+        if !ends_at(alloc, &whole, written) {
+            return Ok(written.call);
+        }
+    }
+    Ok(0)
+}
+
+#[test]
+fn each_write_comes_back_otherwise(rt: HostRuntime) -> Result<(), Fail> {
+    assert_eq!(rt; other_end(rt.alloc())?, 0);
     Ok(())
 }

@@ -1,5 +1,9 @@
-//! Rows of the formatter's single calls, each of which fails once; tests alone, so that what they test is proved once.
+//! Rows of the formatter's single calls, each of which goes wrong once; tests alone, so that what they test is proved once.
 #![tactic(auto)]
 
 #[cfg(test)]
 mod calls;
+#[cfg(test)]
+mod cut_packs;
+#[cfg(test)]
+mod polls;

@@ -1,0 +1,154 @@
+// An RM03 that is cut small: few of its blocks are written.
+ghost use Rattle.std.specs.Prelude.{◌≡◌};
+ghost use Rattle.outside_traits.specs.Causes.{HasCause};
+
+use outside_traits::traits::{Packs, StoreFailed};
+use std::alloc::Global;
+
+/// How a call goes wrong.
+#[derive(Clone, Copy, PartialEq, Eq)]
+pub(crate) enum Wrong {
+    /// It fails, and did nothing.
+    Fails,
+    /// It fails, and did what it was to do.
+    FailsBehind,
+    /// It does not fail, but answers a mark or another byte, or writes nothing.
+    Lies,
+}
+
+/// What a call wrote, by its number.
+#[derive(Clone, Copy, PartialEq, Eq)]
+pub(crate) struct Written {
+    pub(crate) call: u64,
+    pub(crate) block: u32,
+    pub(crate) bytes: [u8; 512],
+}
+
+/// The first reading of all blocks ends with this call: the length, a mark and a read of each of 131,653 blocks, but no read of the two
+/// that are marked.
+pub(crate) const SURVEYED: u64 = 263_305;
+
+/// An RM03 full of 77, on which one call goes wrong. Blocks 5 and 160 are marked; behind the first reading all data blocks are, but for the
+/// first, the last, and one in the middle. It keeps what is written, and tells nothing.
+#[derive(Drop)]
+pub(crate) struct CutPacks {
+    pub(crate) calls: u64,
+    pub(crate) failed: u64,
+    pub(crate) number: u64,
+    pub(crate) wrong: Wrong,
+    pub(crate) written: Vec<Written>,
+}
+
+/// Such packs, of which the call of this number goes wrong so.
+pub(crate) fn cut(alloc: Global, number: u64, wrong: Wrong) -> CutPacks {
+    CutPacks {
+        calls: 0,
+        failed: 0,
+        number,
+        wrong,
+        written: Vec::new(alloc),
+    }
+}
+
+impl CutPacks {
+    /// Counts a call, which fails where it is to.
+    fn call(&mut self) -> Result<(), StoreFailed>
+        ensures { HasCause self.old.failed self.new.failed result }
+    {
+        self.calls = self.calls.saturating_add(1);
+        if self.goes(Wrong::Fails) || self.goes(Wrong::FailsBehind) {
+            self.failed = self.failed.saturating_add(1);
+            return Err(StoreFailed);
+        }
+        Ok(())
+    }
+
+    /// Whether the call that was counted last goes wrong so.
+    fn goes(&self, wrong: Wrong) -> bool {
+        self.calls == self.number && self.wrong == wrong
+    }
+
+    /// Whether a block is marked.
+    fn is_bad(&self, block: u32) -> bool {
+        let good = block == 0 || block == 65_760 || block > 131_520;
+        block == 5 || block == 160 || (!good && self.calls > SURVEYED)
+    }
+
+    /// What a block holds.
+    pub(crate) fn content(&self, block: u32) -> [u8; 512] {
+        let mut bytes = [0x77; 512];
+        for written in &self.written {
+            if written.block == block {
+                bytes = written.bytes;
+            }
+        }
+        bytes
+    }
+
+    /// Whether just that was written which a whole run writes before the call that goes wrong, and by that call where it did what it was to do.
+    pub(crate) fn is_front(&self, whole: &CutPacks) -> bool {
+        let behind = self
+            .number
+            .saturating_add(u64::from(self.wrong == Wrong::FailsBehind));
+        let count = whole.written.iter().filter(|it| it.call < behind).count();
+        self.written.len() == count
+            && self
+                .written
+                .iter()
+                .zip(&whole.written)
+                .all(|(it, other)| it == other)
+    }
+
+    /// Keeps what is written.
+    fn keep(&mut self, block: u32, bytes: &[u8; 512])
+        ensures { self.new.failed ≡ self.old.failed }
+    {
+        let _ = self.written.push(Written {
+            call: self.calls,
+            block,
+            bytes: *bytes,
+        });
+    }
+}
+
+impl Packs for CutPacks {
+    ghost use Rattle.std.specs.Prelude.{false};
+    ghost use Rattle.pack_model.specs.Pack.{empty_pack};
+
+    ghost tells = { λ _. false };
+
+    ghost held = { λ _ _. empty_pack };
+
+    ghost faults = { λ p. p.failed };
+
+    fn length(&mut self, _: u8) -> Result<u64, StoreFailed> {
+        self.call()?;
+        Ok(67_420_160)
+    }
+
+    fn read(&mut self, _: u8, block: u32, into: &mut [u8; 512]) -> Result<(), StoreFailed> {
+        self.call()?;
+        *into = self.content(block);
+        if self.goes(Wrong::Lies) {
+            into[300] = !into[300];
+        }
+        Ok(())
+    }
+
+    fn write(&mut self, _: u8, block: u32, from: &[u8; 512]) -> Result<(), StoreFailed> {
+        let called = self.call();
+        if !self.goes(Wrong::Fails) && !self.goes(Wrong::Lies) {
+            self.keep(block, from);
+        }
+        called
+    }
+
+    fn marked(&mut self, _: u8, block: u32) -> Result<bool, StoreFailed> {
+        self.call()?;
+        Ok(self.goes(Wrong::Lies) || self.is_bad(block))
+    }
+
+    fn set_mark(&mut self, _: u8, _: u32, _: bool) -> Result<(), StoreFailed> {
+        Ok(())
+    }
+}
