@@ -1,6 +1,7 @@
 -- A good drive with an adapter and a frame of memory, between two polls and within one.
 use Rattle.std.specs.Prelude.{◌≡◌, ℕ, ◌<◌, Bool, true, false, [], length}
 use Rattle.pack_geometry.specs.declared.DriveKind.{DriveKind}
+use Rattle.pack_geometry.specs.Geometry.{place_at, track_and_sector}
 use Rattle.hardware_table.specs.declared.Work.{Work}
 use Rattle.hardware_table.specs.declared.Work.TheVariants.{Ready, Transfer}
 use Rattle.hardware_table.specs.Adapter.{AdapterState}
@@ -17,6 +18,12 @@ pub record Does (kind : DriveKind) (work : Work) (d : DriveState) : Type 0 where
   pub online : d.online ≡ true
   pub unlocked : d.locked ≡ false
   pub none : d.armed ≡ none_armed
+
+-- its address names a block, and its heads stand on the block's cylinder
+pub record IsAimed (kind : DriveKind) (block : ℕ) (d : DriveState) : Type 0 where
+  pub cylinder : d.dc ≡ (place_at kind block).cylinder
+  pub track_and_sector : d.da ≡ track_and_sector (place_at kind block)
+  pub heads : d.cc ≡ (place_at kind block).cylinder
 
 -- A STATION AT REST: the drive is good and ready, the adapter free, no noise live, and a frame of memory is free
 pub record IsAtRest (kind : DriveKind) (station : Station) : Type 0 where
@@ -54,6 +61,7 @@ pub record HasFrame (kind : DriveKind) (loan : Loan) (station : Station) : Type 
 -- and one where the transfer between the block and the frame is begun.
 pub record IsBegun (kind : DriveKind) (loan : Loan) (block : ℕ) (write : Bool) (station : Station) : Type 0 where
   pub drive : Does kind (Transfer write) station.drive
+  pub aimed : IsAimed kind block station.drive
   pub started : IsStarted loan block write station.adapter
   pub frame : IsFrame loan
   pub lent : IsLent station.memory loan

@@ -12,7 +12,7 @@ ghost use Rattle.mba_adapter.specs.Loaded.{loaded_buffer};
 ghost use Rattle.outside_traits.specs.Causes.{HasCause};
 ghost use Rattle.block_polls.specs.Polls.{IsOldOrNew, Polls, sides_of};
 ghost use Rattle.block_polls.specs.declared.station.Polled.TheVariants.{Clean, Marked};
-ghost use Rattle.block_polls.specs.Stations.{Does, HasFrame, IsAtRest, IsBegun, IsFrame, IsStarted};
+ghost use Rattle.block_polls.specs.Stations.{Does, HasFrame, IsAimed, IsAtRest, IsBegun, IsFrame, IsStarted};
 ghost use Rattle.pack_geometry.specs.Geometry.{IsInside, block_count, track_and_sector};
 
 use drive_model::{Drive, Moved, NoiseBook};
@@ -68,7 +68,8 @@ fn seek(drive: &mut Drive, kind: DriveKind)
     requires good { Does kind Ready drive.old }
     requires addressed { is_addressed drive.old ≡ true }
     ensures good { Does kind Ready drive.new }
-    ensures addressed { is_addressed drive.new ≡ true }
+    ensures address { (drive.new.dc ≡ drive.old.dc) × (drive.new.da ≡ drive.old.da) }
+    ensures heads { drive.new.cc ≡ drive.old.dc }
 {
     if drive.read_register(Register::Cc) == drive.read_register(Register::Dc) {
         return;
@@ -84,17 +85,20 @@ fn aim(drive: &mut Drive, kind: DriveKind, block: u32)
     requires block { block < block_count kind }
     ensures good { Does kind Ready drive.new }
     ensures addressed { is_addressed drive.new ≡ true }
+    ensures aimed { IsAimed kind block drive.new }
 {
     place_law(kind);
     name(drive, place_of(kind, block));
     seek(drive, kind);
 }
 
-/// The drive begins to move a sector.
-fn begin(drive: &mut Drive, kind: DriveKind, write: bool)
+/// The drive begins to move the sector at which it is aimed.
+fn begin(drive: &mut Drive, kind: DriveKind, block: u32, write: bool)
     requires good { Does kind Ready drive.old }
     requires addressed { is_addressed drive.old ≡ true }
-    ensures { Does kind (Transfer write) drive.new }
+    requires aimed { IsAimed kind block drive.old }
+    ensures good { Does kind (Transfer write) drive.new }
+    ensures aimed { IsAimed kind block drive.new }
 {
     drive.go(direction(write));
 }
@@ -181,6 +185,7 @@ impl Station {
         ensures adapter { OnOk result ((self.new.adapter.completion ≡ true) × (frame.now ≡ loaded_buffer self.new.adapter)) }
         ensures rest { OnOk result ((self.new.book.live ≡ []) × IsLent self.new.memory frame.now) }
         ensures failed { OnErr result (IsOldOrNew unit block write (P.tells packs.new) (sides_of (P.held packs.old) frame.now self.old.memory) (P.held packs.new)) }
+        ensures stuck { OnErr result (self.new.adapter.busy ≡ true) }
         ensures never_again { IsTrue (P.tells packs.new) → IsTrue (P.tells packs.old) }
         ensures cause { HasCause (P.faults packs.old) (P.faults packs.new) result }
     {
@@ -221,11 +226,12 @@ impl Station {
         ensures free { OnOk result (self.new.adapter.busy ≡ false) }
         ensures rest { OnOk result ((self.new.book.live ≡ []) × IsLent self.new.memory frame) }
         ensures failed { OnErr result (IsOldOrNew unit block write (P.tells packs.new) (sides_of (P.held packs.old) frame self.old.memory) (P.held packs.new)) }
+        ensures stuck { OnErr result (self.new.adapter.busy ≡ true) }
         ensures never_again { IsTrue (P.tells packs.new) → IsTrue (P.tells packs.old) }
         ensures cause { HasCause (P.faults packs.old) (P.faults packs.new) result }
     {
         aim(&mut self.drive, kind, block);
-        begin(&mut self.drive, kind, write);
+        begin(&mut self.drive, kind, block, write);
         let frame = hand(&mut self.adapter, frame, block, write);
         let polled = self.try_block(packs, unit, kind, block, write, &frame)?;
         let (frame, _) = self.adapter.complete(frame);
@@ -233,7 +239,8 @@ impl Station {
     }
 
     /// Reads a block of a unit's pack: Clean with its bytes, or Marked, exactly where it is marked; then the bytes are as
-    /// they were. The packs stay. `StoreFailed` comes only where the packs' count of faults rose.
+    /// they were. The packs stay. `StoreFailed` comes only where the packs' count of faults rose; then the transfer is never
+    /// completed, so that the station is not at rest, as each poll asks, and polls no more.
     pub fn poll_read<P: Packs>(
         &mut self,
         packs: &mut P,
@@ -249,6 +256,7 @@ impl Station {
             (record { held = P.held packs.old; bytes = into.old }) (record { held = P.held packs.new; bytes = into.new })) }
         ensures rest { OnOk result (IsAtRest kind self.new) }
         ensures failed { OnErr result (IsTrue (P.tells packs.new) → P.held packs.new ≡ P.held packs.old) }
+        ensures stuck { OnErr result (¬ (IsAtRest kind self.new)) }
         ensures never_again { IsTrue (P.tells packs.new) → IsTrue (P.tells packs.old) }
         ensures cause { HasCause (P.faults packs.old) (P.faults packs.new) result }
     {
@@ -260,7 +268,8 @@ impl Station {
     }
 
     /// Writes a block of a unit's pack: Clean where it has the bytes, or Marked, exactly where it is marked; then the
-    /// packs stay. `StoreFailed` comes only where the packs' count of faults rose, and leaves the block old or new.
+    /// packs stay. `StoreFailed` comes only where the packs' count of faults rose, and leaves the block old or new, and the
+    /// station as where a reading fails.
     pub fn poll_write<P: Packs>(
         &mut self,
         packs: &mut P,
@@ -276,6 +285,7 @@ impl Station {
             (record { held = P.held packs.old; bytes = from.now }) (record { held = P.held packs.new; bytes = from.now })) }
         ensures rest { OnOk result (IsAtRest kind self.new) }
         ensures failed { OnErr result (IsOldOrNew unit block true (P.tells packs.new) (record { held = P.held packs.old; bytes = from.now }) (P.held packs.new)) }
+        ensures stuck { OnErr result (¬ (IsAtRest kind self.new)) }
         ensures never_again { IsTrue (P.tells packs.new) → IsTrue (P.tells packs.old) }
         ensures cause { HasCause (P.faults packs.old) (P.faults packs.new) result }
     {

@@ -1,10 +1,10 @@
 //! Blocks are written and read back.
-ghost use Rattle.std.specs.Prelude.{◌≡◌, ◌≢◌, ◌<◌, ◌≤◌, false, IsTrue, IfErr, OnOk, OnErr, replicate};
+ghost use Rattle.std.specs.Prelude.{◌≡◌, ◌≢◌, ◌==◌, ◌<◌, ◌≤◌, false, IsTrue, IfErr, OnOk, OnErr, replicate};
 ghost use Rattle.pack_geometry.specs.Geometry.{block_count};
 ghost use Rattle.pack_model.specs.Pack.{block_at, is_marked};
 ghost use Rattle.block_polls.specs.Stations.{IsAtRest};
 ghost use Rattle.block_tests.specs.Stages.{Fills, IsTested, Reaches, Stops, between, copied, is_copy, one, ranged};
-ghost use Rattle.block_tests.specs.TestFaults.{IsStop, IsTestCaused};
+ghost use Rattle.block_tests.specs.TestFaults.{IsStop, IsTestCaused, Tests, Writes};
 
 use crate::blocks::{all, first_difference};
 use crate::fault::TestFault;
@@ -28,7 +28,7 @@ fn read_back<P: Packs>(
     requires unmarked { IsTrue (P.tells packs.old) → is_marked (P.held packs.old unit) block ≡ false }
     ensures same { IsTrue (P.tells packs.new) → P.held packs.new ≡ P.held packs.old }
     ensures rest { OnOk result (IsAtRest kind station.new) }
-    ensures stop { IfErr result (IsStop (P.tells packs.new)) }
+    ensures stop { IfErr result (IsStop (P.tells packs.new) (Writes (λ sector. sector == block) bytes.now)) }
     ensures never_again { IsTrue (P.tells packs.new) → IsTrue (P.tells packs.old) }
     ensures cause { IsTestCaused (P.faults packs.old) (P.faults packs.new) result }
 {
@@ -60,7 +60,7 @@ fn write_and_read<P: Packs>(
     ensures fills { OnOk result (IsTrue (P.tells packs.new) → Fills unit (one (P.held packs.old unit) block) (bytes.now) (P.held packs.old) (P.held packs.new)) }
     ensures stops { OnErr result (IsTrue (P.tells packs.new) → Stops unit (one (P.held packs.old unit) block) (λ block_bytes. block_bytes ≡ bytes.now) (P.held packs.old) (P.held packs.new)) }
     ensures rest { OnOk result (IsAtRest kind station.new) }
-    ensures stop { IfErr result (IsStop (P.tells packs.new)) }
+    ensures stop { IfErr result (IsStop (P.tells packs.new) (Writes (λ sector. sector == block) bytes.now)) }
     ensures never_again { IsTrue (P.tells packs.new) → IsTrue (P.tells packs.old) }
     ensures cause { IsTestCaused (P.faults packs.old) (P.faults packs.new) result }
 {
@@ -85,7 +85,7 @@ fn test_block<P: Packs>(
     ensures fills { OnOk result (IsTrue (P.tells packs.new) → Fills unit (one (P.held packs.old unit) block) (replicate 512 0) (P.held packs.old) (P.held packs.new)) }
     ensures stops { OnErr result (IsTrue (P.tells packs.new) → Stops unit (one (P.held packs.old unit) block) (IsTested) (P.held packs.old) (P.held packs.new)) }
     ensures rest { OnOk result (IsAtRest kind station.new) }
-    ensures stop { IfErr result (IsStop (P.tells packs.new)) }
+    ensures stop { IfErr result (IsStop (P.tells packs.new) (Tests (λ sector. sector == block))) }
     ensures never_again { IsTrue (P.tells packs.new) → IsTrue (P.tells packs.old) }
     ensures cause { IsTestCaused (P.faults packs.old) (P.faults packs.new) result }
 {
@@ -112,7 +112,7 @@ pub fn test_blocks<P: Packs>(
     ensures fills { OnOk result (IsTrue (P.tells packs.new) → Fills unit (ranged (P.held packs.old unit) from to) (replicate 512 0) (P.held packs.old) (P.held packs.new)) }
     ensures stops { OnErr result (IsTrue (P.tells packs.new) → Reaches unit (between from to) (replicate 512 0) (IsTested) (P.held packs.old) (P.held packs.new)) }
     ensures rest { OnOk result (IsAtRest kind station.new) }
-    ensures stop { IfErr result (IsStop (P.tells packs.new)) }
+    ensures stop { IfErr result (IsStop (P.tells packs.new) (Tests (between from to))) }
     ensures never_again { IsTrue (P.tells packs.new) → IsTrue (P.tells packs.old) }
     ensures cause { IsTestCaused (P.faults packs.old) (P.faults packs.new) result }
 {
@@ -135,7 +135,7 @@ pub fn write_copies<P: Packs>(
     ensures fills { OnOk result (IsTrue (P.tells packs.new) → Fills unit (copied kind (P.held packs.old unit) 5) (bytes.now) (P.held packs.old) (P.held packs.new)) }
     ensures stops { OnErr result (IsTrue (P.tells packs.new) → Reaches unit (is_copy kind 5) (bytes.now) (λ copy. copy ≡ bytes.now) (P.held packs.old) (P.held packs.new)) }
     ensures rest { OnOk result (IsAtRest kind station.new) }
-    ensures stop { IfErr result (IsStop (P.tells packs.new)) }
+    ensures stop { IfErr result (IsStop (P.tells packs.new) (Writes (is_copy kind 5) bytes.now)) }
     ensures never_again { IsTrue (P.tells packs.new) → IsTrue (P.tells packs.old) }
     ensures cause { IsTestCaused (P.faults packs.old) (P.faults packs.new) result }
 {

@@ -1,40 +1,51 @@
 -- How formatting ends: the fault of a test of blocks as one of formatting, and what was read before any write.
-use Rattle.std.proofs.Common.{◌≡◌, inl, inr, ℕ, Bool, IsTrue, Result, Ok, Err, sym, subst}
-use Rattle.std.specs.Prelude.{IfErr, IfOk, IsErrAnd}
+use Rattle.std.proofs.Common.{◌≡◌, ◌≤◌, inl, inr, ℕ, List, Bool, IsTrue, Result, Ok, Err, subst, arith}
+use Rattle.std.specs.Prelude.{IfErr, IfOk}
+use Rattle.std.proofs.lemmas.Bool.Decides.{Decides-ltb}
 use Rattle.pack_geometry.specs.declared.DriveKind.{DriveKind}
 use Rattle.pack_model.specs.Pack.{Pack}
-use Rattle.block_tests.specs.TestFaults.{IsStop}
+use Rattle.pack_geometry.specs.Geometry.{copy_at}
+use Rattle.block_tests.specs.Stages.{between, is_copy}
+use Rattle.block_tests.specs.TestFaults.{IsStop, Tests, Writes}
+use Rattle.block_tests.proofs.StopLaws.{stop_as}
 use Rattle.block_tests.specs.declared.fault.TestFault.{TestFault}
 use Rattle.block_tests.specs.declared.fault.TestFault.TheVariants as test
-use Rattle.pack_format.specs.Faults.{IsFault, IsWhy, Leaves, from_test}
+use Rattle.pack_format.specs.Faults.{Formats, IsFault, IsWhy, Leaves, from_test}
 use Rattle.pack_format.specs.Formatted.{IsFormatted, IsPartly, found}
 use Rattle.pack_format.specs.declared.fault.FormatFault.{FormatFault}
 use Rattle.pack_format.specs.declared.formatting.FormatReport.{FormatReport}
 use Rattle.pack_format.specs.declared.fault.FormatFault.TheVariants.{Memory, TooLong, TooMany, Spare, NoCopy, Differs, Store}
+use Rattle.pack_format.proofs.FormatLaws.{range_told}
 
-pub at_error : {T E : Type 0} (result : Result T E) {e : E} (P : E → Type 0) → IsErrAnd result (λ x. x ≡ e) → P e → IfErr result P
-at_error (Ok v) P is p = tt
-at_error (Err x) P is p = subst P (sym is) p
+-- a test that stopped, below the copies or at one
+pub stop_below : (kind : DriveKind) (told : Bool) (from to : ℕ) (f : TestFault) → to ≤ copy_at kind 0 → IsStop told (Tests (between from to)) f → IsStop told (Formats kind) f
+stop_below kind told from to f le stop =
+    stop_as told (Tests (between from to)) (Formats kind) f stop
+    (λ block at byte lt w. let range = range_told from to block w.0 in inl ((Decides-ltb block (copy_at kind 0)).1 (omega (arith, le, range.1)), w.1))
 
--- a test that stopped
-pub why_of : (kind : DriveKind) (pack : Pack) (told : Bool) (f : TestFault) → IsStop told f → IsTrue told → IsWhy kind pack (from_test f)
+pub ends_copy : {T : Type 0} (kind : DriveKind) (told : Bool) (bytes : List ℕ) (result : Result T TestFault) → IfErr result (IsStop told (Writes (is_copy kind 5) bytes))
+    → IfErr result (IsStop told (Formats kind))
+ends_copy kind told bytes (Ok v) stop = tt
+ends_copy kind told bytes (Err f) stop = stop_as told (Writes (is_copy kind 5) bytes) (Formats kind) f stop (λ block at byte lt w. inr w.0)
+
+pub why_of : (kind : DriveKind) (pack : Pack) (told : Bool) (f : TestFault) → IsStop told (Formats kind) f → IsTrue told → IsWhy kind pack (from_test f)
 why_of kind pack told (test.Differs block at wrote read) stop t = absurd (stop.0 t)
 why_of kind pack told test.Store stop t = tt
 
-left_of : (kind : DriveKind) (serial unit : ℕ) (old new : ℕ → Pack) (told : Bool) (f : TestFault) → IsStop told f → IsTrue told
+left_of : (kind : DriveKind) (serial unit : ℕ) (old new : ℕ → Pack) (told : Bool) (f : TestFault) → IsStop told (Formats kind) f → IsTrue told
     → IsPartly kind serial (old unit) (new unit) → Leaves kind serial unit old new (from_test f)
 left_of kind serial unit old new told (test.Differs block at wrote read) stop t partly = absurd (stop.0 t)
 left_of kind serial unit old new told test.Store stop t partly = inr partly
 
-pub left_behind : (kind : DriveKind) (serial number unit : ℕ) (old mid new : ℕ → Pack) (told : Bool) (f : TestFault) → IsStop told f → IsTrue told → number ≡ serial
+pub left_behind : (kind : DriveKind) (serial number unit : ℕ) (old mid new : ℕ → Pack) (told : Bool) (f : TestFault) → IsStop told (Formats kind) f → IsTrue told → number ≡ serial
     → mid ≡ old → IsPartly kind number (mid unit) (new unit) → Leaves kind serial unit old new (from_test f)
 left_behind kind serial number unit old mid new told f stop t serial_is same partly =
     subst (λ (h : ℕ → Pack). Leaves kind serial unit h new (from_test f)) same
     (left_of kind serial unit mid new told f stop t (subst (λ (n : ℕ). IsPartly kind n (mid unit) (new unit)) serial_is partly))
 
-pub fault_of : (told : Bool) (f : TestFault) → IsStop told f → IsFault (from_test f)
-fault_of told (test.Differs block at wrote read) stop = (stop.1, stop.2)
-fault_of told test.Store stop = tt
+pub fault_of : (kind : DriveKind) (told : Bool) (f : TestFault) → IsStop told (Formats kind) f → IsFault kind (from_test f)
+fault_of kind told (test.Differs block at wrote read) stop = (stop.1, stop.2, stop.3)
+fault_of kind told test.Store stop = tt
 
 -- what changed nothing
 pub left_alone : (kind : DriveKind) (serial unit : ℕ) (old new : ℕ → Pack) (pack : Pack) (f : FormatFault) → IsWhy kind pack f → new ≡ old → Leaves kind serial unit old new f

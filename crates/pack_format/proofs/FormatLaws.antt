@@ -46,7 +46,7 @@ replacement_in Rp06 i n le lt = (omega (arith, le, lt), omega (arith, le, lt), o
 replacement_in Rm03 i n le lt = (omega (arith, le, lt), omega (arith, le, lt), omega (arith, le, lt))
 replacement_in Rm05 i n le lt = (omega (arith, le, lt), omega (arith, le, lt), omega (arith, le, lt))
 
-above_data : (kind : DriveKind) (k : ℕ) → limit_of kind ≤ copy_at kind k
+pub above_data : (kind : DriveKind) (k : ℕ) → limit_of kind ≤ copy_at kind k
 above_data Rp06 k = omega arith
 above_data Rm03 k = omega arith
 above_data Rm05 k = omega arith
@@ -54,7 +54,7 @@ above_data Rm05 k = omega arith
 first_copy : (kind : DriveKind) (k : ℕ) → copy_at kind 0 ≤ copy_at kind k
 first_copy kind k = omega arith
 
-range_told : (from to sector : ℕ) → (nat_le from sector && nat_lt sector to) ≡ true → (from ≤ sector) × (sector < to)
+pub range_told : (from to sector : ℕ) → (nat_le from sector && nat_lt sector to) ≡ true → (from ≤ sector) × (sector < to)
 range_told from to sector is = (grind (arith, nat_tests), grind (arith, nat_tests))
 
 range_by : (from to sector : ℕ) → from ≤ sector → sector < to → (nat_le from sector && nat_lt sector to) ≡ true

@@ -1,8 +1,11 @@
 -- Why a pack is not formatted, and what that leaves of it.
-use Rattle.std.specs.Prelude.{◌≡◌, ◌≢◌, ◌⊎◌, ℕ, ◌<◌, ◌≤◌, Result, IsErrOf, length}
+use Rattle.std.specs.Prelude.{◌≡◌, ◌≢◌, ◌⊎◌, ℕ, ◌<◌, ◌≤◌, nat_lt, true, Result, IsErrOf, length}
 use Rattle.pack_geometry.specs.declared.DriveKind.{DriveKind}
+use Rattle.pack_geometry.specs.Geometry.{copy_at}
 use Rattle.pack_model.specs.Pack.{Pack}
 use Rattle.outside_traits.specs.Causes.{Rose}
+use Rattle.block_tests.specs.Stages.{is_copy}
+use Rattle.block_tests.specs.TestFaults.{Tests}
 use Rattle.block_tests.specs.declared.fault.TestFault.{TestFault}
 use Rattle.block_tests.specs.declared.fault.TestFault.TheVariants as test
 use Rattle.pack_format.specs.Formatted.{HasNoCopy, IsPartly, IsSpare, IsTooLong, IsTooMany, found}
@@ -35,15 +38,19 @@ Leaves kind serial unit old new (Spare index) = new ≡ old
 Leaves kind serial unit old new NoCopy = new ≡ old
 Leaves kind serial unit old new Memory = new ≡ old
 
--- what is said of a fault whatever the packs tell: the byte that came back is another one
-abbrev pub IsFault : FormatFault → Type 0
-IsFault (Differs block at wrote read) = (at < 512) × (wrote ≢ read)
-IsFault (TooLong size) = Unit {0}
-IsFault (TooMany number) = Unit {0}
-IsFault (Spare index) = Unit {0}
-IsFault NoCopy = Unit {0}
-IsFault Memory = Unit {0}
-IsFault Store = Unit {0}
+-- which byte is written at a place of a block: a test's in a data block or a replacement, or one of the table in a copy
+abbrev pub Formats : DriveKind → (block at byte : ℕ) → Type 0
+Formats kind block at byte = Tests (λ sector. nat_lt sector (copy_at kind 0)) block at byte ⊎ (is_copy kind 5 block ≡ true)
+
+-- what is said of a fault whatever the packs tell: the byte that came back is another one than that which was written there
+abbrev pub IsFault : DriveKind → FormatFault → Type 0
+IsFault kind (Differs block at wrote read) = (at < 512) × Formats kind block at wrote × (wrote ≢ read)
+IsFault kind (TooLong size) = Unit {0}
+IsFault kind (TooMany number) = Unit {0}
+IsFault kind (Spare index) = Unit {0}
+IsFault kind NoCopy = Unit {0}
+IsFault kind Memory = Unit {0}
+IsFault kind Store = Unit {0}
 
 -- the packs fail only where their count of faults rose, which never falls
 pub record IsCaused {T : Type 0} (before now : ℕ) (result : Result T FormatFault) : Type 0 where

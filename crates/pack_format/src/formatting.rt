@@ -2,7 +2,7 @@
 ghost use Rattle.std.specs.Prelude.{◌≡◌, ◌≢◌, ℕ, ◌<◌, IfOk, IfErr, IsTrue, OnErr, OnOk};
 ghost use Rattle.block_polls.specs.Stations.{IsAtRest};
 ghost use Rattle.block_tests.specs.TestFaults.{IsStop, IsTestCaused};
-ghost use Rattle.pack_format.specs.Faults.{IsCaused, IsFault, IsWhy, Leaves};
+ghost use Rattle.pack_format.specs.Faults.{Formats, IsCaused, IsFault, IsWhy, Leaves};
 ghost use Rattle.pack_format.specs.Formatted.{CanBeFormatted, IsFormatted, IsPartly, IsTooLong, found, table_for};
 
 use crate::fault::FormatFault;
@@ -26,7 +26,7 @@ fn check_length<P: Packs>(packs: &mut P, unit: u8, kind: DriveKind) -> Result<()
     requires { unit < 32 }
     ensures fits { OnOk result (IsTrue (P.tells packs.new) → ¬ (IsTooLong kind (P.held packs.old unit))) }
     ensures why { IfErr result (λ fault. IsTrue (P.tells packs.new) → IsWhy kind (P.held packs.old unit) fault) }
-    ensures fault { IfErr result IsFault }
+    ensures fault { IfErr result (IsFault kind) }
     ensures same { IsTrue (P.tells packs.new) → P.held packs.new ≡ P.held packs.old }
     ensures never_again { IsTrue (P.tells packs.new) → IsTrue (P.tells packs.old) }
     ensures cause { IsCaused (P.faults packs.old) (P.faults packs.new) result }
@@ -53,7 +53,7 @@ fn write_blocks<P: Packs>(
     ensures formatted { OnOk result (IsTrue (P.tells packs.new) → IsFormatted kind table.now.serial (P.held packs.old unit) (P.held packs.new unit)) }
     ensures partly { OnErr result (IsTrue (P.tells packs.new) → IsPartly kind table.now.serial (P.held packs.old unit) (P.held packs.new unit)) }
     ensures elsewhere { (other : ℕ) → other ≢ unit → IsTrue (P.tells packs.new) → P.held packs.new other ≡ P.held packs.old other }
-    ensures stop { IfErr result (IsStop (P.tells packs.new)) }
+    ensures stop { IfErr result (IsStop (P.tells packs.new) (Formats kind)) }
     ensures never_again { IsTrue (P.tells packs.new) → IsTrue (P.tells packs.old) }
     ensures cause { IsTestCaused (P.faults packs.old) (P.faults packs.new) result }
 {
@@ -83,7 +83,7 @@ fn format_through<P: Packs>(
     ensures elsewhere { (other : ℕ) → other ≢ unit → IsTrue (P.tells packs.new) → P.held packs.new other ≡ P.held packs.old other }
     ensures why { IfErr result (λ fault. IsTrue (P.tells packs.new) → IsWhy kind (P.held packs.old unit) fault) }
     ensures left { IfErr result (λ fault. IsTrue (P.tells packs.new) → Leaves kind serial unit (P.held packs.old) (P.held packs.new) fault) }
-    ensures fault { IfErr result IsFault }
+    ensures fault { IfErr result (IsFault kind) }
     ensures never_again { IsTrue (P.tells packs.new) → IsTrue (P.tells packs.old) }
     ensures cause { IsCaused (P.faults packs.old) (P.faults packs.new) result }
 {
@@ -119,7 +119,7 @@ pub fn format<P: Packs>(
     ensures elsewhere { (other : ℕ) → other ≢ unit → IsTrue (P.tells packs.new) → P.held packs.new other ≡ P.held packs.old other }
     ensures why { IfErr result (λ fault. IsTrue (P.tells packs.new) → IsWhy kind (P.held packs.old unit) fault) }
     ensures left { IfErr result (λ fault. IsTrue (P.tells packs.new) → Leaves kind serial unit (P.held packs.old) (P.held packs.new) fault) }
-    ensures fault { IfErr result IsFault }
+    ensures fault { IfErr result (IsFault kind) }
     ensures never_again { IsTrue (P.tells packs.new) → IsTrue (P.tells packs.old) }
     ensures cause { IsCaused (P.faults packs.old) (P.faults packs.new) result }
 {

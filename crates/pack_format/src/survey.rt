@@ -214,7 +214,7 @@ pub(crate) fn first_reading<P: Packs>(
     ensures table { IfOk result (λ table. IsTrue (P.tells packs.new) → table ≡ table_for kind serial (P.held packs.old unit)) }
     ensures can { OnOk result (IsTrue (P.tells packs.new) → CanBeFormatted kind (P.held packs.old unit)) }
     ensures why { IfErr result (λ fault. IsTrue (P.tells packs.new) → IsWhy kind (P.held packs.old unit) fault) }
-    ensures fault { IfErr result IsFault }
+    ensures fault { IfErr result (IsFault kind) }
     ensures rest { OnOk result (IsAtRest kind station.new) }
     ensures same { IsTrue (P.tells packs.new) → P.held packs.new ≡ P.held packs.old }
     ensures never_again { IsTrue (P.tells packs.new) → IsTrue (P.tells packs.old) }

@@ -1,6 +1,7 @@
 use Rattle.std.proofs.Common.{ℕ, IsTrue, ap, ◌∙◌}
 use Rattle.pack_model.specs.Pack.{Pack}
-use Rattle.pack_format.proofs.EndLaws.{at_error, formatted_behind, leaves_behind, left_alone, why_behind}
+use Rattle.block_tests.proofs.StopLaws.{at_error}
+use Rattle.pack_format.proofs.EndLaws.{formatted_behind, leaves_behind, left_alone, why_behind}
 use Rattle.pack_format.proofs.formatting.format.Goals as goal
 
 pub returns-in_err-check_length-clause-left : goal.returns-in_err-check_length-clause-left

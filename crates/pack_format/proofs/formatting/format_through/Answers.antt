@@ -1,6 +1,7 @@
 use Rattle.std.proofs.Common.{ap}
 use Rattle.pack_model.specs.TableSpelling.{Table}
-use Rattle.pack_format.proofs.EndLaws.{at_error, fault_of, left_alone, left_behind, why_of}
+use Rattle.block_tests.proofs.StopLaws.{at_error}
+use Rattle.pack_format.proofs.EndLaws.{fault_of, left_alone, left_behind, why_of}
 use Rattle.pack_format.proofs.formatting.format_through.Goals as goal
 
 pub returns-in_err-table-clause-left : goal.returns-in_err-table-clause-left
@@ -24,4 +25,4 @@ returns-in_err-write_blocks-clause-left g c =
 
 pub returns-in_err-write_blocks-clause-fault : goal.returns-in_err-write_blocks-clause-fault
 returns-in_err-write_blocks-clause-fault g c =
-    at_error _ _ c.from_residual-in_err-write_blocks.ensures.1 (fault_of _ c.in_err-write_blocks.field-0.0 c.in_err-write_blocks.ensures.stop)
+    at_error _ _ c.from_residual-in_err-write_blocks.ensures.1 (fault_of c.args.kind _ c.in_err-write_blocks.field-0.0 c.in_err-write_blocks.ensures.stop)

@@ -2,7 +2,9 @@ use Rattle.std.proofs.Common.{◌≡◌, IsTrue, length, arith}
 use Rattle.block_polls.proofs.PollLaws.{on_err}
 use Rattle.block_tests.proofs.StageLaws.{on_err_then, on_ok_then}
 use Rattle.pack_format.specs.Formatted.{IsFormatted, IsPartly}
-use Rattle.pack_format.proofs.FormatLaws.{formatted, partly_copies, partly_data, partly_spares, set_of}
+use Rattle.block_tests.proofs.StopLaws.{at_error}
+use Rattle.pack_format.proofs.EndLaws.{ends_copy, stop_below}
+use Rattle.pack_format.proofs.FormatLaws.{above_data, formatted, partly_copies, partly_data, partly_spares, set_of}
 use Rattle.pack_format.proofs.formatting.write_blocks.Goals as goal
 
 pub returns-in_err-test_blocks-clause-partly : goal.returns-in_err-test_blocks-clause-partly
@@ -25,6 +27,19 @@ returns-in_err-test_blocks-2-clause-partly g c =
     partly_spares _ _ c.args.unit _ _ _ _ _ (g.P.Packs.held c.args.packs.now)
     (set_of (c.requires.can told) (c.requires.table told) count c.data_limit-limit.ensures c.copy_block-track.ensures)
     _ (c.in_ok-test_blocks.ensures.fills before) _ (c.in_err-test_blocks-2.ensures.stops t))
+
+pub returns-in_err-test_blocks-clause-stop : goal.returns-in_err-test_blocks-clause-stop
+returns-in_err-test_blocks-clause-stop g c =
+    at_error _ _ c.from_residual.ensures.1
+    (stop_below c.args.kind _ _ _ c.in_err-test_blocks.field-0.0 (omega (arith, c.data_limit-limit.ensures, above_data c.args.kind 0)) c.in_err-test_blocks.ensures.stop)
+
+pub returns-in_err-test_blocks-2-clause-stop : goal.returns-in_err-test_blocks-2-clause-stop
+returns-in_err-test_blocks-2-clause-stop g c =
+    at_error _ _ c.from_residual-in_err-test_blocks-2.ensures.1
+    (stop_below c.args.kind _ _ _ c.in_err-test_blocks-2.field-0.0 (omega (arith, c.copy_block-track.ensures)) c.in_err-test_blocks-2.ensures.stop)
+
+pub returns-clause-stop : goal.returns-clause-stop
+returns-clause-stop g c = ends_copy c.args.kind (g.P.Packs.tells c.write_copies.new.packs) _ c.write_copies.result c.write_copies.ensures.stop
 
 pub returns-clause-formatted : goal.returns-clause-formatted
 returns-clause-formatted g c =

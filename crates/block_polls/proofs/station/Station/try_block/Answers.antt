@@ -27,6 +27,7 @@ returns-in_default g c =
         c.step_sector.ensures.lent c.args.frame.now c.requires.begun.lent,
       );
       failed = tt;
+      stuck = tt;
       never_again = search rules;
       cause = search rules;
     }
