@@ -1,6 +1,6 @@
 // The subsystem: what its users call.
-ghost use Rattle.std.specs.Prelude.{◌≡◌, ◌↔◌, ℕ, ◌<◌, ◌≤◌, [], min, true, false, None, Some, IsTrue, IfOk, IfSome, IfNone, OnOk, OnErr, IsErrOf};
-ghost use Rattle.outside_traits.specs.Causes.{Rose, HasCause};
+ghost use Rattle.std.specs.Prelude.{◌≡◌, ◌↔◌, ℕ, ◌<◌, ◌≤◌, [], min, true, false, None, Some, IsTrue, IfOk, IfSome, IfNone, OnOk, OnErr};
+ghost use Rattle.outside_traits.specs.Causes.{HasCause};
 ghost use Rattle.main_memory.specs.Bytes.{filled, IsFill};
 ghost use Rattle.driver_machine.specs.declared.Made.{Made};
 ghost use Rattle.driver_machine.specs.World.{new_world, unit_at, held_in, block_in};
@@ -11,8 +11,8 @@ ghost use Rattle.driver_machine.specs.Sound.{Sound, AtWork};
 ghost use Rattle.driver_slots.specs.Parts.{AreSetups};
 ghost use Rattle.driver_work.specs.Runs.{NoneOutstanding};
 ghost use Rattle.driver_trace.specs.Noises.{AllFlip};
-ghost use Rattle.driver_outcome.specs.declared.Stop.TheVariants.{Store, Sink as SinkStop};
 ghost use Rattle.driver_outcome.specs.Outcome.{stop_in};
+ghost use Rattle.hp_core.specs.Done.{HasCauses};
 ghost use Rattle.hp_core.specs.Setups.{setups_of};
 ghost use Rattle.trace_bounds.specs.Commands.{CommandsAreBounded};
 ghost use Rattle.hp_events.specs.Inputs.{input_of};
@@ -145,10 +145,7 @@ impl Subsystem {
         ensures still { is_move (input_of event) ≡ false → packs.new ≡ packs.old }
         ensures never_again { IsTrue (P.tells packs.new) → IsTrue (P.tells packs.old) }
         ensures never_again_trace { IsTrue (T.tells trace.new) → IsTrue (T.tells trace.old) }
-        ensures later { P.faults packs.old ≤ P.faults packs.new }
-        ensures later_trace { T.faults trace.old ≤ T.faults trace.new }
-        ensures store { IsErrOf result Store → Rose (P.faults packs.old) (P.faults packs.new) }
-        ensures sink { IsErrOf result SinkStop → Rose (T.faults trace.old) (T.faults trace.new) }
+        ensures causes { HasCauses (P.faults packs.old) (P.faults packs.new) (T.faults trace.old) (T.faults trace.new) (stop_in result) }
         ensures bytes { KeepsMapsIn (P.tells packs.new) (P.held packs.old) (P.held packs.new) (input_of event) self.old.world self.new.world (stop_in result) }
     {
         match events::happen(&mut self.core, line, event, packs, trace) {
