@@ -17,3 +17,4 @@ pub mod ReadSectors
 pub mod Inputted
 pub mod LiveNoises
 pub mod Marks
+pub mod Named
