@@ -1,5 +1,6 @@
 -- When the calls of the tool answer each fault.
-use Rattle.std.specs.Prelude.{◌≡◌, ℕ, ◌<◌, ◌*◌}
+use Rattle.std.specs.Prelude.{◌≡◌, ℕ, ◌<◌, ◌≤◌, ◌*◌, Result, IsErrOf}
+use Rattle.outside_traits.specs.Causes.{Rose}
 use Rattle.pack_geometry.specs.declared.DriveKind.{DriveKind}
 use Rattle.pack_geometry.specs.Geometry.{block_count}
 use Rattle.pack_model.specs.Pack.{Pack}
@@ -112,3 +113,8 @@ IsRefusal Full = Unit {0}
 IsRefusal (Spare j) = Unit {0}
 IsRefusal Store = ⊥
 IsRefusal Sink = ⊥
+
+-- the count has not fallen, and it rose where the answer is this fault
+pub record IsCounted {T : Type 0} (fault : ToolFault) (before now : ℕ) (result : Result T ToolFault) : Type 0 where
+  pub later : before ≤ now
+  pub rose : IsErrOf result fault → Rose before now

@@ -1,9 +1,8 @@
-ghost use Rattle.std.specs.Prelude.{◌≡◌, ◌<◌, ◌≤◌, ◌-◌, ◌+◌, ◌*◌, ◌^◌, [], ◌∷◌, ◌++◌, IsTrue, IfOk, OnOk, OnErr, length, replicate};
+ghost use Rattle.std.specs.Prelude.{◌<◌, ◌≤◌, ◌-◌, ◌+◌, [], ◌∷◌, length};
 ghost use Rattle.pack_geometry.specs.Geometry.{copy_at, limit_of, replacement_at};
 ghost use Rattle.pack_model.specs.Pack.{block_at};
-ghost use Rattle.pack_model.specs.TableSpelling.{Table, table_text};
-ghost use Rattle.outside_traits.specs.Causes.{HasCause};
-ghost use Rattle.bad144_tool.specs.Changes.{DoesAll, with_changes, Block, Mark};
+ghost use Rattle.pack_model.specs.TableSpelling.{table_text};
+ghost use Rattle.bad144_tool.specs.Changes.{DoesAll, Block};
 ghost use Rattle.bad144_tool.specs.Edit.{copies, edit_writes, first_content, marking, moves, writes_with};
 
 use bad144_table::{BadTable, entries, write_table};

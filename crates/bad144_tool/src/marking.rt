@@ -1,9 +1,8 @@
-ghost use Rattle.std.specs.Prelude.{◌≡◌, ◌<◌, ◌≤◌, ◌+◌, [], ◌∷◌, if◌then◌else◌, IsTrue, IfOk, IfErr, IsErrOf, OnOk, length};
-ghost use Rattle.pack_geometry.specs.Geometry.{block_number, block_count, IsInside};
-ghost use Rattle.pack_model.specs.TableSpelling.{IsTable};
-ghost use Rattle.outside_traits.specs.Causes.{HasCause, Rose};
+ghost use Rattle.std.specs.Prelude.{◌≡◌, ◌<◌, ◌+◌, [], ◌∷◌, if◌then◌else◌, IsTrue, IfOk, IfErr, length};
+ghost use Rattle.pack_geometry.specs.Geometry.{block_number, IsInside};
+ghost use Rattle.outside_traits.specs.Causes.{HasCause};
 ghost use Rattle.bad144_tool.specs.Changes.{DoesAll};
-ghost use Rattle.bad144_tool.specs.Faults.{IsMarkFault, IsWhy, LeavesMarks};
+ghost use Rattle.bad144_tool.specs.Faults.{IsCounted, IsMarkFault, IsWhy, LeavesMarks};
 ghost use Rattle.bad144_tool.specs.Marking.{Marks, markings, to_mark, wants_mark};
 
 use crate::edit::write_mark;
@@ -93,8 +92,7 @@ pub fn mark<P: Packs>(packs: &mut P, unit: u8, kind: DriveKind) -> Result<u8, To
     ensures faults { IfErr result (IsMarkFault kind) }
     ensures why { IfErr result (λ fault. IsTrue (P.tells packs.new) → IsWhy kind (P.held packs.old unit) 0 fault) }
     ensures left { IfErr result (λ fault. IsTrue (P.tells packs.new) → LeavesMarks kind unit (P.held packs.old) (P.held packs.new) fault) }
-    ensures later { P.faults packs.old ≤ P.faults packs.new }
-    ensures store { IsErrOf result ToolFault.Store → Rose (P.faults packs.old) (P.faults packs.new) }
+    ensures store { IsCounted ToolFault.Store (P.faults packs.old) (P.faults packs.new) result }
 {
     let table = table_that_fits(packs, unit, kind)?;
     let count = mark_all(packs, unit, kind, &table)?;

@@ -1,12 +1,11 @@
 ghost use Rattle.std.specs.Prelude.{◌≡◌, ◌≢◌, ℕ, ◌<◌, ◌≤◌, ◌*◌, [], ◌++◌, length, IsTrue, IfOk, IfErr, IfSome, OnOk, IsErrOf};
 ghost use Rattle.pack_geometry.specs.Geometry.{IsInside, block_count, block_number, limit_of};
 ghost use Rattle.pack_model.specs.TableSpelling.{Table, table_text};
-ghost use Rattle.outside_traits.specs.Causes.{Rose};
 ghost use Rattle.outside_traits.specs.Puts.{Puts};
 ghost use Rattle.bad144_tool.specs.Adding.{Adds, AreFree, Fits, HasTable, IsFirstMarked, MayList};
 ghost use Rattle.bad144_tool.specs.Changes.{IsCutShort, with_changes};
 ghost use Rattle.bad144_tool.specs.Edit.{copies};
-ghost use Rattle.bad144_tool.specs.Faults.{IsAddFault, IsFreshFault, IsListFault, IsMarkFault, IsSpareFault, IsWhy, Leaves};
+ghost use Rattle.bad144_tool.specs.Faults.{IsAddFault, IsCounted, IsFreshFault, IsListFault, IsMarkFault, IsSpareFault, IsWhy, Leaves};
 ghost use Rattle.bad144_tool.specs.Texts.{Lists, ListsFront, entry_lines, list_text, table_line as the_line};
 
 use crate::edit::{AddWay, write_copies, write_edit};
@@ -25,8 +24,7 @@ fn check_length<P: Packs>(packs: &mut P, unit: u8, kind: DriveKind) -> Result<()
     ensures fits { OnOk result (IsTrue (P.tells packs.new) → Fits kind (P.held packs.old unit)) }
     ensures faults { IfErr result (IsFreshFault kind) }
     ensures why { IfErr result (λ fault. IsTrue (P.tells packs.new) → IsWhy kind (P.held packs.old unit) 0 fault) }
-    ensures later { P.faults packs.old ≤ P.faults packs.new }
-    ensures store { IsErrOf result ToolFault.Store → Rose (P.faults packs.old) (P.faults packs.new) }
+    ensures store { IsCounted ToolFault.Store (P.faults packs.old) (P.faults packs.new) result }
 {
     let length = packs.length(unit)?;
     if length > 512 * u64::from(blocks(kind)) {
@@ -56,8 +54,7 @@ pub(crate) fn table_that_fits<P: Packs>(
     ensures faults { IfErr result (IsAddFault kind) }
     ensures only { IfErr result (IsMarkFault kind) }
     ensures why { (block : ℕ) → IfErr result (λ fault. IsTrue (P.tells packs.new) → IsWhy kind (P.held packs.old unit) block fault) }
-    ensures later { P.faults packs.old ≤ P.faults packs.new }
-    ensures store { IsErrOf result ToolFault.Store → Rose (P.faults packs.old) (P.faults packs.new) }
+    ensures store { IsCounted ToolFault.Store (P.faults packs.old) (P.faults packs.new) result }
 {
     check_length(packs, unit, kind)?;
     match table_of(packs, unit, kind)? {
@@ -82,8 +79,7 @@ fn check_spare<P: Packs>(
     ensures faults { IfErr result IsSpareFault }
     ensures marked { (j : ℕ) → IsErrOf result (ToolFault.Spare j) → IsTrue (P.tells packs.new) →
         IsFirstMarked kind (P.held packs.old unit) i end j }
-    ensures later { P.faults packs.old ≤ P.faults packs.new }
-    ensures store { IsErrOf result ToolFault.Store → Rose (P.faults packs.old) (P.faults packs.new) }
+    ensures store { IsCounted ToolFault.Store (P.faults packs.old) (P.faults packs.new) result }
 {
     for j in i..end {
         if packs.marked(unit, replacement(kind, u32::from(j)))? {
@@ -110,8 +106,7 @@ fn make_plan<P: Packs>(
         (old : Table) × MayList kind (P.held packs.old unit) block plan.index old plan.table) }
     ensures faults { IfErr result (IsAddFault kind) }
     ensures why { IfErr result (λ fault. IsTrue (P.tells packs.new) → IsWhy kind (P.held packs.old unit) block fault) }
-    ensures later { P.faults packs.old ≤ P.faults packs.new }
-    ensures store { IsErrOf result ToolFault.Store → Rose (P.faults packs.old) (P.faults packs.new) }
+    ensures store { IsCounted ToolFault.Store (P.faults packs.old) (P.faults packs.new) result }
 {
     place_law(kind);
     let mut table = table_that_fits(packs, unit, kind)?;
@@ -144,8 +139,7 @@ pub fn add<P: Packs>(
     ensures faults { IfErr result (IsAddFault kind) }
     ensures why { IfErr result (λ fault. IsTrue (P.tells packs.new) → IsWhy kind (P.held packs.old unit) block fault) }
     ensures left { IfErr result (λ fault. IsTrue (P.tells packs.new) → Leaves kind unit block way (P.held packs.old) (P.held packs.new) fault) }
-    ensures later { P.faults packs.old ≤ P.faults packs.new }
-    ensures store { IsErrOf result ToolFault.Store → Rose (P.faults packs.old) (P.faults packs.new) }
+    ensures store { IsCounted ToolFault.Store (P.faults packs.old) (P.faults packs.new) result }
 {
     let plan = make_plan(packs, unit, kind, block)?;
     write_edit(packs, unit, kind, block, way, &plan.table, plan.index)?;
@@ -172,8 +166,7 @@ pub fn fresh<P: Packs>(
     ensures stopped { IsErrOf result ToolFault.Store → IsTrue (P.tells packs.new) →
         IsCutShort (P.held packs.old) (P.held packs.new) unit (copies kind (table_text serial [])) }
     ensures unchanged { (n : ℕ) → IsErrOf result (ToolFault.TooLong n) → IsTrue (P.tells packs.new) → P.held packs.new ≡ P.held packs.old }
-    ensures later { P.faults packs.old ≤ P.faults packs.new }
-    ensures store { IsErrOf result ToolFault.Store → Rose (P.faults packs.old) (P.faults packs.new) }
+    ensures store { IsCounted ToolFault.Store (P.faults packs.old) (P.faults packs.new) result }
 {
     check_length(packs, unit, kind)?;
     write_copies(packs, unit, kind, &empty_table(kind, serial))?;
@@ -250,10 +243,8 @@ pub fn list<P: Packs, O: Sink>(
     ensures front { IsErrOf result ToolFault.Sink → IsTrue (P.tells packs.new) →
         ListsFront kind (P.held packs.old unit) (O.tells out.new) (O.taken out.old) (O.taken out.new) }
     ensures silent { IfErr result (λ fault. fault ≢ ToolFault.Sink → out.new ≡ out.old) }
-    ensures later { P.faults packs.old ≤ P.faults packs.new }
-    ensures store { IsErrOf result ToolFault.Store → Rose (P.faults packs.old) (P.faults packs.new) }
-    ensures out_later { O.faults out.old ≤ O.faults out.new }
-    ensures sink { IsErrOf result ToolFault.Sink → Rose (O.faults out.old) (O.faults out.new) }
+    ensures store { IsCounted ToolFault.Store (P.faults packs.old) (P.faults packs.new) result }
+    ensures sink { IsCounted ToolFault.Sink (O.faults out.old) (O.faults out.new) result }
 {
     check_length(packs, unit, kind)?;
     let table = table_of(packs, unit, kind)?;

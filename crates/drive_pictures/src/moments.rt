@@ -4,7 +4,7 @@ ghost use Rattle.std.specs.Prelude.{◌≡◌};
 ghost use Rattle.drive_pictures.specs.Events.{line_of, begins, begins_at, begins_by, is_end_of_wait, is_idle};
 
 use crate::drives::Change;
-use script_reader::statement::Request;
+use script_lines::Request;
 use trace_lines::Told;
 
 /// What a line of the script does that can be seen in the picture.

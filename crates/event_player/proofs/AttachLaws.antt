@@ -11,10 +11,11 @@ use Rattle.pack_geometry.specs.declared.DriveKind.{DriveKind}
 use Rattle.pack_geometry.specs.Geometry.{block_count}
 use Rattle.pack_model.specs.Pack.{Pack}
 use Rattle.pack_model.specs.PackTable.{AreTablesOf}
-use Rattle.script_reader.specs.declared.statement.Span.{Span}
-use Rattle.script_reader.specs.declared.statement.Statement.{Statement as Said}
-use Rattle.script_reader.specs.declared.statement.Statement.TheVariants as says
-use Rattle.script_reader.specs.Stored.{Kept, Stored, seen, renamed, digits_at}
+use Rattle.script_lines.specs.declared.statement.Span.{Span}
+use Rattle.script_lines.specs.declared.statement.Statement.{Statement as Said}
+use Rattle.script_lines.specs.declared.statement.Statement.TheVariants as says
+use Rattle.script_reader.specs.Stored.{Kept, Stored, seen, digits_at}
+use Rattle.script_lines.specs.Renamed.{renamed}
 use Rattle.script_meaning.specs.Meaning.{statement_of, line_of, meaning_of}
 use Rattle.trace_replay.specs.Script.{Script, Statement, Declares, Plays, Line, declared_by, drives_in, drives_of, IsPlayed, AreUnitsFirst}
 use Rattle.driver_machine.specs.World.{Setup}

@@ -5,13 +5,14 @@ use Rattle.std.specs.Box.{box_value}
 use Rattle.std.specs.declared.alloc.Global.{Global}
 use Rattle.pack_model.specs.Pack.{Pack}
 use Rattle.pack_model.specs.TableSpelling.{Table}
-use Rattle.script_reader.specs.declared.statement.Span.{Span}
+use Rattle.script_lines.specs.declared.statement.Span.{Span}
 use Rattle.hardware_table.specs.declared.NoiseSpan.{NoiseSpan}
-use Rattle.script_reader.specs.declared.statement.Statement as Told
-use Rattle.script_reader.specs.declared.statement.Statement.TheVariants as stated
-use Rattle.script_reader.specs.declared.statement.Content.{Content}
-use Rattle.script_reader.specs.declared.statement.Request.{Request as Asked}
-use Rattle.script_reader.specs.Stored.{Kept, seen, renamed, digits_at, content_by}
+use Rattle.script_lines.specs.declared.statement.Statement as Told
+use Rattle.script_lines.specs.declared.statement.Statement.TheVariants as stated
+use Rattle.script_lines.specs.declared.statement.Content.{Content}
+use Rattle.script_lines.specs.declared.statement.Request.{Request as Asked}
+use Rattle.script_reader.specs.Stored.{Kept, seen, digits_at}
+use Rattle.script_lines.specs.Renamed.{renamed, content_by}
 use Rattle.script_meaning.specs.Meaning.{statement_of, written_of}
 use Rattle.subsystem_spec.specs.Requests.{Request}
 use Rattle.trace_replay.specs.Moments.{Moment, Played}

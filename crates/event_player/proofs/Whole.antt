@@ -7,9 +7,9 @@ use Rattle.pack_geometry.specs.declared.DriveKind.{DriveKind}
 use Rattle.pack_model.specs.Pack.{Pack}
 use Rattle.pack_model.specs.TableSpelling.{Table}
 use Rattle.pack_model.specs.PackTable.{AreTablesOf}
-use Rattle.script_reader.specs.declared.statement.Statement.TheVariants as stated
+use Rattle.script_lines.specs.declared.statement.Statement.TheVariants as stated
 use Rattle.script_reader.specs.Formed.{IsInRange, AreWell, learned}
-use Rattle.script_reader.specs.Known.{Known, Said, Numbered, known_of}
+use Rattle.script_lines.specs.Known.{Known, Said, Numbered, known_of}
 use Rattle.script_reader.specs.Stored.{Stored, Kept, seen, lines_in}
 use Rattle.script_meaning.specs.Meaning.{line_of, meaning_of}
 use Rattle.trace_replay.specs.Moments.{Moment}

@@ -5,8 +5,8 @@ use Rattle.pack_geometry.specs.Geometry.{block_count}
 use Rattle.pack_model.specs.Pack.{Pack}
 use Rattle.pack_model.specs.TableSpelling.{Table}
 use Rattle.pack_model.specs.PackTable.{IsTableOf}
-use Rattle.script_reader.specs.declared.statement.Statement.{Statement}
-use Rattle.script_reader.specs.declared.statement.Statement.TheVariants as says
+use Rattle.script_lines.specs.declared.statement.Statement.{Statement}
+use Rattle.script_lines.specs.declared.statement.Statement.TheVariants as says
 use Rattle.driver_machine.specs.World.{Setup}
 use Rattle.driver_machine.specs.Sound.{IsTableFor}
 use Rattle.event_player.specs.declared.play.PlayFault.{PlayFault}

@@ -5,7 +5,7 @@ ghost use Rattle.pack_model.specs.PackTable.{AreTablesOf};
 ghost use Rattle.pack_model.specs.TableSpelling.{IsTable};
 ghost use Rattle.script_reader.specs.Grammar.{Spells};
 ghost use Rattle.script_reader.specs.Stored.{lines_in};
-ghost use Rattle.script_reader.specs.Words.{all_verbs};
+ghost use Rattle.script_words.specs.Words.{all_verbs};
 ghost use Rattle.script_meaning.specs.Meaning.{meaning_of};
 ghost use Rattle.trace_replay.specs.Script.{drives_of};
 ghost use Rattle.hp_core.specs.Setups.{setup_of, setups_of};
@@ -22,8 +22,7 @@ use mba_autoconf::{AttachFault, attach};
 use outside_traits::traits::Packs;
 use pack_geometry::DriveKind;
 use script_meaning::meaning_law;
-use script_reader::script::{Script, Stored};
-use script_reader::statement::Statement;
+use script_reader::{Script, Statement, Stored};
 use std::alloc::Global;
 
 /// The law of tables: each is valid.

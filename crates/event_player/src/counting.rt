@@ -2,12 +2,11 @@
 ghost use Rattle.std.specs.Prelude.{◌≡◌, ◌≤◌, ℕ, List};
 ghost use Rattle.script_reader.specs.Grammar.{Spells};
 ghost use Rattle.script_reader.specs.Stored.{lines_in, seen};
-ghost use Rattle.script_reader.specs.Words.{all_verbs};
+ghost use Rattle.script_words.specs.Words.{all_verbs};
 ghost use Rattle.script_meaning.specs.Meaning.{meaning_of, statement_of};
 ghost use Rattle.event_player.specs.Playing.{counted, one_request, one_noise};
 
-use script_reader::script::{Script, Stored, read_back_law};
-use script_reader::statement::Statement;
+use script_reader::{Script, Statement, Stored, read_back_law};
 
 /// How many requests a line brings.
 fn requests_of(line: &Stored) -> u32

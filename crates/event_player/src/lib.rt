@@ -23,5 +23,4 @@ mod drains;
 pub mod play;
 mod player;
 
-pub use script_reader::fault::{ReadFault, ScriptKind};
-pub use script_reader::script::{Script, read_script};
+pub use script_reader::{ReadFault, Script, ScriptKind, read_script};

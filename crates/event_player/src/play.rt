@@ -4,7 +4,7 @@ ghost use Rattle.outside_traits.specs.Causes.{Rose};
 ghost use Rattle.pack_model.specs.TableSpelling.{Table};
 ghost use Rattle.script_reader.specs.Grammar.{Spells};
 ghost use Rattle.script_reader.specs.Stored.{lines_in};
-ghost use Rattle.script_reader.specs.Words.{all_verbs};
+ghost use Rattle.script_words.specs.Words.{all_verbs};
 ghost use Rattle.script_meaning.specs.Meaning.{meaning_of};
 ghost use Rattle.answer_tally.specs.Counting.{tally_by};
 ghost use Rattle.event_player.specs.Plays.{Tallied, IsTooLong};
@@ -23,7 +23,7 @@ use driver_outcome::Stop;
 use hp_driver::Subsystem;
 use outside_traits::traits::{NoMemory, Packs, Sink, SinkFailed};
 use script_meaning::meaning_law;
-use script_reader::script::{Script, read_back_law};
+use script_reader::{Script, read_back_law};
 use std::alloc::{AllocError, Global};
 use thiserror::Error;
 

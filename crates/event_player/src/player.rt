@@ -5,8 +5,9 @@ ghost use Rattle.hardware_table.specs.Noise.{LiveNoise};
 ghost use Rattle.outside_traits.specs.Causes.{HasCause};
 ghost use Rattle.outside_traits.specs.Puts.{TakesFront};
 ghost use Rattle.script_reader.specs.Formed.{IsWritten};
-ghost use Rattle.script_reader.specs.declared.statement.Span.{Span};
-ghost use Rattle.script_reader.specs.Stored.{seen, renamed, content_by, digits_at};
+ghost use Rattle.script_lines.specs.declared.statement.Span.{Span};
+ghost use Rattle.script_reader.specs.Stored.{seen, digits_at};
+ghost use Rattle.script_lines.specs.Renamed.{renamed, content_by};
 ghost use Rattle.script_meaning.specs.Meaning.{statement_of, request_of, written_of, bytes_of};
 ghost use Rattle.trace_replay.specs.Moments.{Played};
 ghost use Rattle.trace_replay.specs.Script.{Noise as NoiseInput, Plays};
@@ -27,8 +28,7 @@ use hp_driver::{Event, Request, Subsystem};
 use outside_traits::traits::{Packs, Sink, SinkFailed};
 use outside_traits::whole::write_all;
 use script_meaning::meaning_law;
-use script_reader::script::{Script, Stored};
-use script_reader::statement::{Content, Request as Asked, Span, Statement};
+use script_reader::{Content, Request as Asked, Script, Span, Statement, Stored};
 
 /// Says the class of noise that is armed at a line, and counts what it says.
 fn say_noise<O: Sink>(

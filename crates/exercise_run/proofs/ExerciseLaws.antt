@@ -1,17 +1,17 @@
 -- What an exercise comes to.
-use Rattle.std.proofs.Common.{◌≡◌, ℕ, suc, ◌+◌, ◌-◌, ◌^◌, ◌<◌, Bool, false, IsTrue, List, [], ◌∷◌, map, min, length, All, Option, sym, ap, subst, arith, ◌∙◌}
+use Rattle.std.proofs.Common.{◌≡◌, ℕ, suc, ◌+◌, ◌-◌, ◌^◌, ◌<◌, Bool, false, List, [], ◌∷◌, map, min, length, All, Option, sym, ap, subst, arith, ◌∙◌}
 use Rattle.pack_model.specs.Pack.{Pack}
 use Rattle.pack_model.specs.TableSpelling.{Table}
-use Rattle.script_reader.specs.declared.statement.Statement.TheVariants as says
+use Rattle.script_lines.specs.declared.statement.Statement.TheVariants as says
 use Rattle.script_reader.specs.declared.fault.ReadFault.{ReadFault}
 use Rattle.script_reader.specs.declared.fault.ReadFault.TheVariants as reading
-use Rattle.script_reader.specs.declared.fault.ScriptKind.{ScriptKind}
+use Rattle.script_words.specs.declared.kinds.ScriptKind.{ScriptKind}
 use Rattle.script_reader.specs.Grammar.{Spells, IsRefused}
 use Rattle.script_reader.specs.Reading.{Refuses}
-use Rattle.script_reader.specs.Known.{Said, Numbered as NumberedLine}
+use Rattle.script_lines.specs.Known.{Said, Numbered as NumberedLine}
 use Rattle.script_reader.specs.Printing.{numbered}
 use Rattle.script_reader.specs.Stored.{Stored, lines_in}
-use Rattle.script_reader.specs.Words.{all_verbs}
+use Rattle.script_words.specs.Words.{all_verbs}
 use Rattle.script_meaning.specs.Meaning.{line_of, meaning, meaning_of, statement_of}
 use Rattle.trace_replay.specs.Moments.{Moment, answers_in}
 use Rattle.trace_replay.specs.Script.{Drain, Numbered, Script, IsScript, with_input, inputs_before}
@@ -23,8 +23,7 @@ use Rattle.one_run.proofs.Whole.{legal_runs_are_one}
 use Rattle.event_player.specs.declared.play.PlayFault.{PlayFault}
 use Rattle.event_player.specs.declared.play.PlayFault.TheVariants as faults
 use Rattle.event_player.specs.Playing.{counted, one_request}
-use Rattle.event_player.specs.Faults.{IsLongFor}
-use Rattle.event_player.specs.Plays.{NamesTooLong, Tallied}
+use Rattle.event_player.specs.Plays.{Tallied}
 use Rattle.event_player.specs.Stops.{Leaves}
 use Rattle.hp_exercise.specs.Bounds.{HasShortNoise}
 use Rattle.hp_exercise.specs.Exercise.{script_text}
@@ -130,12 +129,3 @@ cut_short_for number script fault first left tells taken taken' same exercise em
   stops = subst (λ (s : Script). Leaves faults.Sink s first left false [] [] tells taken taken') same
       (subst (λ (f : PlayFault). Leaves f script first left false [] [] tells taken taken') sink leaves);
 }
-
--- NOTHING IS TOO LONG of packs that are empty.
-pub never_long : (script : Script) (tells : Bool) (packs : ℕ → Pack) (fault : PlayFault) (unit length_is : ℕ) → fault ≡ faults.TooLong unit length_is → IsTrue tells → AreEmpty packs
-    → IsLongFor script tells packs fault → ⊥
-never_long script tells packs fault unit length_is e told empty is =
-    let long : NamesTooLong script tells packs unit length_is = subst (λ (f : PlayFault). IsLongFor script tells packs f) e is in
-    let more = long.more in
-    let none : length_is ≡ 0 = long.is told ∙ ap (λ (pack : Pack). length pack.image) (empty unit) in
-    omega (arith, more, none)

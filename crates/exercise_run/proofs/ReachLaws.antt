@@ -7,9 +7,9 @@ use Rattle.pack_geometry.specs.declared.DriveKind.TheVariants.{Rp06, Rm03, Rm05}
 use Rattle.partitions.specs.declared.Part.TheVariants.{A}
 use Rattle.partitions.specs.declared.Part.{Part}
 use Rattle.partitions.specs.Partitions.{first_of}
-use Rattle.script_reader.specs.declared.statement.Request.{Request}
-use Rattle.script_reader.specs.declared.statement.Statement.TheVariants as says
-use Rattle.script_reader.specs.Known.{Said}
+use Rattle.script_lines.specs.declared.statement.Request.{Request}
+use Rattle.script_lines.specs.declared.statement.Statement.TheVariants as says
+use Rattle.script_lines.specs.Known.{Said}
 use Rattle.script_reader.specs.Printing.{numbered}
 use Rattle.script_meaning.specs.Meaning.{line_of, statement_of}
 use Rattle.trace_replay.specs.Script.{Drain, Numbered, drives_of, inputs_before, inputs_of, with_input}

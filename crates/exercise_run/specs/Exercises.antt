@@ -4,9 +4,9 @@ use Rattle.pack_model.specs.Pack.{Pack}
 use Rattle.outside_traits.specs.Causes.{Rose}
 use Rattle.outside_traits.specs.Puts.{TakesFront}
 use Rattle.script_reader.specs.Grammar.{Spells}
-use Rattle.script_reader.specs.Known.{Numbered}
+use Rattle.script_lines.specs.Known.{Numbered}
 use Rattle.script_reader.specs.Printing.{numbered}
-use Rattle.script_reader.specs.Words.{all_verbs}
+use Rattle.script_words.specs.Words.{all_verbs}
 use Rattle.script_meaning.specs.Meaning.{meaning}
 use Rattle.trace_replay.specs.Script.{Script, inputs_of}
 use Rattle.block_machine.specs.LegalAnswers.{AreNoAliases}

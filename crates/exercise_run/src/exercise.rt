@@ -1,5 +1,5 @@
 // The script of a number is played, and its tally is printed.
-ghost use Rattle.std.specs.Prelude.{◌≡◌, ◌⊎◌, ◌≤◌, IfOk, OnOk, IsErrOf};
+ghost use Rattle.std.specs.Prelude.{◌≡◌, ◌⊎◌, IfOk, OnOk, IsErrOf};
 ghost use Rattle.outside_traits.specs.Causes.{Rose};
 ghost use Rattle.exercise_run.specs.Exercises.{Exercised, IsCutShort, IsDone, IsStopped};
 
@@ -13,8 +13,7 @@ use outside_traits::traits::Sink;
 use outside_traits::whole::write_all;
 use run_promises::promises_law;
 use script_meaning::meaning_law;
-use script_reader::fault::ReadFault;
-use script_reader::script::{grammar_law, read_script};
+use script_reader::{ReadFault, grammar_law, read_script};
 use std::alloc::Global;
 use thiserror::Error;
 

@@ -1,5 +1,5 @@
 // The packs of an exercise.
-ghost use Rattle.std.specs.Prelude.{◌≡◌, ℕ, true, None, IfOk};
+ghost use Rattle.std.specs.Prelude.{◌≡◌, true, None, IfOk};
 ghost use Rattle.exercise_run.specs.Room.{AreEmpty, IsBlank, AreBlank, held_on, room_on};
 
 use mass_outside::slots::Image;

@@ -10,8 +10,8 @@ use Rattle.hardware_table.specs.declared.FaultKind.TheVariants.{Opi}
 use Rattle.hardware_table.specs.declared.NoiseSpan.TheVariants.{Times}
 use Rattle.pack_geometry.specs.declared.DriveKind.TheVariants.{Rp06, Rm03}
 use Rattle.rand_core.specs.Stream.{Stream, next_u64}
-use Rattle.script_reader.specs.Known.{Said}
-use Rattle.script_reader.specs.declared.statement.Statement.TheVariants as says
+use Rattle.script_lines.specs.Known.{Said}
+use Rattle.script_lines.specs.declared.statement.Statement.TheVariants as says
 use Rattle.hp_exercise.specs.Exercise.{unit_of, block_of, place_of, count_of, offset_of, times_of, words_of}
 use Rattle.hp_exercise.specs.Bounds.{frames_of, IsNarrow, HasShortNoise, most_asked, strikes_of, armed}
 use Rattle.hp_exercise.specs.Statements.{request_of, chosen_statement, step_statement, steps_statements, script_statements}

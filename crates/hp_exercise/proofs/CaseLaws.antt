@@ -5,9 +5,9 @@ use Rattle.std.proofs.lemmas.List.Elements.{All-nil, All-cons}
 use Rattle.hardware_table.specs.declared.FaultKind.TheVariants.{Opi}
 use Rattle.hardware_table.specs.declared.NoiseSpan.TheVariants.{Times}
 use Rattle.rand_core.specs.Stream.{Stream, next_u64}
-use Rattle.script_reader.specs.Known.{Said}
-use Rattle.script_reader.specs.declared.statement.Content.TheVariants.{Seq}
-use Rattle.script_reader.specs.declared.statement.Statement.TheVariants as says
+use Rattle.script_lines.specs.Known.{Said}
+use Rattle.script_lines.specs.declared.statement.Content.TheVariants.{Seq}
+use Rattle.script_lines.specs.declared.statement.Statement.TheVariants as says
 use Rattle.hp_exercise.specs.Exercise.{unit_of, block_of, place_of, seq_of, times_of, choice_of}
 use Rattle.hp_exercise.specs.Statements.{request_of, chosen_statement, step_statement, steps_statements}
 

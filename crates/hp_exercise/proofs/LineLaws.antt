@@ -9,11 +9,11 @@ use Rattle.mass_text.specs.declared.numbers.Radix.TheVariants.{Decimal}
 use Rattle.mass_text.proofs.NumberLaws.{length-numeral-le}
 use Rattle.rand_core.specs.Stream.{Stream, next_u64}
 use Rattle.script_reader.specs.Grammar.{Spells}
-use Rattle.script_reader.specs.Known.{Said, verb_of}
+use Rattle.script_lines.specs.Known.{Said, verb_of}
 use Rattle.script_reader.specs.Printing.{number, fields_of, spaced, line_text, text_of, numbered}
-use Rattle.script_reader.specs.Words.{verb_word, all_verbs}
-use Rattle.script_reader.specs.declared.statement.Content.TheVariants.{Seq}
-use Rattle.script_reader.specs.declared.statement.Statement.TheVariants as says
+use Rattle.script_words.specs.Words.{verb_word, all_verbs}
+use Rattle.script_lines.specs.declared.statement.Content.TheVariants.{Seq}
+use Rattle.script_lines.specs.declared.statement.Statement.TheVariants as says
 use Rattle.script_reader.proofs.BackLaws.{read_back}
 use Rattle.hp_exercise.specs.Exercise.{unit_of, block_of, place_of, count_of, seq_of, offset_of, times_of, choice_of, field, fault_text, noise_text, write_text, read_text, arrive_text, move_text, attend_text, chosen_text, step_text, steps_text, head_text, words_of, script_text}
 use Rattle.hp_exercise.specs.Statements.{request_of, chosen_statement, step_statement, steps_statements, head_statements, script_statements}

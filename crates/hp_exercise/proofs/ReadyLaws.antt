@@ -9,12 +9,12 @@ use Rattle.pack_geometry.specs.declared.DriveKind.{DriveKind}
 use Rattle.pack_geometry.specs.declared.DriveKind.TheVariants.{Rp06, Rm03, Rm05}
 use Rattle.pack_geometry.specs.Geometry.{block_count}
 use Rattle.rand_core.specs.Stream.{Stream, next_u64}
-use Rattle.script_reader.specs.declared.fault.ScriptKind.TheVariants.{TooMany}
-use Rattle.script_reader.specs.declared.statement.Content.TheVariants.{Seq}
-use Rattle.script_reader.specs.declared.statement.Statement.TheVariants as says
+use Rattle.script_words.specs.declared.kinds.ScriptKind.TheVariants.{TooMany}
+use Rattle.script_lines.specs.declared.statement.Content.TheVariants.{Seq}
+use Rattle.script_lines.specs.declared.statement.Statement.TheVariants as says
 use Rattle.script_reader.specs.Formed.{IsDeclared, IsAsked, IsWell, AreWell, learned}
-use Rattle.script_reader.specs.Known.{Known, Said, known_of, kind_after, has_id, verb_of, requests, strikes}
-use Rattle.script_reader.specs.Knowing.{one}
+use Rattle.script_lines.specs.Known.{Known, Said, known_of, kind_after, has_id, verb_of, requests, strikes}
+use Rattle.script_lines.specs.Knowing.{one}
 use Rattle.hp_exercise.specs.Exercise.{unit_of, block_of, place_of, seq_of, times_of, words_of}
 use Rattle.hp_exercise.specs.Statements.{request_of, step_statement, steps_statements, script_statements}
 use Rattle.hp_exercise.proofs.BoundLaws.{times_bound, count_bound, count_some, offset_bound, place_bound, two_places}

@@ -5,10 +5,10 @@ use Rattle.hardware_table.specs.declared.NoiseSpan.TheVariants.{Times}
 use Rattle.pack_geometry.specs.declared.DriveKind.TheVariants.{Rp06, Rm03}
 use Rattle.partitions.specs.declared.Part.TheVariants.{A}
 use Rattle.rand_core.specs.Stream.{Stream, next_u64}
-use Rattle.script_reader.specs.Known.{Said}
-use Rattle.script_reader.specs.declared.statement.Content.TheVariants.{Seq}
-use Rattle.script_reader.specs.declared.statement.Request.{Request}
-use Rattle.script_reader.specs.declared.statement.Statement.TheVariants as says
+use Rattle.script_lines.specs.Known.{Said}
+use Rattle.script_lines.specs.declared.statement.Content.TheVariants.{Seq}
+use Rattle.script_lines.specs.declared.statement.Request.{Request}
+use Rattle.script_lines.specs.declared.statement.Statement.TheVariants as says
 use Rattle.hp_exercise.specs.Exercise.{unit_of, block_of, place_of, count_of, seq_of, offset_of, times_of, choice_of, words_of}
 
 -- blocks of partition `a`, whole to the last one; the id is the step's number

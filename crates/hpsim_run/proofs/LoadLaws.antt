@@ -1,12 +1,12 @@
 -- A script that is too long is refused by its front.
-use Rattle.std.proofs.Common.{◌≡◌, ◌⊎◌, inl, inr, ℕ, ◌+◌, ◌<◌, ◌≤◌, List, [], ◌++◌, length, subst, sym, ap, ◌∙◌, arith, append-nil, length-append}
-use Rattle.script_reader.specs.declared.fault.ScriptKind.{ScriptKind}
+use Rattle.std.proofs.Common.{◌≡◌, ◌⊎◌, inl, inr, ℕ, ◌+◌, ◌<◌, List, [], ◌++◌, length, subst, sym, ap, ◌∙◌, arith, append-nil, length-append}
+use Rattle.script_words.specs.declared.kinds.ScriptKind.{ScriptKind}
 use Rattle.script_reader.specs.declared.fault.ReadFault.{ReadFault}
 use Rattle.script_reader.specs.declared.fault.ReadFault.TheVariants.{Memory, Refused}
 use Rattle.script_reader.specs.Grammar.{Spells, IsRefused}
-use Rattle.script_reader.specs.Known.{Numbered}
+use Rattle.script_lines.specs.Known.{Numbered}
 use Rattle.script_reader.specs.Reading.{Refuses}
-use Rattle.script_reader.specs.Words.{all_verbs}
+use Rattle.script_words.specs.Words.{all_verbs}
 use Rattle.hpsim_run.specs.declared.load.LoadFault.{LoadFault}
 use Rattle.hpsim_run.specs.Headline.{longest}
 use Rattle.hpsim_run.specs.Loading.{RefusesAll, from_read}

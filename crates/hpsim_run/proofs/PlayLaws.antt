@@ -1,10 +1,10 @@
 -- What a run of `play` comes to.
-use Rattle.std.proofs.Common.{◌≡◌, ◌⊎◌, inl, inr, ℕ, ◌++◌, List, [], Bool, IsTrue, Result, Ok, Err, OnOk, OnErr, refl, ap, subst, sym}
+use Rattle.std.proofs.Common.{◌≡◌, inl, inr, ℕ, ◌++◌, List, Bool, IsTrue, Result, Ok, Err, OnOk, OnErr, ap, subst, sym}
 use Rattle.outside_traits.specs.Causes.{HasCause}
 use Rattle.outside_traits.specs.Puts.{TakesFront}
 use Rattle.pack_model.specs.Pack.{Pack}
-use Rattle.script_reader.specs.declared.fault.ScriptKind.{ScriptKind}
-use Rattle.script_reader.specs.Words.{all_verbs}
+use Rattle.script_words.specs.declared.kinds.ScriptKind.{ScriptKind}
+use Rattle.script_words.specs.Words.{all_verbs}
 use Rattle.script_reader.specs.Grammar.{IsRefused}
 use Rattle.trace_replay.specs.Script.{Script}
 use Rattle.event_player.specs.declared.play.PlayFault.{PlayFault}
@@ -14,7 +14,8 @@ use Rattle.hpsim_run.specs.declared.load.LoadFault.{LoadFault}
 use Rattle.hpsim_run.specs.declared.load.LoadFault.TheVariants as loading
 use Rattle.hpsim_run.specs.Headline.{SpellNone}
 use Rattle.hpsim_run.specs.Loading.{RefusesAll}
-use Rattle.hpsim_run.specs.Words.{Told, refusal_text}
+use Rattle.hpsim_run.specs.Words.{Told}
+use Rattle.script_words.specs.Refusals.{refusal_text}
 use Rattle.event_player.specs.Plays.{NamesTooLong}
 use Rattle.event_player.specs.Stops.{Leaves}
 
@@ -65,10 +66,6 @@ pub left_by : (fault other : PlayFault) (script : Script) (first left : ℕ → 
     → Leaves fault script first left out_tells said said' trace_tells taken taken' → Leaves other script first left out_tells said said' trace_tells taken taken'
 left_by fault other script first left out_tells said said' trace_tells taken taken' e is =
     subst (λ (f : PlayFault). Leaves f script first left out_tells said said' trace_tells taken taken') e is
-
--- nor where there was no memory
-pub memory_before : (fault : PlayFault) → fault ≡ faults.Memory → IsBefore (Err fault)
-memory_before fault e = subst (λ (f : PlayFault). IsBefore (Err f)) (sym e) tt
 
 -- a fault by its name
 pub err_is : {T E : Type 0} {fault other : E} → fault ≡ other → ◌≡◌ {A = Result T E} (Err fault) (Err other)

@@ -7,11 +7,10 @@ use Rattle.pack_model.specs.Pack.{Pack}
 use Rattle.pack_model.specs.PackTable.{AreTablesOf}
 use Rattle.pack_model.specs.TableSpelling.{Table}
 use Rattle.subsystem_spec.specs.Requests.{Request, Answer, IsRequest}
-use Rattle.trace_replay.specs.Script.{Script, Input, Submit, ArriveAt, MoveAt, AttendTo, Drain, Turn, Noise, Arm, SetOnline, SetLocked, Statement, Declares, Plays, Line, Numbered, with_input, inputs_before, inputs_of, drives_of, IsThere, IsInput, IsStatement, IsScript, AreApart}
+use Rattle.trace_replay.specs.Script.{Script, Input, Submit, ArriveAt, MoveAt, AttendTo, Drain, Turn, Noise, Arm, SetOnline, SetLocked, Statement, Declares, Plays, Line, Numbered, with_input, inputs_before, drives_of, IsThere, IsInput, IsStatement, IsScript, AreApart}
 use Rattle.trace_replay.specs.Moments.{Moment, Played, Told, Idle, End, played}
 use Rattle.trace_replay.specs.Packs.{surface_of}
 use Rattle.trace_replay.specs.Replay.{Follows, after_moments}
-use Rattle.trace_replay.specs.History.{is_refusal}
 use Rattle.trace_replay.specs.Causes.{AsksSome, AskSome}
 use Rattle.trace_replay.specs.Runs.{start_of}
 use Rattle.trace_replay.proofs.Following.{follow_on}

@@ -6,7 +6,7 @@ use Rattle.outside_traits.specs.Puts.{TakesFront}
 use Rattle.pack_geometry.specs.declared.DriveKind.{DriveKind}
 use Rattle.pack_model.specs.Pack.{Pack}
 use Rattle.pack_model.specs.TableSpelling.{table_text}
-use Rattle.bad144_tool.specs.Adding.{Adds, Fits, IsStopped}
+use Rattle.bad144_tool.specs.Adding.{Adds, Fits}
 use Rattle.bad144_tool.specs.Changes.{IsCutShort, with_changes}
 use Rattle.bad144_tool.specs.Edit.{copies}
 use Rattle.bad144_tool.specs.Faults.{IsAddFault, IsFreshFault, IsListFault, IsMarkFault, IsWhy, Leaves, LeavesMarks}
@@ -18,7 +18,7 @@ use Rattle.bad144_tool.specs.declared.fault.ToolFault.TheVariants as fault
 use Rattle.hpsim_run.specs.Statuses.{status_code}
 use Rattle.hpsim_run.specs.declared.status.Status.{Status}
 use Rattle.hpsim_run.specs.declared.status.Status.TheVariants.{ToolRefused}
-use Rattle.hpsim_run.specs.Tools.{RunsAdd, RunsAdded, RunsFresh, RunsList, RunsMark, RunsRefused, RunsTooLong, entry_text, fault_status, fault_text, marked_text, serial_text, too_long_text}
+use Rattle.hpsim_run.specs.Tools.{RunsAdd, RunsFresh, RunsList, RunsMark, entry_text, fault_status, fault_text, marked_text, serial_text}
 use Rattle.hpsim_run.specs.Words.{Told}
 
 -- nothing was put behind what was taken

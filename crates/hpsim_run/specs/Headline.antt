@@ -2,16 +2,17 @@
 use Rattle.std.specs.Prelude.{◌≡◌, ℕ, List, [], Bool, IsTrue}
 use Rattle.pack_model.specs.Pack.{Pack}
 use Rattle.script_reader.specs.Grammar.{Spells, IsRefused}
-use Rattle.script_reader.specs.Known.{Numbered}
-use Rattle.script_reader.specs.Words.{all_verbs}
-use Rattle.script_reader.specs.declared.fault.ScriptKind.{ScriptKind}
+use Rattle.script_lines.specs.Known.{Numbered}
+use Rattle.script_words.specs.Words.{all_verbs}
+use Rattle.script_words.specs.declared.kinds.ScriptKind.{ScriptKind}
 use Rattle.script_meaning.specs.Meaning.{meaning}
 use Rattle.run_promises.specs.Promises.{Promises}
 use Rattle.event_player.specs.declared.play.PlayFault.{PlayFault}
 use Rattle.event_player.specs.Plays.{Plays, IsTooLong, NamesTooLong}
 use Rattle.event_player.specs.Stops.{Leaves}
 use Rattle.hpsim_run.specs.SoFar.{Keeps}
-use Rattle.hpsim_run.specs.Words.{refusal_text, Told as TextTold}
+use Rattle.hpsim_run.specs.Words.{Told as TextTold}
+use Rattle.script_words.specs.Refusals.{refusal_text}
 use Rattle.hpsim_run.specs.Tools.{too_long_text}
 
 -- THE HEADLINE. Where the source tells, it was read to its end, and its bytes spell these lines; where the packs tell, the lines were

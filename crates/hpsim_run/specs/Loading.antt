@@ -1,11 +1,11 @@
 -- Faults of loading a script.
-use Rattle.std.specs.Prelude.{◌≡◌, ℕ, List}
+use Rattle.std.specs.Prelude.{ℕ, List}
 use Rattle.outside_traits.specs.declared.whole.ReadAllFault.{ReadAllFault}
 use Rattle.outside_traits.specs.declared.whole.ReadAllFault.TheVariants.{Memory as AllMemory, Failed as AllFailed}
 use Rattle.script_reader.specs.declared.fault.ReadFault.{ReadFault}
 use Rattle.script_reader.specs.declared.fault.ReadFault.TheVariants.{Memory as ReadMemory, Refused as ReadRefused}
 use Rattle.script_reader.specs.Grammar.{IsRefused}
-use Rattle.script_reader.specs.Words.{all_verbs}
+use Rattle.script_words.specs.Words.{all_verbs}
 use Rattle.hpsim_run.specs.Headline.{SpellNone}
 use Rattle.hpsim_run.specs.declared.load.LoadFault.{LoadFault}
 use Rattle.hpsim_run.specs.declared.load.LoadFault.TheVariants as faults

@@ -2,8 +2,8 @@
 use Rattle.std.specs.Prelude.{◌≡◌, ◌⊎◌, ℕ, ◌+◌, ◌≤◌, IsTrue, List, length}
 use Rattle.outside_traits.specs.Causes.{Rose}
 use Rattle.script_reader.specs.Grammar.{Spells}
-use Rattle.script_reader.specs.Known.{Numbered}
-use Rattle.script_reader.specs.Words.{all_verbs}
+use Rattle.script_lines.specs.Known.{Numbered}
+use Rattle.script_words.specs.Words.{all_verbs}
 use Rattle.script_meaning.specs.Meaning.{meaning}
 use Rattle.event_player.specs.declared.play.PlayFault.TheVariants as faults
 use Rattle.event_player.specs.Plays.{IsTooLong}

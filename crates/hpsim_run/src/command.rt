@@ -15,7 +15,7 @@ use crate::exercise::run_exercise;
 use crate::formats::run_format;
 use crate::load::{LoadFault, load};
 use crate::status::Status;
-use crate::text::{refusal, too_long, usage};
+use crate::text::{too_long, usage};
 use crate::tools::{run_add, run_fresh, run_list, run_mark};
 use crate::words::{Command, command_of};
 use driver_runs::next_block_law;
@@ -24,7 +24,8 @@ use outside_traits::traits::{Packs, Sink, Source};
 use outside_traits::whole::write_all;
 use run_promises::{beginnings_law, promises_law};
 use script_meaning::meaning_law;
-use script_reader::script::grammar_law;
+use script_reader::grammar_law;
+use script_words::refusal;
 use std::alloc::Global;
 
 /// Reads a script from the source and plays it over the packs.

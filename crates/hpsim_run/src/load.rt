@@ -2,14 +2,13 @@ ghost use Rattle.std.specs.Prelude.{◌≡◌, ◌+◌, ◌≤◌, IsTrue, [], l
 ghost use Rattle.outside_traits.specs.Causes.{Rose};
 ghost use Rattle.script_reader.specs.Grammar.{Spells};
 ghost use Rattle.script_reader.specs.Stored.{lines_in};
-ghost use Rattle.script_reader.specs.Words.{all_verbs};
+ghost use Rattle.script_words.specs.Words.{all_verbs};
 ghost use Rattle.hpsim_run.specs.Headline.{longest};
 ghost use Rattle.hpsim_run.specs.Loading.{RefusesAll};
 
 use outside_traits::traits::Source;
 use outside_traits::whole::{ReadAllFault, read_all};
-use script_reader::fault::{ReadFault, ScriptKind};
-use script_reader::script::{Script, grammar_law, read_script};
+use script_reader::{ReadFault, Script, ScriptKind, grammar_law, read_script};
 use std::alloc::Global;
 use thiserror::Error;
 

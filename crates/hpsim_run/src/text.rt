@@ -1,57 +1,9 @@
 ghost use Rattle.std.specs.Prelude.{◌≡◌, ◌≤◌, ◌+◌, ◌++◌, [], ◌∷◌, decimal, length};
 ghost use Rattle.hpsim_run.specs.Tools.{entry_text, fault_text, marked_text, serial_text, too_long_text};
-ghost use Rattle.hpsim_run.specs.Words.{refusal_text, usage_text, kind_word, refused_line};
+ghost use Rattle.hpsim_run.specs.Words.{usage_text};
 
 use bad144_tool::ToolFault;
 use mass_text::{LineBuf, Radix, numeral_law};
-use script_reader::fault::ScriptKind;
-
-/// Puts the word of a fault.
-#[tactic(auto, unfolding(crate::specs::Words::kind_word))]
-fn put_kind(text: &mut LineBuf, kind: ScriptKind)
-    requires { length text.old ≤ 100 }
-    ensures text { text.new ≡ text.old ++ kind_word kind }
-    ensures room { length text.new ≤ length text.old + 11 }
-{
-    match kind {
-        ScriptKind::Word => text.put("word"),
-        ScriptKind::Number => text.put("number"),
-        ScriptKind::UnitUnknown => text.put("unitunknown"),
-        ScriptKind::UnitTwice => text.put("unittwice"),
-        ScriptKind::IdTwice => text.put("idtwice"),
-        ScriptKind::Count => text.put("count"),
-        ScriptKind::Data => text.put("data"),
-        ScriptKind::Bits => text.put("bits"),
-        ScriptKind::LateUnit => text.put("lateunit"),
-        ScriptKind::TooMany => text.put("toomany"),
-        ScriptKind::LineLong => text.put("linelong"),
-        ScriptKind::ScriptLong => text.put("scriptlong"),
-    }
-}
-
-/// The words that begin a refusal.
-#[tactic(auto, unfolding(crate::specs::Words::refused_line))]
-fn refused() -> LineBuf
-    ensures text { result ≡ refused_line }
-    ensures room { length result ≤ 20 }
-{
-    let mut text = LineBuf::new();
-    text.put("refused line ");
-    text
-}
-
-/// The text of a refusal: `refused line L KIND`.
-pub fn refusal(line: u64, kind: ScriptKind) -> LineBuf
-    ensures { result ≡ refusal_text line kind }
-{
-    numeral_law(Radix::Decimal);
-    let mut text = refused();
-    text.put_number(line, Radix::Decimal);
-    text.put(" ");
-    put_kind(&mut text, kind);
-    text.put("\n");
-    text
-}
 
 /// The text for words that are no command.
 #[tactic(auto, unfolding(crate::specs::Words::usage_text))]

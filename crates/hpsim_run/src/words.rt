@@ -1,4 +1,4 @@
-ghost use Rattle.std.specs.Prelude.{◌≡◌, ◌<◌, ◌-◌, ◌+◌, ◌^◌, map, IfSome, IfOk, Some, None};
+ghost use Rattle.std.specs.Prelude.{◌≡◌, ◌<◌, ◌-◌, ◌^◌, map, IfSome, Some, None};
 ghost use Rattle.std.specs.String.{string_bytes};
 ghost use Rattle.pack_geometry.specs.Geometry.{block_count};
 ghost use Rattle.hpsim_run.specs.Commands.{IsValid, add_named, block_named, both_named, one_named, command_named, exercise_named, format_named, fresh_named, kind_named, list_named, mark_named, number_named, pack_named, serial_named, tool_named, unit_named, way_named};

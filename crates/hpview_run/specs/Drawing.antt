@@ -7,10 +7,11 @@ use Rattle.picture_sheet.specs.declared.sheet.Sheet.{Sheet}
 use Rattle.picture_svg.specs.Pictures.{IsPicture}
 use Rattle.run_view.specs.declared.view.View.{View}
 use Rattle.run_view.specs.Views.{Views}
-use Rattle.script_reader.specs.declared.fault.ScriptKind.{ScriptKind}
+use Rattle.script_words.specs.declared.kinds.ScriptKind.{ScriptKind}
 use Rattle.script_reader.specs.Grammar as scripts
 use Rattle.script_reader.specs.Stored.{Stored}
-use Rattle.script_reader.specs.Words.{all_verbs}
+use Rattle.script_words.specs.Refusals.{refusal_text}
+use Rattle.script_words.specs.Words.{all_verbs}
 use Rattle.trace_reader.specs.declared.fault.TraceKind.{TraceKind}
 use Rattle.hpview_run.specs.declared.load.ViewFault.{ViewFault}
 use Rattle.hpview_run.specs.declared.load.ViewFault.TheVariants as faults
@@ -18,7 +19,7 @@ use Rattle.hpview_run.specs.declared.words.Command.{Command}
 use Rattle.hpview_run.specs.declared.words.Form.{Form}
 use Rattle.hpview_run.specs.declared.words.Form.TheVariants.{Svg, Chart}
 use Rattle.hpview_run.specs.Loading.{Loads, RefusesBeside}
-use Rattle.hpview_run.specs.Words.{script_refusal, trace_refusal}
+use Rattle.hpview_run.specs.Words.{trace_refusal}
 
 -- the picture of a sheet, in a form: for a browser such a picture, for a terminal a chart
 abbrev pub IsDrawnAs : Form → Sheet → List ℕ → Type 0
@@ -48,7 +49,7 @@ Told taken taken' text faults faults' = (taken' ≡ taken ++ text) ⊎ (Rose fau
 
 -- What is told of a fault: of a refusal its line, else nothing.
 abbrev pub TellsFault : ViewFault → List ℕ → List ℕ → ℕ → ℕ → Type 0
-TellsFault (faults.Script line kind) taken taken' before after = Told taken taken' (script_refusal line kind) before after
+TellsFault (faults.Script line kind) taken taken' before after = Told taken taken' (refusal_text line kind) before after
 TellsFault (faults.Trace line kind) taken taken' before after = Told taken taken' (trace_refusal line kind) before after
 TellsFault fault taken taken' before after = Unit {0}
 
@@ -69,7 +70,7 @@ pub record ScriptRefused (tells : Bool) (text : List ℕ) (out_tells : Bool) (ta
   pub line : ℕ
   pub kind : ScriptKind
   pub first : IsTrue tells → scripts.IsRefused all_verbs text line kind
-  pub told : IsTrue out_tells → Told taken taken' (script_refusal line kind) faults faults'
+  pub told : IsTrue out_tells → Told taken taken' (refusal_text line kind) faults faults'
 
 pub record TraceRefused (tells : Bool) (text : List ℕ) (trace_tells : Bool) (trace : List ℕ) (out_tells : Bool) (taken taken' : List ℕ) (faults faults' : ℕ) : Type 0 where
   pub line : ℕ

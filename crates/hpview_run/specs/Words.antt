@@ -1,13 +1,11 @@
 -- The words of the command line, and the texts of refusals.
-use Rattle.std.specs.Prelude.{ℕ, ◌++◌, ◌-◌, ◌^◌, ◌<◌, ◌≤◌, nat_lt, nat_le, ◌&&◌, ◌==◌, if◌then◌else◌, Bool, List, [], ◌∷◌, length, slice_index, map, Option, Some, None, codes, decimal, String}
+use Rattle.std.specs.Prelude.{ℕ, ◌++◌, ◌-◌, ◌^◌, ◌<◌, nat_le, ◌==◌, if◌then◌else◌, Bool, List, [], ◌∷◌, slice_index, map, Option, Some, None, codes, decimal, String}
 use Rattle.std.specs.declared.alloc.Global.{Global}
 use Rattle.std.specs.Result.{result_ok}
 use Rattle.std.specs.Str.{bytes_eq}
 use Rattle.std.specs.String.{string_bytes}
 use Rattle.mass_text.specs.Numbers.{number_of}
 use Rattle.mass_text.specs.declared.numbers.Radix.TheVariants.{Decimal}
-use Rattle.script_reader.specs.declared.fault.ScriptKind.{ScriptKind}
-use Rattle.script_reader.specs.declared.fault.ScriptKind.TheVariants as fault
 use Rattle.trace_reader.specs.declared.fault.TraceKind.{TraceKind}
 use Rattle.trace_reader.specs.declared.fault.TraceKind.TheVariants as kinds
 use Rattle.hpview_run.specs.declared.words.Command.{Command}
@@ -49,35 +47,15 @@ command_of words = command_named (map string_bytes words)
 unfoldable pub usage_text : List ℕ
 usage_text = codes "usage: hpview svg or text [FROM TO] < SCRIPT, with the trace in hp.trace" ++ 10 ∷ []
 
-unfoldable pub script_word : ScriptKind → List ℕ
-script_word fault.Word = codes "word"
-script_word fault.Number = codes "number"
-script_word fault.UnitUnknown = codes "unitunknown"
-script_word fault.UnitTwice = codes "unittwice"
-script_word fault.IdTwice = codes "idtwice"
-script_word fault.Count = codes "count"
-script_word fault.Data = codes "data"
-script_word fault.Bits = codes "bits"
-script_word fault.LateUnit = codes "lateunit"
-script_word fault.TooMany = codes "toomany"
-script_word fault.LineLong = codes "linelong"
-script_word fault.ScriptLong = codes "scriptlong"
-
 unfoldable pub trace_word : TraceKind → List ℕ
 trace_word kinds.Long = codes "long"
 trace_word kinds.Word = codes "word"
 trace_word kinds.Order = codes "order"
 trace_word kinds.Script = codes "script"
 
-unfoldable pub script_refused : List ℕ
-script_refused = codes "refused line "
-
 unfoldable pub trace_refused : List ℕ
 trace_refused = codes "refused trace line "
 
--- `refused line L KIND`, and `refused trace line L KIND`
-abbrev pub script_refusal : ℕ → ScriptKind → List ℕ
-script_refusal line kind = script_refused ++ decimal line ++ codes " " ++ script_word kind ++ 10 ∷ []
-
+-- `refused trace line L KIND`
 abbrev pub trace_refusal : ℕ → TraceKind → List ℕ
 trace_refusal line kind = trace_refused ++ decimal line ++ codes " " ++ trace_word kind ++ 10 ∷ []

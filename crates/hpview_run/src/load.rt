@@ -1,7 +1,6 @@
 // Why a run is not drawn.
 use outside_traits::whole::ReadAllFault;
-use script_reader::fault::{ReadFault, ScriptKind};
-use script_reader::script::Script;
+use script_reader::{ReadFault, Script, ScriptKind};
 use std::alloc::AllocError;
 use thiserror::Error;
 use trace_reader::{TraceFault, TraceKind};

@@ -5,14 +5,15 @@ ghost use Rattle.outside_traits.specs.Puts.{TakesFront};
 ghost use Rattle.hpview_run.specs.declared.status.Status.TheVariants.{Done, Usage, SinkFailed};
 ghost use Rattle.hpview_run.specs.Drawing.{Told, TellsFault};
 ghost use Rattle.hpview_run.specs.Statuses.{status_of};
-ghost use Rattle.hpview_run.specs.Words.{script_refusal, trace_refusal, usage_text};
+ghost use Rattle.hpview_run.specs.Words.{trace_refusal, usage_text};
 
 use crate::load::ViewFault;
 use crate::status::Status;
-use crate::text::{script_refusal, trace_refusal, usage};
+use crate::text::{trace_refusal, usage};
 use mass_text::LineBuf;
 use outside_traits::traits::Sink;
 use outside_traits::whole::write_all;
+use script_words::refusal;
 
 /// A picture is printed.
 pub(crate) fn put_picture<O: Sink>(picture: &[u8], out: &mut O) -> Status
@@ -53,7 +54,7 @@ pub(crate) fn put_fault<O: Sink>(fault: ViewFault, out: &mut O) -> Status
         ViewFault::Memory => Status::OutOfMemory,
         ViewFault::Failed => Status::SourceFailed,
         ViewFault::Script { line, kind } => {
-            put_line(&script_refusal(line, kind), out);
+            put_line(&refusal(line, kind), out);
             Status::Refused
         }
         ViewFault::Trace { line, kind } => {

@@ -6,7 +6,7 @@ ghost use Rattle.hpview_run.specs.Loading.{IsRead, Loads, RefusesScript, Refuses
 use crate::load::{Loaded, ViewFault};
 use outside_traits::traits::Source;
 use outside_traits::whole::read_all;
-use script_reader::script::read_script;
+use script_reader::read_script;
 use std::alloc::Global;
 
 /// The most bytes of a script: 16 MiB.

@@ -1,32 +1,8 @@
-ghost use Rattle.std.specs.Prelude.{◌≡◌, ◌≤◌, ◌+◌, ◌++◌, [], ◌∷◌, decimal, length};
-ghost use Rattle.hpview_run.specs.Words.{script_refusal, trace_refusal, usage_text, script_word, trace_word, script_refused, trace_refused};
+ghost use Rattle.std.specs.Prelude.{◌≡◌, ◌≤◌, ◌+◌, ◌++◌, length};
+ghost use Rattle.hpview_run.specs.Words.{trace_refusal, usage_text, trace_word, trace_refused};
 
 use mass_text::{LineBuf, Radix, numeral_law};
-use script_reader::fault::ScriptKind;
 use trace_reader::TraceKind;
-
-/// Puts the word of a script's fault.
-#[tactic(auto, unfolding(crate::specs::Words::script_word))]
-fn put_script_kind(text: &mut LineBuf, kind: ScriptKind)
-    requires { length text.old ≤ 100 }
-    ensures text { text.new ≡ text.old ++ script_word kind }
-    ensures room { length text.new ≤ length text.old + 11 }
-{
-    match kind {
-        ScriptKind::Word => text.put("word"),
-        ScriptKind::Number => text.put("number"),
-        ScriptKind::UnitUnknown => text.put("unitunknown"),
-        ScriptKind::UnitTwice => text.put("unittwice"),
-        ScriptKind::IdTwice => text.put("idtwice"),
-        ScriptKind::Count => text.put("count"),
-        ScriptKind::Data => text.put("data"),
-        ScriptKind::Bits => text.put("bits"),
-        ScriptKind::LateUnit => text.put("lateunit"),
-        ScriptKind::TooMany => text.put("toomany"),
-        ScriptKind::LineLong => text.put("linelong"),
-        ScriptKind::ScriptLong => text.put("scriptlong"),
-    }
-}
 
 /// Puts the word of a trace's fault.
 #[tactic(auto, unfolding(crate::specs::Words::trace_word))]
@@ -43,17 +19,6 @@ fn put_trace_kind(text: &mut LineBuf, kind: TraceKind)
     }
 }
 
-/// The words that begin a script's refusal.
-#[tactic(auto, unfolding(crate::specs::Words::script_refused))]
-fn script_refused() -> LineBuf
-    ensures text { result ≡ script_refused }
-    ensures room { length result ≤ 20 }
-{
-    let mut text = LineBuf::new();
-    text.put("refused line ");
-    text
-}
-
 /// The words that begin a trace's refusal.
 #[tactic(auto, unfolding(crate::specs::Words::trace_refused))]
 fn trace_refused() -> LineBuf
@@ -62,19 +27,6 @@ fn trace_refused() -> LineBuf
 {
     let mut text = LineBuf::new();
     text.put("refused trace line ");
-    text
-}
-
-/// The text of a script's refusal: `refused line L KIND`.
-pub(crate) fn script_refusal(line: u64, kind: ScriptKind) -> LineBuf
-    ensures { result ≡ script_refusal line kind }
-{
-    numeral_law(Radix::Decimal);
-    let mut text = script_refused();
-    text.put_number(line, Radix::Decimal);
-    text.put(" ");
-    put_script_kind(&mut text, kind);
-    text.put("\n");
     text
 }
 

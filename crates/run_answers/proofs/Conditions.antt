@@ -16,7 +16,7 @@ use Rattle.run_outcomes.specs.Hearings.{IsInCondition}
 use Rattle.run_picture.specs.Fold.{Known, heard, asked_at, admitted, drive_asked, drive_at, request_at, met_at, told_at, place_in, drive_after, drive_end, step}
 use Rattle.run_picture.specs.Places.{place_of}
 use Rattle.drive_pictures.specs.Requests.{is_refused}
-use Rattle.script_reader.specs.declared.statement.Request.{Request as Asked}
+use Rattle.script_lines.specs.declared.statement.Request.{Request as Asked}
 use Rattle.trace_lines.specs.declared.telling.Told.{Told as Line}
 use Rattle.trace_lines.specs.declared.telling.Told.TheVariants as deed
 use Rattle.trace_reader.specs.RoundTrip.{told_of}

@@ -7,7 +7,7 @@ use Rattle.drive_pictures.specs.declared.moments.Play.{Play}
 use Rattle.drive_pictures.specs.declared.moments.Play.TheVariants as play
 use Rattle.run_picture.specs.declared.columns.Window.{Window}
 use Rattle.run_picture.specs.Fold.{Known, new_known, declared}
-use Rattle.script_reader.specs.declared.statement.Request.{Request as Asked}
+use Rattle.script_lines.specs.declared.statement.Request.{Request as Asked}
 use Rattle.subsystem_spec.specs.Requests.{Request}
 use Rattle.trace_reader.specs.RoundTrip.{told_of}
 use Rattle.trace_replay.specs.Moments.{Moment, Played, Told, Idle}

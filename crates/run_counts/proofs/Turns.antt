@@ -8,7 +8,7 @@ use Rattle.drive_pictures.specs.declared.moments.Play.TheVariants as play
 use Rattle.drive_pictures.specs.Events.{begins}
 use Rattle.run_picture.specs.Fold.{Known, heard, asked_at, met_at, told_at, turned, turned_behind, event_ended, event_begun, step, finished}
 use Rattle.run_picture.specs.Places.{place_of}
-use Rattle.script_reader.specs.declared.statement.Request.{Request as Asked}
+use Rattle.script_lines.specs.declared.statement.Request.{Request as Asked}
 use Rattle.trace_lines.specs.declared.telling.Told.{Told as Deed}
 use Rattle.run_counts.specs.Ends.{ends_from}
 

@@ -22,7 +22,7 @@ use Rattle.run_picture.specs.declared.columns.Window.{Window}
 use Rattle.run_picture.specs.Columns.{headed, is_before, is_inside, is_full}
 use Rattle.run_picture.specs.Fold.{Known, new_known, declared, heard, asked_at, asked_with, admitted, request_asked, frames_of, drive_asked, drive_at, request_at, met_at, told_at, place_in, drive_after, drive_end, request_after, request_end, event_counted_in, event_ended, ended_behind, events_in, finished, shown_by, column_closed, turned_behind, step, run_from, IsHeard}
 use Rattle.run_picture.specs.Places.{place_of}
-use Rattle.script_reader.specs.declared.statement.Request.{Request as Asked}
+use Rattle.script_lines.specs.declared.statement.Request.{Request as Asked}
 use Rattle.trace_lines.specs.declared.telling.Told.{Told as Deed}
 use Rattle.trace_lines.specs.declared.telling.Told.TheVariants as deed
 use Rattle.run_counts.specs.Doings.{at_moment}

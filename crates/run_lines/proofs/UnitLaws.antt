@@ -1,19 +1,19 @@
 -- Each unit that a well-formed script names is one of 32.
 use Rattle.std.proofs.Common.{◌≡◌, ℕ, zero, suc, ◌<◌, ◌≤◌, ◌+◌, ◌-◌, ◌^◌, ◌==◌, Bool, true, false, cond, List, [], ◌∷◌, length, map, arith, refl, sym, ap, ◌∙◌, subst}
 use Rattle.script_reader.specs.Grammar.{Spells}
-use Rattle.script_reader.specs.Known.{Numbered}
+use Rattle.script_lines.specs.Known.{Numbered, Known}
 use Rattle.script_reader.specs.Lines.{pieces_of, lines_of, onto_first, without_cr}
-use Rattle.script_reader.specs.Words.{all_verbs}
+use Rattle.script_words.specs.Words.{all_verbs}
 use Rattle.std.specs.Prelude.{Box}
 use Rattle.std.specs.Box.{box_value}
 use Rattle.std.specs.List.{All}
-use Rattle.script_reader.specs.declared.statement.Span.{Span}
-use Rattle.script_reader.specs.declared.statement.Statement.{Statement}
-use Rattle.script_reader.specs.declared.statement.Statement.TheVariants as says
+use Rattle.script_lines.specs.declared.statement.Span.{Span}
+use Rattle.script_lines.specs.declared.statement.Statement.{Statement}
+use Rattle.script_lines.specs.declared.statement.Statement.TheVariants as says
 use Rattle.script_reader.specs.Formed.{AreWell, IsInRange}
 use Rattle.script_reader.specs.Formed as formed
-use Rattle.script_reader.specs.Known.{Known}
-use Rattle.script_reader.specs.Stored.{Kept, seen, digits_at, renamed}
+use Rattle.script_reader.specs.Stored.{Kept, seen, digits_at}
+use Rattle.script_lines.specs.Renamed.{renamed}
 use Rattle.std.specs.declared.alloc.Global.{Global}
 use Rattle.run_lines.specs.Plays.{HasUnit, HasUnitAt, HaveUnits}
 

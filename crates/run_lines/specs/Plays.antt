@@ -5,8 +5,8 @@ use Rattle.drive_pictures.specs.declared.drives.Change.TheVariants as change
 use Rattle.drive_pictures.specs.declared.moments.Moment.TheVariants.{Played}
 use Rattle.drive_pictures.specs.declared.moments.Play.{Play}
 use Rattle.drive_pictures.specs.declared.moments.Play.TheVariants as play
-use Rattle.script_reader.specs.declared.statement.Statement.{Statement}
-use Rattle.script_reader.specs.declared.statement.Statement.TheVariants as says
+use Rattle.script_lines.specs.declared.statement.Statement.{Statement}
+use Rattle.script_lines.specs.declared.statement.Statement.TheVariants as says
 use Rattle.script_reader.specs.Lines.{lines_of}
 use Rattle.script_reader.specs.Stored.{Kept, Stored}
 use Rattle.run_lines.specs.Saids.{Said}

@@ -2,7 +2,7 @@
 ghost use Rattle.std.specs.Prelude.{◌≡◌, ◌<◌, ◌-◌, ◌^◌, ◌++◌, [], map, drop, slice_index_or, IfOk, OnOk, ℕ, List};
 ghost use Rattle.std.specs.List.{All};
 ghost use Rattle.script_reader.specs.Grammar.{Spells};
-ghost use Rattle.script_reader.specs.Words.{all_verbs};
+ghost use Rattle.script_words.specs.Words.{all_verbs};
 ghost use Rattle.script_reader.specs.Stored.{Kept, seen};
 ghost use Rattle.script_reader.specs.Lines.{pieces_of, lines_of, without_cr};
 ghost use Rattle.run_lines.specs.Plays.{play_of, names_of, played_as, last_drain, plays_of, HasUnitAt, HaveUnits};
@@ -10,8 +10,7 @@ ghost use Rattle.run_lines.specs.Saids.{said_of, IsHeardAt};
 
 use crate::seen::Seen;
 use drive_pictures::{Change, Moment, Play};
-use script_reader::script::{Script, Stored, read_back_law};
-use script_reader::statement::Statement;
+use script_reader::{Script, Statement, Stored, read_back_law};
 use std::alloc::{AllocError, Global};
 use trace_reader::first_line;
 

@@ -8,7 +8,7 @@ ghost use Rattle.run_lines.specs.Runs.{told_of, up_to, beyond, Watched};
 
 use crate::seen::{Seen, Watcher};
 use drive_pictures::{Moment, line_of};
-use script_reader::script::Script;
+use script_reader::Script;
 use std::alloc::{AllocError, Global};
 use trace_reader::{ReadLine, TraceFault, TraceLine, TraceLines};
 

@@ -10,7 +10,7 @@ use Rattle.pack_model.specs.Pack as model
 use Rattle.pack_model.specs.TableSpelling.{Table}
 use Rattle.picture_sheet.specs.Words.{outcome_word}
 use Rattle.run_picture.specs.Fold.{admitted}
-use Rattle.script_reader.specs.declared.statement.Request.{Request as Asked}
+use Rattle.script_lines.specs.declared.statement.Request.{Request as Asked}
 use Rattle.subsystem_spec.specs.Requests.{Request as Wish, Answer, ReadOk, WriteOk, OutsidePartition, EndOfPartition, NoFrames, Failed, Rejection, rejection_answer}
 use Rattle.trace_replay.specs.History.{is_refusal, lines_of}
 use Rattle.trace_replay.specs.Moments.{Moment, Told, End}

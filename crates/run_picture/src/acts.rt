@@ -10,7 +10,7 @@ ghost use Rattle.run_picture.specs.Fold.{admitted, frames_of, request_asked, dri
 use drive_pictures::{Drive, Mark, Outcome, Request, cylinder_blocks, plus};
 use pack_geometry::DriveKind;
 use partitions::part_range;
-use script_reader::statement::Request as Asked;
+use script_lines::Request as Asked;
 use trace_lines::Told;
 
 /// The frames of main memory.

@@ -10,7 +10,7 @@ use crate::columns::{Column, Head, Window, clear_cells};
 use crate::places::Places;
 use drive_pictures::{Change, Drive, Moment, Play, Request, begins, is_idle, line_of, plus};
 use pack_geometry::DriveKind;
-use script_reader::statement::Request as Asked;
+use script_lines::Request as Asked;
 use std::alloc::{AllocError, Global};
 use std::marker::Model;
 use trace_lines::Told;

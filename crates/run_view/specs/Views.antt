@@ -8,8 +8,8 @@ use Rattle.run_picture.specs.declared.columns.Column.{Column}
 use Rattle.run_picture.specs.declared.columns.Window.{Window}
 use Rattle.run_picture.specs.Columns.{window_of}
 use Rattle.run_picture.specs.Fold.{Known, new_known, declared, run_from, step, events_in}
-use Rattle.script_reader.specs.declared.statement.Statement.{Statement}
-use Rattle.script_reader.specs.declared.statement.Statement.TheVariants as says
+use Rattle.script_lines.specs.declared.statement.Statement.{Statement}
+use Rattle.script_lines.specs.declared.statement.Statement.TheVariants as says
 use Rattle.script_reader.specs.Stored.{Kept, Stored}
 use Rattle.trace_reader.specs.declared.line.TraceLine.{TraceLine}
 use Rattle.trace_reader.specs.Grammar.{Spells}

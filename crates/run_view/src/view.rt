@@ -11,8 +11,7 @@ use drive_pictures::line_of;
 use picture_sheet::Note;
 use run_lines::{Seen, plays_of, watch_run};
 use run_picture::{Column, Run, Window};
-use script_reader::script::{Script, Stored};
-use script_reader::statement::Statement;
+use script_reader::{Script, Statement, Stored};
 use std::alloc::{AllocError, Global};
 use trace_reader::{TraceFault, grammar_law};
 

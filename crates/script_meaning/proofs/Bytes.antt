@@ -9,8 +9,8 @@ use Rattle.std.proofs.lemmas.List.Elements.{All-nil, All-cons}
 use Rattle.hex.specs.Hex.{decode_sized, is_hex_digit}
 use Rattle.hex.specs.declared.error.FromHexError.{FromHexError}
 use Rattle.hex.proofs.HexLemmas.{decode_sized-twice, decode_of-even, decode_pairs-digits, decode_pairs-ok}
-use Rattle.script_reader.specs.declared.statement.Content.{Content}
-use Rattle.script_reader.specs.declared.statement.Content.TheVariants as contents
+use Rattle.script_lines.specs.declared.statement.Content.{Content}
+use Rattle.script_lines.specs.declared.statement.Content.TheVariants as contents
 use Rattle.script_reader.specs.Formed.{IsWritten}
 use Rattle.script_meaning.specs.Meaning.{sequence_from, bytes_said, bytes_of}
 use Rattle.script_meaning.specs.Promises.{MeansItsBytes}

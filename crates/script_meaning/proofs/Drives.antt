@@ -5,9 +5,9 @@ use Rattle.std.specs.List.{All}
 use Rattle.std.proofs.lemmas.Bool.{eqb-true}
 use Rattle.std.proofs.lemmas.List.Elements.{All-nil, All-cons, All-contains, Contains-append_left, Contains-append_right, Contains-push}
 use Rattle.pack_geometry.specs.declared.DriveKind.{DriveKind}
-use Rattle.script_reader.specs.declared.statement.Statement.TheVariants as says
+use Rattle.script_lines.specs.declared.statement.Statement.TheVariants as says
 use Rattle.script_reader.specs.Formed.{AreWell, learned}
-use Rattle.script_reader.specs.Known.{Known, Said, Numbered}
+use Rattle.script_lines.specs.Known.{Known, Said, Numbered}
 use Rattle.script_reader.proofs.WellLaws.{spelled_well}
 use Rattle.trace_replay.specs.Script.{Statement, declared_by, drives_in, drives_of}
 use Rattle.script_meaning.specs.Meaning.{statement_of, line_of, meaning}

@@ -2,11 +2,11 @@
 use Rattle.std.proofs.Common.{◌≡◌, ℕ, List, [], ◌∷◌, refl, subst, arith, Some}
 use Rattle.pack_geometry.specs.declared.DriveKind.TheVariants.{Rp06}
 use Rattle.partitions.specs.declared.Part.TheVariants as part
-use Rattle.script_reader.specs.declared.statement.Statement.TheVariants as says
-use Rattle.script_reader.specs.Forms as forms
+use Rattle.script_lines.specs.declared.statement.Statement.TheVariants as says
+use Rattle.script_lines.specs.Forms as forms
 use Rattle.script_reader.specs.Grammar.{Spells}
-use Rattle.script_reader.specs.Known.{Numbered}
-use Rattle.script_reader.specs.Words.{all_verbs}
+use Rattle.script_lines.specs.Known.{Numbered}
+use Rattle.script_words.specs.Words.{all_verbs}
 use Rattle.script_reader.proofs.ReadingLaws.{one_script}
 use Rattle.script_meaning.specs.Meaning.{meaning}
 use Rattle.script_meaning.specs.Promises.{one_read_text, MeansOneRead}

@@ -6,7 +6,7 @@ use Rattle.std.proofs.lemmas.Bool.{le-ltb, eqb-true, ne_eqb, eq-eqb, and_from, f
 use Rattle.std.proofs.lemmas.List.Elements.{All-head, All-tail}
 use Rattle.std.proofs.lemmas.Slice.Eq.{bytes_eq-Decides}
 use Rattle.fire_code.specs.Noise.{IsNoise}
-use Rattle.hex.specs.Hex.{is_hex_digit}
+use Rattle.hex.specs.Hex.{is_hex_digit, decode_pairs}
 use Rattle.std.specs.List.{list_all}
 use Rattle.hardware_table.specs.declared.FaultKind.{FaultKind}
 use Rattle.hardware_table.specs.declared.FaultKind.TheVariants.{Seek, Opi, Dte, Hcrc, Late}
@@ -24,21 +24,22 @@ use Rattle.mass_text.specs.declared.numbers.Radix.TheVariants.{Decimal}
 use Rattle.mass_text.specs.declared.numbers.NumberFault.{NumberFault}
 use Rattle.mass_text.specs.declared.numbers.NumberFault.TheVariants.{Digit}
 use Rattle.mass_text.proofs.NumberLaws.{number_of-numeral}
-use Rattle.script_reader.specs.declared.fault.ScriptKind.{ScriptKind}
-use Rattle.script_reader.specs.declared.fault.ScriptKind.TheVariants.{Number, IdTwice, Count, Data, Bits}
-use Rattle.script_reader.specs.declared.statement.Content.{Content}
-use Rattle.script_reader.specs.declared.statement.Content.TheVariants as contents
-use Rattle.script_reader.specs.declared.statement.Request.{Request}
-use Rattle.script_reader.specs.declared.statement.Statement.TheVariants as says
-use Rattle.script_reader.specs.Fields.{and_then, or_kind, number_field, fresh, new_unit_field, old, unit_field, id_field, kind_field, part_field, offset_field, fault_field, counted, count_field, byte_field, seq_field, digits_field, place_field, numbers_of}
+use Rattle.script_words.specs.declared.kinds.ScriptKind.{ScriptKind}
+use Rattle.script_words.specs.declared.kinds.ScriptKind.TheVariants.{Number, IdTwice, Count, Data, Bits}
+use Rattle.script_lines.specs.declared.statement.Content.{Content}
+use Rattle.script_lines.specs.declared.statement.Content.TheVariants as contents
+use Rattle.script_lines.specs.declared.statement.Request.{Request}
+use Rattle.script_lines.specs.declared.statement.Statement.TheVariants as says
+use Rattle.script_words.specs.Fields.{and_then, or_kind, number_field, kind_field, part_field, offset_field, fault_field, counted, count_field, byte_field, seq_field, digits_field, place_field}
+use Rattle.script_lines.specs.Known.{fresh, new_unit_field, old, unit_field, id_field, Known, Said, verb_of}
+use Rattle.script_lines.specs.Places.{numbers_of}
 use Rattle.script_reader.specs.Formed.{IsDrive, IsDeclared, IsAsked, IsWritten, IsSpan, IsInRange}
-use Rattle.script_reader.specs.Forms.{Form, gives, ends, next, field, option, last_form, tail_form, start_form, content_form, span_form, noise_or, places_form, unit_number_form, adapter_form, form_of}
-use Rattle.script_reader.specs.Known.{Known, Said, verb_of}
+use Rattle.script_lines.specs.Forms.{Form, gives, ends, next, field, option, last_form, tail_form, start_form, content_form, span_form, noise_or, places_form, unit_number_form, adapter_form, form_of}
 use Rattle.script_reader.specs.Printing.{number, start_fields, tail_fields, content_fields, span_fields, fields_of}
-use Rattle.script_reader.specs.Words.{offset_word, fault_word, part_word}
-use Rattle.script_reader.proofs.CarriesLaws.{err-ok}
-use Rattle.script_reader.proofs.PlacesLaws.{noise_read}
-use Rattle.script_reader.proofs.WordLaws.{kind_of_word, part_of_word}
+use Rattle.script_words.specs.Words.{offset_word, fault_word, part_word}
+use Rattle.script_words.proofs.Results.{err-ok}
+use Rattle.script_lines.proofs.PlacesLaws.{noise_read}
+use Rattle.script_words.proofs.WordLaws.{kind_of_word, part_of_word}
 
 -- ONE FIELD and then a form
 pub stepped : {A B : Type 0} (reads : List ℕ → Result A ScriptKind) (rest : A → Form B) (text : List ℕ) (fields : List (List ℕ)) (a : A) → reads text ≡ Ok a → next (field reads) rest (text ∷ fields) ≡ rest a fields
@@ -86,6 +87,7 @@ it_gives (Ok n) b e = ap (λ (k : ℕ). Ok k) (eqb-true n b e)
 it_gives (Err kind) b e = absurd (cc)
 
 byte_back : (b : ℕ) → b ≤ 255 → byte_field (hex_byte b) ≡ Ok b
+unfolding decode_pairs
 byte_back b le = it_gives (byte_field (hex_byte b)) b (agree_below_at (λ k. gives_it (byte_field (hex_byte k)) k) (λ _. true) 256 b refl (omega (arith, le)))
 
 digits_back : (count : ℕ) (digits : List ℕ) → length digits ≡ 1024 * count → list_all is_hex_digit digits ≡ true → digits_field count digits ≡ Ok digits

@@ -1,14 +1,11 @@
+pub mod BackLaws
 pub mod CarriesLaws
 pub mod DataLaws
-pub mod DecimalLaws
+pub mod EntryLaws
+pub mod FormLaws
 pub mod LineLaws
 pub mod ReaderLaws
 pub mod ReadingLaws
-pub mod PlacesLaws
-pub mod BackLaws
-pub mod FormLaws
 pub mod StoredLaws
 pub mod TextLaws
 pub mod WellLaws
-pub mod WholeLaws
-pub mod WordLaws

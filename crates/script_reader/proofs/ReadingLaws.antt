@@ -1,30 +1,21 @@
 -- The reader's way through a script gives what the grammar says, and nothing else does.
 use Rattle.std.proofs.Common.{◌≡◌, ◌⊎◌, inl, inr, ℕ, ◌+◌, ◌<◌, ◌≤◌, List, [], ◌∷◌, ◌++◌, length, refl, sym, ap, ◌∙◌, arith, Option, Result, Ok, Err}
 use Rattle.std.proofs.lemmas.Bool.Decides.{nat_tests}
-use Rattle.script_reader.specs.declared.fault.ScriptKind.{ScriptKind}
-use Rattle.script_reader.specs.declared.fault.ScriptKind.TheVariants.{ScriptLong}
+use Rattle.script_words.specs.declared.kinds.ScriptKind.{ScriptKind}
+use Rattle.script_words.specs.declared.kinds.ScriptKind.TheVariants.{ScriptLong}
 use Rattle.script_reader.specs.declared.fault.ReadFault.{ReadFault}
 use Rattle.script_reader.specs.declared.fault.ReadFault.TheVariants.{Memory, Refused}
-use Rattle.script_reader.specs.declared.statement.Verb.{Verb}
-use Rattle.script_reader.specs.Known.{Said, Numbered, known_of}
+use Rattle.script_words.specs.declared.verbs.Verb.{Verb}
+use Rattle.script_lines.specs.Known.{Said, Numbered, known_of}
 use Rattle.script_reader.specs.Lines.{lines_of}
 use Rattle.script_reader.specs.Grammar.{line_says, more, SayTheRest, Spells, FirstFault, IsRefused}
 use Rattle.script_reader.specs.Reading.{Refusal, Read, on, reading, script_of, Finds, Refuses}
-
--- results
-same_Ok : {A E : Type 0} (x y : A) → ◌≡◌ {A = Result A E} (Ok x) (Ok y) → x ≡ y
-same_Ok x y e = cc
-
-same_Err : {A E : Type 0} (x y : E) → ◌≡◌ {A = Result A E} (Err x) (Err y) → x ≡ y
-same_Err x y e = cc
-
-ok-err : {A E : Type 0} (x : A) (y : E) → ◌≡◌ {A = Result A E} (Ok x) (Err y) → ⊥
-ok-err x y e = cc
+use Rattle.script_words.proofs.Results.{same_Ok, same_Err, err-ok}
 
 -- what comes next gave a value, or a fault
 on_ok : {A B C E : Type 0} (res : Result A B) (f : A → Result C E) (g : B → E) (c : C) → on res f (λ b. Err (g b)) ≡ Ok c → (a : A) × (res ≡ Ok a) × (f a ≡ Ok c)
 on_ok (Ok a) f g c e = (a, refl, e)
-on_ok (Err b) f g c e = absurd (ok-err c (g b) (sym e))
+on_ok (Err b) f g c e = absurd (err-ok (g b) c e)
 
 on_err : {A B C E : Type 0} (res : Result A B) (f : A → Result C E) (g : B → E) (r : E) → on res f (λ b. Err (g b)) ≡ Err r → ((b : B) × (res ≡ Err b) × (g b ≡ r)) ⊎ ((a : A) × (res ≡ Ok a) × (f a ≡ Err r))
 on_err (Ok a) f g r e = inr (a, refl, e)
@@ -102,7 +93,7 @@ stops_later played lines n text texts number kind entry is s =
     }
 
 pub read_stops : (played : List Verb) (lines : List Numbered) (n : ℕ) (texts : List (List ℕ)) (r : Refusal) → reading played lines n texts ≡ Err r → StopsAt played lines n texts r.line r.kind
-read_stops played lines n [] r e = absurd (ok-err _ r e)
+read_stops played lines n [] r e = absurd (err-ok r _ (sym e))
 read_stops played lines n (text ∷ texts) r e =
     either (on_err (line_says played (known_of lines) n text) (λ entry. reading played (more lines n entry) (n + 1) texts) (λ kind. record { line = n; kind = kind }) r e)
     (λ at. stops_here played lines n text texts at.0 r at.1 at.2)
@@ -188,7 +179,7 @@ one_script played bytes lines others count other s t =
     (ap (λ (x : Read). x.lines) same, less_one count other (ap (λ (x : Read). x.next) same))
 
 pub no_fault : (played : List Verb) (bytes : List ℕ) (lines : List Numbered) (count : ℕ) → Spells played bytes lines count → (number : ℕ) (kind : ScriptKind) → ¬ IsRefused played bytes number kind
-no_fault played bytes lines count s number kind r = ok-err _ _ (sym (spells_read played bytes lines count s) ∙ refused_read played bytes number kind r)
+no_fault played bytes lines count s number kind r = err-ok _ _ (sym (refused_read played bytes number kind r) ∙ spells_read played bytes lines count s)
 
 one_refusal : (played : List Verb) (bytes : List ℕ) (number other : ℕ) (kind kind_other : ScriptKind) → IsRefused played bytes number kind → IsRefused played bytes other kind_other →
     ◌≡◌ {A = Refusal} (record { line = number; kind = kind }) (record { line = other; kind = kind_other })

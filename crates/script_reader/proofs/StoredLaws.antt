@@ -1,15 +1,15 @@
 -- What is stored of a line stands for what the line says.
-use Rattle.std.proofs.Common.{◌≡◌, ℕ, List, [], ◌∷◌, ◌++◌, map, refl, sym, ap, ◌∙◌, Box}
+use Rattle.std.proofs.Common.{◌≡◌, ℕ, List, refl, sym, ap, ◌∙◌, Box}
 use Rattle.std.specs.Box.{box_value}
 use Rattle.std.specs.declared.alloc.Global.{Global}
-use Rattle.std.proofs.lemmas.List.{map-append}
-use Rattle.script_reader.specs.declared.statement.Content.{Content}
-use Rattle.script_reader.specs.declared.statement.Content.TheVariants as contents
-use Rattle.script_reader.specs.declared.statement.Span.{Span}
-use Rattle.script_reader.specs.declared.statement.Statement.{Statement}
-use Rattle.script_reader.specs.declared.statement.Statement.TheVariants as says
-use Rattle.script_reader.specs.Known.{Said}
-use Rattle.script_reader.specs.Stored.{content_by, renamed, read_of, digits_at, Kept, seen}
+use Rattle.script_lines.specs.declared.statement.Content.{Content}
+use Rattle.script_lines.specs.declared.statement.Content.TheVariants as contents
+use Rattle.script_lines.specs.declared.statement.Span.{Span}
+use Rattle.script_lines.specs.declared.statement.Statement.{Statement}
+use Rattle.script_lines.specs.declared.statement.Statement.TheVariants as says
+use Rattle.script_lines.specs.Known.{Said}
+use Rattle.script_lines.specs.Renamed.{content_by, renamed, read_of}
+use Rattle.script_reader.specs.Stored.{digits_at}
 use Rattle.script_reader.proofs.CarriesLaws.{CarriesIn, Carries}
 
 content_back : (text : List ℕ) (span : Span) (content : Content (List ℕ)) → CarriesIn (digits_at text span) content → content_by (digits_at text) (content_by (λ _. span) content) ≡ content
@@ -53,13 +53,6 @@ twice digits (says.Online u) = refl
 twice digits (says.Lock u) = refl
 twice digits (says.Unlock u) = refl
 twice digits says.Drain = refl
-
--- one more line is stored
-pub seen_more : (text : List ℕ) (lines : List Kept) (n : ℕ) (kept : Statement Span (Box (List ℕ) Global)) (read : Statement Span (List ℕ)) → renamed (λ span. span) box_value kept ≡ read
-    → map (seen text) (lines ++ record { number = n; statement = kept } ∷ []) ≡ map (seen text) lines ++ record { number = n; statement = renamed (digits_at text) (λ (p : List ℕ). p) read } ∷ []
-seen_more text lines n kept read k =
-    map-append (seen text) lines (record { number = n; statement = kept } ∷ [])
-    ∙ ap (λ (s : Said). map (seen text) lines ++ record { number = n; statement = s } ∷ []) (twice (digits_at text) kept ∙ ap (renamed (digits_at text) (λ (p : List ℕ). p)) k)
 
 pub stands : (text : List ℕ) (span : Span) (read : Statement Span (List ℕ)) (s : Said) → read_of span s ≡ read → Carries (digits_at text span) s → renamed (digits_at text) (λ (p : List ℕ). p) read ≡ s
 stands text span read s r c = ap (renamed (digits_at text) (λ (p : List ℕ). p)) (sym r) ∙ back text span s c

@@ -1,11 +1,13 @@
 -- What a script says is well formed.
 use Rattle.std.proofs.Common.{◌≡◌, ℕ, zero, suc, ◌+◌, ◌-◌, ◌*◌, ◌<◌, ◌≤◌, Bool, true, false, List, [], ◌∷◌, ◌++◌, length, map, refl, sym, ap, subst, ◌∙◌, arith, append_assoc, append-nil, Option, None, Some, Result, Ok, Err}
-use Rattle.std.specs.Prelude.{if◌then◌else◌, ◌&&◌, ◌==◌, nat_le, nat_lt, codes}
+use Rattle.std.specs.Prelude.{if◌then◌else◌, ◌&&◌, ◌==◌, nat_le, nat_lt, slice_index, codes}
 use Rattle.std.specs.List.{list_all}
 use Rattle.std.specs.Str.{bytes_eq}
 use Rattle.std.specs.Str.Parse.{digits_value}
 use Rattle.std.proofs.lemmas.Bool.{leb-true, ltb-false, eqb-true, and_parts}
-use Rattle.hex.specs.Hex.{is_hex_digit}
+use Rattle.hex.specs.Hex.{is_hex_digit, decode_sized}
+use Rattle.hex.specs.declared.error.FromHexError.{FromHexError}
+use Rattle.hex.proofs.HexLemmas.{decode_of-ok, decode_sized-ok, decode_sized-twice}
 use Rattle.hardware_table.specs.declared.NoiseSpan.TheVariants.{Times, Until}
 use Rattle.fire_code.specs.Noise.{IsNoise}
 use Rattle.pack_geometry.specs.declared.DriveKind.{DriveKind}
@@ -14,26 +16,28 @@ use Rattle.pack_geometry.specs.Geometry.{block_count, sectors_of}
 use Rattle.mass_text.specs.Numbers.{base_of, number_of, first_other, fault_or, up_to}
 use Rattle.mass_text.specs.Pieces.{pieces}
 use Rattle.mass_text.specs.declared.numbers.Radix.{Radix}
-use Rattle.mass_text.specs.declared.numbers.Radix.TheVariants.{Decimal, Hex}
+use Rattle.mass_text.specs.declared.numbers.Radix.TheVariants.{Decimal}
 use Rattle.mass_text.specs.declared.numbers.NumberFault.{NumberFault}
 use Rattle.mass_text.specs.declared.numbers.NumberFault.TheVariants.{Empty, Digit, Large}
-use Rattle.script_reader.specs.declared.fault.ScriptKind.{ScriptKind}
-use Rattle.script_reader.specs.declared.fault.ScriptKind.TheVariants.{Word, Number, IdTwice, UnitTwice, UnitUnknown, Count, Data, Bits, TooMany, LineLong}
-use Rattle.script_reader.specs.declared.statement.Content.TheVariants as contents
-use Rattle.script_reader.specs.declared.statement.Request.{Request}
-use Rattle.script_reader.specs.declared.statement.Statement.TheVariants as says
-use Rattle.script_reader.specs.declared.statement.Verb.{Verb}
-use Rattle.script_reader.specs.declared.statement.Verb.TheVariants as verbs
-use Rattle.script_reader.specs.Fields.{and_then, or_kind, some_or, number_field, fresh, new_unit_field, old, unit_field, id_field, kind_field, part_field, offset_field, fault_field, counted, count_field, byte_field, seq_field, digits_field, place_field, numbers_of, are_noise}
+use Rattle.script_words.specs.declared.kinds.ScriptKind.{ScriptKind}
+use Rattle.script_words.specs.declared.kinds.ScriptKind.TheVariants.{Word, Number, IdTwice, UnitTwice, UnitUnknown, Count, Data, Bits, TooMany, LineLong}
+use Rattle.script_lines.specs.declared.statement.Content.TheVariants as contents
+use Rattle.script_lines.specs.declared.statement.Request.{Request}
+use Rattle.script_lines.specs.declared.statement.Statement.TheVariants as says
+use Rattle.script_words.specs.declared.verbs.Verb.{Verb}
+use Rattle.script_words.specs.declared.verbs.Verb.TheVariants as verbs
+use Rattle.script_words.specs.Fields.{and_then, changed, or_kind, some_or, number_field, kind_field, part_field, offset_field, fault_field, counted, count_field, byte_field, seq_field, digits_field, place_field}
+use Rattle.script_lines.specs.Known.{fresh, new_unit_field, old, unit_field, id_field, Known, Said, Numbered, verb_of, known_of}
+use Rattle.script_lines.specs.Places.{numbers_of, are_noise}
 use Rattle.script_reader.specs.Formed.{IsDrive, IsDeclared, AreTimes, IsAsked, IsWritten, IsSpan, IsInRange, IsWell, AreWell}
-use Rattle.script_reader.specs.Forms.{Form, gives, ends, fails, next, field, option, mapped, last_form, tail_form, start_form, content_by, content_form, span_form, noise_or, places_form, unit_number_form, adapter_form, form_of, none_left, whole}
-use Rattle.script_reader.specs.Grammar.{unless, too_late, said, entry, is_comment, line_says, more, SayTheRest, Spells}
-use Rattle.script_reader.specs.Known.{Known, Said, Numbered, verb_of, known_of}
+use Rattle.script_lines.specs.Forms.{Form, gives, ends, fails, next, field, option, mapped, last_form, tail_form, start_form, content_by, content_form, span_form, noise_or, places_form, unit_number_form, adapter_form, form_of, none_left, whole, unless, too_late, said}
+use Rattle.script_reader.specs.Grammar.{entry, is_comment, line_says, more, SayTheRest, Spells}
 use Rattle.script_reader.specs.Lines.{lines_of}
-use Rattle.script_reader.specs.Words.{named, verb_word}
+use Rattle.script_words.specs.Words.{named, verb_word}
 use Rattle.script_reader.proofs.BackLaws.{learned_more}
-use Rattle.script_reader.proofs.CarriesLaws.{same_Ok, err-ok, then_ok, if_err, Gives, gives_it, whole_ok, same_Some, none-some, comment}
-use Rattle.script_reader.proofs.PlacesLaws.{AreSmall, is_noise}
+use Rattle.script_words.proofs.Results.{same_Ok, err-ok, then_ok}
+use Rattle.script_reader.proofs.CarriesLaws.{if_err, Gives, gives_it, whole_ok, same_Some, none-some, comment}
+use Rattle.script_lines.proofs.PlacesLaws.{AreSmall, is_noise}
 
 -- FORMS whose later parts rest on what the first gives
 gives_that : {A B : Type 0} (Q : A → Type 0) (P : B → Type 0) (form : Form A) (rest : A → Form B) → Gives Q form → ((a : A) → Q a → Gives P (rest a)) → Gives P (next form rest)
@@ -141,11 +145,13 @@ count_in text n e = at (number_of Decimal 127 text) refl e
     at (Err fault) t f = absurd (err-ok _ n f)
 
 byte_in : (text : List ℕ) (b : ℕ) → byte_field text ≡ Ok b → b ≤ 255
-byte_in text b e = at (length text == 2) e
+byte_in text b e = at (decode_sized text 1) refl e
   where
-    at : (t : Bool) → (if t then or_kind Data (number_of Hex 255 text) else Err Data) ≡ Ok b → b ≤ 255
-    at true f = small_of Data Hex 255 text b f
-    at false f = absurd (err-ok Data b f)
+    at : (r : Result (List ℕ) FromHexError) → decode_sized text 1 ≡ r → changed (λ bytes. slice_index bytes 0) (or_kind Data r) ≡ Ok b → b ≤ 255
+    at (Ok bytes) is f =
+        let byte = (decode_of-ok text bytes (sym (decode_sized-twice text 1 (decode_sized-ok text 1 bytes is)) ∙ is)).3 0 in
+        omega (arith, byte, same_Ok (slice_index bytes 0) b f)
+    at (Err fault) is f = absurd (err-ok Data b f)
 
 digits_in : (count : ℕ) (text digits : List ℕ) → digits_field count text ≡ Ok digits → (length digits ≡ 1024 * count) × (list_all is_hex_digit digits ≡ true)
 digits_in count text digits e = at (length text == 1024 * count && list_all is_hex_digit text) refl e

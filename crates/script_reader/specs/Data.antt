@@ -1,8 +1,8 @@
 -- What a write writes, in whole blocks of 512 bytes.
 use Rattle.std.specs.Prelude.{◌≡◌, ◌<◌, ◌+◌, ◌/◌, ◌%◌, ℕ, Bool, true, false, List, length, slice_index, MatchResult}
 use Rattle.hex.specs.Hex.{decode_sized}
-use Rattle.script_reader.specs.declared.statement.Content.{Content}
-use Rattle.script_reader.specs.declared.statement.Content.TheVariants as contents
+use Rattle.script_lines.specs.declared.statement.Content.{Content}
+use Rattle.script_lines.specs.declared.statement.Content.TheVariants as contents
 
 -- one byte, again and again
 abbrev pub IsFilled : ℕ → List ℕ → Type 0

@@ -7,13 +7,13 @@ use Rattle.pack_geometry.specs.declared.DriveKind.{DriveKind}
 use Rattle.pack_geometry.specs.Geometry.{block_count, sectors_of}
 use Rattle.hardware_table.specs.declared.NoiseSpan.{NoiseSpan}
 use Rattle.hardware_table.specs.declared.NoiseSpan.TheVariants.{Times, Until}
-use Rattle.script_reader.specs.declared.statement.Content.{Content}
-use Rattle.script_reader.specs.declared.statement.Content.TheVariants as contents
-use Rattle.script_reader.specs.declared.statement.Request.{Request}
-use Rattle.script_reader.specs.declared.statement.Statement.TheVariants as says
-use Rattle.script_reader.specs.Grammar.{too_late}
-use Rattle.script_reader.specs.Known.{Known, Said, verb_of, kind_after, has_id, declares, requests, strikes}
-use Rattle.script_reader.specs.Knowing.{one}
+use Rattle.script_lines.specs.declared.statement.Content.{Content}
+use Rattle.script_lines.specs.declared.statement.Content.TheVariants as contents
+use Rattle.script_lines.specs.declared.statement.Request.{Request}
+use Rattle.script_lines.specs.declared.statement.Statement.TheVariants as says
+use Rattle.script_lines.specs.Forms.{too_late}
+use Rattle.script_lines.specs.Known.{Known, Said, verb_of, kind_after, has_id, declares, requests, strikes}
+use Rattle.script_lines.specs.Knowing.{one}
 
 -- a unit was declared, as a drive of this kind, and as one of any kind
 abbrev pub IsDrive : Known → ℕ → DriveKind → Type 0

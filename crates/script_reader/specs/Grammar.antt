@@ -1,29 +1,17 @@
 -- The grammar of a script: which numbered lines its bytes spell, or which line is the first faulty one. `played` are
 -- the words that lines may have.
-use Rattle.std.specs.Prelude.{◌≡◌, ◌⊎◌, ℕ, ◌+◌, ◌<◌, ◌≤◌, ◌==◌, ◌&&◌, nat_lt, Bool, if◌then◌else◌, List, [], ◌∷◌, ◌++◌, length, slice_index, Option, None, Some, Result, Ok, Err}
+use Rattle.std.specs.Prelude.{◌≡◌, ◌⊎◌, ℕ, ◌+◌, ◌<◌, ◌≤◌, ◌==◌, nat_lt, Bool, if◌then◌else◌, List, [], ◌∷◌, ◌++◌, length, slice_index, Option, None, Some, Result, Ok, Err}
 use Rattle.mass_text.specs.Pieces.{pieces}
-use Rattle.script_reader.specs.declared.fault.ScriptKind.{ScriptKind}
-use Rattle.script_reader.specs.declared.fault.ScriptKind.TheVariants.{Word, LateUnit, TooMany, LineLong, ScriptLong}
-use Rattle.script_reader.specs.declared.statement.Verb.{Verb}
-use Rattle.script_reader.specs.Fields.{and_then, some_or}
-use Rattle.script_reader.specs.Forms.{form_of, whole}
-use Rattle.script_reader.specs.Known.{Known, Said, Numbered, declares, is_full, known_of}
+use Rattle.script_words.specs.declared.kinds.ScriptKind.{ScriptKind}
+use Rattle.script_words.specs.declared.kinds.ScriptKind.TheVariants.{Word, TooMany, LineLong, ScriptLong}
+use Rattle.script_words.specs.declared.verbs.Verb.{Verb}
+use Rattle.script_words.specs.Fields.{and_then, some_or}
+use Rattle.script_lines.specs.Forms.{said}
+use Rattle.script_lines.specs.Known.{Known, Said, Numbered, known_of}
 use Rattle.script_reader.specs.Lines.{lines_of}
-use Rattle.script_reader.specs.Words.{named, verb_word}
+use Rattle.script_words.specs.Words.{named, verb_word}
 
--- ONE LINE. What is wrong with a word, whatever the fields behind it.
-abbrev pub too_late : Known → Verb → Option ScriptKind
-too_late known verb = if declares verb && known.later then Some LateUnit else if is_full known verb then Some TooMany else None
-
-abbrev pub unless : {A : Type 0} → Option ScriptKind → Result A ScriptKind → Result A ScriptKind
-unless (Some kind) result = Err kind
-unless None result = result
-
--- what a line with this word says
-abbrev pub said : Known → Verb → List (List ℕ) → Result Said ScriptKind
-said known verb fields = unless (too_late known verb) (whole (form_of known verb) fields)
-
--- what fields say; a line with none is passed over
+-- ONE LINE. What fields say; a line with none is passed over
 abbrev pub entry : List Verb → Known → List (List ℕ) → Result (Option Said) ScriptKind
 entry played known [] = Ok None
 entry played known (word ∷ fields) =

@@ -1,13 +1,7 @@
 pub mod Data
-pub mod Fields
 pub mod Formed
-pub mod Forms
 pub mod Grammar
-pub mod Knowing
-pub mod Known
 pub mod Lines
 pub mod Printing
 pub mod Reading
 pub mod Stored
-pub mod Struck
-pub mod Words

@@ -6,12 +6,12 @@ use Rattle.mass_text.specs.BlockText.{hex_byte}
 use Rattle.mass_text.specs.Numbers.{numeral}
 use Rattle.mass_text.specs.declared.numbers.Radix.TheVariants.{Decimal}
 use Rattle.pack_geometry.specs.Geometry.{kind_word}
-use Rattle.script_reader.specs.declared.statement.Content.{Content}
-use Rattle.script_reader.specs.declared.statement.Content.TheVariants as contents
-use Rattle.script_reader.specs.declared.statement.Request.{Request}
-use Rattle.script_reader.specs.declared.statement.Statement.TheVariants as says
-use Rattle.script_reader.specs.Known.{Said, Numbered, verb_of}
-use Rattle.script_reader.specs.Words.{verb_word, part_word, offset_word, fault_word}
+use Rattle.script_lines.specs.declared.statement.Content.{Content}
+use Rattle.script_lines.specs.declared.statement.Content.TheVariants as contents
+use Rattle.script_lines.specs.declared.statement.Request.{Request}
+use Rattle.script_lines.specs.declared.statement.Statement.TheVariants as says
+use Rattle.script_lines.specs.Known.{Said, Numbered, verb_of}
+use Rattle.script_words.specs.Words.{verb_word, part_word, offset_word, fault_word}
 
 abbrev pub number : ℕ → List ℕ
 number n = numeral Decimal n

@@ -1,9 +1,9 @@
-ghost use Rattle.std.specs.Prelude.{◌≡◌, ◌<◌, ◌≤◌, ◌+◌, ◌*◌, ◌/◌, ◌%◌, ℕ, [], length, drop, slice_index, slice_index_or, slice_range};
+ghost use Rattle.std.specs.Prelude.{◌≡◌, ◌<◌, ◌+◌, ◌*◌, ◌%◌, ℕ, [], length, drop, slice_index, slice_index_or, slice_range};
 ghost use Rattle.mass_text.specs.Pieces.{pieces};
 ghost use Rattle.script_reader.specs.Data.{IsFilled, IsSequence, IsDecoded};
 
-use crate::statement::Span;
 use mass_text::Fields;
+use script_lines::Span;
 
 /// The part of a text at `span`, as far as there is one.
 fn part(text: &[u8], span: Span) -> &[u8]

@@ -1,43 +1,6 @@
+use script_words::ScriptKind;
 use std::alloc::AllocFailed;
 use thiserror::Error;
-
-/// What is wrong with a line of a script.
-#[derive(Clone, Copy, Debug, PartialEq, Eq)]
-pub enum ScriptKind {
-    /// A word is not one that may stand there, a field is missing, or one is left over.
-    Word,
-    /// A field is no number, or its number is out of range.
-    Number,
-    /// The unit was not declared.
-    UnitUnknown,
-    /// The unit was declared before.
-    UnitTwice,
-    /// The id was used before.
-    IdTwice,
-    /// The count of blocks is not 1 to 127.
-    Count,
-    /// The data of a write are not spelled.
-    Data,
-    /// The places of a noise are not 1 to 64 numbers up to 4127 in strictly ascending order.
-    Bits,
-    /// A unit is declared behind a line with another word.
-    LateUnit,
-    /// Line number 1,000,001, request number 65,537 or noise number 4,097.
-    TooMany,
-    /// The line has more than 140,000 bytes.
-    LineLong,
-    /// The script has more than 16 MiB.
-    ScriptLong,
-}
-
-/// Why a line was not read.
-#[derive(Clone, Copy, Debug, PartialEq, Eq)]
-pub(crate) enum LineFault {
-    /// There was no memory.
-    Memory,
-    /// It is faulty.
-    Kind(ScriptKind),
-}
 
 /// Why a script was not read.
 #[derive(Clone, Copy, Debug, PartialEq, Eq, Error)]

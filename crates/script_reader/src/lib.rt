@@ -9,14 +9,11 @@
 #![tactic(auto)]
 
 mod data;
-mod decimal;
-pub mod fault;
-mod fields;
-mod forms;
-mod held;
-mod known;
+mod fault;
 mod lines;
-mod places;
-pub mod script;
-pub mod statement;
-mod words;
+mod script;
+
+pub use fault::ReadFault;
+pub use script::{Script, Stored, grammar_law, read_back_law, read_script};
+pub use script_lines::{Content, Line, Request, Span, Statement};
+pub use script_words::{ScriptKind, Verb};

@@ -1,4 +1,4 @@
-ghost use Rattle.std.specs.Prelude.{◌≡◌, ◌+◌, ◌-◌, take, drop, ◌<◌, ◌≤◌, ◌∷◌, ℕ, ◌≢◌, length, slice_index, IfSome, IfNone};
+ghost use Rattle.std.specs.Prelude.{◌≡◌, ◌+◌, ◌-◌, take, drop, ◌<◌, ◌∷◌, ℕ, ◌≢◌, length, slice_index, IfSome, IfNone};
 ghost use Rattle.script_reader.specs.Lines.{pieces_of, without_cr};
 
 /// Where LF stands first.

@@ -1,31 +1,29 @@
 ghost use Rattle.std.specs.Prelude.{◌≡◌, ◌⊎◌, ◌<◌, ◌≤◌, ◌+◌, ℕ, List, Ok, Some, IfOk, IfErr, OnOk, length, map, []};
 ghost use Rattle.std.specs.Option.{option_map};
-ghost use Rattle.script_reader.specs.declared.fault.ScriptKind.{ScriptKind};
-ghost use Rattle.script_reader.specs.declared.statement.Verb.{Verb};
+ghost use Rattle.script_words.specs.declared.kinds.ScriptKind.{ScriptKind};
+ghost use Rattle.script_words.specs.declared.verbs.Verb.{Verb};
 ghost use Rattle.script_reader.specs.Data.{IsData};
-ghost use Rattle.script_reader.specs.Fields.{and_then, changed};
+ghost use Rattle.script_words.specs.Fields.{and_then, changed};
 ghost use Rattle.script_reader.specs.Grammar.{entry, line_says, Spells, IsRefused};
 ghost use Rattle.script_reader.specs.Formed.{AreWell};
-ghost use Rattle.script_reader.specs.Known.{Said, Numbered, known_of};
-ghost use Rattle.script_reader.specs.Knowing.{known_in, Learns, LearnsFrom};
+ghost use Rattle.script_lines.specs.Known.{Said, Numbered, known_of};
+ghost use Rattle.script_lines.specs.Knowing.{known_in, Learns, LearnsFrom};
 ghost use Rattle.script_reader.specs.Lines.{lines_of};
 ghost use Rattle.script_reader.specs.Printing.{text_of, numbered};
 ghost use Rattle.script_reader.specs.Reading.{reading, Finds, Refuses};
-ghost use Rattle.script_reader.specs.Struck.{Answers};
-ghost use Rattle.script_reader.specs.Stored.{content_by, digits_at, renamed, read_of, seen, lines_in, StoresRead, Stores};
-ghost use Rattle.script_reader.specs.Words.{all_verbs};
-ghost use Rattle.mass_text.specs.Pieces.{pieces};
+ghost use Rattle.script_lines.specs.Struck.{Answers};
+ghost use Rattle.script_lines.specs.Renamed.{content_by, renamed, read_of};
+ghost use Rattle.script_reader.specs.Stored.{digits_at, seen, lines_in, StoresRead, Stores};
+ghost use Rattle.script_words.specs.Words.{all_verbs};
 ghost use Rattle.std.specs.Box.{box_value};
 
 use crate::data::{decode, fill, sequence};
-use crate::fault::{LineFault, ReadFault, ScriptKind};
-use crate::forms::{Read, said};
-use crate::known::Known;
+use crate::fault::ReadFault;
 use crate::lines::{first_piece, without_cr};
-use crate::statement::{Content, Line, Span, Statement};
-use crate::words::verb;
 use fire_code::Noise;
 use mass_text::Fields;
+use script_lines::{Content, Known, Line, LineFault, Read, Span, Statement, said};
+use script_words::{ScriptKind, verb};
 use std::alloc::Global;
 use std::marker::Model;
 
@@ -131,12 +129,12 @@ fn store(
     known: &mut Known,
     lines: &mut Vec<Stored>,
 ) -> Result<(), ReadFault>
-    requires requests { known.old.requests < 1000000 }
-    requires noises { known.old.noises < 1000000 }
+    requires requests { (known_in known.old).requests < 1000000 }
+    requires noises { (known_in known.old).noises < 1000000 }
     ensures learns { OnOk result (Learns (known_in known.old) (known_in known.new) read) }
     ensures stores { OnOk result (StoresRead number read lines.old.items lines.new.items) }
-    ensures requests { OnOk result (known.new.requests ≤ known.old.requests + 1) }
-    ensures noises { OnOk result (known.new.noises ≤ known.old.noises + 1) }
+    ensures requests { OnOk result ((known_in known.new).requests ≤ (known_in known.old).requests + 1) }
+    ensures noises { OnOk result ((known_in known.new).noises ≤ (known_in known.old).noises + 1) }
     ensures err { IfErr result (λ fault. fault ≡ ReadFault.Memory) }
 {
     known.learn(&read)?;
@@ -152,12 +150,12 @@ fn store_some(
     known: &mut Known,
     lines: &mut Vec<Stored>,
 ) -> Result<(), ReadFault>
-    requires requests { known.old.requests < 1000000 }
-    requires noises { known.old.noises < 1000000 }
+    requires requests { (known_in known.old).requests < 1000000 }
+    requires noises { (known_in known.old).noises < 1000000 }
     ensures learns { OnOk result (LearnsFrom read (known_in known.old) (known_in known.new)) }
     ensures stores { OnOk result (Stores number read lines.old.items lines.new.items) }
-    ensures requests { OnOk result (known.new.requests ≤ known.old.requests + 1) }
-    ensures noises { OnOk result (known.new.noises ≤ known.old.noises + 1) }
+    ensures requests { OnOk result ((known_in known.new).requests ≤ (known_in known.old).requests + 1) }
+    ensures noises { OnOk result ((known_in known.new).noises ≤ (known_in known.old).noises + 1) }
     ensures err { IfErr result (λ fault. fault ≡ ReadFault.Memory) }
 {
     match read {

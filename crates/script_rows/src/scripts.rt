@@ -1,9 +1,8 @@
-use script_reader::fault::ReadFault::Refused;
-use script_reader::fault::ScriptKind::{
+use script_reader::ReadFault::Refused;
+use script_reader::ScriptKind::{
     Bits, Count, Data, IdTwice, LateUnit, Number, TooMany, UnitTwice, UnitUnknown, Word,
 };
-use script_reader::fault::{ReadFault, ScriptKind};
-use script_reader::script::read_script;
+use script_reader::{ReadFault, ScriptKind, read_script};
 use std::alloc::{AllocError, Global};
 use std::test::Fail;
 

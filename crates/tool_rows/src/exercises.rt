@@ -5,7 +5,7 @@ use hpsim_run::run;
 use mass_outside::mem_packs::MemPacks;
 use mass_outside::mem_streams::{MemSink, MemSource};
 use mass_outside::slots::Image;
-use script_reader::script::read_script;
+use script_reader::read_script;
 use std::alloc::Global;
 use std::test::Fail;
 

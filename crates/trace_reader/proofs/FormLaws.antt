@@ -11,8 +11,8 @@ use Rattle.hardware_table.specs.declared.Moved.{Moved}
 use Rattle.hardware_table.specs.declared.Moved.TheVariants as verdict
 use Rattle.mass_text.specs.Numbers.{numeral}
 use Rattle.mass_text.specs.declared.numbers.Radix.TheVariants.{Octal}
-use Rattle.script_reader.specs.Fields.{and_then, changed}
-use Rattle.script_reader.specs.Words.{named}
+use Rattle.script_words.specs.Fields.{and_then, changed}
+use Rattle.script_words.specs.Words.{named, offsets}
 use Rattle.subsystem_spec.specs.Requests.{WriteOk}
 use Rattle.trace_lines.specs.declared.telling.Told.{Told}
 use Rattle.trace_lines.specs.declared.telling.Told.TheVariants as told
@@ -25,7 +25,7 @@ use Rattle.trace_reader.specs.declared.verbs.Command.TheVariants as commands
 use Rattle.trace_reader.specs.declared.verbs.Verb.{Verb}
 use Rattle.trace_reader.specs.declared.verbs.Verb.TheVariants as verbs
 use Rattle.trace_reader.specs.Lines.{IsLine, IsTold, IsVerdict}
-use Rattle.trace_reader.specs.Reading.{Form, all_codes, all_commands, all_verbs, block_in, burst_form, code_in, command_form, command_in, command_word, cylinder_in, decimal_in, deed_form, first, line_form, line_in, none, number_in, plain_verdict_in, plain_verdicts, some_word, told_form, transfer_form, verb_in, verb_word, verdict_form, verdict_word}
+use Rattle.trace_reader.specs.Reading.{Form, all_commands, all_verbs, block_in, burst_form, code_in, command_form, command_in, command_word, cylinder_in, decimal_in, deed_form, first, line_form, line_in, none, number_in, plain_verdict_in, plain_verdicts, some_word, told_form, transfer_form, verb_in, verb_word, verdict_form, verdict_word}
 use Rattle.trace_reader.proofs.NumberLaws.{decimal_sound, octal_sound}
 use Rattle.trace_replay.specs.Text.{first_word, last_words, offset_word, transfer_word, verdict_words}
 
@@ -123,7 +123,7 @@ command_complete commands.Read = refl
 code_sound : (word : List ℕ) (code : OffsetCode) → code_in word ≡ Ok code → word ≡ offset_word code
 unfolding code_in
 code_sound word code e =
-    (named_gives (λ c. Unit {0}) offset_word all_codes word code (tt, (tt, (tt, (tt, (tt, (tt, tt)))))) (some_gives (named offset_word all_codes word) code e)).0
+    (named_gives (λ c. Unit {0}) offset_word offsets word code (tt, (tt, (tt, (tt, (tt, (tt, tt)))))) (some_gives (named offset_word offsets word) code e)).0
 
 pub code_complete : (code : OffsetCode) → code_in (offset_word code) ≡ Ok code
 unfolding code_in

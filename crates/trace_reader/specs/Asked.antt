@@ -1,10 +1,10 @@
 -- Which requests a script asks for.
 use Rattle.std.specs.Prelude.{ℕ, ◌+◌, ◌==◌, ◌&&◌, ◌||◌, nat_le, Bool, true, false, List}
 use Rattle.std.specs.List.{list_any}
-use Rattle.script_reader.specs.declared.statement.Line.{Line}
-use Rattle.script_reader.specs.declared.statement.Request.{Request}
-use Rattle.script_reader.specs.declared.statement.Statement.{Statement}
-use Rattle.script_reader.specs.declared.statement.Statement.TheVariants as says
+use Rattle.script_lines.specs.declared.statement.Line.{Line}
+use Rattle.script_lines.specs.declared.statement.Request.{Request}
+use Rattle.script_lines.specs.declared.statement.Statement.{Statement}
+use Rattle.script_lines.specs.declared.statement.Statement.TheVariants as says
 use Rattle.trace_reader.specs.declared.line.TraceLine.{TraceLine}
 use Rattle.trace_reader.specs.declared.line.TraceLine.TheVariants.{Deed, Idle}
 use Rattle.trace_reader.specs.Lines.{line_number}

@@ -3,17 +3,16 @@ use Rattle.std.specs.Prelude.{◌≡◌, ℕ, ◌+◌, ◌==◌, ◌&&◌, nat_l
 use Rattle.std.specs.List.{slice_split}
 use Rattle.std.specs.Str.{bytes_eq}
 use Rattle.drive_registers.specs.declared.OffsetCode.{OffsetCode}
-use Rattle.drive_registers.specs.declared.OffsetCode.TheVariants.{Plus400, Minus400, Plus800, Minus800, Plus1200, Minus1200}
 use Rattle.hardware_table.specs.declared.FaultKind.TheVariants as fault
 use Rattle.hardware_table.specs.declared.Moved.{Moved}
 use Rattle.hardware_table.specs.declared.Moved.TheVariants as verdict
 use Rattle.mass_text.specs.Numbers.{number_of}
 use Rattle.mass_text.specs.declared.numbers.Radix.{Radix}
 use Rattle.mass_text.specs.declared.numbers.Radix.TheVariants.{Octal, Decimal}
-use Rattle.script_reader.specs.Fields.{and_then, changed}
+use Rattle.script_words.specs.Fields.{and_then, changed}
 use Rattle.script_reader.specs.Reading.{on}
 use Rattle.script_reader.specs.Stored.{Stored}
-use Rattle.script_reader.specs.Words.{named}
+use Rattle.script_words.specs.Words.{named, offsets}
 use Rattle.trace_lines.specs.declared.telling.Told.{Told}
 use Rattle.trace_lines.specs.declared.telling.Told.TheVariants as told
 use Rattle.trace_reader.specs.declared.fault.TraceFault.{TraceFault}
@@ -99,9 +98,6 @@ all_commands =
     commands.Search ∷ commands.Seek ∷ commands.Recal ∷ commands.Offset ∷ commands.Centre ∷ commands.Clear ∷ commands.Pack
     ∷ commands.Write ∷ commands.Read ∷ []
 
-abbrev pub all_codes : List OffsetCode
-all_codes = Plus400 ∷ Minus400 ∷ Plus800 ∷ Minus800 ∷ Plus1200 ∷ Minus1200 ∷ []
-
 -- the verdicts of one word
 abbrev pub verdict_word : Moved → List ℕ
 verdict_word verdict.Clean = codes "clean"
@@ -127,7 +123,7 @@ unfoldable pub command_in : List ℕ → Result Command TraceKind
 command_in word = some_word (named command_word all_commands word)
 
 unfoldable pub code_in : List ℕ → Result OffsetCode TraceKind
-code_in word = some_word (named offset_word all_codes word)
+code_in word = some_word (named offset_word offsets word)
 
 unfoldable pub plain_verdict_in : List ℕ → Result Moved TraceKind
 plain_verdict_in word = some_word (named verdict_word plain_verdicts word)

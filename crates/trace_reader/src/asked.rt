@@ -7,8 +7,7 @@ ghost use Rattle.trace_reader.specs.Knowing.{knows, Learns, Knows};
 
 use crate::fault::TraceFault;
 use crate::line::TraceLine;
-use script_reader::script::{Script, Stored};
-use script_reader::statement::Statement;
+use script_reader::{Script, Statement, Stored};
 use std::alloc::{AllocFailed, Global};
 use std::collections::BTreeMap;
 

@@ -8,7 +8,8 @@ ghost use Rattle.trace_reader.specs.declared.line.TraceLine.TheVariants.{Idle};
 use crate::fault::TraceKind;
 use crate::line::TraceLine;
 use crate::verbs::{Command, Verb};
-use crate::words::{Words, command, decimal, is_word, offset_code, pattern, plain_verdict, verb};
+use crate::words::{Words, command, decimal, offset_code, pattern, plain_verdict, verb};
+use script_words::is_word;
 use trace_lines::Told;
 
 /// The largest cylinder, sector, and block of any drive.

@@ -11,7 +11,7 @@ use crate::asked::Asked;
 use crate::fault::{TraceFault, TraceKind};
 use crate::forms::line_of;
 use crate::line::{ReadLine, TraceLine};
-use script_reader::script::Script;
+use script_reader::Script;
 use std::alloc::Global;
 use std::marker::Model;
 

@@ -11,7 +11,7 @@ ghost use Rattle.trace_reader.specs.RoundTrip.{ReadsAsTold, WritesAsRead, ReadsO
 use crate::fault::TraceFault;
 use crate::left::TraceLines;
 use crate::line::TraceLine;
-use script_reader::script::Script;
+use script_reader::Script;
 use std::alloc::Global;
 
 /// Reads a trace from its bytes, beside the script of its run: a line each, ended by LF, which may be missing at the very end. It

@@ -7,8 +7,9 @@ ghost use Rattle.trace_reader.specs.Reading.{words_of, words_left, number_in, de
 use crate::fault::TraceKind;
 use crate::verbs::{Command, Verb};
 use drive_registers::OffsetCode;
-use hardware_table::{FaultKind, Moved};
+use hardware_table::Moved;
 use mass_text::{Radix, number};
+use script_words::{fault_in, is_word, offset_in};
 use std::marker::Model;
 
 /// The words of a line, one after another: what stands between single blanks.
@@ -77,13 +78,6 @@ impl<'a> Words<'a> {
             None => Err(TraceKind::Word),
         }
     }
-}
-
-/// Whether a word is this one.
-pub(crate) fn is_word(word: &[u8], other: &[u8]) -> bool
-    ensures { result ≡ bytes_eq word.now other.now }
-{
-    word == other
 }
 
 /// A number from `low` to `high`, without a zero too many.
@@ -179,21 +173,7 @@ pub(crate) fn command(word: &[u8]) -> Result<Command, TraceKind>
 pub(crate) fn offset_code(word: &[u8]) -> Result<OffsetCode, TraceKind>
     ensures { result ≡ code_in word.now }
 {
-    if is_word(word, b"+400".as_slice()) {
-        Ok(OffsetCode::Plus400)
-    } else if is_word(word, b"-400".as_slice()) {
-        Ok(OffsetCode::Minus400)
-    } else if is_word(word, b"+800".as_slice()) {
-        Ok(OffsetCode::Plus800)
-    } else if is_word(word, b"-800".as_slice()) {
-        Ok(OffsetCode::Minus800)
-    } else if is_word(word, b"+1200".as_slice()) {
-        Ok(OffsetCode::Plus1200)
-    } else if is_word(word, b"-1200".as_slice()) {
-        Ok(OffsetCode::Minus1200)
-    } else {
-        Err(TraceKind::Word)
-    }
+    offset_in(word).ok_or(TraceKind::Word)
 }
 
 /// A verdict of one word.
@@ -207,16 +187,8 @@ pub(crate) fn plain_verdict(word: &[u8]) -> Result<Moved, TraceKind>
         Ok(Moved::Hard)
     } else if is_word(word, b"mark".as_slice()) {
         Ok(Moved::Marked)
-    } else if is_word(word, b"seek".as_slice()) {
-        Ok(Moved::Faulted(FaultKind::Seek))
-    } else if is_word(word, b"opi".as_slice()) {
-        Ok(Moved::Faulted(FaultKind::Opi))
-    } else if is_word(word, b"dte".as_slice()) {
-        Ok(Moved::Faulted(FaultKind::Dte))
-    } else if is_word(word, b"hcrc".as_slice()) {
-        Ok(Moved::Faulted(FaultKind::Hcrc))
-    } else if is_word(word, b"late".as_slice()) {
-        Ok(Moved::Faulted(FaultKind::Late))
+    } else if let Some(fault) = fault_in(word) {
+        Ok(Moved::Faulted(fault))
     } else if is_word(word, b"offline".as_slice()) {
         Ok(Moved::Offline)
     } else {

@@ -1,4 +1,4 @@
-use script_reader::script::read_script;
+use script_reader::read_script;
 use std::alloc::{AllocError, Global};
 use std::test::Fail;
 use trace_reader::TraceKind::{Order, Script, Word};

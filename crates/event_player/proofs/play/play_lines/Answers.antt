@@ -1,7 +1,7 @@
 use Rattle.std.proofs.Common.{rules, ◌≡◌, ◌<◌, ◌≤◌, ℕ, ◌+◌, List, length, get_or, subst, sym, arith, ◌∙◌, ap}
 use Rattle.std.proofs.lemmas.List.{length-map}
 use Rattle.script_reader.specs.Stored.{Kept, seen, lines_in}
-use Rattle.script_reader.specs.Words.{all_verbs}
+use Rattle.script_words.specs.Words.{all_verbs}
 use Rattle.script_meaning.specs.Meaning.{line_of, meaning_of}
 use Rattle.trace_replay.specs.Script.{IsScript}
 use Rattle.event_player.specs.Steps.{Stage, stage, PlaysDrain}

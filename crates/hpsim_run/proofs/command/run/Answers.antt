@@ -1,4 +1,4 @@
-use Rattle.std.proofs.Common.{rules, ◌≡◌, subst, sym}
+use Rattle.std.proofs.Common.{rules, subst, sym}
 use Rattle.hpsim_run.specs.Statuses.{IsPlayCode}
 use Rattle.hpsim_run.proofs.command.run.Goals as goal
 

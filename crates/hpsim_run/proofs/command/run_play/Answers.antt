@@ -1,4 +1,4 @@
-use Rattle.std.proofs.Common.{refl, sym, ◌≡◌}
+use Rattle.std.proofs.Common.{refl, sym}
 use Rattle.event_player.specs.declared.play.PlayFault.TheVariants as faults
 use Rattle.script_reader.specs.Stored.{lines_in}
 use Rattle.hpsim_run.proofs.PlayLaws.{told_of, told_from, refused_parts, refusal_is, long_parts, long_before, sink_plays, left_by, err_is}

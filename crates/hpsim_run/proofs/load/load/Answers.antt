@@ -1,4 +1,4 @@
-use Rattle.script_reader.specs.Words.{all_verbs}
+use Rattle.script_words.specs.Words.{all_verbs}
 use Rattle.hpsim_run.proofs.LoadLaws.{refused_all}
 use Rattle.hpsim_run.proofs.load.load.Goals as goal
 

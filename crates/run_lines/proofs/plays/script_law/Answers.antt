@@ -1,7 +1,7 @@
 use Rattle.std.proofs.Common.{ℕ, List, [], map}
-use Rattle.script_reader.specs.Known.{known_of}
+use Rattle.script_lines.specs.Known.{known_of}
 use Rattle.script_reader.specs.Stored.{seen}
-use Rattle.script_reader.specs.Words.{all_verbs}
+use Rattle.script_words.specs.Words.{all_verbs}
 use Rattle.run_lines.proofs.UnitLaws.{lines_few, well_units}
 use Rattle.run_lines.proofs.plays.script_law.Goals as goal
 

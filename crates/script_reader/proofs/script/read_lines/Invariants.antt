@@ -1,10 +1,10 @@
 use Rattle.std.proofs.Common.{◌≡◌, ◌-◌, ◌<◌, ◌≤◌, [], length, drop, map}
-use Rattle.script_reader.specs.Known.{known_of}
-use Rattle.script_reader.specs.Knowing.{known_in}
+use Rattle.script_lines.specs.Known.{known_of}
+use Rattle.script_lines.specs.Knowing.{known_in}
 use Rattle.script_reader.specs.Lines.{lines_of}
 use Rattle.script_reader.specs.Reading.{reading}
 use Rattle.script_reader.specs.Stored.{seen}
-use Rattle.script_reader.specs.Words.{all_verbs}
+use Rattle.script_words.specs.Words.{all_verbs}
 use Rattle.script_reader.proofs.script.read_lines.Given as goal
 
 -- what is left, behind the lines so far, is read as all of it is
@@ -16,8 +16,8 @@ invariant-lines l = record {
   within : length l.rest ≤ length l.text;
   first : 0 < l.number;
   last : l.number ≤ 1000001;
-  requests : l.known.requests < l.number;
-  noises : l.known.noises < l.number;
+  requests : (known_in l.known).requests < l.number;
+  noises : (known_in l.known).noises < l.number;
 }
 
 abbrev pub decreases-lines : goal.decreases-lines

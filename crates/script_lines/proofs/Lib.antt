@@ -1,0 +1,3 @@
+pub mod KnownLaws
+pub mod PlacesLaws
+pub mod WholeLaws

@@ -1,0 +1,15 @@
+use Rattle.std.proofs.Common.{sym, ap, Result}
+use Rattle.script_words.specs.declared.kinds.ScriptKind.{ScriptKind}
+use Rattle.script_words.specs.Fields.{changed}
+use Rattle.script_lines.specs.Forms.{noise_form, whole}
+use Rattle.script_lines.specs.Knowing.{known_in}
+use Rattle.script_lines.specs.Known.{Said}
+use Rattle.script_lines.specs.Renamed.{read_of}
+use Rattle.script_lines.specs.Struck.{struck_as}
+use Rattle.script_lines.proofs.WholeLaws.{held_answers}
+use Rattle.script_lines.proofs.forms.noise.Goals as goal
+
+pub returns-in-Ok : goal.returns-in-Ok
+returns-in-Ok c span =
+    held_answers c.held.result (changed (read_of span) (whole (noise_form (known_in c.args.known.now)) c.args.fields.now)) (read_of span (struck_as c.in-Ok.struck))
+    (ap (λ (r : Result Said ScriptKind). changed (read_of span) r) (sym c.in-Ok.ensures)) (c.held.ensures span)

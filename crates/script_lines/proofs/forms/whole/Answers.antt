@@ -1,0 +1,12 @@
+use Rattle.std.proofs.Common.{sym, ◌∙◌}
+use Rattle.script_lines.specs.Forms.{form_of}
+use Rattle.script_lines.specs.Knowing.{known_in}
+use Rattle.script_lines.specs.Renamed.{read_of}
+use Rattle.script_lines.proofs.WholeLaws.{whole_of, whole_fault}
+use Rattle.script_lines.proofs.forms.whole.Goals as goal
+
+pub returns-in-Ok : goal.returns-in-Ok
+returns-in-Ok c = c.ended.ensures ∙ sym (whole_of (read_of c.args.span) (form_of (known_in c.args.known.now) c.args.verb) c.args.fields.now c.in-Ok.read c.form.new.fields c.in-Ok.ensures)
+
+pub returns-in-Err : goal.returns-in-Err
+returns-in-Err c = sym (whole_fault (read_of c.args.span) (form_of (known_in c.args.known.now) c.args.verb) c.args.fields.now c.in-Err.kind c.in-Err.ensures)

@@ -1,0 +1,10 @@
+use script_words::ScriptKind;
+
+/// Why a line was not read.
+#[derive(Clone, Copy, Debug, PartialEq, Eq)]
+pub enum LineFault {
+    /// There was no memory.
+    Memory,
+    /// It is faulty.
+    Kind(ScriptKind),
+}

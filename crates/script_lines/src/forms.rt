@@ -1,0 +1,380 @@
+ghost use Rattle.std.specs.Prelude.{◌≡◌, ◌≢◌, ◌∷◌, IfOk, MatchResult, ◌≤◌};
+ghost use Rattle.script_words.specs.Fields.{changed};
+ghost use Rattle.script_lines.specs.Struck.{struck_as, Answers};
+ghost use Rattle.script_lines.specs.Forms.{ends, mapped, start_form, last_form, tail_form, content_form, span_form, unit_form, read_form, write_form, turn_form, noise_form, fault_form, form_of, unit_number_form, adapter_form, Parses, none_left, whole, too_late, said};
+ghost use Rattle.script_lines.specs.Knowing.{known_in};
+ghost use Rattle.script_lines.specs.declared.statement.Span.{Span};
+ghost use Rattle.script_lines.specs.Renamed.{content_by, read_of};
+
+use crate::fault::LineFault;
+use crate::held::Held;
+use crate::known::Known;
+use crate::places::places;
+use crate::statement::{Content, Request, Span, Statement};
+use fire_code::Noise;
+use hardware_table::NoiseSpan;
+use mass_text::Fields;
+use pack_geometry::{blocks, geometry_of};
+use script_words::{
+    ScriptKind, Verb, byte_field, check_digits, count_field, fault_field, is_word, kind_field,
+    need, number_field, offset_field, part_field, seq_field,
+};
+use std::alloc::Global;
+
+/// What a line says, as it is read: the digits of a write are those of the line at a place of the text.
+pub type Read = Statement<Span, Held>;
+
+/// What a line says of noise.
+#[derive(Drop)]
+struct Struck {
+    unit: u8,
+    block: u32,
+    span: NoiseSpan,
+    places: Noise,
+}
+
+/// `ID U PART BLOCK COUNT`
+#[tactic(auto, unfolding(crate::specs::Forms::start_form))]
+fn start(known: &Known, fields: &mut Fields) -> Result<Request, ScriptKind>
+    ensures form { Parses (start_form (known_in known.now)) fields.old result fields.new }
+    ensures count { IfOk result (λ request. request.count ≤ 127) }
+{
+    let id = known.id_field(need(fields)?)?;
+    let (unit, _) = known.unit_field(need(fields)?)?;
+    let part = part_field(need(fields)?)?;
+    let block = number_field(need(fields)?, 0, u32::MAX)?;
+    let count = count_field(need(fields)?)?;
+    Ok(Request {
+        id,
+        unit,
+        part,
+        block,
+        count: count as u8,
+        offset: 0,
+        last: 512,
+    })
+}
+
+/// The end of a line.
+fn end(fields: &mut Fields) -> Result<(), ScriptKind>
+    ensures { Parses (ends tt) fields.old result fields.new }
+{
+    match fields.next() {
+        Some(_) => Err(ScriptKind::Word),
+        None => Ok(()),
+    }
+}
+
+/// `last M`, of which the first word was read, at the end of a line.
+#[tactic(auto, unfolding(crate::specs::Forms::last_form))]
+fn last(word: &[u8], fields: &mut Fields) -> Result<u16, ScriptKind>
+    ensures { Parses last_form (word.now ∷ fields.old) result fields.new }
+{
+    if !is_word(word, b"last".as_slice()) {
+        return Err(ScriptKind::Word);
+    }
+    let last = number_field(need(fields)?, 1, 512)?;
+    end(fields)?;
+    Ok(last as u16)
+}
+
+/// `[last M]`, at the end of a line.
+#[tactic(auto, unfolding(crate::specs::Forms::last_form))]
+fn last_or_end(fields: &mut Fields) -> Result<u16, ScriptKind>
+    ensures { Parses last_form fields.old result fields.new }
+{
+    match fields.next() {
+        Some(word) => last(word, fields),
+        None => Ok(512),
+    }
+}
+
+/// `[off N] [last M]`, at the end of a line.
+#[tactic(auto, unfolding(crate::specs::Forms::tail_form, crate::specs::Forms::last_form))]
+fn tail(start: &Request, fields: &mut Fields) -> Result<Request, ScriptKind>
+    ensures { Parses (tail_form start.now) fields.old result fields.new }
+{
+    let Some(word) = fields.next() else {
+        return Ok(Request {
+            offset: 0,
+            last: 512,
+            ..*start
+        });
+    };
+    if is_word(word, b"off".as_slice()) {
+        let offset = number_field(need(fields)?, 0, 511)?;
+        let last = last_or_end(fields)?;
+        return Ok(Request {
+            offset: offset as u16,
+            last,
+            ..*start
+        });
+    }
+    let last = last(word, fields)?;
+    Ok(Request {
+        offset: 0,
+        last,
+        ..*start
+    })
+}
+
+/// `fill HH`, `seq N` or `hex DIGITS`, on the line that stands at `span`.
+#[tactic(auto, unfolding(crate::specs::Forms::content_form))]
+fn content(count: u32, span: Span, fields: &mut Fields) -> Result<Content<Span>, ScriptKind>
+    requires { count ≤ 127 }
+    ensures { Parses (mapped (content_by (λ _. span)) (content_form count)) fields.old result fields.new }
+{
+    let word = need(fields)?;
+    if is_word(word, b"fill".as_slice()) {
+        Ok(Content::Fill(byte_field(need(fields)?)?))
+    } else if is_word(word, b"seq".as_slice()) {
+        Ok(Content::Seq(seq_field(need(fields)?)?))
+    } else if is_word(word, b"hex".as_slice()) {
+        check_digits(count, need(fields)?)?;
+        Ok(Content::Hex(span))
+    } else {
+        Err(ScriptKind::Word)
+    }
+}
+
+/// `TIMES` or `until CODE`
+#[tactic(auto, unfolding(crate::specs::Forms::span_form))]
+fn noise_span(fields: &mut Fields) -> Result<NoiseSpan, ScriptKind>
+    ensures { Parses span_form fields.old result fields.new }
+{
+    let word = need(fields)?;
+    if is_word(word, b"until".as_slice()) {
+        return Ok(NoiseSpan::Until(offset_field(need(fields)?)?));
+    }
+    Ok(NoiseSpan::Times(number_field(word, 1, 1000)?))
+}
+
+/// A unit that was declared.
+fn unit(known: &Known, fields: &mut Fields) -> Result<u8, ScriptKind>
+    ensures { Parses (unit_number_form (known_in known.now)) fields.old result fields.new }
+{
+    let (unit, _) = known.unit_field(need(fields)?)?;
+    Ok(unit)
+}
+
+/// An adapter.
+fn adapter(fields: &mut Fields) -> Result<u8, ScriptKind>
+    ensures { Parses adapter_form fields.old result fields.new }
+{
+    let adapter = number_field(need(fields)?, 0, 3)?;
+    Ok(adapter as u8)
+}
+
+fn unit_line(known: &Known, fields: &mut Fields) -> Result<Read, ScriptKind>
+    ensures { (span : Span) → Parses (mapped (read_of span) (unit_form (known_in known.now))) fields.old result fields.new }
+{
+    let unit = known.new_unit_field(need(fields)?)?;
+    let kind = kind_field(need(fields)?)?;
+    Ok(Statement::Unit { unit, kind })
+}
+
+fn read_line(known: &Known, fields: &mut Fields) -> Result<Read, ScriptKind>
+    ensures { (span : Span) → Parses (mapped (read_of span) (read_form (known_in known.now))) fields.old result fields.new }
+{
+    let start = start(known, fields)?;
+    let request = tail(&start, fields)?;
+    Ok(Statement::Read { request })
+}
+
+fn write_line(known: &Known, span: Span, fields: &mut Fields) -> Result<Read, ScriptKind>
+    ensures { Parses (mapped (read_of span) (write_form (known_in known.now))) fields.old result fields.new }
+{
+    let start = start(known, fields)?;
+    let content = content(u32::from(start.count), span, fields)?;
+    let request = tail(&start, fields)?;
+    Ok(Statement::Write { request, content })
+}
+
+fn turn_line(known: &Known, fields: &mut Fields) -> Result<Read, ScriptKind>
+    ensures { (span : Span) → Parses (mapped (read_of span) (turn_form (known_in known.now))) fields.old result fields.new }
+{
+    let (unit, kind) = known.unit_field(need(fields)?)?;
+    let sector = number_field(need(fields)?, 0, geometry_of(kind).sectors - 1)?;
+    Ok(Statement::Turn { unit, sector })
+}
+
+fn noise_line(known: &Known, fields: &mut Fields) -> Result<Struck, ScriptKind>
+    ensures { Parses (noise_form (known_in known.now)) fields.old (changed struck_as result) fields.new }
+{
+    let (unit, kind) = known.unit_field(need(fields)?)?;
+    let block = number_field(need(fields)?, 0, blocks(kind) - 1)?;
+    let span = noise_span(fields)?;
+    let places = places(fields)?;
+    Ok(Struck {
+        unit,
+        block,
+        span,
+        places,
+    })
+}
+
+fn fault_line(known: &Known, fields: &mut Fields) -> Result<Read, ScriptKind>
+    ensures { (span : Span) → Parses (mapped (read_of span) (fault_form (known_in known.now))) fields.old result fields.new }
+{
+    let unit = unit(known, fields)?;
+    let what = fault_field(need(fields)?)?;
+    let times = number_field(need(fields)?, 1, 1000)?;
+    Ok(Statement::Fault { unit, what, times })
+}
+
+/// What the fields behind a word say, where it is no noise.
+fn form(known: &Known, verb: Verb, span: Span, fields: &mut Fields) -> Result<Read, ScriptKind>
+    requires { verb ≢ Verb.Noise }
+    ensures { Parses (mapped (read_of span) (form_of (known_in known.now) verb)) fields.old result fields.new }
+{
+    match verb {
+        Verb::Unit => unit_line(known, fields),
+        Verb::Read => read_line(known, fields),
+        Verb::Write => write_line(known, span, fields),
+        Verb::Arrive => Ok(Statement::Arrive {
+            unit: unit(known, fields)?,
+        }),
+        Verb::Turn => turn_line(known, fields),
+        Verb::Move => Ok(Statement::Move {
+            adapter: adapter(fields)?,
+        }),
+        Verb::Attend => Ok(Statement::Attend {
+            adapter: adapter(fields)?,
+        }),
+        Verb::Noise => unreachable!(),
+        Verb::Fault => fault_line(known, fields),
+        Verb::Offline => Ok(Statement::Offline {
+            unit: unit(known, fields)?,
+        }),
+        Verb::Online => Ok(Statement::Online {
+            unit: unit(known, fields)?,
+        }),
+        Verb::Lock => Ok(Statement::Lock {
+            unit: unit(known, fields)?,
+        }),
+        Verb::Unlock => Ok(Statement::Unlock {
+            unit: unit(known, fields)?,
+        }),
+        Verb::Drain => Ok(Statement::Drain),
+    }
+}
+
+/// What is wrong with a word, whatever the fields behind it.
+fn too_late(known: &Known, verb: Verb) -> Option<ScriptKind>
+    ensures { result ≡ too_late (known_in known.now) verb }
+{
+    if verb == Verb::Unit && known.is_later() {
+        return Some(ScriptKind::LateUnit);
+    }
+    if known.is_full(verb) {
+        return Some(ScriptKind::TooMany);
+    }
+    None
+}
+
+/// What was read, where no field is left.
+fn ended(read: Read, fields: &mut Fields) -> Result<Read, ScriptKind>
+    ensures { result ≡ none_left (read, fields.old) }
+{
+    match fields.next() {
+        Some(_) => Err(ScriptKind::Word),
+        None => Ok(read),
+    }
+}
+
+/// What all the fields behind a word say, where it is no noise.
+fn whole(known: &Known, verb: Verb, span: Span, fields: &mut Fields) -> Result<Read, ScriptKind>
+    requires { verb ≢ Verb.Noise }
+    ensures { result ≡ changed (read_of span) (whole (form_of (known_in known.now) verb) fields.old) }
+{
+    match form(known, verb, span, fields) {
+        Ok(read) => ended(read, fields),
+        Err(kind) => Err(kind),
+    }
+}
+
+/// What all the fields behind the word of a noise say.
+fn whole_noise(known: &Known, fields: &mut Fields) -> Result<Struck, ScriptKind>
+    ensures { changed struck_as result ≡ whole (noise_form (known_in known.now)) fields.old }
+{
+    match noise_line(known, fields) {
+        Ok(struck) => match end(fields) {
+            Ok(()) => Ok(struck),
+            Err(kind) => Err(kind),
+        },
+        Err(kind) => Err(kind),
+    }
+}
+
+/// A noise whose places are put where they stay.
+fn held(alloc: Global, struck: Struck) -> Result<Read, LineFault>
+    ensures { (span : Span) → MatchResult result (λ read. read ≡ read_of span (struck_as struck)) (λ fault. fault ≡ LineFault.Memory) }
+{
+    let Struck {
+        unit,
+        block,
+        span,
+        places,
+    } = struck;
+    match Held::new(alloc, places) {
+        Ok(places) => Ok(Statement::Noise {
+            unit,
+            block,
+            span,
+            places,
+        }),
+        Err(_) => Err(LineFault::Memory),
+    }
+}
+
+/// What all the fields behind the word of a noise say, with its places where they stay.
+fn noise(alloc: Global, known: &Known, fields: &mut Fields) -> Result<Read, LineFault>
+    ensures { (span : Span) → Answers result (changed (read_of span) (whole (noise_form (known_in known.now)) fields.old)) }
+{
+    match whole_noise(known, fields) {
+        Ok(struck) => held(alloc, struck),
+        Err(kind) => Err(LineFault::Kind(kind)),
+    }
+}
+
+/// What was read, where memory is not needed.
+fn plain(read: Result<Read, ScriptKind>) -> Result<Read, LineFault>
+    ensures { Answers result read }
+{
+    match read {
+        Ok(read) => Ok(read),
+        Err(kind) => Err(LineFault::Kind(kind)),
+    }
+}
+
+/// What all the fields behind any word say.
+fn all_fields(
+    alloc: Global,
+    known: &Known,
+    verb: Verb,
+    span: Span,
+    fields: &mut Fields,
+) -> Result<Read, LineFault>
+    ensures { Answers result (changed (read_of span) (whole (form_of (known_in known.now) verb) fields.old)) }
+{
+    match verb {
+        Verb::Noise => noise(alloc, known, fields),
+        _ => plain(whole(known, verb, span, fields)),
+    }
+}
+
+/// What a line with this word says.
+pub fn said(
+    alloc: Global,
+    known: &Known,
+    verb: Verb,
+    span: Span,
+    fields: &mut Fields,
+) -> Result<Read, LineFault>
+    ensures { Answers result (changed (read_of span) (said (known_in known.now) verb fields.old)) }
+{
+    match too_late(known, verb) {
+        Some(kind) => Err(LineFault::Kind(kind)),
+        None => all_fields(alloc, known, verb, span, fields),
+    }
+}

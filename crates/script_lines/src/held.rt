@@ -1,0 +1,41 @@
+use fire_code::Noise;
+use std::alloc::{AllocFailed, Global};
+use std::marker::Model;
+
+/// The places of a noise, where they stay while what a line says is handed on.
+#[derive(Drop)]
+pub struct Held {
+    noise: Box<Noise>,
+}
+
+impl Model for Held {
+    ghost use Rattle.std.specs.Prelude.{ℕ, List};
+    ghost use Rattle.std.specs.Box.{box_value};
+
+    ghost Value = { List ℕ };
+
+    ghost view = { λ h. box_value h.noise };
+}
+
+impl Held {
+    ghost use Rattle.std.specs.Prelude.{◌≡◌, IfOk};
+    ghost use Rattle.std.specs.Box.{box_value};
+
+    /// Puts a noise there.
+    pub fn new(alloc: Global, noise: Noise) -> Result<Held, AllocFailed<Noise>>
+        ensures { IfOk result (λ held. held ≡ noise) }
+    {
+        match Box::new(alloc, noise) {
+            Ok(noise) => Ok(Held { noise }),
+            Err(failed) => Err(failed),
+        }
+    }
+
+    /// The noise that is there.
+    pub fn into_noise(self) -> Box<Noise>
+        ensures { box_value result ≡ self }
+    {
+        let Held { noise } = self;
+        noise
+    }
+}

@@ -1,0 +1,46 @@
+ghost use Rattle.std.specs.Prelude.{◌∷◌, [], ◌≤◌};
+ghost use Rattle.script_words.specs.Fields.{and_then};
+ghost use Rattle.script_lines.specs.Places.{ahead};
+ghost use Rattle.script_lines.specs.Forms.{noise_or, places_form, Parses};
+
+use arrayvec::ArrayVec;
+use fire_code::Noise;
+use mass_text::Fields;
+use script_words::{ScriptKind, place_field};
+
+/// The places of a noise from its first one on.
+fn places_from(first: u16, fields: &mut Fields) -> Result<Noise, ScriptKind>
+    requires { first ≤ 4127 }
+    ensures { Parses (λ fs. and_then (ahead (first ∷ []) fs) noise_or) fields.old result fields.new }
+{
+    let mut places: ArrayVec<u16, 64> = ArrayVec::new();
+    places.push(first);
+    'places: while let Some(field) = fields.next() {
+        match place_field(field) {
+            Ok(place) => {
+                if places.is_full() {
+                    return Err(ScriptKind::Bits);
+                }
+                places.push(place);
+            }
+            Err(kind) => return Err(kind),
+        }
+    }
+    match Noise::new(places.as_slice()) {
+        Some(noise) => Ok(noise),
+        None => Err(ScriptKind::Bits),
+    }
+}
+
+/// The places of a noise: 1 to 64 numbers up to 4127 in strictly ascending order, which take all that is left.
+pub fn places(fields: &mut Fields) -> Result<Noise, ScriptKind>
+    ensures { Parses places_form fields.old result fields.new }
+{
+    match fields.next() {
+        None => Err(ScriptKind::Word),
+        Some(text) => match place_field(text) {
+            Ok(first) => places_from(first, fields),
+            Err(kind) => Err(kind),
+        },
+    }
+}

@@ -1,0 +1,109 @@
+use drive_registers::OffsetCode;
+use hardware_table::{FaultKind, NoiseSpan};
+use pack_geometry::DriveKind;
+use partitions::Part;
+
+/// Where a line stands in the text of a script, in bytes: from `start` up to `end`. A text has at most 16 MiB.
+#[derive(Clone, Copy, Debug, PartialEq, Eq)]
+pub struct Span {
+    pub start: u32,
+    pub end: u32,
+}
+
+/// What a line asks of blocks: `count` of them, 1 to 127, from `block` of a unit's partition on. The first byte stands
+/// `offset` bytes into its frame, 0 to 511, and `last` bytes of the last block are asked for, 1 to 512.
+#[derive(Clone, Copy, Debug, PartialEq, Eq)]
+pub struct Request {
+    pub id: u32,
+    pub unit: u8,
+    pub part: Part,
+    pub block: u32,
+    pub count: u8,
+    pub offset: u16,
+    pub last: u16,
+}
+
+/// What a write writes.
+#[derive(Drop)]
+pub enum Content<D> {
+    /// This byte, again and again.
+    Fill(u8),
+    /// Byte t of block j is the sum of this number, j and t, modulo 256.
+    Seq(u8),
+    /// These digits, two for each byte.
+    Hex(D),
+}
+
+/// What a line says. `D` is how the digits of a write are named, and `N` how the places of a noise are.
+#[derive(Drop)]
+pub enum Statement<D, N> {
+    /// A drive is declared.
+    Unit {
+        unit: u8,
+        kind: DriveKind,
+    },
+    /// Blocks are read.
+    Read {
+        request: Request,
+    },
+    /// Blocks are written.
+    Write {
+        request: Request,
+        content: Content<D>,
+    },
+    /// The positioning of a drive ends.
+    Arrive {
+        unit: u8,
+    },
+    /// A drive turns to a sector.
+    Turn {
+        unit: u8,
+        sector: u32,
+    },
+    /// An adapter moves a sector.
+    Move {
+        adapter: u8,
+    },
+    /// An adapter's interrupt is delivered.
+    Attend {
+        adapter: u8,
+    },
+    /// Places of a block, counted on the pack, are flipped when it is read.
+    Noise {
+        unit: u8,
+        block: u32,
+        span: NoiseSpan,
+        places: N,
+    },
+    /// A fault is armed so many times, 1 to 1000.
+    Fault {
+        unit: u8,
+        what: FaultKind,
+        times: u32,
+    },
+    /// A drive goes off line.
+    Offline {
+        unit: u8,
+    },
+    /// A drive comes on line.
+    Online {
+        unit: u8,
+    },
+    /// A drive is locked against writing.
+    Lock {
+        unit: u8,
+    },
+    /// A drive is unlocked.
+    Unlock {
+        unit: u8,
+    },
+    /// Events come until no request is outstanding.
+    Drain,
+}
+
+/// A line that says something, with its number from 1.
+#[derive(Drop)]
+pub struct Line<D, N> {
+    pub number: u32,
+    pub statement: Statement<D, N>,
+}

@@ -1,0 +1,18 @@
+/// The first words of lines.
+#[derive(Clone, Copy, Debug, PartialEq, Eq)]
+pub enum Verb {
+    Unit,
+    Read,
+    Write,
+    Arrive,
+    Turn,
+    Move,
+    Attend,
+    Noise,
+    Fault,
+    Offline,
+    Online,
+    Lock,
+    Unlock,
+    Drain,
+}
