@@ -7,6 +7,8 @@
 
 mod caller;
 #[cfg(test)]
+mod raw;
+#[cfg(test)]
 mod rows;
 
-pub use caller::{attached, write_then_read};
+pub use caller::{attached, put_then_get, write_then_read};
