@@ -5,19 +5,11 @@ use Rattle.std.proofs.Math.Nat.{min-le_left, min-le_right}
 use Rattle.std.proofs.lemmas.List.{take_all}
 use Rattle.std.proofs.Math.ListN.{drop_of_length-le}
 use Rattle.driver_machine.specs.World.{bytes_in}
-use Rattle.blocking_io.specs.Given.{laid, laid_at}
+use Rattle.partition_bytes.specs.Laid.{laid, laid_at}
+use Rattle.partition_bytes.proofs.Ranges.{laid_over_none, laid_more}
 
 pub laid_none : (into : List ℕ) → laid [] into ≡ into
 laid_none into = refl
-
-laid_over_none : (bytes : List ℕ) → laid bytes [] ≡ []
-laid_over_none [] = refl
-laid_over_none (byte ∷ bytes) = refl
-
-laid_more : (xs ys into : List ℕ) → laid_at (length xs) ys (laid xs into) ≡ laid (xs ++ ys) into
-laid_more [] ys into = refl
-laid_more (x ∷ xs) ys [] = laid_over_none ys
-laid_more (x ∷ xs) ys (z ∷ into) = ap (λ (rest : List ℕ). x ∷ rest) (laid_more xs ys into)
 
 -- as many as there is room for
 pub laid_fits : (fits : ℕ) (bytes into : List ℕ) → fits ≤ length bytes → fits ≤ length into → (fits ≡ length bytes) ⊎ (fits ≡ length into)

@@ -1,5 +1,6 @@
 -- What a caller is given of an answer: how far its request came, and the bytes of a read.
-use Rattle.std.specs.Prelude.{ℕ, List, [], ◌∷◌, ◌++◌, take, drop}
+use Rattle.std.specs.Prelude.{ℕ, List, [], ◌∷◌}
+use Rattle.partition_bytes.specs.Laid.{laid}
 use Rattle.subsystem_spec.specs.Requests.{Answer, ReadOk, WriteOk, OutsidePartition, EndOfPartition, NoFrames, Failed}
 use Rattle.trace_replay.specs.Moments.{Answered}
 use Rattle.blocking_io.specs.declared.reached.Reached.{Reached}
@@ -13,15 +14,6 @@ reached_by OutsidePartition = Outside
 reached_by EndOfPartition = AtEnd
 reached_by NoFrames = Before 0
 reached_by (Failed cause done) = Before done
-
--- bytes laid over others, as far as there is room; and from a place on
-abbrev pub laid : List ℕ → List ℕ → List ℕ
-laid [] into = into
-laid (byte ∷ bytes) [] = []
-laid (byte ∷ bytes) (old ∷ into) = byte ∷ laid bytes into
-
-abbrev pub laid_at : ℕ → List ℕ → List ℕ → List ℕ
-laid_at at bytes into = take at into ++ laid bytes (drop at into)
 
 -- a read that is answered ok gives its bytes; else the buffer stays
 abbrev pub bytes_by : Answer → List ℕ → List ℕ

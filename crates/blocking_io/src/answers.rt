@@ -4,7 +4,8 @@ ghost use Rattle.subsystem_spec.specs.declared.answers.AnswerKind.TheVariants.{R
 ghost use Rattle.driver_machine.specs.World.{bytes_in};
 ghost use Rattle.driver_machine.specs.Lines.{answer_told};
 ghost use Rattle.driver_answers.specs.Waiting.{waiting, all_taken};
-ghost use Rattle.blocking_io.specs.Given.{laid, laid_at, bytes_by, gives_all, Given};
+ghost use Rattle.blocking_io.specs.Given.{bytes_by, gives_all, Given};
+ghost use Rattle.partition_bytes.specs.Laid.{laid, laid_at};
 ghost use Rattle.blocking_io.specs.Taking.{oldest_blocks, IsOldestKind, HasBlock};
 
 use crate::reached::{Reached, reached_by};

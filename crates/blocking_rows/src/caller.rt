@@ -1,8 +1,9 @@
 // Blocks of an RM03 are written and read back.
-ghost use Rattle.std.specs.Prelude.{◌≡◌, ◌≤◌, IfSome, OnOk};
+ghost use Rattle.std.specs.Prelude.{◌≡◌, ◌≤◌, ◌<◌, ◌^◌, IfSome, OnOk};
 ghost use Rattle.pack_model.specs.TableSpelling.{IsTable};
 ghost use Rattle.driver_machine.specs.Guards.{IsSetUp};
 ghost use Rattle.blocking_io.specs.Asking.{IsReady};
+ghost use Rattle.raw_io.specs.Transfers.{MayTransfer};
 
 use bad144_table::{BadTable, entries};
 use blocking_io::{Reached, ask_read, ask_write};
@@ -13,6 +14,7 @@ use outside_traits::traits::{Packs, Sink};
 use pack_geometry::DriveKind;
 use partitions::Part;
 use quiet_driver::rests_law;
+use raw_io::{RawFault, raw_read, raw_write};
 use std::alloc::Global;
 
 /// The law of tables: each is valid.
@@ -102,4 +104,21 @@ pub fn write_then_read<P: Packs, T: Sink>(
         trace,
     )?;
     Ok(written == Reached::All && read == Reached::All)
+}
+
+/// Writes bytes to partition `a` of unit 0, from a place on, and reads what is there then.
+pub fn put_then_get<P: Packs, T: Sink>(
+    subsystem: &mut Subsystem,
+    at: u64,
+    from: &[u8],
+    into: &mut [u8],
+    packs: &mut P,
+    trace: &mut T,
+) -> Result<(), RawFault>
+    requires may { MayTransfer subsystem.old 0 }
+    requires at { at < 2 ^ 40 }
+    ensures ready { OnOk result (IsReady subsystem.new) }
+{
+    raw_write(subsystem, 0, Part::A, at, from, packs, trace)?;
+    raw_read(subsystem, 0, Part::A, at, into, packs, trace)
 }

@@ -15,7 +15,7 @@ struct Block {
 
 /// An RM03 in memory, of which only the blocks that were written are kept, and one block is marked. It tells nothing.
 #[derive(Drop)]
-struct FewBlocks {
+pub(crate) struct FewBlocks {
     blocks: Vec<Block>,
     marked: u32,
 }
@@ -68,12 +68,17 @@ impl Packs for FewBlocks {
     }
 }
 
+/// An RM03 that holds nothing, of which this block is marked, if it has it.
+pub(crate) fn empty_pack(alloc: Global, marked: u32) -> FewBlocks {
+    FewBlocks {
+        blocks: Vec::new(alloc),
+        marked,
+    }
+}
+
 /// An RM03 of which block 419, on cylinder 2 in sector 3 of track 3, is marked; its five copies of the table list it, or nothing.
 fn marked_pack(alloc: Global, listed: bool) -> FewBlocks {
-    let mut packs = FewBlocks {
-        blocks: Vec::new(alloc),
-        marked: 419,
-    };
+    let mut packs = empty_pack(alloc, 419);
     let mut table = empty_table(DriveKind::Rm03, 1);
     if listed {
         let place = Place {

@@ -99,13 +99,13 @@ module _ (setup : Setup) (armed : List LiveNoise) (s : Replay) (m : Machine) (p 
   low_may : InputMay Low p.line
   low_may = may_input s p.line is.number is.may
 
-  step : MomentStep setup armed Low m (Played p.line p.input)
+  pub step : MomentStep setup armed Low m (Played p.line p.input)
   step = moment_step setup armed Low m (Played p.line p.input) are (numbered_keeps setup s 0 k) (other_event setup armed s m (record s.event { line = 0 }) h) low_may given new
 
-  first_keeps : Keeps setup (after_moment s (Played p.line p.input))
+  pub first_keeps : Keeps setup (after_moment s (Played p.line p.input))
   first_keeps = subst (Keeps setup) (same_behind s 0 p.line p.input) (moment_kept setup Low (Played p.line p.input) (numbered_keeps setup s 0 k) given low_may)
 
-  first_stands : StandsFor setup (armed_by armed p.input) (after_moment s (Played p.line p.input)) step.new
+  pub first_stands : StandsFor setup (armed_by armed p.input) (after_moment s (Played p.line p.input)) step.new
   first_stands = subst (λ z. StandsFor setup (armed_by armed p.input) z step.new) (same_behind s 0 p.line p.input) step.stands
 
   told : Goes setup (sure_claims setup (armed_by armed p.input)) (armed_by armed p.input) (after_moment Low (Played p.line p.input)) step.new p.told

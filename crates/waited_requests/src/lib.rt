@@ -3,11 +3,12 @@
 //!
 //! What is proved: `waited_law`: from a replay at rest over packs with its tables, a request that is submitted and drained has just
 //! the answer that its partition and the map of contents give; the homes hold the map after it, all other sectors stay, and the replay
-//! after it rests again. The start of a script rests.
+//! after it rests again. The start of a script rests. `moves_law`: each block that is done has its clean line.
 #![tactic(auto)]
 
 ghost use Rattle.waited_requests.specs.Rest.{StartRests};
 ghost use Rattle.waited_requests.specs.Waited.{WaitedIsAnswered, RestsAgain, PacksHoldMap};
+ghost use Rattle.waited_requests.specs.Cleans.{DoneMovesClean};
 
 /// The start over packs rests. A request that is waited for from a replay at rest is answered once: by its partition where that refuses
 /// it, ok where all its blocks can be used, and else unforwarded at the first that can't; the homes hold the map behind that answer, and
@@ -17,4 +18,9 @@ pub fn waited_law()
     ensures answered { WaitedIsAnswered }
     ensures rests { RestsAgain }
     ensures packs { PacksHoldMap }
+{}
+
+/// Each block that a request that is waited for has done moved clean: among its lines is one that tells so of a sector at the block's home.
+pub fn moves_law()
+    ensures { DoneMovesClean }
 {}

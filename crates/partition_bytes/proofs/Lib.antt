@@ -1,0 +1,4 @@
+pub mod Ranges
+pub mod Steps
+pub mod Replaced
+pub mod Dumped

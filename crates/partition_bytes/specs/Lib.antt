@@ -1,0 +1,4 @@
+pub mod Laid
+pub mod Bytes
+pub mod Pieces
+pub mod Laws

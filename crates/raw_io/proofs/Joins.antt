@@ -1,0 +1,165 @@
+-- One transfer behind the other.
+use Rattle.std.proofs.Common.{◌≡◌, ℕ, ◌+◌, Bool, List, [], ◌∷◌, ◌++◌, length, Option, None, Some, refl, sym, ap, ◌∙◌, subst, arith, append-nil, append_assoc, true, false}
+use Rattle.std.specs.Prelude.{Contains}
+use Rattle.std.proofs.lemmas.List.Elements.{Contains-append_left, Contains-append_right}
+use Rattle.hardware_table.specs.declared.Moved.TheVariants.{Clean}
+use Rattle.trace_replay.specs.Moments.{Told, Sector}
+use Rattle.std.proofs.lemmas.Option.{none-some, same_Some}
+use Rattle.pack_geometry.specs.declared.DriveKind.{DriveKind}
+use Rattle.pack_model.specs.Pack as model
+use Rattle.pack_model.specs.Content.{bytes_at}
+use Rattle.pack_model.specs.TableSpelling.{Table}
+use Rattle.pack_model.specs.Homes.{home_of, content_at}
+use Rattle.pack_model.proofs.PackLaws.{length-block_at}
+use Rattle.partitions.specs.declared.Part.{Part}
+use Rattle.block_machine.specs.Stands.{Setup, home_at, home_in}
+use Rattle.block_machine.proofs.Runs.{home_marks}
+use Rattle.waited_requests.specs.Sessions.{Part as SessionPart, told_in}
+use Rattle.waited_requests.specs.Cleans.{MovedClean}
+use Rattle.waited_requests.specs.Waited.{map_of, with_packs}
+use Rattle.blocking_io.specs.Calls.{Stage}
+use Rattle.blocking_io.specs.Asking.{setup_at}
+use Rattle.blocking_io.specs.Sessions.{StillTell, SessionsJoin}
+use Rattle.request_fronts.specs.Fronts.{OthersStay}
+use Rattle.raw_io.specs.Transfers.{AreWaited, Transfers}
+use Rattle.raw_io.specs.Calls.{left_map, IsUntouched}
+use Rattle.raw_io.specs.Blocks.{IsUnchanged}
+
+-- ---- what is no home
+homes_same : (drive : Option DriveKind) (table : Option Table) (one other : model.Pack) (block : ℕ) → one.marks ≡ other.marks → home_at drive table one block ≡ home_at drive table other block
+homes_same None table one other block same = refl
+homes_same (Some kind) table one other block same = home_marks kind table one other block same
+
+pub others_none : (setup : Setup) → OthersStay setup setup.packs
+others_none setup = record {
+  sectors = λ unit sector kind declared below homeless. refl;
+  stay = record { beyond = λ unit kind declared. refl; marks = λ unit. refl; others = λ unit none. refl };
+}
+
+others_join : (setup : Setup) (mid new : ℕ → model.Pack) → OthersStay setup mid → OthersStay (with_packs setup mid) new → OthersStay setup new
+others_join setup mid new first next = record {
+  sectors = λ unit sector kind declared below homeless.
+      next.sectors unit sector kind declared below
+      (λ block home. homeless block (homes_same (setup.drives unit) (setup.tables unit) (setup.packs unit) (mid unit) block (sym (first.stay.marks unit)) ∙ home))
+      ∙ first.sectors unit sector kind declared below homeless;
+  stay = record {
+    beyond = λ unit kind declared. next.stay.beyond unit kind declared ∙ first.stay.beyond unit kind declared;
+    marks = λ unit. next.stay.marks unit ∙ first.stay.marks unit;
+    others = λ unit none. next.stay.others unit none ∙ first.stay.others unit none;
+  };
+}
+
+pub others_over : (old mid new : Stage) → setup_at mid ≡ with_packs (setup_at old) mid.held → OthersStay (setup_at old) mid.held → OthersStay (setup_at mid) new.held → OthersStay (setup_at old) new.held
+others_over old mid new same first next = others_join (setup_at old) mid.held new.held first (subst (λ z. OthersStay z new.held) same next)
+
+-- ---- requests
+pub waited_more : (reads : Bool) (unit : ℕ) (part : Part) (xs ys : List SessionPart) → AreWaited reads unit part xs → AreWaited reads unit part ys → AreWaited reads unit part (xs ++ ys)
+waited_more reads unit part [] ys first next = next
+waited_more reads unit part (one ∷ []) ys first next = absurd first
+waited_more reads unit part (one ∷ two ∷ xs) ys first next = (first.0, waited_more reads unit part xs ys first.1 next)
+
+pub transfers_none : (reads : Bool) (unit : ℕ) (part : Part) (s : Stage) → Transfers reads unit part s s
+transfers_none reads unit part s = record {
+  parts = [];
+  waited = tt;
+  goes = record {
+    trace = λ t. sym (append-nil s.taken);
+    setup = refl;
+    stays = λ t. (others_none (setup_at s)).stay;
+    tables = λ t tables. tables;
+    reaches = λ t tables replay stands. record { session = tt; stands = stands };
+  };
+  others = λ t tables. others_none (setup_at s);
+}
+
+unfoldable pub transfers_for : (reads : Bool) (u unit : ℕ) (q part : Part) (old new : Stage) → u ≡ unit → q ≡ part → Transfers reads u q old new → Transfers reads unit part old new
+transfers_for reads u unit q part old new here same t = record {
+  parts = t.parts;
+  waited = subst (λ z. AreWaited reads unit z t.parts) same (subst (λ z. AreWaited reads z q t.parts) here t.waited);
+  goes = t.goes;
+  others = t.others;
+}
+
+unfoldable pub transfers_join : SessionsJoin → (reads : Bool) (unit : ℕ) (part : Part) (old mid new : Stage) → Transfers reads unit part old mid → Transfers reads unit part mid new → StillTell mid new
+    → Transfers reads unit part old new
+transfers_join law reads unit part old mid new first next still = record {
+  parts = first.parts ++ next.parts;
+  waited = waited_more reads unit part first.parts next.parts first.waited next.waited;
+  goes = law first.parts next.parts old mid new first.goes next.goes still;
+  others = λ t tables. others_over old mid new first.goes.setup (first.others (still.packs t) tables) (next.others t (first.goes.tables (still.packs t) tables));
+}
+
+-- reads are transfers too
+asks_wider : (unit : ℕ) (part : Part) (xs : List SessionPart) → AreWaited true unit part xs → AreWaited false unit part xs
+asks_wider unit part [] are = tt
+asks_wider unit part (one ∷ []) are = are
+asks_wider unit part (one ∷ two ∷ xs) are = (
+  record {
+    request = are.0.request;
+    ask = record {
+      id = are.0.ask.id;
+      unit_is = are.0.ask.unit_is;
+      part_is = are.0.ask.part_is;
+      some = are.0.ask.some;
+      few = are.0.ask.few;
+      last = are.0.ask.last;
+      offset = are.0.ask.offset;
+      only = λ e. absurd (no e);
+    };
+    submitted_is = are.0.submitted_is;
+    drained_is = are.0.drained_is;
+  },
+  asks_wider unit part xs are.1,
+)
+  where
+    no : false ≡ true → ⊥
+    no e = grind (arith, e)
+
+pub transfers_wider : (unit : ℕ) (part : Part) (old new : Stage) → Transfers true unit part old new → Transfers false unit part old new
+transfers_wider unit part old new t = record { parts = t.parts; waited = asks_wider unit part t.parts t.waited; goes = t.goes; others = t.others }
+
+-- ---- clean lines
+told_more : (xs ys : List SessionPart) → told_in (xs ++ ys) ≡ told_in xs ++ told_in ys
+told_more [] ys = refl
+told_more (one ∷ xs) ys = ap (λ z. one.told ++ z) (told_more xs ys) ∙ sym (append_assoc one.told (told_in xs) (told_in ys))
+
+pub clean_before : (setup : Setup) (unit block : ℕ) (xs ys : List SessionPart) → MovedClean setup unit block (told_in xs) → MovedClean setup unit block (told_in (xs ++ ys))
+clean_before setup unit block xs ys c = record {
+  sector = c.sector;
+  home = c.home;
+  line = c.line;
+  id = c.id;
+  moved = subst (λ z. Contains z (Told c.line unit c.id (Sector c.sector Clean))) (sym (told_more xs ys)) (Contains-append_left (told_in xs) (told_in ys) (Told c.line unit c.id (Sector c.sector Clean)) c.moved);
+}
+
+pub clean_behind : (old mid : Stage) (unit block : ℕ) (xs ys : List SessionPart) → setup_at mid ≡ with_packs (setup_at old) mid.held → OthersStay (setup_at old) mid.held
+    → MovedClean (setup_at mid) unit block (told_in ys) → MovedClean (setup_at old) unit block (told_in (xs ++ ys))
+clean_behind old mid unit block xs ys same others c = record {
+  sector = c.sector;
+  home = sym (ap (λ z. home_in z unit block) same
+      ∙ homes_same ((setup_at old).drives unit) ((setup_at old).tables unit) (mid.held unit) (old.held unit) block (others.stay.marks unit)) ∙ c.home;
+  line = c.line;
+  id = c.id;
+  moved = subst (λ z. Contains z (Told c.line unit c.id (Sector c.sector Clean))) (sym (told_more xs ys)) (Contains-append_right (told_in xs) (told_in ys) (Told c.line unit c.id (Sector c.sector Clean)) c.moved);
+}
+
+-- ---- what the packs hold
+bytes_long : (pack : model.Pack) (home : Option ℕ) (bytes : List ℕ) → bytes_at pack home ≡ Some bytes → length bytes ≡ 512
+bytes_long pack None bytes is = absurd (none-some bytes is)
+bytes_long pack (Some sector) bytes is = ap length (sym (same_Some (model.block_at pack.image sector) bytes is)) ∙ length-block_at pack.image sector
+
+content_long : (drive : Option DriveKind) (table : Option Table) (pack : model.Pack) (block : ℕ) (bytes : List ℕ) → content_at drive table pack block ≡ Some bytes → length bytes ≡ 512
+content_long None table pack block bytes is = absurd (none-some bytes is)
+content_long (Some kind) table pack block bytes is = bytes_long pack (home_of kind table pack block) bytes is
+
+pub map_long : (setup : Setup) (unit block : ℕ) (bytes : List ℕ) → map_of setup unit block ≡ Some bytes → length bytes ≡ 512
+map_long setup unit block bytes is = content_long (setup.drives unit) (setup.tables unit) (setup.packs unit) block bytes is
+
+pub left_over : (old mid new : Stage) → setup_at mid ≡ with_packs (setup_at old) mid.held → left_map mid new ≡ left_map old new
+left_over old mid new same = ap (λ z. map_of (with_packs z new.held)) same
+
+pub untouched_behind : (old mid new : Stage) → setup_at mid ≡ with_packs (setup_at old) mid.held → IsUnchanged old mid → OthersStay (setup_at old) mid.held → IsUntouched mid new → IsUntouched old new
+untouched_behind old mid new same first others next = record {
+  map = λ u block. ap (λ f. f u block) (sym (left_over old mid new same)) ∙ next.map u block ∙ ap (λ f. f u block) first.map;
+  others = others_over old mid new same others next.others;
+}

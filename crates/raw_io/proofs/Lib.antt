@@ -1,0 +1,9 @@
+mod Joins
+mod Asks
+mod Exits
+mod Loops
+mod ReadPieces
+mod ReadRanges
+mod WritePieces
+mod WriteRanges
+mod Dumps

@@ -1,0 +1,18 @@
+use Rattle.std.proofs.Common.{◌≡◌, ◌-◌, None, length}
+use Rattle.raw_io.specs.Transfers.{site, Keeps}
+use Rattle.raw_io.proofs.ReadRanges.{SoRead}
+use Rattle.raw_io.proofs.reading.read_range.Given as goal
+
+-- so many bytes were read
+abbrev pub invariant-loop-done : goal.invariant-loop-done
+invariant-loop-done g l = record {
+  so : SoRead l.unit l.part l.at l.done l.fn.into l.into
+      (site g.P.Packs.tells g.P.Packs.held g.T.Sink.tells g.T.Sink.taken l.fn.subsystem.world l.fn.packs l.fn.trace)
+      (site g.P.Packs.tells g.P.Packs.held g.T.Sink.tells g.T.Sink.taken l.subsystem.world l.packs l.trace);
+  keeps : Keeps g.P.Packs.tells g.P.Packs.faults g.T.Sink.tells g.T.Sink.faults l.fn.subsystem l.subsystem l.fn.packs l.packs l.fn.trace l.trace None;
+  long : length l.into ≡ length l.fn.into;
+  room : length l.blocks ≡ 65024;
+}
+
+abbrev pub decreases-loop-done : goal.decreases-loop-done
+decreases-loop-done g l = length l.into - l.done

@@ -1,0 +1,4 @@
+pub mod Transfers
+pub mod Calls
+pub mod Blocks
+pub mod Pieces

@@ -1,0 +1,168 @@
+// Memory is dumped to the end of the partition for swapping.
+ghost use Rattle.std.specs.Prelude.{◌≡◌, ◌+◌, ◌-◌, ◌*◌, ◌<◌, ◌≤◌, ◌++◌, ◌↔◌, ℕ, IsTrue, IfOk, OnErr, length, take, drop, replicate, Some, Err};
+ghost use Rattle.partitions.specs.declared.Part.TheVariants.{B};
+ghost use Rattle.partitions.specs.Partitions.{size_of};
+ghost use Rattle.driver_outcome.specs.declared.Stop.{Stop};
+ghost use Rattle.driver_outcome.specs.Outcome.{stop_in};
+ghost use Rattle.waited_requests.specs.Rest.{HasTables};
+ghost use Rattle.blocking_io.specs.Asking.{setup_at};
+ghost use Rattle.raw_io.specs.declared.fault.RawFault.TheVariants.{Outside, Unusable};
+ghost use Rattle.partition_bytes.specs.Bytes.{blocks_for, dumped, dump_place};
+ghost use Rattle.raw_io.specs.Transfers.{site, Keeps, MayTransfer};
+ghost use Rattle.raw_io.specs.Calls.{kind_at, StopsAt, stop_of, done_by};
+ghost use Rattle.raw_io.specs.Pieces.{IsWritten, IsWholeOrOne, start_of, PutsPiece, StopsPiece, PutsRange};
+
+use crate::fault::RawFault;
+use crate::pieces::{Piece, piece_to_write};
+use crate::writing::write_piece;
+use blocking_io::sessions_law;
+use hp_driver::{Stop, Subsystem};
+use outside_traits::traits::{Packs, Sink};
+use partitions::{Part, part_range};
+
+/// How many bytes memory has at the most.
+const MEMORY: usize = 8_388_608;
+
+/// Lays bytes over a buffer, and zeros behind them.
+fn fill(buffer: &mut [u8], from: &[u8])
+    requires { length from.now ≤ length buffer.old }
+    ensures { buffer.new ≡ from.now ++ replicate (length buffer.old - length from.now) 0 }
+{
+    buffer[..from.len()].copy_from_slice(from);
+    buffer[from.len()..].fill(0);
+}
+
+/// The piece of memory from one place to another, as far as memory goes.
+fn part_of(memory: &[u8], start: usize, end: usize) -> &[u8]
+    requires { start ≤ end }
+    ensures { result.now ≡ take (end - start) (drop start memory.now) }
+{
+    let end = end.min(memory.len());
+    &memory[start.min(end)..end]
+}
+
+/// Lays what memory, filled up with zeros to whole blocks, has from a place on over a buffer.
+fn lay_piece(buffer: &mut [u8], memory: &[u8], start: usize)
+    requires few { length memory.now ≤ 8388608 }
+    requires inside { start + length buffer.old ≤ 512 * blocks_for (length memory.now) }
+    ensures { buffer.new ≡ take (length buffer.old) (drop start (dumped memory.now)) }
+{
+    let end = start + buffer.len();
+    fill(buffer, part_of(memory, start, end));
+}
+
+/// Writes a piece of memory, filled up with zeros to whole blocks, from a place on, through a buffer for its blocks: how many bytes come
+/// before the first block that can't be used.
+fn dump_piece<P: Packs, T: Sink>(
+    subsystem: &mut Subsystem,
+    piece: Piece,
+    memory: &[u8],
+    start: usize,
+    blocks: &mut [u8],
+    packs: &mut P,
+    trace: &mut T,
+) -> Result<usize, Stop>
+    requires may { MayTransfer subsystem.old piece.request.unit }
+    requires piece { IsWritten (kind_at subsystem.old.world piece.request.unit) piece (take piece.size (drop start (dumped memory.now))) }
+    requires whole { IsWholeOrOne piece }
+    requires few { length memory.now ≤ 8388608 }
+    requires inside { start + piece.size ≤ 512 * blocks_for (length memory.now) }
+    requires room { piece.size ≤ length blocks.old }
+    ensures puts { IfOk result (λ size. PutsPiece piece size (take piece.size (drop start (dumped memory.now)))
+        (site P.tells P.held T.tells T.taken subsystem.old.world packs.old trace.old)
+        (site P.tells P.held T.tells T.taken subsystem.new.world packs.new trace.new)) }
+    ensures stops { OnErr result (IsTrue (P.tells packs.new) → HasTables (setup_at (site P.tells P.held T.tells T.taken subsystem.old.world packs.old trace.old))
+        → StopsPiece piece (take piece.size (drop start (dumped memory.now)))
+        (site P.tells P.held T.tells T.taken subsystem.old.world packs.old trace.old)
+        (site P.tells P.held T.tells T.taken subsystem.new.world packs.new trace.new)) }
+    ensures keeps { Keeps P.tells P.faults T.tells T.faults subsystem.old subsystem.new packs.old packs.new trace.old trace.new (stop_in result) }
+{
+    let part = &mut blocks[..piece.size];
+    lay_piece(part, memory, start);
+    write_piece(subsystem, piece, part, packs, trace)
+}
+
+/// Writes memory, filled up with zeros to whole blocks, to partition `b` from a place on: how many bytes come before the first block that
+/// can't be used.
+fn dump_range<P: Packs, T: Sink>(
+    subsystem: &mut Subsystem,
+    unit: u8,
+    place: u64,
+    memory: &[u8],
+    packs: &mut P,
+    trace: &mut T,
+) -> Result<usize, Stop>
+    requires may { MayTransfer subsystem.old unit }
+    requires few { length memory.now ≤ 8388608 }
+    requires inside { place + 512 * blocks_for (length memory.now) ≤ 512 * size_of (kind_at subsystem.old.world unit) B }
+    ensures puts { IfOk result (λ done. PutsRange unit B place done (dumped memory.now)
+        (site P.tells P.held T.tells T.taken subsystem.old.world packs.old trace.old)
+        (site P.tells P.held T.tells T.taken subsystem.new.world packs.new trace.new)) }
+    ensures stops { OnErr result (IsTrue (P.tells packs.new) → HasTables (setup_at (site P.tells P.held T.tells T.taken subsystem.old.world packs.old trace.old))
+        → StopsAt unit (start_of (site P.tells P.held T.tells T.taken subsystem.old.world packs.old trace.old) unit B) place (dumped memory.now)
+        (site P.tells P.held T.tells T.taken subsystem.old.world packs.old trace.old)
+        (site P.tells P.held T.tells T.taken subsystem.new.world packs.new trace.new)) }
+    ensures keeps { Keeps P.tells P.faults T.tells T.faults subsystem.old subsystem.new packs.old packs.new trace.old trace.new (stop_in result) }
+{
+    sessions_law();
+    let mut blocks = [0; 65_024];
+    let size = 512 * ((memory.len() + 511) / 512);
+    let mut done = 0;
+    while done < size {
+        let piece = piece_to_write(unit, Part::B, place + done as u64, size - done);
+        let written = dump_piece(subsystem, piece, memory, done, &mut blocks, packs, trace)?;
+        done += written;
+        if written < piece.size {
+            return Ok(done);
+        }
+    }
+    Ok(done)
+}
+
+/// Dumps memory to the end of partition `b` of a unit: its bytes, filled up with zeros to whole blocks, so that they end with the last block
+/// of the partition. The answer is the number of blocks. They are written as `raw_write` writes.
+///
+/// `Outside` comes exactly where there are more than 8,388,608 bytes; nothing is done then. `Unusable` comes exactly where one of the
+/// blocks can't be used: those before the first such block were replaced. `Store` and `Sink` come as they do for `raw_write`.
+pub fn dump<P: Packs, T: Sink>(
+    subsystem: &mut Subsystem,
+    unit: u8,
+    memory: &[u8],
+    packs: &mut P,
+    trace: &mut T,
+) -> Result<u32, RawFault>
+    requires may { MayTransfer subsystem.old unit }
+    ensures outside { (result ≡ Err Outside) ↔ (8388608 < length memory.now) }
+    ensures nothing { result ≡ Err Outside → (subsystem.new ≡ subsystem.old) × (packs.new ≡ packs.old) × (trace.new ≡ trace.old) }
+    ensures count { IfOk result (λ count. count ≡ blocks_for (length memory.now)) }
+    ensures puts { (done : ℕ) → done_by (512 * blocks_for (length memory.now)) result ≡ Some done
+        → PutsRange unit B (dump_place (kind_at subsystem.old.world unit) (length memory.now)) done (dumped memory.now)
+        (site P.tells P.held T.tells T.taken subsystem.old.world packs.old trace.old)
+        (site P.tells P.held T.tells T.taken subsystem.new.world packs.new trace.new) }
+    ensures unusable { (done : ℕ) → result ≡ Err (Unusable done) → done < 512 * blocks_for (length memory.now) }
+    ensures stops { (stop : Stop) → stop_of result ≡ Some stop
+        → IsTrue (P.tells packs.new) → HasTables (setup_at (site P.tells P.held T.tells T.taken subsystem.old.world packs.old trace.old))
+        → StopsAt unit (start_of (site P.tells P.held T.tells T.taken subsystem.old.world packs.old trace.old) unit B)
+        (dump_place (kind_at subsystem.old.world unit) (length memory.now)) (dumped memory.now)
+        (site P.tells P.held T.tells T.taken subsystem.old.world packs.old trace.old)
+        (site P.tells P.held T.tells T.taken subsystem.new.world packs.new trace.new) }
+    ensures keeps { Keeps P.tells P.faults T.tells T.faults subsystem.old subsystem.new packs.old packs.new trace.old trace.new (stop_of result) }
+{
+    if memory.len() > MEMORY {
+        return Err(RawFault::Outside);
+    }
+    let count = ((memory.len() + 511) / 512) as u32;
+    let first = part_range(subsystem.kind(unit), Part::B).size - count;
+    let done = dump_range(
+        subsystem,
+        unit,
+        512 * u64::from(first),
+        memory,
+        packs,
+        trace,
+    )?;
+    if done < 512 * count as usize {
+        return Err(RawFault::Unusable { done: done as u64 });
+    }
+    Ok(count)
+}
