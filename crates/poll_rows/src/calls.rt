@@ -153,7 +153,7 @@ fn differs(alloc: Global, whole: &CutPacks, number: u64, calls: u64, fault: Form
 /// Whether runs end so at a write that writes nothing, at a mark behind it, so that nothing comes back, and at another byte that does.
 fn ends_at(alloc: Global, whole: &CutPacks, written: &Written) -> bool {
     let block = written.block;
-    let (wrote, last) = (written.bytes[0], written.bytes[300]);
+    let (wrote, last) = (written.bytes[0], written.bytes[511]);
     let had = if wrote == 0 { 0xa5 } else { 0x77 };
     let (write, mark, read) = (
         written.call,
@@ -169,7 +169,7 @@ fn ends_at(alloc: Global, whole: &CutPacks, written: &Written) -> bool {
     stops(alloc, whole, write, Wrong::FailsBehind)
         && differs(alloc, whole, write, read, fault(0, wrote, had))
         && differs(alloc, whole, mark, mark, fault(0, wrote, !wrote))
-        && differs(alloc, whole, read, read, fault(300, last, !last))
+        && differs(alloc, whole, read, read, fault(511, last, !last))
 }
 
 /// The first write at which runs do not so end, by its call; 0 where they do at each.

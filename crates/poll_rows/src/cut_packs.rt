@@ -130,7 +130,7 @@ impl Packs for CutPacks {
         self.call()?;
         *into = self.content(block);
         if self.goes(Wrong::Lies) {
-            into[300] = !into[300];
+            into[511] = !into[511];
         }
         Ok(())
     }
