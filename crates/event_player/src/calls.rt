@@ -26,6 +26,7 @@ pub fn ask<O: Sink, T: Sink>(
     requires none_waits { subsystem.old.world.answers ≡ [] }
     requires asked { IsAsked subsystem.old request bytes.now }
     requires kept { desk.old.gather ≡ [] }
+    requires sent { subsystem.old.kept ≡ [] }
     ensures plays { OnOk result ((tells : Bool) → (held : ℕ → Pack) → PlaysSubmission number (asked request bytes.now)
         (record { world = subsystem.old.world; packs_tell = tells; held = held; out_tells = O.tells out.old; said = O.taken out.old; trace_tells = T.tells trace.old; taken = T.taken trace.old; tally = desk.old.tally })
         (record { world = subsystem.new.world; packs_tell = tells; held = held; out_tells = O.tells out.new; said = O.taken out.new; trace_tells = T.tells trace.new; taken = T.taken trace.new; tally = desk.new.tally })) }
@@ -35,6 +36,7 @@ pub fn ask<O: Sink, T: Sink>(
     ensures going { OnOk result (subsystem.new.failed ≡ false) }
     ensures outstanding { OnOk result (subsystem.new.outstanding ≡ subsystem.old.outstanding) }
     ensures kept { OnOk result (desk.new.gather ≡ []) }
+    ensures sent { OnOk result (subsystem.new.kept ≡ []) }
     ensures requests { desk.new.tally.requests ≡ desk.old.tally.requests }
     ensures never_again_out { IsTrue (O.tells out.new) → IsTrue (O.tells out.old) }
     ensures never_again_trace { IsTrue (T.tells trace.new) → IsTrue (T.tells trace.old) }
@@ -42,6 +44,7 @@ pub fn ask<O: Sink, T: Sink>(
 {
     subsystem.law();
     subsystem.submit(number, request, bytes, trace)?;
+    subsystem.send(trace)?;
     write_answers(subsystem, desk, out)?;
     Ok(())
 }
@@ -60,6 +63,7 @@ pub fn happen<P: Packs, O: Sink, T: Sink>(
     requires none_waits { subsystem.old.world.answers ≡ [] }
     requires there { IsThere subsystem.old.world (input_of event) }
     requires kept { desk.old.gather ≡ [] }
+    requires sent { subsystem.old.kept ≡ [] }
     ensures plays { OnOk result (PlaysEvent number (input_of event)
         (stage P.tells P.held O.tells O.taken T.tells T.taken subsystem.old.world packs.old out.old trace.old desk.old.tally)
         (stage P.tells P.held O.tells O.taken T.tells T.taken subsystem.new.world packs.new out.new trace.new desk.new.tally)) }
@@ -69,6 +73,7 @@ pub fn happen<P: Packs, O: Sink, T: Sink>(
     ensures going { OnOk result (subsystem.new.failed ≡ false) }
     ensures outstanding { OnOk result (subsystem.new.outstanding ≡ subsystem.old.outstanding) }
     ensures kept { OnOk result (desk.new.gather ≡ []) }
+    ensures sent { OnOk result (subsystem.new.kept ≡ []) }
     ensures requests { desk.new.tally.requests ≡ desk.old.tally.requests }
     ensures never_again { IsTrue (P.tells packs.new) → IsTrue (P.tells packs.old) }
     ensures never_again_out { IsTrue (O.tells out.new) → IsTrue (O.tells out.old) }
@@ -77,6 +82,7 @@ pub fn happen<P: Packs, O: Sink, T: Sink>(
 {
     subsystem.law();
     subsystem.event(number, event, packs, trace)?;
+    subsystem.send(trace)?;
     write_answers(subsystem, desk, out)?;
     Ok(())
 }

@@ -34,6 +34,7 @@ fn go_on<P: Packs, O: Sink, T: Sink>(
     requires going { subsystem.old.failed ≡ false }
     requires none_waits { subsystem.old.world.answers ≡ [] }
     requires kept { desk.old.gather ≡ [] }
+    requires sent { subsystem.old.kept ≡ [] }
     ensures plays { OnOk result (IsTrue (P.tells packs.new) → GoesOnDraining number
         (stage P.tells P.held O.tells O.taken T.tells T.taken subsystem.old.world packs.old out.old trace.old desk.old.tally)
         (stage P.tells P.held O.tells O.taken T.tells T.taken subsystem.new.world packs.new out.new trace.new desk.new.tally)) }
@@ -44,6 +45,7 @@ fn go_on<P: Packs, O: Sink, T: Sink>(
     ensures going { OnOk result (subsystem.new.failed ≡ false) }
     ensures outstanding { OnOk result (subsystem.new.outstanding ≡ subsystem.old.outstanding) }
     ensures kept { OnOk result (desk.new.gather ≡ []) }
+    ensures sent { OnOk result (subsystem.new.kept ≡ []) }
     ensures requests { desk.new.tally.requests ≡ desk.old.tally.requests }
     ensures never_again { IsTrue (P.tells packs.new) → IsTrue (P.tells packs.old) }
     ensures never_again_out { IsTrue (O.tells out.new) → IsTrue (O.tells out.old) }
@@ -72,6 +74,7 @@ pub fn drain<P: Packs, O: Sink, T: Sink>(
     requires none_waits { subsystem.old.world.answers ≡ [] }
     requires few { length subsystem.old.world.slots ≤ 65536 }
     requires kept { desk.old.gather ≡ [] }
+    requires sent { subsystem.old.kept ≡ [] }
     ensures plays { OnOk result (IsTrue (P.tells packs.new) → PlaysDrain number
         (stage P.tells P.held O.tells O.taken T.tells T.taken subsystem.old.world packs.old out.old trace.old desk.old.tally)
         (stage P.tells P.held O.tells O.taken T.tells T.taken subsystem.new.world packs.new out.new trace.new desk.new.tally)) }
@@ -82,6 +85,7 @@ pub fn drain<P: Packs, O: Sink, T: Sink>(
     ensures going { OnOk result (subsystem.new.failed ≡ false) }
     ensures outstanding { OnOk result (subsystem.new.outstanding ≡ subsystem.old.outstanding) }
     ensures kept { OnOk result (desk.new.gather ≡ []) }
+    ensures sent { OnOk result (subsystem.new.kept ≡ []) }
     ensures requests { desk.new.tally.requests ≡ desk.old.tally.requests }
     ensures never_again { IsTrue (P.tells packs.new) → IsTrue (P.tells packs.old) }
     ensures never_again_out { IsTrue (O.tells out.new) → IsTrue (O.tells out.old) }

@@ -139,6 +139,7 @@ fn play_lines<P: Packs, O: Sink, T: Sink>(
     requires outstanding { subsystem.old.outstanding ≡ counted one_request (meaning_of script.now).lines }
     requires room { length room.old ≡ 65024 }
     requires kept { desk.old.gather ≡ [] }
+    requires sent { subsystem.old.kept ≡ [] }
     ensures plays { OnOk result (IsTrue (P.tells packs.new) → (tables : ℕ → Option Table) → PlaysScript (meaning_of script.now) tables
         (stage P.tells P.held O.tells O.taken T.tells T.taken subsystem.old.world packs.old out.old trace.old desk.old.tally)
         (stage P.tells P.held O.tells O.taken T.tells T.taken subsystem.new.world packs.new out.new trace.new desk.new.tally)) }

@@ -155,6 +155,7 @@ fn play_other<P: Packs, O: Sink, T: Sink>(
     requires data { HasData (seen script.now.text line.now).statement }
     requires room { length room.old ≡ 65024 }
     requires kept { desk.old.gather ≡ [] }
+    requires sent { subsystem.old.kept ≡ [] }
     ensures plays { OnOk result (IsTrue (P.tells packs.new) → PlaysLine line.now.number (statement_of (seen script.now.text line.now).statement)
         (stage P.tells P.held O.tells O.taken T.tells T.taken subsystem.old.world packs.old out.old trace.old desk.old.tally)
         (stage P.tells P.held O.tells O.taken T.tells T.taken subsystem.new.world packs.new out.new trace.new desk.new.tally)) }
@@ -165,6 +166,7 @@ fn play_other<P: Packs, O: Sink, T: Sink>(
     ensures going { OnOk result (subsystem.new.failed ≡ false) }
     ensures outstanding { OnOk result (subsystem.new.outstanding ≡ subsystem.old.outstanding) }
     ensures kept { OnOk result (desk.new.gather ≡ []) }
+    ensures sent { OnOk result (subsystem.new.kept ≡ []) }
     ensures requests { desk.new.tally.requests ≡ desk.old.tally.requests }
     ensures never_again { IsTrue (P.tells packs.new) → IsTrue (P.tells packs.old) }
     ensures never_again_out { IsTrue (O.tells out.new) → IsTrue (O.tells out.old) }
@@ -219,6 +221,7 @@ pub(crate) fn play_line<P: Packs, O: Sink, T: Sink>(
     requires data { HasData (seen script.now.text line.now).statement }
     requires room { length room.old ≡ 65024 }
     requires kept { desk.old.gather ≡ [] }
+    requires sent { subsystem.old.kept ≡ [] }
     ensures plays { OnOk result (IsTrue (P.tells packs.new) → PlaysLine line.now.number (statement_of (seen script.now.text line.now).statement)
         (stage P.tells P.held O.tells O.taken T.tells T.taken subsystem.old.world packs.old out.old trace.old desk.old.tally)
         (stage P.tells P.held O.tells O.taken T.tells T.taken subsystem.new.world packs.new out.new trace.new desk.new.tally)) }
@@ -229,6 +232,7 @@ pub(crate) fn play_line<P: Packs, O: Sink, T: Sink>(
     ensures going { OnOk result (subsystem.new.failed ≡ false) }
     ensures outstanding { OnOk result (subsystem.new.outstanding ≡ subsystem.old.outstanding) }
     ensures kept { OnOk result (desk.new.gather ≡ []) }
+    ensures sent { OnOk result (subsystem.new.kept ≡ []) }
     ensures requests { desk.new.tally.requests ≡ desk.old.tally.requests }
     ensures never_again { IsTrue (P.tells packs.new) → IsTrue (P.tells packs.old) }
     ensures never_again_out { IsTrue (O.tells out.new) → IsTrue (O.tells out.old) }

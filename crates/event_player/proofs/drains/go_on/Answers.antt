@@ -21,6 +21,7 @@ loop-turn-init g c =
       outstanding = search rules;
       none_waits = search rules;
       kept = search rules;
+      sent = search rules;
       requests = search rules;
       brings = still_brings c.args.subsystem.now.world;
       plays = λ t. draining_starts c.args.number old;
@@ -50,6 +51,7 @@ loop-turn-preserved g c =
       outstanding = search rules;
       none_waits = plays_none happens.plays.plays;
       kept = happens.kept;
+      sent = happens.sent;
       requests = happens.requests ∙ so.requests;
       brings = brings_both c.args.subsystem.now.world c.loop-turn.subsystem.world c.happen.new.subsystem.world so.brings
           (drain_brings c.args.number (input_of c.in-Some.event) mid new c.in-Some.ensures.next happens.plays);

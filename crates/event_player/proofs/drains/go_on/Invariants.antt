@@ -17,6 +17,7 @@ invariant-loop-turn g l = record {
   outstanding : l.subsystem.outstanding ≡ l.fn.subsystem.outstanding;
   none_waits : l.subsystem.world.answers ≡ [];
   kept : l.desk.gather ≡ [];
+  sent : l.subsystem.kept ≡ [];
   requests : l.desk.tally.requests ≡ l.fn.desk.tally.requests;
   brings : Brings (Plays Drain) l.fn.subsystem.world l.subsystem.world;
   plays : IsTrue (g.P.Packs.tells l.packs) → Draining l.number l.turn
