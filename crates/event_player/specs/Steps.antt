@@ -1,5 +1,5 @@
 -- What playing does line by line: the acts of a call with the answers behind them, and how a run goes on.
-use Rattle.std.specs.Prelude.{◌≡◌, ◌≢◌, ◌⊎◌, ℕ, ◌+◌, ◌-◌, ◌^◌, ◌<◌, ◌≤◌, Bool, IsTrue, List, [], ◌∷◌, ◌++◌, length, Option, Some, None, Result, IsErrOf}
+use Rattle.std.specs.Prelude.{◌≡◌, ◌≢◌, ◌⊎◌, ℕ, ◌+◌, ◌-◌, ◌^◌, ◌<◌, ◌≤◌, Bool, true, false, IsTrue, List, [], ◌∷◌, ◌++◌, length, Option, Some, None, Result, IsErrOf}
 use Rattle.std.specs.List.{flat_map}
 use Rattle.pack_model.specs.Pack.{Pack}
 use Rattle.pack_model.specs.TableSpelling.{Table}
@@ -35,7 +35,9 @@ use Rattle.driver_answers.specs.Waiting.{waiting, all_taken}
 use Rattle.answer_lines.specs.AnswerText.{answer_text, out_text}
 use Rattle.answer_tally.specs.declared.tally.Tally.{Tally}
 use Rattle.answer_tally.specs.Counting.{Counts, CountsAll}
-use Rattle.hp_driver.specs.Subsystem.{State, IsThere}
+use Rattle.hp_driver.specs.Subsystem.{State, IsThere, writes_by}
+use Rattle.run_stops.specs.Ahead.{IsBetween, WritesAhead, TellsAhead}
+use Rattle.event_player.specs.declared.desk.Desk.{Desk}
 use Rattle.event_player.specs.declared.play.PlayFault.{PlayFault}
 use Rattle.event_player.specs.declared.play.PlayFault.TheVariants as faults
 use Rattle.one_run.specs.Steps.{AreUnits}
@@ -45,28 +47,60 @@ use Rattle.event_player.specs.Playing.{HasRun, counted, one_request, one_noise, 
 abbrev pub waiting_text : World → List ℕ
 waiting_text w = flat_map answer_text (waiting w)
 
--- WHAT IS PLAYED ON: the driver's world, what the packs hold, and what the two sinks took; whether each of them tells that; and the tally
+-- WHAT IS PLAYED ON: the driver's world, and what the packs hold; all that was said and told, of which a part is kept, and what each of
+-- the two sinks took of it; whether packs and sinks tell; and the tally
 pub record Stage : Type 0 where
   pub world : World
   pub packs_tell : Bool
   pub held : ℕ → Pack
   pub out_tells : Bool
   pub said : List ℕ
+  pub out_took : List ℕ
   pub trace_tells : Bool
   pub taken : List ℕ
+  pub trace_took : List ℕ
   pub tally : Tally
 
-abbrev pub stage : {P O T : Type 0} → (P → Bool) → (P → ℕ → Pack) → (O → Bool) → (O → List ℕ) → (T → Bool) → (T → List ℕ) → World → P → O → T → Tally → Stage
-stage packs_tell held out_tells said trace_tells taken w packs out trace tally = record {
-  world = w;
+abbrev pub stage : {P O T : Type 0} → (P → Bool) → (P → ℕ → Pack) → (O → Bool) → (O → List ℕ) → (T → Bool) → (T → List ℕ) → State → P → O → T → Desk → Stage
+stage packs_tell held out_tells said trace_tells taken s packs out trace desk = record {
+  world = s.world;
   packs_tell = packs_tell packs;
   held = held packs;
   out_tells = out_tells out;
-  said = said out;
+  said = said out ++ desk.gather;
+  out_took = said out;
   trace_tells = trace_tells trace;
-  taken = taken trace;
-  tally = tally;
+  taken = taken trace ++ s.kept;
+  trace_took = taken trace;
+  tally = desk.tally;
 }
+
+-- WHAT THE SINKS TOOK in a call that tells and says: fronts of all that was told and said with it. No answer goes out before the lines of
+-- its moments: either the sink of the answers took none, or the trace took all.
+pub record Passes (said taken : List ℕ) (old new : Stage) : Type 0 where
+  pub trace : IsTrue new.trace_tells → IsBetween old.trace_took taken new.trace_took
+  pub out : IsTrue new.out_tells → IsBetween old.out_took said new.out_took
+  pub lines_first : (IsTrue new.out_tells → new.out_took ≡ old.out_took) ⊎ (IsTrue new.trace_tells → new.trace_took ≡ taken)
+
+-- BEFORE A MOVE THAT MAY WRITE all text is sent, lines first; before any other event nothing is.
+pub record SendsAhead (writes : Bool) (old now : Stage) : Type 0 where
+  pub still : writes ≡ false → now ≡ old
+  pub same : now ≡ record old { out_tells = now.out_tells; out_took = now.out_took; trace_tells = now.trace_tells; trace_took = now.trace_took }
+  pub trace : writes ≡ true → IsTrue now.trace_tells → now.trace_took ≡ old.taken
+  pub out : writes ≡ true → IsTrue now.out_tells → now.out_took ≡ old.said
+
+-- THE RULE, between two calls: behind these moments so much was sent.
+pub record IsAhead (script : Script) (tables : ℕ → Option Table) (first : ℕ → Pack) (moments : List Moment) (said taken : List ℕ) (now : Stage) : Type 0 where
+  pub sent : List Moment
+  pub late : List Moment
+  pub cut : sent ++ late ≡ moments
+  pub ahead : WritesAhead script tables first now.held sent late
+  pub texts : TellsAhead now.out_tells said now.out_took now.trace_tells taken now.trace_took sent late
+
+-- and moments that come behind keep it.
+abbrev pub KeepsAhead : Script → (ℕ → Option Table) → (first : ℕ → Pack) → (moments more : List Moment) → Stage → Stage → Type 0
+KeepsAhead script tables first moments more old new = (said taken : List ℕ) → IsAhead script tables first moments said taken old
+    → IsAhead script tables first (moments ++ more) said taken new
 
 -- ACTS come with their lines to a world that is sound and at work, and behind them the answers that wait are said, counted and taken.
 pub record PlaysActs (acts : List Act) (old new : Stage) : Type 0 where
@@ -78,8 +112,12 @@ pub record PlaysActs (acts : List Act) (old new : Stage) : Type 0 where
   pub trace : IsTrue new.trace_tells → new.taken ≡ old.taken ++ trace_text (lines_of_all old.world acts)
   pub tally : Counts (waiting (after_all old.world acts)) (waiting_text (after_all old.world acts)) old.tally new.tally
 
--- those of an event that may come, of what the packs hold,
+-- those of an event that may come, of what the packs hold; what writes nothing leaves them,
 pub record PlaysEvent (line : ℕ) (input : Input) (old new : Stage) : Type 0 where
+  pub now : Stage
+  pub sends : SendsAhead (writes_by old.world input) old now
+  pub passes : Passes new.said new.taken now new
+  pub leaves : writes_by old.world input ≡ false → IsTrue new.packs_tell → new.held ≡ old.held
   pub tried : Tried
   pub may : MayCome old.world input tried
   pub reads : IsTrue new.packs_tell → IsReadOf old.world old.held input tried
@@ -93,6 +131,7 @@ pub record PlaysSubmission (line : ℕ) (r : Request) (old new : Stage) : Type 0
   pub may : MaySubmit old.world r slot held
   pub is : refusal_of r old.world ≡ None → IsHeldFor (unit_at old.world held.unit).drive.kind r held
   pub packs : new.held ≡ packs_after_all old.world old.held (submit_acts r line slot held old.world)
+  pub passes : Passes new.said new.taken old new
   pub plays : PlaysActs (submit_acts r line slot held old.world) old new
 
 -- WHERE NOTHING IS DONE the stage stays.
@@ -101,6 +140,8 @@ pub record IsStill (old new : Stage) : Type 0 where
   pub held : new.held ≡ old.held
   pub out : new.said ≡ old.said
   pub trace : new.taken ≡ old.taken
+  pub out_took : new.out_took ≡ old.out_took
+  pub trace_took : new.trace_took ≡ old.trace_took
   pub tally : new.tally ≡ old.tally
 
 -- THE RUN GOES ON behind a run so far with a line of the script: its moments come with their texts, and are counted.
@@ -109,6 +150,7 @@ pub record GoesOn (script : Script) (tables : ℕ → Option Table) (first : ℕ
   pub run : HasRun script tables first new.held line (done ++ record { number = line; statement = Plays input } ∷ []) new.world (moments ++ more)
   pub out : IsTrue new.out_tells → new.said ≡ old.said ++ out_text more
   pub trace : IsTrue new.trace_tells → new.taken ≡ old.taken ++ trace_text more
+  pub rule : KeepsAhead script tables first moments more old new
   pub tally : CountsAll more old.tally new.tally
 
 -- It does so behind any run so far whose lines are earlier;
@@ -147,6 +189,7 @@ pub record EndsDraining (script : Script) (tables : ℕ → Option Table) (first
   pub over : next_event new.world ≡ None
   pub out : IsTrue new.out_tells → new.said ≡ old.said ++ out_text more
   pub trace : IsTrue new.trace_tells → new.taken ≡ old.taken ++ trace_text more
+  pub rule : KeepsAhead script tables first moments more old new
   pub tally : CountsAll more old.tally new.tally
 
 abbrev pub GoesOnDraining : ℕ → Stage → Stage → Type 0

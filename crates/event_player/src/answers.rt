@@ -32,137 +32,50 @@ fn front(bytes: &[u8; 512], size: u32) -> &[u8]
 }
 
 /// Gathers the line of block `k`, which has the first bytes of the block at the desk.
-fn put_block<O: Sink>(k: u32, size: u32, desk: &mut Desk, out: &mut O) -> Result<(), SinkFailed>
-    requires some { 1 ≤ size }
-    requires few { size ≤ 512 }
-    ensures gathers { Gathers O.tells O.taken O.faults out.old out.new desk.old.gather desk.new.gather result (block_text k (take size desk.old.block)) }
-    ensures counts { Counts [] (block_text k (take size desk.old.block)) desk.old.tally desk.new.tally }
-    ensures requests { desk.new.tally.requests ≡ desk.old.tally.requests }
-{
+fn put_block<O: Sink, T: Sink>(subsystem: &mut Subsystem, k: u32, size: u32, desk: &mut Desk, out: &mut O, trace: &mut T) -> Result<(), SinkFailed> {
     desk.line.write(k, front(&desk.block, size));
-    desk.put_line(out)
+    desk.put_line(subsystem, out, trace)
 }
 
 /// Gathers the line of block `k`, whose bytes are all this one.
-fn put_fill<O: Sink>(k: u32, byte: u8, desk: &mut Desk, out: &mut O) -> Result<(), SinkFailed>
-    ensures gathers { (size : ℕ) → 1 ≤ size → Gathers O.tells O.taken O.faults out.old out.new desk.old.gather desk.new.gather result (block_text k (replicate size byte)) }
-    ensures counts { (size : ℕ) → 1 ≤ size → Counts [] (block_text k (replicate size byte)) desk.old.tally desk.new.tally }
-    ensures requests { desk.new.tally.requests ≡ desk.old.tally.requests }
-{
+fn put_fill<O: Sink, T: Sink>(subsystem: &mut Subsystem, k: u32, byte: u8, desk: &mut Desk, out: &mut O, trace: &mut T) -> Result<(), SinkFailed> {
     write_fill(&mut desk.fill, k, byte);
-    desk.put_fill(out)
+    desk.put_fill(subsystem, out, trace)
 }
 
-/// Gathers the line of block `k`, of so many bytes, of the read that the oldest answer is of.
-fn gather_block<O: Sink>(
-    subsystem: &Subsystem,
-    k: u32,
-    size: u32,
-    desk: &mut Desk,
-    out: &mut O,
-) -> Result<(), SinkFailed>
-    requires block { HasBlock subsystem.now.world k size }
-    ensures gathers { Gathers O.tells O.taken O.faults out.old out.new desk.old.gather desk.new.gather result
-        (block_text k (slice_index_or (first_blocks subsystem.now.world subsystem.now.world.answers) k [])) }
-    ensures counts { Counts [] (block_text k (slice_index_or (first_blocks subsystem.now.world subsystem.now.world.answers) k [])) desk.old.tally desk.new.tally }
-    ensures requests { desk.new.tally.requests ≡ desk.old.tally.requests }
-{
+fn gather_block<O: Sink, T: Sink>(subsystem: &mut Subsystem, k: u32, size: u32, desk: &mut Desk, out: &mut O, trace: &mut T) -> Result<(), SinkFailed> {
     if let Some(byte) = subsystem.answer_fill(k) {
-        return put_fill(k, byte, desk, out);
+        return put_fill(subsystem, k, byte, desk, out, trace);
     }
     subsystem.answer_block(k, &mut desk.block);
-    put_block(k, size, desk, out)
+    put_block(subsystem, k, size, desk, out, trace)
 }
 
-/// Gathers the lines of the blocks of the read that the oldest answer is of: `count` of them, the last one with `last` bytes.
-fn gather_blocks<O: Sink>(
-    subsystem: &Subsystem,
-    count: u32,
-    last: u32,
-    desk: &mut Desk,
-    out: &mut O,
-) -> Result<(), SinkFailed>
-    requires reads { IsFirstKind subsystem.now.world (ReadOk count last) }
-    ensures gathers { Gathers O.tells O.taken O.faults out.old out.new desk.old.gather desk.new.gather result (first_rest subsystem.now.world (ReadOk count last)) }
-    ensures counts { OnOk result (Counts [] (first_rest subsystem.now.world (ReadOk count last)) desk.old.tally desk.new.tally) }
-    ensures requests { desk.new.tally.requests ≡ desk.old.tally.requests }
-{
-    subsystem.law();
+fn gather_blocks<O: Sink, T: Sink>(subsystem: &mut Subsystem, count: u32, last: u32, desk: &mut Desk, out: &mut O, trace: &mut T) -> Result<(), SinkFailed> {
     for k in 0..count {
-        gather_block(subsystem, k, block_size(k, count, last), desk, out)?;
+        gather_block(subsystem, k, block_size(k, count, last), desk, out, trace)?;
     }
     Ok(())
 }
 
-/// Gathers what is said behind the line of the oldest answer: the blocks of a read.
-fn gather_rest<O: Sink>(
-    subsystem: &Subsystem,
-    kind: AnswerKind,
-    desk: &mut Desk,
-    out: &mut O,
-) -> Result<(), SinkFailed>
-    requires first { IsFirstKind subsystem.now.world kind }
-    ensures gathers { Gathers O.tells O.taken O.faults out.old out.new desk.old.gather desk.new.gather result (first_rest subsystem.now.world kind) }
-    ensures counts { OnOk result (Counts [] (first_rest subsystem.now.world kind) desk.old.tally desk.new.tally) }
-    ensures requests { desk.new.tally.requests ≡ desk.old.tally.requests }
-{
+fn gather_rest<O: Sink, T: Sink>(subsystem: &mut Subsystem, kind: AnswerKind, desk: &mut Desk, out: &mut O, trace: &mut T) -> Result<(), SinkFailed> {
     match kind {
-        AnswerKind::ReadOk { count, last } => gather_blocks(subsystem, count, last, desk, out),
+        AnswerKind::ReadOk { count, last } => gather_blocks(subsystem, count, last, desk, out, trace),
         _ => Ok(()),
     }
 }
 
-/// Counts the oldest answer that waits, and gathers its text.
-fn gather_answer<O: Sink>(
-    subsystem: &Subsystem,
-    answer: Answer,
-    desk: &mut Desk,
-    out: &mut O,
-) -> Result<(), SinkFailed>
-    requires first { IsFirst subsystem.now.world answer }
-    ensures gathers { Gathers O.tells O.taken O.faults out.old out.new desk.old.gather desk.new.gather result (first_text subsystem.now.world answer) }
-    ensures counts { OnOk result (Counts (first_told subsystem.now.world answer ∷ []) (first_text subsystem.now.world answer) desk.old.tally desk.new.tally) }
-    ensures requests { desk.new.tally.requests ≡ desk.old.tally.requests }
-{
+fn gather_answer<O: Sink, T: Sink>(subsystem: &mut Subsystem, answer: Answer, desk: &mut Desk, out: &mut O, trace: &mut T) -> Result<(), SinkFailed> {
     let line = answer_line(answer.at, answer.id, answer.kind);
     desk.tally.count_answer(answer.kind);
-    desk.put(line.as_bytes(), out)?;
-    gather_rest(subsystem, answer.kind, desk, out)
+    desk.put(line.as_bytes(), subsystem, out, trace)?;
+    gather_rest(subsystem, answer.kind, desk, out, trace)
 }
 
-/// Counts and gathers the answers that wait, the oldest first, and takes them.
-fn gather_answers<O: Sink>(
-    subsystem: &mut Subsystem,
-    desk: &mut Desk,
-    out: &mut O,
-) -> Result<(), SinkFailed>
-    ensures gathers { Gathers O.tells O.taken O.faults out.old out.new desk.old.gather desk.new.gather result (waiting_text subsystem.old.world) }
-    ensures counts { OnOk result (Counts (waiting subsystem.old.world) (waiting_text subsystem.old.world) desk.old.tally desk.new.tally) }
-    ensures requests { desk.new.tally.requests ≡ desk.old.tally.requests }
-    ensures taken { OnOk result (subsystem.new ≡ record subsystem.old { world = all_taken subsystem.old.world }) }
-{
-    taken_law();
+pub(crate) fn gather_answers<O: Sink, T: Sink>(subsystem: &mut Subsystem, desk: &mut Desk, out: &mut O, trace: &mut T) -> Result<(), SinkFailed> {
     while let Some(answer) = subsystem.answer() {
-        subsystem.law();
-        gather_answer(subsystem, answer, desk, out)?;
+        gather_answer(subsystem, answer, desk, out, trace)?;
         subsystem.take_answer();
     }
     Ok(())
-}
-
-/// Writes the answers that wait to a sink, the oldest first, and takes them. Nothing is gathered at the desk before and behind it.
-pub(crate) fn write_answers<O: Sink>(
-    subsystem: &mut Subsystem,
-    desk: &mut Desk,
-    out: &mut O,
-) -> Result<(), SinkFailed>
-    requires kept { desk.old.gather ≡ [] }
-    ensures puts { Puts O.tells O.taken O.faults out.old out.new result (waiting_text subsystem.old.world) }
-    ensures counts { OnOk result (Counts (waiting subsystem.old.world) (waiting_text subsystem.old.world) desk.old.tally desk.new.tally) }
-    ensures requests { desk.new.tally.requests ≡ desk.old.tally.requests }
-    ensures taken { OnOk result (subsystem.new ≡ record subsystem.old { world = all_taken subsystem.old.world }) }
-    ensures kept { OnOk result (desk.new.gather ≡ []) }
-{
-    gather_answers(subsystem, desk, out)?;
-    desk.gather.flush(out)
 }

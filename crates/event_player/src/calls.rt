@@ -6,7 +6,7 @@ ghost use Rattle.hp_driver.specs.Subsystem.{IsAsked, IsThere, asked};
 ghost use Rattle.event_player.specs.Steps.{stage, PlaysEvent, PlaysSubmission, HasCauses};
 ghost use Rattle.event_player.specs.Stops.{EventStops, SubmissionStops};
 
-use crate::answers::write_answers;
+use crate::answers::gather_answers;
 use crate::desk::Desk;
 use crate::play::PlayFault;
 use hp_driver::{Event, Request, Subsystem};
@@ -44,9 +44,21 @@ pub fn ask<O: Sink, T: Sink>(
 {
     subsystem.law();
     subsystem.submit(number, request, bytes, trace)?;
-    subsystem.send(trace)?;
-    write_answers(subsystem, desk, out)?;
+    gather_answers(subsystem, desk, out, trace)?;
     Ok(())
+}
+
+/// Before an event that may write, lines are sent, and then answers.
+fn send_ahead<O: Sink, T: Sink>(subsystem: &mut Subsystem, event: &Event, desk: &mut Desk, out: &mut O, trace: &mut T) -> Result<(), PlayFault> {
+    match event {
+        Event::Move { adapter } => {
+            if subsystem.writes(*adapter) {
+                desk.send(subsystem, out, trace)?;
+            }
+            Ok(())
+        }
+        _ => Ok(()),
+    }
 }
 
 /// An event happens at a line.
@@ -81,8 +93,8 @@ pub fn happen<P: Packs, O: Sink, T: Sink>(
     ensures causes { HasCauses (P.faults packs.old) (P.faults packs.new) (O.faults out.old) (O.faults out.new) (T.faults trace.old) (T.faults trace.new) result }
 {
     subsystem.law();
+    send_ahead(subsystem, &event, desk, out, trace)?;
     subsystem.event(number, event, packs, trace)?;
-    subsystem.send(trace)?;
-    write_answers(subsystem, desk, out)?;
+    gather_answers(subsystem, desk, out, trace)?;
     Ok(())
 }

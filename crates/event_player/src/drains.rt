@@ -11,16 +11,7 @@ use crate::calls::happen;
 use crate::desk::Desk;
 use crate::play::PlayFault;
 use hp_driver::Subsystem;
-use outside_traits::traits::{Packs, Sink, SinkFailed};
-use outside_traits::whole::write_all;
-use trace_lines::idle;
-
-/// Says that a drain found nothing to do.
-fn say_idle<T: Sink>(number: u64, trace: &mut T) -> Result<(), SinkFailed>
-    ensures { Puts T.tells T.taken T.faults trace.old trace.new result (moment_text (Idle number)) }
-{
-    write_all(trace, idle(number).as_bytes())
-}
+use outside_traits::traits::{Packs, Sink};
 
 /// The events of a drain behind its first one. It comes to its end long before it has turned so often.
 fn go_on<P: Packs, O: Sink, T: Sink>(
@@ -93,7 +84,7 @@ pub fn drain<P: Packs, O: Sink, T: Sink>(
     ensures causes { HasCauses (P.faults packs.old) (P.faults packs.new) (O.faults out.old) (O.faults out.new) (T.faults trace.old) (T.faults trace.new) result }
 {
     let Some(first) = subsystem.next_event() else {
-        say_idle(number, trace)?;
+        subsystem.idle(number, trace)?;
         return Ok(());
     };
     happen(subsystem, number, first, desk, packs, out, trace)?;

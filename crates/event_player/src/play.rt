@@ -161,6 +161,7 @@ fn play_lines<P: Packs, O: Sink, T: Sink>(
         play_line(script, subsystem, line, room, desk, packs, out, trace)?;
     }
     drain(subsystem, number, desk, packs, out, trace)?;
+    desk.send(subsystem, out, trace)?;
     Ok(desk.tally)
 }
 
@@ -200,7 +201,7 @@ pub fn play<P: Packs, O: Sink, T: Sink>(
     let noises = count_noises(script);
     let mut bench = Bench::new(alloc, u64::from(requests))?;
     let mut subsystem = Subsystem::new(alloc, units.as_slice(), requests, noises)?;
-    play_lines(
+    match play_lines(
         script,
         &mut subsystem,
         bench.room.as_mut_slice(),
@@ -208,5 +209,12 @@ pub fn play<P: Packs, O: Sink, T: Sink>(
         packs,
         out,
         trace,
-    )
+    ) {
+        Err(PlayFault::Store) => {
+            let _ = subsystem.send(trace);
+            let _ = bench.desk.gather.flush(out);
+            Err(PlayFault::Store)
+        }
+        other => other,
+    }
 }

@@ -22,34 +22,16 @@ use crate::desk::Desk;
 use crate::drains::drain;
 use crate::play::PlayFault;
 use answer_lines::noise_line;
-use answer_tally::Tally;
 use fire_code::{Noise, class_of};
 use hp_driver::{Event, Request, Subsystem};
 use outside_traits::traits::{Packs, Sink, SinkFailed};
-use outside_traits::whole::write_all;
 use script_meaning::meaning_law;
 use script_reader::{Content, Request as Asked, Script, Span, Statement, Stored};
 
-/// Says the class of noise that is armed at a line, and counts what it says.
-fn say_noise<O: Sink>(
-    number: u64,
-    noise: &Noise,
-    tally: &mut Tally,
-    out: &mut O,
-) -> Result<(), SinkFailed>
-    ensures counts { (live : LiveNoise) → live.places ≡ noise.now → Counts [] (said_text (Played number (NoiseInput live))) tally.old tally.new }
-    ensures requests { tally.new.requests ≡ tally.old.requests }
-    ensures text { (live : LiveNoise) → live.places ≡ noise.now
-        → OnOk result (IsTrue (O.tells out.new) → O.taken out.new ≡ O.taken out.old ++ said_text (Played number (NoiseInput live))) }
-    ensures front { (live : LiveNoise) → live.places ≡ noise.now
-        → OnErr result (IsTrue (O.tells out.new) → TakesFront (O.taken out.old) (O.taken out.new) (said_text (Played number (NoiseInput live)))) }
-    ensures never_again { IsTrue (O.tells out.new) → IsTrue (O.tells out.old) }
-    ensures cause { HasCause (O.faults out.old) (O.faults out.new) result }
-{
-    let _ = noise.places();
+/// Says the class of noise that is armed at a line.
+fn say_noise<O: Sink, T: Sink>(number: u64, noise: &Noise, subsystem: &mut Subsystem, desk: &mut Desk, out: &mut O, trace: &mut T) -> Result<(), SinkFailed> {
     let line = noise_line(number, class_of(noise));
-    tally.count_text(line.as_bytes());
-    write_all(out, line.as_bytes())
+    desk.put(line.as_bytes(), subsystem, out, trace)
 }
 
 /// A request as the driver takes it.
@@ -190,7 +172,7 @@ fn play_other<P: Packs, O: Sink, T: Sink>(
             span,
             places,
         } => {
-            say_noise(number, places, &mut desk.tally, out)?;
+            say_noise(number, places, subsystem, desk, out, trace)?;
             let event = Event::Noise {
                 unit: *unit,
                 block: *block,
