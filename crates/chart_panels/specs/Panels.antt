@@ -1,5 +1,5 @@
 -- A PANEL OF A CHART: some columns, row by row.
-use Rattle.std.specs.Prelude.{ℕ, zero, suc, ◌+◌, ◌*◌, ◌/◌, ◌%◌, ◌==◌, if◌then◌else◌, List, [], ◌∷◌, length, fold, codes, decimal, slice_range}
+use Rattle.std.specs.Prelude.{ℕ, zero, suc, ◌+◌, ◌/◌, ◌%◌, ◌==◌, if◌then◌else◌, List, [], ◌∷◌, length, fold, codes, decimal}
 use Rattle.chart_lines.specs.Charts.{with_text, at_left}
 use Rattle.chart_lines.specs.Rows.{line_of, with_line, filled, with_row}
 use Rattle.drive_pictures.specs.Counts.{plus}

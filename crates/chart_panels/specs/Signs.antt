@@ -1,5 +1,5 @@
 -- THE SIGNS OF A COLUMN, each one character.
-use Rattle.std.specs.Prelude.{ℕ, ◌+◌, ◌*◌, ◌/◌, ◌%◌, ◌==◌, nat_le, nat_lt, min, max, Bool, ◌&&◌, if◌then◌else◌, List, [], ◌∷◌, fold, get_or}
+use Rattle.std.specs.Prelude.{ℕ, ◌+◌, ◌*◌, ◌/◌, ◌%◌, ◌==◌, nat_le, nat_lt, min, max, ◌&&◌, if◌then◌else◌, List, [], ◌∷◌, fold, get_or}
 use Rattle.drive_pictures.specs.declared.cells.Cell.{Cell}
 use Rattle.drive_pictures.specs.Marks.{later}
 use Rattle.chart_panels.specs.declared.panel.Holder.{Holder}

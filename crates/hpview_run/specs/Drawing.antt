@@ -6,6 +6,7 @@ use Rattle.picture_chart.specs.Pages.{IsChartOf}
 use Rattle.picture_sheet.specs.declared.sheet.Sheet.{Sheet}
 use Rattle.picture_svg.specs.Pictures.{IsPicture}
 use Rattle.run_view.specs.declared.view.View.{View}
+use Rattle.run_view.specs.Captions.{caption_of}
 use Rattle.run_view.specs.Views.{Views}
 use Rattle.script_reader.specs.declared.fault.ScriptKind.{ScriptKind}
 use Rattle.script_reader.specs.Grammar as scripts
@@ -25,9 +26,10 @@ abbrev pub IsDrawnAs : Form → Sheet → List ℕ → Type 0
 IsDrawnAs Svg sheet text = IsPicture sheet text
 IsDrawnAs Chart sheet text = IsChartOf sheet text
 
--- DRAWN IN A FORM: a text is the picture of a sheet with what is shown
-pub record IsDrawn (form : Form) (view : View) (text : List ℕ) : Type 0 where
+-- DRAWN IN A FORM: a text is the picture of a sheet with what is shown, under the caption of its script
+pub record IsDrawn (form : Form) (script : List ℕ) (view : View) (text : List ℕ) : Type 0 where
   pub sheet : Sheet
+  pub caption : sheet.caption.now ≡ caption_of script
   pub run : sheet.run.now ≡ view.run
   pub window : sheet.window ≡ view.window
   pub texts : sheet.texts.now ≡ view.texts.items
@@ -40,7 +42,7 @@ pub record Draws (command : Command) (text trace picture : List ℕ) : Type 0 wh
   pub loads : Loads text stored
   pub view : View
   pub views : Views stored trace (command.from - 1) command.to view
-  pub drawn : IsDrawn command.form view picture
+  pub drawn : IsDrawn command.form text view picture
 
 -- A text was taken whole; or the sink failed, and took a front of it.
 abbrev pub Told : List ℕ → List ℕ → List ℕ → ℕ → ℕ → Type 0

@@ -24,7 +24,7 @@ fn draw_sheet(alloc: Global, form: Form, sheet: &Sheet<'_>) -> Result<Vec<u8>, A
 
 /// The picture of what is shown of a run, in a form, under the caption of its script.
 fn draw(alloc: Global, form: Form, text: &[u8], view: &View<'_>) -> Result<Vec<u8>, ViewFault>
-    ensures ok { IfOk result (λ picture. IsDrawn form view.now picture.items) }
+    ensures ok { IfOk result (λ picture. IsDrawn form text.now view.now picture.items) }
     ensures memory { IfErr result (λ fault. fault ≡ ViewFault.Memory) }
 {
     let sheet = Sheet {

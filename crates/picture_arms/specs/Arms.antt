@@ -1,5 +1,5 @@
 -- THE WAY OF A DRIVE'S ARM over the columns, with the requests that wait for it.
-use Rattle.std.specs.Prelude.{ℕ, zero, suc, ◌+◌, ◌-◌, ◌==◌, nat_le, nat_lt, Bool, ◌&&◌, if◌then◌else◌, List, [], ◌∷◌, ◌++◌, Option, Some, None, is_some, unwrap_or, length, drop, insert, position, fold, codes}
+use Rattle.std.specs.Prelude.{ℕ, zero, suc, ◌-◌, ◌==◌, nat_le, nat_lt, Bool, ◌&&◌, if◌then◌else◌, List, [], ◌∷◌, ◌++◌, Option, Some, None, is_some, unwrap_or, length, drop, insert, position, fold, codes}
 use Rattle.drive_pictures.specs.declared.arms.Path.{Path}
 use Rattle.drive_pictures.specs.declared.requests.Request.{Request}
 use Rattle.drive_pictures.specs.Requests.{queued}

@@ -1,5 +1,5 @@
 -- The lines that are left, event by event.
-use Rattle.std.proofs.Common.{◌≡◌, ℕ, suc, ◌+◌, ◌-◌, List, length, take, drop, sym, ◌∙◌, ap, arith}
+use Rattle.std.proofs.Common.{◌≡◌, ℕ, suc, ◌+◌, ◌-◌, List, take, drop, sym, ◌∙◌, ap, arith}
 use Rattle.std.specs.List.{slice_range}
 use Rattle.std.proofs.lemmas.List.{drop-drop}
 use Rattle.picture_sheet.specs.declared.sheet.Note.{Note}

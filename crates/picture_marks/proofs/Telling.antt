@@ -1,17 +1,14 @@
 -- The lines of a drive, told event by event.
-use Rattle.std.proofs.Common.{◌≡◌, ℕ, suc, ◌+◌, ◌-◌, ◌<◌, ◌≤◌, List, [], ◌∷◌, ◌++◌, length, take, drop, get_or, refl, sym, ◌∙◌, ap, subst, arith}
+use Rattle.std.proofs.Common.{◌≡◌, ℕ, ◌+◌, ◌-◌, ◌≤◌, List, [], ◌∷◌, ◌++◌, length, take, drop, refl, sym, ◌∙◌, ap, subst, arith}
 use Rattle.std.specs.List.{flat_map, slice_range}
 use Rattle.std.proofs.lemmas.List.Folds.{drop_split}
 use Rattle.std.proofs.lemmas.Grind.{flat_map-append}
-use Rattle.std.proofs.lemmas.List.{append-nil, length-drop, length-take-le}
-use Rattle.std.proofs.Math.Seq.{take-suc}
-use Rattle.std.proofs.lemmas.List.{append_assoc}
+use Rattle.std.proofs.lemmas.List.{length-drop, length-take-le}
 use Rattle.std.specs.Prelude.{Bool, true, false, ◌==◌, ◌||◌, if◌then◌else◌}
-use Rattle.std.specs.List.{list_any}
 use Rattle.picture_markup.specs.Nesting.{Drawn, told}
 use Rattle.picture_markup.proofs.Telling.{told_nil, told_more}
 use Rattle.picture_sheet.specs.declared.sheet.Note.{Note}
-use Rattle.picture_sheet.specs.Notes.{is_spoken_of, line_of, lines_of}
+use Rattle.picture_sheet.specs.Notes.{is_spoken_of, lines_of}
 
 -- before the first
 pub tell_all : {X : Type 0} (f : X → List (List ℕ)) (xs : List X) (d : Drawn) → told (flat_map f (drop 0 xs)) d ≡ told (flat_map f xs) d

@@ -1,5 +1,5 @@
 -- WHAT HAPPENED AT A DRIVE, over the columns: its marks and signals, with their tooltips.
-use Rattle.std.specs.Prelude.{ℕ, zero, suc, ◌+◌, ◌-◌, ◌/◌, ◌==◌, nat_le, nat_lt, Bool, true, false, ◌||◌, if◌then◌else◌, List, [], ◌∷◌, ◌++◌, Option, None, length, take, drop, position, unwrap_or, fold, codes}
+use Rattle.std.specs.Prelude.{ℕ, zero, suc, ◌-◌, ◌/◌, ◌==◌, nat_le, nat_lt, Bool, true, false, ◌||◌, if◌then◌else◌, List, [], ◌∷◌, ◌++◌, Option, None, length, take, drop, position, unwrap_or, fold, codes}
 use Rattle.drive_pictures.specs.Counts.{plus}
 use Rattle.drive_pictures.specs.declared.cells.Cell.{Cell}
 use Rattle.drive_pictures.specs.declared.marks.Mark.{Mark}

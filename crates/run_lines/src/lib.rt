@@ -9,6 +9,6 @@ mod plays;
 mod seen;
 mod watching;
 
-pub use plays::{plays_of, script_law};
+pub use plays::{first_text, plays_of, script_law};
 pub use seen::{Seen, Watcher};
 pub use watching::watch_run;

@@ -120,7 +120,7 @@ fn without_cr(line: &[u8]) -> &[u8]
 }
 
 /// The first line of a text, without CR; empty where there is none.
-fn first_text(text: &[u8]) -> &[u8]
+pub fn first_text(text: &[u8]) -> &[u8]
     ensures { result.now ≡ slice_index_or (lines_of text.now) 0 [] }
 {
     if text.is_empty() {

@@ -1,3 +1,4 @@
 pub mod TextLaws
 pub mod WatchLaws
 pub mod ViewLaws
+pub mod CaptionLaws

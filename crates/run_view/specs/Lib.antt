@@ -1,3 +1,4 @@
+pub mod Captions
 pub mod Events
 pub mod Notes
 pub mod Watched

@@ -1,5 +1,4 @@
 use Rattle.std.proofs.Common.{◌≡◌, take, fold}
-use Rattle.std.specs.Prelude.{codes}
 use Rattle.picture_axes.specs.Axes.{with_stretch}
 use Rattle.picture_axes.proofs.axes.draw_lines.Given as goal
 
