@@ -52,7 +52,7 @@ held_read w p h count last ok given =
     let is = ok.loan in record {
       size = ok.size ∙ sym many;
       each = λ k lt. ok.whole k (omega (arith, lt, many)) ∙ size_here h k count last many short;
-      few = omega (arith, short, is.last_few);
+      few = omega (arith, short, is.shape.last_few);
     }
 
 blocks_at : (w : World) (made : Made) (p : ℕ) → IsOldest w made → made.slot ≡ Some p → oldest_blocks w ≡ (held_in w p).blocks

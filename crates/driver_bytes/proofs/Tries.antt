@@ -69,7 +69,7 @@ size_few : (loan : Loan) (k : ℕ) → IsLoan loan → size_at loan k ≤ 512
 size_few loan k is = by (k + 1 == loan.count)
   where
     by : (b : Bool) → (if b then loan.last else 512) ≤ 512
-    by true = is.last_few
+    by true = is.shape.last_few
     by false = omega arith
 
 -- what a try goes by, beside the scene

@@ -32,7 +32,7 @@ left_by (Some i) job done moved left less = omega (arith, left, less)
 pub new_begun : (u : ℕ) (s : Scene) (x : UnitView) → SceneOk u s → x.transfer ≡ Some (begun (job_of s.unit.drive.kind s.held))
     → x.table ≡ s.unit.table → x.drive.kind ≡ s.unit.drive.kind → IsBegun x s.held
 new_begun u s x ok transfer table kind =
-    let some = ok.loan.some in
+    let some = ok.loan.shape.some in
     let y : UnitView = record s.unit { transfer = Some (begun (job_of s.unit.drive.kind s.held)) } in
     let is : IsBegun y s.held = record {
       some = refl;

@@ -69,13 +69,13 @@ segment_inside (Some i) job done left = omega (arith, left)
 started_adapter : (a : AdapterState) (loan : Loan) (skip count drive block : ℕ) (write : Bool) → IsLoan loan → 1 ≤ count → skip + count ≤ loan.count
     → IsAdapter (started drive block write (loaded loan.frames loan.offset loan.count loan.last skip count a))
 started_adapter a loan skip count drive block write is some inside =
-    let last = is.last_some in
+    let last = is.shape.last_some in
     record {
       inside = inside;
-      few = is.few;
-      offset = is.inside;
-      last_some = λ e. is.last_some;
-      last_few = is.last_few;
+      few = is.shape.few;
+      offset = is.shape.inside;
+      last_some = λ e. last;
+      last_few = is.shape.last_few;
       place = refl;
       counted = λ e. all_left (bytes_between loan.count loan.last skip count);
       left = λ e f. omega (arith, loaded_many loan.count loan.last skip count last some);

@@ -58,7 +58,7 @@ due_of u d s next = elim next [
 ]
 
 pub job_is : (u : ℕ) (s : Scene) → SceneOk u s → IsJob (job_of s.unit.drive.kind s.held)
-job_is u s ok = record { some = ok.loan.some; few = ok.loan.few; below = ok.inside }
+job_is u s ok = record { some = ok.loan.shape.some; few = ok.loan.shape.few; below = ok.inside }
 
 -- THE SAME REQUEST, as far as it says what is asked
 pub record IsSameAsk (h g : Held) : Type 0 where

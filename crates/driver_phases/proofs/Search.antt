@@ -24,7 +24,7 @@ use Rattle.driver_phases.proofs.AdapterLeft.{SceneAdapter, AdapterLeft, is_trans
 -- SEARCH. The target lies on the drive, and so does the place that is searched.
 first_inside : (u : ℕ) (s : Scene) → SceneOk u s → IsInside s.unit.drive.kind (target_of s.unit s.held)
 first_inside u s ok =
-    let some = ok.loan.some in
+    let some = ok.loan.shape.some in
     let inside = ok.inside in
     place_inside s.unit.drive.kind s.held.first (below_limit s.unit.drive.kind s.held.first (omega (arith, some, inside)))
 

@@ -72,7 +72,7 @@ next_reached u s top ok may writing asked tables =
     let writes : s.held.write ≡ true = sym (ap is_writing works ∙ has.write) ∙ writing in
     let below : s.held.first + s.held.loan.count ≤ top = asked writes in
     subst (λ n. n + a.moved < top) (sym block)
-    (segment_reached s.unit s.held a.moved top is.0 below (λ table given. tables table given (reaches_some s.held.first s.held.loan.count top ok.loan.some below)) less)
+    (segment_reached s.unit s.held a.moved top is.0 below (λ table given. tables table given (reaches_some s.held.first s.held.loan.count top ok.loan.shape.some below)) less)
 
 -- of a request in hand
 hand_below : (ends : ℕ → ℕ) (w : World) (u id : ℕ) → Sound w → InHand w u id → Reaches ends w

@@ -72,7 +72,7 @@ inside_limit u id w s at =
     let inside : (held_in w (slot_in_hand (unit_at w u))).first + (held_in w (slot_in_hand (unit_at w u))).loan.count ≤ limit_of (unit_at w u).drive.kind =
     subst (λ x. (held_in w (slot_in_hand (unit_at w u))).first + (held_in w (slot_in_hand (unit_at w u))).loan.count ≤ limit_of (unit_at w x).drive.kind)
     at.unit at.slot.inside in
-    below_sum inside at.slot.loan.some
+    below_sum inside at.slot.loan.shape.some
   where
     below_sum : {m n k : ℕ} → m + n ≤ k → 1 ≤ n → m < k
     below_sum less some = omega (arith, less, some)

@@ -423,7 +423,7 @@ sector_facts u id block w s t sound at busy tried =
       more = more;
       block = ap (λ (g : Segment). g.block) m.is.segment;
       count = ap (λ (g : Segment). g.count) m.is.segment;
-      some = subst (λ n. 1 ≤ n) (sym blocks) at.slot.loan.some;
+      some = subst (λ n. 1 ≤ n) (sym blocks) at.slot.loan.shape.some;
     }
 
 sector_adapter_may : (u block : ℕ) (a seen : AdapterState) → seen.busy ≡ true → seen.drive ≡ drive_of u → seen.completion ≡ false

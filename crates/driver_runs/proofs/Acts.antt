@@ -29,7 +29,7 @@ pub size_few : (loan : Loan) (k : ℕ) → IsLoan loan → size_at loan k ≤ 51
 size_few loan k is = by_test (k + 1 == loan.count)
   where
     by_test : (b : Bool) → (if b then loan.last else 512) ≤ 512
-    by_test true = is.last_few
+    by_test true = is.shape.last_few
     by_test false = omega arith
 
 window_inside : (skip count blocks moved size : ℕ) → skip + count ≤ blocks → moved < count → blocks ≡ size → skip + moved < size

@@ -139,7 +139,7 @@ module _ (w : World) (s : Sound w) (line u id : ℕ) (i : InHand w u id) (kind :
   now = with_scene w u p new
 
   given : IsGiven h kind
-  given = ends_given u old (adapter_at w (adapter_of u)) h kind (slot_ok w s u id i).loan.some (ends_by u (scene_of w u) kind may) (unit_ok w s u id i).phase
+  given = ends_given u old (adapter_at w (adapter_of u)) h kind (slot_ok w s u id i).loan.shape.some (ends_by u (scene_of w u) kind may) (unit_ok w s u id i).phase
 
   change : Changed w now u p new.unit (Some new.held)
   change = record {

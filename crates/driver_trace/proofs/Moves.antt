@@ -128,7 +128,7 @@ at_most : (loan : Loan) (k : ℕ) → IsLoan loan → size_at loan k ≤ 512
 at_most loan k is = by_test (k + 1 == loan.count)
   where
     by_test : (b : Bool) → (if b then loan.last else 512) ≤ 512
-    by_test true = is.last_few
+    by_test true = is.shape.last_few
     by_test false = omega arith
 
 few_bytes : (u id block line : ℕ) (t : Tried) (w : World) (s : Replay) → Sound w → Shows u w s → Allowed w (Of line u id (deed.Sector block t))

@@ -71,8 +71,8 @@ held_read w p h count last ok given =
     let is = ok.loan in record {
       size = ok.size ∙ sym many;
       each = λ k lt. ok.whole k (omega (arith, lt, many)) ∙ size_here h k count last many short;
-      some = omega (arith, short, is.last_some);
-      few = omega (arith, short, is.last_few);
+      some = omega (arith, short, is.shape.last_some);
+      few = omega (arith, short, is.shape.last_few);
     }
 
 pub first_blocks_at : (w : World) (made : Made) (p : ℕ) → IsOldest w made → made.slot ≡ Some p → first_blocks w w.answers ≡ (held_in w p).blocks

@@ -45,7 +45,7 @@ held_is slots h is = ap (λ (o : Option Held). unwrap_or o no_held) is
 
 held_few : (w : World) (u : ℕ) (x : Waiter) → Sound w → IsOutstanding w u x → (held_in w x.number).loan.count ≤ 127
 held_few w u x sound out =
-    subst (λ (h : Held). h.loan.count ≤ 127) (sym (held_is (slot_at w x.number) out.held out.slot)) (sound.each_slot x.number out.held out.slot).loan.few
+    subst (λ (h : Held). h.loan.count ≤ 127) (sym (held_is (slot_at w x.number) out.held out.slot)) (sound.each_slot x.number out.held out.slot).loan.shape.few
 
 short_queue : (w : World) (u : ℕ) → Sound w → UnitOk w u (unit_at w u) → length (unit_at w u).queue ≤ length w.slots
 short_queue w u sound ok =

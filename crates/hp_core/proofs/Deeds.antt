@@ -333,7 +333,7 @@ module _ (w : World) (line u id : ℕ) (s : Sound w) where
       left_by (transfer_of (unit_at w u)).index (transfer_of (unit_at w u)).job (transfer_of (unit_at w u)).done moved is.0.is.left is.2 in
       record {
         cpu = on_cpu may.0 (λ transferring. judge_still (unit_at w u).phase moved (verdict.Burst at pattern) due.phase transferring);
-        few = ok.loan.few;
+        few = ok.loan.shape.few;
         inside = subst (λ (j : Job). (transfer_of (unit_at w u)).done + moved < j.count) is.0.job left;
         burst = is.3.1;
       }

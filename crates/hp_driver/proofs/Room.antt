@@ -28,7 +28,7 @@ unfolding AreLoans
 few_requests [] loans = omega arith
 few_requests (None ∷ slots) loans = few_requests slots (λ p h is. loans (suc p) h is)
 few_requests (Some h ∷ slots) loans =
-    more _ _ _ (some_frames h.loan.count h.loan.offset h.loan.last (loans 0 h refl).last_some) (few_requests slots (λ p g is. loans (suc p) g is))
+    more _ _ _ (some_frames h.loan.count h.loan.offset h.loan.last (loans 0 h refl).shape.last_some) (few_requests slots (λ p g is. loans (suc p) g is))
   where
     more : (frames uses lent : ℕ) → 1 ≤ frames → uses ≤ lent → uses + 1 ≤ frames + lent
     more frames uses lent some few = omega (arith, some, few)
@@ -56,11 +56,13 @@ may_join w r first bytes sound none may inside room = record {
   below = inside;
   room = room;
   is = record {
-    some = may.request.some;
-    few = may.request.few;
-    last_some = may.request.ends;
-    last_few = may.request.in_block;
-    inside = may.request.in_frame;
+    shape = record {
+      some = may.request.some;
+      few = may.request.few;
+      inside = may.request.in_frame;
+      last_some = may.request.ends;
+      last_few = may.request.in_block;
+    };
     size = may.size;
   };
 }

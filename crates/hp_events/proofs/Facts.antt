@@ -72,7 +72,7 @@ module _ (w : World) (u id : ℕ) (sound : Sound w) (hand : InHand w u id) where
   hand_there = subst (λ o. IsSome o) (sym hand.slot) refl
 
   pub first_below : (hand_at w u).first < block_count (unit_at w u).drive.kind
-  first_below = below_limit (unit_at w u).drive.kind (hand_at w u).first (less _ _ _ ok.loan.some ok.inside)
+  first_below = below_limit (unit_at w u).drive.kind (hand_at w u).first (less _ _ _ ok.loan.shape.some ok.inside)
     where
       less : (first count limit : ℕ) → 1 ≤ count → first + count ≤ limit → first < limit
       less first count limit some inside = omega (arith, some, inside)

@@ -136,10 +136,10 @@ pub by_size : (loan : Loan) (k : ℕ) {X : Type 0} → (k + 1 ≡ loan.count →
 by_size loan k last other = by_test (k + 1 == loan.count) (λ same. last (eqb-true _ _ same) (rw same refl)) (λ ne. other (eqb-false _ _ ne) (rw ne refl))
 
 pub size_some : (loan : Loan) (k : ℕ) → IsLoan loan → 1 ≤ size_at loan k
-size_some loan k is = by_size loan k (λ last e. omega (arith, e, is.last_some)) (λ other e. omega (arith, e))
+size_some loan k is = by_size loan k (λ last e. omega (arith, e, is.shape.last_some)) (λ other e. omega (arith, e))
 
 pub size_few : (loan : Loan) (k : ℕ) → IsLoan loan → size_at loan k ≤ 512
-size_few loan k is = by_size loan k (λ last e. omega (arith, e, is.last_few)) (λ other e. omega (arith, e))
+size_few loan k is = by_size loan k (λ last e. omega (arith, e, is.shape.last_few)) (λ other e. omega (arith, e))
 
 pub size_whole : (loan : Loan) (k : ℕ) → loan.last ≡ 512 → size_at loan k ≡ 512
 size_whole loan k whole = by_size loan k (λ last e. e ∙ whole) (λ other e. e)
@@ -155,11 +155,11 @@ length-front_of loan k block is whole = length-front (size_at loan k) block (ome
 
 -- block k of a buffer begins in one of its frames, and ends in the next one where it is in two
 pub has_frame : (loan : Loan) (k : ℕ) → IsLoan loan → k < loan.count → k < length loan.frames
-has_frame loan k is inside = omega (arith, is.enough, is.last_some)
+has_frame loan k is inside = omega (arith, is.enough, is.shape.last_some)
 
 pub has_next : (loan : Loan) (k : ℕ) → IsLoan loan → k < loan.count → 0 < in_next (span_of loan k) → k + 1 < length loan.frames
 has_next loan k is inside some =
-    by_size loan k (λ last e. omega (arith, e, some, is.enough, is.inside)) (λ other e. omega (arith, other, is.enough, is.last_some))
+    by_size loan k (λ last e. omega (arith, e, some, is.enough, is.shape.inside)) (λ other e. omega (arith, other, is.enough, is.shape.last_some))
 
 next_small : (memory : Memory) (loan : Loan) (k : ℕ) → IsLent memory loan → get_or loan.frames (k + 1) 0 < 16384
 next_small memory loan k lent =
@@ -172,7 +172,7 @@ pub is_span : (memory : Memory) (loan : Loan) (k : ℕ) → IsLoan loan → IsLe
 is_span memory loan k is lent inside = record {
   frame_small = lent.small k (has_frame loan k is inside);
   next_small = next_small memory loan k lent;
-  inside = is.inside;
+  inside = is.shape.inside;
   some = size_some loan k is;
   few = size_few loan k is;
   differ = λ some. lent.differ k (k + 1) (omega arith) (has_next loan k is inside some);

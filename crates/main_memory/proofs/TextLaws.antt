@@ -67,12 +67,12 @@ text_at memory loan k at is shape lent inside small =
     let where_is : loan.offset + (512 * k + at) ≡ 512 * k + (loan.offset + at) = omega arith in
     let there : 512 * get_or loan.frames k 0 + (loan.offset + at) ≡ 512 * get_or loan.frames k 0 + loan.offset + at = omega arith in
     ap (λ (i : ℕ). get_or text i 0) where_is
-    ∙ frames_text_at loan.frames memory.bytes k (loan.offset + at) frames (has_frame loan k shape inside) (omega (arith, shape.inside))
+    ∙ frames_text_at loan.frames memory.bytes k (loan.offset + at) frames (has_frame loan k shape inside) (omega (arith, shape.shape.inside))
     ∙ ap (λ (i : ℕ). get_or memory.bytes i 0) there
     ∙ sym (ap (λ (b : Bool). get_or memory.bytes (if b then 512 * get_or loan.frames k 0 + loan.offset + at else 512 * get_or loan.frames (k + 1) 0 + (at - (512 - loan.offset))) 0) first))
     (λ second. let ge : 512 - loan.offset ≤ at = ltb-false _ _ second in
     let few : size_at loan k ≤ 512 = size_few loan k shape in
-    let where_is : loan.offset + (512 * k + at) ≡ 512 * (k + 1) + (at - (512 - loan.offset)) = omega (arith, shape.inside) in
+    let where_is : loan.offset + (512 * k + at) ≡ 512 * (k + 1) + (at - (512 - loan.offset)) = omega (arith, shape.shape.inside) in
     ap (λ (i : ℕ). get_or text i 0) where_is
     ∙ frames_text_at loan.frames memory.bytes (k + 1) (at - (512 - loan.offset)) frames (has_next loan k shape inside (omega arith)) (omega arith)
     ∙ sym (ap (λ (b : Bool). get_or memory.bytes (if b then 512 * get_or loan.frames k 0 + loan.offset + at else 512 * get_or loan.frames (k + 1) 0 + (at - (512 - loan.offset))) 0) second))

@@ -12,14 +12,17 @@ pub record Loan : Type 0 where
   pub count : ℕ
   pub last : ℕ
 
--- a buffer has 1 to 127 blocks, the last of 1 to 512 bytes, begins inside its first frame, and has just the frames
--- that it needs
+-- a buffer may have 1 to 127 blocks, the last of 1 to 512 bytes, and begins inside its first frame
+pub record IsShape (count offset last : ℕ) : Type 0 where
+  pub some : 1 ≤ count
+  pub few : count ≤ 127
+  pub inside : offset < 512
+  pub last_some : 1 ≤ last
+  pub last_few : last ≤ 512
+
+-- a buffer has such a shape, and just the frames that it needs
 pub record IsLoan (loan : Loan) : Type 0 where
-  pub some : 1 ≤ loan.count
-  pub few : loan.count ≤ 127
-  pub inside : loan.offset < 512
-  pub last_some : 1 ≤ loan.last
-  pub last_few : loan.last ≤ 512
+  pub shape : IsShape loan.count loan.offset loan.last
   pub enough : length loan.frames ≡ frames_needed loan.count loan.offset loan.last
 
 -- how many bytes block k has: 512, or for the last block what the buffer has of it

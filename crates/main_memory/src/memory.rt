@@ -2,7 +2,7 @@
 ghost use Rattle.std.specs.Prelude.{◌≡◌, ◌≤◌, ◌<◌, ◌+◌, ◌↔◌, IfOk, OnOk, IfErr, OnErr, IsErr, IsSomeAnd, IfSome, slice_get, slice_index, length, take, drop, slice_set, List, ℕ};
 ghost use Rattle.main_memory.specs.Frames.{all_frames, frames_needed, with_frames};
 ghost use Rattle.main_memory.specs.Bytes.{front, filled, IsFill};
-ghost use Rattle.main_memory.specs.Blocks.{Loan, IsLoan, IsSpan, size_at, span_of, bytes_in};
+ghost use Rattle.main_memory.specs.Blocks.{Loan, IsShape, IsLoan, IsSpan, size_at, span_of, bytes_in};
 ghost use Rattle.main_memory.specs.Memory.{IsMemory, IsLent, AreApart, with_block, with_span, blocks_of};
 
 use crate::bits::{all_free, give_frames, take_frames};
@@ -67,11 +67,7 @@ impl MainMemory {
     /// from place `offset` of the first frame on, from 0 to 511: as many frames as these bytes reach. They are the
     /// lowest free frames, in ascending order. `NoFrames` exactly where fewer frames are free; then nothing changes.
     pub fn lend(&mut self, count: u32, offset: u32, last: u32) -> Result<Buffer<Cpu>, NoFrames>
-        requires some { 1 ≤ count }
-        requires few { count ≤ 127 }
-        requires inside { offset < 512 }
-        requires last_some { 1 ≤ last }
-        requires last_few { last ≤ 512 }
+        requires shape { IsShape count offset last }
 
         // Refused exactly where too few frames are free.
         ensures refused { IsErr result ↔ (length self.old.free < frames_needed count offset last) }

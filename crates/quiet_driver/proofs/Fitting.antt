@@ -56,7 +56,7 @@ last_few w p sound = by (slot_at w p) refl
     by : (o : Option Held) → slot_at w p ≡ o → (held_in w p).loan.last ≤ 512
     by None none = subst (λ (o : Option Held). (unwrap_or o no_held).loan.last ≤ 512) (sym none) (omega arith)
     by (Some h) is =
-        subst (λ (o : Option Held). (unwrap_or o no_held).loan.last ≤ 512) (sym is) (sound.each_slot p h is).loan.last_few
+        subst (λ (o : Option Held). (unwrap_or o no_held).loan.last ≤ 512) (sym is) (sound.each_slot p h is).loan.shape.last_few
 
 size_few : (loan : Loan) (k : ℕ) → loan.last ≤ 512 → size_at loan k ≤ 512
 size_few loan k few = by (k + 1 == loan.count)

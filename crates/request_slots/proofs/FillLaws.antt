@@ -28,7 +28,7 @@ pieces-next n bytes =
 pub length-piece : (loan : Loan) (k : ℕ) (bytes : List ℕ) → k < loan.count → IsLoan loan → length bytes ≡ size_of loan → length (take 512 (drop (512 * k) bytes)) ≡ size_at loan k
 length-piece loan k bytes inside is whole =
     by_size loan k
-    (λ last e. omega (arith, last, e, is.last_few, is.last_some, whole, length-take 512 (drop (512 * k) bytes), length-drop (512 * k) bytes))
+    (λ last e. omega (arith, last, e, is.shape.last_few, is.shape.last_some, whole, length-take 512 (drop (512 * k) bytes), length-drop (512 * k) bytes))
     (λ other e. omega (arith, other, e, inside, whole, length-take 512 (drop (512 * k) bytes), length-drop (512 * k) bytes))
 
 -- the front of what is left behind a place, of 512 bytes or of all of it

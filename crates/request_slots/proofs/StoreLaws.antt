@@ -60,7 +60,7 @@ apart_at m slots {seen} kept view p q g h ne there other =
 
 -- NO SLOT IS FREE only where each request has a frame
 needs_one : (loan : Loan) → IsLoan loan → 1 ≤ frames_needed loan.count loan.offset loan.last
-needs_one loan is = omega (arith, is.last_some)
+needs_one loan is = omega (arith, is.shape.last_some)
 
 at_least : (m : Memory) (slots : List (Option Slot)) → ((p : ℕ) (slot : Slot) → slot_in slots p ≡ Some slot → IsLoan (loan_of slot.buffer))
     → ((p : ℕ) → p < length (as_seen m slots) → IsSome (slot_at (as_seen m slots) p)) → length (as_seen m slots) ≤ frames_lent (as_seen m slots)

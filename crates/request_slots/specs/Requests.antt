@@ -1,6 +1,6 @@
 -- Slots and the requests in them, as contracts see them.
 use Rattle.std.specs.Prelude.{◌≡◌, ℕ, ◌+◌, ◌-◌, ◌*◌, ◌<◌, ◌≤◌, if◌then◌else◌, true, false, List, [], ◌∷◌, length, slice_index_or, Option, None, Some, unwrap_or, Contains}
-use Rattle.main_memory.specs.Blocks.{IsLoan, size_at}
+use Rattle.main_memory.specs.Blocks.{IsShape, IsLoan, size_at}
 use Rattle.driver_machine.specs.World.{Held, no_held, count_of, frames_of, block_in, pieces}
 use Rattle.request_slots.specs.declared.asked.Asked.{Asked}
 
@@ -11,14 +11,9 @@ slot_at slots p = slice_index_or slots p None
 abbrev pub held_at : List (Option Held) → ℕ → Held
 held_at slots p = unwrap_or (slot_at slots p) no_held
 
--- What may be asked with these bytes: from 1 to 127 blocks, the last one of 1 to 512 bytes, in a buffer that begins inside its first
--- frame. A write comes with just the bytes of its blocks, and a read with none.
+-- What may be asked with these bytes: blocks in a buffer. A write comes with just their bytes, and a read with none.
 pub record IsAskable (asked : Asked) (bytes : List ℕ) : Type 0 where
-  pub some : 1 ≤ asked.count
-  pub few : asked.count ≤ 127
-  pub last_some : 1 ≤ asked.last
-  pub last_few : asked.last ≤ 512
-  pub inside : asked.offset < 512
+  pub shape : IsShape asked.count asked.offset asked.last
   pub size : length bytes ≡ (if asked.write then 512 * (asked.count - 1) + asked.last else 0)
 
 -- a slot is free

@@ -19,16 +19,16 @@ pub put_end-requires-clause-there : goal.put_end-requires-clause-there
 put_end-requires-clause-there g c = hand_there _ c.args.line _ _ c.requires.sound c.requires.may.0
 
 pub put_end-requires-clause-blocks : goal.put_end-requires-clause-blocks
-put_end-requires-clause-blocks g c = (loan_there _ _ _ c.requires.sound c.requires.may.0).some
+put_end-requires-clause-blocks g c = (loan_there _ _ _ c.requires.sound c.requires.may.0).shape.some
 
 pub put_end-requires-clause-few : goal.put_end-requires-clause-few
-put_end-requires-clause-few g c = (loan_there _ _ _ c.requires.sound c.requires.may.0).few
+put_end-requires-clause-few g c = (loan_there _ _ _ c.requires.sound c.requires.may.0).shape.few
 
 pub put_end-requires-clause-inside : goal.put_end-requires-clause-inside
-put_end-requires-clause-inside g c = (loan_there _ _ _ c.requires.sound c.requires.may.0).inside
+put_end-requires-clause-inside g c = (loan_there _ _ _ c.requires.sound c.requires.may.0).shape.inside
 
 pub put_end-requires-clause-last : goal.put_end-requires-clause-last
-put_end-requires-clause-last g c = (loan_there _ _ _ c.requires.sound c.requires.may.0).last_few
+put_end-requires-clause-last g c = (loan_there _ _ _ c.requires.sound c.requires.may.0).shape.last_few
 
 pub put_end-requires-clause-frames : goal.put_end-requires-clause-frames
 put_end-requires-clause-frames g c = frames_there _ _ _ c.requires.sound c.requires.may.0

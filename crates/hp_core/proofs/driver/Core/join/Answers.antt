@@ -25,7 +25,7 @@ put_in_queue-requires-clause-absent c =
     (absent c.args.self.now.world c.args.asked.unit c.put_in_slot-slot.result c.requires.sound c.requires.may.unit.unit c.put_in_slot-slot.ensures.inside c.put_in_slot-slot.ensures.free)
 
 pub put_in_queue-requires-clause-below : goal.put_in_queue-requires-clause-below
-put_in_queue-requires-clause-below c = rw c.put_in_slot-slot.ensures.state (first_below _ c.args.asked.first c.args.asked.count c.requires.may.below c.requires.may.is.some)
+put_in_queue-requires-clause-below c = rw c.put_in_slot-slot.ensures.state (first_below _ c.args.asked.first c.args.asked.count c.requires.may.below c.requires.may.is.shape.some)
 
 pub returns : goal.returns
 returns c =

@@ -6,7 +6,7 @@ use Rattle.mba_adapter.proofs.adapter.Adapter.load.Goals as goal
 
 -- the frames that are mapped are frames of the buffer
 room : (c : goal.After-to_bus) → c.args.skip + registers_used (bytes_between c.args.buffer.count c.args.buffer.last c.args.skip c.args.count) c.args.buffer.offset ≤ length c.args.buffer.frames
-room c = rw c.frames_of-frames.ensures.shape.enough (frames_enough c.args.count c.args.buffer.count c.args.buffer.last c.args.buffer.offset c.args.skip c.requires.some c.frames_of-frames.ensures.shape.last_some c.frames_of-frames.ensures.shape.last_few c.requires.inside)
+room c = rw c.frames_of-frames.ensures.shape.enough (frames_enough c.args.count c.args.buffer.count c.args.buffer.last c.args.buffer.offset c.args.skip c.requires.some c.frames_of-frames.ensures.shape.shape.last_some c.frames_of-frames.ensures.shape.shape.last_few c.requires.inside)
 
 mapped : (c : goal.After-to_bus)
     → c.map_of-self-inside.result ≡ registers_of 256 (frames_used c.args.buffer.frames c.args.buffer.offset c.args.skip (bytes_between c.args.buffer.count c.args.buffer.last c.args.skip c.args.count))
