@@ -57,10 +57,7 @@ pub(crate) fn table_that_fits<P: Packs>(
     ensures store { IsCounted ToolFault.Store (P.faults packs.old) (P.faults packs.new) result }
 {
     check_length(packs, unit, kind)?;
-    match table_of(packs, unit, kind)? {
-        Some(table) => Ok(table),
-        None => Err(ToolFault::NoTable),
-    }
+    table_of(packs, unit, kind)?.ok_or(ToolFault::NoTable)
 }
 
 /// Looks whether replacements `i` to `end - 1` are unmarked. Spare names the least that is marked.

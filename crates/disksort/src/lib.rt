@@ -103,9 +103,7 @@ impl SortQueue {
     pub fn head(&self) -> Option<Waiter>
         ensures { result ≡ slice_get self.now.waiting 0 }
     {
-        let Some(cylinder) = self.first.lowest() else {
-            return None;
-        };
+        let cylinder = self.first.lowest()?;
         let number = self.first.first(cylinder);
         Some(Waiter { number, cylinder })
     }
@@ -118,10 +116,7 @@ impl SortQueue {
         let behind = self.behind.as_slice();
         match self.first.nth(behind, i) {
             Ok(waiter) => Some(waiter),
-            Err(rest) => match self.second.nth(behind, rest) {
-                Ok(waiter) => Some(waiter),
-                Err(_) => None,
-            },
+            Err(rest) => self.second.nth(behind, rest).ok(),
         }
     }
 
@@ -130,9 +125,7 @@ impl SortQueue {
         ensures head { result ≡ slice_get self.old.waiting 0 }
         ensures rest { self.new ≡ record self.old { waiting = drop 1 self.old.waiting } }
     {
-        let Some(cylinder) = self.first.lowest() else {
-            return None;
-        };
+        let cylinder = self.first.lowest()?;
         let number = self.first.take_first(self.behind.as_slice(), cylinder);
         self.count -= 1;
         if self.first.is_empty() {

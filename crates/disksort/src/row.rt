@@ -1,5 +1,5 @@
 // A row of bits in words of 64: one bit for each cylinder.
-ghost use Rattle.std.specs.Prelude.{◌≡◌, ◌+◌, ◌*◌, ◌<◌, ◌≤◌, ◌==◌, ℕ, Bool, true, false, if◌then◌else◌, length, IfSome, IfNone};
+ghost use Rattle.std.specs.Prelude.{◌≡◌, ◌+◌, ◌*◌, ◌<◌, ◌≤◌, ◌==◌, ℕ, true, false, length, IfSome, IfNone};
 ghost use Rattle.disksort.specs.Buckets.{has_bit, with_bit};
 
 /// Whether a cylinder's bit is on.

@@ -1,8 +1,8 @@
 // One of the two runs of a queue, by buckets of cylinders.
-ghost use Rattle.std.specs.Prelude.{◌≡◌, ◌≢◌, ◌+◌, ◌<◌, ◌≤◌, ℕ, true, false, length, slice_get, slice_index, slice_set, IfOk, IfErr, IfSome, IfNone, Some};
+ghost use Rattle.std.specs.Prelude.{◌≡◌, ◌+◌, ◌<◌, ◌≤◌, ℕ, true, false, length, slice_get, slice_index, IfOk, IfErr, IfSome, IfNone, Some};
 ghost use Rattle.std.specs.List.{AllByRecursion};
 ghost use Rattle.disksort.specs.Runs.{seen};
-ghost use Rattle.disksort.specs.Buckets.{RunView, IsRun, IsLinked, IsLowest, chain, bucket, spelled, with_bit, appended, behind_appended, without_first};
+ghost use Rattle.disksort.specs.Buckets.{IsRun, IsLinked, IsLowest, chain, bucket, spelled, appended, behind_appended, without_first};
 
 use crate::Waiter;
 use crate::row::{clear_bit, is_on, lowest, set_bit};

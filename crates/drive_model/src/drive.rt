@@ -1,11 +1,11 @@
 // A drive: its registers, the functions that it does, and the events that change it.
-ghost use Rattle.std.specs.Prelude.{◌≡◌, ◌≤◌, ◌<◌, ◌+◌, ◌^◌, true, false, IsTrue, bit_or, bit_and};
+ghost use Rattle.std.specs.Prelude.{◌≡◌, ◌≤◌, ◌<◌, ◌+◌, ◌^◌, true, false, IsTrue};
 ghost use Rattle.pack_geometry.specs.Geometry.{sectors_of};
 ghost use Rattle.hardware_table.specs.Drive.{new_drive, register_of, is_writable, with_register, is_ready, is_positioning, is_transferring, status, on, type_word};
 ghost use Rattle.hardware_table.specs.Functions.{is_addressed, refusals, effect, performed, needs_online};
 ghost use Rattle.drive_registers.specs.declared.Function.TheVariants.{Clear, Preset};
 ghost use Rattle.hardware_table.specs.declared.Work.TheVariants.{Positioning};
-ghost use Rattle.hardware_table.specs.Events.{arrived, attention_cleared, transfer_ended, turned, online_set, locked_set, times_armed, fault_armed, look_ahead};
+ghost use Rattle.hardware_table.specs.Events.{arrived, attention_cleared, transfer_ended, turned, online_set, locked_set, times_armed, fault_armed};
 
 mod moves;
 

@@ -181,10 +181,8 @@ pub(crate) fn strike(entries: &mut Vec<Entry>, unit: u8, block: u32, word: u16) 
     ensures len { vec_len entries.new ≤ vec_len entries.old }
     ensures capacity { vec_capacity entries.old ≤ vec_capacity entries.new }
 {
-    match first_at(entries.as_slice(), unit, block) {
-        None => None,
-        Some(i) => Some(use_at(entries, i, word)),
-    }
+    let i = first_at(entries.as_slice(), unit, block)?;
+    Some(use_at(entries, i, word))
 }
 
 // The noise of an entry, in a read with this word in the offset register: none where that ends it.

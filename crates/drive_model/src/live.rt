@@ -36,10 +36,8 @@ fn reserve<T: Drop>(alloc: Global, capacity: u32) -> Result<Vec<T>, NoMemory>
     ensures empty { IfOk result (λ v. v.items ≡ []) }
     ensures room { IfOk result (λ v. capacity ≤ vec_capacity v) }
 {
-    match Vec::with_capacity(alloc, capacity as usize) {
-        Ok(v) => Ok(v),
-        Err(_) => Err(NoMemory),
-    }
+    let room = Vec::with_capacity(alloc, capacity as usize)?;
+    Ok(room)
 }
 
 impl Live {
@@ -85,9 +83,7 @@ impl Live {
         ensures noise { result ≡ strikes unit block of self.old.live }
         ensures book { self.new ≡ book_struck unit block of self.old }
     {
-        match strike(&mut self.entries, unit, block, of) {
-            None => None,
-            Some(entry) => noise_in(self.noises.as_slice(), entry, of),
-        }
+        let entry = strike(&mut self.entries, unit, block, of)?;
+        noise_in(self.noises.as_slice(), entry, of)
     }
 }

@@ -12,7 +12,7 @@ use Rattle.driver_machine.specs.Acts.{Act, after}
 use Rattle.driver_machine.specs.Lines.{lines_of, lines_of_all}
 use Rattle.driver_machine.specs.Guards.{Allowed}
 use Rattle.driver_outcome.specs.Packs.{Reads, packs_after}
-use Rattle.driver_outcome.specs.Outcome.{Site, Acts, Does, IsFront, StopsAtTrace, Outcome, text_after, stop_in}
+use Rattle.driver_outcome.specs.Outcome.{Site, Acts, IsFront, Outcome, text_after, stop_in}
 use Rattle.driver_outcome.specs.Outcome as outcome
 use Rattle.driver_outcome.proofs.Joined.{front_same}
 use Rattle.driver_outcome.specs.declared.Stop.{Stop}

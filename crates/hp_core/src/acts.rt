@@ -1,6 +1,4 @@
 // The deeds that change a drive.
-ghost use Rattle.std.specs.Prelude.{◌≡◌};
-ghost use Rattle.driver_machine.specs.World.{unit_at};
 ghost use Rattle.driver_machine.specs.Acts.{Of, Arrive, Attn, Search, Do, Pack, Dclr, Rtc};
 ghost use Rattle.driver_machine.specs.Guards.{Allowed};
 ghost use Rattle.driver_machine.specs.Sound.{Sound};

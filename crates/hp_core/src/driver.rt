@@ -82,10 +82,7 @@ pub(crate) fn needed(count: u32, offset: u32, last: u32) -> u32
 fn sent(put: Result<(), SinkFailed>) -> Result<(), Stop>
     ensures { MatchResult put (λ x. result ≡ Ok x) (λ _. result ≡ Err stop.Sink) }
 {
-    match put {
-        Ok(()) => Ok(()),
-        Err(_) => Err(Stop::Sink),
-    }
+    put.map_err(|_| Stop::Sink)
 }
 
 impl Core {

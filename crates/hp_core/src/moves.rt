@@ -1,5 +1,4 @@
 // The deeds at the adapter and in the buffer of a request, and the tries that failed.
-ghost use Rattle.std.specs.Prelude.{◌≡◌};
 ghost use Rattle.driver_machine.specs.World.{unit_at, adapter_at, adapter_of, transfer_of};
 ghost use Rattle.driver_machine.specs.Acts.{Of, Intr, Move};
 ghost use Rattle.driver_machine.specs.Due.{try_of};

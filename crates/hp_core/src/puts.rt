@@ -1,5 +1,5 @@
 // What each act changes, by itself.
-ghost use Rattle.std.specs.Prelude.{◌≡◌, ℕ, ◌<◌, ◌≤◌, ◌+◌, ◌∷◌, ◌++◌, [], length, drop, true, false, IsSome, Some, slice_set};
+ghost use Rattle.std.specs.Prelude.{◌≡◌, ℕ, ◌<◌, ◌≤◌, ◌+◌, length, true, false, IsSome, Some, slice_set};
 ghost use Rattle.pack_geometry.specs.Geometry.{block_count};
 ghost use Rattle.drive_registers.specs.declared.Function.TheVariants.{Pack as PackFunction, Clear as ClearFunction};
 ghost use Rattle.hardware_table.specs.Drive.{is_ready};

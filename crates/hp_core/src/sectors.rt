@@ -93,9 +93,9 @@ impl Core {
         let slot = self.hand(u);
         let id = self.asked(slot).id;
         let block = self.next_block(u);
-        match self.put_sector(u, slot, packs) {
-            Ok(verdict) => self.tell_sector(line, u, id, block, verdict, trace),
-            Err(_) => Err(Stop::Store),
-        }
+        let Ok(verdict) = self.put_sector(u, slot, packs) else {
+            return Err(Stop::Store);
+        };
+        self.tell_sector(line, u, id, block, verdict, trace)
     }
 }

@@ -1,5 +1,5 @@
 // The driver at its start.
-ghost use Rattle.std.specs.Prelude.{◌≡◌, ◌<◌, ◌≤◌, ◌+◌, [], List, Contains, length, min, replicate, IfOk, None};
+ghost use Rattle.std.specs.Prelude.{◌≡◌, ◌<◌, ◌≤◌, ◌+◌, [], Contains, min, replicate, IfOk, None};
 ghost use Rattle.hardware_table.specs.Noise.{empty_book};
 ghost use Rattle.driver_machine.specs.World.{Setup, no_unit, new_unit, new_adapter_view, set_up, new_world};
 ghost use Rattle.driver_slots.specs.Parts.{AreSetups};
@@ -29,10 +29,7 @@ pub struct UnitSetup {
 fn copy_of(table: &Option<BadTable>) -> Option<BadTable>
     ensures { result ≡ table.now }
 {
-    match table {
-        Some(table) => Some(table.copy()),
-        None => None,
-    }
+    table.as_ref().map(BadTable::copy)
 }
 
 /// A unit as its setup says.
@@ -60,10 +57,7 @@ fn units_of(alloc: Global, setups: &[UnitSetup]) -> Result<UnitBank, NoMemory>
 fn free_channels(alloc: Global) -> Result<Vec<Channel>, NoMemory>
     ensures { IfOk result (λ v. v.items ≡ replicate 4 new_adapter_view) }
 {
-    let mut channels = match Vec::with_capacity(alloc, 4) {
-        Ok(channels) => channels,
-        Err(_) => return Err(NoMemory),
-    };
+    let mut channels = Vec::with_capacity(alloc, 4)?;
     for _ in 0..4u32 {
         channels.push_reserved(Channel::new());
     }

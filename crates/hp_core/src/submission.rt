@@ -1,5 +1,5 @@
 // A request joins, and an answer is taken.
-ghost use Rattle.std.specs.Prelude.{◌≡◌, ◌≢◌, ◌≤◌, ◌<◌, ◌+◌, ◌-◌, ◌*◌, ◌∷◌, ℕ, [], true, false, All, None, Some, IsSome, Option, drop, if◌then◌else◌, length, slice_set};
+ghost use Rattle.std.specs.Prelude.{◌≡◌, ◌≢◌, ◌≤◌, ◌<◌, ◌+◌, ◌-◌, ◌∷◌, ℕ, true, false, All, None, Some, IsSome, Option, drop, length, slice_set};
 ghost use Rattle.std.specs.Option.{option_map_or};
 ghost use Rattle.pack_geometry.specs.Geometry.{block_count};
 ghost use Rattle.main_memory.specs.Frames.{frames_needed};

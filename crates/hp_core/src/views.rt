@@ -1,5 +1,5 @@
 // What can be seen of the driver.
-ghost use Rattle.std.specs.Prelude.{◌≡◌, ℕ, ◌<◌, ◌+◌, ◌/◌, ◌∷◌, ◌==◌, ◌&&◌, [], drop, not, length, true, false, None, Some, IsSome, IfSome, IfNone, if◌then◌else◌};
+ghost use Rattle.std.specs.Prelude.{◌≡◌, ◌<◌, ◌+◌, ◌/◌, ◌∷◌, ◌==◌, ◌&&◌, [], drop, not, length, true, false, Some, IsSome, IfSome, IfNone, if◌then◌else◌};
 ghost use Rattle.pack_geometry.specs.Geometry.{cylinders_of, sectors_of, IsInside};
 ghost use Rattle.main_memory.specs.Bytes.{filled, IsFill};
 ghost use Rattle.drive_registers.specs.Codes.{offset_field};

@@ -105,9 +105,7 @@ pub(crate) fn step_in(
         ≡ step ∷ drop (taken + 1) (steps_of (unwrap_or (option_map state_of transfer.now) no_transfer))) }
     ensures none { IfNone result (drop taken (steps_of (unwrap_or (option_map state_of transfer.now) no_transfer)) ≡ []) }
 {
-    let Some(transfer) = transfer else {
-        return None;
-    };
+    let transfer = transfer.as_ref()?;
     let cylinder = cylinder_of(transfer, kind);
     let step = step_behind(transfer.failures(), !write);
     step_at(cylinder, step, taken)
@@ -159,10 +157,7 @@ fn listed_at(table: &Option<BadTable>, kind: DriveKind, block: u32) -> Option<u8
     requires { block < block_count kind }
     ensures { result ≡ index_in table.now (place_at kind block) }
 {
-    match table {
-        Some(table) => position(table, place_of(kind, block)),
-        None => None,
-    }
+    position(table.as_ref()?, place_of(kind, block))
 }
 
 /// The transfer at the replacement of an entry.

@@ -130,10 +130,8 @@ impl DiskUnit {
         ensures some { IfSome result (λ p. 0 < length self.now.queue) }
         ensures none { IfNone result (self.now.queue ≡ []) }
     {
-        match self.queue.head() {
-            Some(waiter) => Some(waiter.number),
-            None => None,
-        }
+        let waiter = self.queue.head()?;
+        Some(waiter.number)
     }
 
     /// How many requests wait at the unit, with the one in hand.

@@ -1,5 +1,5 @@
 // Buffers: frames that memory lent, as moved values.
-ghost use Rattle.std.specs.Prelude.{◌≡◌, ◌<◌, length};
+ghost use Rattle.std.specs.Prelude.{◌≡◌, ◌<◌};
 ghost use Rattle.main_memory.specs.Blocks.{IsLoan, size_at, span_of};
 
 use crate::span::Span;

@@ -1,5 +1,5 @@
 // The memory itself: frames lent and given back, and blocks stored and fetched.
-ghost use Rattle.std.specs.Prelude.{◌≡◌, ◌≤◌, ◌<◌, ◌+◌, ◌↔◌, IfOk, OnOk, IfErr, OnErr, IsErr, IsSomeAnd, IfSome, slice_get, slice_index, length, take, drop, slice_set, List, ℕ};
+ghost use Rattle.std.specs.Prelude.{◌≡◌, ◌≤◌, ◌<◌, ◌+◌, ◌↔◌, IfOk, OnOk, IfErr, OnErr, IsErr, IsSomeAnd, IfSome, slice_get, slice_index, length, take, drop, slice_set};
 ghost use Rattle.main_memory.specs.Frames.{all_frames, frames_needed, with_frames};
 ghost use Rattle.main_memory.specs.Bytes.{front, filled, IsFill};
 ghost use Rattle.main_memory.specs.Blocks.{Loan, IsShape, IsLoan, IsSpan, size_at, span_of, bytes_in};
@@ -52,10 +52,7 @@ impl MainMemory {
         ensures every { IfOk result (λ memory. length memory.free ≡ 16384) }
         ensures sound { IfOk result IsMemory }
     {
-        let bytes = match Frames::new(alloc) {
-            Ok(bytes) => bytes,
-            Err(_) => return Err(NoMemory),
-        };
+        let bytes = Frames::new(alloc)?;
         Ok(MainMemory {
             bytes,
             free_words: all_free(),

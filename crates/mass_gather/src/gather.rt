@@ -129,10 +129,8 @@ impl Gather {
         ensures { Gathers T.tells T.taken T.faults sink.old sink.new self.old self.new result text.now }
     {
         if text.len() > ROOM - self.filled {
-            match self.flush(sink) {
-                Ok(()) => self.put_first(text, sink),
-                Err(failed) => Err(failed),
-            }
+            self.flush(sink)?;
+            self.put_first(text, sink)
         } else {
             self.keep(text);
             Ok(())

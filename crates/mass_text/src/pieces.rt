@@ -42,9 +42,7 @@ fn first_piece(text: &[u8]) -> Option<(&[u8], &[u8])>
     ensures none { IfNone result (pieces text.now ≡ []) }
     ensures first { IfSome result (λ parts. pieces text.now ≡ parts.0.now ∷ pieces parts.1.now) }
 {
-    let Some(start) = first_other(text) else {
-        return None;
-    };
+    let start = first_other(text)?;
     let text = &text[start..];
     let len = first_blank(text).unwrap_or(text.len());
     Some((&text[..len], &text[len..]))

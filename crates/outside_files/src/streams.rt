@@ -1,4 +1,4 @@
-ghost use Rattle.std.specs.Prelude.{◌≡◌, ◌<◌, ◌≤◌, ◌++◌, ℕ, IsTrue, true, false, [], is_some, take, length, IfOk, OnErr, is_err, Ok};
+ghost use Rattle.std.specs.Prelude.{◌≡◌, ◌<◌, ◌≤◌, ◌++◌, IsTrue, true, false, [], is_some, take, length, IfOk, OnErr, is_err, Ok};
 ghost use Rattle.std.specs.Io.KnownBytes.{ReadConsumes, WriteAppends};
 ghost use Rattle.outside_traits.specs.Causes.{HasCause, Counts, HandsOn};
 ghost use Rattle.outside_files.specs.Answers.{takes_nothing, bytes_in};
@@ -30,15 +30,11 @@ pub(crate) fn some_taken(answer: io::Result<usize>, size: usize) -> io::Result<u
     ensures exact { is_err result ≡ takes_nothing answer size }
     ensures count { IfOk result (λ n. answer ≡ Ok n) }
 {
-    match answer {
-        Ok(count) => {
-            if count == 0 && size > 0 {
-                return Err(io::Error::from(ErrorKind::WriteZero));
-            }
-            Ok(count)
-        }
-        Err(error) => Err(error),
+    let count = answer?;
+    if count == 0 && size > 0 {
+        return Err(io::Error::from(ErrorKind::WriteZero));
     }
+    Ok(count)
 }
 
 /// A reader of std as a source, which gives just what the reader gives. Each of the reader's errors counts as a fault. It tells

@@ -14,10 +14,8 @@ const MOST_CALLS: u64 = u64::MAX;
 fn behind(at: u64, count: usize) -> io::Result<u64>
     ensures { IfOk result (λ place. place ≡ at + count) }
 {
-    match at.checked_add(count as u64) {
-        Some(place) => Ok(place),
-        None => Err(io::Error::from(ErrorKind::InvalidInput)),
-    }
+    at.checked_add(count as u64)
+        .ok_or(io::Error::from(ErrorKind::InvalidInput))
 }
 
 /// Whether an answer of no count is that of a call that was interrupted, and is to be made again.

@@ -1,5 +1,5 @@
 //! The first reading of all blocks.
-ghost use Rattle.std.specs.Prelude.{◌≡◌, ◌<◌, ◌≤◌, ◌+◌, ℕ, true, IsTrue, IfErr, IfOk, OnErr, OnOk, [], length};
+ghost use Rattle.std.specs.Prelude.{◌≡◌, ◌<◌, ◌≤◌, ◌+◌, ℕ, true, IsTrue, IfErr, IfOk, OnOk};
 ghost use Rattle.outside_traits.specs.Causes.{HasCause};
 ghost use Rattle.pack_geometry.specs.Geometry.{block_count, limit_of, replacement_at};
 ghost use Rattle.pack_model.specs.Pack.{Pack, is_marked};
@@ -121,11 +121,7 @@ fn read_data<P: Packs>(
 fn or_this(first: Option<u8>, i: u8, marked: bool) -> Option<u8>
     ensures { (kind : DriveKind) → (pack : Pack) → IsFirst kind pack i first → marked ≡ is_marked pack (replacement_at kind i) → IsFirst kind pack (i + 1) result }
 {
-    match first {
-        Some(before) => Some(before),
-        None if marked => Some(i),
-        None => None,
-    }
+    if marked { first.or(Some(i)) } else { first }
 }
 
 /// Reads the replacements; gives the first that is marked.

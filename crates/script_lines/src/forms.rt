@@ -287,23 +287,17 @@ fn whole(known: &Known, verb: Verb, span: Span, fields: &mut Fields) -> Result<R
     requires { verb ≢ Verb.Noise }
     ensures { result ≡ changed (read_of span) (whole (form_of (known_in known.now) verb) fields.old) }
 {
-    match form(known, verb, span, fields) {
-        Ok(read) => ended(read, fields),
-        Err(kind) => Err(kind),
-    }
+    let read = form(known, verb, span, fields)?;
+    ended(read, fields)
 }
 
 /// What all the fields behind the word of a noise say.
 fn whole_noise(known: &Known, fields: &mut Fields) -> Result<Struck, ScriptKind>
     ensures { changed struck_as result ≡ whole (noise_form (known_in known.now)) fields.old }
 {
-    match noise_line(known, fields) {
-        Ok(struck) => match end(fields) {
-            Ok(()) => Ok(struck),
-            Err(kind) => Err(kind),
-        },
-        Err(kind) => Err(kind),
-    }
+    let struck = noise_line(known, fields)?;
+    end(fields)?;
+    Ok(struck)
 }
 
 /// A noise whose places are put where they stay.
@@ -316,35 +310,28 @@ fn held(alloc: Global, struck: Struck) -> Result<Read, LineFault>
         span,
         places,
     } = struck;
-    match Held::new(alloc, places) {
-        Ok(places) => Ok(Statement::Noise {
-            unit,
-            block,
-            span,
-            places,
-        }),
-        Err(_) => Err(LineFault::Memory),
-    }
+    let places = Held::new(alloc, places).map_err(|_| LineFault::Memory)?;
+    Ok(Statement::Noise {
+        unit,
+        block,
+        span,
+        places,
+    })
 }
 
 /// What all the fields behind the word of a noise say, with its places where they stay.
 fn noise(alloc: Global, known: &Known, fields: &mut Fields) -> Result<Read, LineFault>
     ensures { (span : Span) → Answers result (changed (read_of span) (whole (noise_form (known_in known.now)) fields.old)) }
 {
-    match whole_noise(known, fields) {
-        Ok(struck) => held(alloc, struck),
-        Err(kind) => Err(LineFault::Kind(kind)),
-    }
+    let struck = whole_noise(known, fields).map_err(LineFault::Kind)?;
+    held(alloc, struck)
 }
 
 /// What was read, where memory is not needed.
 fn plain(read: Result<Read, ScriptKind>) -> Result<Read, LineFault>
     ensures { Answers result read }
 {
-    match read {
-        Ok(read) => Ok(read),
-        Err(kind) => Err(LineFault::Kind(kind)),
-    }
+    read.map_err(LineFault::Kind)
 }
 
 /// What all the fields behind any word say.

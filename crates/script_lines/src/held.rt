@@ -25,10 +25,8 @@ impl Held {
     pub fn new(alloc: Global, noise: Noise) -> Result<Held, AllocFailed<Noise>>
         ensures { IfOk result (λ held. held ≡ noise) }
     {
-        match Box::new(alloc, noise) {
-            Ok(noise) => Ok(Held { noise }),
-            Err(failed) => Err(failed),
-        }
+        let noise = Box::new(alloc, noise)?;
+        Ok(Held { noise })
     }
 
     /// The noise that is there.

@@ -32,10 +32,8 @@ pub struct Known {
 fn unit_number(field: &[u8]) -> Result<u8, ScriptKind>
     ensures { result ≡ number_field 0 31 field.now }
 {
-    match number_field(field, 0, 31) {
-        Ok(unit) => Ok(unit as u8),
-        Err(kind) => Err(kind),
-    }
+    let unit = number_field(field, 0, 31)?;
+    Ok(unit as u8)
 }
 
 impl Known {
@@ -99,10 +97,8 @@ impl Known {
         ensures { result ≡ unit_field (known_in self.now) field.now }
     {
         let unit = unit_number(field)?;
-        match self.kind(unit) {
-            Some(kind) => Ok((unit, kind)),
-            None => Err(ScriptKind::UnitUnknown),
-        }
+        let kind = self.kind(unit).ok_or(ScriptKind::UnitUnknown)?;
+        Ok((unit, kind))
     }
 
     /// Whether an id was used.
@@ -155,10 +151,8 @@ impl Known {
             self.next = number + 1;
             return Ok(());
         }
-        match self.ids.insert(id) {
-            Ok(_) => Ok(()),
-            Err(failed) => Err(failed),
-        }
+        self.ids.insert(id)?;
+        Ok(())
     }
 
     /// Takes an id in, and that a request came.

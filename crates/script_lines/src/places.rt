@@ -6,7 +6,7 @@ ghost use Rattle.script_lines.specs.Forms.{noise_or, places_form, Parses};
 use arrayvec::ArrayVec;
 use fire_code::Noise;
 use mass_text::Fields;
-use script_words::{ScriptKind, place_field};
+use script_words::{ScriptKind, need, place_field};
 
 /// The places of a noise from its first one on.
 fn places_from(first: u16, fields: &mut Fields) -> Result<Noise, ScriptKind>
@@ -16,15 +16,11 @@ fn places_from(first: u16, fields: &mut Fields) -> Result<Noise, ScriptKind>
     let mut places: ArrayVec<u16, 64> = ArrayVec::new();
     places.push(first);
     'places: while let Some(field) = fields.next() {
-        match place_field(field) {
-            Ok(place) => {
-                if places.is_full() {
-                    return Err(ScriptKind::Bits);
-                }
-                places.push(place);
-            }
-            Err(kind) => return Err(kind),
+        let place = place_field(field)?;
+        if places.is_full() {
+            return Err(ScriptKind::Bits);
         }
+        places.push(place);
     }
     match Noise::new(places.as_slice()) {
         Some(noise) => Ok(noise),
@@ -36,11 +32,7 @@ fn places_from(first: u16, fields: &mut Fields) -> Result<Noise, ScriptKind>
 pub fn places(fields: &mut Fields) -> Result<Noise, ScriptKind>
     ensures { Parses places_form fields.old result fields.new }
 {
-    match fields.next() {
-        None => Err(ScriptKind::Word),
-        Some(text) => match place_field(text) {
-            Ok(first) => places_from(first, fields),
-            Err(kind) => Err(kind),
-        },
-    }
+    let text = need(fields)?;
+    let first = place_field(text)?;
+    places_from(first, fields)
 }

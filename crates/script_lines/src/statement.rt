@@ -1,4 +1,3 @@
-use drive_registers::OffsetCode;
 use hardware_table::{FaultKind, NoiseSpan};
 use pack_geometry::DriveKind;
 use partitions::Part;

@@ -43,10 +43,8 @@ pub type Stored = Line<Span, Box<Noise>>;
 fn some_read(read: Result<Read, LineFault>) -> Result<Option<Read>, LineFault>
     ensures { result ≡ and_then read (λ r. Ok (Some r)) }
 {
-    match read {
-        Ok(read) => Ok(Some(read)),
-        Err(kind) => Err(kind),
-    }
+    let read = read?;
+    Ok(Some(read))
 }
 
 /// What fields say, on the line at `span` of the text; None where there is none.
@@ -58,13 +56,11 @@ fn entry(
 ) -> Result<Option<Read>, LineFault>
     ensures { Answers result (changed (option_map (read_of span)) (entry all_verbs (known_in known.now) fields.old)) }
 {
-    match fields.next() {
-        None => Ok(None),
-        Some(word) => match verb(word) {
-            Ok(verb) => some_read(said(alloc, known, verb, span, fields)),
-            Err(kind) => Err(LineFault::Kind(kind)),
-        },
-    }
+    let Some(word) = fields.next() else {
+        return Ok(None);
+    };
+    let verb = verb(word).map_err(LineFault::Kind)?;
+    some_read(said(alloc, known, verb, span, fields))
 }
 
 /// What line number `number` says, at `span` of the text; None where it is passed over.
@@ -239,14 +235,12 @@ pub fn read_script(alloc: Global, bytes: Vec<u8>) -> Result<Script, ReadFault>
             kind: ScriptKind::ScriptLong,
         });
     }
-    match read_lines(alloc, bytes.as_slice()) {
-        Ok(read) => Ok(Script {
-            text: bytes,
-            lines: read.lines,
-            count: read.next - 1,
-        }),
-        Err(fault) => Err(fault),
-    }
+    let read = read_lines(alloc, bytes.as_slice())?;
+    Ok(Script {
+        text: bytes,
+        lines: read.lines,
+        count: read.next - 1,
+    })
 }
 
 impl Script {

@@ -1,6 +1,7 @@
 -- Words and the things that they name.
-use Rattle.std.proofs.Common.{◌≡◌, ◌≢◌, ℕ, Bool, true, false, List, [], ◌∷◌, length, get_or, refl, ap, ◌∙◌, arith, None, Some, Ok, Err}
-use Rattle.std.specs.Prelude.{cond}
+use Rattle.std.proofs.Common.{◌≡◌, ◌≢◌, ℕ, Bool, true, false, List, [], ◌∷◌, length, get_or, refl, ap, sym, ◌∙◌, arith, None, Some, Ok, Err}
+use Rattle.std.specs.Prelude.{◌↔◌, cond, Option}
+use Rattle.std.specs.Option.{ok_or}
 use Rattle.std.specs.Str.{bytes_eq}
 use Rattle.std.proofs.lemmas.Slice.Eq.{bytes_eq-Decides}
 use Rattle.pack_geometry.specs.declared.DriveKind.{DriveKind}
@@ -11,7 +12,7 @@ use Rattle.partitions.specs.declared.Part.TheVariants.{A, B, C, D, E, F, G, H}
 use Rattle.partitions.specs.Partitions.{letter_of}
 use Rattle.script_words.specs.declared.kinds.ScriptKind.TheVariants.{Word}
 use Rattle.script_words.specs.Fields.{some_or, kind_field, part_field}
-use Rattle.script_words.specs.Words.{named, kinds, part_word}
+use Rattle.script_words.specs.Words.{named, kinds, parts, part_word}
 
 not_true : (b : Bool) → (b ≡ true → ⊥) → b ≡ false
 not_true true no_one = absurd (no_one refl)
@@ -35,6 +36,10 @@ kind_named text kind e = ap kind_field e ∙ kind_of_word kind
 pub no_kind : (text : List ℕ) → ((kind : DriveKind) → text ≢ kind_word kind) → kind_field text ≡ Err Word
 no_kind text none = ap (some_or Word) (none_named kind_word kinds text none)
 
+pub kind_or : (text : List ℕ) (found : Option DriveKind) → ((kind : DriveKind) → (found ≡ Some kind) ↔ (text ≡ kind_word kind)) → ok_or found Word ≡ kind_field text
+kind_or text (Some kind) named = sym (kind_named text kind ((named kind).0 refl))
+kind_or text None named = sym (no_kind text (λ kind e. let no : ◌≡◌ {A = Option DriveKind} None (Some kind) = (named kind).1 e in grind arith))
+
 pub part_of_word : (part : Part) → part_field (part_word part) ≡ Ok part
 part_of_word A = refl
 part_of_word B = refl
@@ -52,3 +57,8 @@ single (x ∷ y ∷ ys) e = absurd (omega (arith, e))
 
 pub part_named : (text : List ℕ) (part : Part) → length text ≡ 1 → get_or text 0 0 ≡ letter_of part → part_field text ≡ Ok part
 part_named text part one e = ap part_field (single text one ∙ ap (λ (b : ℕ). b ∷ []) e) ∙ part_of_word part
+
+pub part_or : (text : List ℕ) (found : Option Part) → length text ≡ 1 → ((part : Part) → (found ≡ Some part) ↔ (get_or text 0 0 ≡ letter_of part)) → ok_or found Word ≡ part_field text
+part_or text (Some part) one named = sym (part_named text part one ((named part).0 refl))
+part_or text None one named = sym (ap (some_or Word) (none_named part_word parts text (λ part e.
+    let no : ◌≡◌ {A = Option Part} None (Some part) = (named part).1 (ap (λ (bytes : List ℕ). get_or bytes 0 0) e) in grind arith)))

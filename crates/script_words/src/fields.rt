@@ -11,10 +11,7 @@ use mass_text::{Fields, NumberFault, Radix, number};
 pub fn need<'a>(fields: &mut Fields<'a>) -> Result<&'a [u8], ScriptKind>
     ensures { MatchResult result (λ text. fields.old ≡ text.now ∷ fields.new) (λ kind. (fields.old ≡ []) × (kind ≡ ScriptKind.Word)) }
 {
-    match fields.next() {
-        Some(text) => Ok(text),
-        None => Err(ScriptKind::Word),
-    }
+    fields.next().ok_or(ScriptKind::Word)
 }
 
 /// A decimal number from `low` to `high`.
@@ -53,10 +50,8 @@ pub fn byte_field(field: &[u8]) -> Result<u8, ScriptKind>
 pub fn seq_field(field: &[u8]) -> Result<u8, ScriptKind>
     ensures { result ≡ seq_field field.now }
 {
-    match number(field, Radix::Decimal, 255) {
-        Ok(value) => Ok(value as u8),
-        Err(_) => Err(ScriptKind::Data),
-    }
+    let value = number(field, Radix::Decimal, 255).map_err(|_| ScriptKind::Data)?;
+    Ok(value as u8)
 }
 
 /// Whether a byte is a hexadecimal digit, of either case.
@@ -92,8 +87,6 @@ pub fn place_field(field: &[u8]) -> Result<u16, ScriptKind>
     ensures value { result ≡ place_field field.now }
     ensures bound { IfOk result (λ place. place ≤ 4127) }
 {
-    match number(field, Radix::Decimal, 4127) {
-        Ok(place) => Ok(place as u16),
-        Err(_) => Err(ScriptKind::Bits),
-    }
+    let place = number(field, Radix::Decimal, 4127).map_err(|_| ScriptKind::Bits)?;
+    Ok(place as u16)
 }

@@ -58,10 +58,7 @@ pub fn verb(word: &[u8]) -> Result<Verb, ScriptKind>
 pub fn kind_field(word: &[u8]) -> Result<DriveKind, ScriptKind>
     ensures { result ≡ kind_field word.now }
 {
-    match kind_of(word) {
-        Some(kind) => Ok(kind),
-        None => Err(ScriptKind::Word),
-    }
+    kind_of(word).ok_or(ScriptKind::Word)
 }
 
 /// A partition's letter.
@@ -71,10 +68,7 @@ pub fn part_field(word: &[u8]) -> Result<Part, ScriptKind>
     if word.len() != 1 {
         return Err(ScriptKind::Word);
     }
-    match part_of(word[0]) {
-        Some(part) => Ok(part),
-        None => Err(ScriptKind::Word),
-    }
+    part_of(word[0]).ok_or(ScriptKind::Word)
 }
 
 /// The offset of the heads that a word names.

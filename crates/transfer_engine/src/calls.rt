@@ -1,9 +1,9 @@
 //! What each end of a segment makes of a transfer.
-ghost use Rattle.std.specs.Prelude.{◌≡◌, ◌≢◌, ℕ, ◌<◌, ◌≤◌, ◌+◌, ◌^◌, ◌↔◌, IfOk, IfErr, IfSome, IsErr, Option};
+ghost use Rattle.std.specs.Prelude.{◌≡◌, ◌≢◌, ◌<◌, ◌≤◌, ◌+◌, ◌↔◌, IfOk, IfErr, IfSome, IsErr, Option};
 ghost use Rattle.std.specs.Option.{option_copied};
 ghost use Rattle.pack_model.specs.Homes.{index_in};
 ghost use Rattle.retry_offsets.specs.declared.Step.TheVariants.{GiveUp};
-ghost use Rattle.transfer_engine.specs.State.{TransferState, IsJob, IsTransfer, begun, seen_as, segment_of, moved_on, failures_after, failed};
+ghost use Rattle.transfer_engine.specs.State.{TransferState, IsJob, IsTransfer, begun, seen_as, segment_of, failures_after, failed};
 ghost use Rattle.transfer_engine.specs.Calls.{state_of, with_state, next_at, after_done, after_corrected, entry_for, after_bad_sector, step_for};
 
 use crate::job::{Job, Segment};
@@ -121,17 +121,15 @@ impl Transfer {
         let entry = self.entry(clean, table);
         let (Progress { job, done, .. }, _) = self.parts();
         let done = done + clean;
-        match entry {
-            None => Err(Unforwarded { done }),
-            Some(index) => Ok(Forwarded {
-                progress: Progress {
-                    job,
-                    done,
-                    failures: 0,
-                },
-                index,
-            }),
-        }
+        let index = entry.ok_or(Unforwarded { done })?;
+        Ok(Forwarded {
+            progress: Progress {
+                job,
+                done,
+                failures: 0,
+            },
+            index,
+        })
     }
 
     /// The try at the sector behind `clean` others failed. The same sector is tried again after a step: a replacement

@@ -33,10 +33,7 @@ impl Model for UnitBank {
 fn blank_units(alloc: Global) -> Result<Vec<DiskUnit>, NoMemory>
     ensures { IfOk result (λ v. v.items ≡ replicate 32 no_unit) }
 {
-    let mut units = match Vec::with_capacity(alloc, 32) {
-        Ok(units) => units,
-        Err(_) => return Err(NoMemory),
-    };
+    let mut units = Vec::with_capacity(alloc, 32)?;
     for _ in 0..32u32 {
         let unit = DiskUnit::blank(alloc)?;
         units.push_reserved(unit);

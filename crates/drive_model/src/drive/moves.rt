@@ -89,10 +89,7 @@ impl Drive {
         if !self.online {
             return Some(Moved::Offline);
         }
-        match first_armed(self.armed) {
-            Some(kind) => Some(Moved::Faulted(kind)),
-            None => None,
-        }
+        first_armed(self.armed).map(Moved::Faulted)
     }
 
     // The heads have passed a block.

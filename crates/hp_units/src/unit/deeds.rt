@@ -220,9 +220,7 @@ impl DiskUnit {
         ensures some { IfSome result (λ i. self.new ≡ with_transfer (Some (forwarded moved i (transfer_of self.old))) task.Command self.old) }
         ensures none { IfNone result (self.new ≡ self.old) }
     {
-        let Some(index) = self.entry(moved) else {
-            return None;
-        };
+        let index = self.entry(moved)?;
         let Some(transfer) = self.transfer.take() else {
             unreachable!();
         };

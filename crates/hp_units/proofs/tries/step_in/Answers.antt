@@ -8,7 +8,7 @@ use Rattle.hp_units.proofs.tries.step_in.Goals as goal
 
 pub returns-clause-some : goal.returns-clause-some
 returns-clause-some c =
-    let read : c.step_at.result ≡ slice_get (steps_of (state_of c.in-Some.transfer)) c.args.taken = search rules in
+    let read : c.step_at.result ≡ slice_get (steps_of (state_of c.in_ok-transfer.transfer.now)) c.args.taken = search rules in
     subst (λ o. IfSome c.step_at.result (λ step. drop c.args.taken (steps_of (unwrap_or (option_map state_of o) no_transfer))
-    ≡ step ∷ drop (c.args.taken + 1) (steps_of (unwrap_or (option_map state_of o) no_transfer)))) (sym c.in-Some.is)
-    (read-in-front c.step_at.result (steps_of (state_of c.in-Some.transfer)) c.args.taken read)
+    ≡ step ∷ drop (c.args.taken + 1) (steps_of (unwrap_or (option_map state_of o) no_transfer)))) c.in_ok-transfer.ensures.value
+    (read-in-front c.step_at.result (steps_of (state_of c.in_ok-transfer.transfer.now)) c.args.taken read)

@@ -12,7 +12,7 @@ returns-then-is_full c =
     let items = c.places.places.items in
     c.places.invariant.form
     ∙ ap (λ (fs : List (List ℕ)). and_then (ahead items fs) noise_or) c.in-Some.ensures
-    ∙ ahead_full items c.in-Some.field.now c.next.new.self c.in-Ok.place (sym c.in-Ok.ensures.value) (is_full c.is_full.result _ c.if-is_full.true c.is_full.ensures.value)
+    ∙ ahead_full items c.in-Some.field.now c.next.new.self c.in_ok-place.place (sym c.in_ok-place.ensures.value) (is_full c.is_full.result _ c.if-is_full.true c.is_full.ensures.value)
 
 pub places-preserved : goal.places-preserved
 places-preserved c =
@@ -20,10 +20,10 @@ places-preserved c =
       form =
           c.places.invariant.form
           ∙ ap (λ (fs : List (List ℕ)). and_then (ahead items fs) noise_or) c.in-Some.ensures
-          ∙ ap (λ (r : Result (List ℕ) ScriptKind). and_then r noise_or) (ahead_more items c.in-Some.field.now c.next.new.self c.in-Ok.place (sym c.in-Ok.ensures.value))
-          ∙ ap (λ (ps : List ℕ). and_then (ahead ps c.next.new.self) noise_or) (sym c.push-in-Ok.ensures.items);
-      small = subst AreSmall (sym c.push-in-Ok.ensures.items) (small_more items c.in-Ok.place c.places.invariant.small c.in-Ok.ensures.bound);
-      some = omega (arith, c.push-in-Ok.ensures.len);
+          ∙ ap (λ (r : Result (List ℕ) ScriptKind). and_then r noise_or) (ahead_more items c.in-Some.field.now c.next.new.self c.in_ok-place.place (sym c.in_ok-place.ensures.value))
+          ∙ ap (λ (ps : List ℕ). and_then (ahead ps c.next.new.self) noise_or) (sym c.push-in-Some.ensures.items);
+      small = subst AreSmall (sym c.push-in-Some.ensures.items) (small_more items c.in_ok-place.place c.places.invariant.small c.in_ok-place.ensures.bound);
+      some = omega (arith, c.push-in-Some.ensures.len);
     }
 
 pub returns-in-Some-new : goal.returns-in-Some-new

@@ -35,8 +35,8 @@ next_block-block-requires-clause-segment g c = (under_way _ c.args.line _ _ c.re
 pub next_block-block-requires-clause-small : goal.next_block-block-requires-clause-small
 next_block-block-requires-clause-small g c = (under_way _ c.args.line _ _ c.requires.sound c.requires.in_hand c.requires.busy).small
 
-pub returns-in-Ok : goal.returns-in-Ok
-returns-in-Ok g c =
+pub returns : goal.returns
+returns g c =
     let s : Stepped c.args.self.now.world c.put_sector.new.self.world c.args.u (g.P.Packs.tells c.put_sector.new.packs) (g.P.Packs.held c.args.packs.now) (g.P.Packs.held c.put_sector.new.packs) c.in-Ok.verdict = record {
       moves = c.in-Ok.ensures.moves;
       units = c.in-Ok.ensures.units;
@@ -51,7 +51,7 @@ returns-in-Ok g c =
     c.tell_sector.ensures
     c.put_sector.ensures.failure.never_again c.put_sector.ensures.failure.cause.later
 
-pub returns-in-Err : goal.returns-in-Err
-returns-in-Err g c =
-    sector_stopped _ _ g.P.Packs.faults _ _ g.T.Sink.faults _ _ _ _ _ _ _ _ c.requires.busy c.in-Err.ensures.unchanged c.in-Err.ensures.failure.old_or_new
-    c.in-Err.ensures.failure.never_again c.in-Err.ensures.failure.cause.later c.in-Err.ensures.failure.cause.failed
+pub returns-in_default : goal.returns-in_default
+returns-in_default g c =
+    sector_stopped _ _ g.P.Packs.faults _ _ g.T.Sink.faults _ _ _ _ _ _ _ _ c.requires.busy c.in_default.ensures.unchanged c.in_default.ensures.failure.old_or_new
+    c.in_default.ensures.failure.never_again c.in_default.ensures.failure.cause.later c.in_default.ensures.failure.cause.failed
