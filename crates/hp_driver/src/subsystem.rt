@@ -177,10 +177,8 @@ impl Subsystem {
         ensures some { IfSome result (λ answer. (made : Made) × IsOldest self.now.world made × (made.answer ≡ answer)) }
         ensures none { (result ≡ None) ↔ (self.now.world.answers ≡ []) }
     {
-        match self.core.first_answer() {
-            Some(made) => Some(made.answer),
-            None => None,
-        }
+        let made = self.core.first_answer()?;
+        Some(made.answer)
     }
 
     /// Takes the oldest answer that waits, and frees the frames of its request. None exactly where none waits; then nothing
@@ -191,13 +189,9 @@ impl Subsystem {
         ensures none { (result ≡ None) ↔ (self.old.world.answers ≡ []) }
         ensures same { self.old.world.answers ≡ [] → self.new ≡ self.old }
     {
-        match self.core.first_answer() {
-            Some(made) => {
-                self.core.take();
-                Some(made.answer)
-            }
-            None => None,
-        }
+        let made = self.core.first_answer()?;
+        self.core.take();
+        Some(made.answer)
     }
 
     /// Gives block `k`, from 0, of the read that the oldest answer is of: its bytes, and zeros behind those of a short last block.

@@ -1,7 +1,7 @@
 // Which requests a script asks for.
 ghost use Rattle.std.specs.Prelude.{◌≡◌, ◌<◌, ◌+◌, ◌*◌, ◌==◌, ◌&&◌, ◌||◌, ℕ, nat_le, IfOk, IfErr, OnOk};
 ghost use Rattle.trace_reader.specs.declared.fault.TraceFault.TheVariants.{Memory};
-ghost use Rattle.trace_reader.specs.Asked.{asks, is_asked, is_of_script};
+ghost use Rattle.trace_reader.specs.Asked.{is_asked, is_of_script};
 ghost use Rattle.trace_reader.specs.Knowing.{knows, Learns, Knows};
 
 use crate::fault::TraceFault;

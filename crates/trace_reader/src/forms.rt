@@ -165,15 +165,13 @@ fn deed(verb: Verb, words: &mut Words) -> Result<TraceLine, TraceKind>
     let line = decimal(words.need()?, 1, 1_000_001)?;
     let unit = decimal(words.need()?, 0, 31)?;
     let id = decimal(words.need()?, 0, u32::MAX)?;
-    match told(verb, words) {
-        Ok(told) => Ok(TraceLine::Deed {
-            line,
-            unit: unit as u8,
-            id,
-            told,
-        }),
-        Err(kind) => Err(kind),
-    }
+    let told = told(verb, words)?;
+    Ok(TraceLine::Deed {
+        line,
+        unit: unit as u8,
+        id,
+        told,
+    })
 }
 
 /// What stands behind `idle`.

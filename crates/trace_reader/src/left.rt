@@ -63,10 +63,8 @@ fn judged(script: &Script, asked: &Asked, before: u32, text: &[u8]) -> Result<Tr
     requires { Knows asked.now script.now.lines }
     ensures { result ≡ judged script.now before text.now }
 {
-    match line_of(text) {
-        Ok(line) => standing(script, asked, before, line),
-        Err(_) => Err(TraceKind::Word),
-    }
+    let line = line_of(text).map_err(|_| TraceKind::Word)?;
+    standing(script, asked, before, line)
 }
 
 /// The lines of a trace, one after another, beside the script of its run. It holds the requests of the script, and of the trace

@@ -26,10 +26,9 @@ pub fn read_trace(
     let mut left = TraceLines::new(alloc, bytes, script)?;
     let mut lines = Vec::new(alloc);
     'lines: loop {
-        match left.next() {
-            Ok(Some(found)) => lines.push(found.line)?,
-            Ok(None) => return Ok(lines),
-            Err(fault) => return Err(fault),
+        match left.next()? {
+            Some(found) => lines.push(found.line)?,
+            None => return Ok(lines),
         }
     }
 }

@@ -72,10 +72,7 @@ impl<'a> Words<'a> {
     pub(crate) fn need(&mut self) -> Result<&'a [u8], TraceKind>
         ensures { MatchResult result (λ word. self.old ≡ word.now ∷ self.new) (λ kind. (self.old ≡ []) × (kind ≡ TraceKind.Word)) }
     {
-        match self.next() {
-            Some(word) => Ok(word),
-            None => Err(TraceKind::Word),
-        }
+        self.next().ok_or(TraceKind::Word)
     }
 }
 
@@ -88,10 +85,8 @@ fn number_in(word: &[u8], radix: Radix, low: u64, high: u64) -> Result<u64, Trac
     if word.len() > 1 && word[0] == b'0' {
         return Err(TraceKind::Word);
     }
-    match number(word, radix, high) {
-        Ok(n) => { if n < low { Err(TraceKind::Word) } else { Ok(n) } }
-        Err(_) => Err(TraceKind::Word),
-    }
+    let n = number(word, radix, high).map_err(|_| TraceKind::Word)?;
+    if n < low { Err(TraceKind::Word) } else { Ok(n) }
 }
 
 /// A decimal number from `low` to `high`.
@@ -99,20 +94,16 @@ pub(crate) fn decimal(word: &[u8], low: u32, high: u32) -> Result<u32, TraceKind
     ensures value { result ≡ decimal_in low high word.now }
     ensures bound { IfOk result (λ n. n ≤ high) }
 {
-    match number_in(word, Radix::Decimal, u64::from(low), u64::from(high)) {
-        Ok(n) => Ok(n as u32),
-        Err(kind) => Err(kind),
-    }
+    let n = number_in(word, Radix::Decimal, u64::from(low), u64::from(high))?;
+    Ok(n as u32)
 }
 
 /// The pattern of a burst, in octal.
 pub(crate) fn pattern(word: &[u8]) -> Result<u16, TraceKind>
     ensures { result ≡ number_in Radix.Octal 1 2047 word.now }
 {
-    match number_in(word, Radix::Octal, 1, 2047) {
-        Ok(n) => Ok(n as u16),
-        Err(kind) => Err(kind),
-    }
+    let n = number_in(word, Radix::Octal, 1, 2047)?;
+    Ok(n as u16)
 }
 
 /// The word at the front of a line of a unit.
