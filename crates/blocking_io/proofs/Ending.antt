@@ -14,7 +14,7 @@ use Rattle.driver_machine.specs.Acts.{Nothing}
 use Rattle.driver_machine.specs.Events.{next_event}
 use Rattle.driver_machine.specs.Guards.{IsSetUp}
 use Rattle.driver_machine.specs.Sound.{Sound, AtWork}
-use Rattle.driver_work.specs.Runs.{NoneOutstanding}
+use Rattle.driver_machine.specs.Runs.{NoneOutstanding}
 use Rattle.driver_runs.specs.Runs.{Stay}
 use Rattle.driver_trace.specs.Calls.{Stands}
 use Rattle.driver_trace.proofs.Drains.{drain_left, none_outstanding}

@@ -5,7 +5,7 @@ use Rattle.std.proofs.lemmas.Bool.{false≢true}
 use Rattle.outside_traits.specs.Causes.{Rose}
 use Rattle.driver_machine.specs.World.{World, Held, slot_at}
 use Rattle.driver_machine.specs.Sound.{Sound}
-use Rattle.driver_work.specs.Runs.{NoneOutstanding}
+use Rattle.driver_machine.specs.Runs.{NoneOutstanding}
 use Rattle.driver_outcome.specs.declared.Stop.{Stop}
 use Rattle.driver_outcome.specs.declared.Stop.TheVariants.{Store, Sink}
 use Rattle.driver_outcome.specs.Outcome.{stop_in}

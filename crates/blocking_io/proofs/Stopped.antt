@@ -19,7 +19,7 @@ use Rattle.driver_machine.specs.Acts.{Act, Nothing, Tried, after_all}
 use Rattle.driver_machine.specs.Lines.{lines_of_all}
 use Rattle.driver_machine.specs.Events.{submit_acts, event_acts, next_event}
 use Rattle.driver_machine.specs.Sound.{Sound, AtWork}
-use Rattle.driver_work.specs.Runs.{Works, MayCome}
+use Rattle.driver_machine.specs.Runs.{Works, MayCome}
 use Rattle.driver_work.proofs.Calls.{event_works}
 use Rattle.driver_invariant.proofs.Sound.{sound_after}
 use Rattle.driver_outcome.specs.Packs.{packs_after_all}

@@ -14,7 +14,7 @@ use Rattle.driver_machine.specs.Acts.{Act, Nothing, Tried, Sector}
 use Rattle.driver_machine.specs.Lines.{lines_of_all}
 use Rattle.driver_machine.specs.Events.{event_acts, can_move, in_hand, or_nothing}
 use Rattle.driver_machine.specs.Sound.{Sound}
-use Rattle.driver_work.specs.Runs.{Run, MayCome}
+use Rattle.driver_machine.specs.Runs.{Run, MayCome}
 use Rattle.driver_work.proofs.Deeds.{deed_at}
 use Rattle.driver_outcome.specs.Packs.{ReadAll, packs_after_all}
 use Rattle.driver_outcome.specs.Outcome.{IsNextBlock}

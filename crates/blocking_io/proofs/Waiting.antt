@@ -17,7 +17,7 @@ use Rattle.driver_machine.specs.Lines.{lines_of_all}
 use Rattle.driver_machine.specs.Events.{submit_acts, event_acts, next_event}
 use Rattle.driver_machine.specs.Guards.{IsSetUp}
 use Rattle.driver_machine.specs.Sound.{Sound, AtWork}
-use Rattle.driver_work.specs.Runs.{Run}
+use Rattle.driver_machine.specs.Runs.{Run}
 use Rattle.driver_outcome.specs.Packs.{packs_after_all}
 use Rattle.driver_counts.proofs.Units.{setups_stay}
 use Rattle.driver_answers.proofs.Waiting.{events_alone, submissions_alone}

@@ -10,7 +10,7 @@ use Rattle.driver_machine.specs.Acts.{Act, Tried, after_all}
 use Rattle.driver_machine.specs.Lines.{lines_of_all}
 use Rattle.driver_machine.specs.Events.{refusal_of, submit_acts, event_acts}
 use Rattle.driver_machine.specs.Guards.{IsHeldFor}
-use Rattle.driver_work.specs.Runs.{Run, MaySubmit, MayCome}
+use Rattle.driver_machine.specs.Runs.{Run, MaySubmit, MayCome}
 use Rattle.driver_outcome.specs.Packs.{ReadAll, packs_after_all}
 use Rattle.driver_outcome.specs.Outcome.{IsFront, IsNextBlock}
 use Rattle.driver_outcome.specs.declared.Stop.{Stop}

@@ -13,7 +13,7 @@ use Rattle.driver_machine.specs.Acts.{Act, Refuse, Submit, Of, Change, Nothing, 
 use Rattle.driver_machine.specs.Events.{submit_acts, event_acts}
 use Rattle.driver_machine.specs.Guards.{InHand, Allowed, MayChange}
 use Rattle.driver_due.proofs.Frame.{effect_same}
-use Rattle.driver_work.specs.Runs.{Run, Works}
+use Rattle.driver_machine.specs.Runs.{Run, Works}
 use Rattle.driver_work.proofs.Calls.{submit_works, event_works}
 use Rattle.driver_slots.proofs.Lists.{Contains-first, Contains-later}
 use Rattle.driver_slots.proofs.Hand.{slot_there}

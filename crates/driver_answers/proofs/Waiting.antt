@@ -19,7 +19,7 @@ use Rattle.driver_machine.specs.Events.{submit_acts, event_acts}
 use Rattle.driver_machine.specs.Guards.{InHand, MayChange}
 use Rattle.driver_machine.specs.Sound.{Among, Once, slot_made, slots_made, IsMade, Sound}
 use Rattle.driver_due.proofs.Frame.{other_slot}
-use Rattle.driver_work.specs.Runs.{Works}
+use Rattle.driver_machine.specs.Runs.{Works}
 use Rattle.driver_work.proofs.Calls.{submit_works, event_works}
 use Rattle.driver_slots.proofs.Lists.{Contains-first, Contains-later}
 use Rattle.driver_slots.proofs.Hand.{held_is, hand_there, not_made}

@@ -7,7 +7,7 @@ use Rattle.driver_machine.specs.Acts.{Act, Submit, Taken, Tried, after, after_al
 use Rattle.driver_machine.specs.Events.{submit_acts, event_acts}
 use Rattle.driver_machine.specs.Guards.{Allowed, IsFresh}
 use Rattle.driver_machine.specs.Sound.{Sound, AtWork}
-use Rattle.driver_work.specs.Runs.{Run, MaySubmit, MayCome}
+use Rattle.driver_machine.specs.Runs.{Run, MaySubmit, MayCome}
 
 -- each request that stands in a slot has one of these ids
 abbrev pub AreOf : List ℕ → World → Type 0

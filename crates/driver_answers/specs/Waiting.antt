@@ -10,7 +10,7 @@ use Rattle.driver_machine.specs.Lines.{answer_told, lines_of, lines_of_all}
 use Rattle.driver_machine.specs.Events.{submit_acts, event_acts}
 use Rattle.driver_machine.specs.Guards.{Allowed}
 use Rattle.driver_machine.specs.Sound.{Sound, AtWork}
-use Rattle.driver_work.specs.Runs.{Run, MaySubmit, MayCome}
+use Rattle.driver_machine.specs.Runs.{Run, MaySubmit, MayCome}
 
 -- the blocks of the request in a slot; a request that was refused has none
 abbrev pub blocks_for : World → Option ℕ → List (List ℕ)

@@ -9,7 +9,7 @@ use Rattle.driver_machine.specs.World.{World}
 use Rattle.driver_machine.specs.Acts.{Act, Refuse, Submit, Of, Change, Nothing, Taken, Tried, after, after_all}
 use Rattle.driver_machine.specs.Events.{submit_acts, event_acts}
 use Rattle.driver_machine.specs.Sound.{Sound}
-use Rattle.driver_work.specs.Runs.{Run}
+use Rattle.driver_machine.specs.Runs.{Run}
 use Rattle.driver_answers.specs.Waiting.{is_taking}
 use Rattle.driver_answers.proofs.Parts.{AreAll, Holds, all_submitted, all_of_event}
 use Rattle.driver_invariant.proofs.Sound.{sound_after}

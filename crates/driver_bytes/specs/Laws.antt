@@ -16,7 +16,7 @@ use Rattle.driver_machine.specs.Events.{submit_acts, event_acts}
 use Rattle.driver_machine.specs.Guards.{IsSetUp, Allowed}
 use Rattle.driver_machine.specs.Sound.{Sound, AtWork}
 use Rattle.driver_slots.specs.Parts.{AreSetups}
-use Rattle.driver_work.specs.Runs.{Run, NoneOutstanding}
+use Rattle.driver_machine.specs.Runs.{Run, NoneOutstanding}
 use Rattle.driver_outcome.specs.Packs.{Reads, ReadAll, packs_after, packs_after_all}
 use Rattle.driver_bytes.specs.Bytes.{Bears, maps_behind}
 

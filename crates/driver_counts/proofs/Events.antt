@@ -11,7 +11,7 @@ use Rattle.driver_machine.specs.Acts as deed
 use Rattle.driver_machine.specs.Acts.{Act, Refuse, Submit, Of, Change, Nothing, Taken, Deed, Tried, after, after_all}
 use Rattle.driver_machine.specs.Due.{next_of, command_of}
 use Rattle.driver_machine.specs.Events.{Part, followed, and_then, when_by, each, go_on, until, in_hand_by, in_hand, due_by, next_acts, due_acts, begun, choose_by, choose_acts, adapter_start, submit_by, refusal_of, can_arrive, can_move, can_attend, or_nothing, arrive_acts, move_acts, data_interrupt, steps_taken, attention, drives, attended, attend_acts}
-use Rattle.driver_work.specs.Runs.{Run}
+use Rattle.driver_machine.specs.Runs.{Run}
 use Rattle.driver_counts.specs.Counts.{IsWithin, noises_of, faults_of, bring_requests, bring_noises, bring_faults}
 use Rattle.driver_counts.specs.Laws.{EventsAdd, SubmissionsAdd}
 use Rattle.driver_counts.proofs.Acts.{within_more, acts_add, runs_add}

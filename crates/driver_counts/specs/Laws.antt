@@ -7,7 +7,7 @@ use Rattle.driver_machine.specs.Acts.{Act, Taken, Tried, after, after_all}
 use Rattle.driver_machine.specs.Events.{submit_acts, event_acts}
 use Rattle.driver_machine.specs.Guards.{Allowed}
 use Rattle.driver_machine.specs.Sound.{Sound}
-use Rattle.driver_work.specs.Runs.{Run}
+use Rattle.driver_machine.specs.Runs.{Run}
 use Rattle.request_slots.specs.Requests.{frames_lent}
 use Rattle.driver_counts.specs.Counts.{IsWithin, IsSetAs, in_use, noises_of, faults_of, brings_request, brings_noise, brings_faults, bring_requests, bring_noises, bring_faults}
 

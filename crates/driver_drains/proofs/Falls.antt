@@ -20,8 +20,8 @@ use Rattle.driver_machine.specs.World.{World}
 use Rattle.driver_machine.specs.Acts.{Act, Tried}
 use Rattle.driver_machine.specs.Lines.{lines_of_all}
 use Rattle.driver_machine.specs.Events.{event_acts, next_event}
-use Rattle.driver_work.specs.Runs.{Works}
-use Rattle.driver_work.specs.Runs as work
+use Rattle.driver_machine.specs.Runs.{Works}
+use Rattle.driver_machine.specs.Runs as work
 use Rattle.driver_work.proofs.Calls.{event_works}
 use Rattle.driver_work.proofs.Next.{next_can}
 use Rattle.driver_invariant.proofs.Sound.{sound_after}

@@ -13,7 +13,7 @@ use Rattle.driver_machine.specs.Acts.{Tried, after_all}
 use Rattle.driver_machine.specs.Lines.{lines_of_all}
 use Rattle.driver_machine.specs.Events.{event_acts}
 use Rattle.driver_due.proofs.DueFacts.{false_true}
-use Rattle.driver_work.specs.Runs.{Run, CanCome}
+use Rattle.driver_machine.specs.Runs.{Run, CanCome}
 use Rattle.driver_outcome.specs.Packs.{packs_after_all}
 use Rattle.driver_trace.specs.Within.{Rests}
 use Rattle.driver_trace.specs.Calls.{IsSurfaceOf, Ends}

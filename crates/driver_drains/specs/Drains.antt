@@ -16,7 +16,7 @@ use Rattle.driver_machine.specs.World.{World}
 use Rattle.driver_machine.specs.Acts.{Act, Tried}
 use Rattle.driver_machine.specs.Lines.{lines_of_all}
 use Rattle.driver_machine.specs.Events.{event_acts, next_event}
-use Rattle.driver_work.specs.Runs.{MayCome}
+use Rattle.driver_machine.specs.Runs.{MayCome}
 use Rattle.driver_trace.specs.Calls.{IsReadOf}
 use Rattle.driver_trace.specs.Runs.{IsSoFar, IsDraining, with_call}
 

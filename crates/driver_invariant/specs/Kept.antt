@@ -7,7 +7,7 @@ use Rattle.driver_machine.specs.Acts.{Act, Taken, Tried, after, after_all}
 use Rattle.driver_machine.specs.Events.{choose_acts, adapter_start, submit_acts, event_acts}
 use Rattle.driver_machine.specs.Guards.{Allowed}
 use Rattle.driver_machine.specs.Sound.{Sound, AtWork}
-use Rattle.driver_work.specs.Runs.{Run, Works, MaySubmit, MayCome}
+use Rattle.driver_machine.specs.Runs.{Run, Works, MaySubmit, MayCome}
 
 -- each act that is allowed leaves the driver sound, and so do acts that run
 abbrev pub EachActKeeps : Type 0

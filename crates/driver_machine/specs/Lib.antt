@@ -6,3 +6,4 @@ pub mod Events
 pub mod Lines
 pub mod Guards
 pub mod Sound
+pub mod Runs

@@ -7,7 +7,7 @@ use Rattle.trace_replay.specs.Text.{trace_text, moment_text}
 use Rattle.driver_machine.specs.World.{World}
 use Rattle.driver_machine.specs.Acts.{Act, after, after_all}
 use Rattle.driver_machine.specs.Lines.{lines_of, lines_of_all}
-use Rattle.driver_work.specs.Runs.{Run}
+use Rattle.driver_machine.specs.Runs.{Run}
 use Rattle.driver_outcome.specs.Packs.{ReadAll, packs_after, packs_after_all}
 use Rattle.driver_outcome.specs.Outcome.{Site, Told, Acts, Does, IsFront, StopsAtTrace, StopsAtPacks, Outcome, text_after}
 use Rattle.driver_outcome.specs.declared.Stop.{Stop}

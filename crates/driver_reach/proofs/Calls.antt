@@ -16,7 +16,7 @@ use Rattle.driver_machine.specs.Acts.{Act, Taken, after, after_all}
 use Rattle.driver_machine.specs.Events.{submit_acts, submit_by, event_acts, refusal_of}
 use Rattle.driver_machine.specs.Guards.{IsHeldFor, IsNew}
 use Rattle.driver_machine.specs.Sound.{Sound}
-use Rattle.driver_work.specs.Runs.{Run, Works, MaySubmit}
+use Rattle.driver_machine.specs.Runs.{Run, Works, MaySubmit}
 use Rattle.driver_work.proofs.Calls.{submit_works, event_works}
 use Rattle.driver_slots.proofs.Starts.{sound_new}
 use Rattle.driver_invariant.proofs.Sound.{sound_after}

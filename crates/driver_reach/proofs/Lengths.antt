@@ -22,7 +22,7 @@ use Rattle.driver_machine.specs.Acts.{Act, Refuse, Submit, Of, Change, Nothing, 
 use Rattle.driver_machine.specs.Lines.{lines_of, lines_of_all}
 use Rattle.driver_machine.specs.Events.{submit_acts, event_acts, move_acts, in_hand, or_nothing, can_move}
 use Rattle.driver_machine.specs.Sound.{Sound}
-use Rattle.driver_work.specs.Runs.{Run}
+use Rattle.driver_machine.specs.Runs.{Run}
 use Rattle.driver_work.proofs.Deeds.{deed_at}
 use Rattle.driver_work.proofs.Due.{in_hand_one}
 use Rattle.driver_work.proofs.Calls.{IsServing, serving}

@@ -15,7 +15,7 @@ use Rattle.driver_machine.specs.Sound.{Sound}
 use Rattle.driver_outcome.specs.Packs.{packs_after_all}
 use Rattle.driver_trace.specs.Within.{ShowsAll}
 use Rattle.driver_trace.specs.Runs.{with_call}
-use Rattle.driver_work.specs.Runs.{Run}
+use Rattle.driver_machine.specs.Runs.{Run}
 
 -- so many bytes, or as many as there are up to the end of a block
 abbrev pub reaching : (long block : ℕ) → ℕ

@@ -13,7 +13,7 @@ use Rattle.driver_machine.specs.Events.{submit_acts, event_acts, refusal_of}
 use Rattle.driver_machine.specs.Guards.{Allowed, IsHeldFor}
 use Rattle.driver_machine.specs.Sound.{Sound, AtWork}
 use Rattle.driver_slots.specs.Parts.{AreSetups}
-use Rattle.driver_work.specs.Runs.{MaySubmit, MayCome}
+use Rattle.driver_machine.specs.Runs.{MaySubmit, MayCome}
 use Rattle.driver_outcome.specs.Outcome.{IsNextBlock}
 use Rattle.driver_outcome.specs.Packs.{packs_after, packs_after_all}
 use Rattle.driver_replay.specs.Acts.{AreSetUp}

@@ -14,7 +14,7 @@ use Rattle.driver_machine.specs.Acts.{Act, Taken, after}
 use Rattle.driver_machine.specs.Events.{submit_acts, event_acts}
 use Rattle.driver_machine.specs.Guards.{Allowed}
 use Rattle.driver_machine.specs.Sound.{Sound}
-use Rattle.driver_work.specs.Runs.{Works}
+use Rattle.driver_machine.specs.Runs.{Works}
 use Rattle.driver_work.proofs.Calls.{submit_works, event_works}
 use Rattle.driver_slots.proofs.Starts.{sound_new}
 use Rattle.driver_invariant.proofs.Sound.{sound_after}

@@ -17,7 +17,7 @@ use Rattle.driver_machine.specs.Events.{and_then, when_by, each, begun, data_int
 use Rattle.driver_machine.specs.Guards.{IsSetUp}
 use Rattle.driver_machine.specs.Sound.{Sound, Among, Once, IsPhase, IsTask, is_waiting}
 use Rattle.driver_due.proofs.DueFacts.{false_true}
-use Rattle.driver_work.specs.Runs.{Run}
+use Rattle.driver_machine.specs.Runs.{Run}
 use Rattle.driver_work.proofs.Leads.{run_split}
 use Rattle.driver_work.proofs.Deeds.{deed_at, own_adapter}
 use Rattle.driver_work.proofs.Due.{begun_one}

@@ -31,7 +31,7 @@ use Rattle.driver_machine.specs.Guards.{Allowed, IsSetUp}
 use Rattle.driver_machine.specs.Sound.{Sound}
 use Rattle.driver_due.proofs.DueFacts.{false_true}
 use Rattle.driver_due.proofs.Until.{own_unit}
-use Rattle.driver_work.specs.Runs.{Run}
+use Rattle.driver_machine.specs.Runs.{Run}
 use Rattle.driver_work.proofs.Deeds.{deed_at}
 use Rattle.driver_work.proofs.Due.{in_hand_one}
 use Rattle.driver_work.proofs.Calls.{IsServing, serving}

@@ -14,7 +14,7 @@ use Rattle.driver_machine.specs.Events.{in_hand_by, due_by, next_acts, due_acts,
 use Rattle.driver_machine.proofs.Measure.{is_resting}
 use Rattle.driver_machine.specs.Sound.{Sound, is_waiting}
 use Rattle.driver_due.proofs.Until.{due_over}
-use Rattle.driver_work.specs.Runs.{Run}
+use Rattle.driver_machine.specs.Runs.{Run}
 use Rattle.driver_work.proofs.Deeds.{deed_at}
 use Rattle.driver_work.proofs.Due.{begun_one}
 use Rattle.driver_replay.specs.Shows.{Shows, with_coming, is_coming}

@@ -20,7 +20,7 @@ use Rattle.driver_machine.specs.Sound.{Sound}
 use Rattle.driver_due.proofs.DueFacts.{due_facts}
 use Rattle.driver_due.proofs.Frame.{other_unit, effect_same}
 use Rattle.driver_due.proofs.Until.{IsNext, next_cases, own_unit}
-use Rattle.driver_work.specs.Runs.{Run}
+use Rattle.driver_machine.specs.Runs.{Run}
 use Rattle.driver_work.proofs.Deeds.{deed_at, own_adapter}
 use Rattle.driver_invariant.proofs.Sound.{sound_after}
 use Rattle.driver_outcome.specs.Packs.{packs_after}

@@ -16,7 +16,7 @@ use Rattle.driver_machine.specs.Lines.{deed_told, lines_of_all}
 use Rattle.driver_machine.specs.Events.{Part, go_on, until, begun, choose_by, choose_acts, adapter_start}
 use Rattle.driver_machine.specs.Guards.{Allowed, IsSetUp}
 use Rattle.driver_machine.specs.Sound.{Sound, Among, is_waiting}
-use Rattle.driver_work.specs.Runs.{Run}
+use Rattle.driver_machine.specs.Runs.{Run}
 use Rattle.driver_work.proofs.Leads.{run_split}
 use Rattle.driver_work.proofs.Deeds.{deed_at}
 use Rattle.driver_work.proofs.Due.{begun_one}

@@ -29,7 +29,7 @@ use Rattle.driver_machine.specs.Lines.{lines_of_all, answer_told}
 use Rattle.driver_machine.specs.Events.{followed, and_then, choose_by, choose_acts, adapter_start, due_acts, joined_acts, refusal_by, refusal_of, is_room}
 use Rattle.driver_machine.specs.Guards.{Allowed, IsSetUp, IsHeldFor, MayChange}
 use Rattle.driver_machine.specs.Sound.{Sound, AtWork, WorkOf}
-use Rattle.driver_work.specs.Runs.{Run}
+use Rattle.driver_machine.specs.Runs.{Run}
 use Rattle.driver_work.proofs.Leads.{run_split}
 use Rattle.driver_work.proofs.Start.{until_stop}
 use Rattle.driver_invariant.proofs.Sound.{sound_after}

@@ -7,7 +7,7 @@ use Rattle.drive_model.specs.Move.{struck_at}
 use Rattle.trace_replay.specs.Bytes.{ArePlaces}
 use Rattle.driver_machine.specs.World.{World, Setup, new_world}
 use Rattle.driver_machine.specs.Acts.{Act, after_all}
-use Rattle.driver_work.specs.Runs.{Run}
+use Rattle.driver_machine.specs.Runs.{Run}
 
 abbrev pub AllFlip : List LiveNoise → Type 0
 AllFlip [] = Unit {0}

@@ -23,7 +23,7 @@ use Rattle.driver_machine.specs.Sound.{Sound, AtWork, WorkOf, IsPhase, is_waitin
 use Rattle.driver_due.proofs.DueFacts.{false_true}
 use Rattle.driver_due.proofs.Frame.{other_unit, other_adapter}
 use Rattle.driver_due.proofs.Until.{own_unit}
-use Rattle.driver_work.specs.Runs.{SoundAfter, Works, MaySubmit, MayCome}
+use Rattle.driver_machine.specs.Runs.{SoundAfter, Works, MaySubmit, MayCome}
 use Rattle.driver_work.proofs.Leads.{Leads, nothing, alone, then_part}
 use Rattle.driver_work.proofs.Deeds.{OthersWork, IsFree, needs_free, Doing, deed_at, scene_after, outstanding, deed_done, is_unit, in_hand_is, own_adapter}
 use Rattle.driver_work.proofs.Due.{UnitsWork, Rests, in_hand_one, due_leads, begun_leads}

@@ -17,7 +17,7 @@ use Rattle.driver_due.specs.DueFacts.{IsDue}
 use Rattle.driver_due.proofs.DueFacts.{due_facts, none_some, false_true}
 use Rattle.driver_due.proofs.Frame.{other_unit, other_adapter}
 use Rattle.driver_due.proofs.Until.{own_unit}
-use Rattle.driver_work.specs.Runs.{SoundAfter}
+use Rattle.driver_machine.specs.Runs.{SoundAfter}
 
 -- HOW MANY REQUESTS ARE OUTSTANDING.
 abbrev pub one_by : Bool → ℕ

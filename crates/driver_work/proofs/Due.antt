@@ -10,7 +10,7 @@ use Rattle.driver_machine.specs.Due.{next_of, next_by}
 use Rattle.driver_machine.specs.Events.{followed, go_on, until, in_hand, in_hand_by, due_by, next_acts, due_acts, begun}
 use Rattle.driver_machine.specs.Sound.{Sound, WorkOf, is_waiting}
 use Rattle.driver_due.proofs.Until.{IsNext, next_cases, due_over}
-use Rattle.driver_work.specs.Runs.{SoundAfter}
+use Rattle.driver_machine.specs.Runs.{SoundAfter}
 use Rattle.driver_work.proofs.Leads.{Leads, nothing, one_more, so_too}
 use Rattle.driver_work.proofs.Deeds.{OthersWork, Doing, Done, deed_at, outstanding, due_done}
 

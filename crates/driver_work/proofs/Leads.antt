@@ -5,7 +5,7 @@ use Rattle.driver_machine.specs.Acts.{Act, after, after_all}
 use Rattle.driver_machine.specs.Events.{Part, followed}
 use Rattle.driver_machine.specs.Guards.{Allowed}
 use Rattle.driver_machine.specs.Sound.{Sound}
-use Rattle.driver_work.specs.Runs.{Run, SoundAfter}
+use Rattle.driver_machine.specs.Runs.{Run, SoundAfter}
 
 -- the acts run, and P holds of the world behind them
 pub record Leads (P : World → Type 0) (w : World) (acts : List Act) : Type 0 where

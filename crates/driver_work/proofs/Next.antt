@@ -18,7 +18,7 @@ use Rattle.driver_machine.specs.World.{World, no_unit, new_adapter_view, adapter
 use Rattle.driver_machine.specs.Events.{can_arrive, can_move, can_attend, lowest, drain_by, next_event}
 use Rattle.driver_machine.specs.Sound.{Among, IsStill, IsGoal, IsMoving, IsPhase, Sound, WorkOf, AtWork, slots_of, is_waiting}
 use Rattle.driver_due.proofs.DueFacts.{false_true}
-use Rattle.driver_work.specs.Runs.{CanCome, NoneOutstanding}
+use Rattle.driver_machine.specs.Runs.{CanCome, NoneOutstanding}
 use Rattle.driver_work.proofs.Deeds.{head_of}
 use Rattle.driver_work.proofs.Calls.{IsServing, serving}
 

@@ -18,7 +18,7 @@ use Rattle.driver_machine.proofs.Measure.{is_resting}
 use Rattle.driver_machine.specs.Sound.{Sound, Among, is_waiting}
 use Rattle.driver_due.proofs.DueFacts.{either, was_on, false_true}
 use Rattle.driver_due.proofs.Until.{resting, until_none}
-use Rattle.driver_work.specs.Runs.{SoundAfter}
+use Rattle.driver_machine.specs.Runs.{SoundAfter}
 use Rattle.driver_work.proofs.Leads.{Leads, nothing, one_more, then_part, so_too}
 use Rattle.driver_work.proofs.Deeds.{IsFree, needs_free, one_by, one_in, Doing, Done, deed_at, outstanding, ended_by, fewer, deed_done, head_of, slot_there}
 use Rattle.driver_work.proofs.Due.{UnitsWork, Rests, rests, begun_one, begun_leads}

@@ -13,7 +13,7 @@ ghost use Rattle.driver_machine.specs.World.{World, Held};
 ghost use Rattle.driver_machine.specs.Acts.{Act, Taken, Tried, after_all};
 ghost use Rattle.driver_machine.specs.Events.{Part, until, choose_acts, adapter_start, submit_acts, event_acts, next_event};
 ghost use Rattle.driver_machine.specs.Sound.{Sound, AtWork};
-ghost use Rattle.driver_work.specs.Runs.{Run, SoundAfter, Works, MaySubmit, MayCome, CanCome, NoneOutstanding};
+ghost use Rattle.driver_machine.specs.Runs.{Run, SoundAfter, Works, MaySubmit, MayCome, CanCome, NoneOutstanding};
 
 /// The start of an adapter runs, and goes on until the adapter is busy or no unit waits for it: its turns are never cut short.
 pub fn start_law()

@@ -20,7 +20,7 @@ use Rattle.driver_machine.specs.World.{World}
 use Rattle.driver_machine.specs.Acts.{Tried}
 use Rattle.driver_machine.specs.Lines.{lines_of_all}
 use Rattle.driver_machine.specs.Events.{submit_acts, event_acts, next_event}
-use Rattle.driver_work.specs.Runs.{Works, MayCome}
+use Rattle.driver_machine.specs.Runs.{Works, MayCome}
 use Rattle.driver_work.proofs.Next.{next_can}
 use Rattle.driver_work.proofs.Calls.{event_works}
 use Rattle.driver_invariant.proofs.Sound.{sound_after}

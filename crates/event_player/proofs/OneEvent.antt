@@ -16,7 +16,7 @@ use Rattle.driver_machine.specs.Acts as deed
 use Rattle.driver_machine.specs.Acts.{Act, Tried, Deed, after_all}
 use Rattle.driver_machine.specs.Lines.{deed_told, lines_with, lines_of_all}
 use Rattle.driver_machine.specs.Events.{event_acts, in_hand, in_hand_by, or_nothing, attended, can_arrive, can_move}
-use Rattle.driver_work.specs.Runs.{Run, CanCome}
+use Rattle.driver_machine.specs.Runs.{Run, CanCome}
 use Rattle.driver_trace.proofs.Named.{act_named}
 use Rattle.driver_trace.specs.Within.{Rests}
 use Rattle.driver_trace.proofs.Telling.{told_within, LineFollows, LinesFollow}

@@ -15,7 +15,7 @@ use Rattle.subsystem_spec.specs.declared.answers.AnswerKind.{AnswerKind}
 use Rattle.driver_machine.specs.Events.{submit_by, submit_acts, event_acts, refusal_of, next_event}
 use Rattle.driver_slots.proofs.Sizes.{sizes_all}
 use Rattle.driver_slots.proofs.Lists.{Contains-later, Contains-cases}
-use Rattle.driver_work.specs.Runs.{CanCome}
+use Rattle.driver_machine.specs.Runs.{CanCome}
 use Rattle.driver_work.proofs.Next.{next_can}
 use Rattle.driver_counts.specs.Counts.{IsWithin, in_use, noises_of, faults_of}
 use Rattle.driver_counts.proofs.Acts.{takings_add, capacity_stays}

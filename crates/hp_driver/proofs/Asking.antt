@@ -10,7 +10,7 @@ use Rattle.driver_machine.specs.World.{World, Held, no_held, unit_at, pieces, ad
 use Rattle.driver_machine.specs.Acts.{Act, Refuse}
 use Rattle.driver_machine.specs.Events.{refusal_of, submit_by, submit_acts, joined_acts, followed, adapter_start}
 use Rattle.driver_machine.specs.Guards.{IsSetUp, IsFresh, IsNew, IsHeldFor}
-use Rattle.driver_work.specs.Runs.{MaySubmit}
+use Rattle.driver_machine.specs.Runs.{MaySubmit}
 use Rattle.driver_work.proofs.Calls.{submit_works}
 use Rattle.driver_invariant.proofs.Sound.{sound_after}
 use Rattle.driver_outcome.specs.declared.Stop.{Stop}

@@ -11,7 +11,7 @@ use Rattle.driver_machine.specs.Acts.{Act, Tried, after_all}
 use Rattle.driver_machine.specs.Lines.{lines_of}
 use Rattle.driver_machine.specs.Events.{event_acts}
 use Rattle.driver_machine.specs.Sound.{AtWork}
-use Rattle.driver_work.specs.Runs.{Works, MayCome}
+use Rattle.driver_machine.specs.Runs.{Works, MayCome}
 use Rattle.driver_work.proofs.Calls.{event_works}
 use Rattle.driver_invariant.proofs.Sound.{sound_after}
 use Rattle.driver_outcome.specs.Outcome.{Outcome, Does, stop_in}

@@ -7,7 +7,7 @@ use Rattle.trace_replay.specs.Script as script
 use Rattle.trace_replay.specs.Script.{Input}
 use Rattle.driver_machine.specs.Acts.{Act, Change, Tried}
 use Rattle.driver_machine.specs.Events.{event_acts, arrive_acts, attend_acts}
-use Rattle.driver_work.specs.Runs.{MayCome}
+use Rattle.driver_machine.specs.Runs.{MayCome}
 use Rattle.driver_outcome.specs.declared.Stop.{Stop}
 use Rattle.driver_trace.specs.Calls.{IsReadOf}
 use Rattle.hp_core.specs.State.{State}

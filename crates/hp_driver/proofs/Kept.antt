@@ -18,7 +18,7 @@ use Rattle.driver_machine.specs.Sound.{Sound, AtWork, IsMade, IsGiven}
 use Rattle.driver_slots.specs.Parts.{AreSetups}
 use Rattle.driver_slots.proofs.Lists.{Contains-first}
 use Rattle.driver_slots.proofs.Starts.{sound_new, rests_new}
-use Rattle.driver_work.specs.Runs.{CanCome, NoneOutstanding}
+use Rattle.driver_machine.specs.Runs.{CanCome, NoneOutstanding}
 use Rattle.driver_work.proofs.Calls.{taken_works}
 use Rattle.driver_work.proofs.Next.{next_none, next_can}
 use Rattle.driver_invariant.proofs.Sound.{sound_after}

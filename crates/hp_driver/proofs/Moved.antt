@@ -8,7 +8,7 @@ use Rattle.trace_replay.specs.Script.{MoveAt}
 use Rattle.driver_machine.specs.Acts.{Tried}
 use Rattle.driver_machine.specs.Events.{move_acts}
 use Rattle.driver_machine.specs.Sound.{AtWork}
-use Rattle.driver_work.specs.Runs.{MayCome}
+use Rattle.driver_machine.specs.Runs.{MayCome}
 use Rattle.driver_work.proofs.Calls.{event_works}
 use Rattle.driver_invariant.proofs.Sound.{sound_after}
 use Rattle.driver_outcome.specs.Outcome.{Outcome, stop_in}

@@ -16,7 +16,7 @@ use Rattle.driver_machine.specs.Lines.{lines_of_all}
 use Rattle.driver_machine.specs.Events.{refusal_of, submit_acts, event_acts}
 use Rattle.driver_machine.specs.Guards.{IsSetUp, IsHeldFor, MayChange}
 use Rattle.driver_machine.specs.Sound.{Sound, AtWork}
-use Rattle.driver_work.specs.Runs.{MaySubmit, MayCome}
+use Rattle.driver_machine.specs.Runs.{MaySubmit, MayCome}
 use Rattle.driver_outcome.specs.declared.Stop.{Stop}
 use Rattle.driver_outcome.specs.declared.Stop.TheVariants.{Store, Sink}
 use Rattle.driver_outcome.specs.Outcome.{Site, Outcome, StopsBefore}

@@ -15,7 +15,7 @@ use Rattle.driver_outcome.proofs.Joined.{does_then, stopped_before, nothing_done
 use Rattle.hp_core.specs.State.{State, site}
 use Rattle.hp_core.specs.Done.{DoesAct, DoesSilently}
 use Rattle.hp_events.specs.Done.{DoesActs}
-use Rattle.driver_work.specs.Runs.{Run}
+use Rattle.driver_machine.specs.Runs.{Run}
 
 -- A call that ends says what it likes of another type, and so does one that fails.
 pub said : {O A B : Type 0} (tells : O → Bool) (taken : O → List ℕ) (faults : O → ℕ) (trace trace' : O) (old new : State) (x : A) (y : B) (acts : List Act)

@@ -15,7 +15,7 @@ use Rattle.driver_machine.specs.Acts.{Act, Nothing, after_all}
 use Rattle.driver_machine.specs.Lines.{lines_of_all}
 use Rattle.driver_machine.specs.Events.{event_acts, next_event}
 use Rattle.driver_machine.specs.Sound.{Sound}
-use Rattle.driver_work.specs.Runs.{Works, CanCome}
+use Rattle.driver_machine.specs.Runs.{Works, CanCome}
 use Rattle.driver_work.proofs.Calls.{event_works}
 use Rattle.driver_work.proofs.Next.{next_can}
 use Rattle.driver_invariant.proofs.Sound.{sound_after}
@@ -67,7 +67,7 @@ module _ (script : Script) (tables : ℕ → Option Table) (old : ℕ → Pack) 
   left_of line inputs b = events_left (after_moments start b.moments)
 
   room_in : (line : ℕ) (input : Input) (w : World) (tried : _) → Sound w → CanCome w input → HasRoom script total done used w
-      → Works w (event_acts line input tried w) → Rattle.driver_machine.specs.Sound.AtWork w → Rattle.driver_work.specs.Runs.MayCome w input tried
+      → Works w (event_acts line input tried w) → Rattle.driver_machine.specs.Sound.AtWork w → Rattle.driver_machine.specs.Runs.MayCome w input tried
       → HasRoom script total done used (all_taken (after_all w (event_acts line input tried w)))
   room_in line input w tried sound can room works work may =
       let acts : List Act = event_acts line input tried w in

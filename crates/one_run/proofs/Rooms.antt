@@ -7,7 +7,7 @@ use Rattle.trace_bounds.specs.Drains.{IsOf}
 use Rattle.driver_machine.specs.World.{World}
 use Rattle.driver_machine.specs.Acts.{Act, after_all}
 use Rattle.driver_slots.proofs.Sizes.{sizes_all}
-use Rattle.driver_work.specs.Runs.{CanCome}
+use Rattle.driver_machine.specs.Runs.{CanCome}
 use Rattle.driver_counts.specs.Counts.{IsWithin, noises_of, faults_of}
 use Rattle.driver_counts.proofs.Acts.{takings_add, capacity_stays}
 use Rattle.driver_answers.specs.Ids.{AreOf}

@@ -21,7 +21,7 @@ use Rattle.driver_machine.specs.Events.{refusal_of, submit_by, submit_acts}
 use Rattle.driver_machine.specs.Guards.{IsSetUp}
 use Rattle.driver_machine.specs.Sound.{Sound, AtWork}
 use Rattle.driver_runs.specs.Runs.{IsKept}
-use Rattle.driver_work.specs.Runs.{Works}
+use Rattle.driver_machine.specs.Runs.{Works}
 use Rattle.driver_work.proofs.Calls.{submit_works}
 use Rattle.driver_invariant.proofs.Sound.{sound_after}
 use Rattle.driver_outcome.specs.Packs.{packs_after_all}

@@ -12,7 +12,7 @@ use Rattle.driver_machine.specs.World.{World, unit_at}
 use Rattle.driver_machine.specs.Acts.{Act, Refuse, Submit, Of, Change, Nothing, Taken, changed, after, after_all}
 use Rattle.driver_machine.specs.Guards.{Allowed, InHand, IsSetUp}
 use Rattle.driver_machine.specs.Sound.{Sound, UnitOk}
-use Rattle.driver_work.specs.Runs.{Run, Works}
+use Rattle.driver_machine.specs.Runs.{Run, Works}
 use Rattle.driver_work.proofs.Calls.{taken_works}
 use Rattle.driver_invariant.proofs.Sound.{sound_after}
 use Rattle.driver_replay.specs.Shows.{Shows}

@@ -14,7 +14,7 @@ use Rattle.driver_machine.specs.Events.{next_event, refusal_of}
 use Rattle.driver_machine.specs.Guards.{IsSetUp, IsHeldFor, IsFresh}
 use Rattle.driver_machine.specs.Sound.{Sound}
 use Rattle.driver_slots.specs.Parts.{AreSetups}
-use Rattle.driver_work.specs.Runs.{MaySubmit}
+use Rattle.driver_machine.specs.Runs.{MaySubmit}
 use Rattle.driver_replay.specs.Acts.{AreSetUp}
 use Rattle.driver_trace.specs.Runs.{IsSoFar}
 use Rattle.driver_runs.specs.Runs.{IsKept}

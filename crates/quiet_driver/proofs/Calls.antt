@@ -20,7 +20,7 @@ use Rattle.driver_machine.specs.Lines.{lines_of_all}
 use Rattle.driver_machine.specs.Events.{submit_acts, refusal_of, event_acts}
 use Rattle.driver_machine.specs.Guards.{IsSetUp}
 use Rattle.driver_machine.specs.Sound.{Sound, AtWork}
-use Rattle.driver_work.specs.Runs.{Works}
+use Rattle.driver_machine.specs.Runs.{Works}
 use Rattle.driver_work.proofs.Calls.{submit_works, event_works, taken_works}
 use Rattle.driver_work.proofs.Next.{next_can}
 use Rattle.driver_invariant.proofs.Sound.{sound_after}

@@ -24,8 +24,8 @@ use Rattle.driver_machine.specs.Lines.{lines_of_all}
 use Rattle.driver_machine.specs.Events.{event_acts, next_event}
 use Rattle.driver_machine.specs.Guards.{IsSetUp}
 use Rattle.driver_machine.specs.Sound.{Sound, AtWork}
-use Rattle.driver_work.specs.Runs.{Works}
-use Rattle.driver_work.specs.Runs as machine
+use Rattle.driver_machine.specs.Runs.{Works}
+use Rattle.driver_machine.specs.Runs as machine
 use Rattle.driver_work.proofs.Calls.{event_works, taken_works}
 use Rattle.driver_work.proofs.Next.{next_can}
 use Rattle.driver_invariant.proofs.Sound.{sound_after}

@@ -25,7 +25,7 @@ use Rattle.driver_machine.specs.World.{World, Held, no_held, unit_at, adapter_at
 use Rattle.driver_machine.specs.Acts.{Tried}
 use Rattle.driver_machine.specs.Events.{can_move}
 use Rattle.driver_machine.specs.Sound.{Sound}
-use Rattle.driver_work.specs.Runs.{MayCome}
+use Rattle.driver_machine.specs.Runs.{MayCome}
 use Rattle.driver_trace.specs.Within.{ShowsAll}
 use Rattle.driver_trace.specs.Calls.{Stands, Ends, IsReadOf}
 

@@ -25,7 +25,7 @@ use Rattle.driver_machine.specs.Lines.{lines_of_all}
 use Rattle.driver_machine.specs.Events.{refusal_of, submit_acts}
 use Rattle.driver_machine.specs.Guards.{IsSetUp, IsHeldFor}
 use Rattle.driver_machine.specs.Sound.{Sound, AtWork}
-use Rattle.driver_work.specs.Runs.{MaySubmit}
+use Rattle.driver_machine.specs.Runs.{MaySubmit}
 use Rattle.driver_outcome.specs.Packs.{packs_after_all}
 use Rattle.driver_trace.proofs.Inputted.{lines_play_nothing}
 use Rattle.quiet_driver.specs.Quiet.{IsQuiet, rested, StandsQuiet}

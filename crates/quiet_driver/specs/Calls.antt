@@ -13,7 +13,7 @@ use Rattle.driver_machine.specs.Acts.{Act, Nothing, Taken, Tried, after, after_a
 use Rattle.driver_machine.specs.Lines.{lines_of_all}
 use Rattle.driver_machine.specs.Events.{refusal_of, submit_acts, event_acts, next_event}
 use Rattle.driver_machine.specs.Guards.{IsSetUp, IsHeldFor}
-use Rattle.driver_work.specs.Runs.{MaySubmit, MayCome}
+use Rattle.driver_machine.specs.Runs.{MaySubmit, MayCome}
 use Rattle.driver_outcome.specs.Packs.{packs_after_all}
 use Rattle.driver_trace.specs.Calls.{Stands, AreThere, IsReadOf}
 use Rattle.driver_trace.specs.Runs.{IsDraining}

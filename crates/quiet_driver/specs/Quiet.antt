@@ -18,7 +18,7 @@ use Rattle.waited_requests.specs.Rest.{IsAtRest}
 use Rattle.driver_machine.specs.World.{World, UnitView, Setup as UnitSetup, new_world, unit_at, adapter_at}
 use Rattle.driver_machine.specs.Guards.{IsSetUp}
 use Rattle.driver_machine.specs.Sound.{Sound, AtWork}
-use Rattle.driver_work.specs.Runs.{NoneOutstanding}
+use Rattle.driver_machine.specs.Runs.{NoneOutstanding}
 use Rattle.driver_trace.specs.Calls.{Stands, AreThere}
 
 -- THE DRIVER IS QUIET: what packs hold is not asked.
