@@ -19,7 +19,7 @@ mod row;
 mod run;
 
 use crate::run::{Run, zeros};
-use outside_traits::traits::NoMemory;
+use no_memory::NoMemory;
 use std::alloc::Global;
 use std::marker::Model;
 

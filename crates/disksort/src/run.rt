@@ -6,7 +6,7 @@ ghost use Rattle.disksort.specs.Buckets.{IsRun, IsLinked, IsLowest, chain, bucke
 
 use crate::Waiter;
 use crate::row::{clear_bit, is_on, lowest, set_bit};
-use outside_traits::traits::NoMemory;
+use no_memory::NoMemory;
 use std::alloc::Global;
 use std::mem::swap;
 

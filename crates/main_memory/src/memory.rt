@@ -9,7 +9,7 @@ use crate::bits::{all_free, give_frames, take_frames};
 use crate::buffer::{Buffer, Cpu, frames_of};
 use crate::frames::Frames;
 use crate::span::{Span, fill_span, read_filled, write_front};
-use outside_traits::traits::NoMemory;
+use no_memory::NoMemory;
 use std::alloc::Global;
 use std::marker::Model;
 use thiserror::Error;

@@ -2,7 +2,7 @@ ghost use Rattle.std.specs.Prelude.{◌≡◌, ◌≢◌, ℕ, ◌<◌, ◌≤�
 ghost use Rattle.pack_model.specs.Pack.{Pack, block_at, with_written, with_mark, is_marked};
 ghost use Rattle.outside_traits.specs.Causes.{HasCause};
 
-use std::alloc::{AllocError, AllocFailed};
+pub use no_memory::NoMemory;
 use thiserror::Error;
 
 /// A source's call failed. It gave no byte.
@@ -19,23 +19,6 @@ pub struct SinkFailed;
 #[derive(Clone, Copy, Debug, PartialEq, Eq, Error)]
 #[error("the packs failed")]
 pub struct StoreFailed;
-
-/// There was no memory.
-#[derive(Clone, Copy, Debug, PartialEq, Eq, Error)]
-#[error("there is no memory")]
-pub struct NoMemory;
-
-impl From<AllocError> for NoMemory {
-    fn from(_: AllocError) -> NoMemory {
-        NoMemory
-    }
-}
-
-impl<T: Drop> From<AllocFailed<T>> for NoMemory {
-    fn from(_: AllocFailed<T>) -> NoMemory {
-        NoMemory
-    }
-}
 
 /// Bytes to read, one after another.
 ///
