@@ -28,10 +28,8 @@ fn asked_in_hand(core: &Core, u: u8) -> Option<Asked>
     ensures asked { IfSome result (λ asked. asked ≡ asked_of (hand_at core.now.world u)) }
     ensures none { IfNone result ((unit_at core.now.world u).queue ≡ []) }
 {
-    match core.head(u) {
-        Some(slot) => Some(core.asked(slot)),
-        None => None,
-    }
+    let slot = core.head(u)?;
+    Some(core.asked(slot))
 }
 
 /// Whether a unit that is here with the head of its queue waits for an event, so that nothing is due at it.
@@ -98,14 +96,14 @@ pub(crate) fn next_deed<T: Sink>(
         return Ok(false);
     };
     match core.phase(u) {
-        Phase::Waiting => match start(core, line, u, asked, trace) {
-            Ok(()) => Ok(true),
-            Err(stop) => Err(stop),
-        },
-        Phase::Due { task } => match work(core, line, u, asked, task, trace) {
-            Ok(()) => Ok(true),
-            Err(stop) => Err(stop),
-        },
+        Phase::Waiting => {
+            start(core, line, u, asked, trace)?;
+            Ok(true)
+        }
+        Phase::Due { task } => {
+            work(core, line, u, asked, task, trace)?;
+            Ok(true)
+        }
         Phase::Positioning { .. } | Phase::Queued | Phase::Transferring => Ok(false),
     }
 }

@@ -1,5 +1,5 @@
 // What can happen to the driver, and what a drain does next.
-ghost use Rattle.std.specs.Prelude.{◌≡◌, ◌<◌, ◌/◌, length, Option};
+ghost use Rattle.std.specs.Prelude.{◌≡◌, ◌<◌, Option};
 ghost use Rattle.std.specs.Option.{option_map};
 ghost use Rattle.driver_machine.specs.Events as events;
 ghost use Rattle.driver_machine.specs.Events.{lowest};
@@ -94,8 +94,6 @@ pub fn next_event(core: &Core) -> Option<Event>
     if let Some(adapter) = next_move(core) {
         return Some(Event::Move { adapter });
     }
-    match next_interrupt(core) {
-        Some(adapter) => Some(Event::Attend { adapter }),
-        None => None,
-    }
+    let adapter = next_interrupt(core)?;
+    Some(Event::Attend { adapter })
 }

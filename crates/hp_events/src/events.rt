@@ -1,6 +1,6 @@
 // What each event does.
-ghost use Rattle.std.specs.Prelude.{◌≡◌, ◌<◌, ◌/◌, ◌&&◌, not, drop};
-ghost use Rattle.driver_machine.specs.World.{unit_at, adapter_at, adapter_of};
+ghost use Rattle.std.specs.Prelude.{◌≡◌, ◌<◌, ◌&&◌};
+ghost use Rattle.driver_machine.specs.World.{adapter_at};
 ghost use Rattle.driver_machine.specs.Events as events;
 ghost use Rattle.driver_machine.specs.Events.{each, drives};
 ghost use Rattle.driver_machine.specs.Sound.{Sound};

@@ -1,6 +1,5 @@
 // What is due at a unit, and the start of an adapter: one turn behind another, until nothing is left to do.
 ghost use Rattle.std.specs.Prelude.{◌≡◌, ◌<◌, [], false, IfOk};
-ghost use Rattle.driver_machine.specs.World.{unit_at};
 ghost use Rattle.driver_machine.specs.Events.{due_acts, choose_acts, adapter_start};
 ghost use Rattle.driver_machine.specs.Sound.{Sound};
 ghost use Rattle.hp_events.specs.Done.{DoesActs};

@@ -1,5 +1,5 @@
 // What the verdict of a transfer asks for.
-ghost use Rattle.std.specs.Prelude.{◌≡◌, ◌+◌, ◌==◌, ◌∷◌, [], true, if◌then◌else◌};
+ghost use Rattle.std.specs.Prelude.{◌≡◌, ◌+◌, ◌==◌, ◌∷◌, [], if◌then◌else◌};
 ghost use Rattle.hardware_table.specs.declared.Moved.TheVariants.{Marked};
 ghost use Rattle.request_slots.specs.Requests.{asked_of};
 ghost use Rattle.driver_machine.specs.declared.Phase.TheVariants.{Due};

@@ -29,22 +29,19 @@ fn answer<P: Packs>(packs: &mut P, unit: u8, call: Call) -> Result<u64, StoreFai
     let mut block = [7u8; 512];
     match call {
         Call::Length => packs.length(unit),
-        Call::Read(at) => match packs.read(unit, at, &mut block) {
-            Ok(()) => Ok(edges(&block)),
-            Err(error) => Err(error),
-        },
-        Call::Write(at, byte) => match packs.write(unit, at, &[byte; 512]) {
-            Ok(()) => Ok(0),
-            Err(error) => Err(error),
-        },
-        Call::Marked(at) => match packs.marked(unit, at) {
-            Ok(on) => Ok(u64::from(on)),
-            Err(error) => Err(error),
-        },
-        Call::Mark(at, on) => match packs.set_mark(unit, at, on) {
-            Ok(()) => Ok(0),
-            Err(error) => Err(error),
-        },
+        Call::Read(at) => {
+            packs.read(unit, at, &mut block)?;
+            Ok(edges(&block))
+        }
+        Call::Write(at, byte) => {
+            packs.write(unit, at, &[byte; 512])?;
+            Ok(0)
+        }
+        Call::Marked(at) => Ok(u64::from(packs.marked(unit, at)?)),
+        Call::Mark(at, on) => {
+            packs.set_mark(unit, at, on)?;
+            Ok(0)
+        }
     }
 }
 

@@ -1,4 +1,4 @@
-use crate::outside::{Call, answer, first_other};
+use crate::outside::{Call, first_other};
 use mass_outside::mem_packs::{FailCall, MemPacks, PackOp};
 use mass_outside::slots::Image;
 use outside_traits::traits::{Packs, StoreFailed};

@@ -7,5 +7,5 @@ use Rattle.hp_events.proofs.deeds.asked_in_hand.Goals as goal
 
 pub asked-requires : goal.asked-requires
 asked-requires c =
-    subst (λ p. IsSome (slot_at c.args.core.now.world p)) (sym c.in-Some.ensures.slot)
-    (hand_there _ _ _ c.requires.sound (in_hand_is _ _ c.requires.sound c.requires.unit c.in-Some.ensures.some))
+    subst (λ p. IsSome (slot_at c.args.core.now.world p)) (sym c.in_ok-slot.ensures.slot)
+    (hand_there _ _ _ c.requires.sound (in_hand_is _ _ c.requires.sound c.requires.unit c.in_ok-slot.ensures.some))

@@ -1,5 +1,6 @@
 use Rattle.std.proofs.Common.{rules, ◌≡◌, [], false, sym, subst, List, None, Ok, Bool}
 use Rattle.std.proofs.lemmas.Bool.{false≢true}
+use Rattle.std.proofs.lemmas.Result.{err_from_is_err_and}
 use Rattle.driver_machine.specs.World.{unit_at}
 use Rattle.driver_machine.specs.Acts.{Act}
 use Rattle.driver_machine.specs.Due.{next_of}
@@ -21,53 +22,55 @@ work-requires-clause-may g c =
     may_here _ c.args.line _ _ _
     (task_here _ _ c.in-Some.asked c.in-Due.task c.requires.sound c.requires.unit c.requires.free c.in-Some.ensures.some c.in-Some.ensures.asked c.in-Due.ensures)
 
-pub returns-in-Ok-clause-does : goal.returns-in-Ok-clause-does
-returns-in-Ok-clause-does g c =
+pub returns-in_ok-start-in-Waiting-clause-does : goal.returns-in_ok-start-in-Waiting-clause-does
+returns-in_ok-start-in-Waiting-clause-does g c =
     done_here _ _ _ _ _ _ _ c.args.line _ _ _ _ _
     (start_here _ _ c.in-Some.asked c.requires.sound c.requires.unit c.requires.free c.in-Some.ensures.some c.in-Some.ensures.asked c.in-Waiting.ensures)
-    c.in-Ok.ensures
+    c.in_ok-start-in-Waiting.ensures
 
-pub returns-in-Ok-clause-sound : goal.returns-in-Ok-clause-sound
-returns-in-Ok-clause-sound g c =
+pub returns-in_ok-start-in-Waiting-clause-sound : goal.returns-in_ok-start-in-Waiting-clause-sound
+returns-in_ok-start-in-Waiting-clause-sound g c =
     sound_here _ _ _ _ _ _ _ c.args.line _ _ _ _
     (start_here _ _ c.in-Some.asked c.requires.sound c.requires.unit c.requires.free c.in-Some.ensures.some c.in-Some.ensures.asked c.in-Waiting.ensures)
-    c.in-Ok.ensures
+    c.in_ok-start-in-Waiting.ensures
 
-pub returns-in-Ok-clause-free : goal.returns-in-Ok-clause-free
-returns-in-Ok-clause-free g c =
+pub returns-in_ok-start-in-Waiting-clause-free : goal.returns-in_ok-start-in-Waiting-clause-free
+returns-in_ok-start-in-Waiting-clause-free g c =
     free_here _ _ _ _ _ _ _ c.args.line _ _ _ _
     (start_here _ _ c.in-Some.asked c.requires.sound c.requires.unit c.requires.free c.in-Some.ensures.some c.in-Some.ensures.asked c.in-Waiting.ensures)
-    c.in-Ok.ensures
+    c.in_ok-start-in-Waiting.ensures
 
-pub returns-in-Err-clause-does : goal.returns-in-Err-clause-does
-returns-in-Err-clause-does g c =
-    stopped_here _ _ _ _ _ _ _ c.args.line _ _ _ _
+pub returns-in_err-start-in-Waiting-clause-does : goal.returns-in_err-start-in-Waiting-clause-does
+returns-in_err-start-in-Waiting-clause-does g c =
+    let p = err_from_is_err_and c.from_residual.result c.from_residual.ensures.1 in
+    rw (p.1, p.2) (stopped_here _ _ _ _ _ _ _ c.args.line _ _ _ _
     (start_here _ _ c.in-Some.asked c.requires.sound c.requires.unit c.requires.free c.in-Some.ensures.some c.in-Some.ensures.asked c.in-Waiting.ensures)
-    c.in-Err.ensures
+    c.in_err-start-in-Waiting.ensures)
 
-pub returns-in-Ok-work-clause-does : goal.returns-in-Ok-work-clause-does
-returns-in-Ok-work-clause-does g c =
+pub returns-in_ok-work-in-Due-clause-does : goal.returns-in_ok-work-in-Due-clause-does
+returns-in_ok-work-in-Due-clause-does g c =
     done_here _ _ _ _ _ _ _ c.args.line _ _ _ _ _
     (task_here _ _ c.in-Some.asked c.in-Due.task c.requires.sound c.requires.unit c.requires.free c.in-Some.ensures.some c.in-Some.ensures.asked c.in-Due.ensures)
-    c.in-Ok-work.ensures
+    c.in_ok-work-in-Due.ensures
 
-pub returns-in-Ok-work-clause-sound : goal.returns-in-Ok-work-clause-sound
-returns-in-Ok-work-clause-sound g c =
+pub returns-in_ok-work-in-Due-clause-sound : goal.returns-in_ok-work-in-Due-clause-sound
+returns-in_ok-work-in-Due-clause-sound g c =
     sound_here _ _ _ _ _ _ _ c.args.line _ _ _ _
     (task_here _ _ c.in-Some.asked c.in-Due.task c.requires.sound c.requires.unit c.requires.free c.in-Some.ensures.some c.in-Some.ensures.asked c.in-Due.ensures)
-    c.in-Ok-work.ensures
+    c.in_ok-work-in-Due.ensures
 
-pub returns-in-Ok-work-clause-free : goal.returns-in-Ok-work-clause-free
-returns-in-Ok-work-clause-free g c =
+pub returns-in_ok-work-in-Due-clause-free : goal.returns-in_ok-work-in-Due-clause-free
+returns-in_ok-work-in-Due-clause-free g c =
     free_here _ _ _ _ _ _ _ c.args.line _ _ _ _
     (task_here _ _ c.in-Some.asked c.in-Due.task c.requires.sound c.requires.unit c.requires.free c.in-Some.ensures.some c.in-Some.ensures.asked c.in-Due.ensures)
-    c.in-Ok-work.ensures
+    c.in_ok-work-in-Due.ensures
 
-pub returns-in-Err-work-clause-does : goal.returns-in-Err-work-clause-does
-returns-in-Err-work-clause-does g c =
-    stopped_here _ _ _ _ _ _ _ c.args.line _ _ _ _
+pub returns-in_err-work-in-Due-clause-does : goal.returns-in_err-work-in-Due-clause-does
+returns-in_err-work-in-Due-clause-does g c =
+    let p = err_from_is_err_and c.from_residual-in_err-work-in-Due.result c.from_residual-in_err-work-in-Due.ensures.1 in
+    rw (p.1, p.2) (stopped_here _ _ _ _ _ _ _ c.args.line _ _ _ _
     (task_here _ _ c.in-Some.asked c.in-Due.task c.requires.sound c.requires.unit c.requires.free c.in-Some.ensures.some c.in-Some.ensures.asked c.in-Due.ensures)
-    c.in-Err-work.ensures
+    c.in_err-work-in-Due.ensures)
 
 pub returns-in-Positioning : goal.returns-in-Positioning
 returns-in-Positioning g c =
