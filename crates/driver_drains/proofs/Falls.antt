@@ -24,7 +24,7 @@ use Rattle.driver_machine.specs.Runs.{Works}
 use Rattle.driver_machine.specs.Runs as work
 use Rattle.driver_work.proofs.Calls.{event_works}
 use Rattle.driver_work.proofs.Next.{next_can}
-use Rattle.driver_invariant.proofs.Sound.{sound_after}
+use Rattle.driver_trace.proofs.Runs.{sound_after}
 use Rattle.driver_trace.specs.Runs.{IsDraining, with_call}
 use Rattle.driver_trace.specs.Calls.{IsReadOf}
 use Rattle.driver_trace.proofs.Telling.{IsTold}

@@ -17,7 +17,7 @@ use Rattle.driver_machine.specs.Sound.{Sound}
 use Rattle.driver_machine.specs.Runs.{Works}
 use Rattle.driver_work.proofs.Calls.{submit_works, event_works}
 use Rattle.driver_slots.proofs.Starts.{sound_new}
-use Rattle.driver_invariant.proofs.Sound.{sound_after}
+use Rattle.driver_trace.proofs.Runs.{sound_after}
 use Rattle.driver_outcome.specs.Packs.{packs_after}
 use Rattle.driver_trace.proofs.Marks.{sectors_are_left, marks_stay}
 use Rattle.driver_trace.proofs.Runs.{is_legal}

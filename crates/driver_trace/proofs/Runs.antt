@@ -22,7 +22,7 @@ use Rattle.driver_machine.specs.Sound.{Sound, AtWork}
 use Rattle.driver_due.proofs.Frame.{effect_same}
 use Rattle.driver_machine.specs.Runs.{Run}
 use Rattle.driver_work.proofs.Next.{next_can}
-use Rattle.driver_invariant.proofs.Sound.{sound_after}
+pub use Rattle.driver_invariant.proofs.Sound.{sound_after}
 use Rattle.driver_outcome.specs.Packs.{packs_after_all}
 use Rattle.driver_trace.specs.Calls.{Ends, IsLeft, AreThere}
 use Rattle.driver_trace.proofs.Telling.{IsTold}
