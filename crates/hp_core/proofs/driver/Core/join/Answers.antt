@@ -1,4 +1,4 @@
-use Rattle.std.proofs.Common.{◌<◌, sym, subst, length-set, arith}
+use Rattle.std.proofs.Common.{◌<◌, sym, subst, length-set}
 use Rattle.hp_core.proofs.Joining.{all_needed, absent, queue_less, first_below, joins}
 use Rattle.hp_core.proofs.driver.Core.join.Goals as goal
 
