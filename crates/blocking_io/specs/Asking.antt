@@ -18,10 +18,11 @@ use Rattle.hp_driver.specs.Subsystem.{State, asked}
 use Rattle.blocking_io.specs.Given.{reached_by, bytes_by}
 use Rattle.blocking_io.specs.Calls.{Stage}
 
--- BETWEEN TWO REQUESTS the driver is ready: it is quiet, and no call of it has failed.
+-- BETWEEN TWO REQUESTS the driver is ready: it is quiet, no call of it has failed, and all that it told is sent.
 pub record IsReady (s : State) : Type 0 where
   pub quiet : IsQuiet s.world
   pub going : s.failed ≡ false
+  pub sent : s.kept ≡ []
 
 -- WHAT MAY BE ASKED of a driver that is ready and has room for a request: a request to a unit that is set up, with just the bytes of a
 -- write and none for a read.

@@ -22,7 +22,7 @@ use outside_traits::whole::write_all;
 use run_promises::beginnings_law;
 use trace_lines::idle;
 
-/// Submits a request at a line, with the bytes of a write.
+/// Submits a request at a line, with the bytes of a write, and sends its lines.
 fn submit<T: Sink>(
     subsystem: &mut Subsystem,
     line: u64,
@@ -35,6 +35,7 @@ fn submit<T: Sink>(
     requires going { subsystem.old.failed ≡ false }
     requires none_waits { subsystem.old.world.answers ≡ [] }
     requires asked { IsAsked subsystem.old request from.now }
+    requires sent { subsystem.old.kept ≡ [] }
     ensures gives { OnOk result ((tells : Bool) → (held : ℕ → Pack) → GivesSubmission line (asked request from.now)
         (stage (λ _. tells) (λ _. held) T.tells T.taken subsystem.old.world line trace.old reached.old into.old)
         (stage (λ _. tells) (λ _. held) T.tells T.taken subsystem.new.world line trace.new reached.new into.new)) }
@@ -42,18 +43,25 @@ fn submit<T: Sink>(
         (stage (λ _. tells) (λ _. held) T.tells T.taken subsystem.old.world line trace.old reached.old into.old)
         (stage (λ _. tells) (λ _. held) T.tells T.taken subsystem.new.world line trace.new reached.new into.new)) }
     ensures going { OnOk result (subsystem.new.failed ≡ false) }
+    ensures sent { OnOk result (subsystem.new.kept ≡ []) }
     ensures outstanding { subsystem.new.outstanding ≡ subsystem.old.outstanding }
     ensures never_again { IsTrue (T.tells trace.new) → IsTrue (T.tells trace.old) }
     ensures cause { HasCause (T.faults trace.old) (T.faults trace.new) result }
 {
-    let Ok(()) = subsystem.submit(line, request, from, trace) else {
-        return Err(Stop::Sink);
-    };
-    take_answers(subsystem, reached, into);
-    Ok(())
+    match subsystem.submit(line, request, from, trace) {
+        Ok(()) => {}
+        Err(_) => return Err(Stop::Sink),
+    }
+    match subsystem.send(trace) {
+        Ok(()) => {
+            take_answers(subsystem, reached, into);
+            Ok(())
+        }
+        Err(_) => Err(Stop::Sink),
+    }
 }
 
-/// An event happens at a line.
+/// An event happens at a line, and its lines are sent.
 fn happen<P: Packs, T: Sink>(
     subsystem: &mut Subsystem,
     line: u64,
@@ -66,6 +74,7 @@ fn happen<P: Packs, T: Sink>(
     requires going { subsystem.old.failed ≡ false }
     requires none_waits { subsystem.old.world.answers ≡ [] }
     requires there { IsThere subsystem.old.world (input_of event) }
+    requires sent { subsystem.old.kept ≡ [] }
     ensures gives { OnOk result (GivesEvent line (input_of event)
         (stage P.tells P.held T.tells T.taken subsystem.old.world packs.old trace.old reached.old into.old)
         (stage P.tells P.held T.tells T.taken subsystem.new.world packs.new trace.new reached.new into.new)) }
@@ -73,15 +82,24 @@ fn happen<P: Packs, T: Sink>(
         (stage P.tells P.held T.tells T.taken subsystem.old.world packs.old trace.old reached.old into.old)
         (stage P.tells P.held T.tells T.taken subsystem.new.world packs.new trace.new reached.new into.new)) }
     ensures going { OnOk result (subsystem.new.failed ≡ false) }
+    ensures sent { OnOk result (subsystem.new.kept ≡ []) }
     ensures outstanding { subsystem.new.outstanding ≡ subsystem.old.outstanding }
     ensures never_again { IsTrue (P.tells packs.new) → IsTrue (P.tells packs.old) }
     ensures never_again_trace { IsTrue (T.tells trace.new) → IsTrue (T.tells trace.old) }
     ensures causes { HasCauses (P.faults packs.old) (P.faults packs.new) (T.faults trace.old) (T.faults trace.new) (stop_in result) }
 {
     subsystem.law();
-    subsystem.event(line, event, packs, trace)?;
-    take_answers(subsystem, reached, into);
-    Ok(())
+    match subsystem.event(line, event, packs, trace) {
+        Ok(()) => {}
+        Err(stop) => return Err(stop),
+    }
+    match subsystem.send(trace) {
+        Ok(()) => {
+            take_answers(subsystem, reached, into);
+            Ok(())
+        }
+        Err(_) => Err(Stop::Sink),
+    }
 }
 
 /// Says that a drain found nothing to do.
@@ -89,7 +107,10 @@ fn say_idle<T: Sink>(line: u64, trace: &mut T) -> Result<(), Stop>
     ensures says { SaysText T.tells T.taken trace.old trace.new result (moment_text (Idle line)) }
     ensures cause { HasCause (T.faults trace.old) (T.faults trace.new) result }
 {
-    write_all(trace, idle(line).as_bytes()).map_err(|_| Stop::Sink)
+    match write_all(trace, idle(line).as_bytes()) {
+        Ok(()) => Ok(()),
+        Err(_) => Err(Stop::Sink),
+    }
 }
 
 /// A request is submitted at a line and drained, with the bytes of a write, and its answer is given and taken. However the packs

@@ -9,7 +9,7 @@ use std::alloc::Global;
 
 /// A subsystem with an RM03 as unit 0, for one request.
 fn started(alloc: Global) -> Option<Subsystem>
-    ensures { IfSome result (λ s. s ≡ record { world = new_world (record { unit = 0; kind = Rm03; table = None } ∷ []) 1 0; outstanding = 1; failed = false }) }
+    ensures { IfSome result (λ s. s ≡ record { world = new_world (record { unit = 0; kind = Rm03; table = None } ∷ []) 1 0; outstanding = 1; failed = false; kept = [] }) }
 {
     let units = [UnitSetup {
         unit: 0,

@@ -212,7 +212,7 @@ stopped_leaves faults.Sink s first left out_tells said said' trace_tells taken t
 
 pub play_halts : (s : Script) (units slice : List UnitSetup) (requests noises : ℕ) (state : State) (held : ℕ → Pack) (fault : PlayFault) (old new : Stage) → slice ≡ units
     → AreSetFor s (tables_in (setups_of units)) (setups_of units) → AreTablesOf (drives_of s) held (tables_in (setups_of units)) → old.held ≡ held
-    → state ≡ record { world = new_world (setups_of slice) (min requests 16384) noises; outstanding = requests; failed = false } → old.world ≡ state.world
+    → state ≡ record { world = new_world (setups_of slice) (min requests 16384) noises; outstanding = requests; failed = false; kept = [] } → old.world ≡ state.world
     → ((tables : ℕ → Option Table) → StopsScript s tables fault old new)
     → Leaves fault s held new.held new.out_tells old.said new.said new.trace_tells old.taken new.taken
 play_halts s units slice requests noises state held fault old new same set read same_held is world stops =

@@ -293,20 +293,20 @@ starts_ready s setups outstanding noises set count = record {
 
 -- THE WHOLE PLAY, of a world that was made of units that are set up
 pub new_is : (units slice : List UnitSetup) (requests noises : ℕ) (state : State) → slice ≡ units
-    → state ≡ record { world = new_world (setups_of slice) (min requests 16384) noises; outstanding = requests; failed = false }
+    → state ≡ record { world = new_world (setups_of slice) (min requests 16384) noises; outstanding = requests; failed = false; kept = [] }
     → state.world ≡ new_world (setups_of units) (min requests 16384) noises
 new_is units slice requests noises state same is =
     ap (λ (s : State). s.world) is ∙ ap (λ (us : List UnitSetup). new_world (setups_of us) (min requests 16384) noises) same
 
 pub ready_for : (s : Script) (units slice : List UnitSetup) (requests noises : ℕ) (state : State) → slice ≡ units → AreSetFor s (tables_in (setups_of units)) (setups_of units)
-    → noises ≡ counted one_noise s.lines → state ≡ record { world = new_world (setups_of slice) (min requests 16384) noises; outstanding = requests; failed = false }
+    → noises ≡ counted one_noise s.lines → state ≡ record { world = new_world (setups_of slice) (min requests 16384) noises; outstanding = requests; failed = false; kept = [] }
     → Ready s 0 0 0 [] state.world
 ready_for s units slice requests noises state same set count is =
     subst (Ready s 0 0 0 []) (sym (new_is units slice requests noises state same is)) (starts_ready s (setups_of units) requests noises set count)
 
 pub whole_for : (s : Script) (units slice : List UnitSetup) (requests noises : ℕ) (state : State) (held : ℕ → Pack) (old new : Stage) → IsScript s → slice ≡ units
     → AreSetFor s (tables_in (setups_of units)) (setups_of units) → AreTablesOf (drives_of s) held (tables_in (setups_of units)) → old.held ≡ held
-    → state ≡ record { world = new_world (setups_of slice) (min requests 16384) noises; outstanding = requests; failed = false } → old.world ≡ state.world
+    → state ≡ record { world = new_world (setups_of slice) (min requests 16384) noises; outstanding = requests; failed = false; kept = [] } → old.world ≡ state.world
     → old.tally ≡ tally_by (counted one_request s.lines) [] [] → ((tables : ℕ → Option Table) → PlaysScript s tables old new)
     → Tallied s held new.held new.out_tells old.said new.said new.trace_tells old.taken new.taken new.tally
 whole_for s units slice requests noises state held old new script same set read same_held is world none_yet goes =

@@ -40,6 +40,7 @@ pub fn ask<O: Sink, T: Sink>(
 {
     subsystem.law();
     subsystem.submit(number, request, bytes, trace)?;
+    subsystem.send(trace)?;
     write_answers(subsystem, desk, out)?;
     Ok(())
 }
@@ -69,6 +70,7 @@ pub fn happen<P: Packs, O: Sink, T: Sink>(
 {
     subsystem.law();
     subsystem.event(number, event, packs, trace)?;
+    subsystem.send(trace)?;
     write_answers(subsystem, desk, out)?;
     Ok(())
 }

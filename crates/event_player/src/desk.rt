@@ -9,6 +9,9 @@ use mass_gather::Gather;
 use outside_traits::traits::{NoMemory, Sink, SinkFailed};
 use std::alloc::Global;
 
+/// How many bytes of answers are gathered at most.
+const ANSWER_ROOM: u32 = 16384;
+
 /// Text that is gathered for a sink, the tally of the run so far, and room for a block and for its line, of either form.
 #[derive(Drop)]
 pub struct Desk {
@@ -25,7 +28,7 @@ impl Desk {
         ensures gather { IfOk result (λ desk. desk.gather ≡ []) }
         ensures tally { IfOk result (λ desk. desk.tally ≡ tally_by requests [] []) }
     {
-        let gather = Gather::new(alloc)?;
+        let gather = Gather::new(alloc, ANSWER_ROOM)?;
         let tally = Tally::new(requests);
         let line = BlockLine::new();
         let fill = FillLine::new();

@@ -5,6 +5,7 @@ use Rattle.main_memory.specs.Bytes.{filled}
 use Rattle.main_memory.specs.Blocks.{size_at}
 use Rattle.pack_model.specs.Pack.{Pack, with_written}
 use Rattle.hardware_table.specs.declared.Moved.{Moved}
+use Rattle.hardware_table.specs.declared.Work.TheVariants.{Transfer}
 use Rattle.hardware_table.specs.Drive.{DriveState, is_writing}
 use Rattle.hardware_table.specs.Adapter.{next_block, next_window, stepped, drive_stepped}
 use Rattle.hardware_table.specs.Moves.{was_read, was_written, has_bytes}
@@ -128,14 +129,31 @@ no_store (Err Store) stop e = absurd (cc)
 pub named_in : (w : World) (slot hand : ℕ) (asked : Asked) → asked ≡ asked_of (held_in w slot) → slot ≡ hand → asked.id ≡ (held_in w hand).id
 named_in w slot hand asked is same = ap (λ (a : Asked). a.id) is ∙ ap (λ (p : ℕ). (held_in w p).id) same
 
+-- A READ leaves the packs, also where they fail.
+reads_only : (d : DriveState) (write : Bool) → d.work ≡ Transfer write → write ≡ false → is_writing d.work ≡ false
+reads_only d write work off = ap is_writing (work ∙ ap Transfer off)
+
+none_written : (d : DriveState) (v : Moved) → is_writing d.work ≡ false → was_written d v ≡ false
+none_written d v off = by (has_bytes v) (is_writing d.work) off
+  where
+    by : (b w : Bool) → w ≡ false → (b && w) ≡ false
+    by true w f = f
+    by false w f = refl
+
+read_kept : (d : DriveState) (v : Moved) (old new written : ℕ → Pack) → is_writing d.work ≡ false → new ≡ (if was_written d v then written else old) → new ≡ old
+read_kept d v old new written off is = is ∙ ap (λ (b : Bool). if b then written else old) (none_written d v off)
+
+not_writing : (d : DriveState) → is_writing d.work ≡ false → is_writing d.work ≡ true → ⊥
+not_writing d off on = let e : false ≡ true = sym off ∙ on in cc
+
 -- THE PACKS FAILED before the sector was tried.
 pub sector_stopped : {O Q : Type 0} (holds : Q → Bool) (held : Q → ℕ → Pack) (packs_faults : Q → ℕ) (tells : O → Bool) (taken : O → List ℕ) (faults : O → ℕ) (packs packs' : Q) (trace : O) (old new : State) (line u id : ℕ)
-    → IsBusyFor (adapter_at old.world (adapter_of u)).state (drive_of u) false → new ≡ old
+    → IsBusyFor (adapter_at old.world (adapter_of u)).state (drive_of u) false → (unit_at old.world u).drive.work ≡ Transfer (adapter_at old.world (adapter_of u)).state.write → new ≡ old
     → IsOldOrNew u (next_block (adapter_at old.world (adapter_of u)).state) (unit_at old.world u).drive (holds packs')
     (record { book = old.world.book; held = held packs; window = block_in (held_in old.world (slot_in_hand (unit_at old.world u))) (next_window (adapter_at old.world (adapter_of u)).state) }) (held packs')
     → (IsTrue (holds packs') → IsTrue (holds packs)) → packs_faults packs ≤ packs_faults packs' → Rose (packs_faults packs) (packs_faults packs')
     → TriesSector holds held packs_faults tells taken faults packs packs' trace trace old new (Err Store) line u id
-sector_stopped holds held packs_faults tells taken faults packs packs' trace old new line u id b same left again later rose = record {
+sector_stopped holds held packs_faults tells taken faults packs packs' trace old new line u id b work same left again later rose = record {
   tried = record { marked = false; verdict = Clean; bytes = [] };
   outcome = record {
     done = [];
@@ -153,6 +171,11 @@ sector_stopped holds held packs_faults tells taken faults packs packs' trace old
   never_again = λ t. t;
   causes = stopped_causes (packs_faults packs) (packs_faults packs') (faults trace) later rose;
   kept = λ e. ap (λ (s : State). s.kept) same;
+  leaves = λ off t. elim (left t) [
+    | inl is ↦ is
+    | inr is ↦ absurd (not_writing (unit_at old.world u).drive
+        (reads_only (unit_at old.world u).drive (adapter_at old.world (adapter_of u)).state.write work off) is.0)
+  ];
   before = λ e. record {
     world = ap (λ (s : State). s.world) same;
     text = λ t. ap (λ (s : State). taken trace ++ s.kept) same;
@@ -166,12 +189,12 @@ sector_stopped holds held packs_faults tells taken faults packs packs' trace old
 -- THE SECTOR was tried, and its line told or not.
 pub sector_told : {O Q : Type 0} (holds : Q → Bool) (held : Q → ℕ → Pack) (packs_faults : Q → ℕ) (tells : O → Bool) (taken : O → List ℕ) (faults : O → ℕ) (packs packs' : Q) (trace trace' : O) (old mid new : State)
     (result : Result (Unit {0}) Stop) (line u id named block : ℕ) (v : Moved) → InHand old.world u id → named ≡ id
-    → IsBusyFor (adapter_at old.world (adapter_of u)).state (drive_of u) false → block ≡ next_block (adapter_at old.world (adapter_of u)).state
+    → IsBusyFor (adapter_at old.world (adapter_of u)).state (drive_of u) false → (unit_at old.world u).drive.work ≡ Transfer (adapter_at old.world (adapter_of u)).state.write → block ≡ next_block (adapter_at old.world (adapter_of u)).state
     → Stepped old.world mid.world u (holds packs') (held packs) (held packs') v → mid.kept ≡ old.kept
     → Tells tells taken faults trace trace' mid new result (moment_text (moments.Told line u named (moments.Sector block v)))
     → (IsTrue (holds packs') → IsTrue (holds packs)) → packs_faults packs ≤ packs_faults packs'
     → TriesSector holds held packs_faults tells taken faults packs packs' trace trace' old new result line u id
-sector_told holds held packs_faults tells taken faults packs packs' trace trace' old mid new result line u id named block v i same b at s kept told again later =
+sector_told holds held packs_faults tells taken faults packs packs' trace trace' old mid new result line u id named block v i same b work at s kept told again later =
     let world : new.world ≡ after old.world (Of line u id (Sector (next_block (adapter_at old.world (adapter_of u)).state) (tried old.world mid.world line u id (holds packs') (held packs) (held packs') v i b s))) =
     told.world ∙ sector_world old.world mid.world line u id (holds packs') (held packs) (held packs') v i b s in
     record {
@@ -193,5 +216,7 @@ sector_told holds held packs_faults tells taken faults packs packs' trace trace'
       never_again = told.gathers.never_again;
       causes = told_causes (packs_faults packs) (packs_faults packs') (faults trace) (faults trace') result later told.gathers.cause told.stop;
       kept = λ e. absurd (no_store result told.stop e);
+      leaves = λ off t. read_kept (unit_at old.world u).drive v (held packs) (held packs') _
+          (reads_only (unit_at old.world u).drive (adapter_at old.world (adapter_of u)).state.write work off) (s.moves.written t);
       before = λ e. absurd (no_store result told.stop e);
     }

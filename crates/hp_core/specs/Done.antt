@@ -1,5 +1,5 @@
 -- What the method of an act does.
-use Rattle.std.specs.Prelude.{◌≡◌, ℕ, ◌<◌, ◌≤◌, Bool, List, [], ◌∷◌, length, Result, Option, Some, IsTrue, IfOk, IfErr}
+use Rattle.std.specs.Prelude.{◌≡◌, ℕ, ◌<◌, ◌≤◌, Bool, false, List, [], ◌∷◌, length, Result, Option, Some, IsTrue, IfOk, IfErr}
 use Rattle.pack_model.specs.Pack.{Pack}
 use Rattle.outside_traits.specs.Causes.{HasCause, Rose}
 use Rattle.hardware_table.specs.Adapter.{next_block}
@@ -47,7 +47,8 @@ pub record HasUnit (w : World) (u : ℕ) : Type 0 where
   pub adapter : adapter_of u < length w.adapters
 
 -- THE NEXT SECTOR of the transfer under way at a unit IS TRIED, and its line told: for some sector the call comes to what trying
--- it comes to. Each failure has its cause, and where the packs failed nothing was done, and no more text is kept.
+-- it comes to. Each failure has its cause, and where the packs failed nothing was done, and no more text is kept. A read leaves the packs,
+-- also where they fail.
 pub record TriesSector {O Q : Type 0} (holds : Q → Bool) (held : Q → ℕ → Pack) (packs_faults : Q → ℕ) (tells : O → Bool) (taken : O → List ℕ) (faults : O → ℕ) (packs packs' : Q) (trace trace' : O) (old new : State) (result : Result (Unit {0}) Stop) (line u id : ℕ) : Type 0 where
   pub tried : Tried
   pub outcome : Outcome (record { packs = holds packs'; trace = tells trace' })
@@ -58,5 +59,6 @@ pub record TriesSector {O Q : Type 0} (holds : Q → Bool) (held : Q → ℕ →
   pub never_again : IsTrue (tells trace') → IsTrue (tells trace)
   pub causes : HasCauses (packs_faults packs) (packs_faults packs') (faults trace) (faults trace') (stop_in result)
   pub kept : stop_in result ≡ Some Store → new.kept ≡ old.kept
+  pub leaves : (adapter_at old.world (adapter_of u)).state.write ≡ false → IsTrue (holds packs') → held packs' ≡ held packs
   pub before : stop_in result ≡ Some Store
       → StopsBefore (record { packs = holds packs'; trace = tells trace' }) (site old (held packs) (taken trace)) (site new (held packs') (taken trace'))

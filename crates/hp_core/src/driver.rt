@@ -1,5 +1,7 @@
 // The whole driver.
 ghost use Rattle.std.specs.Prelude.{◌≡◌, ◌<◌, ◌≤◌, [], length, IsSome, MatchResult, Ok, Err};
+ghost use Rattle.outside_traits.specs.Puts.{Puts};
+ghost use Rattle.mass_gather.specs.Gathers.{Gathers};
 ghost use Rattle.main_memory.specs.Frames.{frames_needed};
 ghost use Rattle.driver_machine.specs.World.{unit_at, slot_at, held_in, slot_in_hand, job_of};
 ghost use Rattle.driver_machine.specs.Lines.{step_told};
@@ -122,11 +124,11 @@ impl Core {
     }
 
     /// Sends the text that is kept. Nothing is kept after it, also where the trace failed.
-    pub fn flush<T: Sink>(&mut self, trace: &mut T) -> Result<(), Stop>
-        ensures sends { Tells T.tells T.taken T.faults trace.old trace.new self.old self.new result [] }
-        ensures empty { self.new.kept ≡ [] }
+    pub fn send<T: Sink>(&mut self, trace: &mut T) -> Result<(), SinkFailed>
+        ensures puts { Puts T.tells T.taken T.faults trace.old trace.new result self.old.kept }
+        ensures same { self.new ≡ record self.old { kept = [] } }
     {
-        sent(self.gather.flush(trace))
+        self.gather.flush(trace)
     }
 
     /// The slot of the request in hand.
@@ -158,12 +160,20 @@ impl Core {
         }
     }
 
+    /// Tells the line of a drain that found nothing to do.
+    pub fn idle<T: Sink>(&mut self, number: u64, trace: &mut T) -> Result<(), SinkFailed>
+        ensures gathers { Gathers T.tells T.taken T.faults trace.old trace.new self.old.kept self.new.kept result (moment_text (moments.Idle number)) }
+        ensures world { self.new.world ≡ self.old.world }
+    {
+        let mut text = LineText::new();
+        text.write_idle(number);
+        self.gather.put(text.as_bytes(), trace)
+    }
+
     /// Tells the line of an event that found nothing to do.
     pub(crate) fn tell_idle<T: Sink>(&mut self, number: u64, trace: &mut T) -> Result<(), Stop>
         ensures { Tells T.tells T.taken T.faults trace.old trace.new self.old self.new result (moment_text (moments.Idle number)) }
     {
-        let mut text = LineText::new();
-        text.write_idle(number);
-        sent(self.gather.put(text.as_bytes(), trace))
+        sent(self.idle(number, trace))
     }
 }

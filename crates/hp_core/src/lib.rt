@@ -3,8 +3,8 @@
 //! What is proved: `Core`: units, adapters, slots, noise and waiting answers together, with a method for each act of the
 //! machine, and views of what stands. Each act's method has the act's outcome as its clause (`DoesAct`, `DoesSilently`,
 //! `TriesSector`): the world is that of the act also where the trace failed, the line is told last, and a failure of the packs
-//! leaves the next block old or new. Its conditions are the invariant and that the act may come. Lines are kept, and sent with
-//! `flush`.
+//! leaves the next block old or new, and none where the transfer is a read. Its conditions are the invariant and that the act may
+//! come. Lines are kept, up to 64 KiB, and sent with `send`.
 #![tactic(auto)]
 
 mod acts;

@@ -16,6 +16,9 @@ use request_slots::Slots;
 use std::alloc::Global;
 use unit_bank::UnitBank;
 
+/// How many bytes of the trace's text are kept at most.
+const TRACE_ROOM: u32 = 65536;
+
 /// A unit that is set up: its number, from 0 to 31, the kind of its drive, and the table of its pack, where the pack has one.
 /// Unit `u` is drive `u % 8` of adapter `u / 8`.
 #[derive(Drop)]
@@ -85,7 +88,7 @@ fn answers_and_gather(alloc: Global, outstanding: u32) -> Result<(Answers, Gathe
     ensures gather { IfOk result (λ v. v.1 ≡ []) }
 {
     let answers = Answers::new(alloc, outstanding.min(16384) + 1)?;
-    let gather = Gather::new(alloc)?;
+    let gather = Gather::new(alloc, TRACE_ROOM)?;
     Ok((answers, gather))
 }
 

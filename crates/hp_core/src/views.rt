@@ -191,6 +191,14 @@ impl Core {
         self.channels[usize::from(a)].adapter.completion()
     }
 
+    /// Whether the transfer that an adapter started last is a write.
+    pub fn writes(&self, a: u8) -> bool
+        requires { a < length self.now.world.adapters }
+        ensures { result ≡ (adapter_at self.now.world a).state.write }
+    {
+        self.channels[usize::from(a)].adapter.writes()
+    }
+
     /// Whether the attention of a drive of an adapter is up.
     pub fn has_attention(&self, a: u8) -> bool
         requires { a < length self.now.world.adapters }

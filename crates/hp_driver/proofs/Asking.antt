@@ -18,12 +18,13 @@ use Rattle.driver_outcome.specs.Outcome.{stop_in}
 use Rattle.request_slots.specs.declared.asked.Asked.{Asked}
 use Rattle.request_slots.specs.Requests as slots
 use Rattle.hp_core.specs.State.{State}
+use Rattle.hp_events.specs.Done.{DoesActs}
 use Rattle.hp_events.specs.Submissions.{MayRefuse}
 use Rattle.subsystem_spec.specs.declared.request.Request.{Request}
 use Rattle.hp_driver.specs.Subsystem as subsystem
 use Rattle.hp_driver.specs.Subsystem.{asked, Submits, IsAsked}
-use Rattle.hp_driver.specs.Calls.{Stands, SendsActs, Asks, MayAsk, asked_at}
-use Rattle.hp_driver.proofs.Calls.{left_by, ran_sent, works_sent, no_store}
+use Rattle.hp_driver.specs.Calls.{Stands, Asks, MayAsk, asked_at}
+use Rattle.hp_driver.proofs.Calls.{left_by, ran_does, works_does, no_store}
 use Rattle.hp_driver.proofs.Bytes.{submit_keeps}
 
 -- WHAT MAY BE ASKED
@@ -76,18 +77,18 @@ held_there w r bytes first h begins is =
 module _ {O : Type 0} (tells : O → Bool) (taken : O → List ℕ) (faults : O → ℕ) (trace trace' : O) (old new : State) (result : Result (Unit {0}) Stop) (line : ℕ) (r : told.Request)
     (stands : Stands old) (unit : IsSetUp old.world r.unit) (fresh : IsFresh old.world r.id) where
   asks_by : (p : ℕ) (h : Held) (acts : List Act) → MaySubmit old.world r p h → (refusal_of r old.world ≡ None → IsHeldFor (unit_at old.world h.unit).drive.kind r h)
-      → submit_acts r line p h old.world ≡ acts → SendsActs tells taken faults trace trace' old new result acts
+      → submit_acts r line p h old.world ≡ acts → DoesActs tells taken faults trace trace' old new result acts
       → Asks tells taken faults trace trace' old new result line r
-  asks_by p h acts may held same sends =
-      let is : SendsActs tells taken faults trace trace' old new result (submit_acts r line p h old.world) =
-      subst (λ (l : List Act). SendsActs tells taken faults trace trace' old new result l) (sym same) sends in
-      let does : Submits tells taken trace trace' line r old.world new.world (stop_in result) = record { slot = p; held = h; may = may; is = held; outcome = is.outcome } in
+  asks_by p h acts may held same does_acts =
+      let is : DoesActs tells taken faults trace trace' old new result (submit_acts r line p h old.world) =
+      subst (λ (l : List Act). DoesActs tells taken faults trace trace' old new result l) (sym same) does_acts in
+      let does : Submits tells taken trace trace' line r old.world new.world old.kept new.kept (stop_in result) = record { slot = p; held = h; may = may; is = held; outcome = is.outcome } in
       record {
         does = does;
-        bytes = submit_keeps tells taken trace trace' line r old.world new.world stands.sound (stop_in result) (no_store result is.stop) does;
-        leaves = left_by old new result stands (ran_sent tells taken faults trace trace' old new result (submit_acts r line p h old.world) is)
-            (works_sent tells taken faults trace trace' old new result (submit_acts r line p h old.world)
-            (submit_works sound_after r line p h old.world stands.sound stands.work may).work is) is.sent;
+        bytes = submit_keeps tells taken trace trace' line r old.world new.world old.kept new.kept stands.sound (stop_in result) (no_store result is.stop) does;
+        leaves = left_by old new result stands (ran_does tells taken faults trace trace' old new result (submit_acts r line p h old.world) is)
+            (works_does tells taken faults trace trace' old new result (submit_acts r line p h old.world)
+            (submit_works sound_after r line p h old.world stands.sound stands.work may).work is);
         stop = is.stop;
         never_again = is.never_again;
         cause = is.cause;
@@ -95,21 +96,21 @@ module _ {O : Type 0} (tells : O → Bool) (taken : O → List ℕ) (faults : O 
 
   -- REFUSED
   pub asks_refused : (kind : AnswerKind) → refusal_of r old.world ≡ Some kind
-      → SendsActs tells taken faults trace trace' old new result (followed (Refuse line r kind ∷ []) (adapter_start line (adapter_of r.unit)) old.world)
+      → DoesActs tells taken faults trace trace' old new result (followed (Refuse line r kind ∷ []) (adapter_start line (adapter_of r.unit)) old.world)
       → Asks tells taken faults trace trace' old new result line r
-  asks_refused kind refused sends =
+  asks_refused kind refused does_acts =
       asks_by 0 no_held (followed (Refuse line r kind ∷ []) (adapter_start line (adapter_of r.unit)) old.world)
       (record { unit = unit; fresh = fresh; new = λ e. absurd (none-some kind (sym e ∙ refused)) })
       (λ e. absurd (none-some kind (sym e ∙ refused)))
-      (ap (λ (o : Option AnswerKind). submit_by o r line 0 no_held old.world) refused) sends
+      (ap (λ (o : Option AnswerKind). submit_by o r line 0 no_held old.world) refused) does_acts
 
   -- JOINED
   pub asks_joined : (p : ℕ) (h : Held) → refusal_of r old.world ≡ None → IsNew old.world p h → IsHeldFor (unit_at old.world h.unit).drive.kind r h
-      → SendsActs tells taken faults trace trace' old new result (joined_acts line p h old.world)
+      → DoesActs tells taken faults trace trace' old new result (joined_acts line p h old.world)
       → Asks tells taken faults trace trace' old new result line r
-  asks_joined p h joins new_is held sends =
+  asks_joined p h joins new_is held does_acts =
       asks_by p h (joined_acts line p h old.world) (record { unit = unit; fresh = fresh; new = λ e. new_is }) (λ e. held)
-      (ap (λ (o : Option AnswerKind). submit_by o r line p h old.world) joins) sends
+      (ap (λ (o : Option AnswerKind). submit_by o r line p h old.world) joins) does_acts
 
 -- what a refusal may be given to
 pub may_refuse : (w : World) (line : ℕ) (r : told.Request) (kind : AnswerKind) → IsSetUp w r.unit → IsFresh w r.id → refusal_of r w ≡ Some kind → MayRefuse w line r.unit r.id kind

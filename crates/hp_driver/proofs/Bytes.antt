@@ -32,29 +32,29 @@ moved_to armed w now held left maps world packs b =
     subst (λ x. Bears armed x left maps) (sym world) (subst (λ k. Bears armed w k maps) (sym packs) b)
 
 -- A SUBMISSION
-module _ {O : Type 0} (tells : O → Bool) (taken : O → List ℕ) (trace trace' : O) (line : ℕ) (r : told.Request) (old new : World) (sound : Sound old) where
-  pub submit_keeps : (stop : Option Stop) → (stop ≡ Some Store → ⊥) → Submits tells taken trace trace' line r old new stop → KeepsMaps old new
+module _ {O : Type 0} (tells : O → Bool) (taken : O → List ℕ) (trace trace' : O) (line : ℕ) (r : told.Request) (old new : World) (kept kept' : List ℕ) (sound : Sound old) where
+  pub submit_keeps : (stop : Option Stop) → (stop ≡ Some Store → ⊥) → Submits tells taken trace trace' line r old new kept kept' stop → KeepsMaps old new
   submit_keeps None apart is armed held maps b =
-      let does : Does (record { packs = true; trace = tells trace' }) (submit_acts r line is.slot is.held old) (seen old held (taken trace)) (seen new held (taken trace')) = is.outcome true held in
+      let does : Does (record { packs = true; trace = tells trace' }) (submit_acts r line is.slot is.held old) (seen old held (taken trace) kept) (seen new held (taken trace') kept') = is.outcome true held in
       moved_to armed (after_all old (submit_acts r line is.slot is.held old)) new (packs_after_all old held (submit_acts r line is.slot is.held old)) held maps does.does.world (does.does.packs refl)
       (submissions_bear armed old line is.slot r is.held (submit_acts r line is.slot is.held old) [] held maps sound (whole (submit_acts r line is.slot is.held old)) does.does.run (does.does.reads refl) b)
   submit_keeps (Some Sink) apart is armed held maps b =
-      let stops : StopsAtTrace (record { packs = true; trace = tells trace' }) (submit_acts r line is.slot is.held old) (seen old held (taken trace)) (seen new held (taken trace')) = is.outcome true held in
+      let stops : StopsAtTrace (record { packs = true; trace = tells trace' }) (submit_acts r line is.slot is.held old) (seen old held (taken trace) kept) (seen new held (taken trace') kept') = is.outcome true held in
       moved_to armed (after_all old stops.done) new (packs_after_all old held stops.done) held maps stops.does.world (stops.does.packs refl)
       (submissions_bear armed old line is.slot r is.held stops.done stops.left held maps sound stops.all stops.does.run (stops.does.reads refl) b)
   submit_keeps (Some Store) apart is armed held maps b = absurd (apart refl)
 
 -- AN EVENT
 module _ {O Q : Type 0} (holds : Q → Bool) (held : Q → ℕ → Pack) (tells : O → Bool) (taken : O → List ℕ) (packs packs' : Q) (trace trace' : O) (line : ℕ) (input : Input)
-    (old new : World) (sound : Sound old) where
-  pub event_keeps : (stop : Option Stop) → Comes holds held tells taken packs packs' trace trace' line input old new stop
+    (old new : World) (kept kept' : List ℕ) (sound : Sound old) where
+  pub event_keeps : (stop : Option Stop) → Comes holds held tells taken packs packs' trace trace' line input old new kept kept' stop
       → KeepsMapsIn (holds packs') (held packs) (held packs') input old new stop
   event_keeps None is t apart armed maps b =
-      let does : Does (record { packs = holds packs'; trace = tells trace' }) (event_acts line input is.tried old) (seen old (held packs) (taken trace)) (seen new (held packs') (taken trace')) = is.outcome in
+      let does : Does (record { packs = holds packs'; trace = tells trace' }) (event_acts line input is.tried old) (seen old (held packs) (taken trace) kept) (seen new (held packs') (taken trace') kept') = is.outcome in
       moved_to (armed_by armed input) (after_all old (event_acts line input is.tried old)) new (packs_after_all old (held packs) (event_acts line input is.tried old)) (held packs') maps does.does.world (does.does.packs t)
       (events_bear armed old line input is.tried (event_acts line input is.tried old) [] (held packs) maps sound (whole (event_acts line input is.tried old)) does.does.run (does.does.reads t) b)
   event_keeps (Some Sink) is t apart armed maps b =
-      let stops : StopsAtTrace (record { packs = holds packs'; trace = tells trace' }) (event_acts line input is.tried old) (seen old (held packs) (taken trace)) (seen new (held packs') (taken trace')) = is.outcome in
+      let stops : StopsAtTrace (record { packs = holds packs'; trace = tells trace' }) (event_acts line input is.tried old) (seen old (held packs) (taken trace) kept) (seen new (held packs') (taken trace') kept') = is.outcome in
       moved_to (armed_by armed input) (after_all old stops.done) new (packs_after_all old (held packs) stops.done) (held packs') maps stops.does.world (stops.does.packs t)
       (events_bear armed old line input is.tried stops.done stops.left (held packs) maps sound stops.all stops.does.run (stops.does.reads t) b)
   event_keeps (Some Store) is t apart armed maps b = absurd (apart refl)

@@ -1,5 +1,5 @@
 -- Each kind of event, from what its call did.
-use Rattle.std.proofs.Common.{◌≡◌, ℕ, Bool, false, List, [], ◌∷◌, refl, sym, subst}
+use Rattle.std.proofs.Common.{◌≡◌, ℕ, Bool, false, List, [], ◌∷◌, sym, subst}
 use Rattle.std.specs.Prelude.{Result, Ok}
 use Rattle.pack_model.specs.Pack.{Pack}
 use Rattle.hardware_table.specs.declared.Moved.TheVariants.{Clean}
@@ -12,11 +12,14 @@ use Rattle.driver_outcome.specs.declared.Stop.{Stop}
 use Rattle.driver_trace.specs.Calls.{IsReadOf}
 use Rattle.hp_core.specs.State.{State}
 use Rattle.hp_core.specs.Done.{DoesSilently}
+use Rattle.hp_events.specs.Done.{DoesActs}
+use Rattle.hp_events.specs.Moves.{DoesMove}
 use Rattle.hp_events.specs.declared.drain.Event.{Event}
-use Rattle.hp_events.specs.declared.drain.Event.TheVariants.{Arrive, Attend}
+use Rattle.hp_events.specs.declared.drain.Event.TheVariants.{Arrive, Move, Attend}
 use Rattle.hp_events.specs.Inputs.{input_of}
-use Rattle.hp_driver.specs.Calls.{Stands, SendsActs, Happens}
-use Rattle.hp_driver.proofs.Calls.{event_sent, silent_sent}
+use Rattle.hp_driver.specs.Calls.{Stands, Happens}
+use Rattle.hp_driver.proofs.Calls.{event_does, silent_does}
+use Rattle.hp_driver.proofs.Moved.{moved}
 
 -- no sector is tried
 pub no_try : Tried
@@ -25,18 +28,25 @@ no_try = record { marked = false; verdict = Clean; bytes = [] }
 module _ {O Q : Type 0} (holds : Q → Bool) (held : Q → ℕ → Pack) (packs_faults : Q → ℕ) (tells : O → Bool) (taken : O → List ℕ) (faults : O → ℕ) (packs : Q)
     (old : State) (line : ℕ) (event : Event) (stands : Stands old) where
   pub arrives : (trace trace' : O) (new : State) (result : Result (Unit {0}) Stop) (u : ℕ) → event ≡ Arrive u
-      → SendsActs tells taken faults trace trace' old new result (arrive_acts line u old.world)
+      → DoesActs tells taken faults trace trace' old new result (arrive_acts line u old.world)
       → Happens holds held packs_faults tells taken faults packs packs trace trace' old new result line (input_of event)
-  arrives trace trace' new result u is sends =
+  arrives trace trace' new result u is does =
       subst (λ (e : Event). Happens holds held packs_faults tells taken faults packs packs trace trace' old new result line (input_of e)) (sym is)
-      (event_sent holds held packs_faults tells taken faults packs trace trace' old new result line (script.ArriveAt u) no_try stands tt tt sends)
+      (event_does holds held packs_faults tells taken faults packs trace trace' old new result line (script.ArriveAt u) no_try stands tt tt does)
 
   pub attends : (trace trace' : O) (new : State) (result : Result (Unit {0}) Stop) (a : ℕ) → event ≡ Attend a
-      → SendsActs tells taken faults trace trace' old new result (attend_acts line a old.world)
+      → DoesActs tells taken faults trace trace' old new result (attend_acts line a old.world)
       → Happens holds held packs_faults tells taken faults packs packs trace trace' old new result line (input_of event)
-  attends trace trace' new result a is sends =
+  attends trace trace' new result a is does =
       subst (λ (e : Event). Happens holds held packs_faults tells taken faults packs packs trace trace' old new result line (input_of e)) (sym is)
-      (event_sent holds held packs_faults tells taken faults packs trace trace' old new result line (script.AttendTo a) no_try stands tt tt sends)
+      (event_does holds held packs_faults tells taken faults packs trace trace' old new result line (script.AttendTo a) no_try stands tt tt does)
+
+  pub moves : (packs' : Q) (trace trace' : O) (new : State) (result : Result (Unit {0}) Stop) (a : ℕ) → event ≡ Move a
+      → DoesMove holds held packs_faults tells taken faults packs packs' trace trace' old new result line a
+      → Happens holds held packs_faults tells taken faults packs packs' trace trace' old new result line (input_of event)
+  moves packs' trace trace' new result a is does =
+      subst (λ (e : Event). Happens holds held packs_faults tells taken faults packs packs' trace trace' old new result line (input_of e)) (sym is)
+      (moved holds held packs_faults tells taken faults packs packs' trace trace' old new line a stands result does)
 
   -- a condition changes, and no line is told
   pub changes : (trace : O) (new : State) (x : Unit {0}) (input : Input) (its : Event) → event ≡ its → input_of its ≡ input
@@ -46,6 +56,6 @@ module _ {O Q : Type 0} (holds : Q → Bool) (held : Q → ℕ → Pack) (packs_
   changes trace new x input its is named acts may reads does =
       subst (λ (e : Event). Happens holds held packs_faults tells taken faults packs packs trace trace old new (Ok x) line (input_of e)) (sym is)
       (subst (λ (i : Input). Happens holds held packs_faults tells taken faults packs packs trace trace old new (Ok x) line i) (sym named)
-      (event_sent holds held packs_faults tells taken faults packs trace trace old new (Ok x) line input no_try stands may reads
-      (subst (λ (l : List Act). SendsActs tells taken faults trace trace old new (Ok x) l) (sym acts)
-      (silent_sent tells taken faults trace old new (Change input) x refl stands.sent does))))
+      (event_does holds held packs_faults tells taken faults packs trace trace old new (Ok x) line input no_try stands may reads
+      (subst (λ (l : List Act). DoesActs tells taken faults trace trace old new (Ok x) l) (sym acts)
+      (silent_does tells taken faults trace old new (Change input) x does))))

@@ -11,7 +11,7 @@ use Rattle.main_memory.specs.Bytes.{IsFill}
 use Rattle.subsystem_spec.specs.declared.answers.AnswerKind.TheVariants.{ReadOk}
 use Rattle.driver_machine.specs.declared.Made.{Made}
 use Rattle.driver_machine.specs.World.{World, Held, Setup, no_held, new_world, slot_at, held_in, block_in}
-use Rattle.driver_machine.specs.Acts.{Taken}
+use Rattle.driver_machine.specs.Acts.{Taken, after}
 use Rattle.driver_machine.specs.Events.{next_event}
 use Rattle.driver_machine.specs.Refusals.{refuses}
 use Rattle.driver_machine.specs.Sound.{Sound, AtWork, IsMade, IsGiven}
@@ -28,25 +28,24 @@ use Rattle.hp_core.specs.Done.{DoesSilently}
 use Rattle.hp_events.specs.declared.drain.Event.{Event}
 use Rattle.hp_events.specs.Inputs.{input_of}
 use Rattle.driver_drains.specs.Drains.{DrainsFallFrom}
-use Rattle.hp_driver.specs.Subsystem.{IsKept, IsThere, LeavesFewer, IsOldest, Reads}
+use Rattle.hp_driver.specs.Subsystem.{State, IsKept, IsThere, LeavesFewer, IsOldest, Reads}
 use Rattle.hp_driver.proofs.Behind.{Ran, ran_sound, ran_noise, ran_slots}
 use Rattle.hp_driver.proofs.Calls.{silent_kept}
 
 -- AT THE START,
 pub kept_new : (setups : List Setup) (outstanding noises : ℕ) → AreSetups setups → outstanding ≤ 65536
-    → IsKept (record { world = new_world setups (min outstanding 16384) noises; outstanding = outstanding; failed = false }) []
+    → IsKept (record { world = new_world setups (min outstanding 16384) noises; outstanding = outstanding; failed = false; kept = [] })
 kept_new setups outstanding noises are few = record {
   sound = sound_new setups (min outstanding 16384) noises are;
   work = λ e. rests_new setups (min outstanding 16384) noises are;
   noise = none_at_start setups (min outstanding 16384) noises;
   slots = length-replicate (min outstanding 16384) None;
   few = few;
-  sent = λ e. refl;
 }
 
 -- and behind the taking of an answer.
-pub kept_taken : (old new : core.State) (outstanding : ℕ) (failed : Bool) → 0 < length old.world.answers → IsKept (record { world = old.world; outstanding = outstanding; failed = failed }) old.kept
-    → DoesSilently old new Taken → IsKept (record { world = new.world; outstanding = outstanding; failed = failed }) new.kept
+pub kept_taken : (old new : core.State) (outstanding : ℕ) (failed : Bool) → 0 < length old.world.answers → IsKept (record { world = old.world; outstanding = outstanding; failed = failed; kept = old.kept })
+    → DoesSilently old new Taken → IsKept (record { world = new.world; outstanding = outstanding; failed = failed; kept = new.kept })
 kept_taken old new outstanding failed some is does =
     let ran : Ran old.world new.world = record { acts = Taken ∷ []; run = (some, tt); world = does.world } in
     record {
@@ -55,8 +54,14 @@ kept_taken old new outstanding failed some is does =
       noise = ran_noise old.world new.world ran is.noise;
       slots = ran_slots old.world new.world ran ∙ is.slots;
       few = is.few;
-      sent = λ e. silent_kept old new Taken refl does ∙ is.sent e;
     }
+
+pub taken_state : (old new : core.State) (outstanding : ℕ) (failed : Bool) → DoesSilently old new Taken
+    → ◌≡◌ {A = State} (record { world = new.world; outstanding = outstanding; failed = failed; kept = new.kept })
+    (record { world = after old.world Taken; outstanding = outstanding; failed = failed; kept = old.kept })
+taken_state old new outstanding failed does =
+    ap (λ (w : World). record { world = w; outstanding = outstanding; failed = failed; kept = new.kept }) does.world
+    ∙ ap (λ (k : List ℕ). record { world = after old.world Taken; outstanding = outstanding; failed = failed; kept = k }) (silent_kept old new Taken refl does)
 
 pub some_wait : (made : Made) (answers : List Made) → answers ≡ made ∷ drop 1 answers → 0 < length answers
 some_wait made [] is = absurd (cc)

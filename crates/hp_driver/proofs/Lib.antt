@@ -1,4 +1,4 @@
-mod Sent
+pub mod Sent
 mod Behind
 pub mod Moves
 mod Room

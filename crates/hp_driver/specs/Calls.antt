@@ -1,5 +1,5 @@
--- What the parts of a call come to, over the core: each part sends what it tells.
-use Rattle.std.specs.Prelude.{◌≡◌, ℕ, ◌+◌, ◌-◌, ◌*◌, ◌<◌, Bool, false, if◌then◌else◌, IsTrue, min, List, [], length, Result, IfErr, OnOk}
+-- What the parts of a call come to, over the core.
+use Rattle.std.specs.Prelude.{◌≡◌, ℕ, ◌+◌, ◌-◌, ◌*◌, ◌<◌, Bool, false, if◌then◌else◌, IsTrue, min, List, length, Result, IfErr, OnOk}
 use Rattle.pack_model.specs.Pack.{Pack}
 use Rattle.outside_traits.specs.Causes.{HasCause}
 use Rattle.subsystem_spec.specs.Requests as told
@@ -11,14 +11,14 @@ use Rattle.driver_machine.specs.Guards.{IsSetUp, IsFresh}
 use Rattle.driver_machine.specs.Sound.{Sound, AtWork}
 use Rattle.driver_outcome.specs.declared.Stop.{Stop}
 use Rattle.driver_outcome.specs.declared.Stop.TheVariants.{Sink}
-use Rattle.driver_outcome.specs.Outcome.{Outcome, stop_in}
+use Rattle.driver_outcome.specs.Outcome.{stop_in}
 use Rattle.request_slots.specs.declared.asked.Asked.{Asked}
 use Rattle.driver_counts.specs.Counts.{in_use}
 use Rattle.driver_trace.specs.Noises.{AllFlip}
 use Rattle.hp_core.specs.State.{State}
 use Rattle.hp_core.specs.Done.{HasCauses}
 use Rattle.subsystem_spec.specs.declared.request.Request.{Request}
-use Rattle.hp_driver.specs.Subsystem.{seen, asked, is_move, Submits, Comes}
+use Rattle.hp_driver.specs.Subsystem.{asked, is_move, Submits, Comes}
 use Rattle.hp_driver.specs.Bytes.{KeepsMaps, KeepsMapsIn}
 
 -- BETWEEN TWO CALLS, none of which failed
@@ -26,28 +26,17 @@ pub record Stands (s : State) : Type 0 where
   pub sound : Sound s.world
   pub work : AtWork s.world
   pub noise : AllFlip s.world.book.live
-  pub sent : s.kept ≡ []
 
--- WHAT A CALL LEAVES of that: where it failed, work may be undone, and text not sent.
+-- WHAT A CALL LEAVES of that: where it failed, work may be undone.
 pub record Leaves (old new : State) (result : Result (Unit {0}) Stop) : Type 0 where
   pub sound : Sound new.world
   pub noise : AllFlip new.world.book.live
   pub slots : length new.world.slots ≡ length old.world.slots
   pub work : OnOk result (AtWork new.world)
-  pub sent : OnOk result (new.kept ≡ [])
-
--- ACTS AND THEIR LINES, which are sent
-pub record SendsActs {O : Type 0} (tells : O → Bool) (taken : O → List ℕ) (faults : O → ℕ) (trace trace' : O) (old new : State) (result : Result (Unit {0}) Stop) (acts : List Act) : Type 0 where
-  pub outcome : (packs : Bool) (held : ℕ → Pack)
-      → Outcome (record { packs = packs; trace = tells trace' }) acts (seen old.world held (taken trace)) (seen new.world held (taken trace')) (stop_in result)
-  pub stop : IfErr result (λ stop. stop ≡ Sink)
-  pub never_again : IsTrue (tells trace') → IsTrue (tells trace)
-  pub cause : HasCause (faults trace) (faults trace') result
-  pub sent : OnOk result (new.kept ≡ [])
 
 -- A SUBMISSION
 pub record Asks {O : Type 0} (tells : O → Bool) (taken : O → List ℕ) (faults : O → ℕ) (trace trace' : O) (old new : State) (result : Result (Unit {0}) Stop) (line : ℕ) (r : told.Request) : Type 0 where
-  pub does : Submits tells taken trace trace' line r old.world new.world (stop_in result)
+  pub does : Submits tells taken trace trace' line r old.world new.world old.kept new.kept (stop_in result)
   pub bytes : KeepsMaps old.world new.world
   pub leaves : Leaves old new result
   pub stop : IfErr result (λ stop. stop ≡ Sink)
@@ -78,7 +67,7 @@ pub record MayAsk (w : World) (r : Request) (bytes : List ℕ) : Type 0 where
 
 -- AN EVENT
 pub record Happens {O Q : Type 0} (holds : Q → Bool) (held : Q → ℕ → Pack) (packs_faults : Q → ℕ) (tells : O → Bool) (taken : O → List ℕ) (faults : O → ℕ) (packs packs' : Q) (trace trace' : O) (old new : State) (result : Result (Unit {0}) Stop) (line : ℕ) (input : Input) : Type 0 where
-  pub comes : Comes holds held tells taken packs packs' trace trace' line input old.world new.world (stop_in result)
+  pub comes : Comes holds held tells taken packs packs' trace trace' line input old.world new.world old.kept new.kept (stop_in result)
   pub bytes : KeepsMapsIn (holds packs') (held packs) (held packs') input old.world new.world (stop_in result)
   pub leaves : Leaves old new result
   pub still : is_move input ≡ false → packs' ≡ packs

@@ -25,27 +25,27 @@ use Rattle.driver_trace.specs.Calls.{IsReadOf}
 use Rattle.driver_trace.specs.Noises.{AllFlip}
 use Rattle.driver_trace.specs.Runs.{IsDraining}
 use Rattle.driver_drains.specs.Drains.{CanStart, AreAsked, Falls}
+use Rattle.hp_events.specs.Moves.{writes_next}
 use Rattle.subsystem_spec.specs.declared.request.Request.{Request}
 
--- its world, how many requests may be outstanding at once, and whether one of its calls has failed
+-- its world, how many requests may be outstanding at once, whether one of its calls has failed, and the text of the trace that it keeps
 pub record State : Type 0 where
   pub world : World
   pub outstanding : ℕ
   pub failed : Bool
+  pub kept : List ℕ
 
--- BETWEEN TWO CALLS the world is sound and, unless a call failed, at work with its trace sent; there are slots for all requests
--- that can hold frames.
-pub record IsKept (s : State) (kept : List ℕ) : Type 0 where
+-- BETWEEN TWO CALLS the world is sound and, unless a call failed, at work; there are slots for all requests that can hold frames.
+pub record IsKept (s : State) : Type 0 where
   pub sound : Sound s.world
   pub work : s.failed ≡ false → AtWork s.world
   pub noise : AllFlip s.world.book.live
   pub slots : length s.world.slots ≡ min s.outstanding 16384
   pub few : s.outstanding ≤ 65536
-  pub sent : s.failed ≡ false → kept ≡ []
 
--- what a call works on: the world, what the packs hold, and the text that the trace took
-abbrev pub seen : World → (ℕ → Pack) → List ℕ → Site
-seen w packs text = record { world = w; held = packs; text = text; sent = text }
+-- what a call works on: the world, what the packs hold, and the text that was told, which the trace took or which is kept
+abbrev pub seen : World → (ℕ → Pack) → (sent kept : List ℕ) → Site
+seen w packs sent kept = record { world = w; held = packs; text = sent ++ kept; sent = sent }
 
 -- WHAT IS ASKED, with the bytes of a write
 abbrev pub asked : Request → List ℕ → told.Request
@@ -70,13 +70,13 @@ pub record IsAsked (s : State) (r : Request) (bytes : List ℕ) : Type 0 where
   pub room : in_use s.world.slots < s.outstanding
 
 -- A SUBMISSION comes to its acts: the request is refused, or joins in some slot as it was asked. The packs are not touched.
-pub record Submits {O : Type 0} (tells : O → Bool) (taken : O → List ℕ) (trace trace' : O) (line : ℕ) (r : told.Request) (old new : World) (stop : Option Stop) : Type 0 where
+pub record Submits {O : Type 0} (tells : O → Bool) (taken : O → List ℕ) (trace trace' : O) (line : ℕ) (r : told.Request) (old new : World) (kept kept' : List ℕ) (stop : Option Stop) : Type 0 where
   pub slot : ℕ
   pub held : Held
   pub may : MaySubmit old r slot held
   pub is : refusal_of r old ≡ None → IsHeldFor (unit_at old held.unit).drive.kind r held
   pub outcome : (packs : Bool) (packs_held : ℕ → Pack) → Outcome (record { packs = packs; trace = tells trace' }) (submit_acts r line slot held old)
-      (seen old packs_held (taken trace)) (seen new packs_held (taken trace')) stop
+      (seen old packs_held (taken trace) kept) (seen new packs_held (taken trace') kept') stop
 
 -- WHAT AN EVENT SPEAKS OF is there, and a condition may change.
 abbrev pub IsThere : World → Input → Type 0
@@ -94,22 +94,28 @@ LeavesFewer w input = (start : Replay) (line : ℕ) (tried : Tried) (moments : L
     → AreAsked start.there moments → IsDraining start line moments held w → MayCome w input tried → IsReadOf w held input tried
     → Falls (after_moments start moments) (after_moments start (moments ++ lines_of_all w (event_acts line input tried w)))
 
--- only a move touches the packs
+-- only a move touches the packs, and only the move of a write may change them
 abbrev pub is_move : Input → Bool
 is_move (script.MoveAt a) = true
 is_move input = false
 
+abbrev pub writes_by : World → Input → Bool
+writes_by w (script.MoveAt a) = writes_next w a
+writes_by w input = false
+
 -- AN EVENT comes to its acts, with some sector that is tried where one is: one that the rules of the move allow, of what the packs hold.
--- The packs stop only a move, and before anything is done in it.
-pub record Comes {O Q : Type 0} (holds : Q → Bool) (held : Q → ℕ → Pack) (tells : O → Bool) (taken : O → List ℕ) (packs packs' : Q) (trace trace' : O) (line : ℕ) (input : Input) (old new : World) (stop : Option Stop) : Type 0 where
+-- The packs stop only a move, and before anything is done in it. What writes nothing leaves them, also where they fail.
+pub record Comes {O Q : Type 0} (holds : Q → Bool) (held : Q → ℕ → Pack) (tells : O → Bool) (taken : O → List ℕ) (packs packs' : Q) (trace trace' : O) (line : ℕ) (input : Input) (old new : World) (kept kept' : List ℕ) (stop : Option Stop) : Type 0 where
   pub tried : Tried
   pub may : stop ≡ None → MayCome old input tried
   pub reads : stop ≡ None → IsTrue (holds packs') → IsReadOf old (held packs) input tried
   pub outcome : Outcome (record { packs = holds packs'; trace = tells trace' }) (event_acts line input tried old)
-      (seen old (held packs) (taken trace)) (seen new (held packs') (taken trace')) stop
+      (seen old (held packs) (taken trace) kept) (seen new (held packs') (taken trace') kept') stop
   pub moves : stop ≡ Some Store → is_move input ≡ true
   pub before : stop ≡ Some Store
-      → StopsBefore (record { packs = holds packs'; trace = tells trace' }) (seen old (held packs) (taken trace)) (seen new (held packs') (taken trace'))
+      → StopsBefore (record { packs = holds packs'; trace = tells trace' }) (seen old (held packs) (taken trace) kept) (seen new (held packs') (taken trace') kept')
+  pub unsent : stop ≡ Some Store → kept' ≡ kept
+  pub leaves : writes_by old input ≡ false → IsTrue (holds packs') → held packs' ≡ held packs
 
 -- the oldest answer that waits
 pub record IsOldest (w : World) (made : Made) : Type 0 where

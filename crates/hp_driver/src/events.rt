@@ -1,51 +1,12 @@
 // An event, over the core.
-ghost use Rattle.std.specs.Prelude.{◌<◌};
-ghost use Rattle.trace_replay.specs.Script as script;
-ghost use Rattle.driver_machine.specs.Events.{arrive_acts, attend_acts};
 ghost use Rattle.hp_events.specs.Inputs.{input_of};
 ghost use Rattle.hp_driver.specs.Subsystem.{IsThere};
-ghost use Rattle.hp_driver.specs.Calls.{Stands, SendsActs, Happens};
+ghost use Rattle.hp_driver.specs.Calls.{Stands, Happens};
 
 use driver_outcome::Stop;
 use hp_core::Core;
-use hp_events::Event;
+use hp_events::{Event, arrive, attend, move_sector};
 use outside_traits::traits::{Packs, Sink};
-
-/// A positioning ends.
-fn arrive<T: Sink>(core: &mut Core, line: u64, unit: u8, trace: &mut T) -> Result<(), Stop>
-    requires stands { Stands core.old }
-    requires unit { unit < 32 }
-    ensures { SendsActs T.tells T.taken T.faults trace.old trace.new core.old core.new result (arrive_acts line unit core.old.world) }
-{
-    hp_events::arrive(core, line, unit, trace)?;
-    core.flush(trace)
-}
-
-/// An adapter's interrupt is delivered.
-fn attend<T: Sink>(core: &mut Core, line: u64, adapter: u8, trace: &mut T) -> Result<(), Stop>
-    requires stands { Stands core.old }
-    requires adapter { adapter < 4 }
-    ensures { SendsActs T.tells T.taken T.faults trace.old trace.new core.old core.new result (attend_acts line adapter core.old.world) }
-{
-    hp_events::attend(core, line, adapter, trace)?;
-    core.flush(trace)
-}
-
-/// A sector is tried. Where the packs fail nothing is told.
-fn move_sector<P: Packs, T: Sink>(
-    core: &mut Core,
-    line: u64,
-    adapter: u8,
-    packs: &mut P,
-    trace: &mut T,
-) -> Result<(), Stop>
-    requires stands { Stands core.old }
-    requires adapter { adapter < 4 }
-    ensures { Happens P.tells P.held P.faults T.tells T.taken T.faults packs.old packs.new trace.old trace.new core.old core.new result line (script.MoveAt adapter) }
-{
-    hp_events::move_sector(core, line, adapter, packs, trace)?;
-    core.flush(trace)
-}
 
 /// An event happens at a line of the script.
 pub(crate) fn happen<P: Packs, T: Sink>(

@@ -1,16 +1,12 @@
 // A submission, over the core.
-ghost use Rattle.std.specs.Prelude.{◌≡◌, ◌<◌, ◌≤◌, ◌+◌, ◌-◌, ◌∷◌, [], length, None, Some, IfOk, IfErr};
+ghost use Rattle.std.specs.Prelude.{◌≡◌, ◌<◌, ◌≤◌, ◌+◌, [], length, None, Some, IfOk, IfErr};
 ghost use Rattle.main_memory.specs.Frames.{frames_needed};
 ghost use Rattle.pack_geometry.specs.Geometry.{limit_of};
-ghost use Rattle.subsystem_spec.specs.Requests as told;
 ghost use Rattle.subsystem_spec.specs.Requests.{first_block};
-ghost use Rattle.driver_machine.specs.World.{unit_at, adapter_of};
-ghost use Rattle.driver_machine.specs.Acts.{Refuse};
-ghost use Rattle.driver_machine.specs.Events.{refusal_of, followed, adapter_start};
-ghost use Rattle.driver_machine.specs.Guards.{Allowed};
-ghost use Rattle.hp_events.specs.Submissions.{MayRefuse};
+ghost use Rattle.driver_machine.specs.World.{unit_at};
+ghost use Rattle.driver_machine.specs.Events.{refusal_of};
 ghost use Rattle.hp_driver.specs.Subsystem.{asked};
-ghost use Rattle.hp_driver.specs.Calls.{Stands, SendsActs, MayAsk, asked_at, Asks};
+ghost use Rattle.hp_driver.specs.Calls.{Stands, MayAsk, asked_at, Asks};
 
 use crate::request::frames_for;
 use driver_machine::{AnswerKind, Cause};
@@ -77,25 +73,6 @@ fn asked_from(request: Request, first: u32) -> Asked
     }
 }
 
-/// A request is refused, and its adapter is started.
-fn refuse<T: Sink>(
-    core: &mut Core,
-    line: u64,
-    unit: u8,
-    id: u32,
-    kind: AnswerKind,
-    trace: &mut T,
-) -> Result<(), Stop>
-    requires stands { Stands core.old }
-    requires may { MayRefuse core.old.world line unit id kind }
-    ensures { (r : told.Request) → r.unit ≡ unit → r.id ≡ id → Allowed core.old.world (Refuse line r kind)
-        → SendsActs T.tells T.taken T.faults trace.old trace.new core.old core.new result
-        (followed (Refuse line r kind ∷ []) (adapter_start line (adapter_of r.unit)) core.old.world) }
-{
-    hp_events::refuse(core, line, unit, id, kind, trace)?;
-    core.flush(trace)
-}
-
 /// A request joins in a free slot, of which there is one, from this block of its pack on.
 fn join<T: Sink>(
     core: &mut Core,
@@ -115,8 +92,7 @@ fn join<T: Sink>(
     ensures { Asks T.tells T.taken T.faults trace.old trace.new core.old core.new result line (asked request bytes.now) }
 {
     let asked = asked_from(request, first);
-    hp_events::join(core, line, asked, bytes, trace)?;
-    core.flush(trace)
+    hp_events::join(core, line, asked, bytes, trace)
 }
 
 /// A request is submitted: it is refused, or joins in a free slot.
@@ -134,6 +110,6 @@ pub(crate) fn submit<T: Sink>(
 {
     match admitted(core, request) {
         Ok(first) => join(core, line, request, first, bytes, trace),
-        Err(kind) => refuse(core, line, request.unit, request.id, kind, trace),
+        Err(kind) => hp_events::refuse(core, line, request.unit, request.id, kind, trace),
     }
 }

@@ -1,6 +1,10 @@
 // The subsystem: what its users call.
 ghost use Rattle.std.specs.Prelude.{◌≡◌, ◌↔◌, ℕ, ◌<◌, ◌≤◌, [], min, true, false, None, Some, IsTrue, IfOk, IfSome, IfNone, OnOk, OnErr};
 ghost use Rattle.outside_traits.specs.Causes.{HasCause};
+ghost use Rattle.outside_traits.specs.Puts.{Puts};
+ghost use Rattle.mass_gather.specs.Gathers.{Gathers};
+ghost use Rattle.trace_replay.specs.Moments.{Idle};
+ghost use Rattle.trace_replay.specs.Text.{moment_text};
 ghost use Rattle.main_memory.specs.Bytes.{filled, IsFill};
 ghost use Rattle.driver_machine.specs.declared.Made.{Made};
 ghost use Rattle.driver_machine.specs.World.{new_world, unit_at, held_in, block_in};
@@ -16,6 +20,7 @@ ghost use Rattle.hp_core.specs.Done.{HasCauses};
 ghost use Rattle.hp_core.specs.Setups.{setups_of};
 ghost use Rattle.trace_bounds.specs.Commands.{CommandsAreBounded};
 ghost use Rattle.hp_events.specs.Inputs.{input_of};
+ghost use Rattle.hp_events.specs.Moves.{writes_next};
 ghost use Rattle.hp_driver.specs.Bytes.{HoldsMaps, KeepsMaps, KeepsMapsIn};
 ghost use Rattle.hp_driver.specs.Subsystem.{asked, IsAsked, Submits, IsThere, is_move, Comes, LeavesFewer, IsOldest, Reads, sink_in};
 
@@ -32,7 +37,8 @@ use std::marker::Model;
 use subsystem_spec::Request;
 use trace_bounds::commands_law;
 
-/// The disks, their adapters, and the requests that are outstanding. Nothing is allocated once it is made.
+/// The disks, their adapters, the requests that are outstanding, and the text of the trace that is kept, at most 64 KiB. Nothing is
+/// allocated once it is made.
 #[derive(Drop)]
 pub struct Subsystem {
     core: Core,
@@ -45,9 +51,9 @@ impl Model for Subsystem {
 
     ghost Value = { State };
 
-    ghost view = { λ s. record { world = s.core.world; outstanding = s.outstanding; failed = s.failed } };
+    ghost view = { λ s. record { world = s.core.world; outstanding = s.outstanding; failed = s.failed; kept = s.core.kept } };
 
-    ghost invariant = { λ s. IsKept (record { world = s.core.world; outstanding = s.outstanding; failed = s.failed }) s.core.kept };
+    ghost invariant = { λ s. IsKept (record { world = s.core.world; outstanding = s.outstanding; failed = s.failed; kept = s.core.kept }) };
 }
 
 impl Subsystem {
@@ -63,7 +69,7 @@ impl Subsystem {
         requires units { AreSetups (setups_of units.now) }
         requires few { outstanding ≤ 65536 }
         requires noises { noises ≤ 4096 }
-        ensures { IfOk result (λ s. s ≡ record { world = new_world (setups_of units.now) (min outstanding 16384) noises; outstanding = outstanding; failed = false }) }
+        ensures { IfOk result (λ s. s ≡ record { world = new_world (setups_of units.now) (min outstanding 16384) noises; outstanding = outstanding; failed = false; kept = [] }) }
     {
         let core = Core::new(alloc, units, outstanding, noises)?;
         Ok(Subsystem {
@@ -96,7 +102,7 @@ impl Subsystem {
     }
 
     /// Submits a request at a line of the script, with the bytes of a write. It is refused at once, or joins its unit's queue;
-    /// a unit that waits is started, and then a free adapter. Fails only where the trace's count of faults rose; no further
+    /// a unit that waits is started, and then a free adapter. Its lines are kept, and go to the trace where there is no room. Fails only where the trace's count of faults rose; no further
     /// submission or event may follow then.
     pub fn submit<T: Sink>(
         &mut self,
@@ -108,7 +114,7 @@ impl Subsystem {
         requires going { self.old.failed ≡ false }
         requires none_waits { self.old.world.answers ≡ [] }
         requires asked { IsAsked self.old request bytes.now }
-        ensures does { Submits T.tells T.taken trace.old trace.new line (asked request bytes.now) self.old.world self.new.world (sink_in result) }
+        ensures does { Submits T.tells T.taken trace.old trace.new line (asked request bytes.now) self.old.world self.new.world self.old.kept self.new.kept (sink_in result) }
         ensures going { OnOk result (self.new.failed ≡ false) }
         ensures failed { OnErr result (self.new.failed ≡ true) }
         ensures outstanding { self.new.outstanding ≡ self.old.outstanding }
@@ -126,8 +132,9 @@ impl Subsystem {
     }
 
     /// An event happens at a line of the script: a positioning ends, a sector is tried, an adapter's interrupt is delivered, or a
-    /// condition changes. Store comes only where the packs' count of faults rose, Sink only where the trace's did; no further
-    /// submission or event may follow then. Only a move touches the packs; where they fail nothing of it was done or told.
+    /// condition changes. Its lines are kept, and go to the trace where there is no room. Store comes only where the packs' count of faults rose, Sink only where the trace's did; no further
+    /// submission or event may follow then. Only a move touches the packs, and a move that does not write leaves them; where they fail
+    /// nothing of it was done or told.
     pub fn event<P: Packs, T: Sink>(
         &mut self,
         line: u64,
@@ -138,7 +145,7 @@ impl Subsystem {
         requires going { self.old.failed ≡ false }
         requires none_waits { self.old.world.answers ≡ [] }
         requires there { IsThere self.old.world (input_of event) }
-        ensures does { Comes P.tells P.held T.tells T.taken packs.old packs.new trace.old trace.new line (input_of event) self.old.world self.new.world (stop_in result) }
+        ensures does { Comes P.tells P.held T.tells T.taken packs.old packs.new trace.old trace.new line (input_of event) self.old.world self.new.world self.old.kept self.new.kept (stop_in result) }
         ensures going { OnOk result (self.new.failed ≡ false) }
         ensures failed { OnErr result (self.new.failed ≡ true) }
         ensures outstanding { self.new.outstanding ≡ self.old.outstanding }
@@ -155,6 +162,31 @@ impl Subsystem {
                 Err(stop)
             }
         }
+    }
+
+    /// Passes on to the trace what is kept. Nothing is kept after it, also where the trace failed: then a front of it was taken. Fails
+    /// only where the trace's count of faults rose.
+    pub fn send<T: Sink>(&mut self, trace: &mut T) -> Result<(), SinkFailed>
+        ensures puts { Puts T.tells T.taken T.faults trace.old trace.new result self.old.kept }
+        ensures same { self.new ≡ record self.old { kept = [] } }
+    {
+        self.core.send(trace)
+    }
+
+    /// Says that a drain at a line found nothing to do. Fails only where the trace's count of faults rose; then nothing is kept.
+    pub fn idle<T: Sink>(&mut self, line: u64, trace: &mut T) -> Result<(), SinkFailed>
+        ensures gathers { Gathers T.tells T.taken T.faults trace.old trace.new self.old.kept self.new.kept result (moment_text (Idle line)) }
+        ensures same { self.new ≡ record self.old { kept = self.new.kept } }
+    {
+        self.core.idle(line, trace)
+    }
+
+    /// Whether the next sector that an adapter moves may be written. A move of an adapter for which it is not so leaves the packs.
+    pub fn writes(&self, adapter: u8) -> bool
+        requires { adapter < 4 }
+        ensures { result ≡ writes_next self.now.world adapter }
+    {
+        hp_events::writes(&self.core, adapter)
     }
 
     /// The drain's next event: the lowest unit that can arrive, else the lowest adapter that can move, else the lowest that can

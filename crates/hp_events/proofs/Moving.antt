@@ -1,6 +1,6 @@
 -- One sector is moved, or there is none to move.
-use Rattle.std.proofs.Common.{◌≡◌, ℕ, ◌≤◌, Bool, true, false, List, [], Option, Some, None, subst, arith}
-use Rattle.std.specs.Prelude.{Result, Ok, Err, IfErr}
+use Rattle.std.proofs.Common.{◌≡◌, ℕ, ◌≤◌, Bool, true, false, List, [], Option, Some, None, refl, sym, subst, arith}
+use Rattle.std.specs.Prelude.{◌&&◌, Result, Ok, Err, IfErr}
 use Rattle.pack_model.specs.Pack.{Pack}
 use Rattle.outside_traits.specs.Causes.{HasCause}
 use Rattle.hardware_table.specs.declared.Moved.TheVariants.{Clean}
@@ -14,7 +14,7 @@ use Rattle.driver_outcome.specs.declared.Stop.TheVariants.{Store, Sink}
 use Rattle.hp_core.specs.State.{State, site}
 use Rattle.hp_core.specs.Done.{DoesAct, HasCauses, TriesSector}
 use Rattle.hp_events.specs.Moves.{DoesMove}
-use Rattle.hp_events.proofs.Parts.{no_move, moves, can_move_is}
+use Rattle.hp_events.proofs.Parts.{no_move, moves, can_move_is, served_its}
 
 least : (n : ℕ) → n ≤ n
 least n = omega arith
@@ -40,6 +40,11 @@ no_store (Ok x) stop e = absurd (cc)
 no_store (Err Sink) stop e = absurd (cc)
 no_store (Err Store) stop e = absurd (cc)
 
+-- an adapter that can move and does not write
+write_off : (can write : Bool) → can ≡ true → can && write ≡ false → write ≡ false
+write_off true write is off = off
+write_off false write is off = absurd (let e : false ≡ true = is in cc)
+
 no_sector : Tried
 no_sector = record { marked = false; verdict = Clean; bytes = [] }
 
@@ -54,6 +59,7 @@ module _ {O Q : Type 0} (holds : Q → Bool) (held : Q → ℕ → Pack) (packs_
     never_again = does.never_again;
     causes = trace_causes (packs_faults packs) (faults trace) (faults trace') result does.stop does.cause;
     kept = λ e. absurd (no_store result does.stop e);
+    leaves = λ e t. refl;
     before = λ e. absurd (no_store result does.stop e);
   }
 
@@ -69,5 +75,8 @@ module _ {O Q : Type 0} (holds : Q → Bool) (held : Q → ℕ → Pack) (packs_
     never_again = tries.never_again;
     causes = tries.causes;
     kept = tries.kept;
+    leaves = λ off t. tries.leaves
+        (subst (λ (b : ℕ). (adapter_at old.world b).state.write ≡ false) (sym (served_its old.world a u sound (can_move_is old.world a can).0 is))
+        (write_off (can_move (adapter_at old.world a)) (adapter_at old.world a).state.write can off)) t;
     before = tries.before;
   }

@@ -1,16 +1,21 @@
 -- What the move of one sector comes to.
-use Rattle.std.specs.Prelude.{◌≡◌, ℕ, Bool, IsTrue, List, Some, Result}
+use Rattle.std.specs.Prelude.{◌≡◌, ℕ, Bool, false, ◌&&◌, IsTrue, List, Some, Result}
 use Rattle.pack_model.specs.Pack.{Pack}
+use Rattle.driver_machine.specs.World.{World, adapter_at}
 use Rattle.driver_machine.specs.Acts.{Tried}
-use Rattle.driver_machine.specs.Events.{move_acts}
+use Rattle.driver_machine.specs.Events.{can_move, move_acts}
 use Rattle.driver_outcome.specs.Outcome.{Outcome, StopsBefore, stop_in}
 use Rattle.driver_outcome.specs.declared.Stop.{Stop}
 use Rattle.driver_outcome.specs.declared.Stop.TheVariants.{Store}
 use Rattle.hp_core.specs.State.{State, site}
 use Rattle.hp_core.specs.Done.{HasCauses}
 
+-- the next sector that an adapter moves may be written
+abbrev pub writes_next : World → ℕ → Bool
+writes_next w a = can_move (adapter_at w a) && (adapter_at w a).state.write
+
 -- ONE SECTOR IS MOVED, where there is one to move: for some sector the call comes to what moving it comes to. Each failure has its
--- cause, and where the packs failed nothing was done, and no more text is kept.
+-- cause, and where the packs failed nothing was done, and no more text is kept. What writes nothing leaves the packs, also where they fail.
 pub record DoesMove {O Q : Type 0} (holds : Q → Bool) (held : Q → ℕ → Pack) (packs_faults : Q → ℕ) (tells : O → Bool) (taken : O → List ℕ) (faults : O → ℕ) (packs packs' : Q) (trace trace' : O) (old new : State) (result : Result (Unit {0}) Stop) (line a : ℕ) : Type 0 where
   pub tried : Tried
   pub outcome : Outcome (record { packs = holds packs'; trace = tells trace' }) (move_acts line a tried old.world)
@@ -19,5 +24,6 @@ pub record DoesMove {O Q : Type 0} (holds : Q → Bool) (held : Q → ℕ → Pa
   pub never_again : IsTrue (tells trace') → IsTrue (tells trace)
   pub causes : HasCauses (packs_faults packs) (packs_faults packs') (faults trace) (faults trace') (stop_in result)
   pub kept : stop_in result ≡ Some Store → new.kept ≡ old.kept
+  pub leaves : writes_next old.world a ≡ false → IsTrue (holds packs') → held packs' ≡ held packs
   pub before : stop_in result ≡ Some Store
       → StopsBefore (record { packs = holds packs'; trace = tells trace' }) (site old (held packs) (taken trace)) (site new (held packs') (taken trace'))

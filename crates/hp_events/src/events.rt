@@ -5,7 +5,7 @@ ghost use Rattle.driver_machine.specs.Events as events;
 ghost use Rattle.driver_machine.specs.Events.{each, drives};
 ghost use Rattle.driver_machine.specs.Sound.{Sound};
 ghost use Rattle.hp_events.specs.Done.{DoesActs};
-ghost use Rattle.hp_events.specs.Moves.{DoesMove};
+ghost use Rattle.hp_events.specs.Moves.{DoesMove, writes_next};
 
 use crate::hand::id_in_hand;
 use crate::turns::{due, start_adapter};
@@ -37,6 +37,15 @@ pub(crate) fn moves(core: &Core, a: u8) -> bool
     ensures { result ≡ events.can_move (adapter_at core.now.world a) }
 {
     core.is_busy(a) && !core.has_completed(a)
+}
+
+/// Whether the next sector that an adapter moves may be written.
+pub fn writes(core: &Core, a: u8) -> bool
+    requires sound { Sound core.now.world }
+    requires adapter { a < 4 }
+    ensures { result ≡ writes_next core.now.world a }
+{
+    moves(core, a) && core.writes(a)
 }
 
 /// Whether an interrupt of an adapter can be delivered.

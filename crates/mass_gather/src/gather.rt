@@ -1,4 +1,4 @@
-ghost use Rattle.std.specs.Prelude.{◌≡◌, ◌+◌, ◌≤◌, ◌==◌, IfOk, [], ◌++◌, length, take, vec_len};
+ghost use Rattle.std.specs.Prelude.{◌≡◌, ◌+◌, ◌≤◌, ◌==◌, true, false, IfOk, [], ◌++◌, length, take, vec_len};
 ghost use Rattle.outside_traits.specs.Puts.{Puts};
 ghost use Rattle.outside_traits.specs.declared.traits.SinkFailed.{SinkFailed};
 ghost use Rattle.mass_gather.specs.Gathers.{Gathers, PutsNothing, Join, Stop, PutWhole};
@@ -7,9 +7,6 @@ use outside_traits::traits::{NoMemory, Sink, SinkFailed};
 use outside_traits::whole::write_all;
 use std::alloc::Global;
 use std::marker::Model;
-
-/// How many bytes are kept at most.
-const ROOM: usize = 16384;
 
 /// How many bytes a short text is copied with, whatever its own length is.
 const SHORT: usize = 64;
@@ -42,14 +39,21 @@ fn put_short_at(room: &mut Vec<u8>, at: usize, from: &[u8; SHORT], len: usize) -
     at + len
 }
 
-/// Text that is kept for a sink, at most 16,384 bytes. Their room is there from the start, and its front is filled. Behind it there
-/// is room for 64 bytes more, so that a short text can always be copied as 64 bytes.
+/// The first bytes of a short text.
+fn front(text: &[u8; SHORT], len: usize) -> &[u8]
+    requires { len ≤ 64 }
+    ensures { result.now ≡ take len text.now }
+{
+    &text.as_slice()[..len]
+}
+
+/// Text that is kept for a sink. Its room is there from the start, and its front is filled. Behind it there is room for 64 bytes
+/// more, so that a short text can always be copied as 64 bytes.
 #[derive(Drop)]
 pub struct Gather {
     room: Vec<u8>,
     filled: usize,
-    ghost whole: { vec_len room ≡ 16448 },
-    ghost inside: { filled ≤ 16384 },
+    ghost inside: { filled + 64 ≤ vec_len room },
 }
 
 impl Model for Gather {
@@ -61,11 +65,11 @@ impl Model for Gather {
 }
 
 impl Gather {
-    /// A writer that keeps nothing yet.
-    pub fn new(alloc: Global) -> Result<Gather, NoMemory>
+    /// A writer that keeps nothing yet, with room for so many bytes.
+    pub fn new(alloc: Global, room: u32) -> Result<Gather, NoMemory>
         ensures { IfOk result (λ gather. gather ≡ []) }
     {
-        let room = room_of(alloc, ROOM + SHORT)?;
+        let room = room_of(alloc, room as usize + SHORT)?;
         Ok(Gather { room, filled: 0 })
     }
 
@@ -83,22 +87,30 @@ impl Gather {
         self.filled == 0
     }
 
-    /// Keeps a text that fits.
-    fn keep(&mut self, text: &[u8])
-        requires { length self.old + length text.now ≤ 16384 }
-        ensures { self.new ≡ self.old ++ text.now }
+    /// Keeps a text where it fits behind what is kept. Answers whether it does; where not, nothing changes.
+    pub fn try_keep(&mut self, text: &[u8]) -> bool
+        ensures fits { result ≡ true → self.new ≡ self.old ++ text.now }
+        ensures full { result ≡ false → self.new ≡ self.old }
     {
+        if text.len() > self.room.len() - SHORT - self.filled {
+            return false;
+        }
         put_at(&mut self.room, self.filled, text);
         self.filled += text.len();
+        true
     }
 
-    /// Keeps the first `len` of these bytes, which fit.
-    fn keep_short(&mut self, text: &[u8; SHORT], len: usize)
-        requires short { len ≤ 64 }
-        requires room { length self.old + len ≤ 16384 }
-        ensures { self.new ≡ self.old ++ take len text.now }
+    /// Keeps the first `len` of these bytes, from 0 to 64, as [`Gather::try_keep`] does; the copy is of one size, so it takes less time.
+    pub fn try_keep_short(&mut self, text: &[u8; 64], len: usize) -> bool
+        requires { len ≤ 64 }
+        ensures fits { result ≡ true → self.new ≡ self.old ++ take len text.now }
+        ensures full { result ≡ false → self.new ≡ self.old }
     {
+        if len > self.room.len() - SHORT - self.filled {
+            return false;
+        }
         self.filled = put_short_at(&mut self.room, self.filled, text, len);
+        true
     }
 
     /// Passes on what is kept. Nothing is kept after it, also where the sink failed.
@@ -117,39 +129,23 @@ impl Gather {
         requires { self.old ≡ [] }
         ensures { Gathers T.tells T.taken T.faults sink.old sink.new [] self.new result text.now }
     {
-        if text.len() > ROOM {
-            return write_all(sink, text);
+        if self.try_keep(text) {
+            return Ok(());
         }
-        self.keep(text);
-        Ok(())
+        write_all(sink, text)
     }
 
     /// Puts a text behind what is kept, and passes on before what is kept where it does not fit there.
     pub fn put<T: Sink>(&mut self, text: &[u8], sink: &mut T) -> Result<(), SinkFailed>
         ensures { Gathers T.tells T.taken T.faults sink.old sink.new self.old self.new result text.now }
     {
-        if text.len() > ROOM - self.filled {
-            self.flush(sink)?;
-            self.put_first(text, sink)
-        } else {
-            self.keep(text);
-            Ok(())
+        if self.try_keep(text) {
+            return Ok(());
         }
-    }
-
-    /// Passes on what is kept, and keeps the first `len` of these bytes in its place.
-    fn put_anew<T: Sink>(
-        &mut self,
-        text: &[u8; SHORT],
-        len: usize,
-        sink: &mut T,
-    ) -> Result<(), SinkFailed>
-        requires { len ≤ 64 }
-        ensures { Gathers T.tells T.taken T.faults sink.old sink.new self.old self.new result (take len text.now) }
-    {
-        self.flush(sink)?;
-        self.keep_short(text, len);
-        Ok(())
+        match self.flush(sink) {
+            Ok(()) => self.put_first(text, sink),
+            Err(failed) => Err(failed),
+        }
     }
 
     /// Puts the first `len` of these bytes, from 0 to 64, as [`Gather::put`] does; the copy is of one size, so it takes less time.
@@ -162,11 +158,10 @@ impl Gather {
         requires { len ≤ 64 }
         ensures { Gathers T.tells T.taken T.faults sink.old sink.new self.old self.new result (take len text.now) }
     {
-        if len > ROOM - self.filled {
-            return self.put_anew(text, len, sink);
+        if self.try_keep_short(text, len) {
+            return Ok(());
         }
-        self.keep_short(text, len);
-        Ok(())
+        self.put(front(text, len), sink)
     }
 }
 

@@ -104,6 +104,13 @@ impl Adapter {
         self.drive
     }
 
+    /// Whether the transfer that was started last is a write; false before the first.
+    pub fn writes(&self) -> bool
+        ensures { result ≡ self.now.write }
+    {
+        self.write
+    }
+
     /// How many sectors moved clean in the transfer that was started last; 0 before the first.
     pub fn moved(&self) -> u32
         ensures { result ≡ self.now.moved }

@@ -120,7 +120,7 @@ fn otherwise(gather: &mut Gather, sink: &mut MemSink, text: &[u8], row: &Row) ->
 
 /// The same of a new sink and a new gather.
 fn row_otherwise(alloc: Global, text: &[u8], row: &Row) -> Result<&'static str, Fail> {
-    let mut gather = Gather::new(alloc)?;
+    let mut gather = Gather::new(alloc, 16384)?;
     let mut sink = MemSink::new(alloc, row.room, Vec::from_slice(alloc, &[row.fail])?)?;
     Ok(otherwise(&mut gather, &mut sink, text, row))
 }

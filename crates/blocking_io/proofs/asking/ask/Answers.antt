@@ -62,6 +62,7 @@ returns-in_default-clause-ready g c =
     record {
       quiet = quiet_waiting 812800 c.submit.new.subsystem.world so.waits (c.in_default.ensures.none.0 refl) so.none;
       going = c.in_ok-submit.ensures.going;
+      sent = c.in_ok-submit.ensures.sent;
     }
 
 pub happen-requires-clause-none_waits : goal.happen-requires-clause-none_waits
@@ -105,6 +106,7 @@ loop-turn-init g c =
       later = happens.causes.later_packs;
       later_trace = omega (arith, one, other);
       going = happens.going;
+      sent = happens.sent;
       outstanding = happens.outstanding ∙ c.in_ok-submit.ensures.outstanding;
       none_waits = drained.none;
       turns = first_turns c.args.line r (input_of c.in-Some.first) old mid new c.requires.line c.in-Some.ensures.next so happens.gives;
@@ -125,6 +127,7 @@ returns-in_default-next_event-clause-ready g c =
     record {
       quiet = quiet_drained c.args.line c.loop-turn.turn c.loop-turn.subsystem.world so.turns c.in_default-next_event.ensures.over (c.in_default-next_event.ensures.none.0 refl) so.none_waits;
       going = so.going;
+      sent = so.sent;
     }
 
 pub returns-in_err-happen-2-clause-stops : goal.returns-in_err-happen-2-clause-stops
@@ -160,6 +163,7 @@ loop-turn-preserved g c =
       later = omega (arith, was, now);
       later_trace = omega (arith, was_told, now_told);
       going = happens.going;
+      sent = happens.sent;
       outstanding = happens.outstanding ∙ so.outstanding;
       none_waits = drained.none;
       turns = more_turns c.args.line c.loop-turn.turn r (input_of c.in-Some-next_event.event) old mid new c.in-Some-next_event.ensures.next so.drained happens.gives so.turns;

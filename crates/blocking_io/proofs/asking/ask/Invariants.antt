@@ -13,6 +13,7 @@ invariant-loop-turn g l = record {
   later : g.P.Packs.faults l.fn.packs ≤ g.P.Packs.faults l.packs;
   later_trace : g.T.Sink.faults l.fn.trace ≤ g.T.Sink.faults l.trace;
   going : l.subsystem.failed ≡ false;
+  sent : l.subsystem.kept ≡ [];
   outstanding : l.subsystem.outstanding ≡ l.fn.subsystem.outstanding;
   none_waits : l.subsystem.world.answers ≡ [];
   turns : Turns l.line l.turn l.subsystem.world;

@@ -22,7 +22,7 @@ returns-in_default-clause-played g c = record {
 pub go_on-requires : goal.go_on-requires
 go_on-requires g c =
     let goes = c.in_ok-happen.ensures.goes in
-    record { ready = record { going = goes.going; none_waits = plays_none c.in_ok-happen.ensures.plays.plays; kept = goes.kept } }
+    record { ready = record { going = goes.going; none_waits = plays_none c.in_ok-happen.ensures.plays.plays; kept = goes.kept; sent = goes.sent } }
 
 pub returns-clause-played : goal.returns-clause-played
 returns-clause-played g c = record {

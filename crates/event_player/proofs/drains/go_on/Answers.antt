@@ -49,7 +49,7 @@ loop-turn-preserved g c =
       later = search rules;
       later_out = search rules;
       later_trace = search rules;
-      ready = record { going = happens.goes.going; none_waits = plays_none happens.plays.plays; kept = happens.goes.kept };
+      ready = record { going = happens.goes.going; none_waits = plays_none happens.plays.plays; kept = happens.goes.kept; sent = happens.goes.sent };
       outstanding = happens.goes.outstanding ∙ so.outstanding;
       requests = happens.requests ∙ so.requests;
       brings = brings_both c.args.subsystem.now.world c.loop-turn.subsystem.world c.happen.new.subsystem.world so.brings

@@ -16,6 +16,7 @@ invariant-loop-i g l = record {
   going : l.subsystem.failed ≡ false;
   outstanding : l.subsystem.outstanding ≡ l.fn.subsystem.outstanding;
   kept : l.desk.gather ≡ [];
+  sent : l.subsystem.kept ≡ [];
   requests : l.desk.tally.requests ≡ l.fn.desk.tally.requests;
   ready : ReadyBehind (meaning_of l.script) (take l.i (meaning_of l.script).lines) l.subsystem.world;
   plays : IsTrue (g.P.Packs.tells l.packs) → PlaysTo (meaning_of l.script)

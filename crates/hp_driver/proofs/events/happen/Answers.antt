@@ -4,7 +4,7 @@ use Rattle.trace_replay.specs.Script as script
 use Rattle.hp_events.specs.declared.drain.Event.{Event}
 use Rattle.hp_events.specs.Inputs.{input_of}
 use Rattle.hp_driver.specs.Subsystem.{IsThere}
-use Rattle.hp_driver.proofs.Happens.{arrives, attends, changes}
+use Rattle.hp_driver.proofs.Happens.{arrives, attends, moves, changes}
 use Rattle.hp_driver.proofs.events.happen.Goals as goal
 
 pub returns-in-Arrive : goal.returns-in-Arrive
@@ -12,6 +12,9 @@ returns-in-Arrive g c = arrives _ _ _ _ _ _ _ _ _ _ c.requires.stands _ _ _ _ _ 
 
 pub returns-in-Attend : goal.returns-in-Attend
 returns-in-Attend g c = attends _ _ _ _ _ _ _ _ _ _ c.requires.stands _ _ _ _ _ c.in-Attend.is c.attend.ensures
+
+pub returns-in-Move : goal.returns-in-Move
+returns-in-Move g c = moves _ _ _ _ _ _ _ _ _ _ c.requires.stands _ _ _ _ _ _ c.in-Move.is c.move_sector.ensures
 
 pub returns-in-Turn : goal.returns-in-Turn
 returns-in-Turn g c =

@@ -47,11 +47,13 @@ returns g c =
       answers = c.put_sector.ensures.others.1;
     } in
     sector_told _ _ g.P.Packs.faults _ _ g.T.Sink.faults _ _ _ _ _ c.put_sector.new.self _ _ _ _ _ _ _ c.in-Ok.verdict c.requires.in_hand
-    (named_in c.args.self.now.world _ _ _ c.asked-id.ensures c.hand-slot.ensures) c.requires.busy c.next_block-block.ensures s c.put_sector.ensures.others.2
+    (named_in c.args.self.now.world _ _ _ c.asked-id.ensures c.hand-slot.ensures) c.requires.busy
+    (under_way _ c.args.line _ _ c.requires.sound c.requires.in_hand c.requires.busy).may.is.transfer c.next_block-block.ensures s c.put_sector.ensures.others.2
     c.tell_sector.ensures
     c.put_sector.ensures.failure.never_again c.put_sector.ensures.failure.cause.later
 
 pub returns-in_default : goal.returns-in_default
 returns-in_default g c =
-    sector_stopped _ _ g.P.Packs.faults _ _ g.T.Sink.faults _ _ _ _ _ _ _ _ c.requires.busy c.in_default.ensures.unchanged c.in_default.ensures.failure.old_or_new
+    sector_stopped _ _ g.P.Packs.faults _ _ g.T.Sink.faults _ _ _ _ _ _ _ _ c.requires.busy
+    (under_way _ c.args.line _ _ c.requires.sound c.requires.in_hand c.requires.busy).may.is.transfer c.in_default.ensures.unchanged c.in_default.ensures.failure.old_or_new
     c.in_default.ensures.failure.never_again c.in_default.ensures.failure.cause.later c.in_default.ensures.failure.cause.failed

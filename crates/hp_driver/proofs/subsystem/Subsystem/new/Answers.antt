@@ -7,5 +7,5 @@ use Rattle.hp_driver.proofs.subsystem.Subsystem.new.Goals as goal
 
 pub invariant_of-result : goal.invariant_of-result
 invariant_of-result c =
-    subst (λ (s : State). IsKept (record { world = s.world; outstanding = c.args.outstanding; failed = false }) s.kept) (sym c.in_ok-core.ensures)
+    subst (λ (s : State). IsKept (record { world = s.world; outstanding = c.args.outstanding; failed = false; kept = s.kept })) (sym c.in_ok-core.ensures)
     (kept_new (setups_of c.args.units.now) c.args.outstanding c.args.noises c.requires.units c.requires.few)

@@ -1,14 +1,15 @@
-use Rattle.std.proofs.Common.{[], refl}
-use Rattle.std.proofs.lemmas.Result.{err_from_is_err_and}
+use Rattle.std.proofs.Common.{List, ℕ, [], refl, subst}
 use Rattle.std.specs.Prelude.{Err}
+use Rattle.mass_gather.specs.Gathers.{Gathers}
 use Rattle.mass_gather.proofs.GatherLaws.{put_behind, gathers_stop}
 use Rattle.mass_gather.proofs.gather.Gather.put.Goals as goal
 
-pub returns-in_ok-flush : goal.returns-in_ok-flush
-returns-in_ok-flush g c = put_behind _ _ _ _ _ _ _ _ _ _ _ _ _ c.in_ok-flush.was c.flush.ensures.empty c.flush.ensures.gathers c.put_first.ensures
+pub returns-in-Ok : goal.returns-in-Ok
+returns-in-Ok g c =
+    subst (λ (kept : List ℕ). Gathers g.T.Sink.tells g.T.Sink.taken g.T.Sink.faults c.args.sink.now c.put_first.new.sink kept c.put_first.new.self c.put_first.result c.args.text.now)
+    (c.if-try_keep.ensures.full refl) (put_behind _ _ _ _ _ _ _ _ _ _ _ _ _ c.in-Ok.is c.flush.ensures.empty c.flush.ensures.gathers c.put_first.ensures)
 
-pub returns-in_err-flush : goal.returns-in_err-flush
-returns-in_err-flush g c =
-    let p = err_from_is_err_and c.from_residual.result c.from_residual.ensures.1 in
-    let failed = c.in_err-flush.field-0.0 in
-    rw (p.1, p.2) (gathers_stop _ _ _ _ _ _ _ (Err failed) (Err failed) [] c.args.text.now refl refl c.in_err-flush.ensures.gathers)
+pub returns-in-Err : goal.returns-in-Err
+returns-in-Err g c =
+    subst (λ (kept : List ℕ). Gathers g.T.Sink.tells g.T.Sink.taken g.T.Sink.faults c.args.sink.now c.flush.new.sink kept c.flush.new.self (Err c.in-Err.failed) c.args.text.now)
+    (c.if-try_keep.ensures.full refl) (gathers_stop _ _ _ _ _ _ _ (Err c.in-Err.failed) (Err c.in-Err.failed) [] c.args.text.now refl refl c.in-Err.ensures.gathers)

@@ -1,8 +1,0 @@
-use Rattle.hp_driver.proofs.Calls.{acts_sent, acts_stopped}
-use Rattle.hp_driver.proofs.events.attend.Goals as goal
-
-pub returns : goal.returns
-returns g c = acts_sent _ _ _ _ _ c.requires.stands.sent _ _ _ _ _ _ _ c.in_ok-attend.ensures c.flush.ensures.sends c.flush.ensures.empty
-
-pub returns-in_err-attend : goal.returns-in_err-attend
-returns-in_err-attend g c = acts_stopped _ _ _ _ _ c.requires.stands.sent _ _ _ _ c.from_residual.ensures.1 c.in_err-attend.ensures
