@@ -39,10 +39,10 @@ stage_of w packs_tell held out_tells said trace_tells taken tally = record {
   tally = tally;
 }
 
-tells_front : (packs trace trace_old packs_old out : Bool) (acts : List Act) (old new : World) (held held' : ℕ → Pack) (said taken taken' kept kept' : List ℕ) (tally tally' : Tally) → kept ≡ []
-    → StopsAtTrace (record { packs = packs; trace = trace }) acts (seen old held taken kept) (seen new held' taken' kept')
+tells_front : (packs trace trace_old packs_old out : Bool) (acts : List Act) (old mid new : World) (held held' : ℕ → Pack) (said taken taken' kept kept' : List ℕ) (tally tally' : Tally) → kept ≡ []
+    → StopsAtTrace (record { packs = packs; trace = trace }) acts (seen old held taken kept) (seen mid held' taken' kept')
     → TellsFront acts (stage_of old packs_old held out said trace_old taken tally) (stage_of new packs held' out said trace taken' tally')
-tells_front packs trace trace_old packs_old out acts old new held held' said taken taken' kept kept' tally tally' none is = record {
+tells_front packs trace trace_old packs_old out acts old mid new held held' said taken taken' kept kept' tally tally' none is = record {
   done = is.done;
   left = is.left;
   all = is.all;
@@ -89,7 +89,7 @@ module _ {O Q : Type 0} (holds : Q → Bool) (held : Q → ℕ → Pack) (tells 
     inl (record {
       tried = comes.tried;
       noise = noise;
-      tells = tells_front (holds packs') (tells mid_trace) (tells trace) (holds packs) out_tells (event_acts line input comes.tried old.world) old.world new (held packs) (held packs') said (taken trace) (taken mid_trace)
+      tells = tells_front (holds packs') (tells mid_trace) (tells trace) (holds packs) out_tells (event_acts line input comes.tried old.world) old.world mid.world new (held packs) (held packs') said (taken trace) (taken mid_trace)
           old.kept mid.kept tally tally' none comes.outcome;
     }),
   )
@@ -171,7 +171,7 @@ module _ {O : Type 0} (tells : O → Bool) (taken : O → List ℕ) (trace mid_t
       held = submits.held;
       may = submits.may;
       is = submits.is;
-      tells = tells_front packs (tells mid_trace) (tells trace) packs out_tells (submit_acts r line submits.slot submits.held old.world) old.world new held held said (taken trace) (taken mid_trace) old.kept mid.kept tally tally'
+      tells = tells_front packs (tells mid_trace) (tells trace) packs out_tells (submit_acts r line submits.slot submits.held old.world) old.world mid.world new held held said (taken trace) (taken mid_trace) old.kept mid.kept tally tally'
           none (submits.outcome packs held);
     }),
   )
