@@ -2,7 +2,6 @@ pub mod LoadLaws
 mod PlayLaws
 pub mod FormatLaws
 pub mod ToolLaws
-pub mod WordLaws
 pub mod SoFar
 mod Standing
 mod TheRunLaws
