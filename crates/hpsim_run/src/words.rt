@@ -256,12 +256,7 @@ pub fn command_of(words: &[String]) -> Option<Command>
                 return pack_command(verb.as_str(), unit.as_str(), kind.as_str(), rest);
             }
             if tool.as_str() == "raw" {
-                return transfer_command(raw_in(
-                    verb.as_str(),
-                    unit.as_str(),
-                    kind.as_str(),
-                    rest,
-                ));
+                return transfer_command(raw_in(verb.as_str(), unit.as_str(), kind.as_str(), rest));
             }
             None
         }

@@ -1,2 +1,3 @@
 pub mod Setups
 pub mod Stages
+pub mod UnitLaws

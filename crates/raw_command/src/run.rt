@@ -41,9 +41,7 @@ fn refuse<O: Sink>(out: &mut O, unit: u8, fault: TransferFault) -> TransferFault
         | TransferFault::Source
         | TransferFault::Store
         | TransferFault::Sink => fault,
-        TransferFault::Outside
-        | TransferFault::TooLong { .. }
-        | TransferFault::Unusable { .. } => {
+        TransferFault::Outside | TransferFault::TooLong { .. } | TransferFault::Unusable { .. } => {
             let _ = write_all(out, fault_line(unit, fault).as_bytes());
             fault
         }
