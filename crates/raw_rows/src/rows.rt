@@ -14,10 +14,11 @@ struct Step {
     trace: &'static [u8],
 }
 
-/// Commands over a pack on which these blocks are marked, and whose table, where it has one, lists block 5; and blocks that are all one
-/// byte then.
+/// Commands over a pack with room for so many blocks, on which these are marked, and whose table, where it has one, lists block 5; and
+/// blocks that are all one byte then.
 struct Row {
     name: &'static str,
+    room: u32,
     marked: &'static [u32],
     has_table: bool,
     steps: &'static [Step],
@@ -26,9 +27,12 @@ struct Row {
 
 const OUTSIDE: &[u8] = b"refused outside\n";
 
+const LONG: &[u8] = b"too long unit 0 length 67420672\n";
+
 const ROWS: [Row; 6] = [
     Row {
         name: "bytes across two blocks",
+        room: 8,
         marked: &[],
         has_table: false,
         steps: &[
@@ -51,6 +55,7 @@ const ROWS: [Row; 6] = [
     },
     Row {
         name: "ranges beyond the partition",
+        room: 8,
         marked: &[],
         has_table: false,
         steps: &[
@@ -94,6 +99,7 @@ const ROWS: [Row; 6] = [
     },
     Row {
         name: "a dump to the end of partition b",
+        room: 49_440,
         marked: &[],
         has_table: false,
         steps: &[
@@ -116,6 +122,7 @@ const ROWS: [Row; 6] = [
     },
     Row {
         name: "a block that can't be used",
+        room: 8,
         marked: &[3],
         has_table: false,
         steps: &[
@@ -152,6 +159,7 @@ const ROWS: [Row; 6] = [
     },
     Row {
         name: "a block that the table replaces",
+        room: 131_680,
         marked: &[5],
         has_table: true,
         steps: &[
@@ -174,6 +182,7 @@ const ROWS: [Row; 6] = [
     },
     Row {
         name: "no bytes",
+        room: 8,
         marked: &[],
         has_table: false,
         steps: &[
@@ -221,7 +230,7 @@ fn step_otherwise(alloc: Global, step: &Step, packs: &mut MemPacks) -> Result<&'
 
 /// What a row comes to that it does not say; "" where there is nothing.
 fn row_otherwise(alloc: Global, row: &Row) -> Result<&'static str, Fail> {
-    let mut packs = packs_of(alloc, 131_680, row.marked, NONE.packs)?;
+    let mut packs = packs_of(alloc, row.room, row.marked, NONE.packs)?;
     if row.has_table {
         put_table(&mut packs)?;
     }
@@ -290,7 +299,7 @@ fn words_that_transfer_nothing(rt: HostRuntime) -> Result<(), Fail> {
 fn sized(alloc: Global, line: &str, size: usize) -> Result<u8, Fail> {
     let mut source = Vec::new(alloc);
     source.resize(size, 1u8)?;
-    let mut packs = packs_of(alloc, 131_680, &[], NONE.packs)?;
+    let mut packs = packs_of(alloc, 8, &[], NONE.packs)?;
     Ok(run_line(alloc, line, source.as_slice(), &mut packs, NONE)?.status)
 }
 
@@ -307,7 +316,7 @@ fn over_long_image(alloc: Global, line: &str) -> Result<&'static str, Fail> {
     let mut packs = packs_of(alloc, 131_681, &[], NONE.packs)?;
     packs.write(0, 131_680, &[0x55; 512])?;
     let ran = run_line(alloc, line, b"", &mut packs, NONE)?;
-    if ran.status == 7 && ran.out.taken() == b"too long unit 0 length 67420672\n" {
+    if ran.status == 7 && ran.out.taken() == LONG {
         return Ok("too long");
     }
     if ran.status == 10 && ran.out.taken() == OUTSIDE {
