@@ -6,3 +6,4 @@ pub mod SoFar
 mod Standing
 mod TheRunLaws
 mod PlayRuns
+mod TransferLaws
