@@ -1,0 +1,4 @@
+pub mod Setups
+pub mod Stages
+pub mod UnitLaws
+pub mod RunLaws

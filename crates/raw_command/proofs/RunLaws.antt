@@ -1,0 +1,101 @@
+-- WHAT A TRANSFER ENDS WITH, from what its parts answer.
+use Rattle.std.proofs.Common.{◌≡◌, ◌⊎◌, inl, inr, ℕ, ◌+◌, ◌<◌, ◌≤◌, Bool, IsTrue, List, [], ◌++◌, take, length, Ok, Err, refl, sym, ap, subst, ◌∙◌, arith, append-nil}
+use Rattle.std.specs.Prelude.{Option, None, Some}
+use Rattle.outside_traits.specs.Causes.{Rose}
+use Rattle.outside_traits.specs.Puts.{TakesFront}
+use Rattle.pack_geometry.specs.declared.DriveKind.{DriveKind}
+use Rattle.partition_bytes.specs.Bytes.{IsOutside}
+use Rattle.driver_outcome.specs.declared.Stop.TheVariants as stopped
+use Rattle.command_parts.specs.Lines.{Told}
+use Rattle.command_parts.specs.Outside.{Outside}
+use Rattle.raw_command.specs.Endings.{IsBeyond, IsRefused, IsTooLong, IsUntouched, ReadEnds, Stays, Took, WriteEnds, bytes_for, fault_text, kind_of, limit_of, target_for, unit_of}
+use Rattle.raw_command.specs.Faults.{Answer, IsBefore, IsOfUnit, IsSilent, code_of, stop_of}
+use Rattle.raw_command.specs.Transfers.{LeftRead, LeftWritten}
+use Rattle.raw_command.specs.Units.{IsFoundLong}
+use Rattle.raw_command.specs.declared.fault.TransferFault.{TransferFault}
+use Rattle.raw_command.specs.declared.fault.TransferFault.TheVariants as fault
+use Rattle.raw_command.specs.declared.words.Target.{Target}
+use Rattle.raw_command.specs.declared.words.Writing.{Writing}
+use Rattle.raw_command.specs.declared.words.Writing.TheVariants.{Raw, Dump}
+
+-- WHERE A UNIT answered a fault, and that was told
+abbrev pub answered : TransferFault → Answer
+answered f = Err f
+
+pub record Faulted (unit : ℕ) (kind : DriveKind) (f : TransferFault) (old new : Outside) : Type 0 where
+  pub only : IsOfUnit (answered f)
+  pub store : stop_of (answered f) ≡ Some stopped.Store → Rose old.packs_faults new.packs_faults
+  pub sink : stop_of (answered f) ≡ Some stopped.Sink → Rose old.trace_faults new.trace_faults
+  pub untraced : IsBefore (answered f) → new.taken ≡ old.taken
+  pub same : IsBefore (answered f) → IsTrue new.packs_tell → new.held ≡ old.held
+  pub long : IsFoundLong new.packs_tell (old.held unit) kind (answered f)
+  pub told : IsTrue new.out_tells → Told old.said new.said (fault_text unit f) old.out_faults new.out_faults
+  pub silent : IsSilent f → new.said ≡ old.said
+
+too_long : {unit n : ℕ} {kind : DriveKind} {old new : Outside} → Faulted unit kind (fault.TooLong n) old new → IsTooLong unit kind old new n
+too_long is = record {
+  refused = record { packs = is.same tt; trace = is.untraced tt; told = is.told };
+  above = is.long.above;
+  is = is.long.is;
+}
+
+untouched : {unit : ℕ} {kind : DriveKind} {old new : Outside} → Faulted unit kind fault.Memory old new → IsUntouched old new
+untouched is = record { packs = is.same tt; trace = is.untraced tt; out = is.silent tt }
+
+pub read_fault : {t : Target} {size : ℕ} {old new : Outside} (f : TransferFault) → ((done : ℕ) → f ≡ fault.Unusable done → ⊥) → ¬ (IsOutside t.kind t.part t.at size)
+    → Faulted t.unit t.kind f old new → (IsTrue new.packs_tell → LeftRead f t old.held new.held) → ReadEnds t size (Err f) old new
+read_fault fault.Memory usable inside is left = (inside, untouched is)
+read_fault (fault.TooLong n) usable inside is left = (inside, too_long is)
+read_fault (fault.Unusable done) usable inside is left = absurd (usable done refl)
+read_fault fault.Store usable inside is left = (is.store refl, record { inside = inside; out = is.silent tt; left = left })
+read_fault fault.Sink usable inside is left = inl (is.sink refl, record { inside = inside; out = is.silent tt; left = left })
+read_fault fault.Source usable inside is left = absurd is.only
+read_fault fault.Outside usable inside is left = absurd is.only
+
+pub write_fault : {w : Writing} {from : List ℕ} {old new : Outside} (f : TransferFault) → Took w from old new → Faulted (unit_of w) (kind_of w) f old new
+    → ((done : ℕ) → f ≡ fault.Unusable done → WriteEnds w (Err (fault.Unusable done)) old new)
+    → (IsTrue new.packs_tell → LeftWritten f (target_for w from) (bytes_for w from) old.held new.held) → WriteEnds w (Err f) old new
+write_fault fault.Memory took is front left = untouched is
+write_fault {from = from} (fault.TooLong n) took is front left = record { from = from; took = took; long = too_long is }
+write_fault (fault.Unusable done) took is front left = front done refl
+write_fault {from = from} fault.Store took is front left = (is.store refl, record { from = from; took = took; out = is.silent tt; left = left })
+write_fault {from = from} fault.Sink took is front left = inl (is.sink refl, record { from = from; took = took; out = is.silent tt; left = left })
+write_fault fault.Source took is front left = absurd is.only
+write_fault fault.Outside took is front left = absurd is.only
+
+-- ---- WHAT STAYS, by the answer
+module _ {P O T : Type 0} {packs packs' : P} {out out' : O} {trace trace' : T} where
+  -- where a status is none of these
+  pub stays_by : (code : ℕ) → (code ≡ 4 → ⊥) → (code ≡ 7 → ⊥) → (code ≡ 9 → ⊥) → Stays code packs packs' out out' trace trace'
+  stays_by code four seven nine = record {
+    untouched = λ e. absurd (four e);
+    silent = λ e. absurd (elim e [ inl e ↦ four e | inr e ↦ nine e ]);
+    untraced = λ e. absurd (elim e [ inl e ↦ four e | inr (inl e) ↦ seven e | inr (inr e) ↦ nine e ]);
+  }
+
+  pub stays_fault : (f : TransferFault) → IsOfUnit (answered f) → (IsBefore (answered f) → trace' ≡ trace) → (IsSilent f → out' ≡ out)
+      → Stays (code_of (Err f)) packs packs' out out' trace trace'
+  stays_fault fault.Memory only untraced silent = record { untouched = λ e. absurd (omega (arith, e)); silent = λ e. silent tt; untraced = λ e. untraced tt }
+  stays_fault (fault.TooLong n) only untraced silent = record {
+    untouched = λ e. absurd (omega (arith, e));
+    silent = λ e. absurd (elim e [ inl e ↦ omega (arith, e) | inr e ↦ omega (arith, e) ]);
+    untraced = λ e. untraced tt;
+  }
+  stays_fault (fault.Unusable done) only untraced silent = stays_by 10 (λ e. omega (arith, e)) (λ e. omega (arith, e)) (λ e. omega (arith, e))
+  stays_fault fault.Store only untraced silent = stays_by 6 (λ e. omega (arith, e)) (λ e. omega (arith, e)) (λ e. omega (arith, e))
+  stays_fault fault.Sink only untraced silent = stays_by 5 (λ e. omega (arith, e)) (λ e. omega (arith, e)) (λ e. omega (arith, e))
+  stays_fault fault.Source only untraced silent = absurd only
+  stays_fault fault.Outside only untraced silent = absurd only
+
+-- ---- THE SOURCE, whose bytes were read up to a limit
+pub beyond_more : (w : Writing) (n m : ℕ) → n ≤ m → IsBeyond w n → IsBeyond w m
+beyond_more (Raw t) n m le (inl e) = inl (omega (arith, le, e))
+beyond_more (Raw t) n m le (inr e) = inr (omega (arith, le, e))
+beyond_more (Dump unit kind) n m le e = omega (arith, le, e)
+
+less_or : (n m : ℕ) → (n ≤ m) ⊎ (m < n)
+less_or n m = grind arith
+
+pub within : (w : Writing) (n : ℕ) → ¬ (IsBeyond w n) → n ≤ limit_of w
+within (Raw t) n no = elim (less_or n 16777216) [ inl le ↦ le | inr more ↦ absurd (no (inl more)) ]
+within (Dump unit kind) n no = elim (less_or n 8388608) [ inl le ↦ le | inr more ↦ absurd (no more) ]

@@ -1,0 +1,88 @@
+-- What a transfer is answered.
+use Rattle.std.specs.Prelude.{◌≡◌, ◌⊎◌, ℕ, Result, Ok, Err, Option, None, Some}
+use Rattle.outside_traits.specs.declared.whole.ReadAllFault.{ReadAllFault}
+use Rattle.outside_traits.specs.declared.whole.ReadAllFault.TheVariants as all
+use Rattle.mba_autoconf.specs.declared.attaching.AttachFault.{AttachFault}
+use Rattle.mba_autoconf.specs.declared.attaching.AttachFault.TheVariants as attach
+use Rattle.raw_io.specs.declared.fault.RawFault.{RawFault}
+use Rattle.raw_io.specs.declared.fault.RawFault.TheVariants as raw
+use Rattle.driver_outcome.specs.declared.Stop.{Stop}
+use Rattle.driver_outcome.specs.declared.Stop.TheVariants as stopped
+use Rattle.raw_command.specs.declared.fault.TransferFault.{TransferFault}
+use Rattle.raw_command.specs.declared.fault.TransferFault.TheVariants as fault
+use Rattle.raw_command.specs.declared.words.Transfer.{Transfer}
+use Rattle.raw_command.specs.declared.words.Transfer.TheVariants.{Read, Write}
+
+abbrev pub from_read_all : ReadAllFault → TransferFault
+from_read_all all.Memory = fault.Memory
+from_read_all all.Failed = fault.Source
+
+abbrev pub from_attach : AttachFault → TransferFault
+from_attach (attach.TooLong n) = fault.TooLong n
+from_attach attach.Store = fault.Store
+
+abbrev pub from_raw : RawFault → TransferFault
+from_raw raw.Outside = fault.Outside
+from_raw (raw.Unusable done) = fault.Unusable done
+from_raw raw.Store = fault.Store
+from_raw raw.Sink = fault.Sink
+
+-- THE ANSWER: the status that it ends with,
+abbrev pub Answer : Type 0
+Answer = Result (Unit {0}) TransferFault
+
+abbrev pub code_of : Answer → ℕ
+code_of (Ok all) = 0
+code_of (Err fault.Source) = 4
+code_of (Err fault.Sink) = 5
+code_of (Err fault.Store) = 6
+code_of (Err (fault.TooLong n)) = 7
+code_of (Err fault.Memory) = 9
+code_of (Err fault.Outside) = 10
+code_of (Err (fault.Unusable done)) = 10
+
+-- what stopped it, if something did,
+abbrev pub stop_of : {A : Type 0} → Result A TransferFault → Option Stop
+stop_of (Err fault.Store) = Some stopped.Store
+stop_of (Err fault.Sink) = Some stopped.Sink
+stop_of answer = None
+
+-- how many of so many bytes were transferred where nothing did,
+abbrev pub done_by : {A : Type 0} → (size : ℕ) → Result A TransferFault → Option ℕ
+done_by size (Ok value) = Some size
+done_by size (Err (fault.Unusable done)) = Some done
+done_by size answer = None
+
+-- and that nothing was transferred: there was no memory, or the image is too long.
+abbrev pub IsBefore : {A : Type 0} → Result A TransferFault → Type 0
+IsBefore (Err fault.Memory) = Unit {0}
+IsBefore (Err (fault.TooLong n)) = Unit {0}
+IsBefore answer = ⊥
+
+-- Nothing is printed of what failed.
+abbrev pub IsSilent : TransferFault → Type 0
+IsSilent fault.Memory = Unit {0}
+IsSilent fault.Source = Unit {0}
+IsSilent fault.Store = Unit {0}
+IsSilent fault.Sink = Unit {0}
+IsSilent why = ⊥
+
+-- A UNIT is answered so: its source and its range are not asked for.
+abbrev pub IsOfUnit : {A : Type 0} → Result A TransferFault → Type 0
+IsOfUnit (Err fault.Source) = ⊥
+IsOfUnit (Err fault.Outside) = ⊥
+IsOfUnit answer = Unit {0}
+
+-- and as it is attached nothing is transferred yet.
+abbrev pub IsOfAttaching : {A : Type 0} → Result A TransferFault → Type 0
+IsOfAttaching (Ok value) = Unit {0}
+IsOfAttaching (Err fault.Store) = Unit {0}
+IsOfAttaching answer = IsBefore answer
+
+-- THE STATUSES: only what is written is read from the source.
+abbrev pub IsReadCode : ℕ → Type 0
+IsReadCode code = (code ≡ 0) ⊎ (code ≡ 5) ⊎ (code ≡ 6) ⊎ (code ≡ 7) ⊎ (code ≡ 9) ⊎ (code ≡ 10)
+
+abbrev pub IsTransferCode : Transfer → ℕ → Type 0
+IsTransferCode (Read target size) code = IsReadCode code
+IsTransferCode (Write writing) code = IsReadCode code ⊎ (code ≡ 4)
