@@ -19,16 +19,13 @@ use Rattle.raw_command.specs.declared.words.Writing.{Writing}
 use Rattle.raw_command.specs.declared.words.Writing.TheVariants.{Raw, Dump}
 
 -- WHERE A UNIT answered a fault, and that was told
-abbrev pub answered : TransferFault → Answer
-answered f = Err f
-
 pub record Faulted (unit : ℕ) (kind : DriveKind) (f : TransferFault) (old new : Outside) : Type 0 where
-  pub only : IsOfUnit (answered f)
-  pub store : stop_of (answered f) ≡ Some stopped.Store → Rose old.packs_faults new.packs_faults
-  pub sink : stop_of (answered f) ≡ Some stopped.Sink → Rose old.trace_faults new.trace_faults
-  pub untraced : IsBefore (answered f) → new.taken ≡ old.taken
-  pub same : IsBefore (answered f) → IsTrue new.packs_tell → new.held ≡ old.held
-  pub long : IsFoundLong new.packs_tell (old.held unit) kind (answered f)
+  pub only : IsOfUnit (Some f)
+  pub store : stop_of (Some f) ≡ Some stopped.Store → Rose old.packs_faults new.packs_faults
+  pub sink : stop_of (Some f) ≡ Some stopped.Sink → Rose old.trace_faults new.trace_faults
+  pub untraced : IsBefore (Some f) → new.taken ≡ old.taken
+  pub same : IsBefore (Some f) → IsTrue new.packs_tell → new.held ≡ old.held
+  pub long : IsFoundLong new.packs_tell (old.held unit) kind f
   pub told : IsTrue new.out_tells → Told old.said new.said (fault_text unit f) old.out_faults new.out_faults
   pub silent : IsSilent f → new.said ≡ old.said
 
@@ -73,7 +70,7 @@ module _ {P O T : Type 0} {packs packs' : P} {out out' : O} {trace trace' : T} w
     untraced = λ e. absurd (elim e [ inl e ↦ four e | inr (inl e) ↦ seven e | inr (inr e) ↦ nine e ]);
   }
 
-  pub stays_fault : (f : TransferFault) → IsOfUnit (answered f) → (IsBefore (answered f) → trace' ≡ trace) → (IsSilent f → out' ≡ out)
+  pub stays_fault : (f : TransferFault) → IsOfUnit (Some f) → (IsBefore (Some f) → trace' ≡ trace) → (IsSilent f → out' ≡ out)
       → Stays (code_of (Err f)) packs packs' out out' trace trace'
   stays_fault fault.Memory only untraced silent = record { untouched = λ e. absurd (omega (arith, e)); silent = λ e. silent tt; untraced = λ e. untraced tt }
   stays_fault (fault.TooLong n) only untraced silent = record {

@@ -1,5 +1,5 @@
 -- WHAT `raw_io` PROMISES of a driver for one unit, said of the unit and its packs.
-use Rattle.std.proofs.Common.{◌≡◌, ℕ, ◌+◌, ◌<◌, ◌≤◌, Bool, IsTrue, List, [], ◌∷◌, ◌++◌, take, drop, length, Option, Some, None, refl, sym, ap, subst, ◌∙◌, arith}
+use Rattle.std.proofs.Common.{◌≡◌, ℕ, ◌+◌, ◌<◌, ◌≤◌, Bool, true, false, IsTrue, List, [], ◌∷◌, ◌++◌, take, drop, length, Option, Some, None, refl, sym, ap, subst, ◌∙◌, arith}
 use Rattle.std.proofs.Math.Seq.{take-append_seam}
 use Rattle.pack_geometry.specs.declared.DriveKind.{DriveKind}
 use Rattle.pack_geometry.specs.Geometry.{block_count}
@@ -86,7 +86,7 @@ module _ (t : Target) (table : Option Table) (small : t.unit < 32) (good : (x : 
 
   -- WHERE THE PACKS TELL
   module _ (told : IsTrue new.packs_tell) (is : IsTableOf t.kind (old.held t.unit) table) (fits : Fits t.kind (old.held t.unit)) where
-    tables : HasTables (setup_at old)
+    pub tables : HasTables (setup_at old)
     tables = subst (λ (w : World). HasTables (setup_of w old.held)) (sym made) (has_tables t.unit t.kind table small good old.held is)
 
     stands : StandsQuiet old.held old.world (start_at t table old.held)
@@ -123,6 +123,7 @@ module _ (t : Target) (table : Option Table) (small : t.unit < 32) (good : (x : 
     -- A READ
     pub has_read : (done : ℕ) (into into' : List ℕ) → GivesRange t.unit t.part t.at done into into' old new
         → HasRead t (length into) done (take done into') old.held new.held new.trace_tells old.taken new.taken
+    unfolding transferred
     has_read done into into' gives =
         let read : ReadsRange t.unit (start_of old t.unit t.part) t.at done into into' old new = gives.told told tables in
         record {
@@ -143,6 +144,7 @@ module _ (t : Target) (table : Option Table) (small : t.unit < 32) (good : (x : 
     -- A WRITE
     pub has_written : (done : ℕ) (from : List ℕ) → PutsRange t.unit t.part t.at done from old new
         → HasWritten t done from old.held new.held new.trace_tells old.taken new.taken
+    unfolding transferred
     has_written done from puts =
         let wrote : WritesRange t.unit (start_of old t.unit t.part) t.at done from old new = puts.told told tables in
         record {

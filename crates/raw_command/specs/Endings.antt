@@ -3,6 +3,7 @@ use Rattle.std.specs.Prelude.{◌≡◌, ◌⊎◌, ℕ, ◌+◌, ◌*◌, ◌<�
 use Rattle.outside_traits.specs.Causes.{Rose}
 use Rattle.outside_traits.specs.Puts.{TakesFront}
 use Rattle.pack_geometry.specs.declared.DriveKind.{DriveKind}
+use Rattle.pack_geometry.specs.Geometry.{block_count}
 use Rattle.partitions.specs.declared.Part.TheVariants.{B}
 use Rattle.partition_bytes.specs.Bytes.{IsOutside, blocks_for, dumped, dump_place}
 use Rattle.command_parts.specs.Lines.{Told, too_long_text}
@@ -112,9 +113,9 @@ abbrev pub bytes_for : Writing → List ℕ → List ℕ
 bytes_for (Raw t) from = from
 bytes_for (Dump unit kind) from = dumped from
 
-abbrev pub number_for : Writing → List ℕ → ℕ
-number_for (Raw t) from = length from
-number_for (Dump unit kind) from = blocks_for (length from)
+abbrev pub number_for : Writing → (size : ℕ) → ℕ
+number_for (Raw t) size = size
+number_for (Dump unit kind) size = blocks_for size
 
 unfoldable pub done_text : Writing → ℕ → List ℕ
 done_text (Raw t) n = codes "wrote " ++ decimal n ++ 10 ∷ []
@@ -134,13 +135,13 @@ pub record Writes (w : Writing) (from : List ℕ) (done : ℕ) (old new : Outsid
 pub record WritesAll (w : Writing) (old new : Outside) : Type 0 where
   pub from : List ℕ
   pub writes : Writes w from (length (bytes_for w from)) old new
-  pub told : IsTrue new.out_tells → new.said ≡ old.said ++ done_text w (number_for w from)
+  pub told : IsTrue new.out_tells → new.said ≡ old.said ++ done_text w (number_for w (length from))
 
 pub record WritesCut (w : Writing) (old new : Outside) : Type 0 where
   pub from : List ℕ
   pub writes : Writes w from (length (bytes_for w from)) old new
   pub rose : Rose old.out_faults new.out_faults
-  pub front : IsTrue new.out_tells → TakesFront old.said new.said (done_text w (number_for w from))
+  pub front : IsTrue new.out_tells → TakesFront old.said new.said (done_text w (number_for w (length from)))
 
 -- those before a block that can't be used;
 pub record WritesFront (w : Writing) (done : ℕ) (old new : Outside) : Type 0 where

@@ -27,6 +27,11 @@ from_raw (raw.Unusable done) = fault.Unusable done
 from_raw raw.Store = fault.Store
 from_raw raw.Sink = fault.Sink
 
+-- the fault of a call of `raw_io`, if it has one
+abbrev pub raw_fault : {A : Type 0} → Result A RawFault → Option TransferFault
+raw_fault (Ok value) = None
+raw_fault (Err why) = Some (from_raw why)
+
 -- THE ANSWER: the status that it ends with,
 abbrev pub Answer : Type 0
 Answer = Result (Unit {0}) TransferFault
@@ -41,22 +46,27 @@ code_of (Err fault.Memory) = 9
 code_of (Err fault.Outside) = 10
 code_of (Err (fault.Unusable done)) = 10
 
+-- the fault in it, if there is one,
+abbrev pub fault_in : {A : Type 0} → Result A TransferFault → Option TransferFault
+fault_in (Ok value) = None
+fault_in (Err why) = Some why
+
 -- what stopped it, if something did,
-abbrev pub stop_of : {A : Type 0} → Result A TransferFault → Option Stop
-stop_of (Err fault.Store) = Some stopped.Store
-stop_of (Err fault.Sink) = Some stopped.Sink
+abbrev pub stop_of : Option TransferFault → Option Stop
+stop_of (Some fault.Store) = Some stopped.Store
+stop_of (Some fault.Sink) = Some stopped.Sink
 stop_of answer = None
 
 -- how many of so many bytes were transferred where nothing did,
-abbrev pub done_by : {A : Type 0} → (size : ℕ) → Result A TransferFault → Option ℕ
-done_by size (Ok value) = Some size
-done_by size (Err (fault.Unusable done)) = Some done
+abbrev pub done_by : (size : ℕ) → Option TransferFault → Option ℕ
+done_by size None = Some size
+done_by size (Some (fault.Unusable done)) = Some done
 done_by size answer = None
 
 -- and that nothing was transferred: there was no memory, or the image is too long.
-abbrev pub IsBefore : {A : Type 0} → Result A TransferFault → Type 0
-IsBefore (Err fault.Memory) = Unit {0}
-IsBefore (Err (fault.TooLong n)) = Unit {0}
+abbrev pub IsBefore : Option TransferFault → Type 0
+IsBefore (Some fault.Memory) = Unit {0}
+IsBefore (Some (fault.TooLong n)) = Unit {0}
 IsBefore answer = ⊥
 
 -- Nothing is printed of what failed.
@@ -68,16 +78,17 @@ IsSilent fault.Sink = Unit {0}
 IsSilent why = ⊥
 
 -- A UNIT is answered so: its source and its range are not asked for.
-abbrev pub IsOfUnit : {A : Type 0} → Result A TransferFault → Type 0
-IsOfUnit (Err fault.Source) = ⊥
-IsOfUnit (Err fault.Outside) = ⊥
+abbrev pub IsOfUnit : Option TransferFault → Type 0
+IsOfUnit (Some fault.Source) = ⊥
+IsOfUnit (Some fault.Outside) = ⊥
 IsOfUnit answer = Unit {0}
 
 -- and as it is attached nothing is transferred yet.
-abbrev pub IsOfAttaching : {A : Type 0} → Result A TransferFault → Type 0
-IsOfAttaching (Ok value) = Unit {0}
-IsOfAttaching (Err fault.Store) = Unit {0}
-IsOfAttaching answer = IsBefore answer
+abbrev pub IsOfAttaching : TransferFault → Type 0
+IsOfAttaching fault.Store = Unit {0}
+IsOfAttaching fault.Memory = Unit {0}
+IsOfAttaching (fault.TooLong n) = Unit {0}
+IsOfAttaching why = ⊥
 
 -- THE STATUSES: only what is written is read from the source.
 abbrev pub IsReadCode : ℕ → Type 0

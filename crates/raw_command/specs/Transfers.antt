@@ -1,5 +1,5 @@
 -- WHAT A TRANSFER COMES TO over the packs, by the contents of its unit's data blocks.
-use Rattle.std.specs.Prelude.{◌≡◌, ◌⊎◌, ℕ, ◌+◌, ◌<◌, ◌≤◌, Bool, true, false, IsTrue, List, [], ◌++◌, take, length, Option, Some}
+use Rattle.std.specs.Prelude.{◌≡◌, ◌⊎◌, ℕ, ◌+◌, ◌<◌, ◌≤◌, Bool, true, false, IsTrue, List, [], ◌++◌, take, length, Option, Some, IfSome}
 use Rattle.pack_geometry.specs.Geometry.{block_count}
 use Rattle.pack_model.specs.Pack.{Pack, block_at}
 use Rattle.pack_model.specs.Homes.{IsHome, content_of}
@@ -17,7 +17,8 @@ use Rattle.partition_bytes.specs.Bytes.{range, Touches, ComesTo, with_range}
 use Rattle.partition_bytes.specs.Pieces.{EndsBlock}
 use Rattle.raw_io.specs.Transfers.{AreWaited}
 use Rattle.mba_autoconf.specs.Attach.{Fits}
-use Rattle.raw_command.specs.Units.{at_unit, unit_setup}
+use Rattle.raw_command.specs.Faults.{done_by}
+use Rattle.raw_command.specs.Units.{at_unit, unit_setup, KeepsUnit}
 use Rattle.raw_command.specs.declared.fault.TransferFault.{TransferFault}
 use Rattle.raw_command.specs.declared.fault.TransferFault.TheVariants as fault
 use Rattle.raw_command.specs.declared.words.Target.{Target}
@@ -94,3 +95,22 @@ abbrev pub LeftWritten : TransferFault → Target → (from : List ℕ) → (hel
 LeftWritten fault.Store t from held held' = (held' ≡ held) ⊎ LeavesFront t from held held'
 LeftWritten fault.Sink t from held held' = LeavesFront t from held held'
 LeftWritten why t from held held' = Unit {0}
+
+-- WHAT A CALL OVER ONE UNIT has done, by the fault that it answered, if it did: a read into a buffer,
+pub record ReadsUnit {Q O : Type 0} (holds : Q → Bool) (held : Q → ℕ → Pack) (packs_faults : Q → ℕ) (tells : O → Bool) (taken : O → List ℕ) (faults : O → ℕ)
+    (t : Target) (into into' : List ℕ) (packs packs' : Q) (trace trace' : O) (why : Option TransferFault) : Type 0 where
+  pub few : (done : ℕ) → done_by (length into) why ≡ Some done → done ≤ length into
+  pub unusable : (done : ℕ) → why ≡ Some (fault.Unusable done) → done < length into
+  pub reads : (done : ℕ) → done_by (length into) why ≡ Some done → IsTrue (holds packs')
+      → HasRead t (length into) done (take done into') (held packs) (held packs') (tells trace') (taken trace) (taken trace')
+  pub stops : IfSome why (λ f. IsTrue (holds packs') → LeftRead f t (held packs) (held packs'))
+  pub keeps : KeepsUnit holds held packs_faults tells faults t.unit t.kind packs packs' trace trace' why
+
+-- and a write of bytes.
+pub record WritesUnit {Q O : Type 0} (holds : Q → Bool) (held : Q → ℕ → Pack) (packs_faults : Q → ℕ) (tells : O → Bool) (taken : O → List ℕ) (faults : O → ℕ)
+    (t : Target) (from : List ℕ) (packs packs' : Q) (trace trace' : O) (why : Option TransferFault) : Type 0 where
+  pub unusable : (done : ℕ) → why ≡ Some (fault.Unusable done) → done < length from
+  pub writes : (done : ℕ) → done_by (length from) why ≡ Some done → IsTrue (holds packs')
+      → HasWritten t done from (held packs) (held packs') (tells trace') (taken trace) (taken trace')
+  pub stops : IfSome why (λ f. IsTrue (holds packs') → LeftWritten f t from (held packs) (held packs'))
+  pub keeps : KeepsUnit holds held packs_faults tells faults t.unit t.kind packs packs' trace trace' why

@@ -1,5 +1,5 @@
 -- ONE UNIT over packs, with the table of its pack: no other drive is there.
-use Rattle.std.specs.Prelude.{◌≡◌, ℕ, ◌*◌, ◌<◌, ◌==◌, if◌then◌else◌, Bool, false, IsTrue, List, [], ◌∷◌, Option, None, Some, Result, Err, length}
+use Rattle.std.specs.Prelude.{◌≡◌, ℕ, ◌*◌, ◌<◌, ◌==◌, if◌then◌else◌, Bool, false, IsTrue, List, [], ◌∷◌, Option, None, Some, IfSome, length}
 use Rattle.pack_geometry.specs.declared.DriveKind.{DriveKind}
 use Rattle.pack_geometry.specs.Geometry.{block_count}
 use Rattle.pack_model.specs.Pack.{Pack}
@@ -34,17 +34,17 @@ pub record IsLong (tells : Bool) (pack : Pack) (kind : DriveKind) (size : ℕ) :
   pub above : 512 * block_count kind < size
   pub is : IsTrue tells → size ≡ length pack.image
 
-abbrev pub IsFoundLong : {A : Type 0} → (tells : Bool) → Pack → DriveKind → Result A TransferFault → Type 0
-IsFoundLong tells pack kind (Err (fault.TooLong n)) = IsLong tells pack kind n
-IsFoundLong tells pack kind answer = Unit {0}
+abbrev pub IsFoundLong : (tells : Bool) → Pack → DriveKind → TransferFault → Type 0
+IsFoundLong tells pack kind (fault.TooLong n) = IsLong tells pack kind n
+IsFoundLong tells pack kind why = Unit {0}
 
 -- WHAT EACH CALL KEEPS, whatever it comes to.
-pub record KeepsUnit {Q O A : Type 0} (holds : Q → Bool) (held : Q → ℕ → Pack) (packs_faults : Q → ℕ) (tells : O → Bool) (faults : O → ℕ)
-    (unit : ℕ) (kind : DriveKind) (packs packs' : Q) (trace trace' : O) (answer : Result A TransferFault) : Type 0 where
+pub record KeepsUnit {Q O : Type 0} (holds : Q → Bool) (held : Q → ℕ → Pack) (packs_faults : Q → ℕ) (tells : O → Bool) (faults : O → ℕ)
+    (unit : ℕ) (kind : DriveKind) (packs packs' : Q) (trace trace' : O) (fault : Option TransferFault) : Type 0 where
   pub never_again : IsTrue (holds packs') → IsTrue (holds packs)
   pub never_again_trace : IsTrue (tells trace') → IsTrue (tells trace)
-  pub causes : HasCauses (packs_faults packs) (packs_faults packs') (faults trace) (faults trace') (stop_of answer)
-  pub untraced : IsBefore answer → trace' ≡ trace
-  pub same : IsBefore answer → IsTrue (holds packs') → held packs' ≡ held packs
-  pub long : IsFoundLong (holds packs') (held packs unit) kind answer
-  pub only : IsOfUnit answer
+  pub causes : HasCauses (packs_faults packs) (packs_faults packs') (faults trace) (faults trace') (stop_of fault)
+  pub untraced : IsBefore fault → trace' ≡ trace
+  pub same : IsBefore fault → IsTrue (holds packs') → held packs' ≡ held packs
+  pub long : IfSome fault (IsFoundLong (holds packs') (held packs unit) kind)
+  pub only : IsOfUnit fault

@@ -1,5 +1,5 @@
 // The unit of a transfer is attached.
-ghost use Rattle.std.specs.Prelude.{◌≡◌, ◌≤◌, ◌<◌, IsTrue, IfOk, IfSome, IsErrOf};
+ghost use Rattle.std.specs.Prelude.{◌≡◌, ◌≤◌, ◌<◌, IsTrue, IfOk, IfErr, IfSome, IsErrOf};
 ghost use Rattle.outside_traits.specs.Causes.{Rose};
 ghost use Rattle.pack_model.specs.TableSpelling.{IsTable};
 ghost use Rattle.raw_command.specs.Faults.{IsOfAttaching};
@@ -38,8 +38,8 @@ pub(crate) fn attached<P: Packs>(
 ) -> Result<Subsystem, TransferFault>
     requires unit { unit < 32 }
     ensures attached { IfOk result (λ s. IsAttached (P.tells packs.new) (P.held packs.old unit) unit kind s) }
-    ensures long { IsFoundLong (P.tells packs.new) (P.held packs.old unit) kind result }
-    ensures only { IsOfAttaching result }
+    ensures long { IfErr result (IsFoundLong (P.tells packs.new) (P.held packs.old unit) kind) }
+    ensures only { IfErr result IsOfAttaching }
     ensures same { IsTrue (P.tells packs.new) → P.held packs.new ≡ P.held packs.old }
     ensures never_again { IsTrue (P.tells packs.new) → IsTrue (P.tells packs.old) }
     ensures later { P.faults packs.old ≤ P.faults packs.new }

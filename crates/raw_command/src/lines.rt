@@ -1,6 +1,6 @@
 // The lines that transfers print.
-ghost use Rattle.std.specs.Prelude.{◌≡◌};
-ghost use Rattle.raw_command.specs.Endings.{done_text, fault_text};
+ghost use Rattle.std.specs.Prelude.{◌≡◌, ◌≤◌};
+ghost use Rattle.raw_command.specs.Endings.{done_text, fault_text, number_for};
 
 use crate::fault::TransferFault;
 use crate::words::Writing;
@@ -23,13 +23,14 @@ pub(crate) fn fault_line(unit: u8, fault: TransferFault) -> LineBuf
     }
 }
 
-/// What is printed of a write that is done: `wrote N`, or of a dump `dumped K`.
+/// What is printed of so many bytes of a source that were written: `wrote N`, or of a dump `dumped K`.
 #[tactic(auto, unfolding(crate::specs::Endings::done_text))]
-pub(crate) fn done_line(writing: Writing, number: u64) -> LineBuf
-    ensures { result ≡ done_text writing number }
+pub(crate) fn done_line(writing: Writing, size: usize) -> LineBuf
+    requires { size ≤ 16777216 }
+    ensures { result ≡ done_text writing (number_for writing size) }
 {
     match writing {
-        Writing::Raw { .. } => numbered("wrote ", number),
-        Writing::Dump { .. } => numbered("dumped ", number),
+        Writing::Raw { .. } => numbered("wrote ", size as u64),
+        Writing::Dump { .. } => numbered("dumped ", (size as u64 + 511) / 512),
     }
 }

@@ -136,8 +136,8 @@ fn run_write<S: Source, P: Packs, O: Sink, T: Sink>(
         return Err(refuse(out, unit(writing), TransferFault::Outside));
     }
     match put(alloc, writing, from.as_slice(), packs, trace) {
-        Ok(number) => {
-            write_all(out, done_line(writing, number).as_bytes())?;
+        Ok(()) => {
+            write_all(out, done_line(writing, from.len()).as_bytes())?;
             Ok(())
         }
         Err(fault) => Err(refuse(out, unit(writing), fault)),

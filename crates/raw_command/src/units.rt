@@ -1,13 +1,11 @@
 // Transfers of one unit, over packs and a trace.
-ghost use Rattle.std.specs.Prelude.{◌≡◌, ◌+◌, ◌*◌, ◌≤◌, ◌<◌, ℕ, IsTrue, IfOk, IfErr, Some, Err, length, take};
+ghost use Rattle.std.specs.Prelude.{◌≡◌, ◌+◌, ◌*◌, ◌≤◌, ◌<◌, length};
 ghost use Rattle.partitions.specs.declared.Part.TheVariants.{B};
 ghost use Rattle.partitions.specs.Partitions.{size_of};
-ghost use Rattle.partition_bytes.specs.Bytes.{blocks_for, dumped, dump_place};
-ghost use Rattle.raw_command.specs.declared.fault.TransferFault.TheVariants.{Unusable};
-ghost use Rattle.raw_command.specs.Endings.{IsBeyond, bytes_for, kind_of, number_for, target_for, unit_of};
-ghost use Rattle.raw_command.specs.Faults.{done_by};
-ghost use Rattle.raw_command.specs.Transfers.{HasRead, HasWritten, LeftRead, LeftWritten};
-ghost use Rattle.raw_command.specs.Units.{KeepsUnit};
+ghost use Rattle.partition_bytes.specs.Bytes.{dumped, dump_place};
+ghost use Rattle.raw_command.specs.Endings.{IsBeyond, bytes_for, target_for};
+ghost use Rattle.raw_command.specs.Faults.{fault_in, raw_fault};
+ghost use Rattle.raw_command.specs.Transfers.{ReadsUnit, WritesUnit};
 ghost use Rattle.raw_command.specs.Words.{IsPlaced, IsTarget};
 
 use crate::attaching::attached;
@@ -15,8 +13,18 @@ use crate::fault::TransferFault;
 use crate::words::{Target, Writing};
 use outside_traits::traits::{Packs, Sink};
 use pack_geometry::DriveKind;
-use raw_io::{dump, raw_read, raw_write};
+use raw_io::{RawFault, dump, raw_read, raw_write};
 use std::alloc::Global;
+
+/// What a call of `raw_io` answered, without its value.
+fn handed_on<A: Drop>(answer: Result<A, RawFault>) -> Result<(), TransferFault>
+    ensures { fault_in result ≡ raw_fault answer }
+{
+    match answer {
+        Ok(_) => Ok(()),
+        Err(fault) => Err(TransferFault::from(fault)),
+    }
+}
 
 /// Attaches the unit of a target, and reads as many bytes as the buffer has, from the target on.
 pub(crate) fn read_unit<P: Packs, T: Sink>(
@@ -28,15 +36,10 @@ pub(crate) fn read_unit<P: Packs, T: Sink>(
 ) -> Result<(), TransferFault>
     requires target { IsTarget target }
     requires inside { target.at + length into.old ≤ 512 * size_of target.kind target.part }
-    ensures few { (done : ℕ) → done_by (length into.old) result ≡ Some done → done ≤ length into.old }
-    ensures reads { (done : ℕ) → done_by (length into.old) result ≡ Some done → IsTrue (P.tells packs.new)
-        → HasRead target (length into.old) done (take done into.new) (P.held packs.old) (P.held packs.new) (T.tells trace.new) (T.taken trace.old) (T.taken trace.new) }
-    ensures unusable { (done : ℕ) → result ≡ Err (Unusable done) → done < length into.old }
-    ensures stops { IfErr result (λ fault. IsTrue (P.tells packs.new) → LeftRead fault target (P.held packs.old) (P.held packs.new)) }
-    ensures keeps { KeepsUnit P.tells P.held P.faults T.tells T.faults target.unit target.kind packs.old packs.new trace.old trace.new result }
+    ensures { ReadsUnit P.tells P.held P.faults T.tells T.taken T.faults target into.old into.new packs.old packs.new trace.old trace.new (fault_in result) }
 {
     let mut subsystem = attached(alloc, target.unit, target.kind, packs)?;
-    raw_read(
+    let answer = raw_read(
         &mut subsystem,
         target.unit,
         target.part,
@@ -44,8 +47,9 @@ pub(crate) fn read_unit<P: Packs, T: Sink>(
         into,
         packs,
         trace,
-    )?;
-    Ok(())
+    );
+    drop(subsystem);
+    handed_on(answer)
 }
 
 /// Attaches the unit of a target, and writes bytes from the target on.
@@ -58,14 +62,10 @@ fn write_unit<P: Packs, T: Sink>(
 ) -> Result<(), TransferFault>
     requires target { IsTarget target }
     requires inside { target.at + length from.now ≤ 512 * size_of target.kind target.part }
-    ensures writes { (done : ℕ) → done_by (length from.now) result ≡ Some done → IsTrue (P.tells packs.new)
-        → HasWritten target done from.now (P.held packs.old) (P.held packs.new) (T.tells trace.new) (T.taken trace.old) (T.taken trace.new) }
-    ensures unusable { (done : ℕ) → result ≡ Err (Unusable done) → done < length from.now }
-    ensures stops { IfErr result (λ fault. IsTrue (P.tells packs.new) → LeftWritten fault target from.now (P.held packs.old) (P.held packs.new)) }
-    ensures keeps { KeepsUnit P.tells P.held P.faults T.tells T.faults target.unit target.kind packs.old packs.new trace.old trace.new result }
+    ensures { WritesUnit P.tells P.held P.faults T.tells T.taken T.faults target from.now packs.old packs.new trace.old trace.new (fault_in result) }
 {
     let mut subsystem = attached(alloc, target.unit, target.kind, packs)?;
-    raw_write(
+    let answer = raw_write(
         &mut subsystem,
         target.unit,
         target.part,
@@ -73,11 +73,12 @@ fn write_unit<P: Packs, T: Sink>(
         from,
         packs,
         trace,
-    )?;
-    Ok(())
+    );
+    drop(subsystem);
+    handed_on(answer)
 }
 
-/// Attaches a unit, and writes memory to the end of its partition `b`: the number of blocks.
+/// Attaches a unit, and writes memory to the end of its partition `b`.
 fn dump_unit<P: Packs, T: Sink>(
     alloc: Global,
     unit: u8,
@@ -85,50 +86,33 @@ fn dump_unit<P: Packs, T: Sink>(
     memory: &[u8],
     packs: &mut P,
     trace: &mut T,
-) -> Result<u32, TransferFault>
+) -> Result<(), TransferFault>
     requires unit { unit < 32 }
     requires few { length memory.now ≤ 8388608 }
-    ensures count { IfOk result (λ count. count ≡ blocks_for (length memory.now)) }
-    ensures writes { (done : ℕ) → done_by (512 * blocks_for (length memory.now)) result ≡ Some done → IsTrue (P.tells packs.new)
-        → HasWritten (record { unit = unit; kind = kind; part = B; at = dump_place kind (length memory.now) }) done (dumped memory.now)
-        (P.held packs.old) (P.held packs.new) (T.tells trace.new) (T.taken trace.old) (T.taken trace.new) }
-    ensures unusable { (done : ℕ) → result ≡ Err (Unusable done) → done < 512 * blocks_for (length memory.now) }
-    ensures stops { IfErr result (λ fault. IsTrue (P.tells packs.new)
-        → LeftWritten fault (record { unit = unit; kind = kind; part = B; at = dump_place kind (length memory.now) }) (dumped memory.now) (P.held packs.old) (P.held packs.new)) }
-    ensures keeps { KeepsUnit P.tells P.held P.faults T.tells T.faults unit kind packs.old packs.new trace.old trace.new result }
+    ensures { WritesUnit P.tells P.held P.faults T.tells T.taken T.faults (record { unit = unit; kind = kind; part = B; at = dump_place kind (length memory.now) })
+        (dumped memory.now) packs.old packs.new trace.old trace.new (fault_in result) }
 {
     let mut subsystem = attached(alloc, unit, kind, packs)?;
-    let count = dump(&mut subsystem, unit, memory, packs, trace)?;
-    Ok(count)
+    let answer = dump(&mut subsystem, unit, memory, packs, trace);
+    drop(subsystem);
+    handed_on(answer)
 }
 
-/// Writes the bytes of a source as they are to be written: the number that is told of them.
+/// Writes the bytes of a source as they are to be written.
 pub(crate) fn put<P: Packs, T: Sink>(
     alloc: Global,
     writing: Writing,
     from: &[u8],
     packs: &mut P,
     trace: &mut T,
-) -> Result<u64, TransferFault>
+) -> Result<(), TransferFault>
     requires placed { IsPlaced writing }
     requires inside { ¬ (IsBeyond writing (length from.now)) }
-    ensures number { IfOk result (λ number. number ≡ number_for writing from.now) }
-    ensures writes { (done : ℕ) → done_by (length (bytes_for writing from.now)) result ≡ Some done → IsTrue (P.tells packs.new)
-        → HasWritten (target_for writing from.now) done (bytes_for writing from.now) (P.held packs.old) (P.held packs.new)
-        (T.tells trace.new) (T.taken trace.old) (T.taken trace.new) }
-    ensures unusable { (done : ℕ) → result ≡ Err (Unusable done) → done < length (bytes_for writing from.now) }
-    ensures stops { IfErr result (λ fault. IsTrue (P.tells packs.new)
-        → LeftWritten fault (target_for writing from.now) (bytes_for writing from.now) (P.held packs.old) (P.held packs.new)) }
-    ensures keeps { KeepsUnit P.tells P.held P.faults T.tells T.faults (unit_of writing) (kind_of writing) packs.old packs.new trace.old trace.new result }
+    ensures { WritesUnit P.tells P.held P.faults T.tells T.taken T.faults (target_for writing from.now) (bytes_for writing from.now)
+        packs.old packs.new trace.old trace.new (fault_in result) }
 {
     match writing {
-        Writing::Raw { target } => {
-            write_unit(alloc, target, from, packs, trace)?;
-            Ok(from.len() as u64)
-        }
-        Writing::Dump { unit, kind } => {
-            let count = dump_unit(alloc, unit, kind, from, packs, trace)?;
-            Ok(u64::from(count))
-        }
+        Writing::Raw { target } => write_unit(alloc, target, from, packs, trace),
+        Writing::Dump { unit, kind } => dump_unit(alloc, unit, kind, from, packs, trace),
     }
 }
