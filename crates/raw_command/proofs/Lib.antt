@@ -2,3 +2,4 @@ pub mod Setups
 pub mod Stages
 pub mod UnitLaws
 pub mod RunLaws
+pub mod Writings
