@@ -1,5 +1,10 @@
-use Rattle.raw_command.proofs.RunLaws.{read_fault, stays_by, stays_fault}
 use Rattle.raw_command.proofs.run.run_read.Goals as goal
 
-pub returns-then-is_outside : goal.returns-then-is_outside
-returns-then-is_outside g c = ?
+pub returns-in_err-write_all-in-Ok-clause-ends : goal.returns-in_err-write_all-in-Ok-clause-ends
+returns-in_err-write_all-in-Ok-clause-ends g c = ?
+
+pub returns-in-Ok-clause-ends : goal.returns-in-Ok-clause-ends
+returns-in-Ok-clause-ends g c = ?
+
+pub returns-in-Err-Unusable-clause-ends : goal.returns-in-Err-Unusable-clause-ends
+returns-in-Err-Unusable-clause-ends g c = ?
