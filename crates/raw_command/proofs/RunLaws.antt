@@ -1,16 +1,20 @@
 -- WHAT A TRANSFER ENDS WITH, from what its parts answer.
 use Rattle.std.proofs.Common.{◌≡◌, ◌⊎◌, inl, inr, ℕ, ◌+◌, ◌<◌, ◌≤◌, Bool, IsTrue, List, [], ◌++◌, take, length, Ok, Err, refl, sym, ap, subst, ◌∙◌, arith, append-nil}
-use Rattle.std.specs.Prelude.{Option, None, Some}
-use Rattle.outside_traits.specs.Causes.{Rose}
+use Rattle.std.specs.Prelude.{Option, None, Some, Result, OnOk, OnErr, ◌*◌}
+use Rattle.std.proofs.Math.Seq.{take-length}
+use Rattle.std.proofs.lemmas.List.{length-take-le}
+use Rattle.partitions.specs.declared.Part.{Part}
+use Rattle.partitions.specs.Partitions.{size_of}
+use Rattle.outside_traits.specs.Causes.{HasCause, Rose}
 use Rattle.outside_traits.specs.Puts.{TakesFront}
 use Rattle.pack_geometry.specs.declared.DriveKind.{DriveKind}
 use Rattle.partition_bytes.specs.Bytes.{IsOutside}
 use Rattle.driver_outcome.specs.declared.Stop.TheVariants as stopped
 use Rattle.command_parts.specs.Lines.{Told}
 use Rattle.command_parts.specs.Outside.{Outside}
-use Rattle.raw_command.specs.Endings.{IsBeyond, IsRefused, IsTooLong, IsUntouched, ReadEnds, Stays, Took, WriteEnds, bytes_for, fault_text, kind_of, limit_of, target_for, unit_of}
+use Rattle.raw_command.specs.Endings.{GivesAll, GivesCut, GivesFront, IsBeyond, IsRefused, IsTooLong, IsUntouched, ReadEnds, Stays, Took, WriteEnds, bytes_for, fault_text, kind_of, limit_of, target_for, unit_of}
 use Rattle.raw_command.specs.Faults.{Answer, IsBefore, IsOfUnit, IsSilent, code_of, stop_of}
-use Rattle.raw_command.specs.Transfers.{LeftRead, LeftWritten}
+use Rattle.raw_command.specs.Transfers.{HasRead, LeftRead, LeftWritten}
 use Rattle.raw_command.specs.Units.{IsFoundLong}
 use Rattle.raw_command.specs.declared.fault.TransferFault.{TransferFault}
 use Rattle.raw_command.specs.declared.fault.TransferFault.TheVariants as fault
@@ -39,15 +43,15 @@ too_long is = record {
 untouched : {unit : ℕ} {kind : DriveKind} {old new : Outside} → Faulted unit kind fault.Memory old new → IsUntouched old new
 untouched is = record { packs = is.same tt; trace = is.untraced tt; out = is.silent tt }
 
-pub read_fault : {t : Target} {size : ℕ} {old new : Outside} (f : TransferFault) → ((done : ℕ) → f ≡ fault.Unusable done → ⊥) → ¬ (IsOutside t.kind t.part t.at size)
+pub read_fault : (t : Target) (size : ℕ) {old new : Outside} (f : TransferFault) → ((done : ℕ) → f ≡ fault.Unusable done → ⊥) → ¬ (IsOutside t.kind t.part t.at size)
     → Faulted t.unit t.kind f old new → (IsTrue new.packs_tell → LeftRead f t old.held new.held) → ReadEnds t size (Err f) old new
-read_fault fault.Memory usable inside is left = (inside, untouched is)
-read_fault (fault.TooLong n) usable inside is left = (inside, too_long is)
-read_fault (fault.Unusable done) usable inside is left = absurd (usable done refl)
-read_fault fault.Store usable inside is left = (is.store refl, record { inside = inside; out = is.silent tt; left = left })
-read_fault fault.Sink usable inside is left = inl (is.sink refl, record { inside = inside; out = is.silent tt; left = left })
-read_fault fault.Source usable inside is left = absurd is.only
-read_fault fault.Outside usable inside is left = absurd is.only
+read_fault t size fault.Memory usable inside is left = (inside, untouched is)
+read_fault t size (fault.TooLong n) usable inside is left = (inside, too_long is)
+read_fault t size (fault.Unusable done) usable inside is left = absurd (usable done refl)
+read_fault t size fault.Store usable inside is left = (is.store refl, record { inside = inside; out = is.silent tt; left = left })
+read_fault t size fault.Sink usable inside is left = inl (is.sink refl, record { inside = inside; out = is.silent tt; left = left })
+read_fault t size fault.Source usable inside is left = absurd is.only
+read_fault t size fault.Outside usable inside is left = absurd is.only
 
 pub write_fault : {w : Writing} {from : List ℕ} {old new : Outside} (f : TransferFault) → Took w from old new → Faulted (unit_of w) (kind_of w) f old new
     → ((done : ℕ) → f ≡ fault.Unusable done → WriteEnds w (Err (fault.Unusable done)) old new)
@@ -94,5 +98,70 @@ less_or : (n m : ℕ) → (n ≤ m) ⊎ (m < n)
 less_or n m = grind arith
 
 pub within : (w : Writing) (n : ℕ) → ¬ (IsBeyond w n) → n ≤ limit_of w
-within (Raw t) n no = elim (less_or n 16777216) [ inl le ↦ le | inr more ↦ absurd (no (inl more)) ]
-within (Dump unit kind) n no = elim (less_or n 8388608) [ inl le ↦ le | inr more ↦ absurd (no more) ]
+within (Raw t) n inside = elim (less_or n 16777216) [ inl le ↦ le | inr more ↦ absurd (inside (inl more)) ]
+within (Dump unit kind) n inside = elim (less_or n 8388608) [ inl le ↦ le | inr more ↦ absurd (inside more) ]
+
+-- what is not printed
+silent_text : (unit : ℕ) (f : TransferFault) → IsSilent f → fault_text unit f ≡ []
+unfolding fault_text
+silent_text unit fault.Memory is = refl
+silent_text unit fault.Source is = refl
+silent_text unit fault.Store is = refl
+silent_text unit fault.Sink is = refl
+silent_text unit fault.Outside is = absurd is
+silent_text unit (fault.TooLong n) is = absurd is
+silent_text unit (fault.Unusable n) is = absurd is
+
+pub told_silent : (taken : List ℕ) (unit n : ℕ) (f : TransferFault) → IsSilent f → Told taken taken (fault_text unit f) n n
+told_silent taken unit n f is = inl (sym (ap (λ (text : List ℕ). taken ++ text) (silent_text unit f is) ∙ append-nil taken))
+
+pub is_silent : (f : TransferFault) → (f ≡ fault.Memory) ⊎ (f ≡ fault.Source) ⊎ (f ≡ fault.Store) ⊎ (f ≡ fault.Sink) → IsSilent f
+is_silent f (inl e) = subst IsSilent (sym e) tt
+is_silent f (inr (inl e)) = subst IsSilent (sym e) tt
+is_silent f (inr (inr (inl e))) = subst IsSilent (sym e) tt
+is_silent f (inr (inr (inr e))) = subst IsSilent (sym e) tt
+
+-- a range that is inside
+pub inside_range : (kind : DriveKind) (part : Part) (at size : ℕ) → at + size ≤ 512 * size_of kind part → ¬ (IsOutside kind part at size)
+inside_range kind part at size le outside = omega (arith, le, outside)
+
+all_taken : (n : ℕ) (xs : List ℕ) → length xs ≡ n → take n xs ≡ xs
+all_taken n xs e = subst (λ (m : ℕ). take m xs ≡ xs) e (take-length xs)
+
+-- READS that were printed
+module _ {t : Target} {size : ℕ} {old new : Outside} (into : List ℕ) (long : length into ≡ size) (inside : ¬ (IsOutside t.kind t.part t.at size)) where
+  pub gives_all : (IsTrue new.packs_tell → HasRead t size size (take size into) old.held new.held new.trace_tells old.taken new.taken)
+      → (IsTrue new.out_tells → new.said ≡ old.said ++ into) → GivesAll t size old new
+  gives_all read told = record {
+    bytes = take size into;
+    gives = record { inside = inside; long = ap (λ (xs : List ℕ). length xs) (all_taken size into long) ∙ long; read = read };
+    told = λ is. told is ∙ ap (λ (xs : List ℕ). old.said ++ xs) (sym (all_taken size into long));
+  }
+
+  pub gives_cut : (IsTrue new.packs_tell → HasRead t size size (take size into) old.held new.held new.trace_tells old.taken new.taken) → Rose old.out_faults new.out_faults
+      → (IsTrue new.out_tells → TakesFront old.said new.said into) → GivesCut t size old new
+  gives_cut read rose front = record {
+    bytes = take size into;
+    gives = record { inside = inside; long = ap (λ (xs : List ℕ). length xs) (all_taken size into long) ∙ long; read = read };
+    rose = rose;
+    front = λ is. subst (λ (xs : List ℕ). TakesFront old.said new.said xs) (sym (all_taken size into long)) (front is);
+  }
+
+  pub gives_front : {T E : Type 0} (done : ℕ) (from : List ℕ) (result : Result T E) → from ≡ take done into → done < size
+      → (IsTrue new.packs_tell → HasRead t size done (take done into) old.held new.held new.trace_tells old.taken new.taken)
+      → OnOk result (IsTrue new.out_tells → new.said ≡ old.said ++ from) → OnErr result (IsTrue new.out_tells → TakesFront old.said new.said from)
+      → HasCause old.out_faults new.out_faults result → GivesFront t size done old new
+  gives_front done from result e few read all front cause = record {
+    bytes = take done into;
+    some_left = few;
+    gives = record { inside = inside; long = length-take-le done into (below done size (length into) few long); read = read };
+    told = λ is. subst (λ (xs : List ℕ). Told old.said new.said xs old.out_faults new.out_faults) e (written result all front cause is);
+  }
+    where
+      below : (n m k : ℕ) → n < m → k ≡ m → n ≤ k
+      below n m k lt e = omega (arith, lt, e)
+
+      written : {T E : Type 0} (r : Result T E) → OnOk r (IsTrue new.out_tells → new.said ≡ old.said ++ from) → OnErr r (IsTrue new.out_tells → TakesFront old.said new.said from)
+          → HasCause old.out_faults new.out_faults r → IsTrue new.out_tells → Told old.said new.said from old.out_faults new.out_faults
+      written (Ok value) all front cause is = inl (all is)
+      written (Err failed) all front cause is = inr (cause.failed, front is)

@@ -1,5 +1,6 @@
 // Transfers from a source, or to a sink.
-ghost use Rattle.std.specs.Prelude.{◌≡◌, ◌⊎◌, ◌↔◌, ◌+◌, ◌≤◌, ◌<◌, ℕ, Bool, false, IsTrue, List, IfOk, length, vec_len};
+ghost use Rattle.std.specs.Prelude.{◌≡◌, ◌⊎◌, ◌↔◌, ◌+◌, ◌*◌, ◌≤◌, ◌<◌, ℕ, Bool, false, IsTrue, List, IfOk, length, vec_len};
+ghost use Rattle.partitions.specs.Partitions.{size_of};
 ghost use Rattle.command_parts.specs.Lines.{Told};
 ghost use Rattle.command_parts.specs.Outside.{HasItsCause, outside};
 ghost use Rattle.raw_command.specs.Endings.{Ends, IsBeyond, ReadEnds, Stays, WriteEnds, fault_text, limit_of, unit_of};
@@ -82,7 +83,36 @@ fn is_beyond(writing: Writing, size: usize) -> bool
     }
 }
 
-/// Reads bytes of a partition, and gives those to the sink that come before the first block that can't be used.
+/// Reads as many bytes of a partition as the buffer has, and gives those to the sink that come before the first block that can't be used.
+fn read_to<P: Packs, O: Sink, T: Sink>(
+    alloc: Global,
+    target: Target,
+    bytes: &mut [u8],
+    packs: &mut P,
+    out: &mut O,
+    trace: &mut T,
+) -> Result<(), TransferFault>
+    requires target { IsTarget target }
+    requires inside { target.at + length bytes.old ≤ 512 * size_of target.kind target.part }
+    ensures ends { (source_tells : Bool) → (left : List ℕ) → (source_faults : ℕ) → ReadEnds target (length bytes.old) result
+        (outside (λ (_ : Unit {0}). source_tells) (λ _. left) (λ _. source_faults) P.tells P.held P.faults O.tells O.taken O.faults T.tells T.taken T.faults tt packs.old out.old trace.old)
+        (outside (λ (_ : Unit {0}). source_tells) (λ _. left) (λ _. source_faults) P.tells P.held P.faults O.tells O.taken O.faults T.tells T.taken T.faults tt packs.new out.new trace.new) }
+    ensures stays { Stays (code_of result) packs.old packs.new out.old out.new trace.old trace.new }
+{
+    match read_unit(alloc, target, bytes, packs, trace) {
+        Ok(()) => match write_all(out, bytes) {
+            Ok(()) => Ok(()),
+            Err(_) => Err(TransferFault::Sink),
+        },
+        Err(TransferFault::Unusable { done }) => {
+            let _ = write_all(out, &bytes[..done as usize]);
+            Err(TransferFault::Unusable { done })
+        }
+        Err(fault) => Err(refuse(out, target.unit, fault)),
+    }
+}
+
+/// Reads so many bytes of a partition, and gives those to the sink that come before the first block that can't be used.
 fn run_read<P: Packs, O: Sink, T: Sink>(
     alloc: Global,
     target: Target,
@@ -102,17 +132,7 @@ fn run_read<P: Packs, O: Sink, T: Sink>(
         return Err(refuse(out, target.unit, TransferFault::Outside));
     }
     let mut bytes = zeros(alloc, size as usize)?;
-    match read_unit(alloc, target, bytes.as_mut_slice(), packs, trace) {
-        Ok(()) => {
-            write_all(out, bytes.as_slice())?;
-            Ok(())
-        }
-        Err(TransferFault::Unusable { done }) => {
-            let _ = write_all(out, &bytes[..done as usize]);
-            Err(TransferFault::Unusable { done })
-        }
-        Err(fault) => Err(refuse(out, target.unit, fault)),
-    }
+    read_to(alloc, target, bytes.as_mut_slice(), packs, out, trace)
 }
 
 /// Reads the source to its end, or to one byte more than may be written, and writes its bytes to a unit.
@@ -137,8 +157,10 @@ fn run_write<S: Source, P: Packs, O: Sink, T: Sink>(
     }
     match put(alloc, writing, from.as_slice(), packs, trace) {
         Ok(()) => {
-            write_all(out, done_line(writing, from.len()).as_bytes())?;
-            Ok(())
+            match write_all(out, done_line(writing, from.len()).as_bytes()) {
+                Ok(()) => Ok(()),
+                Err(_) => Err(TransferFault::Sink),
+            }
         }
         Err(fault) => Err(refuse(out, unit(writing), fault)),
     }
