@@ -1,6 +1,6 @@
 -- WHAT A TRANSFER ENDS WITH, from what its parts answer.
-use Rattle.std.proofs.Common.{◌≡◌, ◌⊎◌, inl, inr, ℕ, ◌+◌, ◌<◌, ◌≤◌, Bool, IsTrue, List, [], ◌++◌, take, length, Ok, Err, refl, sym, ap, subst, ◌∙◌, arith, append-nil}
-use Rattle.std.specs.Prelude.{Option, None, Some, Result, OnOk, OnErr, ◌*◌}
+use Rattle.std.proofs.Common.{◌≡◌, ◌⊎◌, inl, inr, ℕ, ◌+◌, ◌<◌, ◌≤◌, Bool, false, IsTrue, List, [], ◌++◌, take, length, Ok, Err, refl, sym, ap, subst, ◌∙◌, arith, append-nil}
+use Rattle.std.specs.Prelude.{Option, None, Some, Result, OnOk, OnErr, ◌*◌, ◌↔◌}
 use Rattle.std.proofs.Math.Seq.{take-length}
 use Rattle.std.proofs.lemmas.List.{length-take-le}
 use Rattle.partitions.specs.declared.Part.{Part}
@@ -100,6 +100,24 @@ less_or n m = grind arith
 pub within : (w : Writing) (n : ℕ) → ¬ (IsBeyond w n) → n ≤ limit_of w
 within (Raw t) n inside = elim (less_or n 16777216) [ inl le ↦ le | inr more ↦ absurd (inside (inl more)) ]
 within (Dump unit kind) n inside = elim (less_or n 8388608) [ inl le ↦ le | inr more ↦ absurd (inside more) ]
+
+false_is : (b : Bool) → b ≡ false → IsTrue b → ⊥
+false_is b e t = grind (arith, e, t)
+
+pub not_beyond : (w : Writing) (b : Bool) (n m k : ℕ) → (IsTrue b ↔ IsBeyond w n) → b ≡ false → n ≡ k → m ≡ k → ¬ (IsBeyond w m)
+not_beyond w b n m k iff e one two is = false_is b e (iff.1 (subst (λ (x : ℕ). IsBeyond w x) (two ∙ sym one) is))
+
+pub took_so : (w : Writing) (from items : List ℕ) (limit : ℕ) (old new : Outside) → from ≡ items → (IsTrue new.source_tells → old.left ≡ items ++ new.left)
+    → (IsTrue new.source_tells → (new.left ≡ []) ⊎ (limit < length items)) → limit ≡ limit_of w → ¬ (IsBeyond w (length from)) → Took w from old new
+took_so w from items limit old new e all end is inside =
+    let few : length from ≤ limit_of w = within w (length from) inside in
+    let same : length from ≡ length items = ap (λ (xs : List ℕ). length xs) e in record {
+      read = λ t. elim (end t) [
+        | inl none ↦ (all t ∙ ap (λ (xs : List ℕ). items ++ xs) none ∙ append-nil items ∙ sym e, none)
+        | inr more ↦ absurd (omega (arith, more, few, same, is))
+      ];
+      inside = inside;
+    }
 
 -- what is not printed
 silent_text : (unit : ℕ) (f : TransferFault) → IsSilent f → fault_text unit f ≡ []
