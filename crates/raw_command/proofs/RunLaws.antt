@@ -183,3 +183,12 @@ module _ {t : Target} {size : ℕ} {old new : Outside} (into : List ℕ) (long :
           → HasCause old.out_faults new.out_faults r → IsTrue new.out_tells → Told old.said new.said from old.out_faults new.out_faults
       written (Ok value) all front cause is = inl (all is)
       written (Err failed) all front cause is = inr (cause.failed, front is)
+
+-- ---- THE UNIT of what is written
+pub unit_for : (w : Writing) (from : List ℕ) → (target_for w from).unit ≡ unit_of w
+unit_for (Raw t) from = refl
+unit_for (Dump unit kind) from = refl
+
+pub kind_for : (w : Writing) (from : List ℕ) → (target_for w from).kind ≡ kind_of w
+kind_for (Raw t) from = refl
+kind_for (Dump unit kind) from = refl
