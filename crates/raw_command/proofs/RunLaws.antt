@@ -1,6 +1,6 @@
 -- WHAT A TRANSFER ENDS WITH, from what its parts answer.
 use Rattle.std.proofs.Common.{◌≡◌, ◌⊎◌, inl, inr, ℕ, ◌+◌, ◌<◌, ◌≤◌, Bool, false, IsTrue, List, [], ◌++◌, take, length, Ok, Err, refl, sym, ap, subst, ◌∙◌, arith, append-nil}
-use Rattle.std.specs.Prelude.{Option, None, Some, Result, OnOk, OnErr, ◌*◌, ◌↔◌}
+use Rattle.std.specs.Prelude.{Some, Result, OnOk, OnErr, ◌*◌, ◌↔◌}
 use Rattle.std.proofs.Math.Seq.{take-length}
 use Rattle.std.proofs.lemmas.List.{length-take-le}
 use Rattle.partitions.specs.declared.Part.{Part}
@@ -11,9 +11,9 @@ use Rattle.pack_geometry.specs.declared.DriveKind.{DriveKind}
 use Rattle.partition_bytes.specs.Bytes.{IsOutside}
 use Rattle.driver_outcome.specs.declared.Stop.TheVariants as stopped
 use Rattle.command_parts.specs.Lines.{Told}
-use Rattle.command_parts.specs.Outside.{Outside}
-use Rattle.raw_command.specs.Endings.{GivesAll, GivesCut, GivesFront, IsBeyond, IsRefused, IsTooLong, IsUntouched, ReadEnds, Stays, Took, WriteEnds, bytes_for, fault_text, kind_of, limit_of, target_for, unit_of}
-use Rattle.raw_command.specs.Faults.{Answer, IsBefore, IsOfUnit, IsSilent, code_of, stop_of}
+use Rattle.command_parts.specs.Outside.{HasItsCause, Outside}
+use Rattle.raw_command.specs.Endings.{GivesAll, GivesCut, GivesFront, IsBeyond, IsTooLong, IsUntouched, ReadEnds, Stays, Took, WriteEnds, bytes_for, fault_text, kind_of, limit_of, target_for, unit_of}
+use Rattle.raw_command.specs.Faults.{Answer, IsReadCode, IsBefore, IsOfUnit, IsSilent, code_of, stop_of}
 use Rattle.raw_command.specs.Transfers.{HasRead, LeftRead, LeftWritten}
 use Rattle.raw_command.specs.Units.{IsFoundLong}
 use Rattle.raw_command.specs.declared.fault.TransferFault.{TransferFault}
@@ -192,3 +192,30 @@ unit_for (Dump unit kind) from = refl
 pub kind_for : (w : Writing) (from : List ℕ) → (target_for w from).kind ≡ kind_of w
 kind_for (Raw t) from = refl
 kind_for (Dump unit kind) from = refl
+
+-- ---- THE STATUSES of a read, and their causes
+pub read_status : (t : Target) (size : ℕ) (answer : Answer) (old new : Outside) → ReadEnds t size answer old new → IsReadCode (code_of answer)
+read_status t size (Ok value) old new ends = inl refl
+read_status t size (Err fault.Outside) old new ends = inr (inr (inr (inr (inr refl))))
+read_status t size (Err fault.Memory) old new ends = inr (inr (inr (inr (inl refl))))
+read_status t size (Err (fault.TooLong n)) old new ends = inr (inr (inr (inl refl)))
+read_status t size (Err (fault.Unusable done)) old new ends = inr (inr (inr (inr (inr refl))))
+read_status t size (Err fault.Store) old new ends = inr (inr (inl refl))
+read_status t size (Err fault.Sink) old new ends = inr (inl refl)
+read_status t size (Err fault.Source) old new ends = absurd ends
+
+no_cause : {code : ℕ} {old new : Outside} → (code ≡ 4 → ⊥) → (code ≡ 5 → ⊥) → (code ≡ 6 → ⊥) → HasItsCause code old new
+no_cause four five six = record { source = λ e. absurd (four e); sink = λ e. absurd (five e); store = λ e. absurd (six e) }
+
+sink_rose : (t : Target) (size : ℕ) {old new : Outside} → ReadEnds t size (Err fault.Sink) old new → Rose old.out_faults new.out_faults ⊎ Rose old.trace_faults new.trace_faults
+sink_rose t size ends = elim ends [ inl is ↦ inr is.0 | inr is ↦ inl is.rose ]
+
+pub read_causes : (t : Target) (size : ℕ) (answer : Answer) {old new : Outside} → ReadEnds t size answer old new → HasItsCause (code_of answer) old new
+read_causes t size (Ok value) ends = no_cause (λ e. omega (arith, e)) (λ e. omega (arith, e)) (λ e. omega (arith, e))
+read_causes t size (Err fault.Outside) ends = no_cause (λ e. omega (arith, e)) (λ e. omega (arith, e)) (λ e. omega (arith, e))
+read_causes t size (Err fault.Memory) ends = no_cause (λ e. omega (arith, e)) (λ e. omega (arith, e)) (λ e. omega (arith, e))
+read_causes t size (Err (fault.TooLong n)) ends = no_cause (λ e. omega (arith, e)) (λ e. omega (arith, e)) (λ e. omega (arith, e))
+read_causes t size (Err (fault.Unusable done)) ends = no_cause (λ e. omega (arith, e)) (λ e. omega (arith, e)) (λ e. omega (arith, e))
+read_causes t size (Err fault.Store) ends = record { source = λ e. absurd (omega (arith, e)); sink = λ e. absurd (omega (arith, e)); store = λ e. ends.0 }
+read_causes t size (Err fault.Sink) ends = record { source = λ e. absurd (omega (arith, e)); sink = λ e. sink_rose t size ends; store = λ e. absurd (omega (arith, e)) }
+read_causes t size (Err fault.Source) ends = absurd ends

@@ -1,8 +1,7 @@
 -- ONE UNIT that is set up: the driver for it is ready, and stands for the start of a script that declares it.
-use Rattle.std.proofs.Common.{◌≡◌, ◌≢◌, ◌⊎◌, inl, inr, ℕ, ◌<◌, Bool, true, false, List, [], ◌∷◌, Option, Some, None, refl, sym, ap, subst, ◌∙◌, arith}
+use Rattle.std.proofs.Common.{◌≡◌, ◌≢◌, ◌⊎◌, inl, inr, ℕ, ◌<◌, Bool, true, false, [], ◌∷◌, Option, Some, None, refl, sym, ap, subst, ◌∙◌, arith}
 use Rattle.std.specs.Prelude.{◌==◌, is_some, unwrap_or, if◌then◌else◌, Contains}
 use Rattle.std.proofs.lemmas.Bool.{eqb-true, eq-eqb}
-use Rattle.std.proofs.lemmas.Option.{none-some}
 use Rattle.std.proofs.Math.Path.{fun_ext}
 use Rattle.pack_geometry.specs.declared.DriveKind.{DriveKind}
 use Rattle.pack_geometry.specs.declared.DriveKind.TheVariants.{Rp06}
@@ -10,7 +9,7 @@ use Rattle.pack_model.specs.Pack.{Pack}
 use Rattle.pack_model.specs.PackTable.{IsTableOf, IsTableAt}
 use Rattle.pack_model.specs.TableSpelling.{Table}
 use Rattle.trace_replay.specs.Packs.{surface_of}
-use Rattle.trace_replay.specs.Replay.{Replay, new_replay}
+use Rattle.trace_replay.specs.Replay.{new_replay}
 use Rattle.trace_work.proofs.Consistency.{starts_consistent}
 use Rattle.block_machine.specs.Stands.{Setup as Seen, start_over}
 use Rattle.waited_requests.specs.Rest.{HasTables, IsAtRest}
@@ -27,7 +26,6 @@ use Rattle.driver_trace.proofs.Start.{starts}
 use Rattle.hp_driver.specs.Subsystem.{State}
 use Rattle.quiet_driver.specs.Quiet.{kind_if, table_if, setup_of, StandsQuiet}
 use Rattle.quiet_driver.proofs.New.{new_is_quiet}
-use Rattle.blocking_io.specs.Asking.{IsReady}
 use Rattle.raw_io.specs.Calls.{kind_at}
 use Rattle.raw_io.specs.Transfers.{MayTransfer}
 use Rattle.raw_command.specs.Units.{at_unit, unit_setup}

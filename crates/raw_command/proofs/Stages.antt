@@ -1,15 +1,12 @@
 -- WHAT `raw_io` PROMISES of a driver for one unit, said of the unit and its packs.
-use Rattle.std.proofs.Common.{◌≡◌, ℕ, ◌+◌, ◌<◌, ◌≤◌, Bool, true, false, IsTrue, List, [], ◌∷◌, ◌++◌, take, drop, length, Option, Some, None, refl, sym, ap, subst, ◌∙◌, arith}
+use Rattle.std.proofs.Common.{◌≡◌, ℕ, ◌+◌, ◌<◌, ◌≤◌, Bool, true, false, IsTrue, List, take, drop, length, Option, Some, sym, ap, subst, ◌∙◌, arith}
 use Rattle.std.proofs.Math.Seq.{take-append_seam}
 use Rattle.pack_geometry.specs.declared.DriveKind.{DriveKind}
-use Rattle.pack_geometry.specs.Geometry.{block_count}
-use Rattle.pack_model.specs.Pack.{Pack, block_at}
-use Rattle.pack_model.specs.Homes.{IsHome, content_at, content_of, home_of}
+use Rattle.pack_model.specs.Pack.{Pack}
+use Rattle.pack_model.specs.Homes.{content_at, content_of, home_of}
 use Rattle.pack_model.specs.PackTable.{IsTableOf}
 use Rattle.pack_model.specs.TableSpelling.{Table}
 use Rattle.partitions.specs.Partitions.{first_of}
-use Rattle.trace_replay.specs.Moments.{Moment}
-use Rattle.trace_replay.specs.Replay.{Replay}
 use Rattle.block_machine.specs.Machine.{Blocks}
 use Rattle.block_machine.specs.Stands.{Setup as Seen, home_at, home_in}
 use Rattle.waited_requests.specs.Cleans.{MovedClean}
@@ -19,7 +16,7 @@ use Rattle.waited_requests.specs.Waited.{map_of, with_packs}
 use Rattle.driver_machine.specs.World.{World}
 use Rattle.driver_machine.specs.Sound.{IsTableFor}
 use Rattle.quiet_driver.specs.Quiet.{setup_of, StandsQuiet}
-use Rattle.partition_bytes.specs.Bytes.{range, Touches, ComesTo, with_range}
+use Rattle.partition_bytes.specs.Bytes.{range, ComesTo, with_range}
 use Rattle.partition_bytes.specs.Laid.{laid}
 use Rattle.partition_bytes.proofs.Ranges.{laid_short, length_range}
 use Rattle.blocking_io.specs.Calls.{Stage}

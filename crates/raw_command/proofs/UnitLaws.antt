@@ -1,13 +1,12 @@
 -- WHAT A CALL OVER ONE UNIT has done, by what attaching and `raw_io` promise.
-use Rattle.std.proofs.Common.{◌≡◌, ◌⊎◌, inl, inr, ℕ, ◌+◌, ◌*◌, ◌<◌, ◌≤◌, Bool, IsTrue, List, take, length, Option, Some, None, refl, sym, ap, subst, ◌∙◌, arith}
-use Rattle.std.specs.Prelude.{Result, Ok, Err, IsErrAnd, IfErr, IfSome}
+use Rattle.std.proofs.Common.{◌≡◌, inl, inr, ℕ, ◌+◌, ◌*◌, ◌<◌, ◌≤◌, Bool, IsTrue, List, take, length, Option, Some, None, refl, sym, ap, subst, ◌∙◌, arith}
+use Rattle.std.specs.Prelude.{Result, Ok, Err, IsErrAnd, IfSome}
 use Rattle.std.proofs.lemmas.Option.{none-some, same_Some}
 use Rattle.mass_gather.proofs.GatherLaws.{rose_more}
 use Rattle.outside_traits.specs.Causes.{Rose}
 use Rattle.pack_geometry.specs.declared.DriveKind.{DriveKind}
 use Rattle.pack_model.specs.Pack.{Pack}
 use Rattle.pack_model.specs.PackTable.{IsTableOf}
-use Rattle.driver_machine.specs.World.{World}
 use Rattle.driver_outcome.specs.declared.Stop.{Stop}
 use Rattle.driver_outcome.specs.declared.Stop.TheVariants.{Store, Sink}
 use Rattle.hp_driver.specs.Subsystem.{State}
@@ -23,7 +22,7 @@ use Rattle.raw_io.specs.Transfers.{Keeps, MayTransfer, site}
 use Rattle.raw_io.specs.declared.fault.RawFault.{RawFault}
 use Rattle.raw_io.specs.declared.fault.RawFault.TheVariants as raw
 use Rattle.mba_autoconf.specs.Attach.{Fits}
-use Rattle.raw_command.specs.Faults.{IsBefore, IsOfAttaching, IsOfUnit, done_by, fault_in, from_raw, raw_fault, stop_of}
+use Rattle.raw_command.specs.Faults.{IsBefore, IsOfAttaching, IsOfUnit, done_by, fault_in, raw_fault, stop_of}
 use Rattle.raw_command.specs.Transfers.{HasRead, HasWritten, LeavesAll, LeavesFront, LeftRead, LeftWritten, ReadsUnit, WritesUnit}
 use Rattle.raw_command.specs.Units.{IsAttached, IsFoundLong, KeepsUnit}
 use Rattle.raw_command.specs.declared.fault.TransferFault.{TransferFault}

@@ -9,7 +9,7 @@ use Rattle.partition_bytes.specs.Bytes.{IsOutside, blocks_for, dumped, dump_plac
 use Rattle.command_parts.specs.Lines.{Told, too_long_text}
 use Rattle.command_parts.specs.Outside.{Outside}
 use Rattle.raw_command.specs.Faults.{Answer, code_of}
-use Rattle.raw_command.specs.Transfers.{HasRead, HasWritten, LeavesAll, LeftRead, LeftWritten}
+use Rattle.raw_command.specs.Transfers.{HasRead, HasWritten, LeftRead, LeftWritten}
 use Rattle.raw_command.specs.declared.fault.TransferFault.{TransferFault}
 use Rattle.raw_command.specs.declared.fault.TransferFault.TheVariants as fault
 use Rattle.raw_command.specs.declared.words.Target.{Target}

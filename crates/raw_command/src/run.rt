@@ -1,10 +1,10 @@
 // Transfers from a source, or to a sink.
-ghost use Rattle.std.specs.Prelude.{◌≡◌, ◌⊎◌, ◌↔◌, ◌+◌, ◌*◌, ◌≤◌, ◌<◌, ℕ, Bool, false, IsTrue, List, IfOk, length, vec_len};
+ghost use Rattle.std.specs.Prelude.{◌≡◌, ◌↔◌, ◌+◌, ◌*◌, ◌≤◌, ◌<◌, ℕ, Bool, false, IsTrue, List, IfOk, length, vec_len};
 ghost use Rattle.partitions.specs.Partitions.{size_of};
 ghost use Rattle.command_parts.specs.Lines.{Told};
 ghost use Rattle.command_parts.specs.Outside.{HasItsCause, outside};
 ghost use Rattle.raw_command.specs.Endings.{Ends, IsBeyond, ReadEnds, Stays, WriteEnds, fault_text, limit_of, unit_of};
-ghost use Rattle.raw_command.specs.Faults.{IsReadCode, IsSilent, IsTransferCode, code_of};
+ghost use Rattle.raw_command.specs.Faults.{IsSilent, IsTransferCode, code_of};
 ghost use Rattle.raw_command.specs.Words.{IsInRange, IsPlaced, IsTarget, reads_source};
 
 use crate::fault::TransferFault;
