@@ -26,16 +26,16 @@ asks_none line s = record {
   map = λ t tables. refl;
 }
 
-requests_more : (xs ys : List Waited) → requests_of (xs ++ ys) ≡ requests_of xs ++ requests_of ys
+pub requests_more : (xs ys : List Waited) → requests_of (xs ++ ys) ≡ requests_of xs ++ requests_of ys
 requests_more [] ys = refl
 requests_more (x ∷ xs) ys = ap (λ zs. x.request ∷ zs) (requests_more xs ys)
 
-parts_more : (line : ℕ) (xs ys : List Waited) → parts_of line (xs ++ ys) ≡ parts_of line xs ++ parts_of line ys
+pub parts_more : (line : ℕ) (xs ys : List Waited) → parts_of line (xs ++ ys) ≡ parts_of line xs ++ parts_of line ys
 parts_more line [] ys = refl
 parts_more line (x ∷ xs) ys = ap (λ zs. waited line x.request x.asked x.drained ++ zs) (parts_more line xs ys)
     ∙ sym (append_assoc (waited line x.request x.asked x.drained) (parts_of line xs) (parts_of line ys))
 
-both : {rs qs xs ys : List Request} → xs ≡ rs → ys ≡ qs → xs ++ ys ≡ rs ++ qs
+pub both : {rs qs xs ys : List Request} → xs ≡ rs → ys ≡ qs → xs ++ ys ≡ rs ++ qs
 both {rs} {qs} {xs} {ys} e f = ap (λ zs. zs ++ ys) e ∙ ap (λ zs. rs ++ zs) f
 
 unfoldable pub asks_join : SessionsJoin → (line : ℕ) (rs qs : List Request) (old mid new : Stage) → Asks line rs old mid → Asks line qs mid new → StillTell mid new → Asks line (rs ++ qs) old new

@@ -148,6 +148,10 @@ module _ (map : Map) (unit block : ℕ) (bytes : List ℕ) (long : length bytes 
       above n ne = grind (arith, ne)
 
 -- ---- a read
+unusable : (o : Option (List ℕ)) → o ≡ None → IsSome o → ⊥
+unusable None none some = search arith
+unusable (Some bytes) none some = cc
+
 pub read_one : (held : Blocks) (unit block first n : ℕ) (found : Bool) (into into' : List ℕ) → first ≡ block → n ≡ (if found then 1 else 0) → length into ≡ 512
     → ((bytes : List ℕ) → held block ≡ Some bytes → length bytes ≡ 512) → Reaches held first 1 n
     → (n ≡ 1 → into' ≡ laid (bytes_of_first 1 held first (reads unit block)) into) → held block ≡ found_bytes found into'
@@ -174,8 +178,5 @@ read_one held unit block first n true into into' here is room long r all = by (h
         fits a b e f = omega (arith, e, f)
 
     by : (content : Option (List ℕ)) → held block ≡ content → content ≡ Some into'
-    by None none = absurd (never (subst IsSome (ap held (at first block here) ∙ none) (r.usable 0 (above n is))))
-      where
-        never : IsSome (None {A = List ℕ}) → ⊥
-        never e = search arith
+    by None none = absurd (unusable (held (first + 0)) (ap held (at first block here) ∙ none) (r.usable 0 (above n is)))
     by (Some content) some = ap Some (sym (all is ∙ ap (λ zs. laid (take 512 (bytes_or_none zs)) into) (ap held (at first block here) ∙ some) ∙ taken content (long content some)))

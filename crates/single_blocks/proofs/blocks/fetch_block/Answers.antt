@@ -45,7 +45,7 @@ pub returns-clause-fetches : goal.returns-clause-fetches
 returns-clause-fetches g c =
     let old : Stage = stage g.P.Packs.tells g.P.Packs.held g.T.Sink.tells g.T.Sink.taken c.args.subsystem.now.world c.args.packs.now c.args.trace.now (Before 0) c.args.into.now in
     let new : Stage = stage g.P.Packs.tells g.P.Packs.held g.T.Sink.tells g.T.Sink.taken c.ask_read.new.subsystem.world c.ask_read.new.packs c.ask_read.new.trace c.in_ok-reached.reached c.ask_read.new.into in
-    fetches_of c.args.line c.args.unit c.args.block old new c.requires.block c.sessions_law.ensures.answered c.is_done.result cc c.is_done.ensures
+    fetches_of c.args.line c.args.unit c.args.block old new c.requires.block c.sessions_law.ensures.answered c.is_done.result (cc) c.is_done.ensures
     (subst (λ q. Answers c.args.line (asked q []) old new) c.one_block.ensures c.in_ok-reached.ensures.answers)
 
 pub returns-clause-keeps : goal.returns-clause-keeps
