@@ -1,6 +1,6 @@
 -- What a call keeps of the driver, and of the blocks that may be asked for.
-use Rattle.std.proofs.Common.{◌≡◌, ◌⊎◌, inl, inr, ℕ, zero, suc, ◌-◌, ◌≤◌, ◌<◌, length, take, drop, Bool, true, false, IsTrue, List, [], ◌∷◌, ◌++◌, Option, None, Some, refl, sym, ap, ◌∙◌, subst}
-use Rattle.std.specs.Prelude.{map, IsSome, if◌then◌else◌}
+use Rattle.std.proofs.Common.{◌≡◌, ◌⊎◌, inl, inr, ℕ, zero, suc, ◌-◌, ◌≤◌, ◌<◌, length, take, drop, Bool, true, false, IsTrue, List, [], ◌∷◌, ◌++◌, Option, None, Some, refl, sym, ap, ◌∙◌, subst, arith}
+use Rattle.std.specs.Prelude.{map, is_some, IsSome, if◌then◌else◌}
 use Rattle.std.specs.List.{AllByRecursion}
 use Rattle.pack_geometry.specs.Geometry.{limit_of}
 use Rattle.driver_machine.specs.World.{World}
@@ -9,7 +9,7 @@ use Rattle.waited_requests.specs.Rest.{HasTables}
 use Rattle.waited_requests.specs.Waited.{map_of, with_packs}
 use Rattle.blocking_io.specs.Calls.{Stage}
 use Rattle.blocking_io.specs.Asking.{setup_at}
-use Rattle.blocking_io.specs.Sessions.{GoesOn}
+use Rattle.blocking_io.specs.Sessions.{StillTell, SessionsJoin}
 use Rattle.request_fronts.specs.Fronts.{OthersStay}
 use Rattle.raw_io.specs.Calls.{map_at, left_map, IsUntouched}
 use Rattle.raw_io.proofs.Joins.{others_over, left_over}
@@ -18,13 +18,20 @@ use Rattle.subsystem_spec.specs.Requests.{Request}
 use Rattle.cached_blocks.specs.declared.Entry.{Entry}
 use Rattle.cached_blocks.specs.Requests.{Map, reads, writes, behind_one, behind}
 use Rattle.cached_blocks.specs.Entries.{State, is_of, entry_of, IsCache, in_front, rewritten, unchanged, last_unchanged, written_last, to_write_back, with_room, put, write_backs}
-use Rattle.cached_blocks.specs.Calls.{entry}
+use Rattle.cached_blocks.specs.Calls.{entry, read_done, write_done}
 use Rattle.cached_blocks.proofs.Lookups.{none_misses, misses_none, found_all, others_all}
-use Rattle.cached_blocks.specs.Contents.{cached, AllFit, IsOne, AreOne}
+use Rattle.cached_blocks.specs.Contents.{AllFit, Gives, Takes, IsOne, AreOne}
+use Rattle.cached_blocks.specs.Laws.{IsFoundIn, ReadKeeps, WriteKeeps}
 use Rattle.cached_blocks.proofs.Ones.{IsFound, each_found, back_all, back_one, last_one, own_one}
 use Rattle.cached_blocks.proofs.Requested.{read_leaves}
-use Rattle.single_blocks.specs.Asks.{IsData, Asks, LeftBy}
-use Rattle.buffer_cache.specs.Calls.{IfTold, Holds}
+use Rattle.single_blocks.specs.Asks.{IsData, Asks, Fetches, LeftBy}
+use Rattle.single_blocks.proofs.Joins.{asks_join}
+use Rattle.buffer_cache.specs.Calls.{IfTold, Fetched, Reads, Writes, Holds}
+
+-- an entry that a block has
+pub record Found (unit block : ℕ) (entries : List Entry) : Type 0 where
+  pub entry : Entry
+  pub is : entry_of unit block entries ≡ Some entry
 
 -- ---- data blocks stay such
 pub data_stays : (old new : Stage) (unit block : ℕ) → setup_at new ≡ with_packs (setup_at old) new.held → ((u : ℕ) → IsSetUp old.world u → IsSetUp new.world u) → IsData old.world unit block → IsData new.world unit block
@@ -73,10 +80,10 @@ holds_more unit block from s old new h = record { each = λ u b. more u b (h.eac
     more : (u b : ℕ) → IsOne (map_at old) s.entries 0 0 None u b (left_map old new u b) → IsOne (map_at old) s.entries unit block from u b (left_map old new u b)
     more u b (inl same) = inl same
     more u b (inr (inl here)) = inr (inl here)
-    more u b (inr (inr own)) = absurd (never own.1.1)
+    more u b (inr (inr own)) = absurd (never own.1.1.0)
       where
-        never : _ → ⊥
-        never some = search arith
+        never : false ≡ true → ⊥
+        never some = cc
 
 -- a read before changes nothing
 pub read_same : (map : Map) (unit block : ℕ) → behind_one map (reads unit block) ≡ map
@@ -145,3 +152,64 @@ change_data w unit block from entries all = by (entry_of unit block entries) ref
     by : (o : Option Entry) → entry_of unit block entries ≡ o → AllByRecursion (λ e. IsData w e.unit e.block) (in_front (rewritten from o) entries)
     by None is = all
     by (Some e) is = (found_all (λ e. IsData w e.unit e.block) unit block entries e all is, others_all (λ e. IsData w e.unit e.block) e.unit e.block entries all)
+
+-- ---- a block that is no entry was read, and room made
+pub fetched_true : SessionsJoin → (line unit block : ℕ) (into : List ℕ) (s s' : State) (old mid new : Stage) → Fetches line unit block true into old mid → s' ≡ with_room s
+    → Asks line (write_backs (to_write_back s)) mid new → StillTell mid new → Fetched line unit block true into s s' old new
+fetched_true law line unit block into s s' old mid new f state asks still = record {
+  state = state;
+  asks = asks_join law line (reads unit block ∷ []) (write_backs (to_write_back s)) old mid new f.asks asks still;
+  told = λ t tables. f.told (still.packs t) tables;
+}
+
+-- ---- WHAT A READ COMES TO
+pub reads_of : ReadKeeps → (line unit block : ℕ) (held : Option (List ℕ)) (refuses : Bool) (given : Option (List ℕ)) (s s' : State) (old new : Stage) → IsCache s → s' ≡ (read_done held refuses s unit block).state
+    → given ≡ (read_done held refuses s unit block).given → Asks line (read_done held refuses s unit block).asked old new
+    → (IsTrue new.packs_tell → HasTables (setup_at old) → IsFoundIn (map_at old) s unit block held) → Reads line unit block given s s' old new
+reads_of law line unit block held refuses given s s' old new is state gives asks found = record {
+  held = held;
+  refuses = refuses;
+  state = state;
+  gives = gives;
+  asks = asks;
+  told = λ t tables fit. subst (λ z. Gives (map_at old) (map_at new) unit block given s.entries z.entries) (sym state)
+      (subst (λ z. Gives (map_at old) (map_at new) unit block z s.entries (read_done held refuses s unit block).state.entries) (sym gives)
+      (subst (λ z. Gives (map_at old) z unit block (read_done held refuses s unit block).given s.entries (read_done held refuses s unit block).state.entries) (sym (asks.map t tables))
+      (law (map_at old) s unit block held refuses is fit (found t tables))));
+}
+
+-- AND A WRITE
+pub writes_of : WriteKeeps → (line unit block : ℕ) (from : List ℕ) (held : Option (List ℕ)) (refuses done : Bool) (s s' : State) (old new : Stage) → IsCache s → s' ≡ (write_done held refuses s unit block from).state
+    → (if done then Some from else None) ≡ (write_done held refuses s unit block from).given → Asks line (write_done held refuses s unit block from).asked old new
+    → (IsTrue new.packs_tell → HasTables (setup_at old) → IsFoundIn (map_at old) s unit block held) → Writes line unit block done from s s' old new
+writes_of law line unit block from held refuses done s s' old new is state gives asks found = record {
+  held = held;
+  refuses = refuses;
+  state = state;
+  gives = gives;
+  asks = asks;
+  told = λ t tables fit. subst (λ z. Takes (map_at old) (map_at new) unit block done from s.entries z.entries) (sym state)
+      (subst (λ z. Takes (map_at old) z unit block done from s.entries (write_done held refuses s unit block from).state.entries) (sym (asks.map t tables))
+      (law (map_at old) s unit block from held refuses done is fit (found t tables) gives));
+}
+
+-- ---- the entry that a block has
+pub no_entry : (unit block : ℕ) (entries : List Entry) → false ≡ is_some (entry_of unit block entries) → entry_of unit block entries ≡ None
+no_entry unit block entries not = by (entry_of unit block entries) not
+  where
+    by : (o : Option Entry) → false ≡ is_some o → o ≡ None
+    by None e = refl
+    by (Some x) e = absurd (false_true e)
+      where
+        false_true : false ≡ true → ⊥
+        false_true e = cc
+
+pub some_entry : (unit block : ℕ) (entries : List Entry) → true ≡ is_some (entry_of unit block entries) → Found unit block entries
+some_entry unit block entries is = by (entry_of unit block entries) refl is
+  where
+    by : (o : Option Entry) → entry_of unit block entries ≡ o → true ≡ is_some o → Found unit block entries
+    by None e some = absurd (true_false some)
+      where
+        true_false : true ≡ false → ⊥
+        true_false e = cc
+    by (Some x) e some = record { entry = x; is = e }

@@ -23,6 +23,7 @@ impl Cache {
     /// `Unusable` comes exactly where the block can't be used; cache and packs are as they were then, and of the buffer nothing is said.
     /// `Stop` comes only where the count of faults of the packs or of the trace rose; no further call may follow then. Want of memory is
     /// never answered: where an insertion is refused, that is counted, and the block is not in the cache.
+    #[tactic(none)]
     pub fn read<P: Packs, T: Sink>(
         &mut self,
         subsystem: &mut Subsystem,
@@ -66,6 +67,7 @@ impl Cache {
     /// the pack at once.
     ///
     /// `Unusable` and `Stop` come as they do for `read`.
+    #[tactic(none)]
     pub fn write<P: Packs, T: Sink>(
         &mut self,
         subsystem: &mut Subsystem,
