@@ -23,7 +23,7 @@ use Rattle.cached_blocks.proofs.Lookups.{none_misses, misses_none, found_all, ot
 use Rattle.cached_blocks.specs.Contents.{AllFit, Gives, Takes, IsOne, AreOne}
 use Rattle.cached_blocks.specs.Laws.{IsFoundIn, ReadKeeps, WriteKeeps}
 use Rattle.cached_blocks.proofs.Ones.{IsFound, each_found, back_all, back_one, last_one, own_one}
-use Rattle.cached_blocks.proofs.Requested.{read_leaves}
+use Rattle.cached_blocks.proofs.Requested.{read_same}
 use Rattle.single_blocks.specs.Asks.{IsData, Asks, Fetches, LeftBy}
 use Rattle.single_blocks.proofs.Joins.{asks_join}
 use Rattle.buffer_cache.specs.Calls.{IfTold, Fetched, Reads, Writes, Holds}
@@ -86,9 +86,6 @@ holds_more unit block from s old new h = record { each = λ u b. more u b (h.eac
         never some = cc
 
 -- a read before changes nothing
-pub read_same : (map : Map) (unit block : ℕ) → behind_one map (reads unit block) ≡ map
-read_same map unit block = λ i. λ u. λ b. read_leaves map unit block u b i
-
 pub holds_behind_read : (line unit block : ℕ) (s : State) (old mid new : Stage) → Asks line (reads unit block ∷ []) old mid → (IsTrue new.packs_tell → IsTrue mid.packs_tell) → IfTold s mid new (Holds 0 0 None s mid new)
     → IfTold s old new (Holds 0 0 None s old new)
 holds_behind_read line unit block s old mid new a still next t tables fit =

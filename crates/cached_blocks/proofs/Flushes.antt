@@ -1,13 +1,13 @@
 -- Every changed entry is written back.
-use Rattle.std.proofs.Common.{◌≡◌, ◌⊎◌, inl, inr, ℕ, Bool, true, false, List, [], ◌∷◌, ◌++◌, Option, None, Some, refl, sym, ap, ◌∙◌, subst}
+use Rattle.std.proofs.Common.{◌≡◌, inl, inr, ℕ, Bool, true, false, List, [], ◌∷◌, None, Some, refl, sym, ap, ◌∙◌, subst}
 use Rattle.std.specs.Prelude.{map, if◌then◌else◌, IsSome}
 use Rattle.std.specs.List.{AllByRecursion}
 use Rattle.cached_blocks.specs.Requests.{Map, writes, behind_one, behind}
 use Rattle.cached_blocks.proofs.Requested.{behind_more}
 use Rattle.cached_blocks.specs.declared.Entry.{Entry}
 use Rattle.cached_blocks.specs.Entries.{is_of, entry_of, AreApart, unchanged, write_backs, written_back}
-use Rattle.cached_blocks.specs.Contents.{bytes_or, cached, Fits, AllFit}
-use Rattle.cached_blocks.proofs.Lookups.{IsKey, tells, own_key, at_own, at_other, none_misses, other_way}
+use Rattle.cached_blocks.specs.Contents.{bytes_or, cached, AllFit}
+use Rattle.cached_blocks.proofs.Lookups.{IsKey, tells, at_own, at_other, none_misses, other_way}
 use Rattle.cached_blocks.proofs.Rooms.{at_key, write_own, write_other, keeps_fit}
 use Rattle.cached_blocks.proofs.Ones.{IsFound, each_found}
 

@@ -1,20 +1,17 @@
 -- What a read and a write leave, in the cache and on the packs.
-use Rattle.std.proofs.Common.{◌≡◌, ◌⊎◌, inl, inr, ℕ, ◌-◌, ◌==◌, ◌&&◌, Bool, true, false, List, [], ◌∷◌, ◌++◌, take, Option, None, Some, refl, sym, ap, ◌∙◌, subst}
+use Rattle.std.proofs.Common.{◌≡◌, inl, inr, ℕ, ◌-◌, ◌==◌, ◌&&◌, Bool, true, false, List, [], ◌∷◌, ◌++◌, take, Option, None, Some, refl, sym, ap, ◌∙◌, subst}
 use Rattle.std.specs.Prelude.{if◌then◌else◌, IsSome}
 use Rattle.std.specs.List.{AllByRecursion}
 use Rattle.std.proofs.lemmas.Option.{none-some}
-use Rattle.cached_blocks.specs.Requests.{Map, reads, writes, behind_one, behind}
-use Rattle.cached_blocks.proofs.Requested.{read_leaves, behind_more}
+use Rattle.cached_blocks.specs.Requests.{Map, writes, behind_one, behind}
+use Rattle.cached_blocks.proofs.Requested.{read_same, behind_more}
 use Rattle.cached_blocks.specs.declared.Entry.{Entry}
-use Rattle.cached_blocks.specs.Entries.{State, is_of, entry_of, IsCache, in_front, rewritten, to_write_back, with_room, put, write_backs}
+use Rattle.cached_blocks.specs.Entries.{State, is_of, entry_of, IsCache, in_front, rewritten, to_write_back, with_room, write_backs}
 use Rattle.cached_blocks.specs.Calls.{entry, read_found, read_by, read_done, write_found, write_by, write_done}
 use Rattle.cached_blocks.specs.Contents.{bytes_or, cached, Fits, AllFit, Gives, replaced, Takes}
 use Rattle.cached_blocks.proofs.Lookups.{IsKey, tells, is_key, at_own, at_other, found_key, found_all, none_misses, other_way}
 use Rattle.cached_blocks.proofs.Fronts.{front_contents, front_fit, change_contents, change_fit}
 use Rattle.cached_blocks.proofs.Rooms.{write_own, write_other, at_key, keeps_fit, Room, room_of}
-
-pub read_same : (map : Map) (unit block : ℕ) → behind_one map (reads unit block) ≡ map
-read_same map unit block = λ i. λ u. λ b. read_leaves map unit block u b i
 
 pub some_is : {bytes : List ℕ} (held : Option (List ℕ)) → held ≡ Some bytes → IsSome held
 some_is held e = subst IsSome (sym e) refl

@@ -1,14 +1,15 @@
 -- After any answer each block holds what it held, or what was cached, or what was to be written.
-use Rattle.std.proofs.Common.{◌≡◌, ◌⊎◌, inl, inr, ℕ, zero, suc, ◌-◌, ◌==◌, ◌&&◌, Bool, true, false, List, [], ◌∷◌, ◌++◌, length, Option, None, Some, refl, sym, ap, ◌∙◌, subst}
-use Rattle.std.specs.Prelude.{if◌then◌else◌, slice_get, IsSome}
+use Rattle.std.proofs.Common.{◌≡◌, inl, inr, ℕ, zero, suc, ◌-◌, ◌==◌, Bool, true, false, List, [], ◌∷◌, ◌++◌, length, Option, None, Some, refl, sym, ap, ◌∙◌, subst}
+use Rattle.std.specs.Prelude.{if◌then◌else◌, slice_get}
 use Rattle.std.specs.List.{AllByRecursion}
 use Rattle.std.proofs.lemmas.Option.{none-some, same_Some}
 use Rattle.cached_blocks.specs.Requests.{Map, writes, written_over, behind_one, behind}
 use Rattle.cached_blocks.specs.declared.Entry.{Entry}
-use Rattle.cached_blocks.specs.Entries.{State, is_of, entry_of, AreApart, if_changed, to_write_back, write_backs, written_back}
-use Rattle.cached_blocks.specs.Calls.{entry}
+use Rattle.cached_blocks.specs.Entries.{State, IsCache, is_of, entry_of, AreApart, if_changed, to_write_back, write_backs, written_back}
+use Rattle.cached_blocks.specs.Calls.{entry, read_by, read_done, write_by, write_done}
 use Rattle.cached_blocks.specs.Contents.{bytes_or, cached, IsOne, AreOne}
-use Rattle.cached_blocks.proofs.Lookups.{IsKey, tells, is_key, own_key, at_own, at_other, none_misses, other_way}
+use Rattle.cached_blocks.proofs.Requested.{read_same, behind_more}
+use Rattle.cached_blocks.proofs.Lookups.{IsKey, tells, own_key, at_own, at_other, none_misses, other_way}
 use Rattle.cached_blocks.proofs.Rooms.{write_other}
 
 -- ---- each entry is that of its block
@@ -90,3 +91,34 @@ own_one map entries unit block from now one u b = elim (tells u b (entry unit bl
 
 pub none_one : (map : Map) (entries : List Entry) (unit block : ℕ) (from : Option (List ℕ)) → AreOne map entries unit block from map
 none_one map entries unit block from u b = inl refl
+
+-- ---- the requests of a call
+module _ (map : Map) (s : State) (unit block : ℕ) (is : IsCache s) where
+  abbrev Back : Map
+  Back = behind map (write_backs (to_write_back s))
+
+  back_of : (from : Option (List ℕ)) → AreOne map s.entries unit block from Back
+  back_of from = last_one map s.entries unit block from map s (each_found s.entries is.apart) (none_one map s.entries unit block from)
+
+  pub reads_one : (held : Option (List ℕ)) (refuses : Bool) → AreOne map s.entries unit block None (behind map (read_done held refuses s unit block).asked)
+  reads_one held refuses = by (entry_of unit block s.entries) held
+    where
+      by : (o : Option Entry) (held : Option (List ℕ)) → AreOne map s.entries unit block None (behind map (read_by o held refuses s unit block).asked)
+      by (Some e) held = none_one map s.entries unit block None
+      by None None = subst (AreOne map s.entries unit block None) (sym (read_same map unit block)) (none_one map s.entries unit block None)
+      by None (Some bytes) = subst (λ z. AreOne map s.entries unit block None (behind z (write_backs (to_write_back s)))) (sym (read_same map unit block)) (back_of None)
+
+  pub writes_one : (from : List ℕ) (held : Option (List ℕ)) (refuses : Bool) → AreOne map s.entries unit block (Some from) (behind map (write_done held refuses s unit block from).asked)
+  writes_one from held refuses = by (entry_of unit block s.entries) held refuses
+    where
+      by : (o : Option Entry) (held : Option (List ℕ)) (refuses : Bool) → AreOne map s.entries unit block (Some from) (behind map (write_by o held refuses s unit block from).asked)
+      by (Some e) held refuses = none_one map s.entries unit block (Some from)
+      by None None refuses = subst (AreOne map s.entries unit block (Some from)) (sym (read_same map unit block)) (none_one map s.entries unit block (Some from))
+      by None (Some bytes) false = subst (AreOne map s.entries unit block (Some from))
+          (sym (ap (λ z. behind z (write_backs (to_write_back s) ++ [])) (read_same map unit block) ∙ behind_more map (write_backs (to_write_back s)) [])) (back_of (Some from))
+      by None (Some bytes) true = subst (AreOne map s.entries unit block (Some from))
+          (sym (ap (λ z. behind z (write_backs (to_write_back s) ++ writes unit block from ∷ [])) (read_same map unit block) ∙ behind_more map (write_backs (to_write_back s)) (writes unit block from ∷ [])))
+          (own_one map s.entries unit block from Back (back_of (Some from)))
+
+  pub syncs_one : AreOne map s.entries unit block None (behind map (written_back s.entries))
+  syncs_one = backs_one map s.entries unit block None map s.entries (each_found s.entries is.apart) (none_one map s.entries unit block None)

@@ -1,5 +1,5 @@
 -- What requests leave in a map.
-use Rattle.std.proofs.Common.{◌≡◌, ◌≢◌, ℕ, ◌==◌, ◌&&◌, Bool, true, false, List, [], ◌∷◌, ◌++◌, Option, None, Some, refl}
+use Rattle.std.proofs.Common.{◌≡◌, ℕ, ◌==◌, ◌&&◌, Bool, true, false, List, [], ◌∷◌, ◌++◌, Option, None, Some, refl}
 use Rattle.std.specs.Prelude.{if◌then◌else◌}
 use Rattle.subsystem_spec.specs.Requests.{Request}
 use Rattle.cached_blocks.specs.Requests.{reads, Map, written_over, behind_one, behind}
@@ -15,6 +15,9 @@ read_leaves map unit block u b = by ((u == unit) && (b == block))
     by : (own : Bool) → (if own then written_over None (map u b) else map u b) ≡ map u b
     by true = over_none (map u b)
     by false = refl
+
+pub read_same : (map : Map) (unit block : ℕ) → behind_one map (reads unit block) ≡ map
+read_same map unit block = λ i. λ u. λ b. read_leaves map unit block u b i
 
 -- ---- some requests, and some more
 pub behind_more : (map : Map) (rs qs : List Request) → behind map (rs ++ qs) ≡ behind (behind map rs) qs

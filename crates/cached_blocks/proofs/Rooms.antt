@@ -1,5 +1,5 @@
 -- The last entry of a full cache is written back and dropped.
-use Rattle.std.proofs.Common.{◌≡◌, ◌≢◌, ◌⊎◌, inl, inr, ℕ, zero, suc, ◌+◌, ◌-◌, ◌≤◌, ◌<◌, ◌==◌, ◌&&◌, Bool, true, false, List, [], ◌∷◌, ◌++◌, length, take, drop, Option, None, Some, refl, sym, ap, ◌∙◌, subst, arith, length-append, append-nil}
+use Rattle.std.proofs.Common.{◌≡◌, ◌≢◌, inl, inr, ℕ, zero, suc, ◌+◌, ◌-◌, ◌≤◌, ◌==◌, Bool, true, false, List, [], ◌∷◌, ◌++◌, length, take, drop, Option, None, Some, refl, sym, ap, ◌∙◌, subst, arith, length-append}
 use Rattle.std.specs.Prelude.{map, if◌then◌else◌, slice_get, IsSome}
 use Rattle.std.specs.List.{AllByRecursion}
 use Rattle.std.proofs.lemmas.Bool.Decides.{eqb_tells}
@@ -7,7 +7,7 @@ use Rattle.cached_blocks.specs.Requests.{Map, writes, written_over, behind_one, 
 use Rattle.cached_blocks.specs.declared.Entry.{Entry}
 use Rattle.cached_blocks.specs.Entries.{State, is_of, entry_of, AreApart, IsCache, if_changed, to_write_back, unchanged, last_unchanged, written_last, write_backs}
 use Rattle.cached_blocks.specs.Contents.{bytes_or, cached, Fits, AllFit}
-use Rattle.cached_blocks.proofs.Lookups.{IsKey, tells, own_key, at_own, at_other, look_front, look_behind, none_misses, misses_none, all_parts, all_join, last_apart, other_way}
+use Rattle.cached_blocks.proofs.Lookups.{IsKey, tells, own_key, at_own, at_other, look_front, look_behind, none_misses, misses_none, all_parts, all_join, last_apart}
 
 abbrev map_unchanged : List Entry → List Entry
 map_unchanged entries = map unchanged entries

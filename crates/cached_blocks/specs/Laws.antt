@@ -3,7 +3,7 @@ use Rattle.std.specs.Prelude.{◌≡◌, ℕ, Bool, List, if◌then◌else◌, O
 use Rattle.cached_blocks.specs.Requests.{Map, behind}
 use Rattle.cached_blocks.specs.Entries.{State, IsCache, entry_of, flushed, written_back}
 use Rattle.cached_blocks.specs.Calls.{read_done, write_done}
-use Rattle.cached_blocks.specs.Contents.{AllFit, Gives, Takes, Flushes}
+use Rattle.cached_blocks.specs.Contents.{AllFit, Gives, Takes, Flushes, AreOne}
 
 -- what a block that is no entry is found to hold is what the packs hold
 abbrev pub IsFoundIn : Map → State → (unit block : ℕ) → Option (List ℕ) → Type 0
@@ -20,3 +20,15 @@ WriteKeeps = (map : Map) (s : State) (unit block : ℕ) (from : List ℕ) (held 
 
 abbrev pub SyncWrites : Type 0
 SyncWrites = (map : Map) (s : State) → IsCache s → AllFit map s.entries → Flushes map (behind map (written_back s.entries)) s.entries (flushed s).entries
+
+-- And behind them each block holds one of three
+abbrev pub ReadLeavesOne : Type 0
+ReadLeavesOne = (map : Map) (s : State) (unit block : ℕ) (held : Option (List ℕ)) (refuses : Bool) → IsCache s
+    → AreOne map s.entries unit block None (behind map (read_done held refuses s unit block).asked)
+
+abbrev pub WriteLeavesOne : Type 0
+WriteLeavesOne = (map : Map) (s : State) (unit block : ℕ) (from : List ℕ) (held : Option (List ℕ)) (refuses : Bool) → IsCache s
+    → AreOne map s.entries unit block (Some from) (behind map (write_done held refuses s unit block from).asked)
+
+abbrev pub SyncLeavesOne : Type 0
+SyncLeavesOne = (map : Map) (s : State) (unit block : ℕ) → IsCache s → AreOne map s.entries unit block None (behind map (written_back s.entries))
