@@ -1,7 +1,11 @@
 pub mod Reaching
 pub mod TallyLaws
 pub mod Texts
+pub mod Ahead
 pub mod Going
+pub mod OneEvent
+pub mod Moves
+pub mod Wholes
 pub mod Inputs
 pub mod Bounds
 pub mod Draining
@@ -9,11 +13,10 @@ pub mod Rooms
 pub mod AnswerLaws
 pub mod AttachLaws
 pub mod CountLaws
-pub mod Submitting
 pub mod Statements
 pub mod Whole
-pub mod OneEvent
 pub mod Stopping
 pub mod Contexts
 pub mod Halting
+pub mod Saying
 pub mod Calling

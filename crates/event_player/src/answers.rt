@@ -1,12 +1,12 @@
 // The answers that wait are counted and written, and then they are taken.
 ghost use Rattle.std.specs.Prelude.{◌≡◌, ◌+◌, ◌==◌, ◌<◌, ◌≤◌, ℕ, [], ◌∷◌, if◌then◌else◌, OnOk, take, replicate, slice_index_or};
-ghost use Rattle.outside_traits.specs.Puts.{Puts};
 ghost use Rattle.mass_gather.specs.Gathers.{Gathers};
 ghost use Rattle.answer_lines.specs.AnswerText.{block_text};
 ghost use Rattle.answer_tally.specs.Counting.{Counts};
 ghost use Rattle.driver_answers.specs.Waiting.{all_taken, waiting};
 ghost use Rattle.subsystem_spec.specs.declared.answers.AnswerKind.TheVariants.{ReadOk};
 ghost use Rattle.event_player.specs.Answering.{first_blocks, first_told, first_text, first_rest, IsFirst, IsFirstKind, HasBlock};
+ghost use Rattle.event_player.specs.Saying.{side, Says};
 ghost use Rattle.event_player.specs.Steps.{waiting_text};
 
 use crate::desk::Desk;
@@ -150,19 +150,39 @@ fn gather_answers<O: Sink>(
     Ok(())
 }
 
-/// Writes the answers that wait to a sink, the oldest first, and takes them. Nothing is gathered at the desk before and behind it.
-pub(crate) fn write_answers<O: Sink>(
+/// Sends all lines, and then writes the answers that wait, the oldest first, and takes them.
+fn write_answers<O: Sink, T: Sink>(
     subsystem: &mut Subsystem,
     desk: &mut Desk,
     out: &mut O,
+    trace: &mut T,
 ) -> Result<(), SinkFailed>
-    requires kept { desk.old.gather ≡ [] }
-    ensures puts { Puts O.tells O.taken O.faults out.old out.new result (waiting_text subsystem.old.world) }
+    ensures says { Says (side O.tells O.taken O.faults out.old desk.old.gather) (side O.tells O.taken O.faults out.new desk.new.gather)
+        (side T.tells T.taken T.faults trace.old subsystem.old.kept) (side T.tells T.taken T.faults trace.new subsystem.new.kept) result (waiting_text subsystem.old.world) }
     ensures counts { OnOk result (Counts (waiting subsystem.old.world) (waiting_text subsystem.old.world) desk.old.tally desk.new.tally) }
     ensures requests { desk.new.tally.requests ≡ desk.old.tally.requests }
-    ensures taken { OnOk result (subsystem.new ≡ record subsystem.old { world = all_taken subsystem.old.world }) }
-    ensures kept { OnOk result (desk.new.gather ≡ []) }
+    ensures taken { OnOk result (subsystem.new ≡ record subsystem.old { world = all_taken subsystem.old.world; kept = subsystem.new.kept }) }
 {
+    subsystem.send(trace)?;
     gather_answers(subsystem, desk, out)?;
     desk.gather.flush(out)
+}
+
+/// Says the answers that wait, the oldest first, and takes them. Before any of them goes out all lines are sent.
+pub(crate) fn say_answers<O: Sink, T: Sink>(
+    subsystem: &mut Subsystem,
+    desk: &mut Desk,
+    out: &mut O,
+    trace: &mut T,
+) -> Result<(), SinkFailed>
+    ensures says { Says (side O.tells O.taken O.faults out.old desk.old.gather) (side O.tells O.taken O.faults out.new desk.new.gather)
+        (side T.tells T.taken T.faults trace.old subsystem.old.kept) (side T.tells T.taken T.faults trace.new subsystem.new.kept) result (waiting_text subsystem.old.world) }
+    ensures counts { OnOk result (Counts (waiting subsystem.old.world) (waiting_text subsystem.old.world) desk.old.tally desk.new.tally) }
+    ensures requests { desk.new.tally.requests ≡ desk.old.tally.requests }
+    ensures taken { OnOk result (subsystem.new ≡ record subsystem.old { world = all_taken subsystem.old.world; kept = subsystem.new.kept }) }
+{
+    match subsystem.answer() {
+        Some(_) => write_answers(subsystem, desk, out, trace),
+        None => Ok(()),
+    }
 }

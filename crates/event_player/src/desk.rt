@@ -1,10 +1,12 @@
 // Where answers are written: what is gathered for their sink, and what is counted of them.
-ghost use Rattle.std.specs.Prelude.{◌≡◌, [], IfOk};
+ghost use Rattle.std.specs.Prelude.{◌≡◌, [], IfOk, OnOk};
 ghost use Rattle.mass_gather.specs.Gathers.{Gathers};
 ghost use Rattle.answer_tally.specs.Counting.{Counts, tally_by};
+ghost use Rattle.event_player.specs.Saying.{side, Says};
 
 use answer_lines::{BlockLine, FillLine};
 use answer_tally::Tally;
+use hp_driver::Subsystem;
 use mass_gather::Gather;
 use outside_traits::traits::{NoMemory, Sink, SinkFailed};
 use std::alloc::Global;
@@ -39,6 +41,45 @@ impl Desk {
             line,
             fill,
         })
+    }
+
+    /// Sends all text that is kept, lines first.
+    pub fn send<O: Sink, T: Sink>(
+        &mut self,
+        subsystem: &mut Subsystem,
+        out: &mut O,
+        trace: &mut T,
+    ) -> Result<(), SinkFailed>
+        ensures says { Says (side O.tells O.taken O.faults out.old self.old.gather) (side O.tells O.taken O.faults out.new self.new.gather)
+            (side T.tells T.taken T.faults trace.old subsystem.old.kept) (side T.tells T.taken T.faults trace.new subsystem.new.kept) result [] }
+        ensures emptied { OnOk result ((self.new.gather ≡ []) × (subsystem.new.kept ≡ [])) }
+        ensures same { subsystem.new ≡ record subsystem.old { kept = subsystem.new.kept } }
+        ensures tally { self.new.tally ≡ self.old.tally }
+    {
+        subsystem.send(trace)?;
+        self.gather.flush(out)
+    }
+
+    /// Counts a text, and keeps it; where it does not fit all lines are sent, and then what was kept.
+    pub fn say<O: Sink, T: Sink>(
+        &mut self,
+        text: &[u8],
+        subsystem: &mut Subsystem,
+        out: &mut O,
+        trace: &mut T,
+    ) -> Result<(), SinkFailed>
+        ensures says { Says (side O.tells O.taken O.faults out.old self.old.gather) (side O.tells O.taken O.faults out.new self.new.gather)
+            (side T.tells T.taken T.faults trace.old subsystem.old.kept) (side T.tells T.taken T.faults trace.new subsystem.new.kept) result text.now }
+        ensures counts { Counts [] text.now self.old.tally self.new.tally }
+        ensures requests { self.new.tally.requests ≡ self.old.tally.requests }
+        ensures same { subsystem.new ≡ record subsystem.old { kept = subsystem.new.kept } }
+    {
+        self.tally.count_text(text);
+        if self.gather.try_keep(text) {
+            return Ok(());
+        }
+        subsystem.send(trace)?;
+        self.gather.put(text, out)
     }
 
     /// Counts a text, and gathers it.

@@ -55,8 +55,8 @@ pub returns-clause-tallied : goal.returns-clause-tallied
 returns-clause-tallied g c =
     let units = c.in_ok-units.ensures in
     let lines = c.play_lines.ensures in
-    let old : Stage = stage g.P.Packs.tells g.P.Packs.held g.O.Sink.tells g.O.Sink.taken g.T.Sink.tells g.T.Sink.taken c.in_ok-subsystem.subsystem.world c.attach_units.new.packs c.args.out.now c.args.trace.now c.in_ok-bench.bench.desk.tally in
-    let new : Stage = stage g.P.Packs.tells g.P.Packs.held g.O.Sink.tells g.O.Sink.taken g.T.Sink.tells g.T.Sink.taken c.play_lines.new.subsystem.world c.play_lines.new.packs c.play_lines.new.out c.play_lines.new.trace c.play_lines.new.desk.tally in
+    let old : Stage = stage g.P.Packs.tells g.P.Packs.held g.O.Sink.tells g.O.Sink.taken g.T.Sink.tells g.T.Sink.taken c.in_ok-subsystem.subsystem c.attach_units.new.packs c.args.out.now c.args.trace.now c.in_ok-bench.bench.desk.gather c.in_ok-bench.bench.desk.tally in
+    let new : Stage = stage g.P.Packs.tells g.P.Packs.held g.O.Sink.tells g.O.Sink.taken g.T.Sink.tells g.T.Sink.taken c.play_lines.new.subsystem c.play_lines.new.packs c.play_lines.new.out c.play_lines.new.trace c.play_lines.new.desk.gather c.play_lines.new.desk.tally in
     at_told _ c.play_lines.result c.play_lines.new.desk.tally lines.told lines.played.plays (λ plays t.
     whole_for (meaning_of c.args.script.now) c.in_ok-units.units.items c.as_slice.result.now c.count_requests-requests.result c.count_noises-noises.result c.in_ok-subsystem.subsystem
     (g.P.Packs.held c.args.packs.now) old new (c.meaning_law.ensures.read c.args.script.now.text c.args.script.now c.requires.good) c.as_slice.ensures.value units.set
@@ -67,8 +67,8 @@ pub returns-clause-stopped : goal.returns-clause-stopped
 returns-clause-stopped g c =
     let units = c.in_ok-units.ensures in
     let lines = c.play_lines.ensures in
-    let old : Stage = stage g.P.Packs.tells g.P.Packs.held g.O.Sink.tells g.O.Sink.taken g.T.Sink.tells g.T.Sink.taken c.in_ok-subsystem.subsystem.world c.attach_units.new.packs c.args.out.now c.args.trace.now c.in_ok-bench.bench.desk.tally in
-    let new : Stage = stage g.P.Packs.tells g.P.Packs.held g.O.Sink.tells g.O.Sink.taken g.T.Sink.tells g.T.Sink.taken c.play_lines.new.subsystem.world c.play_lines.new.packs c.play_lines.new.out c.play_lines.new.trace c.play_lines.new.desk.tally in
+    let old : Stage = stage g.P.Packs.tells g.P.Packs.held g.O.Sink.tells g.O.Sink.taken g.T.Sink.tells g.T.Sink.taken c.in_ok-subsystem.subsystem c.attach_units.new.packs c.args.out.now c.args.trace.now c.in_ok-bench.bench.desk.gather c.in_ok-bench.bench.desk.tally in
+    let new : Stage = stage g.P.Packs.tells g.P.Packs.held g.O.Sink.tells g.O.Sink.taken g.T.Sink.tells g.T.Sink.taken c.play_lines.new.subsystem c.play_lines.new.packs c.play_lines.new.out c.play_lines.new.trace c.play_lines.new.desk.gather c.play_lines.new.desk.tally in
     at_err c.play_lines.result lines.played.stops (λ stop stops t.
     play_halts (meaning_of c.args.script.now) c.in_ok-units.units.items c.as_slice.result.now c.count_requests-requests.result c.count_noises-noises.result c.in_ok-subsystem.subsystem
     (g.P.Packs.held c.args.packs.now) stop old new c.as_slice.ensures.value units.set
