@@ -137,4 +137,4 @@ two_events_under_way script tables first left out_tells said said' trace_tells t
     (subst (AreOfOneEvent (after_moments (start_of script tables first) stops.done)) is stops.came.event) over
 
 pub mark_gone_behind_a_failure : MarkGoneBehindAFailure
-mark_gone_behind_a_failure script first left out trace stops keeps unit other = other ((keeps stops).1.1.taken.hold.marks unit)
+mark_gone_behind_a_failure script first left out trace stops keeps unit other = other ((keeps stops).2.taken.hold.marks unit)
