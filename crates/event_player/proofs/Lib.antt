@@ -10,6 +10,7 @@ pub mod Inputs
 pub mod Bounds
 pub mod Draining
 pub mod Rooms
+pub mod SaysLaws
 pub mod AnswerLaws
 pub mod AttachLaws
 pub mod CountLaws
