@@ -24,7 +24,7 @@ use Rattle.answer_lines.specs.AnswerText.{out_text}
 use Rattle.answer_tally.specs.declared.tally.Tally.{Tally}
 use Rattle.answer_tally.specs.Counting.{Counts}
 use Rattle.hp_driver.specs.Subsystem.{Submits, Comes, State, seen, is_move, writes_by}
-use Rattle.event_player.specs.declared.play.PlayFault.TheVariants as faults
+use Rattle.event_player.specs.declared.play.PlayFault.TheVariants as playing
 use Rattle.event_player.specs.Faults.{from_stop}
 use Rattle.event_player.specs.Saying.{Side, side, Says, SendsAhead}
 use Rattle.event_player.specs.Steps.{Stage, Passes, PassesAhead, PlaysActs, PlaysEvent, PlaysSubmission, waiting_text}
@@ -55,7 +55,7 @@ plays_acts acts w mid packs packs' held held' tally tally' out lines out' lines'
 }
 
 -- A CALL THAT STOPPED at the trace: some acts were done, of whose lines a front was sent, and nothing is said.
-not_sent : {O : Type 0} (tells : O → Bool) (taken : O → List ℕ) (faults : O → ℕ) (trace trace' : O) (kept text : List ℕ) → Side
+abbrev not_sent : {O : Type 0} (tells : O → Bool) (taken : O → List ℕ) (faults : O → ℕ) (trace trace' : O) (kept text : List ℕ) → Side
 not_sent tells taken faults trace trace' kept text = record { tells = tells trace'; took = taken trace; kept = kept ++ text; faults = faults trace' }
 
 front_told : {O : Type 0} (tells : O → Bool) (taken : O → List ℕ) (faults : O → ℕ) (trace trace' : O) (kept text : List ℕ) → (IsTrue (tells trace') → IsTrue (tells trace))
@@ -136,7 +136,7 @@ module _ {O Q : Type 0} (holds : Q → Bool) (held : Q → ℕ → Pack) (tells 
 
     -- or were to be.
     pub event_unsaid : (new : World) (out' sent : Side) (tally' : Tally) → (is_move input ≡ false → held packs' ≡ held packs) → AllFlip w.book.live → IsSaid out out' lines' sent (waiting_text mid)
-        → EventStops line input faults.Sink before (by_sides new (holds packs') (held packs') out' sent tally')
+        → EventStops line input playing.Sink before (by_sides new (holds packs') (held packs') out' sent tally')
     event_unsaid new out' sent tally' still noise says = (
       still,
       inr (record {
@@ -223,7 +223,7 @@ module _ {O Q : Type 0} (holds : Q → Bool) (held : Q → ℕ → Pack) (tells 
 -- THE SENDING that was to come before it failed.
 pub event_unsent : {A E : Type 0} (line : ℕ) (input : Input) (w new : World) (packs : Bool) (held : ℕ → Pack) (out0 out lines0 lines : Side) (tally tally' : Tally) (failed : E)
     → SendsAhead {T = A} (writes_by w input) out0 out lines0 lines (Err failed)
-    → EventStops line input faults.Sink (by_sides w packs held out0 lines0 tally) (by_sides new packs held out lines tally')
+    → EventStops line input playing.Sink (by_sides w packs held out0 lines0 tally) (by_sides new packs held out lines tally')
 event_unsent line input w new packs held out0 out lines0 lines tally tally' failed sends = (
   λ still. refl,
   inl (record { writes = sends.stopped; held = refl; passes = unsent_passes w new packs packs held held tally tally' out0 out lines0 lines (is_said sends.says) }),
@@ -255,21 +255,21 @@ module _ {O : Type 0} (tells : O → Bool) (taken : O → List ℕ) (faults : O 
       packs = submits_does.does.packs refl;
       same = refl;
       passes = passes_all said_all told_all
-          ((ahead_passes false out out (side tells taken faults trace kept) (side tells taken faults trace kept) (Ok tt) tt (none_ahead {F = Unit {0}} out (side tells taken faults trace kept))
+          ((ahead_passes false out out (side tells taken faults trace kept) (side tells taken faults trace kept) (Ok tt) refl (none_ahead {F = Unit {0}} out (side tells taken faults trace kept))
           w (all_taken mid) packs packs held held tally tally' out' (side tells taken faults trace' kept') sent (waiting_text mid) (trace_text (lines_of_all w its)) submits_told (is_said says)).kept refl);
       plays = plays_acts its w mid packs packs held held tally tally' out (side tells taken faults trace kept) out' sent sound work submits_does.does.run submits_does.does.world said_all told_all counts;
     }
       where
         said_all : IsTrue out'.tells → out'.took ++ out'.kept ≡ (out.took ++ out.kept) ++ waiting_text mid
-        said_all = all_said false out out (side tells taken faults trace kept) (side tells taken faults trace kept) (Ok tt) tt (none_ahead {F = Unit {0}} out (side tells taken faults trace kept))
+        said_all = all_said false out out (side tells taken faults trace kept) (side tells taken faults trace kept) (Ok tt) refl (none_ahead {F = Unit {0}} out (side tells taken faults trace kept))
             w (all_taken mid) packs packs held held tally tally' out' (side tells taken faults trace' kept') sent (waiting_text mid) (trace_text (lines_of_all w its)) submits_told result says ok
 
         told_all : IsTrue sent.tells → sent.took ++ sent.kept ≡ (taken trace ++ kept) ++ trace_text (lines_of_all w its)
-        told_all = all_told false out out (side tells taken faults trace kept) (side tells taken faults trace kept) (Ok tt) tt (none_ahead {F = Unit {0}} out (side tells taken faults trace kept))
+        told_all = all_told false out out (side tells taken faults trace kept) (side tells taken faults trace kept) (Ok tt) refl (none_ahead {F = Unit {0}} out (side tells taken faults trace kept))
             w (all_taken mid) packs packs held held tally tally' out' (side tells taken faults trace' kept') sent (waiting_text mid) (trace_text (lines_of_all w its)) submits_told result says ok
 
     pub submission_unsaid : (new : World) (out' sent : Side) (tally' : Tally) → IsSaid out out' (side tells taken faults trace' kept') sent (waiting_text mid)
-        → SubmissionStops line r faults.Sink asked (by_sides new packs held out' sent tally')
+        → SubmissionStops line r playing.Sink asked (by_sides new packs held out' sent tally')
     submission_unsaid new out' sent tally' says = record {
       slot = submits.slot;
       held = submits.held;
@@ -286,13 +286,13 @@ module _ {O : Type 0} (tells : O → Bool) (taken : O → List ℕ) (faults : O 
         text = waiting_text mid;
         says = subst (λ (text : List ℕ). IsFront text (out_text (lines_of_all w its)))
             (sym (ap waiting_text submits_does.does.world ∙ waiting_said w its (submissions_alone w line submits.slot r submits.held sound work submits.may))) (front_same (out_text (lines_of_all w its)));
-        passes = ahead_passes false out out (side tells taken faults trace kept) (side tells taken faults trace kept) (Ok tt) tt (none_ahead {F = Unit {0}} out (side tells taken faults trace kept))
+        passes = ahead_passes false out out (side tells taken faults trace kept) (side tells taken faults trace kept) (Ok tt) refl (none_ahead {F = Unit {0}} out (side tells taken faults trace kept))
             w new packs packs held held tally tally' out' (side tells taken faults trace' kept') sent (waiting_text mid) (trace_text (lines_of_all w its)) submits_told says;
       };
     }
 
   pub submission_halted : (new : World) (tally' : Tally) → Submits tells taken trace trace' line r w mid kept kept' (Some stop.Sink)
-      → SubmissionStops line r faults.Sink asked (by_sides new packs held out (side tells taken faults trace' kept') tally')
+      → SubmissionStops line r playing.Sink asked (by_sides new packs held out (side tells taken faults trace' kept') tally')
   submission_halted new tally' submits = record {
     slot = submits.slot;
     held = submits.held;
@@ -316,7 +316,7 @@ module _ {O : Type 0} (tells : O → Bool) (taken : O → List ℕ) (faults : O 
         packs = λ t. is.does.packs refl;
         text = [];
         says = record { rest = out_text (lines_of_all w is.done); whole = refl };
-        passes = ahead_passes false out out (side tells taken faults trace kept) (side tells taken faults trace kept) (Ok tt) tt (none_ahead {F = Unit {0}} out (side tells taken faults trace kept))
+        passes = ahead_passes false out out (side tells taken faults trace kept) (side tells taken faults trace kept) (Ok tt) refl (none_ahead {F = Unit {0}} out (side tells taken faults trace kept))
             w new packs packs held held tally tally' out (not_sent tells taken faults trace trace' kept (trace_text (lines_of_all w is.done))) (side tells taken faults trace' kept') [] (trace_text (lines_of_all w is.done))
             (front_told tells taken faults trace trace' kept (trace_text (lines_of_all w is.done)) again)
             (front_said tells taken faults trace trace' kept kept' (trace_text (lines_of_all w is.done)) out is.sent

@@ -1,5 +1,5 @@
 -- Which events move a sector, and what such a move says.
-use Rattle.std.proofs.Common.{◌≡◌, ℕ, ◌≤◌, Bool, true, false, List, [], ◌∷◌, refl, sym, arith}
+use Rattle.std.proofs.Common.{◌≡◌, ℕ, ◌≤◌, Bool, true, false, List, [], ◌∷◌, refl, sym, ap, ◌∙◌, arith}
 use Rattle.std.proofs.lemmas.Bool.{false≢true}
 use Rattle.disksort.specs.declared.Waiter.{Waiter}
 use Rattle.hardware_table.specs.Adapter.{next_block}
@@ -17,6 +17,10 @@ use Rattle.driver_outcome.specs.Packs.{ReadAll}
 use Rattle.driver_trace.specs.Calls.{IsReadOf}
 use Rattle.driver_trace.specs.Noises.{AllFlip}
 use Rattle.driver_runs.proofs.Sectors.{IsNoMove}
+use Rattle.hp_events.specs.declared.drain.Event.{Event}
+use Rattle.hp_events.specs.declared.drain.Event.TheVariants as event
+use Rattle.hp_events.specs.Inputs.{input_of}
+use Rattle.hp_events.specs.Moves.{writes_next}
 use Rattle.hp_driver.specs.Subsystem.{IsThere, is_move, writes_by}
 use Rattle.hp_driver.proofs.Moves.{tried_by_rules, read_from}
 use Rattle.run_stops.specs.Ahead.{SaysOneSector}
@@ -111,3 +115,16 @@ writes_move w (says.Noise n) is = absurd (false≢true is)
 writes_move w (says.Arm u kind times) is = absurd (false≢true is)
 writes_move w (says.SetOnline u on) is = absurd (false≢true is)
 writes_move w (says.SetLocked u on) is = absurd (false≢true is)
+
+pub event_writes : (w : World) (e : Event) (a : ℕ) (b : Bool) → e ≡ event.Move a → b ≡ writes_next w a → writes_by w (input_of e) ≡ b
+event_writes w e a b is writes = ap (λ (x : Event). writes_by w (input_of x)) is ∙ sym writes
+
+pub no_write : (w : World) (e : Event) → ((a : ℕ) → e ≡ event.Move a → ⊥) → writes_by w (input_of e) ≡ false
+no_write w (event.Move a) other = absurd (other a refl)
+no_write w (event.Arrive u) other = refl
+no_write w (event.Attend a) other = refl
+no_write w (event.Turn u sector) other = refl
+no_write w (event.Noise u block noise span) other = refl
+no_write w (event.Fault u kind times) other = refl
+no_write w (event.Online u on) other = refl
+no_write w (event.Lock u on) other = refl

@@ -1,6 +1,6 @@
 -- What the two sinks took of a call, from what was sent ahead of it, what it told, and what was said behind it.
 use Rattle.std.proofs.Common.{◌≡◌, ◌⊎◌, inl, inr, ℕ, ◌≤◌, Bool, true, false, IsTrue, List, [], ◌++◌, refl, sym, ap, subst, ◌∙◌, arith, append-nil, append_assoc}
-use Rattle.std.specs.Prelude.{Result, Ok, Err, OnOk, OnErr, IsOk}
+use Rattle.std.specs.Prelude.{Result, Ok, Err, OnOk, OnErr, IsOk, IsErr}
 use Rattle.std.proofs.lemmas.Bool.{false≢true}
 use Rattle.outside_traits.specs.Causes.{Rose}
 use Rattle.outside_traits.specs.Puts.{Puts}
@@ -20,13 +20,9 @@ use Rattle.event_player.specs.Steps.{Stage, Passes, PassesAhead}
 use Rattle.event_player.proofs.Ahead.{between_by, IsOpened}
 use Rattle.event_player.proofs.Whole.{IsAllSent}
 
-ok_is : {T E : Type 0} {A : Type 0} (result : Result T E) → A → OnOk result A
-ok_is (Ok x) a = a
-ok_is (Err e) a = tt
-
-err_left : {T E : Type 0} {A B : Type 0} (result : Result T E) → OnErr result A → OnErr result (A ⊎ B)
-err_left (Ok x) a = tt
-err_left (Err e) a = inl a
+err_left : {T E : Type 0} (A B : Type 0) (result : Result T E) → OnErr result A → OnErr result (A ⊎ B)
+err_left A B (Ok x) a = tt
+err_left A B (Err e) a = inl a
 
 -- NOTHING is said, where nothing waits,
 pub says_nothing : {E : Type 0} (out lines : Side) → Says {T = Unit {0}} {E = E} out out lines lines (Ok tt) []
@@ -70,7 +66,7 @@ module _ {O T : Type 0} (tells : O → Bool) (took : O → List ℕ) (faults : O
   pub says_sent : {A E : Type 0} (out out' : O) (trace trace' : T) (kept left lines lines' : List ℕ) (result : Result A E) (text : List ℕ)
       → Puts {T = Unit {0}} {E = SinkFailed} trace_tells trace_took trace_faults trace trace' (Ok tt) lines → OnOk result (lines' ≡ []) → Gathers tells took faults out out' kept left result text
       → Says (side tells took faults out kept) (side tells took faults out' left) (side trace_tells trace_took trace_faults trace lines) (side trace_tells trace_took trace_faults trace' lines') result text
-  says_sent out out' trace trace' kept left lines lines' result text puts none gathers = record {
+  says_sent {A = A} {E = E} out out' trace trace' kept left lines lines' result text puts none gathers = record {
     again = gathers.never_again;
     again_lines = puts.never_again;
     front = λ t. between_by (took out) (took out') (kept ++ text) (gathers.front t);
@@ -81,7 +77,7 @@ module _ {O T : Type 0} (tells : O → Bool) (took : O → List ℕ) (faults : O
     lines_first = inr (λ t. puts.bytes t);
     later = gathers.cause.later;
     later_lines = puts.cause.later;
-    failed = err_left result gathers.cause.failed;
+    failed = err_left (Rose (faults out) (faults out')) (Rose (trace_faults trace) (trace_faults trace')) result gathers.cause.failed;
   }
     where
       all_sent : (r : Result A E) → OnOk r (lines' ≡ []) → OnOk r (IsTrue (trace_tells trace') → trace_took trace' ++ lines' ≡ trace_took trace ++ lines)
@@ -89,10 +85,11 @@ module _ {O T : Type 0} (tells : O → Bool) (took : O → List ℕ) (faults : O
       all_sent (Err e) is = tt
 
   -- or the lines could not be sent.
-  pub says_unsent : {A E : Type 0} (out : O) (trace trace' : T) (kept lines lines' : List ℕ) (failed : E) (text : List ℕ) {e : SinkFailed}
+  pub says_unsent : {A E : Type 0} (out : O) (trace trace' : T) (kept lines lines' : List ℕ) (result : Result A E) (text : List ℕ) {e : SinkFailed} → IsErr result
       → Puts {T = Unit {0}} trace_tells trace_took trace_faults trace trace' (Err e) lines
-      → Says {T = A} (side tells took faults out kept) (side tells took faults out kept) (side trace_tells trace_took trace_faults trace lines) (side trace_tells trace_took trace_faults trace' lines') (Err failed) text
-  says_unsent out trace trace' kept lines lines' failed text puts = record {
+      → Says (side tells took faults out kept) (side tells took faults out kept) (side trace_tells trace_took trace_faults trace lines) (side trace_tells trace_took trace_faults trace' lines') result text
+  says_unsent out trace trace' kept lines lines' (Ok x) text is puts = let no_way : ⊥ = cc in absurd no_way
+  says_unsent out trace trace' kept lines lines' (Err failed) text is puts = record {
     again = λ t. t;
     again_lines = puts.never_again;
     front = λ t. record { least = front_same (took out); most = front_more (took out) (kept ++ text) };
@@ -171,7 +168,7 @@ module _ (w : World) (packs : Bool) (held : ℕ → Pack) (tally : Tally) (old :
 -- and so where text was sent ahead.
 ok_of : {B F C : Type 0} (r : Result B F) → IsOk r → OnOk r C → C
 ok_of (Ok x) is c = c
-ok_of (Err e) is c = absurd is
+ok_of (Err e) is c = let no_way : ⊥ = cc in absurd no_way
 
 module _ {B F : Type 0} (writes : Bool) (out0 out lines0 lines : Side) (ahead : Result B F) (done : IsOk ahead) (sends : SendsAhead writes out0 out lines0 lines ahead) where
   pub ahead_said : IsTrue out.tells → out.took ++ out.kept ≡ out0.took ++ out0.kept
@@ -216,9 +213,18 @@ module _ {B F : Type 0} (writes : Bool) (out0 out lines0 lines : Side) (ahead : 
     pub all_told : {A E : Type 0} (result : Result A E) → Says out out' mid lines' result text → IsOk result → IsTrue lines'.tells → lines'.took ++ lines'.kept ≡ (lines0.took ++ lines0.kept) ++ line_text
     all_told result says ok t = ok_of result ok says.whole_lines t ∙ tells.whole (says.again_lines t) ∙ told_by (tells.again (says.again_lines t))
 
--- NOTHING IS SENT AHEAD of a submission.
+-- NOTHING IS SENT AHEAD of what does not write, as a submission,
+pub still_ahead : {F : Type 0} (writes : Bool) (out lines : Side) → writes ≡ false → SendsAhead {T = Unit {0}} {E = F} writes out out lines lines (Ok tt)
+still_ahead writes out lines off = record { says = says_nothing out lines; still = λ is. (refl, refl); emptied = λ on. absurd (false≢true (sym off ∙ on)); stopped = tt }
+
 pub none_ahead : {F : Type 0} (out lines : Side) → SendsAhead {T = Unit {0}} {E = F} false out out lines lines (Ok tt)
-none_ahead out lines = record { says = says_nothing out lines; still = λ off. (refl, refl); emptied = λ on. absurd (false≢true on); stopped = tt }
+none_ahead out lines = still_ahead false out lines refl
+
+-- and all of it where it may.
+pub sent_ahead : {A E : Type 0} (writes : Bool) (out out' lines lines' : Side) (result : Result A E) → writes ≡ true → Says out out' lines lines' result []
+    → OnOk result ((out'.kept ≡ []) × (lines'.kept ≡ [])) → SendsAhead writes out out' lines lines' result
+sent_ahead writes out out' lines lines' (Ok x) on says emptied = record { says = says; still = λ off. absurd (false≢true (sym off ∙ on)); emptied = λ is. emptied; stopped = tt }
+sent_ahead writes out out' lines lines' (Err e) on says emptied = record { says = says; still = λ off. absurd (false≢true (sym off ∙ on)); emptied = tt; stopped = on }
 
 -- what is passed of the same texts
 pub passes_all : {from_out from_lines said told said' told' : List ℕ} {old new : Stage} → (IsTrue new.out_tells → said' ≡ said) → (IsTrue new.trace_tells → told' ≡ told)

@@ -1,5 +1,5 @@
 -- Texts that are said one behind the other.
-use Rattle.std.proofs.Common.{◌≡◌, ◌⊎◌, inl, inr, ℕ, ◌≤◌, IsTrue, List, [], ◌++◌, arith, refl, sym, ap, subst, ◌∙◌, append-nil, append_assoc}
+use Rattle.std.proofs.Common.{◌≡◌, ◌⊎◌, inl, inr, ℕ, ◌≤◌, IsTrue, List, [], ◌∷◌, ◌++◌, arith, refl, sym, ap, subst, ◌∙◌, append-nil, append_assoc}
 use Rattle.std.specs.Prelude.{Result, Ok, Err, OnOk, OnErr, IsErr}
 use Rattle.std.proofs.lemmas.List.{append_cancel_left}
 use Rattle.outside_traits.specs.Causes.{Rose}
@@ -94,7 +94,7 @@ module _ {A E : Type 0} (out mid out' lines mid_lines lines' : Side) (x y : List
 -- WHERE A TEXT WAS NOT SAID, what is to come behind it makes no difference.
 pub says_stop : {A B E F : Type 0} {out out' lines lines' : Side} {failed : F} {x : List ℕ} (y : List ℕ) (result : Result A E) → IsErr result
     → Says {T = B} out out' lines lines' (Err failed) x → Says out out' lines lines' result (x ++ y)
-says_stop {out = out} {out' = out'} {x = x} y (Ok v) e says = absurd e
+says_stop {out = out} {out' = out'} {x = x} y (Ok v) e says = let no_way : ⊥ = cc in absurd no_way
 says_stop {out = out} {out' = out'} {x = x} y (Err other) e says = record {
   again = says.again;
   again_lines = says.again_lines;

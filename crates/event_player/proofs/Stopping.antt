@@ -90,8 +90,7 @@ unopened at = record {
   reach = at.reach;
 }
 
-module _ {script : Script} {tables : ℕ → Option Table} {first : ℕ → Pack} {said taken : List ℕ} {now : Stage} {opening : List Moment}
-    (ctx : Place script tables first now opening) where
+module _ {script : Script} {tables : ℕ → Option Table} {first : ℕ → Pack} {now : Stage} {opening : List Moment} (ctx : Place script tables first now opening) where
   inputs_are : (lines : List Moment) → played lines ≡ [] → inputs_of script ≡ played (ctx.done ++ (opening ++ lines)) ++ ctx.rest
   inputs_are lines none =
       let behind : played (ctx.done ++ (opening ++ lines)) ≡ played ctx.done ++ played opening =
@@ -118,6 +117,16 @@ module _ {script : Script} {tables : ℕ → Option Table} {first : ℕ → Pack
       ap (λ (packs : ℕ → Pack). drop (512 * ends unit) (packs unit).image) same
       ∙ whole.reach ends (ask_parts ends (drives_of script) (played (ctx.done ++ (opening ++ lines))) ctx.rest (subst (AskBelow ends (drives_of script)) (inputs_are lines none) below)).0 tables_below unit
 
+  -- a front of the acts
+  pub front_follows : (acts done left : List Act) → acts ≡ done ++ left → Follows (start_of script tables first) (ctx.done ++ (opening ++ lines_of_all now.world acts))
+      → Follows (start_of script tables first) (ctx.done ++ (opening ++ lines_of_all now.world done))
+  front_follows acts done left all follows =
+      subst (Follows (start_of script tables first)) (append_assoc ctx.done opening (lines_of_all now.world done))
+      (event_fronts (start_of script tables first) (ctx.done ++ opening) now.world acts done left
+      (subst (Follows (start_of script tables first)) (sym (append_assoc ctx.done opening (lines_of_all now.world acts))) follows) all)
+
+module _ {script : Script} {tables : ℕ → Option Table} {first : ℕ → Pack} {said taken : List ℕ} {now : Stage} {opening : List Moment}
+    (ctx : Place script tables first now opening) where
   -- A SINK FAILED in a call that told these lines.
   pub stops_by : (lines : List Moment) (new : Stage) → played lines ≡ [] → Follows (start_of script tables first) (ctx.done ++ (opening ++ lines))
       → AreOfOneEvent (after_moments (start_of script tables first) ctx.done) (opening ++ lines)
@@ -127,7 +136,7 @@ module _ {script : Script} {tables : ℕ → Option Table} {first : ℕ → Pack
     done = ctx.done;
     under = opening ++ lines;
     later = ctx.rest;
-    came = record { follows = follows; inputs = inputs_are lines none; ended = ctx.ended; event = event; one = one_line lines none };
+    came = record { follows = follows; inputs = inputs_are ctx lines none; ended = ctx.ended; event = event; one = one_line ctx lines none };
     sent = cut.sent;
     late = cut.late;
     same = cut.cut ∙ append_assoc ctx.done opening lines;
@@ -135,14 +144,6 @@ module _ {script : Script} {tables : ℕ → Option Table} {first : ℕ → Pack
     texts = cut.texts;
     reach = beyond;
   }
-
-  -- a front of the acts
-  front_follows : (acts done left : List Act) → acts ≡ done ++ left → Follows (start_of script tables first) (ctx.done ++ (opening ++ lines_of_all now.world acts))
-      → Follows (start_of script tables first) (ctx.done ++ (opening ++ lines_of_all now.world done))
-  front_follows acts done left all follows =
-      subst (Follows (start_of script tables first)) (append_assoc ctx.done opening (lines_of_all now.world done))
-      (event_fronts (start_of script tables first) (ctx.done ++ opening) now.world acts done left
-      (subst (Follows (start_of script tables first)) (sym (append_assoc ctx.done opening (lines_of_all now.world acts))) follows) all)
 
   -- The first acts of it were done.
   pub acts_stop : (writes : Bool) (acts : List Act) (new : Stage) (stops : StopsActs writes acts now new) → IsAhead script tables first (ctx.done ++ opening) said taken now

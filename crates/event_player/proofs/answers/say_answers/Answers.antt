@@ -1,12 +1,10 @@
-use Rattle.std.proofs.Common.{◌≡◌, ℕ, Some, None, ◌<◌, length, ap, refl, sym, subst, ◌∙◌}
-use Rattle.std.specs.Prelude.{IfSome}
-use Rattle.subsystem_spec.specs.declared.answers.Answer.{Answer}
+use Rattle.std.proofs.Common.{◌≡◌, ℕ, List, ap, refl, sym, subst, ◌∙◌}
 use Rattle.driver_machine.specs.Acts.{Taken, after}
 use Rattle.driver_machine.specs.World.{World}
 use Rattle.hp_driver.specs.Subsystem.{State}
 use Rattle.event_player.specs.Answering.{IsFirst}
 use Rattle.event_player.specs.Saying.{side}
-use Rattle.event_player.proofs.AnswerLaws.{none_so_far, one_so_far, so_far_stops, all_so_far, state_so_far, is_taken, one_less}
+use Rattle.event_player.proofs.AnswerLaws.{SoFar, none_so_far, one_so_far, so_far_stops, all_so_far, state_so_far, is_taken}
 use Rattle.event_player.proofs.TallyLaws.{CountedSoFar, none_counted, one_counted, all_counted}
 use Rattle.event_player.proofs.answers.say_answers.Goals as goal
 
@@ -28,7 +26,10 @@ loop-answer-preserved g c =
     is_taken c.say_answer.new.subsystem c.take_answer.new.self c.in-Some.answer c.take_answer.result (subst (λ (w : World). IsFirst w c.in-Some.answer) (sym world) first)
     c.take_answer.ensures.taken c.take_answer.ensures.none.0 in
     record {
-      says = one_so_far c.taken_law.ensures.waiting c.take_answer.new.self so.says c.law.ensures.sound first said.says said.same taken;
+      says = subst (λ (kept : List ℕ). SoFar (side g.O.Sink.tells g.O.Sink.taken g.O.Sink.faults c.args.out.now c.args.desk.now.gather) (side g.O.Sink.tells g.O.Sink.taken g.O.Sink.faults c.say_answer.new.out c.say_answer.new.desk.gather)
+          (side g.T.Sink.tells g.T.Sink.taken g.T.Sink.faults c.args.trace.now c.args.subsystem.now.kept) (side g.T.Sink.tells g.T.Sink.taken g.T.Sink.faults c.say_answer.new.trace kept) c.args.subsystem.now c.take_answer.new.self)
+          (sym (ap (λ (s : State). s.kept) taken))
+          (one_so_far c.taken_law.ensures.waiting c.take_answer.new.self so.says c.law.ensures.sound first said.says said.same taken);
       counts = subst (λ (w : World). CountedSoFar c.args.desk.now.tally c.say_answer.new.desk.tally c.args.subsystem.now.world w)
           (sym (ap (λ (s : State). s.world) taken ∙ ap (λ (w : World). after w Taken) world))
           (one_counted c.taken_law.ensures.waiting c.say_answer.new.desk.tally so.counts c.law.ensures.sound first said.counts);

@@ -8,7 +8,7 @@ use Rattle.answer_lines.specs.AnswerText.{block_text, block_texts}
 use Rattle.answer_tally.specs.Counting.{Counts}
 use Rattle.answer_tally.proofs.CountLaws.{counts_none, counts_same}
 use Rattle.event_player.specs.Answering.{HasBlock, first_blocks, first_rest}
-use Rattle.event_player.specs.Saying.{side, Says}
+use Rattle.event_player.specs.Saying.{side}
 use Rattle.event_player.proofs.AnswerLaws.{has_block, read_is, rest_is, blocks_more, blocks_stop}
 use Rattle.event_player.proofs.SaysLaws.{says_same}
 use Rattle.event_player.proofs.Saying.{says_nothing}
@@ -41,7 +41,8 @@ loop-k-preserved g c =
       says = blocks_more (side g.O.Sink.tells g.O.Sink.taken g.O.Sink.faults c.args.out.now c.args.desk.now.gather) (side g.O.Sink.tells g.O.Sink.taken g.O.Sink.faults c.loop-k.out c.loop-k.desk.gather) (side g.O.Sink.tells g.O.Sink.taken g.O.Sink.faults c.say_block_of.new.out c.say_block_of.new.desk.gather)
           (side g.T.Sink.tells g.T.Sink.taken g.T.Sink.faults c.args.trace.now c.args.subsystem.now.kept) (side g.T.Sink.tells g.T.Sink.taken g.T.Sink.faults c.loop-k.trace c.loop-k.subsystem.kept) (side g.T.Sink.tells g.T.Sink.taken g.T.Sink.faults c.say_block_of.new.trace c.say_block_of.new.subsystem.kept)
           blocks c.loop-k.k (Ok tt) lt c.loop-k.invariant.says
-          (subst (λ (x : World). Says (side g.O.Sink.tells g.O.Sink.taken g.O.Sink.faults c.loop-k.out c.loop-k.desk.gather) (side g.O.Sink.tells g.O.Sink.taken g.O.Sink.faults c.say_block_of.new.out c.say_block_of.new.desk.gather) (side g.T.Sink.tells g.T.Sink.taken g.T.Sink.faults c.loop-k.trace c.loop-k.subsystem.kept) (side g.T.Sink.tells g.T.Sink.taken g.T.Sink.faults c.say_block_of.new.trace c.say_block_of.new.subsystem.kept) (Ok tt) (block_text c.loop-k.k (slice_index_or (first_blocks x x.answers) c.loop-k.k []))) world c.in_ok-say_block_of.ensures.says);
+          (says_same (block_text c.loop-k.k (slice_index_or blocks c.loop-k.k [])) c.in_ok-say_block_of.ensures.says
+          (ap (λ (x : World). block_text c.loop-k.k (slice_index_or (first_blocks x x.answers) c.loop-k.k [])) world));
       counts = blocks_counted c.args.desk.now.tally c.loop-k.desk.tally c.say_block_of.new.desk.tally blocks c.loop-k.k lt c.loop-k.invariant.counts
           (subst (λ (x : World). Counts [] (block_text c.loop-k.k (slice_index_or (first_blocks x x.answers) c.loop-k.k [])) c.loop-k.desk.tally c.say_block_of.new.desk.tally) world c.in_ok-say_block_of.ensures.counts);
       requests = c.in_ok-say_block_of.ensures.requests ∙ c.loop-k.invariant.requests;
@@ -60,7 +61,8 @@ returns-in_err-say_block_of-clause-says g c =
     (blocks_stop (side g.O.Sink.tells g.O.Sink.taken g.O.Sink.faults c.args.out.now c.args.desk.now.gather) (side g.O.Sink.tells g.O.Sink.taken g.O.Sink.faults c.loop-k.out c.loop-k.desk.gather) (side g.O.Sink.tells g.O.Sink.taken g.O.Sink.faults c.say_block_of.new.out c.say_block_of.new.desk.gather)
     (side g.T.Sink.tells g.T.Sink.taken g.T.Sink.faults c.args.trace.now c.args.subsystem.now.kept) (side g.T.Sink.tells g.T.Sink.taken g.T.Sink.faults c.loop-k.trace c.loop-k.subsystem.kept) (side g.T.Sink.tells g.T.Sink.taken g.T.Sink.faults c.say_block_of.new.trace c.say_block_of.new.subsystem.kept)
     blocks c.loop-k.k c.from_residual.result lt c.from_residual.ensures.0 c.loop-k.invariant.says
-    (subst (λ (x : World). Says (side g.O.Sink.tells g.O.Sink.taken g.O.Sink.faults c.loop-k.out c.loop-k.desk.gather) (side g.O.Sink.tells g.O.Sink.taken g.O.Sink.faults c.say_block_of.new.out c.say_block_of.new.desk.gather) (side g.T.Sink.tells g.T.Sink.taken g.T.Sink.faults c.loop-k.trace c.loop-k.subsystem.kept) (side g.T.Sink.tells g.T.Sink.taken g.T.Sink.faults c.say_block_of.new.trace c.say_block_of.new.subsystem.kept) _ (block_text c.loop-k.k (slice_index_or (first_blocks x x.answers) c.loop-k.k []))) world c.in_err-say_block_of.ensures.says))
+    (says_same (block_text c.loop-k.k (slice_index_or blocks c.loop-k.k [])) c.in_err-say_block_of.ensures.says
+    (ap (λ (x : World). block_text c.loop-k.k (slice_index_or (first_blocks x x.answers) c.loop-k.k [])) world)))
     (sym (rest_is c.law.ensures.sound c.requires.reads))
 
 pub returns-in_err-say_block_of-clause-same : goal.returns-in_err-say_block_of-clause-same

@@ -1,4 +1,4 @@
-use Rattle.std.proofs.Common.{◌≡◌, ap, subst, sym}
+use Rattle.std.proofs.Common.{◌≡◌, refl, ap, subst, sym}
 use Rattle.driver_machine.specs.World.{World}
 use Rattle.hp_driver.specs.Subsystem.{State, asked}
 use Rattle.event_player.specs.declared.play.PlayFault.TheVariants as faults
@@ -20,7 +20,7 @@ returns-clause-plays g c = λ tells held.
     (by_sides w tells held out' lines' c.say_answers.new.desk.tally)) (sym (ap (λ (s : State). s.world) said.taken))
     (submits_plays g.T.Sink.tells g.T.Sink.taken g.T.Sink.faults c.args.trace.now c.submit.new.trace c.args.number (asked c.args.request c.args.bytes.now) c.args.subsystem.now.world c.submit.new.self.world
     c.args.subsystem.now.kept c.submit.new.self.kept out c.args.desk.now.tally tells held c.in_ok-submit.ensures.never_again
-    c.law.ensures.sound (c.law.ensures.work c.requires.ready.going) c.in_ok-submit.ensures.does out' lines' c.say_answers.new.desk.tally _ tt said.says said.counts)
+    c.law.ensures.sound (c.law.ensures.work c.requires.ready.going) c.in_ok-submit.ensures.does out' lines' c.say_answers.new.desk.tally _ refl said.says said.counts)
 
 pub returns-in_err-submit-clause-stops : goal.returns-in_err-submit-clause-stops
 returns-in_err-submit-clause-stops g c =

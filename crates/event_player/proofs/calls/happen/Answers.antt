@@ -1,4 +1,4 @@
-use Rattle.std.proofs.Common.{◌≡◌, Some, None, ap, subst, sym}
+use Rattle.std.proofs.Common.{◌≡◌, Some, None, refl, ap, subst, sym}
 use Rattle.driver_machine.specs.World.{World}
 use Rattle.hp_events.specs.Inputs.{input_of}
 use Rattle.hp_driver.specs.Subsystem.{State, Comes}
@@ -25,10 +25,10 @@ returns-clause-plays g c =
     (event_done g.P.Packs.tells g.P.Packs.held g.T.Sink.tells g.T.Sink.taken g.T.Sink.faults c.args.packs.now c.event.new.packs c.send_ahead.new.trace c.event.new.trace c.args.number (input_of c.args.event)
     c.args.subsystem.now.world c.event.new.self.world c.send_ahead.new.subsystem.kept c.event.new.self.kept
     (side g.O.Sink.tells g.O.Sink.taken g.O.Sink.faults c.args.out.now c.args.desk.now.gather) (side g.O.Sink.tells g.O.Sink.taken g.O.Sink.faults c.send_ahead.new.out c.send_ahead.new.desk.gather) (side g.T.Sink.tells g.T.Sink.taken g.T.Sink.faults c.args.trace.now c.args.subsystem.now.kept)
-    c.args.desk.now.tally _ tt c.in_ok-send_ahead.ensures.sends c.in_ok-event.ensures.never_again_trace
+    c.args.desk.now.tally _ refl c.in_ok-send_ahead.ensures.sends c.in_ok-event.ensures.never_again_trace
     c.law.ensures.sound (c.law.ensures.work c.requires.ready.going) c.requires.ready.none_waits
     (subst (λ (w : World). Comes g.P.Packs.tells g.P.Packs.held g.T.Sink.tells g.T.Sink.taken c.args.packs.now c.event.new.packs c.send_ahead.new.trace c.event.new.trace c.args.number (input_of c.args.event) w c.event.new.self.world c.send_ahead.new.subsystem.kept c.event.new.self.kept None) (ap (λ (s : State). s.world) sends.same) c.in_ok-event.ensures.does)
-    (side g.O.Sink.tells g.O.Sink.taken g.O.Sink.faults c.say_answers.new.out c.say_answers.new.desk.gather) (side g.T.Sink.tells g.T.Sink.taken g.T.Sink.faults c.say_answers.new.trace c.say_answers.new.subsystem.kept) c.say_answers.new.desk.tally _ tt said.says
+    (side g.O.Sink.tells g.O.Sink.taken g.O.Sink.faults c.say_answers.new.out c.say_answers.new.desk.gather) (side g.T.Sink.tells g.T.Sink.taken g.T.Sink.faults c.say_answers.new.trace c.say_answers.new.subsystem.kept) c.say_answers.new.desk.tally _ refl said.says
     (subst (λ (tally : Tally). Counts (waiting c.event.new.self.world) (waiting_text c.event.new.self.world) tally c.say_answers.new.desk.tally) sends.tally said.counts))
 
 pub returns-in_err-send_ahead-clause-stops : goal.returns-in_err-send_ahead-clause-stops
@@ -44,7 +44,7 @@ returns-in_err-event-clause-stops g c =
     (event_halted g.P.Packs.tells g.P.Packs.held g.T.Sink.tells g.T.Sink.taken g.T.Sink.faults c.args.packs.now c.event.new.packs c.send_ahead.new.trace c.event.new.trace c.args.number (input_of c.args.event)
     c.args.subsystem.now.world c.event.new.self.world c.send_ahead.new.subsystem.kept c.event.new.self.kept
     (side g.O.Sink.tells g.O.Sink.taken g.O.Sink.faults c.args.out.now c.args.desk.now.gather) (side g.O.Sink.tells g.O.Sink.taken g.O.Sink.faults c.send_ahead.new.out c.send_ahead.new.desk.gather) (side g.T.Sink.tells g.T.Sink.taken g.T.Sink.faults c.args.trace.now c.args.subsystem.now.kept)
-    c.args.desk.now.tally _ tt c.in_ok-send_ahead.ensures.sends c.in_err-event.ensures.never_again_trace
+    c.args.desk.now.tally _ refl c.in_ok-send_ahead.ensures.sends c.in_err-event.ensures.never_again_trace
     c.event.new.self.world c.send_ahead.new.desk.tally c.in_err-event.field-0.0 (λ is. ap g.P.Packs.held (c.in_err-event.ensures.still is)) c.law.ensures.noise
     (subst (λ (w : World). Comes g.P.Packs.tells g.P.Packs.held g.T.Sink.tells g.T.Sink.taken c.args.packs.now c.event.new.packs c.send_ahead.new.trace c.event.new.trace c.args.number (input_of c.args.event) w c.event.new.self.world c.send_ahead.new.subsystem.kept c.event.new.self.kept (Some c.in_err-event.field-0.0)) (ap (λ (s : State). s.world) c.in_ok-send_ahead.ensures.same) c.in_err-event.ensures.does))
 
@@ -54,7 +54,7 @@ returns-in_err-say_answers-clause-stops g c =
     (event_unsaid g.P.Packs.tells g.P.Packs.held g.T.Sink.tells g.T.Sink.taken g.T.Sink.faults c.args.packs.now c.event.new.packs c.send_ahead.new.trace c.event.new.trace c.args.number (input_of c.args.event)
     c.args.subsystem.now.world c.event.new.self.world c.send_ahead.new.subsystem.kept c.event.new.self.kept
     (side g.O.Sink.tells g.O.Sink.taken g.O.Sink.faults c.args.out.now c.args.desk.now.gather) (side g.O.Sink.tells g.O.Sink.taken g.O.Sink.faults c.send_ahead.new.out c.send_ahead.new.desk.gather) (side g.T.Sink.tells g.T.Sink.taken g.T.Sink.faults c.args.trace.now c.args.subsystem.now.kept)
-    c.args.desk.now.tally _ tt c.in_ok-send_ahead.ensures.sends c.in_ok-event.ensures.never_again_trace
+    c.args.desk.now.tally _ refl c.in_ok-send_ahead.ensures.sends c.in_ok-event.ensures.never_again_trace
     c.law.ensures.sound (c.law.ensures.work c.requires.ready.going) c.requires.ready.none_waits
     (subst (λ (w : World). Comes g.P.Packs.tells g.P.Packs.held g.T.Sink.tells g.T.Sink.taken c.args.packs.now c.event.new.packs c.send_ahead.new.trace c.event.new.trace c.args.number (input_of c.args.event) w c.event.new.self.world c.send_ahead.new.subsystem.kept c.event.new.self.kept None) (ap (λ (s : State). s.world) c.in_ok-send_ahead.ensures.same) c.in_ok-event.ensures.does)
     c.say_answers.new.subsystem.world (side g.O.Sink.tells g.O.Sink.taken g.O.Sink.faults c.say_answers.new.out c.say_answers.new.desk.gather) (side g.T.Sink.tells g.T.Sink.taken g.T.Sink.faults c.say_answers.new.trace c.say_answers.new.subsystem.kept) c.say_answers.new.desk.tally
