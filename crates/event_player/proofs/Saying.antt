@@ -24,6 +24,10 @@ err_left : {T E : Type 0} (A B : Type 0) (result : Result T E) → OnErr result 
 err_left A B (Ok x) a = tt
 err_left A B (Err e) a = inl a
 
+pub ok_is : {T E : Type 0} {A : Type 0} (result : Result T E) → A → OnOk result A
+ok_is (Ok x) a = a
+ok_is (Err e) a = tt
+
 -- NOTHING is said, where nothing waits,
 pub says_nothing : {E : Type 0} (out lines : Side) → Says {T = Unit {0}} {E = E} out out lines lines (Ok tt) []
 says_nothing out lines = record {
@@ -63,33 +67,36 @@ module _ {O T : Type 0} (tells : O → Bool) (took : O → List ℕ) (faults : O
       least n = omega arith
 
   -- or it is put behind the sending of all lines,
-  pub says_sent : {A E : Type 0} (out out' : O) (trace trace' : T) (kept left lines lines' : List ℕ) (result : Result A E) (text : List ℕ)
-      → Puts {T = Unit {0}} {E = SinkFailed} trace_tells trace_took trace_faults trace trace' (Ok tt) lines → OnOk result (lines' ≡ []) → Gathers tells took faults out out' kept left result text
+  pub says_sent : {A E : Type 0} (out out' : O) (trace trace' : T) (kept was left lines lines' : List ℕ) (result : Result A E) (text : List ℕ)
+      → Puts {T = Unit {0}} {E = SinkFailed} trace_tells trace_took trace_faults trace trace' (Ok tt) lines → lines' ≡ [] → was ≡ kept → Gathers tells took faults out out' was left result text
       → Says (side tells took faults out kept) (side tells took faults out' left) (side trace_tells trace_took trace_faults trace lines) (side trace_tells trace_took trace_faults trace' lines') result text
-  says_sent {A = A} {E = E} out out' trace trace' kept left lines lines' result text puts none gathers = record {
+  says_sent {A = A} {E = E} out out' trace trace' kept was left lines lines' result text puts none same gathers = record {
     again = gathers.never_again;
     again_lines = puts.never_again;
-    front = λ t. between_by (took out) (took out') (kept ++ text) (gathers.front t);
+    front = λ t. between_by (took out) (took out') (kept ++ text) (its.front t);
     front_lines = λ t. subst (IsBetween (trace_took trace) (trace_took trace ++ lines)) (sym (puts.bytes t))
         (record { least = front_more (trace_took trace) lines; most = front_same (trace_took trace ++ lines) });
-    whole = gathers.bytes;
-    whole_lines = all_sent result none;
+    whole = its.bytes;
+    whole_lines = sent result;
     lines_first = inr (λ t. puts.bytes t);
     later = gathers.cause.later;
     later_lines = puts.cause.later;
     failed = err_left (Rose (faults out) (faults out')) (Rose (trace_faults trace) (trace_faults trace')) result gathers.cause.failed;
   }
     where
-      all_sent : (r : Result A E) → OnOk r (lines' ≡ []) → OnOk r (IsTrue (trace_tells trace') → trace_took trace' ++ lines' ≡ trace_took trace ++ lines)
-      all_sent (Ok x) is = λ t. ap (λ (xs : List ℕ). trace_took trace' ++ xs) is ∙ append-nil (trace_took trace') ∙ puts.bytes t
-      all_sent (Err e) is = tt
+      its : Gathers tells took faults out out' kept left result text
+      its = subst (λ (xs : List ℕ). Gathers tells took faults out out' xs left result text) same gathers
+
+      sent : (r : Result A E) → OnOk r (IsTrue (trace_tells trace') → trace_took trace' ++ lines' ≡ trace_took trace ++ lines)
+      sent (Ok x) = λ t. ap (λ (xs : List ℕ). trace_took trace' ++ xs) none ∙ append-nil (trace_took trace') ∙ puts.bytes t
+      sent (Err e) = tt
 
   -- or the lines could not be sent.
-  pub says_unsent : {A E : Type 0} (out : O) (trace trace' : T) (kept lines lines' : List ℕ) (result : Result A E) (text : List ℕ) {e : SinkFailed} → IsErr result
+  pub says_unsent : {A E : Type 0} (out : O) (trace trace' : T) (kept left lines lines' : List ℕ) (result : Result A E) (text : List ℕ) {e : SinkFailed} → IsErr result
       → Puts {T = Unit {0}} trace_tells trace_took trace_faults trace trace' (Err e) lines
-      → Says (side tells took faults out kept) (side tells took faults out kept) (side trace_tells trace_took trace_faults trace lines) (side trace_tells trace_took trace_faults trace' lines') result text
-  says_unsent out trace trace' kept lines lines' (Ok x) text is puts = let no_way : ⊥ = cc in absurd no_way
-  says_unsent out trace trace' kept lines lines' (Err failed) text is puts = record {
+      → Says (side tells took faults out kept) (side tells took faults out left) (side trace_tells trace_took trace_faults trace lines) (side trace_tells trace_took trace_faults trace' lines') result text
+  says_unsent out trace trace' kept left lines lines' (Ok x) text is puts = let no_way : ⊥ = cc in absurd no_way
+  says_unsent out trace trace' kept left lines lines' (Err failed) text is puts = record {
     again = λ t. t;
     again_lines = puts.never_again;
     front = λ t. record { least = front_same (took out); most = front_more (took out) (kept ++ text) };

@@ -66,4 +66,3 @@ whole_drained script tables first held line done w moments run =
       };
       reach = λ ends below tables_below. (run.reach ends below tables_below).packs;
     }
-

@@ -112,14 +112,7 @@ fn say_blocks<O: Sink, T: Sink>(
 {
     subsystem.law();
     for k in 0..count {
-        say_block_of(
-            subsystem,
-            k,
-            block_size(k, count, last),
-            desk,
-            out,
-            trace,
-        )?;
+        say_block_of(subsystem, k, block_size(k, count, last), desk, out, trace)?;
     }
     Ok(())
 }

@@ -116,7 +116,8 @@ impl Desk {
         ensures same { subsystem.new ≡ record subsystem.old { kept = subsystem.new.kept } }
     {
         self.tally.count_text(self.fill.as_bytes());
-        if self.gather
+        if self
+            .gather
             .try_keep_short(self.fill.front(), self.fill.len())
         {
             return Ok(());

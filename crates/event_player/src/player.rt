@@ -1,7 +1,8 @@
 // What a line of a script does.
-ghost use Rattle.std.specs.Prelude.{◌≡◌, ◌*◌, ◌≤◌, ℕ, List, [], length, take, OnOk, IfSome, IfNone};
+ghost use Rattle.std.specs.Prelude.{◌≡◌, ◌⊎◌, ◌*◌, ◌≤◌, ℕ, List, [], IsTrue, length, take, OnOk, OnErr, IfSome, IfNone};
 ghost use Rattle.std.specs.Box.{box_value};
 ghost use Rattle.hardware_table.specs.Noise.{LiveNoise};
+ghost use Rattle.outside_traits.specs.Causes.{Rose};
 ghost use Rattle.script_reader.specs.Formed.{IsWritten};
 ghost use Rattle.script_lines.specs.declared.statement.Span.{Span};
 ghost use Rattle.script_reader.specs.Stored.{seen, digits_at};
@@ -41,6 +42,11 @@ fn say_noise<O: Sink, T: Sink>(
         → Says (side O.tells O.taken O.faults out.old desk.old.gather) (side O.tells O.taken O.faults out.new desk.new.gather)
         (side T.tells T.taken T.faults trace.old subsystem.old.kept) (side T.tells T.taken T.faults trace.new subsystem.new.kept) result (said_text (Played number (NoiseInput live))) }
     ensures counts { (live : LiveNoise) → live.places ≡ noise.now → Counts [] (said_text (Played number (NoiseInput live))) desk.old.tally desk.new.tally }
+    ensures never_again { IsTrue (O.tells out.new) → IsTrue (O.tells out.old) }
+    ensures never_again_trace { IsTrue (T.tells trace.new) → IsTrue (T.tells trace.old) }
+    ensures later { O.faults out.old ≤ O.faults out.new }
+    ensures later_trace { T.faults trace.old ≤ T.faults trace.new }
+    ensures failed { OnErr result (Rose (O.faults out.old) (O.faults out.new) ⊎ Rose (T.faults trace.old) (T.faults trace.new)) }
     ensures requests { desk.new.tally.requests ≡ desk.old.tally.requests }
     ensures same { subsystem.new ≡ record subsystem.old { kept = subsystem.new.kept } }
 {

@@ -62,8 +62,8 @@ returns-in-Ok-clause-requests g c =
     let lines = c.in-Ok.ensures in
     ap (λ (x : Tally). x.requests) lines.told ∙ lines.played.requests ∙ ap (λ (x : Tally). x.requests) c.in_ok-bench.ensures.tally ∙ c.from.ensures ∙ c.count_requests-requests.ensures.count
 
-pub returns-in-Err-clause-stopped : goal.returns-in-Err-clause-stopped
-returns-in-Err-clause-stopped g c = λ t.
+pub returns-clause-stopped : goal.returns-clause-stopped
+returns-clause-stopped g c = λ t.
     let units = c.in_ok-units.ensures in
     let lines = c.in-Err.ensures in
     let old : Stage = stage g.P.Packs.tells g.P.Packs.held g.O.Sink.tells g.O.Sink.taken g.T.Sink.tells g.T.Sink.taken c.in_ok-subsystem.subsystem c.attach_units.new.packs c.args.out.now c.args.trace.now c.in_ok-bench.bench.desk.gather c.in_ok-bench.bench.desk.tally in
@@ -84,11 +84,11 @@ returns-in-Err-clause-stopped g c = λ t.
 pub returns-in-Ok-clause-fits : goal.returns-in-Ok-clause-fits
 returns-in-Ok-clause-fits g c = λ playing t. c.in_ok-units.ensures.fits (c.in-Ok.ensures.played.told.never_again t)
 
-pub returns-in-Err-clause-fits : goal.returns-in-Err-clause-fits
-returns-in-Err-clause-fits g c = λ playing t. c.in_ok-units.ensures.fits (c.in-Err.ensures.played.told.never_again t)
+pub returns-clause-fits : goal.returns-clause-fits
+returns-clause-fits g c = λ playing t. c.in_ok-units.ensures.fits (c.in-Err.ensures.played.told.never_again t)
 
-pub returns-in-Err-clause-too_long : goal.returns-in-Err-clause-too_long
-returns-in-Err-clause-too_long g c = never_long (Err c.in-Err.fault) c.in-Err.ensures.causes _ _ _
+pub returns-clause-too_long : goal.returns-clause-too_long
+returns-clause-too_long g c = never_long (Err c.in-Err.fault) c.in-Err.ensures.causes _ _ _
 
-pub returns-in-Err-clause-untouched : goal.returns-in-Err-clause-untouched
-returns-in-Err-clause-untouched g c = λ before. absurd (never_before (Err c.in-Err.fault) c.in-Err.ensures.causes before)
+pub returns-clause-untouched : goal.returns-clause-untouched
+returns-clause-untouched g c = λ before. absurd (never_before (Err c.in-Err.fault) c.in-Err.ensures.causes before)
