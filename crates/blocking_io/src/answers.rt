@@ -1,10 +1,10 @@
 // The answers that wait are given to the caller, and taken.
-ghost use Rattle.std.specs.Prelude.{◌≡◌, ◌+◌, ◌*◌, ◌^◌, ◌==◌, ◌<◌, ◌≤◌, ℕ, [], ◌++◌, if◌then◌else◌, length, take, drop, slice_index_or};
+ghost use Rattle.std.specs.Prelude.{◌≡◌, ◌+◌, ◌*◌, ◌==◌, ◌<◌, ◌≤◌, [], if◌then◌else◌, take, slice_index_or};
 ghost use Rattle.subsystem_spec.specs.declared.answers.AnswerKind.TheVariants.{ReadOk};
 ghost use Rattle.driver_machine.specs.World.{bytes_in};
 ghost use Rattle.driver_machine.specs.Lines.{answer_told};
 ghost use Rattle.driver_answers.specs.Waiting.{waiting, all_taken};
-ghost use Rattle.blocking_io.specs.Given.{bytes_by, gives_all, Given};
+ghost use Rattle.blocking_io.specs.Given.{bytes_by, gives_all};
 ghost use Rattle.partition_bytes.specs.Laid.{laid, laid_at};
 ghost use Rattle.blocking_io.specs.Taking.{oldest_blocks, IsOldestKind, HasBlock};
 

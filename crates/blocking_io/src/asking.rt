@@ -46,13 +46,11 @@ fn submit<T: Sink>(
     ensures never_again { IsTrue (T.tells trace.new) → IsTrue (T.tells trace.old) }
     ensures cause { HasCause (T.faults trace.old) (T.faults trace.new) result }
 {
-    match subsystem.submit(line, request, from, trace) {
-        Ok(()) => {
-            take_answers(subsystem, reached, into);
-            Ok(())
-        }
-        Err(_) => Err(Stop::Sink),
-    }
+    let Ok(()) = subsystem.submit(line, request, from, trace) else {
+        return Err(Stop::Sink);
+    };
+    take_answers(subsystem, reached, into);
+    Ok(())
 }
 
 /// An event happens at a line.
@@ -81,13 +79,9 @@ fn happen<P: Packs, T: Sink>(
     ensures causes { HasCauses (P.faults packs.old) (P.faults packs.new) (T.faults trace.old) (T.faults trace.new) (stop_in result) }
 {
     subsystem.law();
-    match subsystem.event(line, event, packs, trace) {
-        Ok(()) => {
-            take_answers(subsystem, reached, into);
-            Ok(())
-        }
-        Err(stop) => Err(stop),
-    }
+    subsystem.event(line, event, packs, trace)?;
+    take_answers(subsystem, reached, into);
+    Ok(())
 }
 
 /// Says that a drain found nothing to do.
@@ -95,10 +89,7 @@ fn say_idle<T: Sink>(line: u64, trace: &mut T) -> Result<(), Stop>
     ensures says { SaysText T.tells T.taken trace.old trace.new result (moment_text (Idle line)) }
     ensures cause { HasCause (T.faults trace.old) (T.faults trace.new) result }
 {
-    match write_all(trace, idle(line).as_bytes()) {
-        Ok(()) => Ok(()),
-        Err(_) => Err(Stop::Sink),
-    }
+    write_all(trace, idle(line).as_bytes()).map_err(|_| Stop::Sink)
 }
 
 /// A request is submitted at a line and drained, with the bytes of a write, and its answer is given and taken. However the packs
