@@ -13,7 +13,8 @@ use Rattle.mass_text.specs.declared.numbers.NumberFault.{NumberFault}
 use Rattle.mass_text.specs.declared.numbers.NumberFault.TheVariants.{Empty, Digit, Large}
 use Rattle.script_words.specs.declared.kinds.ScriptKind.{ScriptKind}
 use Rattle.script_words.specs.declared.kinds.ScriptKind.TheVariants.{Word, Number, Count, Data, Bits}
-use Rattle.script_words.specs.Words.{named, kinds, parts, part_word, offsets, offset_word, faults, fault_word}
+use Rattle.script_words.specs.Words.{named, kinds, parts, part_word, offsets, faults}
+use Rattle.trace_replay.specs.Text.{offset_word, fault_word}
 
 -- first one thing, and then what follows from it
 abbrev pub and_then : {A B E : Type 0} → Result A E → (A → Result B E) → Result B E

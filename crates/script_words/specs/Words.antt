@@ -49,23 +49,9 @@ parts = A ∷ B ∷ C ∷ D ∷ E ∷ F ∷ G ∷ H ∷ []
 abbrev pub part_word : Part → List ℕ
 part_word part = letter_of part ∷ []
 
+-- offsets and faults are named by the words of a trace
 abbrev pub offsets : List OffsetCode
 offsets = Plus400 ∷ Minus400 ∷ Plus800 ∷ Minus800 ∷ Plus1200 ∷ Minus1200 ∷ []
 
-abbrev pub offset_word : OffsetCode → List ℕ
-offset_word Plus400 = codes "+400"
-offset_word Minus400 = codes "-400"
-offset_word Plus800 = codes "+800"
-offset_word Minus800 = codes "-800"
-offset_word Plus1200 = codes "+1200"
-offset_word Minus1200 = codes "-1200"
-
 abbrev pub faults : List FaultKind
 faults = Seek ∷ Opi ∷ Dte ∷ Hcrc ∷ Late ∷ []
-
-abbrev pub fault_word : FaultKind → List ℕ
-fault_word Seek = codes "seek"
-fault_word Opi = codes "opi"
-fault_word Dte = codes "dte"
-fault_word Hcrc = codes "hcrc"
-fault_word Late = codes "late"

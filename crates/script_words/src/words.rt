@@ -1,7 +1,8 @@
 ghost use Rattle.std.specs.Prelude.{◌≡◌};
 ghost use Rattle.std.specs.Str.{bytes_eq};
 ghost use Rattle.script_words.specs.Fields.{some_or, kind_field, part_field, offset_field, fault_field};
-ghost use Rattle.script_words.specs.Words.{named, verb_word, all_verbs, offset_word, offsets, fault_word, faults};
+ghost use Rattle.script_words.specs.Words.{named, verb_word, all_verbs, offsets, faults};
+ghost use Rattle.trace_replay.specs.Text.{offset_word, fault_word};
 
 use crate::kinds::ScriptKind;
 use crate::verbs::Verb;
