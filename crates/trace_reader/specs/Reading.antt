@@ -25,7 +25,7 @@ use Rattle.trace_reader.specs.declared.verbs.Verb.{Verb}
 use Rattle.trace_reader.specs.declared.verbs.Verb.TheVariants as verbs
 use Rattle.trace_reader.specs.Asked.{is_of_script}
 use Rattle.trace_reader.specs.Lines.{line_number}
-use Rattle.trace_replay.specs.Text.{offset_word}
+use Rattle.trace_replay.specs.Text.{offset_word, fault_word}
 
 -- what stands between blanks
 abbrev pub words_of : List ℕ → List (List ℕ)
@@ -102,11 +102,7 @@ verdict_word verdict.Clean = codes "clean"
 verdict_word (verdict.Burst at pattern) = codes "burst"
 verdict_word verdict.Hard = codes "ecc"
 verdict_word verdict.Marked = codes "mark"
-verdict_word (verdict.Faulted fault.Seek) = codes "seek"
-verdict_word (verdict.Faulted fault.Opi) = codes "opi"
-verdict_word (verdict.Faulted fault.Dte) = codes "dte"
-verdict_word (verdict.Faulted fault.Hcrc) = codes "hcrc"
-verdict_word (verdict.Faulted fault.Late) = codes "late"
+verdict_word (verdict.Faulted what) = fault_word what
 verdict_word verdict.Offline = codes "offline"
 
 abbrev pub plain_verdicts : List Moved
