@@ -1,4 +1,4 @@
-ghost use Rattle.std.specs.Prelude.{◌≡◌, ℕ, ◌<◌, ◌==◌, ◌&&◌, ◌||◌, IfOk, OnOk, OnErr, is_err, length, IsTrue};
+ghost use Rattle.std.specs.Prelude.{◌≡◌, ◌<◌, ◌==◌, ◌&&◌, ◌||◌, IfOk, OnOk, OnErr, is_err, length, IsTrue};
 ghost use Rattle.mass_outside.specs.Images.{op_number, is_listed, HoldsImages};
 ghost use Rattle.mass_outside.specs.Slots.{AllEmpty};
 ghost use Rattle.mass_outside.specs.Memory.{IsFresh};
@@ -148,7 +148,7 @@ impl MemPacks {
 }
 
 impl Packs for MemPacks {
-    ghost use Rattle.std.specs.Prelude.{ℕ, Bool, true, false, slice_get};
+    ghost use Rattle.std.specs.Prelude.{true};
     ghost use Rattle.pack_model.specs.Pack.{block_at, is_marked, with_written, with_mark};
     ghost use Rattle.outside_traits.specs.Causes.{HasCause, next};
     ghost use Rattle.mass_outside.specs.Memory.{held_by, has_no_room, AfterWrite, AfterMark};

@@ -1,4 +1,4 @@
-ghost use Rattle.std.specs.Prelude.{◌≡◌, ◌<◌, IfOk, OnOk, OnErr, IsOk, IsTrue, length, true, false};
+ghost use Rattle.std.specs.Prelude.{◌≡◌, ◌<◌, IfOk, OnOk, IsOk, IsTrue, length, true, false};
 ghost use Rattle.mass_outside.specs.Images.{HoldsImages};
 ghost use Rattle.mass_outside.specs.Memory.{is_outside};
 
@@ -41,7 +41,6 @@ impl SurePacks {
 }
 
 impl Packs for SurePacks {
-    ghost use Rattle.std.specs.Prelude.{ℕ, Bool, slice_get};
     ghost use Rattle.pack_model.specs.Pack.{block_at, is_marked, with_written, with_mark};
     ghost use Rattle.outside_traits.specs.Causes.{HasCause};
     ghost use Rattle.mass_outside.specs.Sure.{sure_held, SureWrote, SureMarked};
