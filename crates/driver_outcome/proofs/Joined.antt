@@ -1,5 +1,5 @@
 -- Lists of acts, and outcomes, one behind the other.
-use Rattle.std.proofs.Common.{◌≡◌, inl, inr, ◌⊎◌, ℕ, List, [], ◌∷◌, ◌++◌, Option, None, Some, IsTrue, refl, sym, ap, subst, ◌∙◌}
+use Rattle.std.proofs.Common.{◌≡◌, ℕ, List, [], ◌∷◌, ◌++◌, Option, None, Some, refl, sym, ap, subst, ◌∙◌}
 use Rattle.std.proofs.lemmas.List.{append_assoc, append-nil}
 use Rattle.pack_model.specs.Pack.{Pack}
 use Rattle.trace_replay.specs.Moments.{Moment}
@@ -9,7 +9,7 @@ use Rattle.driver_machine.specs.Acts.{Act, after, after_all}
 use Rattle.driver_machine.specs.Lines.{lines_of, lines_of_all}
 use Rattle.driver_work.specs.Runs.{Run}
 use Rattle.driver_outcome.specs.Packs.{ReadAll, packs_after, packs_after_all}
-use Rattle.driver_outcome.specs.Outcome.{Site, Told, Acts, Does, IsFront, StopsAtTrace, StopsAtPacks, Outcome, text_after}
+use Rattle.driver_outcome.specs.Outcome.{Site, Told, Acts, Does, IsFront, Outcome, text_after}
 use Rattle.driver_outcome.specs.declared.Stop.{Stop}
 use Rattle.driver_outcome.specs.declared.Stop.TheVariants.{Store, Sink}
 

@@ -7,7 +7,6 @@
 //! What is proved: `outcome_law`: outcomes of calls one after the other join.
 #![tactic(auto)]
 
-ghost use Rattle.std.specs.Prelude.{◌≡◌};
 ghost use Rattle.driver_outcome.specs.Outcome.{OneThenOther, StoppedBefore, NothingDone};
 
 use thiserror::Error;
