@@ -1,5 +1,5 @@
 -- What holds of an idle replay, from which all bounds are counted.
-use Rattle.std.proofs.Common.{◌≡◌, inl, ℕ, true, false, List, [], ◌∷◌, Option, refl, sym, ap, ◌∙◌, subst, arith}
+use Rattle.std.proofs.Common.{◌≡◌, inl, ℕ, List, [], ◌∷◌, Option, refl, sym, ap, ◌∙◌, subst, arith}
 use Rattle.pack_model.specs.TableSpelling.{Table}
 use Rattle.hardware_table.specs.Drive.{DriveState}
 use Rattle.subsystem_spec.specs.ServiceOrder.{Waiting as Waiter}
