@@ -22,7 +22,7 @@ use Rattle.driver_machine.specs.declared.Phase.{Phase}
 use Rattle.driver_machine.specs.declared.Phase.TheVariants.{Waiting, Positioning, Queued, Transferring, Due}
 use Rattle.driver_machine.specs.World.{World, UnitView, AdapterView, Held, no_unit, new_adapter_view, adapter_of, unit_at, adapter_at, slot_at, held_in, slot_in_hand}
 use Rattle.driver_machine.specs.Acts as deed
-use Rattle.driver_machine.specs.Acts.{Act, Refuse, Submit, Of, Change, Nothing, Taken, Deed, Scene, scene_of, with_scene, stepping, waiter_for, joined, with_drive, with_unit_drive, freed, after}
+use Rattle.driver_machine.specs.Acts.{Of, Deed, Scene, scene_of, with_scene, stepping, with_drive, with_unit_drive, after}
 use Rattle.driver_machine.specs.Guards.{InHand, May}
 use Rattle.driver_machine.specs.Sound.{IsDrive, IsBegun, IsPhase, IsTask, IsClear, IsStill, IsGoal, IsMoving, IsUnderWay, IsTableFor, Sound, is_waiting}
 use Rattle.driver_phases.proofs.Drives.{by_if}
