@@ -12,7 +12,7 @@ use Rattle.driver_machine.specs.declared.Phase.TheVariants as phases
 use Rattle.driver_machine.specs.declared.Phase.TheVariants.{Due}
 use Rattle.driver_machine.specs.World.{World, UnitView, AdapterView, adapter_of, unit_at, adapter_at, held_in, slot_in_hand}
 use Rattle.driver_machine.specs.Acts as deed
-use Rattle.driver_machine.specs.Acts.{Act, Deed, Of, Scene, effect, scene_of, after, after_all}
+use Rattle.driver_machine.specs.Acts.{Deed, Of, effect, scene_of, after, after_all}
 use Rattle.driver_machine.specs.Events.{due_acts, in_hand, in_hand_by, begun}
 use Rattle.driver_machine.specs.Lines.{lines_of, lines_of_all, lines_with}
 use Rattle.driver_machine.specs.Guards.{Allowed, May, IsChosen}

@@ -7,13 +7,13 @@ use Rattle.hardware_table.specs.Drive.{DriveState, is_positioning}
 use Rattle.trace_replay.specs.Moments as moment
 use Rattle.trace_replay.specs.Adapters as rule
 use Rattle.trace_replay.specs.Events as event
-use Rattle.trace_replay.specs.Events.{Act, Arriving, Trying, Serving, Wish, DueLine, SectorLine, Interrupt, Attention, wish_of, wish_in}
+use Rattle.trace_replay.specs.Events.{Serving, DueLine, SectorLine, Interrupt, Attention, wish_of, wish_in}
 use Rattle.trace_replay.specs.Replay.{Replay, next_wish, at_unit}
 use Rattle.driver_machine.specs.declared.RetryStep.{RetryStep}
 use Rattle.driver_machine.specs.declared.RetryStep.TheVariants.{Recalibrate, Seek, Offset}
 use Rattle.driver_machine.specs.World.{World, adapter_of, drive_of, unit_on, unit_at, adapter_at}
 use Rattle.driver_machine.specs.Acts as deed
-use Rattle.driver_machine.specs.Acts.{Of, Deed, scene_of}
+use Rattle.driver_machine.specs.Acts.{Deed, scene_of}
 use Rattle.driver_machine.specs.Events.{can_attend, drives}
 use Rattle.driver_machine.specs.Lines.{step_told}
 use Rattle.driver_machine.specs.Guards.{May, IsChosen, InHand}

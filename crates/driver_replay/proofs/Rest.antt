@@ -11,7 +11,6 @@ use Rattle.hardware_table.specs.Adapter.{new_adapter}
 use Rattle.disksort.specs.declared.Waiter.{Waiter}
 use Rattle.subsystem_spec.specs.Requests.{Request, AtEnd, Beyond, FramesShort, Rejection, rejection_answer}
 use Rattle.trace_replay.specs.Script as script
-use Rattle.trace_replay.specs.Script.{Input}
 use Rattle.trace_replay.specs.Conversation as told
 use Rattle.trace_replay.specs.Replay.{UnitSeen, Replay, Refused, Joined, Submission, submission, submission_by, submitted, new_replay}
 use Rattle.subsystem_spec.specs.declared.answers.AnswerKind.{AnswerKind}

@@ -16,7 +16,7 @@ use Rattle.driver_machine.specs.declared.Phase.TheVariants.{Due}
 use Rattle.driver_machine.specs.declared.Task.TheVariants as tasks
 use Rattle.driver_machine.specs.World.{World, UnitView, AdapterView, Held, adapter_of, unit_at, adapter_at, held_in, slot_in_hand}
 use Rattle.driver_machine.specs.Acts as deed
-use Rattle.driver_machine.specs.Acts.{Act, Deed, Of, Scene, effect, scene_of, after, after_all}
+use Rattle.driver_machine.specs.Acts.{Act, Deed, Of, Scene, effect, scene_of, after}
 use Rattle.driver_machine.specs.Due.{next_of, next_by}
 use Rattle.driver_machine.specs.Events.{until, next_acts, due_by, in_hand_by, go_on}
 use Rattle.driver_machine.specs.Lines.{deed_told, answer_told, step_told, lines_of, lines_with}

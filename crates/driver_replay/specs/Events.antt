@@ -4,7 +4,7 @@ use Rattle.hardware_table.specs.Drive.{is_positioning}
 use Rattle.trace_replay.specs.Moments as moment
 use Rattle.trace_replay.specs.Adapters as rule
 use Rattle.trace_replay.specs.Events as event
-use Rattle.trace_replay.specs.Events.{Act, Arriving, Trying, Serving, wish_of, wish_in}
+use Rattle.trace_replay.specs.Events.{Arriving, Trying, Serving, wish_of, wish_in}
 use Rattle.trace_replay.specs.Replay.{Replay, next_wish}
 use Rattle.driver_machine.specs.World.{World, adapter_of, drive_of, unit_on, unit_at, adapter_at}
 use Rattle.driver_machine.specs.Acts.{Of, Deed, Arrive, Sector, Intr, Attn, scene_of}
