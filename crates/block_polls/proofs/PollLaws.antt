@@ -19,7 +19,7 @@ use Rattle.hardware_table.specs.Functions.{performed}
 use Rattle.drive_registers.specs.declared.Function.TheVariants.{Clear}
 use Rattle.hardware_table.specs.Moves.{IsReadAs, IsVerdictBy, has_bytes, stop_of, was_read, was_written, with_mark_bits}
 use Rattle.hardware_table.specs.Noise.{Book}
-use Rattle.drive_model.specs.Move.{IsFrontRead, MovesSector, Site, struck_at}
+use Rattle.drive_model.specs.Move.{MovesSector, Site, struck_at}
 use Rattle.drive_model.specs.Move as move
 use Rattle.mba_adapter.specs.Loaded.{loaded_buffer}
 use Rattle.block_polls.specs.Polls.{IsOldOrNew, Polls, Sides, answer_for, moved, sides_of}

@@ -1,8 +1,7 @@
 //! A drive and an adapter that are polled: one sector moves at a time, through one frame of memory.
-ghost use Rattle.std.specs.Prelude.{◌≡◌, ◌<◌, ◌≤◌, true, false, [], IsTrue, IfOk, OnOk, OnErr, if◌then◌else◌, length};
+ghost use Rattle.std.specs.Prelude.{◌≡◌, ◌<◌, true, false, [], IsTrue, IfOk, OnOk, OnErr, if◌then◌else◌, length};
 ghost use Rattle.drive_registers.specs.declared.Function.TheVariants.{Read, Write};
-ghost use Rattle.hardware_table.specs.Adapter.{loaded, started, completed};
-ghost use Rattle.hardware_table.specs.Drive.{DriveState};
+ghost use Rattle.hardware_table.specs.Adapter.{started};
 ghost use Rattle.hardware_table.specs.Functions.{is_addressed};
 ghost use Rattle.hardware_table.specs.declared.Work.TheVariants.{Ready, Transfer};
 ghost use Rattle.main_memory.specs.Blocks.{bytes_in, span_of};
