@@ -1,16 +1,14 @@
 -- The blocks of a write stay, whatever act comes.
-use Rattle.std.proofs.Common.{◌≡◌, ◌≢◌, inl, inr, ℕ, zero, suc, ◌<◌, ◌&&◌, not, Bool, true, false, List, [], ◌∷◌, length, get_or-set_same, get_or-set_other, Option, Some, None, refl, sym, ap, ◌∙◌, subst}
+use Rattle.std.proofs.Common.{◌≡◌, ◌≢◌, inl, inr, ℕ, zero, suc, ◌&&◌, not, Bool, true, false, List, [], ◌∷◌, get_or-set_other, Option, Some, None, refl, sym, ap, ◌∙◌, subst}
 use Rattle.std.specs.Prelude.{if◌then◌else◌, slice_index_or, slice_set, unwrap_or}
 use Rattle.std.specs.Option.{option_map_or}
 use Rattle.std.proofs.lemmas.Bool.{cases_eq, false≢true}
 use Rattle.std.proofs.lemmas.Option.{none-some, same_Some}
-use Rattle.std.proofs.lemmas.List.{get_or_past}
-use Rattle.hardware_table.specs.declared.Moved.{Moved}
 use Rattle.hardware_table.specs.declared.Moved.TheVariants as verdict
 use Rattle.hardware_table.specs.declared.Work.TheVariants as work
-use Rattle.hardware_table.specs.Drive.{DriveState, is_writing}
+use Rattle.hardware_table.specs.Drive.{is_writing}
 use Rattle.hardware_table.specs.Moves.{has_bytes, was_read}
-use Rattle.hardware_table.specs.Adapter.{AdapterState, next_window}
+use Rattle.hardware_table.specs.Adapter.{next_window}
 use Rattle.trace_replay.specs.Script as script
 use Rattle.trace_replay.specs.Script.{Input}
 use Rattle.driver_machine.specs.declared.Made.{Made}
@@ -18,9 +16,9 @@ use Rattle.driver_machine.specs.declared.Phase.TheVariants.{Transferring}
 use Rattle.driver_machine.specs.declared.Task.TheVariants.{Judge}
 use Rattle.driver_machine.specs.World.{World, Held, no_held, unit_at, slot_at, held_in, slot_in_hand, with_block_in}
 use Rattle.driver_machine.specs.Acts as deed
-use Rattle.driver_machine.specs.Acts.{Act, Refuse, Submit, Of, Change, Nothing, Taken, Deed, Scene, Tried, effect, scene_of, with_scene, freed, after}
-use Rattle.driver_machine.specs.Guards.{InHand, May, MayChange, Allowed}
-use Rattle.driver_machine.specs.Sound.{Sound, IsPhase, IsTask}
+use Rattle.driver_machine.specs.Acts.{Refuse, Submit, Of, Change, Nothing, Taken, Deed, Scene, effect, scene_of, freed, after}
+use Rattle.driver_machine.specs.Guards.{May, MayChange}
+use Rattle.driver_machine.specs.Sound.{IsPhase, IsTask}
 use Rattle.driver_due.proofs.Frame.{other_slot}
 use Rattle.driver_phases.proofs.Scene.{SceneOk, due_of, phase_is}
 use Rattle.driver_phases.proofs.DeedFacts.{judged_is, transfer_at}
