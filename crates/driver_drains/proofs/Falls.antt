@@ -1,12 +1,9 @@
 -- How many event lines are left falls with each event of a drain.
-use Rattle.std.proofs.Common.{◌≡◌, ℕ, ◌+◌, ◌*◌, ◌≤◌, ◌<◌, Bool, true, List, [], ◌∷◌, ◌++◌, Option, Some, refl, sym, ap, subst, arith, append_assoc}
-use Rattle.pack_geometry.specs.declared.DriveKind.{DriveKind}
+use Rattle.std.proofs.Common.{◌≡◌, ℕ, ◌+◌, ◌*◌, ◌≤◌, ◌<◌, Bool, true, List, [], ◌∷◌, ◌++◌, Some, refl, sym, ap, subst, arith, append_assoc}
 use Rattle.pack_model.specs.Pack.{Pack}
-use Rattle.pack_model.specs.TableSpelling.{Table}
 use Rattle.trace_replay.specs.Moments.{Moment, Played, Told, Idle}
 use Rattle.trace_replay.specs.Script as script
 use Rattle.trace_replay.specs.Script.{Input}
-use Rattle.trace_replay.specs.Packs.{Surface}
 use Rattle.trace_replay.specs.Replay.{Replay, MayCome, Follows, WorkMay, new_replay, after_moment, after_moments}
 use Rattle.trace_replay.proofs.Following.{follow_on}
 use Rattle.trace_bounds.specs.Measure.{events_left, blocks_outstanding}
@@ -26,7 +23,6 @@ use Rattle.driver_work.proofs.Calls.{event_works}
 use Rattle.driver_work.proofs.Next.{next_can}
 use Rattle.driver_invariant.proofs.Sound.{sound_after}
 use Rattle.driver_trace.specs.Runs.{IsDraining, with_call}
-use Rattle.driver_trace.specs.Calls.{IsReadOf}
 use Rattle.driver_trace.proofs.Telling.{IsTold}
 use Rattle.driver_trace.proofs.Named.{IsTriedOn}
 use Rattle.driver_trace.proofs.Inputted.{lines_play_nothing}
