@@ -25,7 +25,7 @@ use Rattle.driver_machine.specs.declared.RetryStep.{RetryStep}
 use Rattle.driver_machine.specs.declared.RetryStep.TheVariants as step
 use Rattle.driver_machine.specs.World.{World, UnitView, AdapterView, unit_at, adapter_at, slot_at, no_unit, new_adapter_view, adapter_of, with_block_in}
 use Rattle.driver_machine.specs.Acts as deed
-use Rattle.driver_machine.specs.Acts.{Deed, Scene, with_scene, stepping, searching, transferring, centred}
+use Rattle.driver_machine.specs.Acts.{Deed, Scene, with_scene, stepping}
 use Rattle.driver_due.specs.Frame.{IsSame}
 
 -- OTHERS are as they were, whatever the deed.
