@@ -1,5 +1,4 @@
 -- Each act keeps what holds of the driver, from its parts.
-use Rattle.std.proofs.Common.{◌≡◌, ℕ, ◌<◌}
 use Rattle.driver_machine.specs.World.{World}
 use Rattle.driver_machine.specs.Acts.{Act, after}
 use Rattle.driver_machine.specs.Guards.{Allowed}
