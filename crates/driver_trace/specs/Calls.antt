@@ -8,7 +8,6 @@ use Rattle.trace_replay.specs.Script.{Input}
 use Rattle.trace_replay.specs.Events.{Act, NoLine}
 use Rattle.trace_replay.specs.Replay.{Replay, all_units, next_wish, drained}
 use Rattle.driver_machine.specs.World.{World, unit_at, adapter_at, unit_of}
-use Rattle.driver_machine.specs.Acts as machine
 use Rattle.driver_machine.specs.Acts.{Tried}
 use Rattle.driver_machine.specs.Events.{can_move}
 use Rattle.drive_model.specs.Move.{struck_at}

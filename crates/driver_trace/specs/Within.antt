@@ -1,11 +1,9 @@
 -- What the replay shows within an event: there a drain does not go on to its next one.
 use Rattle.std.specs.Prelude.{◌≡◌, ℕ, ◌<◌, Bool, false}
-use Rattle.pack_model.specs.Pack as model
 use Rattle.trace_replay.specs.Conversation.{goes_on}
 use Rattle.trace_replay.specs.Events.{Act}
 use Rattle.trace_replay.specs.Replay.{Replay, WorkMay}
 use Rattle.driver_machine.specs.World.{World, adapter_of, unit_at, adapter_at, held_in}
-use Rattle.driver_machine.specs.Acts as machine
 use Rattle.driver_machine.specs.Guards.{IsSetUp}
 use Rattle.driver_machine.specs.Sound.{Sound}
 use Rattle.driver_replay.specs.Shows.{IsUnitSeen, IsAdapterSeen, outstanding_in}
