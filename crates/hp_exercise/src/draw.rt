@@ -1,4 +1,4 @@
-ghost use Rattle.std.specs.Prelude.{◌≡◌, ◌<◌, ◌≤◌, ◌^◌, ℕ};
+ghost use Rattle.std.specs.Prelude.{◌≡◌};
 ghost use Rattle.hp_exercise.specs.Exercise.{unit_of, block_of, place_of, count_of, seq_of, offset_of, times_of, choice_of};
 
 /// A unit: 0, 1 or 8.

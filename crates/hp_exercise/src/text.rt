@@ -1,5 +1,5 @@
-ghost use Rattle.std.specs.Prelude.{◌≡◌, ◌<◌, ◌≤◌, ◌+◌, ◌/◌, ◌++◌, ◌^◌, ℕ, length, codes};
-ghost use Rattle.hp_exercise.specs.Exercise.{unit_of, field, fault_text, noise_text, write_text, read_text, arrive_text, move_text, attend_text, chosen_text, step_text};
+ghost use Rattle.std.specs.Prelude.{◌≡◌, ◌<◌, ◌≤◌, ◌+◌, ◌/◌, ◌++◌, length, codes};
+ghost use Rattle.hp_exercise.specs.Exercise.{field, fault_text, noise_text, write_text, read_text, arrive_text, move_text, attend_text, chosen_text, step_text};
 
 use crate::draw::{block, choice, count, offset, place, seq, times, unit};
 use mass_text::{LineBuf, Radix, numeral_law};
