@@ -9,7 +9,7 @@ use Rattle.pack_model.specs.Pack.{Pack}
 use Rattle.pack_model.specs.TableSpelling.{Table}
 use Rattle.subsystem_spec.specs.Requests.{Request, IsRequest}
 use Rattle.trace_replay.specs.Script as says
-use Rattle.trace_replay.specs.Script.{Script, Input, Numbered, drives_of}
+use Rattle.trace_replay.specs.Script.{Script, Numbered, drives_of}
 use Rattle.trace_replay.specs.Packs.{surface_of}
 use Rattle.trace_replay.specs.Replay.{Replay, all_units, after_moments}
 use Rattle.trace_replay.specs.Runs.{start_of}

@@ -9,7 +9,7 @@ use Rattle.pack_model.specs.TableSpelling.{Table}
 use Rattle.pack_model.proofs.PackTableLaws.{tables_once}
 use Rattle.subsystem_spec.specs.Requests.{Request}
 use Rattle.trace_replay.specs.Script as says
-use Rattle.trace_replay.specs.Script.{Script, Statement, Declares, Plays, Line, Numbered, IsScript, IsStatement, IsInput, AreNumbered, AreApart, drives_of, ids_of, with_id, with_input, inputs_before}
+use Rattle.trace_replay.specs.Script.{Script, Statement, Declares, Plays, Line, Numbered, IsStatement, AreNumbered, AreApart, drives_of, ids_of, with_id, with_input, inputs_before}
 use Rattle.trace_replay.specs.Runs.{IsLegalRun}
 use Rattle.trace_replay.proofs.OneTrace.{one_run, one_packs}
 use Rattle.driver_runs.proofs.Runs.{runs_are_legal}

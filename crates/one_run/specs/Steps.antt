@@ -7,7 +7,7 @@ use Rattle.pack_model.specs.PackTable.{AreTablesOf}
 use Rattle.subsystem_spec.specs.Requests.{Request, IsRequest}
 use Rattle.trace_replay.specs.Moments.{Moment, played}
 use Rattle.trace_replay.specs.Script as says
-use Rattle.trace_replay.specs.Script.{Script, Input, Numbered, IsInput, drives_of, Statement, Plays, with_id}
+use Rattle.trace_replay.specs.Script.{Script, Input, Numbered, IsInput, drives_of, Plays, with_id}
 use Rattle.trace_replay.specs.Runs.{start_of}
 use Rattle.driver_machine.specs.World.{World, Held, Setup, new_world, unit_at}
 use Rattle.driver_machine.specs.Events.{next_event, refusal_of}
