@@ -1,11 +1,11 @@
 -- Calls from any state of a replay that is consistent and shows the driver.
-use Rattle.std.proofs.Common.{◌≡◌, ℕ, ◌≤◌, ◌<◌, ◌&&◌, nat_lt, Bool, true, false, List, [], ◌∷◌, ◌++◌, length, Option, Some, None, refl, sym, ap, subst, arith, ◌∙◌}
+use Rattle.std.proofs.Common.{◌≡◌, ℕ, ◌≤◌, ◌&&◌, nat_lt, Bool, true, false, List, [], ◌∷◌, ◌++◌, refl, sym, ap, subst, arith, ◌∙◌}
 use Rattle.std.proofs.lemmas.Bool.Decides.{nat_tests}
 use Rattle.pack_model.specs.Pack.{Pack}
 use Rattle.subsystem_spec.specs.ServiceOrder.{Waiting as Waiter, Service}
 use Rattle.subsystem_spec.proofs.ServiceOrderRuns.{IsService}
 use Rattle.subsystem_spec.specs.Requests.{Request}
-use Rattle.trace_replay.specs.Moments.{Moment, Played}
+use Rattle.trace_replay.specs.Moments.{Played}
 use Rattle.trace_replay.specs.Script as script
 use Rattle.trace_replay.specs.Script.{Input}
 use Rattle.trace_replay.specs.Service.{cylinder_of}
@@ -14,7 +14,7 @@ use Rattle.trace_replay.specs.Replay.{Replay, are_at_work, WorkMay, InputMay, af
 use Rattle.trace_work.specs.Consistent.{IsConsistent}
 use Rattle.trace_work.proofs.Consistency.{stays_consistent, moments_consistent}
 use Rattle.trace_work.proofs.Working.{all_at_work}
-use Rattle.driver_machine.specs.World.{World, unit_at}
+use Rattle.driver_machine.specs.World.{World}
 use Rattle.driver_machine.specs.Acts.{Act, Nothing, Taken, after, after_all}
 use Rattle.driver_machine.specs.Lines.{lines_of_all}
 use Rattle.driver_machine.specs.Events.{submit_acts, refusal_of, event_acts}

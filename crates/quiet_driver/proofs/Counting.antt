@@ -1,13 +1,13 @@
 -- OVER ANY PACKS a drain comes to its end. Whatever an event's sector was found to be, some packs hold it so; over these the replay goes on, and
 -- how many event lines are left does not depend on what packs hold.
-use Rattle.std.proofs.Common.{◌≡◌, ◌⊎◌, inl, inr, ℕ, zero, suc, ◌+◌, ◌*◌, ◌≤◌, ◌<◌, ◌==◌, Bool, true, false, List, [], ◌∷◌, ◌++◌, length, filter, Option, Some, refl, sym, ap, subst, arith, ◌∙◌}
+use Rattle.std.proofs.Common.{◌≡◌, ℕ, ◌+◌, ◌≤◌, ◌<◌, Bool, true, List, [], ◌∷◌, length, Some, refl, sym, subst, arith, ◌∙◌}
 use Rattle.pack_model.specs.Pack.{Pack}
 use Rattle.trace_replay.specs.Moments.{Moment, Deed, Played, Told, Idle, played}
 use Rattle.trace_replay.specs.Script as script
 use Rattle.trace_replay.specs.Script.{Input}
 use Rattle.trace_replay.specs.History.{lines_behind}
 use Rattle.trace_replay.specs.Causes.{AskSome}
-use Rattle.trace_replay.specs.Replay.{Replay, MayCome, WorkMay, Follows, act_drained, after_moment, after_moments}
+use Rattle.trace_replay.specs.Replay.{Replay, MayCome, WorkMay, after_moment, after_moments}
 use Rattle.trace_replay.proofs.Kept.{AllFit, moments_all}
 use Rattle.trace_bounds.specs.Measure.{events_left}
 use Rattle.trace_bounds.specs.Drains.{AreOf, events_in}

@@ -1,5 +1,5 @@
 -- Whatever a sector that an event tries was found to be, some packs hold it so; and a replay stands for the driver over any packs.
-use Rattle.std.proofs.Common.{◌≡◌, ℕ, ◌+◌, ◌*◌, ◌<◌, ◌≤◌, ◌==◌, ◌&&◌, not, nat_lt, Bool, true, false, IsTrue, List, [], ◌∷◌, ◌++◌, length, Option, Some, None, refl, sym, ap, subst, arith, ◌∙◌, replicate}
+use Rattle.std.proofs.Common.{◌≡◌, ℕ, ◌+◌, ◌≤◌, ◌==◌, ◌&&◌, not, nat_lt, Bool, true, false, List, [], ◌∷◌, ◌++◌, length, Option, Some, None, refl, sym, ap, subst, arith, ◌∙◌, replicate}
 use Rattle.std.specs.Prelude.{if◌then◌else◌, slice_index, unwrap_or}
 use Rattle.std.proofs.lemmas.List.{length-replicate}
 use Rattle.std.proofs.lemmas.Option.{none-some}
@@ -7,10 +7,9 @@ use Rattle.std.proofs.Math.Seq.{get_or-append_seam}
 use Rattle.pack_model.specs.Pack.{Pack, block_at, is_marked, with_block, empty_pack}
 use Rattle.pack_model.proofs.PackLaws.{block_at-with_block_same}
 use Rattle.main_memory.specs.Bytes.{filled}
-use Rattle.main_memory.specs.Blocks.{Loan, IsLoan, size_at}
+use Rattle.main_memory.specs.Blocks.{Loan, size_at}
 use Rattle.main_memory.proofs.ByteLaws.{front-filled, length-filled}
 use Rattle.hardware_table.specs.Adapter.{next_block, next_window}
-use Rattle.hardware_table.specs.Moves.{was_read}
 use Rattle.hardware_table.specs.Noise.{LiveNoise, strikes}
 use Rattle.drive_model.specs.Move.{IsFrontRead, struck_at}
 use Rattle.trace_replay.specs.Script as script
@@ -23,7 +22,6 @@ use Rattle.trace_bounds.proofs.Drain.{IsAt}
 use Rattle.trace_bounds.proofs.Tells.{Between}
 use Rattle.driver_machine.specs.World.{World, Held, no_held, unit_at, adapter_at, adapter_of, unit_of, slot_at, held_in, slot_in_hand}
 use Rattle.driver_machine.specs.Acts.{Tried}
-use Rattle.driver_machine.specs.Events.{can_move}
 use Rattle.driver_machine.specs.Sound.{Sound}
 use Rattle.driver_work.specs.Runs.{MayCome}
 use Rattle.driver_trace.specs.Within.{ShowsAll}

@@ -9,7 +9,6 @@ use Rattle.pack_geometry.specs.declared.DriveKind.TheVariants.{Rp06}
 use Rattle.hardware_table.specs.Drive.{DriveState, has_error, on, is_positioning, is_transferring}
 use Rattle.hardware_table.specs.declared.Work.TheVariants as work
 use Rattle.disksort.specs.declared.Waiter.{Waiter}
-use Rattle.trace_replay.specs.Adapters.{is_busy_for}
 use Rattle.trace_replay.specs.Replay.{hand_of}
 use Rattle.trace_work.specs.Consistent.{Agrees, IsConsistent}
 use Rattle.trace_calm.specs.Calm.{IsGood, IsCalm}

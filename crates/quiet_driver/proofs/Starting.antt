@@ -1,5 +1,5 @@
 -- Behind a submission at a quiet driver few event lines are left, whatever the packs hold.
-use Rattle.std.proofs.Common.{◌≡◌, ℕ, suc, ◌+◌, ◌*◌, ◌≤◌, ◌<◌, ◌==◌, Bool, true, false, List, [], ◌∷◌, length, filter, Option, None, refl, sym, subst, arith}
+use Rattle.std.proofs.Common.{◌≡◌, ℕ, suc, ◌+◌, ◌*◌, ◌≤◌, ◌==◌, Bool, true, false, List, [], ◌∷◌, length, filter, None, refl, sym, subst, arith}
 use Rattle.std.specs.Prelude.{if◌then◌else◌}
 use Rattle.std.specs.List.{list_any}
 use Rattle.pack_geometry.specs.declared.DriveKind.{DriveKind}
@@ -10,13 +10,13 @@ use Rattle.trace_replay.specs.Moments.{Moment, Played, played}
 use Rattle.trace_replay.specs.Script.{Submit}
 use Rattle.trace_replay.specs.Service.{service_joined}
 use Rattle.trace_replay.specs.History.{lines_behind}
-use Rattle.trace_replay.specs.Replay.{Replay, UnitSeen, Submission, Refused, Joined, all_units, with_state, this_or, unit_joined, submission, submitted, after_moment, after_moments}
+use Rattle.trace_replay.specs.Replay.{Replay, UnitSeen, Submission, Refused, Joined, all_units, this_or, unit_joined, submission, submitted, after_moment, after_moments}
 use Rattle.trace_replay.proofs.Kept.{AllFit, moments_all, played_all}
 use Rattle.trace_bounds.specs.Measure.{events_left, blocks_waiting, blocks_of_units}
 use Rattle.trace_bounds.specs.Drains.{IsOf, events_in}
 use Rattle.trace_bounds.proofs.Idle.{idle_fits, idle_within}
 use Rattle.trace_bounds.proofs.Drain.{IsThere, IsAt, idle_at, played_at, moments_at, drained_falls, AllWithin, played_within, units_few}
-use Rattle.trace_bounds.proofs.Runs.{all_from, from_any, from, filter_any}
+use Rattle.trace_bounds.proofs.Runs.{all_from, from_any, filter_any}
 use Rattle.trace_calm.proofs.Calm.{runs_stay_calm}
 use Rattle.waited_requests.proofs.Waited.{lines_calm, begun_calm}
 use Rattle.driver_machine.specs.World.{World, Held, unit_at}

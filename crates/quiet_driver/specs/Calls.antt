@@ -19,7 +19,7 @@ use Rattle.driver_trace.specs.Calls.{Stands, AreThere, IsReadOf}
 use Rattle.driver_trace.specs.Runs.{IsDraining}
 use Rattle.waited_requests.specs.Sessions.{MayPlay, behind_all, waited}
 use Rattle.waited_requests.specs.Waited.{IsWaitedFor, with_packs}
-use Rattle.quiet_driver.specs.Quiet.{IsQuiet, setup_of, StandsQuiet}
+use Rattle.quiet_driver.specs.Quiet.{setup_of, StandsQuiet}
 
 -- BETWEEN TWO CALLS, whatever the line before was
 pub record IsOpen (held : ℕ → Pack) (w : World) (s : Replay) : Type 0 where
