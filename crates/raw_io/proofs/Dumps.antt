@@ -1,7 +1,6 @@
 -- Memory that is dumped, piece by piece.
 use Rattle.std.proofs.Common.{◌≡◌, ℕ, ◌+◌, ◌-◌, ◌*◌, ◌≤◌, List, ◌++◌, length, length-append, length-take-le, take, drop, replicate, sym, ap, ◌∙◌, subst, arith}
 use Rattle.std.proofs.lemmas.List.{length-replicate}
-use Rattle.pack_geometry.specs.declared.DriveKind.{DriveKind}
 use Rattle.partition_bytes.specs.Bytes.{blocks_for, dumped}
 use Rattle.partition_bytes.proofs.Dumped.{nulls, padded}
 

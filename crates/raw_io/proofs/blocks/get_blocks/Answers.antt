@@ -1,6 +1,5 @@
 use Rattle.std.proofs.Common.{◌≢◌, inl, inr, ℕ, ◌<◌, ◌≤◌, ◌+◌, [], refl, sym, subst, arith}
 use Rattle.partitions.specs.Partitions.{size_of}
-use Rattle.subsystem_spec.specs.Requests as told
 use Rattle.hp_driver.specs.Subsystem.{asked}
 use Rattle.blocking_io.specs.Calls.{Stage}
 use Rattle.raw_io.specs.Transfers.{site}
