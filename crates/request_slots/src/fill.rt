@@ -1,5 +1,5 @@
 // Buffers that are lent for requests, filled with the bytes of writes, and repaired.
-ghost use Rattle.std.specs.Prelude.{◌≡◌, ◌*◌, ◌<◌, ◌+◌, ◌-◌, ◌≤◌, true, ◌++◌, if◌then◌else◌, take, drop, length};
+ghost use Rattle.std.specs.Prelude.{◌≡◌, ◌*◌, ◌<◌, ◌+◌, ◌-◌, ◌≤◌, true, ◌++◌, take, drop, length};
 ghost use Rattle.main_memory.specs.Bytes.{filled};
 ghost use Rattle.main_memory.specs.Frames.{frames_needed};
 ghost use Rattle.main_memory.specs.Blocks.{Loan, IsLoan, size_of, span_of, bytes_in};

@@ -1,5 +1,5 @@
 // The slots themselves.
-ghost use Rattle.std.specs.Prelude.{◌≡◌, ◌≢◌, ◌≤◌, ◌<◌, ◌+◌, ◌-◌, ◌*◌, if◌then◌else◌, ℕ, true, false, min, None, Some, IsSome, IfOk, IfSome, length, replicate, slice_set};
+ghost use Rattle.std.specs.Prelude.{◌≡◌, ◌≢◌, ◌≤◌, ◌<◌, ◌+◌, ◌-◌, ℕ, true, false, min, None, Some, IsSome, IfOk, IfSome, length, replicate, slice_set};
 ghost use Rattle.main_memory.specs.Bytes.{filled, IsFill};
 ghost use Rattle.main_memory.specs.Frames.{frames_needed};
 ghost use Rattle.hardware_table.specs.Adapter.{loaded, completed};
