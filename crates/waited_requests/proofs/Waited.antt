@@ -21,11 +21,11 @@ use Rattle.trace_replay.specs.Script.{Submit, Drain, Input, IsThere}
 use Rattle.trace_replay.specs.Moments.{Deed, Search, Seek, Recal, Offset, Centre, Clear, Pack, Transfer, Arrive, Sector, Intr, Try, Attn, End, Moment, Played, Told, Idle, Answered, played, answers_in}
 use Rattle.trace_replay.specs.Service.{in_hand, first_waiting, request_or_none, frames_needed}
 use Rattle.trace_replay.specs.Conversation.{Stage, Waiting, Steps as StepsLeft, UnderWay, AtOnce, Moving, Saying, Ending, not_begun, is_waiting}
-use Rattle.trace_replay.specs.Replay.{Replay, UnitSeen, next_wish, MayCome, Submission, Refused, Joined, submission_by, Follows, IsOver, after_moment, replay_played}
+use Rattle.trace_replay.specs.Replay.{Replay, UnitSeen, next_wish, MayCome, Submission, Refused, Joined, submission_by, Follows, after_moment, replay_played}
 use Rattle.trace_replay.proofs.Kept.{IsHeld}
 use Rattle.trace_bounds.specs.Drains.{IsIdle}
 use Rattle.trace_bounds.proofs.Tells.{Between, moments_between}
-use Rattle.block_machine.specs.Machine.{Blocks, Machine, idle, request_of, without, frames_of, kind_of, meets, answers_at_once, AreUsable, MayAnswer, blocks_after, after_answer, Step, Steps, bytes_of_first}
+use Rattle.block_machine.specs.Machine.{Blocks, Machine, idle, request_of, without, frames_of, kind_of, meets, answers_at_once, MayAnswer, blocks_after, after_answer, Steps, bytes_of_first}
 use Rattle.block_machine.specs.Machine.{submitted as machine_submitted}
 use Rattle.block_machine.specs.Stands.{Setup, home_at, home_in, held_at, QueueStands, sure_claims}
 use Rattle.block_machine.proofs.Blocks.{read_blocks}
