@@ -100,10 +100,7 @@ fn is_attached(packs: &mut Copies, kind: DriveKind, wanted: Option<u32>) -> bool
     let Ok(found) = attach(&mut drive, packs, 3) else {
         return false;
     };
-    let number = match &found.table {
-        Some(table) => Some(serial(table)),
-        None => None,
-    };
+    let number = found.table.as_ref().map(serial);
     found.kind == kind
         && number == wanted
         && drive.read_register(Register::Of) == 0o010000

@@ -16,10 +16,7 @@ fn started(alloc: Global) -> Option<Subsystem>
         kind: DriveKind::Rm03,
         table: None,
     }];
-    match Subsystem::new(alloc, &units, 1, 0) {
-        Ok(subsystem) => Some(subsystem),
-        Err(_) => None,
-    }
+    Subsystem::new(alloc, &units, 1, 0).ok()
 }
 
 #[test]
