@@ -26,9 +26,7 @@ fn put(alloc: Global, packs: &mut FewBlocks, at: u64, from: &[u8]) -> Option<u64
     requires { at < 2 ^ 40 }
 {
     let mut trace = SureSink::new();
-    let Some(mut subsystem) = attached(alloc, packs) else {
-        return None;
-    };
+    let mut subsystem = attached(alloc, packs)?;
     let answer = raw_write(&mut subsystem, 0, Part::A, at, from, packs, &mut trace);
     bytes_done(from.len(), answer)
 }
@@ -38,9 +36,7 @@ fn get(alloc: Global, packs: &mut FewBlocks, at: u64, into: &mut [u8]) -> Option
     requires { at < 2 ^ 40 }
 {
     let mut trace = SureSink::new();
-    let Some(mut subsystem) = attached(alloc, packs) else {
-        return None;
-    };
+    let mut subsystem = attached(alloc, packs)?;
     let answer = raw_read(&mut subsystem, 0, Part::A, at, into, packs, &mut trace);
     bytes_done(into.len(), answer)
 }
@@ -48,9 +44,7 @@ fn get(alloc: Global, packs: &mut FewBlocks, at: u64, into: &mut [u8]) -> Option
 /// Dumps memory: the number of blocks.
 fn dumped(alloc: Global, packs: &mut FewBlocks, memory: &[u8]) -> Option<u32> {
     let mut trace = SureSink::new();
-    let Some(mut subsystem) = attached(alloc, packs) else {
-        return None;
-    };
+    let mut subsystem = attached(alloc, packs)?;
     dump(&mut subsystem, 0, memory, packs, &mut trace).ok()
 }
 

@@ -24,10 +24,7 @@ impl<R: Read + Drop> TraceSource<R> {
         ensures faults { self.new.faults ≡ self.old.faults }
     {
         match &mut self.file {
-            Ok(file) => match file.read(into) {
-                Ok(count) => Ok(count),
-                Err(_) => Err(SourceFailed),
-            },
+            Ok(file) => file.read(into).map_err(|_| SourceFailed),
             Err(_) => Err(SourceFailed),
         }
     }

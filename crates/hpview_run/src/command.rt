@@ -29,10 +29,8 @@ fn drawn_beside<T: Source>(
     ensures script { IfErr result (λ fault. (text : List ℕ) → RefusesScript fault text) }
     ensures failed { IsErrOf result ViewFault.Failed → Rose (T.faults trace.old) (T.faults trace.new) }
 {
-    match load_trace(alloc, trace) {
-        Ok(bytes) => draw_run(alloc, command, loaded, bytes.as_slice()),
-        Err(fault) => Err(fault),
-    }
+    let bytes = load_trace(alloc, trace)?;
+    draw_run(alloc, command, loaded, bytes.as_slice())
 }
 
 /// What is drawn of the run that two sources tell of.
@@ -46,10 +44,8 @@ fn drawn<S: Source, T: Source>(
     ensures refused { IfErr result (λ fault. Refuses fault (S.tells script.new) (S.left script.old) (T.tells trace.new) (T.left trace.old)) }
     ensures failed { IsErrOf result ViewFault.Failed → Rose (S.faults script.old) (S.faults script.new) ⊎ Rose (T.faults trace.old) (T.faults trace.new) }
 {
-    match load_script(alloc, script) {
-        Ok(loaded) => drawn_beside(alloc, command, &loaded, trace),
-        Err(fault) => Err(fault),
-    }
+    let loaded = load_script(alloc, script)?;
+    drawn_beside(alloc, command, &loaded, trace)
 }
 
 /// Draws what is shown of the run that two sources tell of.

@@ -34,10 +34,8 @@ fn draw(alloc: Global, form: Form, text: &[u8], view: &View<'_>) -> Result<Vec<u
         texts: view.texts.as_slice(),
         notes: view.notes.as_slice(),
     };
-    match draw_sheet(alloc, form, &sheet) {
-        Ok(picture) => Ok(picture),
-        Err(_) => Err(ViewFault::Memory),
-    }
+    let picture = draw_sheet(alloc, form, &sheet)?;
+    Ok(picture)
 }
 
 /// What is drawn of the run of a script and of the bytes of its trace.
@@ -56,8 +54,6 @@ pub(crate) fn draw_run(
     script_law();
     let text = loaded.text.as_slice();
     let first = command.from.saturating_sub(1);
-    match view_run(alloc, &loaded.script, text, bytes, first, command.to) {
-        Ok(view) => draw(alloc, command.form, text, &view),
-        Err(fault) => Err(ViewFault::from(fault)),
-    }
+    let view = view_run(alloc, &loaded.script, text, bytes, first, command.to)?;
+    draw(alloc, command.form, text, &view)
 }

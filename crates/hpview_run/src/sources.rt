@@ -27,10 +27,8 @@ pub(crate) fn load_script<S: Source>(alloc: Global, source: &mut S) -> Result<Lo
 {
     let text = read_all(alloc, source, LONGEST_SCRIPT)?;
     let copy = Vec::from_slice(alloc, text.as_slice())?;
-    match read_script(alloc, copy) {
-        Ok(script) => Ok(Loaded { script, text }),
-        Err(fault) => Err(ViewFault::from(fault)),
-    }
+    let script = read_script(alloc, copy)?;
+    Ok(Loaded { script, text })
 }
 
 /// Reads the trace that a source gives, to its end or to 256 MiB and one byte.
@@ -41,8 +39,6 @@ pub(crate) fn load_trace<T: Source>(alloc: Global, source: &mut T) -> Result<Vec
     ensures later { T.faults source.old ≤ T.faults source.new }
     ensures failed { IsErrOf result ViewFault.Failed → Rose (T.faults source.old) (T.faults source.new) }
 {
-    match read_all(alloc, source, LONGEST_TRACE) {
-        Ok(bytes) => Ok(bytes),
-        Err(fault) => Err(ViewFault::from(fault)),
-    }
+    let bytes = read_all(alloc, source, LONGEST_TRACE)?;
+    Ok(bytes)
 }

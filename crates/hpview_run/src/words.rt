@@ -1,6 +1,6 @@
-ghost use Rattle.std.specs.Prelude.{◌≡◌, ◌-◌, ◌^◌, ◌<◌, ◌≤◌, map, IfSome, Some, None};
+ghost use Rattle.std.specs.Prelude.{◌≡◌, ◌-◌, ◌<◌, map, Some, None};
 ghost use Rattle.std.specs.String.{string_bytes};
-ghost use Rattle.hpview_run.specs.Words.{form_named, event_named, span_of, command_by, command_named};
+ghost use Rattle.hpview_run.specs.Words.{form_named, event_named, span_of, command_named};
 
 use mass_text::{Radix, number};
 
@@ -45,10 +45,7 @@ fn event_in(word: &str) -> Option<u64>
     if !bytes.is_empty() && bytes[0] == b'0' {
         return None;
     }
-    match number(bytes, Radix::Decimal, LAST) {
-        Ok(event) => Some(event),
-        Err(_) => None,
-    }
+    number(bytes, Radix::Decimal, LAST).ok()
 }
 
 /// The events from one to another.

@@ -152,15 +152,10 @@ fn put_holders(
 fn first_with(column: &Column, lane: &Lane, adapter: u8, found: Option<u8>) -> Option<u8>
     ensures { result ≡ first_with column.now adapter found lane.now }
 {
-    match found {
-        Some(unit) => Some(unit),
-        None => {
-            if holds(column, lane, adapter) {
-                Some(lane.unit)
-            } else {
-                None
-            }
-        }
+    if found.is_none() && holds(column, lane, adapter) {
+        Some(lane.unit)
+    } else {
+        found
     }
 }
 

@@ -3,7 +3,7 @@ ghost use Rattle.std.specs.Prelude.{◌≡◌, ◌<◌, length, slice_index_or, 
 ghost use Rattle.std.specs.List.{All};
 ghost use Rattle.trace_reader.specs.Grammar.{Says, Refuses};
 ghost use Rattle.trace_reader.specs.Lines.{line_number};
-ghost use Rattle.run_lines.specs.Saids.{Said, said_of, IsHeardAt};
+ghost use Rattle.run_lines.specs.Saids.{said_of, IsHeardAt};
 ghost use Rattle.run_lines.specs.Runs.{told_of, up_to, beyond, Watched};
 
 use crate::seen::{Seen, Watcher};
@@ -126,13 +126,12 @@ pub fn watch_run<'a, W: Watcher<'a>>(
     let mut left = TraceLines::new(alloc, trace, script)?;
     let mut at = 0;
     'lines: loop {
-        match left.next() {
-            Ok(Some(found)) => at = see_line(plays, at, &found, watcher)?,
-            Ok(None) => {
+        match left.next()? {
+            Some(found) => at = see_line(plays, at, &found, watcher)?,
+            None => {
                 see_rest(plays, at, watcher)?;
                 return Ok(());
             }
-            Err(fault) => return Err(fault),
         }
     }
 }

@@ -5,8 +5,8 @@ use Rattle.run_lines.specs.Saids.{said_of}
 use Rattle.run_lines.proofs.SeeLaws.{saw_all}
 use Rattle.run_lines.proofs.watching.watch_run.Goals as goal
 
-pub returns-in-Ok-None-clause-ok : goal.returns-in-Ok-None-clause-ok
-returns-in-Ok-None-clause-ok g c =
+pub returns-in-None-clause-ok : goal.returns-in-None-clause-ok
+returns-in-None-clause-ok g c =
     let ends = rw c.in-Ok-None.field-0-is at c.in-Ok-None.ensures.ok in
     let lines = c.lines.invariant.lines in
     record {
