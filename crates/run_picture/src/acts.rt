@@ -49,23 +49,19 @@ fn admit_frames(cylinder: u32, asked: &Asked, lent: u64) -> Result<u32, Outcome>
 pub fn admit(kind: Option<DriveKind>, asked: &Asked, lent: u64) -> Result<u32, Outcome>
     ensures { result ≡ admitted kind asked.now lent }
 {
-    match kind {
-        None => Err(Outcome::Partition),
-        Some(kind) => {
-            let range = part_range(kind, asked.part);
-            let count = u32::from(asked.count);
-            if asked.block == range.size {
-                Err(Outcome::Eof)
-            } else if asked.block > range.size || count > range.size - asked.block {
-                Err(Outcome::Partition)
-            } else {
-                admit_frames(
-                    (range.first + asked.block) / cylinder_blocks(kind),
-                    asked,
-                    lent,
-                )
-            }
-        }
+    let kind = kind.ok_or(Outcome::Partition)?;
+    let range = part_range(kind, asked.part);
+    let count = u32::from(asked.count);
+    if asked.block == range.size {
+        Err(Outcome::Eof)
+    } else if asked.block > range.size || count > range.size - asked.block {
+        Err(Outcome::Partition)
+    } else {
+        admit_frames(
+            (range.first + asked.block) / cylinder_blocks(kind),
+            asked,
+            lent,
+        )
     }
 }
 
