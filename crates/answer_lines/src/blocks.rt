@@ -1,5 +1,5 @@
 // The line of a block, written in place.
-ghost use Rattle.std.specs.Prelude.{◌≡◌, ◌≤◌, ◌+◌, ◌*◌, ◌==◌, ◌∷◌, [], ◌++◌, length, take, decimal, slice_index, codes};
+ghost use Rattle.std.specs.Prelude.{◌≡◌, ◌≤◌, ◌+◌, ◌*◌, ◌==◌, [], ◌++◌, length, take, decimal, slice_index, codes};
 ghost use Rattle.std.specs.List.{flat_map, list_all};
 ghost use Rattle.mass_text.specs.BlockText.{hex_byte, content_text};
 ghost use Rattle.answer_lines.specs.AnswerText.{block_text};
