@@ -1,4 +1,4 @@
-ghost use Rattle.std.specs.Prelude.{◌≡◌, ◌<◌, ℕ, IfOk, IfSome, IsTrue, MatchOption};
+ghost use Rattle.std.specs.Prelude.{◌≡◌, ◌<◌, IfOk, IfSome, IsTrue, MatchOption};
 ghost use Rattle.pack_model.specs.TableSpelling.{Table};
 ghost use Rattle.pack_model.specs.PackTable.{IsTableOf, Tells};
 ghost use Rattle.outside_traits.specs.Causes.{HasCause};
