@@ -1,5 +1,5 @@
 //! Blocks are written and read back.
-ghost use Rattle.std.specs.Prelude.{◌≡◌, ◌≢◌, ◌==◌, ◌<◌, ◌≤◌, false, IsTrue, IfErr, OnOk, OnErr, replicate};
+ghost use Rattle.std.specs.Prelude.{◌≡◌, ◌==◌, ◌<◌, ◌≤◌, false, IsTrue, IfErr, OnOk, OnErr, replicate};
 ghost use Rattle.pack_geometry.specs.Geometry.{block_count};
 ghost use Rattle.pack_model.specs.Pack.{block_at, is_marked};
 ghost use Rattle.block_polls.specs.Stations.{IsAtRest};
