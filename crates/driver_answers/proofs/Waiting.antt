@@ -13,7 +13,7 @@ use Rattle.driver_machine.specs.declared.Made.{Made}
 use Rattle.driver_machine.specs.declared.RetryStep.TheVariants as step
 use Rattle.driver_machine.specs.World.{World, Held, no_held, slot_at, held_in, unit_at, slot_in_hand}
 use Rattle.driver_machine.specs.Acts as deed
-use Rattle.driver_machine.specs.Acts.{Act, Refuse, Submit, Of, Change, Nothing, Taken, Deed, Scene, scene_of, with_scene, effect, answer_at, freed, after, after_all}
+use Rattle.driver_machine.specs.Acts.{Act, Refuse, Submit, Of, Change, Nothing, Taken, Deed, Scene, scene_of, with_scene, effect, answer_at, freed, after}
 use Rattle.driver_machine.specs.Lines.{answer_told, lines_of, lines_of_all}
 use Rattle.driver_machine.specs.Events.{submit_acts, event_acts}
 use Rattle.driver_machine.specs.Guards.{InHand, MayChange}
