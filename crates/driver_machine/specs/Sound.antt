@@ -19,7 +19,7 @@ use Rattle.hardware_table.specs.Adapter.{AdapterState, IsAdapter, late_after}
 use Rattle.main_memory.specs.Blocks.{IsLoan, size_at}
 use Rattle.disksort.specs.declared.Waiter.{Waiter}
 use Rattle.subsystem_spec.specs.ServiceOrder.{IsInOrder}
-use Rattle.transfer_engine.specs.State.{TransferState, segment_of}
+use Rattle.transfer_engine.specs.State.{segment_of}
 use Rattle.transfer_engine.specs.State as engine
 use Rattle.subsystem_spec.specs.declared.answers.AnswerKind.{AnswerKind}
 use Rattle.subsystem_spec.specs.declared.answers.AnswerKind.TheVariants.{ReadOk, WriteOk, Eof, Error}
