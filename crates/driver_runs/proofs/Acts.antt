@@ -12,7 +12,7 @@ use Rattle.hardware_table.specs.Moves.{was_written}
 use Rattle.hardware_table.specs.Adapter.{AdapterState, next_window}
 use Rattle.driver_machine.specs.World.{World, Held, adapter_of, drive_of, unit_at, adapter_at, held_in, slot_in_hand, block_in}
 use Rattle.driver_machine.specs.Acts as deed
-use Rattle.driver_machine.specs.Acts.{Act, Refuse, Submit, Of, Change, Nothing, Taken, Deed, Tried, Scene, scene_of}
+use Rattle.driver_machine.specs.Acts.{Refuse, Submit, Of, Change, Nothing, Taken, Deed, Tried, Scene, scene_of}
 use Rattle.driver_machine.specs.Guards.{InHand, IsBusyFor, Allowed}
 use Rattle.driver_machine.specs.Sound.{SlotOk, Sound}
 use Rattle.driver_phases.proofs.Scene.{HasTransferFor, SceneOk}
