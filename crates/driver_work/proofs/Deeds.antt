@@ -9,7 +9,7 @@ use Rattle.driver_machine.specs.declared.Phase.{Phase}
 use Rattle.driver_machine.specs.declared.Phase.TheVariants.{Queued, Due}
 use Rattle.driver_machine.specs.World.{World, UnitView, AdapterView, Held, adapter_of, unit_at, adapter_at, slot_at, held_in, slot_in_hand, no_unit, no_held, new_adapter_view}
 use Rattle.driver_machine.specs.Acts as deed
-use Rattle.driver_machine.specs.Acts.{Act, Of, Deed, Scene, effect, scene_of, with_scene, after, after_all}
+use Rattle.driver_machine.specs.Acts.{Act, Of, Deed, Scene, effect, scene_of, with_scene, after}
 use Rattle.driver_machine.specs.Due.{next_of, next_by}
 use Rattle.driver_machine.specs.Guards.{InHand, May, Allowed}
 use Rattle.driver_machine.specs.Sound.{Sound, IsOutstanding, WorkOf}

@@ -10,7 +10,7 @@ use Rattle.subsystem_spec.specs.declared.answers.Cause.TheVariants as cause
 use Rattle.driver_machine.specs.declared.Phase.TheVariants.{Queued, Transferring}
 use Rattle.driver_machine.specs.World.{World, UnitView, AdapterView, Held, adapter_of, unit_at, adapter_at, slot_at, held_in, slot_in_hand, transfer_of, new_adapter_view, no_held}
 use Rattle.driver_machine.specs.Acts as deed
-use Rattle.driver_machine.specs.Acts.{Act, Deed, Scene, effect, scene_of, with_drive, after, after_all}
+use Rattle.driver_machine.specs.Acts.{Act, Deed, Scene, effect, scene_of, with_drive, after}
 use Rattle.driver_machine.specs.Due.{sensed, failed, command_of}
 use Rattle.driver_machine.specs.Events.{Part, followed, go_on, until, due_acts, begun, choose_by, choose_acts, adapter_start}
 use Rattle.driver_machine.specs.Guards.{May, IsChosen}
