@@ -1,7 +1,7 @@
 // An adapter: what it holds, and its acts.
 ghost use Rattle.std.specs.Prelude.{◌≡◌, ◌≤◌, ◌<◌, ◌+◌, ◌==◌, ℕ, true, false, if◌then◌else◌, slice_index};
 ghost use Rattle.std.specs.Int.{bit_at};
-ghost use Rattle.hardware_table.specs.Adapter.{new_adapter, bytes_between, registers_used, loaded, IsLoaded, IsAdapter, started, stepped, completed, attention_raised, attention_lowered};
+ghost use Rattle.hardware_table.specs.Adapter.{new_adapter, bytes_between, registers_used, loaded, IsLoaded, IsAdapter, started, completed, attention_raised, attention_lowered};
 ghost use Rattle.mba_adapter.specs.Loaded.{loaded_buffer};
 
 mod steps;

@@ -1,5 +1,5 @@
 // What a transfer uses of its buffer.
-ghost use Rattle.std.specs.Prelude.{◌≡◌, ◌<◌, true, false, length};
+ghost use Rattle.std.specs.Prelude.{◌≡◌, true, false, length};
 ghost use Rattle.main_memory.specs.Blocks.{Loan, IsLoan, size_at};
 ghost use Rattle.hardware_table.specs.Adapter.{AdapterState, IsAdapter, bytes_between, registers_used, next_window, step_bytes};
 ghost use Rattle.mba_adapter.specs.Loaded.{loaded_buffer};
