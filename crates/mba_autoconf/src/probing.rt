@@ -1,5 +1,5 @@
 //! A drive's kind.
-ghost use Rattle.std.specs.Prelude.{◌≡◌, ◌≢◌, ◌↔◌, IfErr, bit_and};
+ghost use Rattle.std.specs.Prelude.{◌≡◌, ◌≢◌, ◌↔◌, IfErr};
 ghost use Rattle.pack_geometry.specs.declared.DriveKind.{DriveKind};
 ghost use Rattle.mba_autoconf.specs.declared.probing.ProbeFault.TheVariants.{Unknown};
 ghost use Rattle.mba_autoconf.specs.Probe.{nine_bits, type_code};
