@@ -1,4 +1,4 @@
-ghost use Rattle.std.specs.Prelude.{◌≡◌, ◌≢◌, ℕ, ◌<◌, ◌≤◌, ◌⊎◌, Bool, IsTrue, List, [], ◌++◌, length, take, IfOk, OnOk, OnErr};
+ghost use Rattle.std.specs.Prelude.{◌≡◌, ℕ, ◌<◌, ◌≤◌, ◌⊎◌, Bool, IsTrue, List, [], ◌++◌, length, take, IfOk, OnOk, OnErr};
 ghost use Rattle.pack_model.specs.Pack.{Pack, block_at, with_written, with_mark, is_marked};
 ghost use Rattle.outside_traits.specs.Causes.{HasCause};
 

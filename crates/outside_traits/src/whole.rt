@@ -1,4 +1,4 @@
-ghost use Rattle.std.specs.Prelude.{◌≡◌, ◌⊎◌, ℕ, ◌+◌, ◌<◌, ◌≤◌, ◌^◌, IsTrue, [], ◌++◌, length, IfOk, IsErrOf};
+ghost use Rattle.std.specs.Prelude.{◌≡◌, ◌⊎◌, ◌+◌, ◌<◌, ◌≤◌, ◌^◌, IsTrue, [], ◌++◌, length, IfOk, IsErrOf};
 ghost use Rattle.outside_traits.specs.Causes.{Rose};
 ghost use Rattle.outside_traits.specs.Puts.{Puts};
 
