@@ -206,7 +206,7 @@ module _ (r : Request) (old : Stage) (unit : IsSetUp old.world r.unit) (is : Are
   other_map : (answer : Answer) (u block : ℕ) → u ≢ r.unit → blocks_after (map_at old) (origin old r + r.block) r answer u block ≡ map_at old u block
   other_map answer u block ne = rw (ne_eqb u r.unit ne) refl
 
-  module _ (new : Stage) (asked drained : List Moment) (m : IsMapped 1 r asked drained old new) where
+  module _ (new : Stage) (asked drained : List Moment) {line : ℕ} (m : IsMapped line r asked drained old new) where
     reached_now : new.given.reached ≡ reached_by Answer_now
     reached_now = m.reached ∙ ap reached_by answered
 

@@ -73,9 +73,9 @@ module _ (r : Request) (n : ℕ) (old new : Stage) (unit : IsSetUp old.world r.u
 
 -- ---- where it stopped
 module _ (stop : Stop) (r : Request) (old new : Stage) (unit : IsSetUp old.world r.unit) (is : AreBlocks (kind_at old.world r.unit) r) (fronts : StoppedHoldsFront) (sound : Sound old.world) (work : AtWork old.world)
-    (quiet : IsQuiet old.world) (good : IsRequest r) (s : Stops stop 1 r old new) where
+    (quiet : IsQuiet old.world) (good : IsRequest r) {line : ℕ} (s : Stops stop line r old new) where
   front : IsTrue new.packs_tell → HasTables (setup_at old) → HoldsFront (setup_at old) r new.held
-  front t tables = fronts stop 1 r old new sound work quiet unit good tables t s
+  front t tables = fronts stop line r old new sound work quiet unit good tables t s
 
   pub read_stops_of : r.written ≡ None → IsTrue new.packs_tell → HasTables (setup_at old) → IsUntouched (plain old) (plain new)
   read_stops_of none t tables = untouched_of r old unit is new none (front t tables)

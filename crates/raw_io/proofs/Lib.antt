@@ -1,8 +1,8 @@
-mod Joins
-mod Asks
-mod Exits
+pub mod Joins
+pub mod Asks
+pub mod Exits
 mod Loops
-mod ReadPieces
+pub mod ReadPieces
 mod ReadRanges
 mod WritePieces
 mod WriteRanges

@@ -1,0 +1,5 @@
+pub mod Requests
+pub mod Entries
+pub mod Calls
+pub mod Contents
+pub mod Laws

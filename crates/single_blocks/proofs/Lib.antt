@@ -1,0 +1,3 @@
+mod Maps
+pub mod Joins
+mod Exits
