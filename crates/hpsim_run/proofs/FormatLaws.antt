@@ -10,7 +10,7 @@ use Rattle.pack_format.specs.declared.fault.FormatFault.{FormatFault}
 use Rattle.pack_format.specs.declared.fault.FormatFault.TheVariants as fault
 use Rattle.hpsim_run.specs.Formats.{RunsFormat, format_status, format_text, formatted_text}
 use Rattle.hpsim_run.specs.Statuses.{status_code}
-use Rattle.hpsim_run.specs.Words.{Told}
+use Rattle.command_parts.specs.Lines.{Told}
 use Rattle.hpsim_run.specs.declared.status.Status.{Status}
 use Rattle.hpsim_run.proofs.ToolLaws.{nothing_more}
 

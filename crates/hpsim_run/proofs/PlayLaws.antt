@@ -14,7 +14,7 @@ use Rattle.hpsim_run.specs.declared.load.LoadFault.{LoadFault}
 use Rattle.hpsim_run.specs.declared.load.LoadFault.TheVariants as loading
 use Rattle.hpsim_run.specs.Headline.{SpellNone}
 use Rattle.hpsim_run.specs.Loading.{RefusesAll}
-use Rattle.hpsim_run.specs.Words.{Told}
+use Rattle.command_parts.specs.Lines.{Told}
 use Rattle.script_words.specs.Refusals.{refusal_text}
 use Rattle.event_player.specs.Plays.{NamesTooLong}
 use Rattle.event_player.specs.Stops.{Leaves}

@@ -10,7 +10,7 @@ use Rattle.script_meaning.specs.Meaning.{meaning}
 use Rattle.event_player.specs.declared.play.PlayFault.{PlayFault}
 use Rattle.event_player.specs.declared.play.PlayFault.TheVariants as faults
 use Rattle.event_player.specs.Plays.{IsTooLong}
-use Rattle.hpsim_run.specs.Outside.{Outside}
+use Rattle.command_parts.specs.Outside.{Outside}
 use Rattle.hpsim_run.specs.Headline.{Headline, HasStopped, TellsRefusal, TellsTooLong, longest}
 use Rattle.hpsim_run.specs.Plays.{RunsPlay}
 use Rattle.hpsim_run.proofs.TheRunLaws.{done_is_that_run}

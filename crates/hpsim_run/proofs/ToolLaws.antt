@@ -19,7 +19,7 @@ use Rattle.hpsim_run.specs.Statuses.{status_code}
 use Rattle.hpsim_run.specs.declared.status.Status.{Status}
 use Rattle.hpsim_run.specs.declared.status.Status.TheVariants.{ToolRefused}
 use Rattle.hpsim_run.specs.Tools.{RunsAdd, RunsFresh, RunsList, RunsMark, entry_text, fault_status, fault_text, marked_text, serial_text}
-use Rattle.hpsim_run.specs.Words.{Told}
+use Rattle.command_parts.specs.Lines.{Told}
 
 -- nothing was put behind what was taken
 pub nothing_more : (mid after : List ℕ) (faults faults_after : ℕ) → Told mid after [] faults faults_after → after ≡ mid

@@ -1,21 +1,19 @@
 -- The commands that the words of the command line name.
 use Rattle.std.specs.Prelude.{ℕ, ◌<◌, ◌-◌, ◌^◌, ◌&&◌, true, false, if◌then◌else◌, List, [], ◌∷◌, Option, None, Some, codes}
-use Rattle.std.specs.List.{find}
 use Rattle.std.specs.Result.{result_ok}
 use Rattle.std.specs.Str.{bytes_eq}
 use Rattle.pack_geometry.specs.declared.DriveKind.{DriveKind}
-use Rattle.pack_geometry.specs.declared.DriveKind.TheVariants.{Rp06, Rm03, Rm05}
-use Rattle.pack_geometry.specs.Geometry.{block_count, kind_word}
+use Rattle.pack_geometry.specs.Geometry.{block_count}
 use Rattle.mass_text.specs.Numbers.{number_of}
 use Rattle.mass_text.specs.declared.numbers.Radix.TheVariants.{Decimal}
 use Rattle.bad144_tool.specs.declared.edit.AddWay.{AddWay}
+use Rattle.command_parts.specs.Fields.{kind_named, unit_named}
+use Rattle.raw_command.specs.Words.{IsInRange, dump_named, raw_named}
+use Rattle.raw_command.specs.declared.words.Transfer.{Transfer}
 use Rattle.hpsim_run.specs.declared.words.Command.{Command}
-use Rattle.hpsim_run.specs.declared.words.Command.TheVariants.{Play, ListTable, AddBlock, FreshTable, MarkBlocks, Exercise, FormatPack}
+use Rattle.hpsim_run.specs.declared.words.Command.TheVariants.{Play, ListTable, AddBlock, FreshTable, MarkBlocks, Exercise, FormatPack, TransferBytes}
 
--- a unit is 0 to 31, a block one of the drive's, a serial number is below 2^32, and the number of an exercise below 2^64; all are decimal
-abbrev pub unit_named : List ℕ → Option ℕ
-unit_named word = result_ok (number_of Decimal 31 word)
-
+-- a block is one of the drive's, a serial number is below 2^32, and the number of an exercise below 2^64; all are decimal
 abbrev pub block_named : DriveKind → List ℕ → Option ℕ
 block_named kind word = result_ok (number_of Decimal (block_count kind - 1) word)
 
@@ -24,13 +22,6 @@ serial_named word = result_ok (number_of Decimal (2 ^ 32 - 1) word)
 
 abbrev pub number_named : List ℕ → Option ℕ
 number_named word = result_ok (number_of Decimal (2 ^ 64 - 1) word)
-
--- `rp06`, `rm03` or `rm05`
-abbrev pub kinds : List DriveKind
-kinds = Rp06 ∷ Rm03 ∷ Rm05 ∷ []
-
-abbrev pub kind_named : List ℕ → Option DriveKind
-kind_named word = find (λ kind. bytes_eq word (kind_word kind)) kinds
 
 -- how a block is added: nothing, `copy`, `mark`, or `copy mark`
 abbrev pub one_named : List ℕ → Option AddWay
@@ -109,15 +100,21 @@ abbrev pub pack_named : List ℕ → List ℕ → List ℕ → List (List ℕ) �
 pack_named unit kind serial [] = format_named (unit_named unit) (kind_named kind) (serial_named serial)
 pack_named unit kind serial (word ∷ words) = None
 
--- THE COMMAND of the words: `play`, one of `bad144`, `exercise`, or `format`
+-- `raw ..` and `dump U KIND`
+abbrev pub transfer_named : Option Transfer → Option Command
+transfer_named None = None
+transfer_named (Some transfer) = Some (TransferBytes transfer)
+
+-- THE COMMAND of the words: `play`, one of `bad144`, `exercise`, `format`, or one that transfers bytes
 abbrev pub command_named : List (List ℕ) → Option Command
 command_named [] = None
 command_named (word ∷ []) = if bytes_eq word (codes "play") then Some Play else None
 command_named (word ∷ number ∷ []) = if bytes_eq word (codes "exercise") then exercise_named (number_named number) else None
-command_named (tool ∷ verb ∷ unit ∷ []) = None
+command_named (word ∷ unit ∷ kind ∷ []) = if bytes_eq word (codes "dump") then transfer_named (dump_named unit kind) else None
 command_named (tool ∷ verb ∷ unit ∷ kind ∷ words) =
     if bytes_eq tool (codes "bad144") then tool_named verb unit kind words
     else if bytes_eq tool (codes "format") then pack_named verb unit kind words
+    else if bytes_eq tool (codes "raw") then transfer_named (raw_named verb unit kind words)
     else None
 
 -- the numbers of a command are in their ranges
@@ -129,3 +126,4 @@ IsValid (FreshTable unit kind serial) = unit < 32
 IsValid (MarkBlocks unit kind) = unit < 32
 IsValid (Exercise number) = number < 2 ^ 64
 IsValid (FormatPack unit kind serial) = unit < 32
+IsValid (TransferBytes transfer) = IsInRange transfer

@@ -11,8 +11,7 @@ use Rattle.pack_format.specs.declared.fault.FormatFault.TheVariants as fault
 use Rattle.hpsim_run.specs.declared.status.Status.{Status}
 use Rattle.hpsim_run.specs.declared.status.Status.TheVariants.{PacksFailed, TooLong, OutOfMemory, FormatRefused}
 use Rattle.hpsim_run.specs.Statuses.{IsFormatCode, status_code}
-use Rattle.hpsim_run.specs.Tools.{too_long_text}
-use Rattle.hpsim_run.specs.Words.{Told}
+use Rattle.command_parts.specs.Lines.{Told, too_long_text}
 
 -- the status of a fault, and what is printed of it
 abbrev pub format_status : FormatFault → Status

@@ -11,9 +11,8 @@ use Rattle.event_player.specs.declared.play.PlayFault.{PlayFault}
 use Rattle.event_player.specs.Plays.{Plays, IsTooLong, NamesTooLong}
 use Rattle.event_player.specs.Stops.{Leaves}
 use Rattle.hpsim_run.specs.SoFar.{Keeps}
-use Rattle.hpsim_run.specs.Words.{Told as TextTold}
+use Rattle.command_parts.specs.Lines.{Told as TextTold, too_long_text}
 use Rattle.script_words.specs.Refusals.{refusal_text}
-use Rattle.hpsim_run.specs.Tools.{too_long_text}
 
 -- THE HEADLINE. Where the source tells, it was read to its end, and its bytes spell these lines; where the packs tell, the lines were
 -- played in a legal run over them, whose answers and lines the sinks took, and all is promised of it; and no image was too long.

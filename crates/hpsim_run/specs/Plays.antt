@@ -7,7 +7,7 @@ use Rattle.script_words.specs.Words.{all_verbs}
 use Rattle.script_meaning.specs.Meaning.{meaning}
 use Rattle.event_player.specs.declared.play.PlayFault.TheVariants as faults
 use Rattle.event_player.specs.Plays.{IsTooLong}
-use Rattle.hpsim_run.specs.Outside.{Outside}
+use Rattle.command_parts.specs.Outside.{Outside}
 use Rattle.hpsim_run.specs.Headline.{Headline, HasStopped, SpellNone, TellsRefusal, TellsTooLong, longest}
 use Rattle.hpsim_run.specs.Statuses.{status_code, IsPlayCode}
 use Rattle.hpsim_run.specs.TheRun.{IsThatRun}

@@ -2,10 +2,12 @@
 use Rattle.std.specs.Prelude.{◌≡◌, ◌⊎◌, ℕ, Option, None, Some}
 use Rattle.pack_geometry.specs.declared.DriveKind.{DriveKind}
 use Rattle.bad144_tool.specs.declared.edit.AddWay.{AddWay}
+use Rattle.raw_command.specs.Faults.{IsTransferCode}
+use Rattle.raw_command.specs.declared.words.Transfer.{Transfer}
 use Rattle.hpsim_run.specs.declared.words.Command.{Command}
-use Rattle.hpsim_run.specs.declared.words.Command.TheVariants.{Play, ListTable, AddBlock, FreshTable, MarkBlocks, Exercise, FormatPack}
+use Rattle.hpsim_run.specs.declared.words.Command.TheVariants.{Play, ListTable, AddBlock, FreshTable, MarkBlocks, Exercise, FormatPack, TransferBytes}
 use Rattle.hpsim_run.specs.declared.status.Status.{Status}
-use Rattle.hpsim_run.specs.declared.status.Status.TheVariants.{Done, Usage, Refused, SourceFailed, SinkFailed, PacksFailed, TooLong, ToolRefused, OutOfMemory, FormatRefused}
+use Rattle.hpsim_run.specs.declared.status.Status.TheVariants.{Done, Usage, Refused, SourceFailed, SinkFailed, PacksFailed, TooLong, ToolRefused, OutOfMemory, TransferRefused, FormatRefused}
 
 abbrev pub status_code : Status → ℕ
 status_code Done = 0
@@ -17,6 +19,7 @@ status_code PacksFailed = 6
 status_code TooLong = 7
 status_code ToolRefused = 8
 status_code OutOfMemory = 9
+status_code TransferRefused = 10
 status_code FormatRefused = 11
 
 -- the statuses of `play`, of the commands of `bad144` without and with refusals of their own, of `exercise`, and of `format`
@@ -47,3 +50,4 @@ pub record IsStatusOf (command : Option Command) (code : ℕ) : Type 0 where
   pub mark : (unit : ℕ) (kind : DriveKind) → command ≡ Some (MarkBlocks unit kind) → IsChangeCode code
   pub exercise : (number : ℕ) → command ≡ Some (Exercise number) → IsExerciseCode code
   pub format : (unit serial : ℕ) (kind : DriveKind) → command ≡ Some (FormatPack unit kind serial) → IsFormatCode code
+  pub transfer : (transfer : Transfer) → command ≡ Some (TransferBytes transfer) → IsTransferCode transfer code

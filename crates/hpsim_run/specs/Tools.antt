@@ -17,7 +17,7 @@ use Rattle.bad144_tool.specs.declared.fault.ToolFault.{ToolFault}
 use Rattle.bad144_tool.specs.declared.fault.ToolFault.TheVariants as fault
 use Rattle.hpsim_run.specs.declared.status.Status.{Status}
 use Rattle.hpsim_run.specs.declared.status.Status.TheVariants.{SinkFailed, PacksFailed, TooLong, ToolRefused}
-use Rattle.hpsim_run.specs.Words.{Told}
+use Rattle.command_parts.specs.Lines.{Told, too_long_text}
 
 -- the status of a fault, and what is printed of it
 abbrev pub fault_status : ToolFault → Status
@@ -29,10 +29,6 @@ fault_status (fault.Spare j) = ToolRefused
 fault_status (fault.TooLong n) = TooLong
 fault_status fault.Store = PacksFailed
 fault_status fault.Sink = SinkFailed
-
--- `too long unit U length L`
-abbrev pub too_long_text : ℕ → ℕ → List ℕ
-too_long_text unit n = codes "too long unit " ++ decimal unit ++ codes " length " ++ decimal n ++ 10 ∷ []
 
 -- nothing further is printed where the packs or the sink failed
 unfoldable pub fault_text : ℕ → ToolFault → List ℕ

@@ -1,9 +1,7 @@
--- The words of the command line, and the texts of refusals.
-use Rattle.std.specs.Prelude.{◌≡◌, ◌⊎◌, ℕ, List, [], ◌∷◌, ◌++◌, Option, map, codes, String}
+-- The words of the command line, and the text for those that are no command.
+use Rattle.std.specs.Prelude.{ℕ, List, [], ◌∷◌, ◌++◌, Option, map, codes, String}
 use Rattle.std.specs.declared.alloc.Global.{Global}
 use Rattle.std.specs.String.{string_bytes}
-use Rattle.outside_traits.specs.Causes.{Rose}
-use Rattle.outside_traits.specs.Puts.{TakesFront}
 use Rattle.hpsim_run.specs.declared.words.Command.{Command}
 use Rattle.hpsim_run.specs.Commands.{command_named}
 
@@ -13,8 +11,3 @@ command_of words = command_named (map string_bytes words)
 
 unfoldable pub usage_text : List ℕ
 usage_text = codes "usage: hpsim play or bad144 list/add/fresh or exercise N" ++ 10 ∷ []
-
--- A text was taken whole; or the sink failed, and took a front of it.
-abbrev pub Told : List ℕ → List ℕ → List ℕ → ℕ → ℕ → Type 0
-Told taken taken_after text faults faults_after =
-    (taken_after ≡ taken ++ text) ⊎ (Rose faults faults_after × TakesFront taken taken_after text)

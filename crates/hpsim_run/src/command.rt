@@ -1,23 +1,27 @@
 ghost use Rattle.std.specs.Prelude.{◌≡◌, ℕ, Some};
 ghost use Rattle.bad144_tool.specs.declared.edit.AddWay.{AddWay};
 ghost use Rattle.pack_geometry.specs.declared.DriveKind.{DriveKind};
+ghost use Rattle.command_parts.specs.Outside.{HasItsCause, outside};
+ghost use Rattle.raw_command.specs.Endings.{RunsTransfer};
+ghost use Rattle.raw_command.specs.declared.words.Transfer.{Transfer};
 ghost use Rattle.hpsim_run.specs.Exercises.{RunsExercise};
 ghost use Rattle.hpsim_run.specs.Formats.{RunsFormat};
-ghost use Rattle.hpsim_run.specs.Leaves.{HasItsCause, LeavesAlone, TellsUsage};
-ghost use Rattle.hpsim_run.specs.Outside.{outside};
+ghost use Rattle.hpsim_run.specs.Leaves.{LeavesAlone, TellsUsage};
 ghost use Rattle.hpsim_run.specs.Plays.{RunsPlay};
 ghost use Rattle.hpsim_run.specs.Statuses.{status_code, IsStatusOf};
 ghost use Rattle.hpsim_run.specs.Tools.{RunsAdd, RunsFresh, RunsList, RunsMark};
 ghost use Rattle.hpsim_run.specs.Words.{command_of as the_command};
-ghost use Rattle.hpsim_run.specs.declared.words.Command.TheVariants.{Play, ListTable, AddBlock, FreshTable, MarkBlocks, Exercise, FormatPack};
+ghost use Rattle.hpsim_run.specs.declared.words.Command.TheVariants.{Play, ListTable, AddBlock, FreshTable, MarkBlocks, Exercise, FormatPack, TransferBytes};
 
 use crate::exercise::run_exercise;
 use crate::formats::run_format;
 use crate::load::{LoadFault, load};
 use crate::status::Status;
-use crate::text::{too_long, usage};
+use crate::text::usage;
 use crate::tools::{run_add, run_fresh, run_list, run_mark};
+use crate::transfers::run_bytes;
 use crate::words::{Command, command_of};
+use command_parts::too_long;
 use driver_runs::next_block_law;
 use event_player::play::{PlayFault, play};
 use outside_traits::traits::{Packs, Sink, Source};
@@ -76,20 +80,23 @@ fn run_play<S: Source, P: Packs, O: Sink, T: Sink>(
 /// `trace`. `bad144 list U KIND`, `bad144 add U KIND BLOCK [copy] [mark]` and `bad144 fresh U KIND SERIAL` list a
 /// pack's bad-sector table, add a block to it, and write an empty one; `bad144 mark U KIND` marks the data blocks that the
 /// table lists. They read no script.
+/// `raw read U KIND PART AT LEN` gives bytes of a partition to `out`; `raw write U KIND PART AT` and `dump U KIND` write those of the source to
+/// a partition, or to the end of partition `b`. They go through the driver, and its lines go to `trace`.
 /// `format U KIND SERIAL` tests every block of a pack through the drive, and writes a table of its marked blocks.
 /// `exercise N` plays the script of a number over empty packs of its own, and prints its tally; its trace goes to `trace`.
 ///
 /// | code | status | comes | printed on `out` |
 /// |---|---|---|---|
-/// | 0 | Done | done | the answers' text, the tool's, or the exercise's four lines |
+/// | 0 | Done | done | the answers' text, the tool's, the exercise's four lines, the bytes that were read, `wrote N`, or `dumped K` |
 /// | 2 | Usage | exactly where the words are no command | the usage |
 /// | 3 | Refused | only where the source's bytes spell no script, and there unless 4 or 9 comes first | `refused line L KIND` |
 /// | 4 | SourceFailed | only where the source's count of faults rose | nothing |
 /// | 5 | SinkFailed | only where the count of `out` or of `trace` rose | nothing further |
 /// | 6 | PacksFailed | only where the packs' count rose | nothing further |
-/// | 7 | TooLong | only where the image of a declared unit, or of the unit of a `bad144` command or of `format`, is longer than its pack, and there unless 4, 6 or 9 comes | `too long unit U length L` |
+/// | 7 | TooLong | only where the image of a declared unit, or of the unit of any other command, is longer than its pack, and there unless 4, 6 or 9 comes | `too long unit U length L` |
 /// | 8 | ToolRefused | only where `bad144 add` is refused, or `bad144 mark` finds no table, and there unless 6 or 7 comes | `refused no table`, `refused reserved`, `refused listed I`, `refused full`, `refused spare I` |
-/// | 9 | OutOfMemory | there was no memory, before the first line was played or the first block written; only of `play`, `exercise` and `format` | nothing |
+/// | 9 | OutOfMemory | there was no memory, before the first line was played or the first block read or written; never of `bad144` | nothing |
+/// | 10 | TransferRefused | exactly where bytes to be transferred reach beyond the partition, or touch a block that can't be used, unless 4, 5, 6, 7 or 9 comes | `refused outside`; `refused unusable D`, or of a read the bytes before that block |
 /// | 11 | FormatRefused | only where `format` refuses the pack, and there unless 6, 7 or 9 comes | `refused too many K`, `refused spare I`, `refused no copy`, `refused differs B` |
 pub fn run<S: Source, P: Packs, O: Sink, T: Sink>(
     alloc: Global,
@@ -128,6 +135,11 @@ pub fn run<S: Source, P: Packs, O: Sink, T: Sink>(
         RunsExercise number result (O.tells out.new) (O.taken out.old) (O.taken out.new) (O.faults out.old) (O.faults out.new)
         (T.tells trace.new) (T.taken trace.old) (T.taken trace.new) (T.faults trace.old) (T.faults trace.new) }
 
+    // Bytes of a partition.
+    ensures transfer { (transfer : Transfer) → the_command words.now ≡ Some (TransferBytes transfer) → RunsTransfer transfer result
+        (outside S.tells S.left S.faults P.tells P.held P.faults O.tells O.taken O.faults T.tells T.taken T.faults script.old packs.old out.old trace.old)
+        (outside S.tells S.left S.faults P.tells P.held P.faults O.tells O.taken O.faults T.tells T.taken T.faults script.new packs.new out.new trace.new) }
+
     // Each status of each command has its cause, and what it does not speak to stays.
     ensures statuses { IsStatusOf (the_command words.now) result }
     ensures usage { TellsUsage (the_command words.now) result (O.tells out.new) (O.taken out.old) (O.taken out.new) (O.faults out.old) (O.faults out.new) }
@@ -158,6 +170,9 @@ pub fn run<S: Source, P: Packs, O: Sink, T: Sink>(
         Some(Command::Exercise { number }) => run_exercise(alloc, number, out, trace).code(),
         Some(Command::FormatPack { unit, kind, serial }) => {
             run_format(alloc, packs, out, unit, kind, serial).code()
+        }
+        Some(Command::TransferBytes { transfer }) => {
+            run_bytes(alloc, transfer, script, packs, out, trace).code()
         }
     }
 }

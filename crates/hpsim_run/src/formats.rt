@@ -3,10 +3,10 @@ ghost use Rattle.std.specs.Prelude.{◌≡◌, ◌<◌, ◌≤◌, IsTrue};
 ghost use Rattle.outside_traits.specs.Causes.{Rose};
 ghost use Rattle.hpsim_run.specs.Formats.{RunsFormat, format_status, format_text, formatted_text};
 ghost use Rattle.hpsim_run.specs.Statuses.{status_code};
-ghost use Rattle.hpsim_run.specs.Words.{Told};
+ghost use Rattle.command_parts.specs.Lines.{Told};
 
 use crate::status::Status;
-use crate::text::{numbered, plain, too_long};
+use command_parts::{numbered, plain, too_long};
 use mass_text::LineBuf;
 use outside_traits::traits::{Packs, Sink};
 use outside_traits::whole::write_all;

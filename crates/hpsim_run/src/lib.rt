@@ -1,8 +1,8 @@
 //! The command of the program: what its words, source, packs and sinks come to, and its status.
 //!
 //! What is proved: `run`, the top call: the headline for `play` and status 0 (`Headline`, `Promises`), and for 5 and 6 what
-//! stands after the stop (`HasStopped`); what `bad144` did to a pack, and what `format` and `exercise` came to, for each status; for each
-//! other status its cause; what refusals print and leave; no other status; completeness. Each clause hangs on the objects that
+//! stands after the stop (`HasStopped`); what `bad144` did to a pack, and what `format`, `exercise` and the transfers of bytes came to, for
+//! each status; for each other status its cause; what refusals print and leave; no other status; completeness. Each clause hangs on the objects that
 //! it speaks of alone. `Status::code` has the numbers.
 //!
 //! Only tested, in `hpsim_rows`: printed texts of worked scripts, each call failing in turn, and that memory suffices.
@@ -15,6 +15,7 @@ mod load;
 mod status;
 mod text;
 mod tools;
+mod transfers;
 mod words;
 
 pub use command::run;

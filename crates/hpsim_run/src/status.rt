@@ -22,6 +22,8 @@ pub enum Status {
     ToolRefused,
     /// There was no memory.
     OutOfMemory,
+    /// A transfer was refused: its range reaches beyond the partition, or touches a block that can't be used.
+    TransferRefused,
     /// The formatter refused the pack.
     FormatRefused,
 }
@@ -41,6 +43,7 @@ impl Status {
             Status::TooLong => 7,
             Status::ToolRefused => 8,
             Status::OutOfMemory => 9,
+            Status::TransferRefused => 10,
             Status::FormatRefused => 11,
         }
     }

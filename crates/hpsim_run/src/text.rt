@@ -1,9 +1,10 @@
-ghost use Rattle.std.specs.Prelude.{◌≡◌, ◌≤◌, ◌+◌, ◌++◌, [], ◌∷◌, decimal, length};
-ghost use Rattle.hpsim_run.specs.Tools.{entry_text, fault_text, marked_text, serial_text, too_long_text};
+ghost use Rattle.std.specs.Prelude.{◌≡◌};
+ghost use Rattle.hpsim_run.specs.Tools.{entry_text, fault_text, marked_text, serial_text};
 ghost use Rattle.hpsim_run.specs.Words.{usage_text};
 
 use bad144_tool::ToolFault;
-use mass_text::{LineBuf, Radix, numeral_law};
+use command_parts::{numbered, plain, too_long};
+use mass_text::LineBuf;
 
 /// The text for words that are no command.
 #[tactic(auto, unfolding(crate::specs::Words::usage_text))]
@@ -12,44 +13,6 @@ pub fn usage() -> LineBuf
 {
     let mut text = LineBuf::new();
     text.put("usage: hpsim play or bad144 list/add/fresh or exercise N\n");
-    text
-}
-
-/// Puts a name and a number, and ends the line.
-pub(crate) fn numbered(name: &str, value: u64) -> LineBuf
-    requires { length name.now ≤ 100 }
-    ensures { result ≡ name.now ++ decimal value ++ 10 ∷ [] }
-{
-    numeral_law(Radix::Decimal);
-    let mut text = LineBuf::new();
-    text.put(name);
-    text.put_number(value, Radix::Decimal);
-    text.put("\n");
-    text
-}
-
-/// A text without a number, as a line.
-pub(crate) fn plain(words: &str) -> LineBuf
-    requires { length words.now ≤ 100 }
-    ensures { result ≡ words.now ++ 10 ∷ [] }
-{
-    let mut text = LineBuf::new();
-    text.put(words);
-    text.put("\n");
-    text
-}
-
-/// The text of an image that is longer than its pack: `too long unit U length L`.
-pub fn too_long(unit: u8, length: u64) -> LineBuf
-    ensures { result ≡ too_long_text unit length }
-{
-    numeral_law(Radix::Decimal);
-    let mut text = LineBuf::new();
-    text.put("too long unit ");
-    text.put_number(u64::from(unit), Radix::Decimal);
-    text.put(" length ");
-    text.put_number(length, Radix::Decimal);
-    text.put("\n");
     text
 }
 

@@ -3,7 +3,7 @@ ghost use Rattle.pack_geometry.specs.Geometry.{block_count};
 ghost use Rattle.outside_traits.specs.Causes.{Rose};
 ghost use Rattle.hpsim_run.specs.Statuses.{status_code};
 ghost use Rattle.hpsim_run.specs.Tools.{RunsAdd, RunsFresh, RunsList, RunsMark, fault_status, fault_text};
-ghost use Rattle.hpsim_run.specs.Words.{Told};
+ghost use Rattle.command_parts.specs.Lines.{Told};
 
 use crate::status::Status;
 use crate::text::{entry_line, fault_line, marked_line, serial_line};

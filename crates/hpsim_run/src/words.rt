@@ -1,11 +1,15 @@
 ghost use Rattle.std.specs.Prelude.{◌≡◌, ◌<◌, ◌-◌, ◌^◌, map, IfSome, Some, None};
 ghost use Rattle.std.specs.String.{string_bytes};
 ghost use Rattle.pack_geometry.specs.Geometry.{block_count};
-ghost use Rattle.hpsim_run.specs.Commands.{IsValid, add_named, block_named, both_named, one_named, command_named, exercise_named, format_named, fresh_named, kind_named, list_named, mark_named, number_named, pack_named, serial_named, tool_named, unit_named, way_named};
+ghost use Rattle.command_parts.specs.Fields.{kind_named, unit_named};
+ghost use Rattle.raw_command.specs.Words.{IsInRange};
+ghost use Rattle.hpsim_run.specs.Commands.{IsValid, add_named, block_named, both_named, one_named, command_named, exercise_named, format_named, fresh_named, list_named, mark_named, number_named, pack_named, serial_named, tool_named, transfer_named, way_named};
 
 use bad144_tool::AddWay;
+use command_parts::{kind_in, unit_in};
 use mass_text::{Radix, number};
-use pack_geometry::{DriveKind, blocks, kind_of};
+use pack_geometry::{DriveKind, blocks};
+use raw_command::{Transfer, dump_in, raw_in};
 
 /// What the words of the command line ask for.
 #[derive(Clone, Copy, Debug, PartialEq, Eq)]
@@ -45,15 +49,10 @@ pub enum Command {
         kind: DriveKind,
         serial: u32,
     },
-}
-
-/// A unit in decimal, 0 to 31.
-fn unit_in(word: &str) -> Option<u8>
-    ensures unit { result ≡ unit_named word.now }
-    ensures small { IfSome result (λ unit. unit < 32) }
-{
-    let unit = number(word.as_bytes(), Radix::Decimal, 31).ok()?;
-    Some(unit as u8)
+    /// Bytes of a partition are transferred.
+    TransferBytes {
+        transfer: Transfer,
+    },
 }
 
 /// A block of the drive in decimal.
@@ -78,13 +77,6 @@ fn number_in(word: &str) -> Option<u64>
     ensures { result ≡ number_named word.now }
 {
     number(word.as_bytes(), Radix::Decimal, u64::MAX).ok()
-}
-
-/// The kind that a word names.
-fn kind_in(word: &str) -> Option<DriveKind>
-    ensures { result ≡ kind_named word.now }
-{
-    kind_of(word.as_bytes())
 }
 
 /// `copy` or `mark`.
@@ -234,6 +226,16 @@ fn pack_command(unit: &str, kind: &str, serial: &str, rest: &[String]) -> Option
     }
 }
 
+/// The command that transfers these bytes, if there are any.
+fn transfer_command(transfer: Option<Transfer>) -> Option<Command>
+    requires { IfSome transfer IsInRange }
+    ensures named { result ≡ transfer_named transfer }
+    ensures valid { IfSome result IsValid }
+{
+    let transfer = transfer?;
+    Some(Command::TransferBytes { transfer })
+}
+
 /// The command that the words name; None where they name none.
 pub fn command_of(words: &[String]) -> Option<Command>
     ensures named { result ≡ command_named (map string_bytes words.now) }
@@ -253,6 +255,9 @@ pub fn command_of(words: &[String]) -> Option<Command>
             if tool.as_str() == "format" {
                 return pack_command(verb.as_str(), unit.as_str(), kind.as_str(), rest);
             }
+            if tool.as_str() == "raw" {
+                return transfer_command(raw_in(verb.as_str(), unit.as_str(), kind.as_str(), rest));
+            }
             None
         }
         [word, number] => {
@@ -261,7 +266,12 @@ pub fn command_of(words: &[String]) -> Option<Command>
             }
             None
         }
+        [word, unit, kind] => {
+            if word.as_str() == "dump" {
+                return transfer_command(dump_in(unit.as_str(), kind.as_str()));
+            }
+            None
+        }
         [] => None,
-        [_, _, _] => None,
     }
 }

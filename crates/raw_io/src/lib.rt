@@ -6,7 +6,7 @@
 //! (`GivesRange`, `PutsRange`); each block of which a byte was read has its clean line; every other byte of every block stays; where the
 //! trace or the packs fail a front of the blocks is replaced, each whole (`StopsAt`). The lines are those of a session of requests of at
 //! most 127 whole blocks, and the driver is ready again behind Ok and `Unusable`. What the packs hold is said where they tell it, and the
-//! driver's tables are theirs. Nothing here is only tested.
+//! driver's tables are theirs. `is_outside` is exact. Nothing here is only tested.
 #![tactic(auto)]
 
 mod blocks;
@@ -18,5 +18,6 @@ mod writing;
 
 pub use dumping::dump;
 pub use fault::RawFault;
+pub use pieces::is_outside;
 pub use reading::raw_read;
 pub use writing::raw_write;

@@ -16,8 +16,8 @@ pub(crate) struct Piece {
     pub(crate) size: usize,
 }
 
-/// Whether a range reaches beyond its partition.
-pub(crate) fn is_outside(kind: DriveKind, part: Part, at: u64, size: usize) -> bool
+/// Whether a range of so many bytes from place `at` on, below 2^40, reaches beyond its partition.
+pub fn is_outside(kind: DriveKind, part: Part, at: u64, size: usize) -> bool
     requires { at < 2 ^ 40 }
     ensures { IsTrue result ↔ IsOutside kind part at size }
 {

@@ -12,4 +12,5 @@ returns-in-Some-Play-clause-statuses g c = record {
   mark = search rules;
   exercise = search rules;
   format = search rules;
+  transfer = search rules;
 }

@@ -1,6 +1,6 @@
 use Rattle.std.proofs.Common.{ap, Err, subst}
 use Rattle.hpsim_run.specs.Tools.{fault_text}
-use Rattle.hpsim_run.specs.Words.{Told}
+use Rattle.command_parts.specs.Lines.{Told}
 use Rattle.hpsim_run.proofs.ToolLaws.{list_front, list_run, sink_text}
 use Rattle.hpsim_run.proofs.tools.run_list.Goals as goal
 

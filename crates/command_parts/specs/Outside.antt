@@ -1,5 +1,6 @@
--- What is seen of the outside: of the source, the packs and the two sinks, whether each tells, what it holds, and its count of faults.
-use Rattle.std.specs.Prelude.{ℕ, Bool, List}
+-- What a command meets outside: of the source, the packs and the two sinks, whether each tells, what it holds, and its count of faults.
+use Rattle.std.specs.Prelude.{◌≡◌, ◌⊎◌, ℕ, Bool, List}
+use Rattle.outside_traits.specs.Causes.{Rose}
 use Rattle.pack_model.specs.Pack.{Pack}
 
 pub record Outside : Type 0 where
@@ -33,3 +34,9 @@ outside source_tells left source_faults packs_tell held packs_faults out_tells s
   taken = taken trace;
   trace_faults = trace_faults trace;
 }
+
+-- AN OBJECT FAILED only where its count of faults rose: the source with the status 4, a sink with 5, the packs with 6.
+pub record HasItsCause (code : ℕ) (old new : Outside) : Type 0 where
+  pub source : code ≡ 4 → Rose old.source_faults new.source_faults
+  pub sink : code ≡ 5 → Rose old.out_faults new.out_faults ⊎ Rose old.trace_faults new.trace_faults
+  pub store : code ≡ 6 → Rose old.packs_faults new.packs_faults

@@ -1,5 +1,5 @@
 -- The word of a kind.
-use Rattle.std.proofs.Common.{arith, ◌≡◌, ◌≢◌, ℕ, Bool, true, false, List, [], ◌∷◌, length, map, refl, ap, sym, ◌∙◌, None, Some}
+use Rattle.std.proofs.Common.{◌≡◌, ◌≢◌, ℕ, Bool, true, false, List, [], ◌∷◌, refl, ap, sym, ◌∙◌, None, Some}
 use Rattle.std.specs.Prelude.{◌↔◌, cond, IfNone, Option}
 use Rattle.std.specs.List.{find}
 use Rattle.std.specs.Str.{bytes_eq}
@@ -7,7 +7,7 @@ use Rattle.std.proofs.lemmas.Slice.Eq.{bytes_eq-Decides}
 use Rattle.pack_geometry.specs.declared.DriveKind.{DriveKind}
 use Rattle.pack_geometry.specs.declared.DriveKind.TheVariants.{Rp06, Rm03, Rm05}
 use Rattle.pack_geometry.specs.Geometry.{kind_word}
-use Rattle.hpsim_run.specs.Commands.{command_named, kind_named, kinds}
+use Rattle.command_parts.specs.Fields.{kind_named, kinds}
 
 not_true : (b : Bool) → (b ≡ true → ⊥) → b ≡ false
 not_true true no_one = absurd (no_one refl)
@@ -30,11 +30,3 @@ pub kind_is : (found : Option DriveKind) (text : List ℕ) → ((kind : DriveKin
     → IfNone found ((kind : DriveKind) → text ≢ kind_word kind) → found ≡ kind_named text
 kind_is None text named none = sym (none_named kinds text none)
 kind_is (Some kind) text named none = sym (ap kind_named ((named kind).0 refl) ∙ kind_of_word kind)
-
--- three words are no command
-pub three_words : {X : Type 0} (text : X → List ℕ) (words : List X) → length words ≡ 3 → None ≡ command_named (map text words)
-three_words text [] e = absurd (omega (arith, e))
-three_words text (a ∷ []) e = absurd (omega (arith, e))
-three_words text (a ∷ b ∷ []) e = absurd (omega (arith, e))
-three_words text (a ∷ b ∷ c ∷ []) e = refl
-three_words text (a ∷ b ∷ c ∷ d ∷ words) e = absurd (omega (arith, e))

@@ -1,0 +1,22 @@
+// Words that name a unit and a kind of drive.
+ghost use Rattle.std.specs.Prelude.{◌≡◌, ◌<◌, IfSome};
+ghost use Rattle.command_parts.specs.Fields.{kind_named, unit_named};
+
+use mass_text::{Radix, number};
+use pack_geometry::{DriveKind, kind_of};
+
+/// A unit in decimal, 0 to 31.
+pub fn unit_in(word: &str) -> Option<u8>
+    ensures unit { result ≡ unit_named word.now }
+    ensures small { IfSome result (λ unit. unit < 32) }
+{
+    let unit = number(word.as_bytes(), Radix::Decimal, 31).ok()?;
+    Some(unit as u8)
+}
+
+/// The kind that a word names.
+pub fn kind_in(word: &str) -> Option<DriveKind>
+    ensures { result ≡ kind_named word.now }
+{
+    kind_of(word.as_bytes())
+}

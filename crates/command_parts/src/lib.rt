@@ -1,0 +1,12 @@
+//! What the commands of the program share: the units and kinds that their words name, and the lines that they print.
+//!
+//! Defined in `specs/`: what a command meets outside (`Outside`), and a text that was taken whole or in part (`Told`).
+//!
+//! What is proved: `unit_in` and `kind_in` give just what their words name; `numbered`, `plain` and `too_long` are just their texts.
+#![tactic(auto)]
+
+mod fields;
+mod lines;
+
+pub use fields::{kind_in, unit_in};
+pub use lines::{numbered, plain, too_long};

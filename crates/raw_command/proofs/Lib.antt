@@ -1,0 +1,6 @@
+pub mod Setups
+pub mod Stages
+pub mod UnitLaws
+pub mod RunLaws
+pub mod Writings
+pub mod WordLaws

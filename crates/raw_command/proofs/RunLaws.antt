@@ -1,0 +1,221 @@
+-- WHAT A TRANSFER ENDS WITH, from what its parts answer.
+use Rattle.std.proofs.Common.{◌≡◌, ◌⊎◌, inl, inr, ℕ, ◌+◌, ◌<◌, ◌≤◌, Bool, false, IsTrue, List, [], ◌++◌, take, length, Ok, Err, refl, sym, ap, subst, ◌∙◌, arith, append-nil}
+use Rattle.std.specs.Prelude.{Some, Result, OnOk, OnErr, ◌*◌, ◌↔◌}
+use Rattle.std.proofs.Math.Seq.{take-length}
+use Rattle.std.proofs.lemmas.List.{length-take-le}
+use Rattle.partitions.specs.declared.Part.{Part}
+use Rattle.partitions.specs.Partitions.{size_of}
+use Rattle.outside_traits.specs.Causes.{HasCause, Rose}
+use Rattle.outside_traits.specs.Puts.{TakesFront}
+use Rattle.pack_geometry.specs.declared.DriveKind.{DriveKind}
+use Rattle.partition_bytes.specs.Bytes.{IsOutside}
+use Rattle.driver_outcome.specs.declared.Stop.TheVariants as stopped
+use Rattle.command_parts.specs.Lines.{Told}
+use Rattle.command_parts.specs.Outside.{HasItsCause, Outside}
+use Rattle.raw_command.specs.Endings.{GivesAll, GivesCut, GivesFront, IsBeyond, IsTooLong, IsUntouched, ReadEnds, Stays, Took, WriteEnds, bytes_for, fault_text, kind_of, limit_of, target_for, unit_of}
+use Rattle.raw_command.specs.Faults.{Answer, IsReadCode, IsBefore, IsOfUnit, IsSilent, code_of, stop_of}
+use Rattle.raw_command.specs.Transfers.{HasRead, LeftRead, LeftWritten}
+use Rattle.raw_command.specs.Units.{IsFoundLong}
+use Rattle.raw_command.specs.declared.fault.TransferFault.{TransferFault}
+use Rattle.raw_command.specs.declared.fault.TransferFault.TheVariants as fault
+use Rattle.raw_command.specs.declared.words.Target.{Target}
+use Rattle.raw_command.specs.declared.words.Writing.{Writing}
+use Rattle.raw_command.specs.declared.words.Writing.TheVariants.{Raw, Dump}
+
+-- WHERE A UNIT answered a fault, and that was told
+pub record Faulted (unit : ℕ) (kind : DriveKind) (f : TransferFault) (old new : Outside) : Type 0 where
+  pub only : IsOfUnit (Some f)
+  pub store : stop_of (Some f) ≡ Some stopped.Store → Rose old.packs_faults new.packs_faults
+  pub sink : stop_of (Some f) ≡ Some stopped.Sink → Rose old.trace_faults new.trace_faults
+  pub untraced : IsBefore (Some f) → new.taken ≡ old.taken
+  pub same : IsBefore (Some f) → IsTrue new.packs_tell → new.held ≡ old.held
+  pub long : IsFoundLong new.packs_tell (old.held unit) kind f
+  pub told : IsTrue new.out_tells → Told old.said new.said (fault_text unit f) old.out_faults new.out_faults
+  pub silent : IsSilent f → new.said ≡ old.said
+
+too_long : {unit n : ℕ} {kind : DriveKind} {old new : Outside} → Faulted unit kind (fault.TooLong n) old new → IsTooLong unit kind old new n
+too_long is = record {
+  refused = record { packs = is.same tt; trace = is.untraced tt; told = is.told };
+  above = is.long.above;
+  is = is.long.is;
+}
+
+untouched : {unit : ℕ} {kind : DriveKind} {old new : Outside} → Faulted unit kind fault.Memory old new → IsUntouched old new
+untouched is = record { packs = is.same tt; trace = is.untraced tt; out = is.silent tt }
+
+pub read_fault : (t : Target) (size : ℕ) {old new : Outside} (f : TransferFault) → ((done : ℕ) → f ≡ fault.Unusable done → ⊥) → ¬ (IsOutside t.kind t.part t.at size)
+    → Faulted t.unit t.kind f old new → (IsTrue new.packs_tell → LeftRead f t old.held new.held) → ReadEnds t size (Err f) old new
+read_fault t size fault.Memory usable inside is left = (inside, untouched is)
+read_fault t size (fault.TooLong n) usable inside is left = (inside, too_long is)
+read_fault t size (fault.Unusable done) usable inside is left = absurd (usable done refl)
+read_fault t size fault.Store usable inside is left = (is.store refl, record { inside = inside; out = is.silent tt; left = left })
+read_fault t size fault.Sink usable inside is left = inl (is.sink refl, record { inside = inside; out = is.silent tt; left = left })
+read_fault t size fault.Source usable inside is left = absurd is.only
+read_fault t size fault.Outside usable inside is left = absurd is.only
+
+pub write_fault : {w : Writing} {from : List ℕ} {old new : Outside} (f : TransferFault) → Took w from old new → Faulted (unit_of w) (kind_of w) f old new
+    → ((done : ℕ) → f ≡ fault.Unusable done → WriteEnds w (Err (fault.Unusable done)) old new)
+    → (IsTrue new.packs_tell → LeftWritten f (target_for w from) (bytes_for w from) old.held new.held) → WriteEnds w (Err f) old new
+write_fault fault.Memory took is front left = untouched is
+write_fault {from = from} (fault.TooLong n) took is front left = record { from = from; took = took; long = too_long is }
+write_fault (fault.Unusable done) took is front left = front done refl
+write_fault {from = from} fault.Store took is front left = (is.store refl, record { from = from; took = took; out = is.silent tt; left = left })
+write_fault {from = from} fault.Sink took is front left = inl (is.sink refl, record { from = from; took = took; out = is.silent tt; left = left })
+write_fault fault.Source took is front left = absurd is.only
+write_fault fault.Outside took is front left = absurd is.only
+
+-- ---- WHAT STAYS, by the answer
+module _ {P O T : Type 0} {packs packs' : P} {out out' : O} {trace trace' : T} where
+  -- where a status is none of these
+  pub stays_by : (code : ℕ) → (code ≡ 4 → ⊥) → (code ≡ 7 → ⊥) → (code ≡ 9 → ⊥) → Stays code packs packs' out out' trace trace'
+  stays_by code four seven nine = record {
+    untouched = λ e. absurd (four e);
+    silent = λ e. absurd (elim e [ inl e ↦ four e | inr e ↦ nine e ]);
+    untraced = λ e. absurd (elim e [ inl e ↦ four e | inr (inl e) ↦ seven e | inr (inr e) ↦ nine e ]);
+  }
+
+  pub stays_fault : (f : TransferFault) → IsOfUnit (Some f) → (IsBefore (Some f) → trace' ≡ trace) → (IsSilent f → out' ≡ out)
+      → Stays (code_of (Err f)) packs packs' out out' trace trace'
+  stays_fault fault.Memory only untraced silent = record { untouched = λ e. absurd (omega (arith, e)); silent = λ e. silent tt; untraced = λ e. untraced tt }
+  stays_fault (fault.TooLong n) only untraced silent = record {
+    untouched = λ e. absurd (omega (arith, e));
+    silent = λ e. absurd (elim e [ inl e ↦ omega (arith, e) | inr e ↦ omega (arith, e) ]);
+    untraced = λ e. untraced tt;
+  }
+  stays_fault (fault.Unusable done) only untraced silent = stays_by 10 (λ e. omega (arith, e)) (λ e. omega (arith, e)) (λ e. omega (arith, e))
+  stays_fault fault.Store only untraced silent = stays_by 6 (λ e. omega (arith, e)) (λ e. omega (arith, e)) (λ e. omega (arith, e))
+  stays_fault fault.Sink only untraced silent = stays_by 5 (λ e. omega (arith, e)) (λ e. omega (arith, e)) (λ e. omega (arith, e))
+  stays_fault fault.Source only untraced silent = absurd only
+  stays_fault fault.Outside only untraced silent = absurd only
+
+-- ---- THE SOURCE, whose bytes were read up to a limit
+pub beyond_more : (w : Writing) (n m : ℕ) → n ≤ m → IsBeyond w n → IsBeyond w m
+beyond_more (Raw t) n m le (inl e) = inl (omega (arith, le, e))
+beyond_more (Raw t) n m le (inr e) = inr (omega (arith, le, e))
+beyond_more (Dump unit kind) n m le e = omega (arith, le, e)
+
+less_or : (n m : ℕ) → (n ≤ m) ⊎ (m < n)
+less_or n m = grind arith
+
+pub within : (w : Writing) (n : ℕ) → ¬ (IsBeyond w n) → n ≤ limit_of w
+within (Raw t) n inside = elim (less_or n 16777216) [ inl le ↦ le | inr more ↦ absurd (inside (inl more)) ]
+within (Dump unit kind) n inside = elim (less_or n 8388608) [ inl le ↦ le | inr more ↦ absurd (inside more) ]
+
+false_is : (b : Bool) → b ≡ false → IsTrue b → ⊥
+false_is b e t = grind (arith, e, t)
+
+pub not_beyond : (w : Writing) (b : Bool) (n m k : ℕ) → (IsTrue b ↔ IsBeyond w n) → b ≡ false → n ≡ k → m ≡ k → ¬ (IsBeyond w m)
+not_beyond w b n m k iff e one two is = false_is b e (iff.1 (subst (λ (x : ℕ). IsBeyond w x) (two ∙ sym one) is))
+
+pub took_so : (w : Writing) (from items : List ℕ) (limit : ℕ) (old new : Outside) → from ≡ items → (IsTrue new.source_tells → old.left ≡ items ++ new.left)
+    → (IsTrue new.source_tells → (new.left ≡ []) ⊎ (limit < length items)) → limit ≡ limit_of w → ¬ (IsBeyond w (length from)) → Took w from old new
+took_so w from items limit old new e all end is inside =
+    let few : length from ≤ limit_of w = within w (length from) inside in
+    let same : length from ≡ length items = ap (λ (xs : List ℕ). length xs) e in record {
+      read = λ t. elim (end t) [
+        | inl none ↦ (all t ∙ ap (λ (xs : List ℕ). items ++ xs) none ∙ append-nil items ∙ sym e, none)
+        | inr more ↦ absurd (omega (arith, more, few, same, is))
+      ];
+      inside = inside;
+    }
+
+-- what is not printed
+silent_text : (unit : ℕ) (f : TransferFault) → IsSilent f → fault_text unit f ≡ []
+unfolding fault_text
+silent_text unit fault.Memory is = refl
+silent_text unit fault.Source is = refl
+silent_text unit fault.Store is = refl
+silent_text unit fault.Sink is = refl
+silent_text unit fault.Outside is = absurd is
+silent_text unit (fault.TooLong n) is = absurd is
+silent_text unit (fault.Unusable n) is = absurd is
+
+pub told_silent : (taken : List ℕ) (unit n : ℕ) (f : TransferFault) → IsSilent f → Told taken taken (fault_text unit f) n n
+told_silent taken unit n f is = inl (sym (ap (λ (text : List ℕ). taken ++ text) (silent_text unit f is) ∙ append-nil taken))
+
+pub is_silent : (f : TransferFault) → (f ≡ fault.Memory) ⊎ (f ≡ fault.Source) ⊎ (f ≡ fault.Store) ⊎ (f ≡ fault.Sink) → IsSilent f
+is_silent f (inl e) = subst IsSilent (sym e) tt
+is_silent f (inr (inl e)) = subst IsSilent (sym e) tt
+is_silent f (inr (inr (inl e))) = subst IsSilent (sym e) tt
+is_silent f (inr (inr (inr e))) = subst IsSilent (sym e) tt
+
+-- a range that is inside
+pub inside_range : (kind : DriveKind) (part : Part) (at size : ℕ) → at + size ≤ 512 * size_of kind part → ¬ (IsOutside kind part at size)
+inside_range kind part at size le outside = omega (arith, le, outside)
+
+all_taken : (n : ℕ) (xs : List ℕ) → length xs ≡ n → take n xs ≡ xs
+all_taken n xs e = subst (λ (m : ℕ). take m xs ≡ xs) e (take-length xs)
+
+-- READS that were printed
+module _ {t : Target} {size : ℕ} {old new : Outside} (into : List ℕ) (long : length into ≡ size) (inside : ¬ (IsOutside t.kind t.part t.at size)) where
+  pub gives_all : (IsTrue new.packs_tell → HasRead t size size (take size into) old.held new.held new.trace_tells old.taken new.taken)
+      → (IsTrue new.out_tells → new.said ≡ old.said ++ into) → GivesAll t size old new
+  gives_all read told = record {
+    bytes = take size into;
+    gives = record { inside = inside; long = ap (λ (xs : List ℕ). length xs) (all_taken size into long) ∙ long; read = read };
+    told = λ is. told is ∙ ap (λ (xs : List ℕ). old.said ++ xs) (sym (all_taken size into long));
+  }
+
+  pub gives_cut : (IsTrue new.packs_tell → HasRead t size size (take size into) old.held new.held new.trace_tells old.taken new.taken) → Rose old.out_faults new.out_faults
+      → (IsTrue new.out_tells → TakesFront old.said new.said into) → GivesCut t size old new
+  gives_cut read rose front = record {
+    bytes = take size into;
+    gives = record { inside = inside; long = ap (λ (xs : List ℕ). length xs) (all_taken size into long) ∙ long; read = read };
+    rose = rose;
+    front = λ is. subst (λ (xs : List ℕ). TakesFront old.said new.said xs) (sym (all_taken size into long)) (front is);
+  }
+
+  pub gives_front : {T E : Type 0} (done : ℕ) (from : List ℕ) (result : Result T E) → from ≡ take done into → done < size
+      → (IsTrue new.packs_tell → HasRead t size done (take done into) old.held new.held new.trace_tells old.taken new.taken)
+      → OnOk result (IsTrue new.out_tells → new.said ≡ old.said ++ from) → OnErr result (IsTrue new.out_tells → TakesFront old.said new.said from)
+      → HasCause old.out_faults new.out_faults result → GivesFront t size done old new
+  gives_front done from result e few read all front cause = record {
+    bytes = take done into;
+    some_left = few;
+    gives = record { inside = inside; long = length-take-le done into (below done size (length into) few long); read = read };
+    told = λ is. subst (λ (xs : List ℕ). Told old.said new.said xs old.out_faults new.out_faults) e (written result all front cause is);
+  }
+    where
+      below : (n m k : ℕ) → n < m → k ≡ m → n ≤ k
+      below n m k lt e = omega (arith, lt, e)
+
+      written : {T E : Type 0} (r : Result T E) → OnOk r (IsTrue new.out_tells → new.said ≡ old.said ++ from) → OnErr r (IsTrue new.out_tells → TakesFront old.said new.said from)
+          → HasCause old.out_faults new.out_faults r → IsTrue new.out_tells → Told old.said new.said from old.out_faults new.out_faults
+      written (Ok value) all front cause is = inl (all is)
+      written (Err failed) all front cause is = inr (cause.failed, front is)
+
+-- ---- THE UNIT of what is written
+pub unit_for : (w : Writing) (from : List ℕ) → (target_for w from).unit ≡ unit_of w
+unit_for (Raw t) from = refl
+unit_for (Dump unit kind) from = refl
+
+pub kind_for : (w : Writing) (from : List ℕ) → (target_for w from).kind ≡ kind_of w
+kind_for (Raw t) from = refl
+kind_for (Dump unit kind) from = refl
+
+-- ---- THE STATUSES of a read, and their causes
+pub read_status : (t : Target) (size : ℕ) (answer : Answer) (old new : Outside) → ReadEnds t size answer old new → IsReadCode (code_of answer)
+read_status t size (Ok value) old new ends = inl refl
+read_status t size (Err fault.Outside) old new ends = inr (inr (inr (inr (inr refl))))
+read_status t size (Err fault.Memory) old new ends = inr (inr (inr (inr (inl refl))))
+read_status t size (Err (fault.TooLong n)) old new ends = inr (inr (inr (inl refl)))
+read_status t size (Err (fault.Unusable done)) old new ends = inr (inr (inr (inr (inr refl))))
+read_status t size (Err fault.Store) old new ends = inr (inr (inl refl))
+read_status t size (Err fault.Sink) old new ends = inr (inl refl)
+read_status t size (Err fault.Source) old new ends = absurd ends
+
+no_cause : {code : ℕ} {old new : Outside} → (code ≡ 4 → ⊥) → (code ≡ 5 → ⊥) → (code ≡ 6 → ⊥) → HasItsCause code old new
+no_cause four five six = record { source = λ e. absurd (four e); sink = λ e. absurd (five e); store = λ e. absurd (six e) }
+
+sink_rose : (t : Target) (size : ℕ) {old new : Outside} → ReadEnds t size (Err fault.Sink) old new → Rose old.out_faults new.out_faults ⊎ Rose old.trace_faults new.trace_faults
+sink_rose t size ends = elim ends [ inl is ↦ inr is.0 | inr is ↦ inl is.rose ]
+
+pub read_causes : (t : Target) (size : ℕ) (answer : Answer) {old new : Outside} → ReadEnds t size answer old new → HasItsCause (code_of answer) old new
+read_causes t size (Ok value) ends = no_cause (λ e. omega (arith, e)) (λ e. omega (arith, e)) (λ e. omega (arith, e))
+read_causes t size (Err fault.Outside) ends = no_cause (λ e. omega (arith, e)) (λ e. omega (arith, e)) (λ e. omega (arith, e))
+read_causes t size (Err fault.Memory) ends = no_cause (λ e. omega (arith, e)) (λ e. omega (arith, e)) (λ e. omega (arith, e))
+read_causes t size (Err (fault.TooLong n)) ends = no_cause (λ e. omega (arith, e)) (λ e. omega (arith, e)) (λ e. omega (arith, e))
+read_causes t size (Err (fault.Unusable done)) ends = no_cause (λ e. omega (arith, e)) (λ e. omega (arith, e)) (λ e. omega (arith, e))
+read_causes t size (Err fault.Store) ends = record { source = λ e. absurd (omega (arith, e)); sink = λ e. absurd (omega (arith, e)); store = λ e. ends.0 }
+read_causes t size (Err fault.Sink) ends = record { source = λ e. absurd (omega (arith, e)); sink = λ e. sink_rose t size ends; store = λ e. absurd (omega (arith, e)) }
+read_causes t size (Err fault.Source) ends = absurd ends

@@ -1,0 +1,5 @@
+pub mod Words
+pub mod Faults
+pub mod Units
+pub mod Transfers
+pub mod Endings

@@ -1,0 +1,116 @@
+-- WHAT A TRANSFER COMES TO over the packs, by the contents of its unit's data blocks.
+use Rattle.std.specs.Prelude.{◌≡◌, ◌⊎◌, ℕ, ◌+◌, ◌<◌, ◌≤◌, Bool, true, false, IsTrue, List, ◌++◌, take, length, Option, Some, IfSome}
+use Rattle.pack_geometry.specs.Geometry.{block_count}
+use Rattle.pack_model.specs.Pack.{Pack, block_at}
+use Rattle.pack_model.specs.Homes.{IsHome, content_of}
+use Rattle.pack_model.specs.PackTable.{IsTableOf}
+use Rattle.pack_model.specs.TableSpelling.{Table}
+use Rattle.partitions.specs.Partitions.{first_of}
+use Rattle.trace_replay.specs.Replay.{Replay, IsOver}
+use Rattle.trace_replay.specs.Text.{trace_text}
+use Rattle.block_machine.specs.Machine.{Blocks}
+use Rattle.block_machine.specs.Stands.{start_over}
+use Rattle.driver_runs.specs.Runs.{Stay}
+use Rattle.waited_requests.specs.Sessions.{Part, IsSession, behind_all, told_in}
+use Rattle.waited_requests.specs.Cleans.{MovedClean}
+use Rattle.partition_bytes.specs.Bytes.{range, Touches, ComesTo, with_range}
+use Rattle.partition_bytes.specs.Pieces.{EndsBlock}
+use Rattle.raw_io.specs.Transfers.{AreWaited}
+use Rattle.mba_autoconf.specs.Attach.{Fits}
+use Rattle.raw_command.specs.Faults.{done_by}
+use Rattle.raw_command.specs.Units.{at_unit, unit_setup, KeepsUnit}
+use Rattle.raw_command.specs.declared.fault.TransferFault.{TransferFault}
+use Rattle.raw_command.specs.declared.fault.TransferFault.TheVariants as fault
+use Rattle.raw_command.specs.declared.words.Target.{Target}
+
+-- the contents of the unit's data blocks, and where its partition begins
+abbrev pub blocks_in : Target → Option Table → (ℕ → Pack) → Blocks
+blocks_in t table held = content_of t.kind table (held t.unit)
+
+abbrev pub first_in : Target → ℕ
+first_in t = first_of t.kind t.part
+
+-- the replay of a script that declares the unit, at its start
+abbrev pub start_at : Target → Option Table → (ℕ → Pack) → Replay
+start_at t table held = start_over (unit_setup t.unit t.kind table held)
+
+-- THE TABLE is that of the unit's pack, whose image fits. What is no home of a data block stays, and so do marks, what the image has beyond
+-- the drive, and the packs of all other units.
+pub record StaysElse (t : Target) (table : Option Table) (held held' : ℕ → Pack) : Type 0 where
+  pub table_is : IsTableOf t.kind (held t.unit) table
+  pub fits : Fits t.kind (held t.unit)
+  pub sectors : (sector : ℕ) → sector < block_count t.kind → ¬ (IsHome t.kind table (held t.unit) sector)
+      → block_at (held' t.unit).image sector ≡ block_at (held t.unit).image sector
+  pub stay : Stay (at_unit t.unit (Some t.kind)) held held'
+
+-- IT CAME TO AN END. The lines are those of requests of whole blocks of the partition, each waited for before the next one: a legal session
+-- from the start over the packs, behind which all is answered, and the sectors are those of the replay behind it.
+pub record Transferred (reads : Bool) (t : Target) (held held' : ℕ → Pack) (trace_tells : Bool) (taken taken' : List ℕ) : Type 0 where
+  pub table : Option Table
+  pub stays : StaysElse t table held held'
+  pub parts : List Part
+  pub waited : AreWaited reads t.unit t.part parts
+  pub session : IsSession (start_at t table held) parts
+  pub over : IsOver (behind_all (start_at t table held) parts)
+  pub left : (block : ℕ) → block_at (held' t.unit).image block ≡ (behind_all (start_at t table held) parts).surface.sector t.unit block
+  pub trace : IsTrue trace_tells → taken' ≡ taken ++ trace_text (told_in parts)
+
+-- A READ of so many bytes came so far, and these are its bytes. All contents stay; and each block of which a byte was read has its clean
+-- line.
+pub record HasRead (t : Target) (size done : ℕ) (bytes : List ℕ) (held held' : ℕ → Pack) (trace_tells : Bool) (taken taken' : List ℕ) : Type 0 where
+  pub moved : Transferred true t held held' trace_tells taken taken'
+  pub comes : ComesTo (blocks_in t moved.table held) (first_in t) t.at size done
+  pub is : bytes ≡ range done (blocks_in t moved.table held) (first_in t) t.at
+  pub same : (block : ℕ) → blocks_in t moved.table held' block ≡ blocks_in t moved.table held block
+  pub clean : (k : ℕ) → Touches t.at done k → MovedClean (unit_setup t.unit t.kind moved.table held) t.unit (first_in t + k) (told_in moved.parts)
+
+-- A WRITE of bytes came so far: these are replaced, and no other byte of a data block is.
+pub record HasWritten (t : Target) (done : ℕ) (from : List ℕ) (held held' : ℕ → Pack) (trace_tells : Bool) (taken taken' : List ℕ) : Type 0 where
+  pub moved : Transferred false t held held' trace_tells taken taken'
+  pub comes : ComesTo (blocks_in t moved.table held) (first_in t) t.at (length from) done
+  pub written : (block : ℕ) → blocks_in t moved.table held' block ≡ with_range (blocks_in t moved.table held) (first_in t) t.at (take done from) block
+
+-- IT STOPPED. Of a read all contents stay;
+pub record LeavesAll (t : Target) (held held' : ℕ → Pack) : Type 0 where
+  pub table : Option Table
+  pub stays : StaysElse t table held held'
+  pub same : (block : ℕ) → blocks_in t table held' block ≡ blocks_in t table held block
+
+-- of a write a front of the bytes is there, up to the end of a block: each block is whole.
+pub record LeavesFront (t : Target) (from : List ℕ) (held held' : ℕ → Pack) : Type 0 where
+  pub table : Option Table
+  pub stays : StaysElse t table held held'
+  pub done : ℕ
+  pub few : done ≤ length from
+  pub whole : EndsBlock t.at (length from) done
+  pub written : (block : ℕ) → blocks_in t table held' block ≡ with_range (blocks_in t table held) (first_in t) t.at (take done from) block
+
+-- WHAT IS LEFT where the packs or the trace failed; the packs may fail before anything is transferred.
+abbrev pub LeftRead : TransferFault → Target → (held held' : ℕ → Pack) → Type 0
+LeftRead fault.Store t held held' = (held' ≡ held) ⊎ LeavesAll t held held'
+LeftRead fault.Sink t held held' = LeavesAll t held held'
+LeftRead why t held held' = Unit {0}
+
+abbrev pub LeftWritten : TransferFault → Target → (from : List ℕ) → (held held' : ℕ → Pack) → Type 0
+LeftWritten fault.Store t from held held' = (held' ≡ held) ⊎ LeavesFront t from held held'
+LeftWritten fault.Sink t from held held' = LeavesFront t from held held'
+LeftWritten why t from held held' = Unit {0}
+
+-- WHAT A CALL OVER ONE UNIT has done, by the fault that it answered, if it did: a read into a buffer,
+pub record ReadsUnit {Q O : Type 0} (holds : Q → Bool) (held : Q → ℕ → Pack) (packs_faults : Q → ℕ) (tells : O → Bool) (taken : O → List ℕ) (faults : O → ℕ)
+    (t : Target) (into into' : List ℕ) (packs packs' : Q) (trace trace' : O) (why : Option TransferFault) : Type 0 where
+  pub few : (done : ℕ) → done_by (length into) why ≡ Some done → done ≤ length into
+  pub unusable : (done : ℕ) → why ≡ Some (fault.Unusable done) → done < length into
+  pub reads : (done : ℕ) → done_by (length into) why ≡ Some done → IsTrue (holds packs')
+      → HasRead t (length into) done (take done into') (held packs) (held packs') (tells trace') (taken trace) (taken trace')
+  pub stops : IfSome why (λ f. IsTrue (holds packs') → LeftRead f t (held packs) (held packs'))
+  pub keeps : KeepsUnit holds held packs_faults tells faults t.unit t.kind packs packs' trace trace' why
+
+-- and a write of bytes.
+pub record WritesUnit {Q O : Type 0} (holds : Q → Bool) (held : Q → ℕ → Pack) (packs_faults : Q → ℕ) (tells : O → Bool) (taken : O → List ℕ) (faults : O → ℕ)
+    (t : Target) (from : List ℕ) (packs packs' : Q) (trace trace' : O) (why : Option TransferFault) : Type 0 where
+  pub unusable : (done : ℕ) → why ≡ Some (fault.Unusable done) → done < length from
+  pub writes : (done : ℕ) → done_by (length from) why ≡ Some done → IsTrue (holds packs')
+      → HasWritten t done from (held packs) (held packs') (tells trace') (taken trace) (taken trace')
+  pub stops : IfSome why (λ f. IsTrue (holds packs') → LeftWritten f t from (held packs) (held packs'))
+  pub keeps : KeepsUnit holds held packs_faults tells faults t.unit t.kind packs packs' trace trace' why

@@ -1,0 +1,58 @@
+// The unit of a transfer is attached.
+ghost use Rattle.std.specs.Prelude.{◌≡◌, ◌≤◌, ◌<◌, IsTrue, IfOk, IfErr, IfSome, IsErrOf};
+ghost use Rattle.outside_traits.specs.Causes.{Rose};
+ghost use Rattle.pack_model.specs.TableSpelling.{IsTable};
+ghost use Rattle.raw_command.specs.Faults.{IsOfAttaching};
+ghost use Rattle.raw_command.specs.Units.{IsAttached, IsFoundLong};
+
+use crate::fault::TransferFault;
+use bad144_table::{BadTable, entries};
+use drive_model::Drive;
+use hp_driver::{Subsystem, UnitSetup};
+use mba_autoconf::attach;
+use outside_traits::traits::Packs;
+use pack_geometry::DriveKind;
+use std::alloc::Global;
+
+/// The law of tables: each is valid.
+fn table_law(table: &Option<BadTable>)
+    ensures { IfSome table.now (λ t. IsTable t) }
+{
+    match table {
+        Some(table) => {
+            entries(table);
+        }
+        None => {}
+    }
+}
+
+/// Attaches a unit, with the table of its pack, and makes a driver for it that takes one request at a time. The packs stay.
+///
+/// TooLong comes exactly where the image has more bytes than the blocks of the drive; Store only where the packs' count of faults rose;
+/// Memory where there was none.
+pub(crate) fn attached<P: Packs>(
+    alloc: Global,
+    unit: u8,
+    kind: DriveKind,
+    packs: &mut P,
+) -> Result<Subsystem, TransferFault>
+    requires unit { unit < 32 }
+    ensures attached { IfOk result (λ s. IsAttached (P.tells packs.new) (P.held packs.old unit) unit kind s) }
+    ensures long { IfErr result (IsFoundLong (P.tells packs.new) (P.held packs.old unit) kind) }
+    ensures only { IfErr result IsOfAttaching }
+    ensures same { IsTrue (P.tells packs.new) → P.held packs.new ≡ P.held packs.old }
+    ensures never_again { IsTrue (P.tells packs.new) → IsTrue (P.tells packs.old) }
+    ensures later { P.faults packs.old ≤ P.faults packs.new }
+    ensures store { IsErrOf result TransferFault.Store → Rose (P.faults packs.old) (P.faults packs.new) }
+{
+    let mut drive = Drive::new(kind, u16::from(unit));
+    let found = attach(&mut drive, packs, unit)?;
+    table_law(&found.table);
+    let units = [UnitSetup {
+        unit,
+        kind,
+        table: found.table,
+    }];
+    let subsystem = Subsystem::new(alloc, &units, 1, 0)?;
+    Ok(subsystem)
+}

@@ -1,0 +1,140 @@
+// The words of a transfer.
+ghost use Rattle.std.specs.Prelude.{◌≡◌, ◌<◌, ◌≤◌, ◌^◌, map, IfSome};
+ghost use Rattle.std.specs.String.{string_bytes};
+ghost use Rattle.command_parts.specs.Fields.{kind_named, unit_named};
+ghost use Rattle.raw_command.specs.Words.{IsInRange, IsTarget, dump_named, part_named, place_named, raw_named, read_of, size_named, target_of, write_of};
+
+use command_parts::{kind_in, unit_in};
+use mass_text::{Radix, number};
+use pack_geometry::DriveKind;
+use partitions::Part;
+use script_words::part_field;
+
+/// Where a transfer begins: a unit with a drive of this kind, a partition, and a place in it, counted in bytes.
+#[derive(Clone, Copy, Debug, PartialEq, Eq)]
+pub struct Target {
+    pub unit: u8,
+    pub kind: DriveKind,
+    pub part: Part,
+    pub at: u64,
+}
+
+/// Where the bytes of the source are written.
+#[derive(Clone, Copy, Debug, PartialEq, Eq)]
+pub enum Writing {
+    /// From a place of a partition on.
+    Raw { target: Target },
+    /// To the end of partition `b`, filled up with zeros to whole blocks.
+    Dump { unit: u8, kind: DriveKind },
+}
+
+/// What is transferred.
+#[derive(Clone, Copy, Debug, PartialEq, Eq)]
+pub enum Transfer {
+    /// So many bytes of a partition are read.
+    Read { target: Target, size: u32 },
+    /// The bytes of the source are written.
+    Write { writing: Writing },
+}
+
+/// A partition's letter.
+fn part_in(word: &str) -> Option<Part>
+    ensures { result ≡ part_named word.now }
+{
+    part_field(word.as_bytes()).ok()
+}
+
+/// A place in a partition in decimal, below 2^40.
+fn place_in(word: &str) -> Option<u64>
+    ensures place { result ≡ place_named word.now }
+    ensures small { IfSome result (λ at. at < 2 ^ 40) }
+{
+    number(word.as_bytes(), Radix::Decimal, 1_099_511_627_775).ok()
+}
+
+/// A number of bytes in decimal, 16,777,216 at the most.
+fn size_in(word: &str) -> Option<u32>
+    ensures size { result ≡ size_named word.now }
+    ensures few { IfSome result (λ size. size ≤ 16777216) }
+{
+    let size = number(word.as_bytes(), Radix::Decimal, 16_777_216).ok()?;
+    Some(size as u32)
+}
+
+/// A unit, a kind, a partition and a place.
+fn target_in(unit: &str, kind: &str, part: &str, at: &str) -> Option<Target>
+    ensures named { result ≡ target_of (unit_named unit.now) (kind_named kind.now) (part_named part.now) (place_named at.now) }
+    ensures valid { IfSome result IsTarget }
+{
+    let unit = unit_in(unit)?;
+    let kind = kind_in(kind)?;
+    let part = part_in(part)?;
+    let at = place_in(at)?;
+    Some(Target {
+        unit,
+        kind,
+        part,
+        at,
+    })
+}
+
+fn read_in(target: Option<Target>, size: &str) -> Option<Transfer>
+    requires { IfSome target IsTarget }
+    ensures named { result ≡ read_of target (size_named size.now) }
+    ensures valid { IfSome result IsInRange }
+{
+    let target = target?;
+    let size = size_in(size)?;
+    Some(Transfer::Read { target, size })
+}
+
+fn write_in(target: Option<Target>) -> Option<Transfer>
+    requires { IfSome target IsTarget }
+    ensures named { result ≡ write_of target }
+    ensures valid { IfSome result IsInRange }
+{
+    let target = target?;
+    Some(Transfer::Write {
+        writing: Writing::Raw { target },
+    })
+}
+
+/// What `raw` transfers, by its verb, a unit, a kind, and the words behind them: `read`, a partition, a place in it below 2^40, and a
+/// number of bytes of 16,777,216 at the most; or `write`, a partition and a place. None where they are none of these.
+pub fn raw_in(verb: &str, unit: &str, kind: &str, rest: &[String]) -> Option<Transfer>
+    ensures named { result ≡ raw_named verb.now unit.now kind.now (map string_bytes rest.now) }
+    ensures valid { IfSome result IsInRange }
+{
+    match rest {
+        [part, at] => {
+            if verb == "write" {
+                return write_in(target_in(unit, kind, part.as_str(), at.as_str()));
+            }
+            None
+        }
+        [part, at, size] => {
+            if verb == "read" {
+                return read_in(
+                    target_in(unit, kind, part.as_str(), at.as_str()),
+                    size.as_str(),
+                );
+            }
+            None
+        }
+        [] => None,
+        [_] => None,
+        [_, _, _, _, ..] => None,
+    }
+}
+
+/// What `dump` transfers, by a unit and a kind; None where the words are none.
+pub fn dump_in(unit: &str, kind: &str) -> Option<Transfer>
+    ensures named { result ≡ dump_named unit.now kind.now }
+    ensures valid { IfSome result IsInRange }
+{
+    let unit = unit_in(unit)?;
+    let kind = kind_in(kind)?;
+    Some(Transfer::Write {
+        writing: Writing::Dump { unit, kind },
+    })
+}
