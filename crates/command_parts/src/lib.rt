@@ -1,4 +1,4 @@
-//! What the commands of the program share: the units and kinds that their words name, and the lines that they print.
+//! What the commands of the program share: the units and kinds that their words name, the lines that they print, and the numbers that they end with.
 //!
 //! Defined in `specs/`: what a command meets outside (`Outside`), and a text that was taken whole or in part (`Told`).
 //!
@@ -7,6 +7,8 @@
 
 mod fields;
 mod lines;
+mod status;
 
 pub use fields::{kind_in, unit_in};
 pub use lines::{numbered, plain, too_long};
+pub use status::Status;

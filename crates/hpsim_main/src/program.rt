@@ -1,8 +1,9 @@
 ghost use Rattle.std.specs.Prelude.{◌≡◌, ◌≢◌, ◌⊎◌, true, [], None, Some, is_some, IfSome, IfOk, IfErr};
 ghost use Rattle.std.specs.IoError.{error_kind};
-ghost use Rattle.hpsim_run.specs.Statuses.{status_code, IsStatusOf};
-ghost use Rattle.hpsim_run.specs.Words.{command_of as the_command};
-ghost use Rattle.hpsim_run.specs.declared.status.Status.TheVariants.{OutOfMemory};
+ghost use Rattle.command_parts.specs.Statuses.{status_code};
+ghost use Rattle.hpsim_run.specs.Statuses.{IsStatusOf};
+ghost use Rattle.command_words.specs.Words.{command_of as the_command};
+ghost use Rattle.command_parts.specs.declared.status.Status.TheVariants.{OutOfMemory};
 
 use hpsim_run::{Status, run};
 use outside_files::files::FilePacks;

@@ -6,8 +6,8 @@ use Rattle.raw_command.specs.Words.{reads_source as transfer_reads}
 use Rattle.raw_command.specs.declared.words.Transfer.{Transfer}
 use Rattle.raw_command.specs.declared.words.Transfer.TheVariants.{Read, Write}
 use Rattle.hpsim_run.specs.Leaves.{LeavesAlone}
-use Rattle.hpsim_run.specs.declared.words.Command.{Command}
-use Rattle.hpsim_run.specs.declared.words.Command.TheVariants.{Exercise, TransferBytes}
+use Rattle.command_words.specs.declared.words.Command.{Command}
+use Rattle.command_words.specs.declared.words.Command.TheVariants.{Exercise, TransferBytes}
 
 -- it is neither 2 nor 3
 read_code : (code n : ℕ) → code ≡ n → (2 ≡ n) ⊎ (3 ≡ n) → IsReadCode code → ⊥

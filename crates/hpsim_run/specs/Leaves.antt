@@ -2,11 +2,11 @@
 use Rattle.std.specs.Prelude.{◌≡◌, ◌⊎◌, ◌↔◌, ℕ, Bool, true, false, IsTrue, List, Option, None, Some}
 use Rattle.command_parts.specs.Lines.{Told}
 use Rattle.raw_command.specs.Words.{reads_source as transfer_reads}
-use Rattle.hpsim_run.specs.Statuses.{status_code}
-use Rattle.hpsim_run.specs.Words.{usage_text}
-use Rattle.hpsim_run.specs.declared.words.Command.{Command}
-use Rattle.hpsim_run.specs.declared.words.Command.TheVariants.{Play, Exercise, TransferBytes}
-use Rattle.hpsim_run.specs.declared.status.Status.TheVariants.{Usage, Refused, SourceFailed, TooLong, OutOfMemory}
+use Rattle.command_parts.specs.Statuses.{status_code}
+use Rattle.command_words.specs.Words.{usage_text}
+use Rattle.command_words.specs.declared.words.Command.{Command}
+use Rattle.command_words.specs.declared.words.Command.TheVariants.{Play, Exercise, TransferBytes}
+use Rattle.command_parts.specs.declared.status.Status.TheVariants.{Usage, Refused, SourceFailed, TooLong, OutOfMemory}
 
 -- THE USAGE is told exactly where the words are no command.
 pub record TellsUsage (command : Option Command) (code : ℕ) (out_tells : Bool) (said said' : List ℕ) (out_faults out_faults' : ℕ) : Type 0 where

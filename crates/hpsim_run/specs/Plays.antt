@@ -9,9 +9,10 @@ use Rattle.event_player.specs.declared.play.PlayFault.TheVariants as faults
 use Rattle.event_player.specs.Plays.{IsTooLong}
 use Rattle.command_parts.specs.Outside.{Outside}
 use Rattle.hpsim_run.specs.Headline.{Headline, HasStopped, SpellNone, TellsRefusal, TellsTooLong, longest}
-use Rattle.hpsim_run.specs.Statuses.{status_code, IsPlayCode}
+use Rattle.command_parts.specs.Statuses.{status_code}
+use Rattle.hpsim_run.specs.Statuses.{IsPlayCode}
 use Rattle.hpsim_run.specs.TheRun.{IsThatRun}
-use Rattle.hpsim_run.specs.declared.status.Status.TheVariants.{Done, Refused, SourceFailed, SinkFailed, PacksFailed, TooLong, OutOfMemory}
+use Rattle.command_parts.specs.declared.status.Status.TheVariants.{Done, Refused, SourceFailed, SinkFailed, PacksFailed, TooLong, OutOfMemory}
 
 pub record RunsPlay (code : ℕ) (old new : Outside) : Type 0 where
   pub statuses : IsPlayCode code

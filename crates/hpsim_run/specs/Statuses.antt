@@ -1,28 +1,16 @@
--- The numbers that the program ends with.
+-- The statuses of each command.
 use Rattle.std.specs.Prelude.{◌≡◌, ◌⊎◌, ℕ, Option, None, Some}
 use Rattle.pack_geometry.specs.declared.DriveKind.{DriveKind}
 use Rattle.bad144_tool.specs.declared.edit.AddWay.{AddWay}
+use Rattle.command_parts.specs.Statuses.{status_code}
+use Rattle.command_parts.specs.declared.status.Status.TheVariants.{Done, Usage, Refused, SourceFailed, SinkFailed, PacksFailed, TooLong, ToolRefused, OutOfMemory}
 use Rattle.raw_command.specs.Faults.{IsTransferCode}
 use Rattle.raw_command.specs.declared.words.Transfer.{Transfer}
-use Rattle.hpsim_run.specs.declared.words.Command.{Command}
-use Rattle.hpsim_run.specs.declared.words.Command.TheVariants.{Play, ListTable, AddBlock, FreshTable, MarkBlocks, Exercise, FormatPack, TransferBytes}
-use Rattle.hpsim_run.specs.declared.status.Status.{Status}
-use Rattle.hpsim_run.specs.declared.status.Status.TheVariants.{Done, Usage, Refused, SourceFailed, SinkFailed, PacksFailed, TooLong, ToolRefused, OutOfMemory, TransferRefused, FormatRefused}
+use Rattle.pack_commands.specs.Formats.{IsFormatCode}
+use Rattle.command_words.specs.declared.words.Command.{Command}
+use Rattle.command_words.specs.declared.words.Command.TheVariants.{Play, ListTable, AddBlock, FreshTable, MarkBlocks, Exercise, FormatPack, TransferBytes}
 
-abbrev pub status_code : Status → ℕ
-status_code Done = 0
-status_code Usage = 2
-status_code Refused = 3
-status_code SourceFailed = 4
-status_code SinkFailed = 5
-status_code PacksFailed = 6
-status_code TooLong = 7
-status_code ToolRefused = 8
-status_code OutOfMemory = 9
-status_code TransferRefused = 10
-status_code FormatRefused = 11
-
--- the statuses of `play`, of the commands of `bad144` without and with refusals of their own, of `exercise`, and of `format`
+-- the statuses of `play`, of the commands of `bad144` without and with refusals of their own, and of `exercise`
 abbrev pub IsPlayCode : ℕ → Type 0
 IsPlayCode code = (code ≡ status_code Done) ⊎ (code ≡ status_code Refused) ⊎ (code ≡ status_code SourceFailed) ⊎ (code ≡ status_code SinkFailed)
     ⊎ (code ≡ status_code PacksFailed) ⊎ (code ≡ status_code TooLong) ⊎ (code ≡ status_code OutOfMemory)
@@ -35,10 +23,6 @@ IsChangeCode code = (code ≡ status_code Done) ⊎ (code ≡ status_code SinkFa
 
 abbrev pub IsExerciseCode : ℕ → Type 0
 IsExerciseCode code = (code ≡ status_code Done) ⊎ (code ≡ status_code SinkFailed) ⊎ (code ≡ status_code OutOfMemory)
-
-abbrev pub IsFormatCode : ℕ → Type 0
-IsFormatCode code = (code ≡ status_code Done) ⊎ (code ≡ status_code SinkFailed) ⊎ (code ≡ status_code PacksFailed) ⊎ (code ≡ status_code TooLong)
-    ⊎ (code ≡ status_code OutOfMemory) ⊎ (code ≡ status_code FormatRefused)
 
 -- EACH COMMAND has its statuses, and words that are none have the usage's.
 pub record IsStatusOf (command : Option Command) (code : ℕ) : Type 0 where

@@ -1,10 +1,10 @@
 ghost use Rattle.std.specs.Prelude.{◌≡◌, ◌⊎◌};
 ghost use Rattle.outside_traits.specs.Causes.{Rose};
 ghost use Rattle.hpsim_run.specs.Exercises.{RunsExercise};
-ghost use Rattle.hpsim_run.specs.Statuses.{status_code};
-ghost use Rattle.hpsim_run.specs.declared.status.Status.TheVariants.{OutOfMemory, SinkFailed};
+ghost use Rattle.command_parts.specs.Statuses.{status_code};
+ghost use Rattle.command_parts.specs.declared.status.Status.TheVariants.{OutOfMemory, SinkFailed};
 
-use crate::status::Status;
+use command_parts::Status;
 use exercise_run::{ExerciseFault, run_exercise as play_number};
 use outside_traits::traits::Sink;
 use std::alloc::Global;

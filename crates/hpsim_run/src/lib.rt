@@ -10,13 +10,8 @@
 
 mod command;
 mod exercise;
-mod formats;
 mod load;
-mod status;
-mod text;
-mod tools;
 mod transfers;
-mod words;
 
 pub use command::run;
-pub use status::Status;
+pub use command_parts::Status;

@@ -5,10 +5,10 @@ ghost use Rattle.raw_command.specs.Endings.{RunsTransfer};
 ghost use Rattle.raw_command.specs.Faults.{IsTransferCode, code_of};
 ghost use Rattle.raw_command.specs.Words.{IsInRange};
 ghost use Rattle.hpsim_run.specs.Leaves.{LeavesAlone};
-ghost use Rattle.hpsim_run.specs.Statuses.{status_code};
-ghost use Rattle.hpsim_run.specs.declared.words.Command.TheVariants.{TransferBytes};
+ghost use Rattle.command_parts.specs.Statuses.{status_code};
+ghost use Rattle.command_words.specs.declared.words.Command.TheVariants.{TransferBytes};
 
-use crate::status::Status;
+use command_parts::Status;
 use outside_traits::traits::{Packs, Sink, Source};
 use raw_command::{Transfer, TransferFault, run_transfer};
 use std::alloc::Global;

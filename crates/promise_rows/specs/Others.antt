@@ -3,11 +3,12 @@ use Rattle.std.specs.Prelude.{ℕ, true, List, [], ◌∷◌, codes, Some}
 use Rattle.pack_geometry.specs.declared.DriveKind.{DriveKind}
 use Rattle.pack_model.specs.Pack.{Pack}
 use Rattle.bad144_tool.specs.declared.edit.AddWay.{AddWay}
-use Rattle.hpsim_run.specs.declared.words.Command.TheVariants.{Play}
-use Rattle.hpsim_run.specs.declared.status.Status.TheVariants.{ToolRefused}
-use Rattle.hpsim_run.specs.Statuses.{status_code, IsStatusOf}
+use Rattle.command_words.specs.declared.words.Command.TheVariants.{Play}
+use Rattle.command_parts.specs.declared.status.Status.TheVariants.{ToolRefused}
+use Rattle.command_parts.specs.Statuses.{status_code}
+use Rattle.hpsim_run.specs.Statuses.{IsStatusOf}
 use Rattle.hpsim_run.specs.Exercises.{RunsExercise}
-use Rattle.hpsim_run.specs.Tools.{RunsAdd, RunsFresh, RunsList}
+use Rattle.pack_commands.specs.Tools.{RunsAdd, RunsFresh, RunsList}
 
 -- DONE WHERE THE TEXT WAS NOT TAKEN: `bad144 add` and `fresh` answer 0, and of the text nothing was taken, though the sink's count rose.
 abbrev pub DoneWhereTheTextWasNotTaken : Type 0

@@ -1,5 +1,5 @@
-use Rattle.hpsim_run.proofs.ToolLaws.{mark_cut, mark_done, mark_run, told_all, told_front}
-use Rattle.hpsim_run.proofs.tools.run_mark.Goals as goal
+use Rattle.pack_commands.proofs.ToolLaws.{mark_cut, mark_done, mark_run, told_all, told_front}
+use Rattle.pack_commands.proofs.tools.run_mark.Goals as goal
 
 pub returns-in-Ok-write_all-clause-runs : goal.returns-in-Ok-write_all-clause-runs
 returns-in-Ok-write_all-clause-runs g c =

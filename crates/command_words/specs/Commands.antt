@@ -10,8 +10,8 @@ use Rattle.bad144_tool.specs.declared.edit.AddWay.{AddWay}
 use Rattle.command_parts.specs.Fields.{kind_named, unit_named}
 use Rattle.raw_command.specs.Words.{IsInRange, dump_named, raw_named}
 use Rattle.raw_command.specs.declared.words.Transfer.{Transfer}
-use Rattle.hpsim_run.specs.declared.words.Command.{Command}
-use Rattle.hpsim_run.specs.declared.words.Command.TheVariants.{Play, ListTable, AddBlock, FreshTable, MarkBlocks, Exercise, FormatPack, TransferBytes}
+use Rattle.command_words.specs.declared.words.Command.{Command}
+use Rattle.command_words.specs.declared.words.Command.TheVariants.{Play, ListTable, AddBlock, FreshTable, MarkBlocks, Exercise, FormatPack, TransferBytes}
 
 -- a block is one of the drive's, a serial number is below 2^32, and the number of an exercise below 2^64; all are decimal
 abbrev pub block_named : DriveKind → List ℕ → Option ℕ

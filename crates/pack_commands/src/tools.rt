@@ -1,13 +1,13 @@
 ghost use Rattle.std.specs.Prelude.{◌≡◌, ◌≤◌, ◌<◌, IsTrue};
 ghost use Rattle.pack_geometry.specs.Geometry.{block_count};
 ghost use Rattle.outside_traits.specs.Causes.{Rose};
-ghost use Rattle.hpsim_run.specs.Statuses.{status_code};
-ghost use Rattle.hpsim_run.specs.Tools.{RunsAdd, RunsFresh, RunsList, RunsMark, fault_status, fault_text};
+ghost use Rattle.command_parts.specs.Statuses.{status_code};
+ghost use Rattle.pack_commands.specs.Tools.{RunsAdd, RunsFresh, RunsList, RunsMark, fault_status, fault_text};
 ghost use Rattle.command_parts.specs.Lines.{Told};
 
-use crate::status::Status;
 use crate::text::{entry_line, fault_line, marked_line, serial_line};
 use bad144_tool::{AddWay, ToolFault, add, fresh, list, mark};
+use command_parts::Status;
 use outside_traits::traits::{Packs, Sink};
 use outside_traits::whole::write_all;
 use pack_geometry::DriveKind;
@@ -40,12 +40,7 @@ fn refuse<O: Sink>(out: &mut O, unit: u8, fault: &ToolFault) -> Status
 }
 
 /// Prints the table of a unit's pack.
-pub(crate) fn run_list<P: Packs, O: Sink>(
-    packs: &mut P,
-    out: &mut O,
-    unit: u8,
-    kind: DriveKind,
-) -> Status
+pub fn run_list<P: Packs, O: Sink>(packs: &mut P, out: &mut O, unit: u8, kind: DriveKind) -> Status
     requires { unit < 32 }
     ensures never_again { IsTrue (P.tells packs.new) → IsTrue (P.tells packs.old) }
     ensures runs { RunsList kind unit (status_code result) (P.tells packs.new) (P.held packs.old) (P.held packs.new)
@@ -60,7 +55,7 @@ pub(crate) fn run_list<P: Packs, O: Sink>(
 }
 
 /// Adds a block to the table of a unit's pack, and prints the index of its entry.
-pub(crate) fn run_add<P: Packs, O: Sink>(
+pub fn run_add<P: Packs, O: Sink>(
     packs: &mut P,
     out: &mut O,
     unit: u8,
@@ -86,7 +81,7 @@ pub(crate) fn run_add<P: Packs, O: Sink>(
 }
 
 /// Writes an empty table to a unit's pack, and prints its serial number.
-pub(crate) fn run_fresh<P: Packs, O: Sink>(
+pub fn run_fresh<P: Packs, O: Sink>(
     packs: &mut P,
     out: &mut O,
     unit: u8,
@@ -110,12 +105,7 @@ pub(crate) fn run_fresh<P: Packs, O: Sink>(
 }
 
 /// Marks the blocks that the table of a unit's pack lists, and prints how many were not marked before.
-pub(crate) fn run_mark<P: Packs, O: Sink>(
-    packs: &mut P,
-    out: &mut O,
-    unit: u8,
-    kind: DriveKind,
-) -> Status
+pub fn run_mark<P: Packs, O: Sink>(packs: &mut P, out: &mut O, unit: u8, kind: DriveKind) -> Status
     requires { unit < 32 }
     ensures never_again { IsTrue (P.tells packs.new) → IsTrue (P.tells packs.old) }
     ensures runs { RunsMark kind unit (status_code result) (P.tells packs.new) (P.held packs.old) (P.held packs.new)

@@ -1,6 +1,6 @@
-use Rattle.hpsim_run.proofs.FormatLaws.{format_cut, format_done, format_fault}
-use Rattle.hpsim_run.proofs.ToolLaws.{told_all, told_front}
-use Rattle.hpsim_run.proofs.formats.run_format.Goals as goal
+use Rattle.pack_commands.proofs.FormatLaws.{format_cut, format_done, format_fault}
+use Rattle.pack_commands.proofs.ToolLaws.{told_all, told_front}
+use Rattle.pack_commands.proofs.formats.run_format.Goals as goal
 
 pub returns-in-Ok-write_all-clause-runs : goal.returns-in-Ok-write_all-clause-runs
 returns-in-Ok-write_all-clause-runs g c =

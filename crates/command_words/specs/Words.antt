@@ -2,8 +2,8 @@
 use Rattle.std.specs.Prelude.{ℕ, List, [], ◌∷◌, ◌++◌, Option, map, codes, String}
 use Rattle.std.specs.declared.alloc.Global.{Global}
 use Rattle.std.specs.String.{string_bytes}
-use Rattle.hpsim_run.specs.declared.words.Command.{Command}
-use Rattle.hpsim_run.specs.Commands.{command_named}
+use Rattle.command_words.specs.declared.words.Command.{Command}
+use Rattle.command_words.specs.Commands.{command_named}
 
 -- the command that the words name
 abbrev pub command_of : List (String Global) → Option Command

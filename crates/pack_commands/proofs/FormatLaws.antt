@@ -8,11 +8,11 @@ use Rattle.pack_format.specs.Faults.{IsWhy, Leaves}
 use Rattle.pack_format.specs.Formatted.{IsFormatted, found}
 use Rattle.pack_format.specs.declared.fault.FormatFault.{FormatFault}
 use Rattle.pack_format.specs.declared.fault.FormatFault.TheVariants as fault
-use Rattle.hpsim_run.specs.Formats.{RunsFormat, format_status, format_text, formatted_text}
-use Rattle.hpsim_run.specs.Statuses.{status_code}
+use Rattle.pack_commands.specs.Formats.{RunsFormat, format_status, format_text, formatted_text}
+use Rattle.command_parts.specs.Statuses.{status_code}
 use Rattle.command_parts.specs.Lines.{Told}
-use Rattle.hpsim_run.specs.declared.status.Status.{Status}
-use Rattle.hpsim_run.proofs.ToolLaws.{nothing_more}
+use Rattle.command_parts.specs.declared.status.Status.{Status}
+use Rattle.pack_commands.proofs.ToolLaws.{nothing_more}
 
 -- where there was no memory nothing is printed
 pub told_nothing : (taken : List ℕ) (unit faults : ℕ) (f : FormatFault) → f ≡ fault.Memory → Told taken taken (format_text unit f) faults faults

@@ -15,8 +15,8 @@ use Rattle.bad144_tool.specs.Texts.{Lists, ListsFront}
 use Rattle.bad144_tool.specs.declared.edit.AddWay.{AddWay}
 use Rattle.bad144_tool.specs.declared.fault.ToolFault.{ToolFault}
 use Rattle.bad144_tool.specs.declared.fault.ToolFault.TheVariants as fault
-use Rattle.hpsim_run.specs.declared.status.Status.{Status}
-use Rattle.hpsim_run.specs.declared.status.Status.TheVariants.{SinkFailed, PacksFailed, TooLong, ToolRefused}
+use Rattle.command_parts.specs.declared.status.Status.{Status}
+use Rattle.command_parts.specs.declared.status.Status.TheVariants.{SinkFailed, PacksFailed, TooLong, ToolRefused}
 use Rattle.command_parts.specs.Lines.{Told, too_long_text}
 
 -- the status of a fault, and what is printed of it

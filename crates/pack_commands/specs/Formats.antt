@@ -8,10 +8,15 @@ use Rattle.pack_format.specs.Faults.{IsWhy}
 use Rattle.pack_format.specs.Formatted.{IsFormatted, IsPartly, IsTooLong, found}
 use Rattle.pack_format.specs.declared.fault.FormatFault.{FormatFault}
 use Rattle.pack_format.specs.declared.fault.FormatFault.TheVariants as fault
-use Rattle.hpsim_run.specs.declared.status.Status.{Status}
-use Rattle.hpsim_run.specs.declared.status.Status.TheVariants.{PacksFailed, TooLong, OutOfMemory, FormatRefused}
-use Rattle.hpsim_run.specs.Statuses.{IsFormatCode, status_code}
+use Rattle.command_parts.specs.declared.status.Status.{Status}
+use Rattle.command_parts.specs.declared.status.Status.TheVariants.{Done, SinkFailed, PacksFailed, TooLong, OutOfMemory, FormatRefused}
+use Rattle.command_parts.specs.Statuses.{status_code}
 use Rattle.command_parts.specs.Lines.{Told, too_long_text}
+
+-- the statuses of `format`
+abbrev pub IsFormatCode : ℕ → Type 0
+IsFormatCode code = (code ≡ status_code Done) ⊎ (code ≡ status_code SinkFailed) ⊎ (code ≡ status_code PacksFailed) ⊎ (code ≡ status_code TooLong)
+    ⊎ (code ≡ status_code OutOfMemory) ⊎ (code ≡ status_code FormatRefused)
 
 -- the status of a fault, and what is printed of it
 abbrev pub format_status : FormatFault → Status

@@ -15,10 +15,10 @@ use Rattle.bad144_tool.specs.Texts.{ListsFront, list_text}
 use Rattle.bad144_tool.specs.declared.edit.AddWay.{AddWay}
 use Rattle.bad144_tool.specs.declared.fault.ToolFault.{ToolFault}
 use Rattle.bad144_tool.specs.declared.fault.ToolFault.TheVariants as fault
-use Rattle.hpsim_run.specs.Statuses.{status_code}
-use Rattle.hpsim_run.specs.declared.status.Status.{Status}
-use Rattle.hpsim_run.specs.declared.status.Status.TheVariants.{ToolRefused}
-use Rattle.hpsim_run.specs.Tools.{RunsAdd, RunsFresh, RunsList, RunsMark, entry_text, fault_status, fault_text, marked_text, serial_text}
+use Rattle.command_parts.specs.Statuses.{status_code}
+use Rattle.command_parts.specs.declared.status.Status.{Status}
+use Rattle.command_parts.specs.declared.status.Status.TheVariants.{ToolRefused}
+use Rattle.pack_commands.specs.Tools.{RunsAdd, RunsFresh, RunsList, RunsMark, entry_text, fault_status, fault_text, marked_text, serial_text}
 use Rattle.command_parts.specs.Lines.{Told}
 
 -- nothing was put behind what was taken

@@ -1,6 +1,6 @@
 use Rattle.std.proofs.Common.{ap, Err}
-use Rattle.hpsim_run.proofs.ToolLaws.{fresh_cut, fresh_done, fresh_run, told_all, told_front}
-use Rattle.hpsim_run.proofs.tools.run_fresh.Goals as goal
+use Rattle.pack_commands.proofs.ToolLaws.{fresh_cut, fresh_done, fresh_run, told_all, told_front}
+use Rattle.pack_commands.proofs.tools.run_fresh.Goals as goal
 
 pub returns-in-Ok-write_all-clause-runs : goal.returns-in-Ok-write_all-clause-runs
 returns-in-Ok-write_all-clause-runs g c =

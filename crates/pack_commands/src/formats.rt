@@ -1,12 +1,11 @@
 //! The command `format`.
 ghost use Rattle.std.specs.Prelude.{◌≡◌, ◌<◌, ◌≤◌, IsTrue};
 ghost use Rattle.outside_traits.specs.Causes.{Rose};
-ghost use Rattle.hpsim_run.specs.Formats.{RunsFormat, format_status, format_text, formatted_text};
-ghost use Rattle.hpsim_run.specs.Statuses.{status_code};
+ghost use Rattle.pack_commands.specs.Formats.{RunsFormat, format_status, format_text, formatted_text};
+ghost use Rattle.command_parts.specs.Statuses.{status_code};
 ghost use Rattle.command_parts.specs.Lines.{Told};
 
-use crate::status::Status;
-use command_parts::{numbered, plain, too_long};
+use command_parts::{Status, numbered, plain, too_long};
 use mass_text::LineBuf;
 use outside_traits::traits::{Packs, Sink};
 use outside_traits::whole::write_all;
@@ -69,7 +68,7 @@ fn refuse<O: Sink>(out: &mut O, unit: u8, fault: &FormatFault) -> Status
 }
 
 /// Formats a unit's pack, and prints how many of its data blocks are bad.
-pub(crate) fn run_format<P: Packs, O: Sink>(
+pub fn run_format<P: Packs, O: Sink>(
     alloc: Global,
     packs: &mut P,
     out: &mut O,

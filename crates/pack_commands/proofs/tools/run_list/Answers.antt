@@ -1,8 +1,8 @@
 use Rattle.std.proofs.Common.{ap, Err, subst}
-use Rattle.hpsim_run.specs.Tools.{fault_text}
+use Rattle.pack_commands.specs.Tools.{fault_text}
 use Rattle.command_parts.specs.Lines.{Told}
-use Rattle.hpsim_run.proofs.ToolLaws.{list_front, list_run, sink_text}
-use Rattle.hpsim_run.proofs.tools.run_list.Goals as goal
+use Rattle.pack_commands.proofs.ToolLaws.{list_front, list_run, sink_text}
+use Rattle.pack_commands.proofs.tools.run_list.Goals as goal
 
 pub returns-in-Err-clause-runs : goal.returns-in-Err-clause-runs
 returns-in-Err-clause-runs g c =

@@ -3,7 +3,7 @@ ghost use Rattle.std.specs.String.{string_bytes};
 ghost use Rattle.pack_geometry.specs.Geometry.{block_count};
 ghost use Rattle.command_parts.specs.Fields.{kind_named, unit_named};
 ghost use Rattle.raw_command.specs.Words.{IsInRange};
-ghost use Rattle.hpsim_run.specs.Commands.{IsValid, add_named, block_named, both_named, one_named, command_named, exercise_named, format_named, fresh_named, list_named, mark_named, number_named, pack_named, serial_named, tool_named, transfer_named, way_named};
+ghost use Rattle.command_words.specs.Commands.{IsValid, add_named, block_named, both_named, one_named, command_named, exercise_named, format_named, fresh_named, list_named, mark_named, number_named, pack_named, serial_named, tool_named, transfer_named, way_named};
 
 use bad144_tool::AddWay;
 use command_parts::{kind_in, unit_in};

@@ -1,24 +1,13 @@
 ghost use Rattle.std.specs.Prelude.{◌≡◌};
-ghost use Rattle.hpsim_run.specs.Tools.{entry_text, fault_text, marked_text, serial_text};
-ghost use Rattle.hpsim_run.specs.Words.{usage_text};
+ghost use Rattle.pack_commands.specs.Tools.{entry_text, fault_text, marked_text, serial_text};
 
 use bad144_tool::ToolFault;
 use command_parts::{numbered, plain, too_long};
 use mass_text::LineBuf;
 
-/// The text for words that are no command.
-#[tactic(auto, unfolding(crate::specs::Words::usage_text))]
-pub fn usage() -> LineBuf
-    ensures { result ≡ usage_text }
-{
-    let mut text = LineBuf::new();
-    text.put("usage: hpsim play or bad144 list/add/fresh or exercise N\n");
-    text
-}
-
 /// What is printed of a fault of the tool; nothing where the packs or the sink failed.
 #[tactic(auto, unfolding(crate::specs::Tools::fault_text))]
-pub fn fault_line(unit: u8, fault: &ToolFault) -> LineBuf
+pub(crate) fn fault_line(unit: u8, fault: &ToolFault) -> LineBuf
     ensures { result ≡ fault_text unit fault.now }
 {
     match fault {
@@ -33,7 +22,7 @@ pub fn fault_line(unit: u8, fault: &ToolFault) -> LineBuf
 }
 
 /// The text of an addition: `entry I`.
-pub fn entry_line(i: u8) -> LineBuf
+pub(crate) fn entry_line(i: u8) -> LineBuf
     ensures { result ≡ entry_text i }
 {
     numbered("entry ", u64::from(i))

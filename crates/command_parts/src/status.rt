@@ -1,5 +1,5 @@
 ghost use Rattle.std.specs.Prelude.{◌≡◌};
-ghost use Rattle.hpsim_run.specs.Statuses.{status_code};
+ghost use Rattle.command_parts.specs.Statuses.{status_code};
 
 /// How a run of the program ends.
 #[derive(Clone, Copy, Debug, PartialEq, Eq)]

@@ -1,0 +1,11 @@
+//! The commands that the words of the command line name, and the usage.
+//!
+//! What is proved: `command_of` gives a command exactly where the words are one of the shapes, with the numbers that they spell, in their
+//! ranges.
+#![tactic(auto)]
+
+mod usage;
+mod words;
+
+pub use usage::usage;
+pub use words::{Command, command_of};

@@ -1,0 +1,2 @@
+mod ToolLaws
+mod FormatLaws
