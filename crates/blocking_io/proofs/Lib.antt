@@ -8,3 +8,4 @@ mod Trying
 mod Stopped
 mod Readying
 pub mod Joined
+pub mod Passes

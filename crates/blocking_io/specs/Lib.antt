@@ -4,3 +4,4 @@ pub mod Calls
 pub mod Asking
 pub mod Stopping
 pub mod Sessions
+pub mod Passes

@@ -18,5 +18,6 @@ mod reached;
 mod sessions;
 
 pub use asking::{ask_read, ask_write};
+pub use hp_driver::{Request, Stop, Subsystem, UnitSetup};
 pub use reached::Reached;
 pub use sessions::sessions_law;

@@ -7,5 +7,6 @@
 mod usage;
 mod words;
 
+pub use raw_command::{Transfer, TransferFault, run_transfer};
 pub use usage::usage;
 pub use words::{Command, command_of};

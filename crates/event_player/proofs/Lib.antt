@@ -17,3 +17,4 @@ pub mod Stopping
 pub mod Contexts
 pub mod Halting
 pub mod Calling
+pub mod Passes

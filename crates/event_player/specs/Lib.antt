@@ -6,3 +6,4 @@ pub mod Calls
 pub mod Answering
 pub mod Attaching
 pub mod Stops
+pub mod Passes

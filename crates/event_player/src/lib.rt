@@ -23,4 +23,5 @@ mod drains;
 pub mod play;
 mod player;
 
+pub use driver_runs::next_block_law;
 pub use script_reader::{ReadFault, Script, ScriptKind, read_script};

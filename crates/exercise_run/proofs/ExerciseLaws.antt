@@ -19,7 +19,7 @@ use Rattle.trace_replay.specs.Runs.{IsLegalRun}
 use Rattle.block_machine.specs.LegalAnswers.{AreNoAliases}
 use Rattle.run_promises.specs.Promises.{Promises}
 use Rattle.answer_tally.specs.declared.tally.Tally.{Tally}
-use Rattle.one_run.proofs.Whole.{legal_runs_are_one}
+use Rattle.event_player.proofs.Passes.{legal_runs_are_one}
 use Rattle.event_player.specs.declared.play.PlayFault.{PlayFault}
 use Rattle.event_player.specs.declared.play.PlayFault.TheVariants as faults
 use Rattle.event_player.specs.Playing.{counted, one_request}

@@ -13,7 +13,7 @@ use Rattle.script_lines.specs.Known.{Said}
 use Rattle.script_reader.specs.Printing.{numbered}
 use Rattle.script_meaning.specs.Meaning.{line_of, statement_of}
 use Rattle.trace_replay.specs.Script.{Drain, Numbered, drives_of, inputs_before, inputs_of, with_input}
-use Rattle.driver_reach.specs.Reach.{AskBelow}
+use Rattle.event_player.specs.Passes.{AskBelow}
 use Rattle.hp_exercise.specs.Exercise.{block_of, count_of, words_of}
 use Rattle.hp_exercise.specs.Statements.{request_of, step_statement, steps_statements}
 use Rattle.hp_exercise.proofs.CaseLaws.{step_by, steps_all}

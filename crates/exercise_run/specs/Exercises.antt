@@ -17,7 +17,7 @@ use Rattle.event_player.specs.Stops.{StopsPlaying}
 use Rattle.hp_exercise.specs.Exercise.{script_text}
 use Rattle.hp_exercise.specs.Statements.{script_statements}
 use Rattle.run_promises.specs.Promises.{Promises}
-use Rattle.one_run.specs.OneRun.{IsTheRun}
+use Rattle.event_player.specs.Passes.{IsTheRun}
 use Rattle.exercise_run.specs.Room.{AreEmpty}
 use Rattle.exercise_run.specs.ExerciseText.{exercise_text}
 

@@ -2,7 +2,7 @@ ghost use Rattle.std.specs.Prelude.{◌≡◌, ◌≢◌, ◌⊎◌, true, [], N
 ghost use Rattle.std.specs.IoError.{error_kind};
 ghost use Rattle.command_parts.specs.Statuses.{status_code};
 ghost use Rattle.hpsim_run.specs.Statuses.{IsStatusOf};
-ghost use Rattle.command_words.specs.Words.{command_of as the_command};
+ghost use Rattle.hpsim_run.specs.Passes.{command_of as the_command};
 ghost use Rattle.command_parts.specs.declared.status.Status.TheVariants.{OutOfMemory};
 
 use hpsim_run::{Status, run};

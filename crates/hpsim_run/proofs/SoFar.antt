@@ -22,7 +22,7 @@ use Rattle.block_machine.proofs.Runs.{each_beginning, script_ids}
 use Rattle.event_player.specs.declared.play.PlayFault.{PlayFault}
 use Rattle.event_player.specs.declared.play.PlayFault.TheVariants as faults
 use Rattle.driver_outcome.specs.Outcome.{IsNextBlock}
-use Rattle.driver_runs.specs.NextBlock.{HasNext, NextBlocksShow}
+use Rattle.event_player.specs.Passes.{HasNext, NextBlocksShow}
 use Rattle.event_player.specs.Stops.{AreBehind, CameTo, SaysOneSector, StopsPlaying}
 use Rattle.run_promises.specs.Beginnings.{IsBegun, AreNoSectors, BeginningsKeep, FrontsKeep, NextBlocksKeep, PromisesSoFar}
 use Rattle.hpsim_run.specs.SoFar.{KeepsSoFar, HoldSoFar, HoldTaken, Keeps}

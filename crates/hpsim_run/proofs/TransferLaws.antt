@@ -1,10 +1,10 @@
 -- What a transfer leaves as it was, by its status.
 use Rattle.std.proofs.Common.{◌≡◌, ◌⊎◌, inl, inr, ℕ, true, false, Option, Some, refl, arith}
-use Rattle.raw_command.specs.Endings.{Stays}
-use Rattle.raw_command.specs.Faults.{IsReadCode, IsTransferCode}
-use Rattle.raw_command.specs.Words.{reads_source as transfer_reads}
-use Rattle.raw_command.specs.declared.words.Transfer.{Transfer}
-use Rattle.raw_command.specs.declared.words.Transfer.TheVariants.{Read, Write}
+use Rattle.command_words.specs.Passes.{Stays}
+use Rattle.command_words.specs.Passes.{IsReadCode, IsTransferCode}
+use Rattle.command_words.specs.Passes.{reads_source as transfer_reads}
+use Rattle.command_words.specs.Passes.{Transfer}
+use Rattle.command_words.specs.Passes.{Read, Write}
 use Rattle.hpsim_run.specs.Leaves.{LeavesAlone}
 use Rattle.command_words.specs.declared.words.Command.{Command}
 use Rattle.command_words.specs.declared.words.Command.TheVariants.{Exercise, TransferBytes}

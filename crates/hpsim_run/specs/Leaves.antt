@@ -1,7 +1,7 @@
 -- What each command leaves as it was, and the usage.
 use Rattle.std.specs.Prelude.{◌≡◌, ◌⊎◌, ◌↔◌, ℕ, Bool, true, false, IsTrue, List, Option, None, Some}
 use Rattle.command_parts.specs.Lines.{Told}
-use Rattle.raw_command.specs.Words.{reads_source as transfer_reads}
+use Rattle.command_words.specs.Passes.{reads_source as transfer_reads}
 use Rattle.command_parts.specs.Statuses.{status_code}
 use Rattle.command_words.specs.Words.{usage_text}
 use Rattle.command_words.specs.declared.words.Command.{Command}

@@ -15,14 +15,14 @@ use Rattle.waited_requests.specs.Sessions.{told_in}
 use Rattle.waited_requests.specs.Waited.{map_of, with_packs}
 use Rattle.driver_machine.specs.World.{World}
 use Rattle.driver_machine.specs.Sound.{IsTableFor}
-use Rattle.quiet_driver.specs.Quiet.{setup_of, StandsQuiet}
+use Rattle.raw_io.specs.Passes.{setup_of, StandsQuiet}
 use Rattle.partition_bytes.specs.Bytes.{range, ComesTo, with_range}
 use Rattle.partition_bytes.specs.Laid.{laid}
 use Rattle.partition_bytes.proofs.Ranges.{laid_short, length_range}
-use Rattle.blocking_io.specs.Calls.{Stage}
-use Rattle.blocking_io.specs.Asking.{setup_at}
-use Rattle.blocking_io.specs.Sessions.{Reaches}
-use Rattle.request_fronts.specs.Fronts.{OthersStay}
+use Rattle.raw_io.specs.Passes.{Stage}
+use Rattle.raw_io.specs.Passes.{setup_at}
+use Rattle.raw_io.specs.Passes.{Reaches}
+use Rattle.raw_io.specs.Passes.{OthersStay}
 use Rattle.raw_io.specs.Calls.{kind_at, map_at, left_map, IsUntouched, ReadsRange, StopsAt, WritesRange}
 use Rattle.raw_io.specs.Pieces.{GivesRange, PutsRange, start_of}
 use Rattle.raw_io.specs.Transfers.{Transfers}

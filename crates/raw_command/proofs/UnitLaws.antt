@@ -9,9 +9,9 @@ use Rattle.pack_model.specs.Pack.{Pack}
 use Rattle.pack_model.specs.PackTable.{IsTableOf}
 use Rattle.driver_outcome.specs.declared.Stop.{Stop}
 use Rattle.driver_outcome.specs.declared.Stop.TheVariants.{Store, Sink}
-use Rattle.hp_driver.specs.Subsystem.{State}
-use Rattle.blocking_io.specs.Calls.{Stage}
-use Rattle.blocking_io.specs.Asking.{setup_at}
+use Rattle.raw_io.specs.Passes.{State}
+use Rattle.raw_io.specs.Passes.{Stage}
+use Rattle.raw_io.specs.Passes.{setup_at}
 use Rattle.waited_requests.specs.Rest.{HasTables}
 use Rattle.partitions.specs.declared.Part.{Part}
 use Rattle.partitions.specs.Partitions.{size_of}

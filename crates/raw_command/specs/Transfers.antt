@@ -10,7 +10,7 @@ use Rattle.trace_replay.specs.Replay.{Replay, IsOver}
 use Rattle.trace_replay.specs.Text.{trace_text}
 use Rattle.block_machine.specs.Machine.{Blocks}
 use Rattle.block_machine.specs.Stands.{start_over}
-use Rattle.driver_runs.specs.Runs.{Stay}
+use Rattle.raw_io.specs.Passes.{Stay}
 use Rattle.waited_requests.specs.Sessions.{Part, IsSession, behind_all, told_in}
 use Rattle.waited_requests.specs.Cleans.{MovedClean}
 use Rattle.partition_bytes.specs.Bytes.{range, Touches, ComesTo, with_range}

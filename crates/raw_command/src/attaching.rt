@@ -8,10 +8,10 @@ ghost use Rattle.raw_command.specs.Units.{IsAttached, IsFoundLong};
 use crate::fault::TransferFault;
 use bad144_table::{BadTable, entries};
 use drive_model::Drive;
-use hp_driver::{Subsystem, UnitSetup};
 use mba_autoconf::attach;
 use outside_traits::traits::Packs;
 use pack_geometry::DriveKind;
+use raw_io::{Subsystem, UnitSetup};
 use std::alloc::Global;
 
 /// The law of tables: each is valid.

@@ -22,14 +22,14 @@ use Rattle.waited_requests.specs.Sessions.{waited, told_in}
 use Rattle.waited_requests.specs.Rest.{HasTables}
 use Rattle.waited_requests.specs.Waited.{unusable_or, first_unusable, answer_by, answer_of, answer_at, map_at as map_met, first_in, met_in, answer_in, map_behind}
 use Rattle.waited_requests.specs.Cleans.{MovedClean, done_by}
-use Rattle.quiet_driver.specs.Quiet.{IsQuiet, kind_if, setup_of}
-use Rattle.blocking_io.specs.declared.reached.Reached.{Reached}
-use Rattle.blocking_io.specs.declared.reached.Reached.TheVariants.{All, Before, Outside, AtEnd}
-use Rattle.blocking_io.specs.Given.{reached_by, bytes_by}
+use Rattle.request_fronts.specs.Passes.{IsQuiet, kind_if, setup_of}
+use Rattle.request_fronts.specs.Passes.{Reached}
+use Rattle.request_fronts.specs.Passes.{All, Before, Outside, AtEnd}
+use Rattle.request_fronts.specs.Passes.{reached_by, bytes_by}
 use Rattle.partition_bytes.specs.Laid.{laid}
-use Rattle.blocking_io.specs.Calls.{Stage}
-use Rattle.blocking_io.specs.Asking.{setup_at, Answers, IsMapped}
-use Rattle.blocking_io.specs.Sessions.{GoesOn, AnswersReach}
+use Rattle.request_fronts.specs.Passes.{Stage}
+use Rattle.request_fronts.specs.Passes.{setup_at, Answers, IsMapped}
+use Rattle.request_fronts.specs.Passes.{GoesOn, AnswersReach}
 use Rattle.request_fronts.specs.Fronts.{HoldsFront, AnsweredMovesClean}
 use Rattle.raw_io.specs.Transfers.{IsAsk, Transfers, AreClean, AreBlocks}
 use Rattle.raw_io.specs.Calls.{kind_at, map_at, left_map, IsUntouched}

@@ -10,14 +10,14 @@ use Rattle.driver_machine.specs.Sound.{Sound, AtWork}
 use Rattle.driver_outcome.specs.declared.Stop.{Stop}
 use Rattle.driver_outcome.specs.declared.Stop.TheVariants.{Store, Sink}
 use Rattle.driver_outcome.specs.Outcome.{stop_in}
-use Rattle.hp_core.specs.Done.{HasCauses}
-use Rattle.hp_driver.specs.Subsystem.{State}
+use Rattle.request_fronts.specs.Passes.{HasCauses}
+use Rattle.request_fronts.specs.Passes.{State}
 use Rattle.waited_requests.specs.Rest.{HasTables}
-use Rattle.quiet_driver.specs.Quiet.{IsQuiet}
-use Rattle.blocking_io.specs.Calls.{Stage}
-use Rattle.blocking_io.specs.Asking.{IsReady, setup_at, Answers}
-use Rattle.blocking_io.specs.Stopping.{Stops}
-use Rattle.blocking_io.specs.Sessions.{AnswersReach}
+use Rattle.request_fronts.specs.Passes.{IsQuiet}
+use Rattle.request_fronts.specs.Passes.{Stage}
+use Rattle.request_fronts.specs.Passes.{IsReady, setup_at, Answers}
+use Rattle.request_fronts.specs.Passes.{Stops}
+use Rattle.request_fronts.specs.Passes.{AnswersReach}
 use Rattle.request_fronts.specs.Fronts.{HoldsFront, StoppedHoldsFront, AnsweredMovesClean}
 use Rattle.raw_io.specs.Transfers.{IsAsk, AreBlocks, Keeps}
 use Rattle.raw_io.specs.Calls.{kind_at, IsUntouched}

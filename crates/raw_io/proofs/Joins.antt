@@ -17,9 +17,9 @@ use Rattle.block_machine.proofs.Runs.{home_marks}
 use Rattle.waited_requests.specs.Sessions.{Part as SessionPart, told_in}
 use Rattle.waited_requests.specs.Cleans.{MovedClean}
 use Rattle.waited_requests.specs.Waited.{map_of, with_packs}
-use Rattle.blocking_io.specs.Calls.{Stage}
-use Rattle.blocking_io.specs.Asking.{setup_at}
-use Rattle.blocking_io.specs.Sessions.{StillTell, SessionsJoin}
+use Rattle.request_fronts.specs.Passes.{Stage}
+use Rattle.request_fronts.specs.Passes.{setup_at}
+use Rattle.request_fronts.specs.Passes.{StillTell, SessionsJoin}
 use Rattle.request_fronts.specs.Fronts.{OthersStay}
 use Rattle.raw_io.specs.Transfers.{AreWaited, Transfers}
 use Rattle.raw_io.specs.Calls.{left_map, IsUntouched}

@@ -7,3 +7,4 @@ mod ReadRanges
 mod WritePieces
 mod WriteRanges
 mod Dumps
+pub mod Passes

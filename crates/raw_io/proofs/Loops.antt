@@ -3,11 +3,11 @@ use Rattle.std.proofs.Common.{◌≡◌, ℕ, ◌+◌, ◌*◌, ◌<◌, ◌≤�
 use Rattle.pack_geometry.specs.declared.DriveKind.{DriveKind}
 use Rattle.partitions.specs.declared.Part.{Part}
 use Rattle.partitions.specs.Partitions.{size_of}
-use Rattle.hp_driver.specs.Subsystem.{asked}
+use Rattle.request_fronts.specs.Passes.{asked}
 use Rattle.driver_machine.specs.Guards.{IsSetUp}
 use Rattle.waited_requests.specs.Waited.{with_packs}
-use Rattle.blocking_io.specs.Calls.{Stage}
-use Rattle.blocking_io.specs.Asking.{setup_at}
+use Rattle.request_fronts.specs.Passes.{Stage}
+use Rattle.request_fronts.specs.Passes.{setup_at}
 use Rattle.raw_io.specs.declared.pieces.Piece.{Piece}
 use Rattle.raw_io.specs.Transfers.{AreBlocks}
 use Rattle.raw_io.specs.Calls.{kind_at}

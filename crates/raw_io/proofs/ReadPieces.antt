@@ -8,13 +8,13 @@ use Rattle.subsystem_spec.specs.Requests.{Request}
 use Rattle.trace_replay.specs.Packs.{size_of_block}
 use Rattle.block_machine.specs.Machine.{Blocks, bytes_of_first, kind_of}
 use Rattle.driver_machine.specs.Guards.{IsSetUp}
-use Rattle.hp_driver.specs.Subsystem.{asked}
+use Rattle.request_fronts.specs.Passes.{asked}
 use Rattle.waited_requests.specs.Rest.{HasTables}
 use Rattle.waited_requests.specs.Waited.{with_packs}
 use Rattle.partition_bytes.specs.Laid.{laid}
-use Rattle.blocking_io.specs.Calls.{Stage}
-use Rattle.blocking_io.specs.Asking.{setup_at}
-use Rattle.blocking_io.specs.Sessions.{StillTell, SessionsJoin}
+use Rattle.request_fronts.specs.Passes.{Stage}
+use Rattle.request_fronts.specs.Passes.{setup_at}
+use Rattle.request_fronts.specs.Passes.{StillTell, SessionsJoin}
 use Rattle.raw_io.specs.declared.pieces.Piece.{Piece}
 use Rattle.partition_bytes.specs.Bytes.{range}
 use Rattle.raw_io.specs.Calls.{kind_at, map_at, IsUntouched}

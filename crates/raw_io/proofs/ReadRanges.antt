@@ -8,9 +8,9 @@ use Rattle.waited_requests.specs.Sessions.{told_in}
 use Rattle.waited_requests.specs.Rest.{HasTables}
 use Rattle.waited_requests.specs.Cleans.{MovedClean}
 use Rattle.partition_bytes.specs.Laid.{laid, laid_at}
-use Rattle.blocking_io.specs.Calls.{Stage}
-use Rattle.blocking_io.specs.Asking.{setup_at}
-use Rattle.blocking_io.specs.Sessions.{StillTell, SessionsJoin}
+use Rattle.request_fronts.specs.Passes.{Stage}
+use Rattle.request_fronts.specs.Passes.{setup_at}
+use Rattle.request_fronts.specs.Passes.{StillTell, SessionsJoin}
 use Rattle.raw_io.specs.declared.pieces.Piece.{Piece}
 use Rattle.partition_bytes.specs.Bytes.{range, Touches, ComesTo}
 use Rattle.raw_io.specs.Transfers.{Transfers, AreClean}

@@ -8,13 +8,13 @@ use Rattle.partitions.specs.Partitions.{first_of}
 use Rattle.block_machine.specs.Machine.{Blocks, blocks_done}
 use Rattle.block_machine.proofs.Blocks.{begun_blocks}
 use Rattle.driver_machine.specs.Guards.{IsSetUp}
-use Rattle.hp_driver.specs.Subsystem.{asked}
+use Rattle.request_fronts.specs.Passes.{asked}
 use Rattle.subsystem_spec.specs.declared.request.Request.{Request}
 use Rattle.waited_requests.specs.Rest.{HasTables}
 use Rattle.partition_bytes.specs.Laid.{laid_at}
-use Rattle.blocking_io.specs.Calls.{Stage}
-use Rattle.blocking_io.specs.Asking.{setup_at}
-use Rattle.blocking_io.specs.Sessions.{StillTell, SessionsJoin}
+use Rattle.request_fronts.specs.Passes.{Stage}
+use Rattle.request_fronts.specs.Passes.{setup_at}
+use Rattle.request_fronts.specs.Passes.{StillTell, SessionsJoin}
 use Rattle.raw_io.specs.declared.pieces.Piece.{Piece}
 use Rattle.partition_bytes.specs.Bytes.{range, with_range}
 use Rattle.raw_io.specs.Transfers.{Transfers, AreBlocks}

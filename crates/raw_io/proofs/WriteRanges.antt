@@ -8,9 +8,9 @@ use Rattle.block_machine.specs.Machine.{Blocks}
 use Rattle.driver_machine.specs.Guards.{IsSetUp}
 use Rattle.waited_requests.specs.Rest.{HasTables}
 use Rattle.waited_requests.specs.Waited.{with_packs}
-use Rattle.blocking_io.specs.Calls.{Stage}
-use Rattle.blocking_io.specs.Asking.{setup_at}
-use Rattle.blocking_io.specs.Sessions.{StillTell, SessionsJoin}
+use Rattle.request_fronts.specs.Passes.{Stage}
+use Rattle.request_fronts.specs.Passes.{setup_at}
+use Rattle.request_fronts.specs.Passes.{StillTell, SessionsJoin}
 use Rattle.raw_io.specs.declared.pieces.Piece.{Piece}
 use Rattle.partition_bytes.specs.Bytes.{ComesTo, with_range}
 use Rattle.raw_io.specs.Transfers.{Transfers}

@@ -5,11 +5,11 @@ use Rattle.subsystem_spec.specs.Requests.{Request}
 use Rattle.block_machine.specs.Machine.{blocks_done, bytes_of_first}
 use Rattle.waited_requests.specs.Sessions.{told_in}
 use Rattle.waited_requests.specs.Rest.{HasTables}
-use Rattle.blocking_io.specs.declared.reached.Reached.{Reached}
-use Rattle.blocking_io.specs.declared.reached.Reached.TheVariants.{All, Before, Outside, AtEnd}
+use Rattle.request_fronts.specs.Passes.{Reached}
+use Rattle.request_fronts.specs.Passes.{All, Before, Outside, AtEnd}
 use Rattle.partition_bytes.specs.Laid.{laid}
-use Rattle.blocking_io.specs.Calls.{Stage}
-use Rattle.blocking_io.specs.Asking.{setup_at}
+use Rattle.request_fronts.specs.Passes.{Stage}
+use Rattle.request_fronts.specs.Passes.{setup_at}
 use Rattle.request_fronts.specs.Fronts.{OthersStay}
 use Rattle.partition_bytes.specs.Pieces.{Reaches}
 use Rattle.partition_bytes.specs.Bytes.{range}

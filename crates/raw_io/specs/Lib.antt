@@ -2,3 +2,4 @@ pub mod Transfers
 pub mod Calls
 pub mod Blocks
 pub mod Pieces
+pub mod Passes

@@ -2,15 +2,15 @@
 use Rattle.std.specs.Prelude.{◌≡◌, ◌≢◌, ◌⊎◌, ℕ, ◌+◌, ◌*◌, ◌<◌, ◌≤◌, Bool, true, false, IsTrue, List, take, drop, length, Some}
 use Rattle.pack_geometry.specs.declared.DriveKind.{DriveKind}
 use Rattle.partitions.specs.declared.Part.{Part}
-use Rattle.hp_driver.specs.Subsystem.{asked}
+use Rattle.request_fronts.specs.Passes.{asked}
 use Rattle.partitions.specs.Partitions.{first_of}
 use Rattle.block_machine.specs.Machine.{Blocks}
 use Rattle.waited_requests.specs.Sessions.{told_in}
 use Rattle.waited_requests.specs.Rest.{HasTables}
 use Rattle.request_fronts.specs.Fronts.{OthersStay}
 use Rattle.partition_bytes.specs.Laid.{laid}
-use Rattle.blocking_io.specs.Calls.{Stage}
-use Rattle.blocking_io.specs.Asking.{setup_at}
+use Rattle.request_fronts.specs.Passes.{Stage}
+use Rattle.request_fronts.specs.Passes.{setup_at}
 use Rattle.raw_io.specs.declared.pieces.Piece.{Piece}
 use Rattle.partition_bytes.specs.Bytes.{range, Touches, with_range}
 use Rattle.raw_io.specs.Transfers.{Transfers, AreClean, AreBlocks}

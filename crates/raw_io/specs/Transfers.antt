@@ -10,15 +10,15 @@ use Rattle.trace_replay.specs.Moments.{Moment}
 use Rattle.driver_machine.specs.World.{World}
 use Rattle.driver_machine.specs.Guards.{IsSetUp}
 use Rattle.driver_outcome.specs.declared.Stop.{Stop}
-use Rattle.hp_core.specs.Done.{HasCauses}
-use Rattle.hp_driver.specs.Subsystem.{State}
+use Rattle.request_fronts.specs.Passes.{HasCauses}
+use Rattle.request_fronts.specs.Passes.{State}
 use Rattle.waited_requests.specs.Sessions.{Part as SessionPart}
 use Rattle.waited_requests.specs.Rest.{HasTables}
 use Rattle.waited_requests.specs.Cleans.{MovedClean}
-use Rattle.blocking_io.specs.declared.reached.Reached.TheVariants.{Before}
-use Rattle.blocking_io.specs.Calls.{Stage, stage}
-use Rattle.blocking_io.specs.Asking.{IsReady, setup_at}
-use Rattle.blocking_io.specs.Sessions.{GoesOn}
+use Rattle.request_fronts.specs.Passes.{Before}
+use Rattle.request_fronts.specs.Passes.{Stage, stage}
+use Rattle.request_fronts.specs.Passes.{IsReady, setup_at}
+use Rattle.request_fronts.specs.Passes.{GoesOn}
 use Rattle.request_fronts.specs.Fronts.{OthersStay}
 
 -- a request of one, which only reads where the transfer does

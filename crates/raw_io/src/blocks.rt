@@ -1,17 +1,17 @@
 // Whole blocks of a partition, by requests that are waited for.
 ghost use Rattle.std.specs.Prelude.{◌≡◌, ◌*◌, [], true, false, IsTrue, IfOk, OnErr, length};
 ghost use Rattle.driver_outcome.specs.Outcome.{stop_in};
-ghost use Rattle.hp_driver.specs.Subsystem.{asked};
+ghost use Rattle.request_fronts.specs.Passes.{asked};
 ghost use Rattle.waited_requests.specs.Rest.{HasTables};
-ghost use Rattle.blocking_io.specs.Asking.{setup_at};
+ghost use Rattle.request_fronts.specs.Passes.{setup_at};
 ghost use Rattle.raw_io.specs.Transfers.{site, Keeps, MayTransfer, AreBlocks};
 ghost use Rattle.raw_io.specs.Blocks.{blocks_reached, Reads, Gives, Puts, PutsFront};
 ghost use Rattle.raw_io.specs.Calls.{kind_at, IsUntouched};
 
-use blocking_io::{Reached, ask_read, ask_write, sessions_law};
-use hp_driver::{Request, Stop, Subsystem};
 use outside_traits::traits::{Packs, Sink};
-use request_fronts::{clean_law, fronts_law};
+use request_fronts::{
+    Reached, Request, Stop, Subsystem, ask_read, ask_write, clean_law, fronts_law, sessions_law,
+};
 
 /// How many blocks of a request were done, of so many.
 fn blocks_done(reached: Reached, count: u32) -> u32

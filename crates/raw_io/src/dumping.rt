@@ -5,7 +5,7 @@ ghost use Rattle.partitions.specs.Partitions.{size_of};
 ghost use Rattle.driver_outcome.specs.declared.Stop.{Stop};
 ghost use Rattle.driver_outcome.specs.Outcome.{stop_in};
 ghost use Rattle.waited_requests.specs.Rest.{HasTables};
-ghost use Rattle.blocking_io.specs.Asking.{setup_at};
+ghost use Rattle.request_fronts.specs.Passes.{setup_at};
 ghost use Rattle.raw_io.specs.declared.fault.RawFault.TheVariants.{Outside, Unusable};
 ghost use Rattle.partition_bytes.specs.Bytes.{blocks_for, dumped, dump_place};
 ghost use Rattle.raw_io.specs.Transfers.{site, Keeps, MayTransfer};
@@ -15,10 +15,9 @@ ghost use Rattle.raw_io.specs.Pieces.{IsWritten, IsWholeOrOne, start_of, PutsPie
 use crate::fault::RawFault;
 use crate::pieces::{Piece, piece_to_write};
 use crate::writing::write_piece;
-use blocking_io::sessions_law;
-use hp_driver::{Stop, Subsystem};
 use outside_traits::traits::{Packs, Sink};
 use partitions::{Part, part_range};
+use request_fronts::{Stop, Subsystem, sessions_law};
 
 /// How many bytes memory has at the most.
 const MEMORY: usize = 8_388_608;

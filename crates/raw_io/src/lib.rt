@@ -20,4 +20,5 @@ pub use dumping::dump;
 pub use fault::RawFault;
 pub use pieces::is_outside;
 pub use reading::raw_read;
+pub use request_fronts::{Subsystem, UnitSetup};
 pub use writing::raw_write;

@@ -4,9 +4,9 @@ ghost use Rattle.partition_bytes.specs.Bytes.{IsOutside};
 ghost use Rattle.partition_bytes.specs.Pieces.{bytes_among};
 ghost use Rattle.raw_io.specs.Pieces.{IsPiece, IsWholeOrOne};
 
-use hp_driver::Request;
 use pack_geometry::DriveKind;
 use partitions::{Part, part_range};
+use request_fronts::Request;
 
 /// The blocks that a piece of a range touches, and the piece in them: `size` bytes behind the first `skip`.
 #[derive(Clone, Copy)]

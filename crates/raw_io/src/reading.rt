@@ -3,9 +3,9 @@ ghost use Rattle.std.specs.Prelude.{◌≡◌, ◌+◌, ◌*◌, ◌^◌, ◌<�
 ghost use Rattle.partitions.specs.Partitions.{size_of};
 ghost use Rattle.driver_outcome.specs.declared.Stop.{Stop};
 ghost use Rattle.driver_outcome.specs.Outcome.{stop_in};
-ghost use Rattle.hp_driver.specs.Subsystem.{asked};
+ghost use Rattle.request_fronts.specs.Passes.{asked};
 ghost use Rattle.waited_requests.specs.Rest.{HasTables};
-ghost use Rattle.blocking_io.specs.Asking.{setup_at};
+ghost use Rattle.request_fronts.specs.Passes.{setup_at};
 ghost use Rattle.raw_io.specs.declared.fault.RawFault.TheVariants.{Outside, Unusable};
 ghost use Rattle.partition_bytes.specs.Bytes.{IsOutside};
 ghost use Rattle.raw_io.specs.Transfers.{site, Keeps, MayTransfer, AreBlocks};
@@ -15,10 +15,9 @@ ghost use Rattle.raw_io.specs.Pieces.{IsCut, GivesPiece, GivesRange};
 use crate::blocks::get_blocks;
 use crate::fault::RawFault;
 use crate::pieces::{Piece, bytes_among, is_outside, piece_to_read};
-use blocking_io::sessions_law;
-use hp_driver::{Stop, Subsystem};
 use outside_traits::traits::{Packs, Sink};
 use partitions::Part;
+use request_fronts::{Stop, Subsystem, sessions_law};
 
 /// Reads a piece of a range through a buffer for its blocks, and gives the bytes before the first block that can't be used: how many.
 fn read_piece<P: Packs, T: Sink>(

@@ -5,7 +5,7 @@ ghost use Rattle.driver_outcome.specs.declared.Stop.{Stop};
 ghost use Rattle.driver_outcome.specs.Outcome.{stop_in};
 ghost use Rattle.waited_requests.specs.Rest.{HasTables};
 ghost use Rattle.partition_bytes.specs.Laid.{laid_at};
-ghost use Rattle.blocking_io.specs.Asking.{setup_at};
+ghost use Rattle.request_fronts.specs.Passes.{setup_at};
 ghost use Rattle.raw_io.specs.declared.fault.RawFault.TheVariants.{Outside, Unusable};
 ghost use Rattle.partition_bytes.specs.Bytes.{IsOutside};
 ghost use Rattle.raw_io.specs.Transfers.{site, Keeps, MayTransfer};
@@ -15,10 +15,9 @@ ghost use Rattle.raw_io.specs.Pieces.{IsWritten, IsWholeOrOne, start_of, PutsPie
 use crate::blocks::{get_blocks, put_blocks};
 use crate::fault::RawFault;
 use crate::pieces::{Piece, bytes_among, is_outside, piece_to_write};
-use blocking_io::sessions_law;
-use hp_driver::{Request, Stop, Subsystem};
 use outside_traits::traits::{Packs, Sink};
 use partitions::Part;
+use request_fronts::{Request, Stop, Subsystem, sessions_law};
 
 /// Lays bytes over those of a block, from a place on.
 fn merge(block: &mut [u8; 512], skip: usize, from: &[u8])

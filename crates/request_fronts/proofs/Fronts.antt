@@ -23,7 +23,7 @@ use Rattle.trace_replay.proofs.Histories.{Fits, Open, CleanFits}
 use Rattle.trace_replay.proofs.Kept.{IsHeld}
 use Rattle.trace_work.specs.Consistent.{IsConsistent}
 use Rattle.trace_work.proofs.Consistency.{moments_consistent}
-use Rattle.run_promises.specs.Beginnings.{IsNextSector, with_next}
+use Rattle.blocking_io.specs.Passes.{IsNextSector, with_next}
 use Rattle.block_machine.specs.Machine.{Blocks, Machine, idle, request_of, without, kind_of, meets, AreUsable, MayAnswer, blocks_after, blocks_done, done_in, after_answer, Steps}
 use Rattle.block_machine.specs.Machine.{submitted as machine_submitted}
 use Rattle.block_machine.specs.Stands.{Setup, home_at, home_in, held_at, HandStands, IsOutstanding, QueueStands, StandsFor, is_sure_among, sure_claims}
@@ -43,9 +43,9 @@ use Rattle.waited_requests.specs.Waited.{map_of, first_in, with_packs, IsAskable
 use Rattle.waited_requests.proofs.Parts.{PartStep, part_step}
 use Rattle.waited_requests.proofs.Cleans.{done_moves_clean}
 use Rattle.waited_requests.proofs.Restful.{rest_keeps, rest_stands}
-use Rattle.quiet_driver.specs.Quiet.{kind_if, setup_of, rested, StandsQuiet}
-use Rattle.quiet_driver.proofs.Calls.{played_consistent}
-use Rattle.quiet_driver.proofs.Rests.{quiet_rests}
+use Rattle.blocking_io.specs.Passes.{kind_if, setup_of, rested, StandsQuiet}
+use Rattle.blocking_io.proofs.Passes.{played_consistent}
+use Rattle.blocking_io.proofs.Passes.{quiet_rests}
 use Rattle.blocking_io.specs.Asking.{setup_at, Follows}
 use Rattle.blocking_io.specs.Stopping.{LeftAt, IsCut, begun}
 use Rattle.request_fronts.specs.Fronts.{OthersStay, HoldsFront, StoppedHoldsFront, AnsweredMovesClean}

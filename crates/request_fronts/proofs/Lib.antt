@@ -1,2 +1,3 @@
 mod Few
 mod Fronts
+pub mod Passes

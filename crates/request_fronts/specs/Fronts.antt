@@ -10,12 +10,12 @@ use Rattle.block_machine.specs.Stands.{Setup, home_in}
 use Rattle.driver_machine.specs.Guards.{IsSetUp}
 use Rattle.driver_machine.specs.Sound.{Sound, AtWork}
 use Rattle.driver_outcome.specs.declared.Stop.{Stop}
-use Rattle.driver_runs.specs.Runs.{Stay}
+use Rattle.blocking_io.specs.Passes.{Stay}
 use Rattle.waited_requests.specs.Rest.{HasTables}
 use Rattle.waited_requests.specs.Sessions.{waited, told_in}
 use Rattle.waited_requests.specs.Waited.{map_of, first_in, answer_in, with_packs}
 use Rattle.waited_requests.specs.Cleans.{MovedClean, done_by}
-use Rattle.quiet_driver.specs.Quiet.{IsQuiet}
+use Rattle.blocking_io.specs.Passes.{IsQuiet}
 use Rattle.blocking_io.specs.Calls.{Stage}
 use Rattle.blocking_io.specs.Asking.{setup_at, Answers}
 use Rattle.blocking_io.specs.Stopping.{Stops}

@@ -17,3 +17,7 @@ pub fn fronts_law()
 pub fn clean_law()
     ensures { AnsweredMovesClean }
 {}
+
+pub use blocking_io::{
+    Reached, Request, Stop, Subsystem, UnitSetup, ask_read, ask_write, sessions_law,
+};

@@ -1,7 +1,7 @@
 use Rattle.std.proofs.Common.{ℕ, subst, sym}
 use Rattle.command_parts.specs.Outside.{HasItsCause}
-use Rattle.raw_command.specs.Endings.{Stays}
-use Rattle.raw_command.specs.Faults.{IsTransferCode}
+use Rattle.command_words.specs.Passes.{Stays}
+use Rattle.command_words.specs.Passes.{IsTransferCode}
 use Rattle.hpsim_run.proofs.TransferLaws.{transfer_leaves}
 use Rattle.hpsim_run.proofs.transfers.run_bytes.Goals as goal
 

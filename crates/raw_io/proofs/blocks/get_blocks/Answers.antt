@@ -1,7 +1,7 @@
 use Rattle.std.proofs.Common.{◌≢◌, inl, inr, ℕ, ◌<◌, ◌≤◌, ◌+◌, [], refl, sym, subst, arith}
 use Rattle.partitions.specs.Partitions.{size_of}
-use Rattle.hp_driver.specs.Subsystem.{asked}
-use Rattle.blocking_io.specs.Calls.{Stage}
+use Rattle.request_fronts.specs.Passes.{asked}
+use Rattle.request_fronts.specs.Passes.{Stage}
 use Rattle.raw_io.specs.Transfers.{site}
 use Rattle.raw_io.proofs.Exits.{on_err}
 use Rattle.raw_io.proofs.ReadPieces.{kind_stays, gives_first, gives_again, untouched_again}

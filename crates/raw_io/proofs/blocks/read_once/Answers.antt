@@ -1,9 +1,9 @@
 use Rattle.std.proofs.Common.{[], refl, ap}
 use Rattle.std.specs.Prelude.{if◌then◌else◌, Some, None}
 use Rattle.subsystem_spec.specs.Requests as told
-use Rattle.hp_driver.specs.Subsystem.{asked}
-use Rattle.blocking_io.specs.declared.reached.Reached.TheVariants.{Before}
-use Rattle.blocking_io.specs.Calls.{Stage, stage}
+use Rattle.request_fronts.specs.Passes.{asked}
+use Rattle.request_fronts.specs.Passes.{Before}
+use Rattle.request_fronts.specs.Passes.{Stage, stage}
 use Rattle.raw_io.specs.Calls.{kind_at}
 use Rattle.raw_io.proofs.Exits.{is_request, none_written, reads_of, read_stops_of, on_err, keeps_err}
 use Rattle.raw_io.proofs.blocks.read_once.Goals as goal

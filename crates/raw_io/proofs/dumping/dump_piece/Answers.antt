@@ -1,8 +1,8 @@
 use Rattle.std.proofs.Common.{IsTrue, sym, subst}
 use Rattle.std.specs.Prelude.{IfOk, OnErr}
 use Rattle.waited_requests.specs.Rest.{HasTables}
-use Rattle.blocking_io.specs.Calls.{Stage}
-use Rattle.blocking_io.specs.Asking.{setup_at}
+use Rattle.request_fronts.specs.Passes.{Stage}
+use Rattle.request_fronts.specs.Passes.{setup_at}
 use Rattle.raw_io.specs.Transfers.{site}
 use Rattle.raw_io.specs.Calls.{kind_at}
 use Rattle.raw_io.specs.Pieces.{IsWritten, PutsPiece, StopsPiece}

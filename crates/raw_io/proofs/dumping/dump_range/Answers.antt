@@ -2,7 +2,7 @@ use Rattle.std.proofs.Common.{◌≤◌, ◌+◌, ◌-◌, ◌*◌, ◌∙◌, t
 use Rattle.partitions.specs.declared.Part.TheVariants.{B}
 use Rattle.partitions.specs.Partitions.{size_of}
 use Rattle.partition_bytes.specs.Bytes.{dumped}
-use Rattle.blocking_io.specs.Calls.{Stage}
+use Rattle.request_fronts.specs.Passes.{Stage}
 use Rattle.raw_io.specs.Transfers.{site}
 use Rattle.raw_io.specs.Calls.{kind_at}
 use Rattle.raw_io.specs.Pieces.{IsPiece}

@@ -1,5 +1,5 @@
 use Rattle.std.proofs.Common.{◌+◌, ◌-◌, [], ◌++◌, None, false, length, refl, ap, subst, arith, rules}
-use Rattle.blocking_io.specs.Calls.{Stage}
+use Rattle.request_fronts.specs.Passes.{Stage}
 use Rattle.raw_io.specs.Transfers.{site}
 use Rattle.raw_io.specs.Pieces.{IsPiece, GivesPiece}
 use Rattle.raw_io.proofs.Exits.{on_err, keeps_none, keeps_join}

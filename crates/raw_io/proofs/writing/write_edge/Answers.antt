@@ -1,5 +1,5 @@
 use Rattle.std.proofs.Common.{refl, sym, subst}
-use Rattle.blocking_io.specs.Calls.{Stage}
+use Rattle.request_fronts.specs.Passes.{Stage}
 use Rattle.raw_io.specs.Transfers.{site}
 use Rattle.raw_io.specs.Calls.{kind_at}
 use Rattle.raw_io.specs.Pieces.{PutsPiece}

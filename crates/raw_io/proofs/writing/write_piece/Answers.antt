@@ -1,5 +1,5 @@
 use Rattle.std.proofs.Common.{sym, subst}
-use Rattle.blocking_io.specs.Calls.{Stage}
+use Rattle.request_fronts.specs.Passes.{Stage}
 use Rattle.raw_io.specs.Transfers.{site}
 use Rattle.raw_io.specs.Pieces.{IsWhole, PutsPiece}
 use Rattle.raw_io.proofs.Exits.{on_err}

@@ -1,5 +1,5 @@
 use Rattle.std.proofs.Common.{◌+◌, ◌-◌, take, drop, refl, arith, None}
-use Rattle.blocking_io.specs.Calls.{Stage}
+use Rattle.request_fronts.specs.Passes.{Stage}
 use Rattle.raw_io.specs.Transfers.{site}
 use Rattle.raw_io.proofs.Exits.{on_err, keeps_none, keeps_join}
 use Rattle.raw_io.proofs.WriteRanges.{written_none, written_whole, piece_of, turn_written, write_more, write_ends, write_stops}

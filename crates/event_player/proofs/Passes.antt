@@ -1,0 +1,3 @@
+-- What is passed on of the crates below, so that those above stand on this one.
+pub use Rattle.one_run.proofs.Bytes.{bytes_have_one_run}
+pub use Rattle.one_run.proofs.Whole.{legal_runs_are_one}
