@@ -154,7 +154,7 @@ module _ (unit : ℕ) (kind : DriveKind) (table : Option Table) (small : unit < 
   is_up = record { unit = small; declared = ap (λ (v : UnitView). v.declared) here }
 
   -- BYTES MAY BE TRANSFERRED
-  pub may_transfer : (s : State) → s ≡ record { world = one_world unit kind table; outstanding = 1; failed = false } → MayTransfer s unit
+  pub may_transfer : (s : State) → s ≡ record { world = one_world unit kind table; outstanding = 1; failed = false; kept = [] } → MayTransfer s unit
   may_transfer s made =
       subst (λ (x : State). MayTransfer x unit) (sym made)
-      (record { ready = record { quiet = new_is_quiet (one_setup unit kind table ∷ []) 1 0; going = refl }; room = omega arith; unit_is = is_up })
+      (record { ready = record { quiet = new_is_quiet (one_setup unit kind table ∷ []) 1 0; going = refl; sent = refl }; room = omega arith; unit_is = is_up })

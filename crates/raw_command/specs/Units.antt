@@ -24,7 +24,7 @@ unit_setup unit kind table packs = record { drives = at_unit unit (Some kind); t
 -- THE DRIVER for it is new, and takes one request at a time; where the packs tell, the image fits, and the table is that of the pack.
 pub record IsAttached (tells : Bool) (pack : Pack) (unit : ℕ) (kind : DriveKind) (s : State) : Type 0 where
   pub table : Option Table
-  pub made : s ≡ record { world = new_world (record { unit = unit; kind = kind; table = table } ∷ []) 1 0; outstanding = 1; failed = false }
+  pub made : s ≡ record { world = new_world (record { unit = unit; kind = kind; table = table } ∷ []) 1 0; outstanding = 1; failed = false; kept = [] }
   pub good : (t : Table) → table ≡ Some t → IsTableFor kind t
   pub fits : IsTrue tells → Fits kind pack
   pub is : IsTrue tells → IsTableOf kind pack table

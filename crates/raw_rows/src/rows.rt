@@ -117,6 +117,13 @@ const ROWS: [Row; 6] = [
                 out: &[0xff, 0xff, 0xff, 0, 0, 0],
                 trace: b"rcom 49438 2\n",
             },
+            Step {
+                line: "raw read 0 rm03 b 17120769 511",
+                source: b"",
+                status: 0,
+                out: &[0; 511],
+                trace: b"rcom 49439 1\n",
+            },
         ],
         blocks: &[(49437, 0), (49438, 0xff)],
     },
