@@ -26,7 +26,7 @@ use Rattle.driver_trace.proofs.Events.{not_drained, serving_is}
 use Rattle.driver_trace.proofs.Attending.{attended_told}
 use Rattle.driver_trace.proofs.Inputted.{lines_play_nothing}
 use Rattle.hp_driver.specs.Subsystem.{IsThere}
-use Rattle.event_player.specs.Stops.{IsEventOver, AreOfOneEvent}
+use Rattle.run_stops.specs.Stops.{IsEventOver, AreOfOneEvent}
 
 -- WHERE A LINE OF THE TRACE MAY COME NEXT one is still to come.
 some_line : (unit : ℕ) (d : moment.Deed) → is_no_line (wish_of unit d) ≡ false

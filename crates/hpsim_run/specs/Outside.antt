@@ -1,6 +1,7 @@
 -- What is seen of the outside: of the source, the packs and the two sinks, whether each tells, what it holds, and its count of faults.
 use Rattle.std.specs.Prelude.{ℕ, Bool, List}
 use Rattle.pack_model.specs.Pack.{Pack}
+use Rattle.run_stops.specs.Stops.{Took}
 
 pub record Outside : Type 0 where
   pub source_tells : Bool
@@ -33,3 +34,10 @@ outside source_tells left source_faults packs_tell held packs_faults out_tells s
   taken = taken trace;
   trace_faults = trace_faults trace;
 }
+
+-- what each sink took
+abbrev pub out_took : (old new : Outside) → Took
+out_took old new = record { tells = new.out_tells; before = old.said; after = new.said; faults = old.out_faults; faults_after = new.out_faults }
+
+abbrev pub trace_took : (old new : Outside) → Took
+trace_took old new = record { tells = new.trace_tells; before = old.taken; after = new.taken; faults = old.trace_faults; faults_after = new.trace_faults }
