@@ -12,7 +12,7 @@ use Rattle.driver_machine.specs.Acts.{Act, after_all}
 use Rattle.driver_machine.specs.Lines.{lines_of_all}
 use Rattle.driver_machine.specs.Events.{submit_acts, event_acts}
 use Rattle.driver_machine.specs.Sound.{Sound, AtWork}
-use Rattle.driver_work.specs.Runs.{Run}
+use Rattle.driver_machine.specs.Runs.{Run}
 use Rattle.driver_outcome.specs.Outcome.{Does, StopsAtTrace, IsFront, IsNextBlock}
 use Rattle.driver_outcome.specs.declared.Stop.{Stop}
 use Rattle.driver_outcome.specs.declared.Stop.TheVariants as stop

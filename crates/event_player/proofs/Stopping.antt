@@ -14,7 +14,7 @@ use Rattle.driver_machine.specs.Acts.{Act, Tried}
 use Rattle.driver_machine.specs.Lines.{lines_of_all}
 use Rattle.driver_machine.specs.Events.{event_acts}
 use Rattle.driver_machine.specs.Sound.{Sound}
-use Rattle.driver_work.specs.Runs.{Run, MayCome}
+use Rattle.driver_machine.specs.Runs.{Run, MayCome}
 use Rattle.driver_outcome.specs.Outcome.{IsFront, IsNextBlock}
 use Rattle.driver_outcome.specs.Packs.{ReadAll, packs_after_all}
 use Rattle.driver_runs.specs.Runs.{AreDeclared}
