@@ -6,9 +6,6 @@ use Rattle.std.proofs.lemmas.Bool.{eq-eqb}
 use Rattle.std.proofs.lemmas.List.{take-append-drop}
 use Rattle.std.proofs.Math.Seq.{take-append_seam}
 use Rattle.outside_traits.specs.declared.traits.SinkFailed.{SinkFailed}
-use Rattle.outside_traits.specs.Puts.{Puts}
-use Rattle.mass_gather.specs.Gathers.{Gathers}
-use Rattle.mass_gather.proofs.GatherLaws.{gathers_nothing, gathers_join, gathers_stop, gathers_whole}
 use Rattle.trace_replay.specs.Moments.{Answered}
 use Rattle.main_memory.specs.Blocks.{size_at}
 use Rattle.main_memory.specs.Bytes.{filled, IsFill}
@@ -28,9 +25,12 @@ use Rattle.answer_lines.specs.AnswerText.{answer_text, block_text, block_texts, 
 use Rattle.answer_lines.specs.Blocks.{AreBlocks, blocks_in, joined}
 use Rattle.answer_lines.proofs.BlockLaws.{blocks_in-joined}
 use Rattle.answer_lines.proofs.TextLaws.{one_more}
-use Rattle.hp_driver.specs.Subsystem.{State, IsOldest}
+use Rattle.run_stops.specs.Passes.{State, IsOldest}
 use Rattle.event_player.specs.Answering.{first_blocks, first_told, first_text, first_rest, IsFirst, IsFirstKind, HasBlock}
+use Rattle.event_player.specs.Saying.{Side, Says}
 use Rattle.event_player.specs.Steps.{waiting_text}
+use Rattle.event_player.proofs.SaysLaws.{says_same, says_both, says_stop}
+use Rattle.event_player.proofs.Saying.{says_nothing}
 
 -- THE BLOCKS OF A READ: so many, each whole but for the last one
 pub record IsRead (blocks : List (List ℕ)) (count last : ℕ) : Type 0 where
@@ -167,51 +167,24 @@ block_texts-append k (x ∷ xs) ys =
 texts_parted : (blocks : List (List ℕ)) (k : ℕ) → block_texts 0 blocks ≡ block_texts 0 (take k blocks) ++ block_texts (0 + length (take k blocks)) (drop k blocks)
 texts_parted blocks k = ap (block_texts 0) (sym (take-append-drop k blocks)) ∙ block_texts-append 0 (take k blocks) (drop k blocks)
 
--- the same text by another name
-pub gathers_same : {O T E : Type 0} {tells : O → Bool} {taken : O → List ℕ} {faults : O → ℕ} {old new : O} {kept left : List ℕ} {result : Result T E} {text : List ℕ} (other : List ℕ)
-    → Gathers tells taken faults old new kept left result text → text ≡ other → Gathers tells taken faults old new kept left result other
-gathers_same {O} {T} {E} {tells} {taken} {faults} {old} {new} {kept} {left} {result} {text} other g e = subst (λ (t : List ℕ). Gathers tells taken faults old new kept left result t) e g
-
--- what comes behind a text that was not gathered makes no difference
-pub stopped : {O : Type 0} {tells : O → Bool} {taken : O → List ℕ} {faults : O → ℕ} {old new : O} {kept left : List ℕ} {failed : SinkFailed} {x : List ℕ} (y : List ℕ) (result : Result (Unit {0}) SinkFailed)
-    → IsErr result → Gathers {T = Unit {0}} tells taken faults old new kept left (Err failed) x → Gathers tells taken faults old new kept left result (x ++ y)
-stopped {O} {tells} {taken} {faults} {old} {new} {kept} {left} {failed} {x} y result e g = gathers_stop tells taken faults old new kept left (Err failed) result x y refl e g
-
-module _ {O : Type 0} (tells : O → Bool) (taken : O → List ℕ) (faults : O → ℕ) (old middle new : O) (kept held left : List ℕ) where
+module _ (out mid out' lines mid_lines lines' : Side) where
   -- the blocks below k, and one more
   pub blocks_more : (blocks : List (List ℕ)) (k : ℕ) (result : Result (Unit {0}) SinkFailed) → k < length blocks
-      → Gathers {T = Unit {0}} {E = SinkFailed} tells taken faults old middle kept held (Ok tt) (block_texts 0 (take k blocks))
-      → Gathers tells taken faults middle new held left result (block_text k (slice_index_or blocks k []))
-      → Gathers tells taken faults old new kept left result (block_texts 0 (take (k + 1) blocks))
+      → Says {T = Unit {0}} {E = SinkFailed} out mid lines mid_lines (Ok tt) (block_texts 0 (take k blocks))
+      → Says mid out' mid_lines lines' result (block_text k (slice_index_or blocks k []))
+      → Says out out' lines lines' result (block_texts 0 (take (k + 1) blocks))
   blocks_more blocks k result lt so_far more =
-      subst (λ (text : List ℕ). Gathers tells taken faults old new kept left result text) (sym (one_more blocks k lt))
-      (gathers_join tells taken faults old middle new kept held left (Ok tt) result (block_texts 0 (take k blocks)) (block_text k (slice_index_or blocks k [])) refl so_far more)
+      says_same (block_texts 0 (take (k + 1) blocks))
+      (says_both out mid out' lines mid_lines lines' (block_texts 0 (take k blocks)) (block_text k (slice_index_or blocks k [])) result so_far more) (sym (one_more blocks k lt))
 
-  -- where one is not gathered, those behind it make no difference
+  -- where one is not said, those behind it make no difference
   pub blocks_stop : {failed : SinkFailed} (blocks : List (List ℕ)) (k : ℕ) (result : Result (Unit {0}) SinkFailed) → k < length blocks → IsErr result
-      → Gathers {T = Unit {0}} {E = SinkFailed} tells taken faults old middle kept held (Ok tt) (block_texts 0 (take k blocks))
-      → Gathers {T = Unit {0}} tells taken faults middle new held left (Err failed) (block_text k (slice_index_or blocks k []))
-      → Gathers tells taken faults old new kept left result (block_texts 0 blocks)
+      → Says {T = Unit {0}} {E = SinkFailed} out mid lines mid_lines (Ok tt) (block_texts 0 (take k blocks))
+      → Says {T = Unit {0}} mid out' mid_lines lines' (Err failed) (block_text k (slice_index_or blocks k []))
+      → Says out out' lines lines' result (block_texts 0 blocks)
   blocks_stop {failed} blocks k result lt e so_far more =
-      subst (λ (text : List ℕ). Gathers tells taken faults old new kept left result text) (sym (texts_parted blocks (k + 1)))
-      (gathers_stop tells taken faults old new kept left (Err failed) result (block_texts 0 (take (k + 1) blocks))
-      (block_texts (0 + length (take (k + 1) blocks)) (drop (k + 1) blocks)) refl e (blocks_more blocks k (Err failed) lt so_far more))
-
-  -- two texts, the first of which was gathered
-  pub both_gathered : (x y : List ℕ) (result : Result (Unit {0}) SinkFailed)
-      → Gathers {T = Unit {0}} {E = SinkFailed} tells taken faults old middle kept held (Ok tt) x → Gathers tells taken faults middle new held left result y
-      → Gathers tells taken faults old new kept left result (x ++ y)
-  both_gathered x y result a b = gathers_join tells taken faults old middle new kept held left (Ok tt) result x y refl a b
-
-  -- what was gathered where nothing was kept, and is passed on, was put
-  pub written : (text : List ℕ) (result : Result (Unit {0}) SinkFailed) → kept ≡ [] → left ≡ []
-      → Gathers {T = Unit {0}} {E = SinkFailed} tells taken faults old middle kept held (Ok tt) text → Gathers tells taken faults middle new held left result []
-      → Puts tells taken faults old new result text
-  written text result none empty a b =
-      gathers_whole tells taken faults old new result text
-      (subst (λ (l : List ℕ). Gathers tells taken faults old new [] l result text) empty
-      (subst (λ (k : List ℕ). Gathers tells taken faults old new k left result text) none
-      (gathers_same text (both_gathered text [] result a b) (append-nil text))))
+      says_same (block_texts 0 blocks)
+      (says_stop (block_texts (0 + length (take (k + 1) blocks)) (drop (k + 1) blocks)) result e (blocks_more blocks k (Err failed) lt so_far more)) (sym (texts_parted blocks (k + 1)))
 
 -- what is not a read has no blocks to be said
 no_blocks : (kind : AnswerKind) (blocks : List (List ℕ)) → ((count last : ℕ) → kind ≡ ReadOk count last → ⊥) → blocks_text (answer_told kind blocks) ≡ []
@@ -270,55 +243,55 @@ one_less w answer first =
     let e : length w.answers ≡ suc (length (drop 1 w.answers)) = ap (λ (answers : List Made). length answers) first.oldest.first in
     omega (arith, e)
 
--- THE ANSWERS SO FAR: those that are taken were gathered, and with those that wait still they are all.
-pub record SoFar {O : Type 0} (tells : O → Bool) (taken : O → List ℕ) (faults : O → ℕ) (old now : O) (kept held : List ℕ) (first s : State) : Type 0 where
+-- THE ANSWERS SO FAR: those that are taken were said, and with those that wait still they are all.
+pub record SoFar (out out' lines lines' : Side) (first s : State) : Type 0 where
   pub front : List ℕ
-  pub gathers : Gathers {T = Unit {0}} {E = SinkFailed} tells taken faults old now kept held (Ok tt) front
+  pub says : Says {T = Unit {0}} {E = SinkFailed} out out' lines lines' (Ok tt) front
   pub text : front ++ waiting_text s.world ≡ waiting_text first.world
   pub all : all_taken s.world ≡ all_taken first.world
-  pub state : s ≡ record first { world = s.world }
+  pub state : s ≡ record first { world = s.world; kept = s.kept }
 
-module _ {O : Type 0} (tells : O → Bool) (taken : O → List ℕ) (faults : O → ℕ) (drops : TakingDrops) where
-  pub none_so_far : (out : O) (kept : List ℕ) (first : State) → SoFar tells taken faults out out kept kept first first
-  none_so_far out kept first = record {
+module _ (drops : TakingDrops) where
+  pub none_so_far : (out lines : Side) (first : State) → SoFar out out lines lines first first
+  none_so_far out lines first = record {
     front = [];
-    gathers = gathers_nothing tells taken faults out kept tt;
+    says = says_nothing out lines;
     text = refl;
     all = refl;
     state = refl;
   }
 
-  pub one_so_far : {old middle new : O} {kept held left : List ℕ} {first s : State} {answer : Answer} (s' : State) → SoFar tells taken faults old middle kept held first s
-      → Sound s.world → IsFirst s.world answer → Gathers {T = Unit {0}} {E = SinkFailed} tells taken faults middle new held left (Ok tt) (first_text s.world answer)
-      → s' ≡ record s { world = after s.world Taken } → SoFar tells taken faults old new kept left first s'
-  one_so_far {old} {middle} {new} {kept} {held} {left} {first} {s} {answer} s' so sound is gathers taking =
-      subst (λ (x : State). SoFar tells taken faults old new kept left first x) (sym taking) (record {
+  pub one_so_far : {out mid out' lines mid_lines lines' : Side} {first s mid_s : State} {answer : Answer} (s' : State) → SoFar out mid lines mid_lines first s
+      → Sound s.world → IsFirst s.world answer → Says {T = Unit {0}} {E = SinkFailed} mid out' mid_lines lines' (Ok tt) (first_text s.world answer)
+      → mid_s ≡ record s { kept = mid_s.kept } → s' ≡ record mid_s { world = after mid_s.world Taken } → SoFar out out' lines lines' first s'
+  one_so_far {out} {mid} {out'} {lines} {mid_lines} {lines'} {first} {s} {mid_s} {answer} s' so sound is says same taking =
+      subst (λ (x : State). SoFar out out' lines lines' first x) (sym (taking ∙ ap (λ (x : State). record x { world = after x.world Taken }) same)) (record {
         front = so.front ++ first_text s.world answer;
-        gathers = both_gathered tells taken faults old middle new kept held left so.front (first_text s.world answer) (Ok tt) so.gathers gathers;
+        says = says_both out mid out' lines mid_lines lines' so.front (first_text s.world answer) (Ok tt) so.says says;
         text =
             append_assoc so.front (first_text s.world answer) (waiting_text (after s.world Taken))
             ∙ ap (λ (text : List ℕ). so.front ++ text) (sym (text_taken drops s.world answer sound is)) ∙ so.text;
         all = sym (taken_first s.world is.made is.oldest) ∙ so.all;
-        state = ap (λ (x : State). record x { world = after s.world Taken }) so.state;
+        state = ap (λ (x : State). record x { world = after s.world Taken; kept = mid_s.kept }) so.state;
       })
 
-  pub so_far_stops : {old middle new : O} {kept held left : List ℕ} {first s : State} {answer : Answer} {failed : SinkFailed} (result : Result (Unit {0}) SinkFailed)
-      → SoFar tells taken faults old middle kept held first s → Sound s.world → IsFirst s.world answer → IsErr result
-      → Gathers {T = Unit {0}} tells taken faults middle new held left (Err failed) (first_text s.world answer) → Gathers tells taken faults old new kept left result (waiting_text first.world)
-  so_far_stops {old} {middle} {new} {kept} {held} {left} {first} {s} {answer} {failed} result so sound is e gathers =
-      subst (λ (text : List ℕ). Gathers tells taken faults old new kept left result text)
+  pub so_far_stops : {out mid out' lines mid_lines lines' : Side} {first s : State} {answer : Answer} {failed : SinkFailed} (result : Result (Unit {0}) SinkFailed)
+      → SoFar out mid lines mid_lines first s → Sound s.world → IsFirst s.world answer → IsErr result
+      → Says {T = Unit {0}} mid out' mid_lines lines' (Err failed) (first_text s.world answer) → Says out out' lines lines' result (waiting_text first.world)
+  so_far_stops {out} {mid} {out'} {lines} {mid_lines} {lines'} {first} {s} {answer} {failed} result so sound is e says =
+      says_same (waiting_text first.world)
+      (says_stop (waiting_text (after s.world Taken)) result e
+      (says_both out mid out' lines mid_lines lines' so.front (first_text s.world answer) (Err failed) so.says says))
       (append_assoc so.front (first_text s.world answer) (waiting_text (after s.world Taken))
       ∙ ap (λ (text : List ℕ). so.front ++ text) (sym (text_taken drops s.world answer sound is)) ∙ so.text)
-      (gathers_stop tells taken faults old new kept left (Err failed) result (so.front ++ first_text s.world answer) (waiting_text (after s.world Taken)) refl e
-      (both_gathered tells taken faults old middle new kept held left so.front (first_text s.world answer) (Err failed) so.gathers gathers))
 
-  pub all_so_far : {old new : O} {kept left : List ℕ} {first s : State} → SoFar tells taken faults old new kept left first s → s.world.answers ≡ []
-      → Gathers {T = Unit {0}} {E = SinkFailed} tells taken faults old new kept left (Ok tt) (waiting_text first.world)
-  all_so_far {old} {new} {kept} {left} {first} {s} so none =
-      subst (λ (text : List ℕ). Gathers {T = Unit {0}} {E = SinkFailed} tells taken faults old new kept left (Ok tt) text)
-      (sym (append-nil so.front) ∙ ap (λ (answers : List Made). so.front ++ flat_map answer_text (map (told_by s.world) answers)) (sym none) ∙ so.text) so.gathers
+  pub all_so_far : {out out' lines lines' : Side} {first s : State} → SoFar out out' lines lines' first s → s.world.answers ≡ []
+      → Says {T = Unit {0}} {E = SinkFailed} out out' lines lines' (Ok tt) (waiting_text first.world)
+  all_so_far {out} {out'} {lines} {lines'} {first} {s} so none =
+      says_same (waiting_text first.world) so.says
+      (sym (append-nil so.front) ∙ ap (λ (answers : List Made). so.front ++ flat_map answer_text (map (told_by s.world) answers)) (sym none) ∙ so.text)
 
-  pub state_so_far : {old new : O} {kept left : List ℕ} {first s : State} → SoFar tells taken faults old new kept left first s → s.world.answers ≡ []
-      → s ≡ record first { world = all_taken first.world }
-  state_so_far {old} {new} {kept} {left} {first} {s} so none =
-      so.state ∙ ap (λ (w : World). record first { world = w }) (sym (none_left s.world none) ∙ so.all)
+  pub state_so_far : {out out' lines lines' : Side} {first s : State} → SoFar out out' lines lines' first s → s.world.answers ≡ []
+      → s ≡ record first { world = all_taken first.world; kept = s.kept }
+  state_so_far {out} {out'} {lines} {lines'} {first} {s} so none =
+      so.state ∙ ap (λ (w : World). record first { world = w; kept = s.kept }) (sym (none_left s.world none) ∙ so.all)

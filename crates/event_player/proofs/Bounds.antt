@@ -16,8 +16,8 @@ use Rattle.driver_machine.specs.Sound.{Sound, slots_of, IsOutstanding, UnitOk}
 use Rattle.driver_work.proofs.Deeds.{slot_there}
 use Rattle.driver_slots.proofs.Lists.{Contains-first, Contains-later, contained_among}
 use Rattle.driver_replay.specs.Shows.{Match, IsUnitSeen}
-use Rattle.driver_trace.specs.Within.{ShowsAll}
-use Rattle.driver_trace.specs.Runs.{IsSoFar}
+use Rattle.run_stops.specs.Passes.{ShowsAll}
+use Rattle.run_stops.specs.Passes.{IsSoFar}
 use Rattle.hp_core.proofs.Deeds.{pigeons}
 
 -- A QUEUE has at most 127 blocks for each of its requests.

@@ -22,19 +22,19 @@ use Rattle.driver_machine.specs.Runs.{Works, MaySubmit, MayCome}
 use Rattle.driver_work.proofs.Calls.{event_works, submit_works}
 use Rattle.driver_invariant.proofs.Sound.{sound_after}
 use Rattle.driver_outcome.specs.Packs.{packs_after_all}
-use Rattle.driver_trace.specs.Calls.{IsReadOf}
-use Rattle.driver_trace.specs.Within.{ShowsAll}
-use Rattle.driver_trace.specs.Runs.{IsOfUnits, with_call}
-use Rattle.driver_trace.proofs.Calls.{events_go, submissions_go, drains_start, drains_go_on}
-use Rattle.driver_trace.proofs.Runs.{drain_finds_nothing, drain_ends}
-use Rattle.driver_trace.proofs.Inputted.{calls_are_played, lines_play_nothing}
-use Rattle.driver_runs.proofs.Runs.{events_keep, submissions_keep}
-use Rattle.driver_reach.proofs.Calls.{events_keep_reach, submissions_keep_reach}
-use Rattle.driver_reach.proofs.Lengths.{events_keep_lengths, first_events_keep_lengths, later_events_keep_lengths, empty_drains_keep_lengths, submissions_keep_lengths, drained_shows}
+use Rattle.run_stops.specs.Passes.{IsReadOf}
+use Rattle.run_stops.specs.Passes.{ShowsAll}
+use Rattle.run_stops.specs.Passes.{IsOfUnits, with_call}
+use Rattle.run_stops.proofs.Passes.{events_go, submissions_go, drains_start, drains_go_on}
+use Rattle.run_stops.proofs.Passes.{drain_finds_nothing, drain_ends}
+use Rattle.run_stops.proofs.Passes.{calls_are_played, lines_play_nothing}
+use Rattle.run_stops.proofs.Passes.{events_keep, submissions_keep}
+use Rattle.run_stops.proofs.Passes.{events_keep_reach, submissions_keep_reach}
+use Rattle.run_stops.proofs.Passes.{events_keep_lengths, first_events_keep_lengths, later_events_keep_lengths, empty_drains_keep_lengths, submissions_keep_lengths, drained_shows}
 use Rattle.driver_drains.specs.Drains.{Falls}
 use Rattle.driver_drains.proofs.Asked.{lines_ask_nothing, calls_ask}
 use Rattle.driver_drains.proofs.Falls.{first_events_fall, drains_fall}
-use Rattle.hp_driver.specs.Subsystem.{IsThere}
+use Rattle.run_stops.specs.Passes.{IsThere}
 use Rattle.driver_answers.specs.Waiting.{all_taken}
 use Rattle.event_player.specs.Playing.{HasRun}
 use Rattle.event_player.specs.Steps.{HasDrained}

@@ -1,3 +1,4 @@
 -- What is passed on of the crates below, so that those above stand on this one.
 pub use Rattle.one_run.proofs.Bytes.{bytes_have_one_run}
 pub use Rattle.one_run.proofs.Whole.{legal_runs_are_one}
+pub use Rattle.run_stops.proofs.Ahead.{behind_more, rules_hold}

@@ -10,11 +10,11 @@ use Rattle.driver_machine.specs.Lines.{lines_of_all}
 use Rattle.driver_machine.specs.Sound.{Sound}
 use Rattle.driver_invariant.proofs.Sound.{sound_after}
 use Rattle.driver_outcome.specs.Outcome.{IsNextBlock}
-use Rattle.driver_trace.specs.Runs.{with_call}
-use Rattle.driver_trace.proofs.Inputted.{calls_are_played, lines_play_nothing}
-use Rattle.driver_reach.specs.Reach.{AsksBelow, AskBelow, IsWithinReach, StayFrom}
-use Rattle.driver_reach.proofs.Blocks.{next_blocks_stay}
-use Rattle.driver_reach.proofs.Calls.{answers_keep_reach}
+use Rattle.run_stops.specs.Passes.{with_call}
+use Rattle.run_stops.proofs.Passes.{calls_are_played, lines_play_nothing}
+use Rattle.run_stops.specs.Passes.{AsksBelow, AskBelow, IsWithinReach, StayFrom}
+use Rattle.run_stops.proofs.Passes.{next_blocks_stay}
+use Rattle.run_stops.proofs.Passes.{answers_keep_reach}
 use Rattle.driver_answers.specs.Waiting.{all_taken}
 use Rattle.driver_answers.proofs.Taking.{taken_by}
 

@@ -23,7 +23,7 @@ use Rattle.driver_counts.proofs.Events.{events_add, submissions_add}
 use Rattle.driver_answers.specs.Ids.{AreOf}
 use Rattle.driver_answers.proofs.Ids.{events_add_none, taking_adds_none, no_others}
 use Rattle.driver_answers.proofs.Ids as ids
-use Rattle.hp_driver.specs.Subsystem.{State}
+use Rattle.run_stops.specs.Passes.{State}
 use Rattle.driver_answers.specs.Waiting.{takings, all_taken}
 use Rattle.one_run.specs.Steps.{AreUnits}
 use Rattle.event_player.specs.Playing.{counted, one_request, one_noise, one_fault}

@@ -1,5 +1,5 @@
 -- What a line of the text says, as it is played.
-use Rattle.std.proofs.Common.{◌≡◌, ℕ, Bool, true, false, IsTrue, List, [], ◌++◌, Option, sym, ap, subst, ◌∙◌}
+use Rattle.std.proofs.Common.{◌≡◌, ℕ, true, false, IsTrue, List, [], Option, sym, ap, subst, ◌∙◌}
 use Rattle.std.specs.Prelude.{Box}
 use Rattle.std.specs.Box.{box_value}
 use Rattle.std.specs.declared.alloc.Global.{Global}
@@ -22,17 +22,18 @@ use Rattle.trace_replay.specs.Runs.{start_of}
 use Rattle.trace_bounds.specs.Drains.{IsOf}
 use Rattle.driver_machine.specs.World.{World}
 use Rattle.driver_machine.specs.Guards.{IsSetUp}
+use Rattle.driver_outcome.specs.Outcome.{IsFront}
 use Rattle.answer_lines.specs.AnswerText.{said_text}
-use Rattle.answer_tally.specs.declared.tally.Tally.{Tally}
 use Rattle.answer_tally.specs.Counting.{Counts}
-use Rattle.hp_events.specs.declared.drain.Event.{Event}
+use Rattle.run_stops.specs.Passes.{Event}
 use Rattle.hp_events.specs.declared.drain.Event.TheVariants as event
 use Rattle.subsystem_spec.specs.declared.request.Request as driver
-use Rattle.hp_events.specs.Inputs.{input_of}
-use Rattle.hp_driver.specs.Subsystem.{State, IsThere, asked}
+use Rattle.run_stops.specs.Passes.{input_of}
+use Rattle.run_stops.specs.Passes.{State, IsThere, asked}
 use Rattle.event_player.specs.Playing.{HasRun}
 use Rattle.event_player.specs.Steps.{Stage, PlaysEvent, PlaysSubmission, PlaysLine, PlaysDrain, Brings, MayAsk, MayPlay}
 use Rattle.one_run.proofs.Submissions.{of_unit}
+use Rattle.event_player.proofs.Ahead.{IsOpened}
 use Rattle.event_player.proofs.Inputs.{with_said, plays_event, plays_silent, plays_submission}
 use Rattle.event_player.proofs.Rooms.{event_brings, submission_brings}
 
@@ -77,21 +78,20 @@ may_event e state statement at may = by e (subst (MayPlay state) at may)
     by (event.Online u on) m = m
     by (event.Lock u on) m = m
 
-pub event_plays : (number : ℕ) (statement : Statement) (e : Event) (state : State) (old new : Stage) (tells : Bool) (said : List ℕ) (tally : Tally) → statement ≡ Plays (input_of e)
-    → state.world ≡ old.world → old.world.answers ≡ [] → MayPlay state statement
-    → (IsTrue new.out_tells → said ≡ old.said ++ said_text (Played number (input_of e))) → Counts [] (said_text (Played number (input_of e))) old.tally tally
-    → PlaysEvent number (input_of e) (with_said old tells said tally) new
+pub event_plays : (number : ℕ) (statement : Statement) (e : Event) (state : State) (old now new : Stage) → statement ≡ Plays (input_of e)
+    → state.world ≡ old.world → old.world.answers ≡ [] → MayPlay state statement → IsOpened number (input_of e) old (with_said old now)
+    → Counts [] (said_text (Played number (input_of e))) old.tally now.tally → PlaysEvent number (input_of e) (with_said old now) new
     → IsTrue new.packs_tell → PlaysLine number statement old new
-event_plays number statement e state old new tells said tally at same none may before counts plays told =
+event_plays number statement e state old now new at same none may opened counts plays told =
     subst (λ (s : Statement). PlaysLine number s old new) (sym at)
-    (plays_event number (input_of e) old new tells said tally told (subst (λ (w : World). IsThere w (input_of e)) same (may_event e state statement at may)) none before counts plays)
+    (plays_event number (input_of e) old now new told (subst (λ (w : World). IsThere w (input_of e)) same (may_event e state statement at may)) none opened counts plays)
 
 pub silent_plays : (number : ℕ) (statement : Statement) (e : Event) (state : State) (old new : Stage) → statement ≡ Plays (input_of e)
-    → state.world ≡ old.world → old.world.answers ≡ [] → MayPlay state statement → said_text (Played number (input_of e)) ≡ []
-    → PlaysEvent number (input_of e) old new → IsTrue new.packs_tell → PlaysLine number statement old new
-silent_plays number statement e state old new at same none may silent plays told =
+    → state.world ≡ old.world → old.world.answers ≡ [] → MayPlay state statement → IsFront old.out_took old.said → IsFront old.trace_took old.taken
+    → said_text (Played number (input_of e)) ≡ [] → PlaysEvent number (input_of e) old new → IsTrue new.packs_tell → PlaysLine number statement old new
+silent_plays number statement e state old new at same none may kept kept_lines silent plays told =
     subst (λ (s : Statement). PlaysLine number s old new) (sym at)
-    (plays_silent number (input_of e) old new told (subst (λ (w : World). IsThere w (input_of e)) same (may_event e state statement at may)) none silent plays)
+    (plays_silent number (input_of e) old new told (subst (λ (w : World). IsThere w (input_of e)) same (may_event e state statement at may)) none kept kept_lines silent plays)
 
 pub event_line_brings : (number : ℕ) (statement : Statement) (input : Input) (old new : Stage) → statement ≡ Plays input → PlaysEvent number input old new
     → Brings statement old.world new.world

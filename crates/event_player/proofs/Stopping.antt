@@ -1,46 +1,43 @@
 -- A call that stopped behind a run so far leaves what playing leaves.
 use Rattle.std.proofs.Common.{◌≡◌, ◌⊎◌, inl, inr, ℕ, ◌≤◌, Bool, true, false, IsTrue, List, [], ◌∷◌, ◌++◌, ◌*◌, length, drop, Option, refl, sym, ap, subst, arith, ◌∙◌, append-nil, append_assoc}
 use Rattle.std.proofs.lemmas.Bool.{false≢true}
-use Rattle.std.proofs.lemmas.Grind.{flat_map-append}
-use Rattle.disksort.specs.declared.Waiter.{Waiter}
-use Rattle.hardware_table.specs.Adapter.{next_block}
 use Rattle.pack_model.specs.Pack.{Pack}
 use Rattle.pack_model.specs.TableSpelling.{Table}
-use Rattle.trace_replay.specs.Moments.{Moment, Played, Told, Idle, played, answers_in}
+use Rattle.trace_replay.specs.Moments.{Moment, Played, Told, Idle, played}
 use Rattle.trace_replay.specs.Script as says
 use Rattle.trace_replay.specs.Script.{Script, Input, Numbered, drives_of, inputs_of}
 use Rattle.trace_replay.specs.Replay.{Follows, after_moments}
 use Rattle.trace_replay.specs.Runs.{start_of}
-use Rattle.trace_replay.specs.Text.{trace_text, moment_text}
-use Rattle.driver_machine.specs.World.{World, unit_at, adapter_at, unit_of}
-use Rattle.driver_machine.specs.Acts.{Act, Tried, Sector}
+use Rattle.trace_replay.specs.Text.{trace_text}
+use Rattle.driver_machine.specs.World.{World}
+use Rattle.driver_machine.specs.Acts.{Act, Tried}
 use Rattle.driver_machine.specs.Lines.{lines_of_all}
-use Rattle.driver_machine.specs.Events.{event_acts, in_hand, in_hand_by, or_nothing, can_move}
+use Rattle.driver_machine.specs.Events.{event_acts}
 use Rattle.driver_machine.specs.Sound.{Sound}
 use Rattle.driver_machine.specs.Runs.{Run, MayCome}
-use Rattle.driver_outcome.specs.Outcome.{IsFront}
+use Rattle.driver_outcome.specs.Outcome.{IsFront, IsNextBlock}
 use Rattle.driver_outcome.specs.Packs.{ReadAll, packs_after_all}
-use Rattle.driver_outcome.proofs.Joined.{front_same, front_more, front_of_front}
-use Rattle.driver_runs.specs.Runs.{AreDeclared}
-use Rattle.driver_reach.specs.Reach.{AskBelow, TablesBelow, IsWithinReach, StayFrom}
-use Rattle.driver_trace.specs.Calls.{IsReadOf}
-use Rattle.driver_trace.specs.Noises.{AllFlip}
-use Rattle.driver_trace.specs.Within.{ShowsAll}
-use Rattle.driver_trace.proofs.Inputted.{lines_play_nothing}
+use Rattle.run_stops.specs.Passes.{AreDeclared}
+use Rattle.run_stops.specs.Passes.{AskBelow, TablesBelow, IsWithinReach}
+use Rattle.run_stops.specs.Passes.{IsReadOf}
+use Rattle.run_stops.specs.Passes.{ShowsAll}
+use Rattle.run_stops.proofs.Passes.{lines_play_nothing}
 use Rattle.driver_drains.proofs.Fronts.{event_fronts}
-use Rattle.driver_runs.proofs.Sectors.{IsNoMove, event_quiet}
-use Rattle.answer_lines.specs.AnswerText.{said_text, out_text}
-use Rattle.hp_driver.specs.Subsystem.{IsThere, is_move}
-use Rattle.hp_driver.proofs.Moves.{tried_by_rules, read_from}
+use Rattle.answer_lines.specs.AnswerText.{out_text}
+use Rattle.run_stops.specs.Passes.{IsThere, is_move, writes_by}
+use Rattle.run_stops.specs.Passes.{writes_next}
+use Rattle.run_stops.specs.Writing.{WriteNothing}
+use Rattle.run_stops.specs.Ahead.{SaysOneSector, AreBehind}
+use Rattle.run_stops.specs.Stops.{IsEventOver, AreOfOneEvent, StaysBeyond, IsAtMove, StopsAtSink}
 use Rattle.event_player.specs.declared.play.PlayFault.{PlayFault}
 use Rattle.event_player.specs.declared.play.PlayFault.TheVariants as faults
-use Rattle.event_player.specs.Plays.{StaysBeyond}
-use Rattle.event_player.specs.Steps.{Stage}
-use Rattle.run_promises.specs.Beginnings.{AreNoSectors}
-use Rattle.event_player.specs.Stops.{IsBetween, lines_told, only_played, SaysOneSector, AreBehind, IsEventOver, AreOfOneEvent, StopsAtSink, StopsAtStore, IsAtMove, TellsFront, EventTellsFront, EventSaysFront, MoveFails, EventStops, Stopped}
-use Rattle.event_player.proofs.Inputs.{event_said}
+use Rattle.event_player.specs.Steps.{Stage, Passes, PassesAhead, IsCut, IsAhead}
+use Rattle.event_player.specs.Stops.{StopsActs, StopsEvent, StopsBefore, MoveFails, EventStops, StopsAtMove, StopsAt}
 use Rattle.event_player.proofs.Reaching.{ask_parts, left_stays}
-use Rattle.event_player.proofs.OneEvent.{IsShort, front_short, short_or, acts_front}
+use Rattle.event_player.proofs.OneEvent.{front_short, acts_front}
+use Rattle.event_player.proofs.Ahead.{cut_more, nothing_more}
+use Rattle.event_player.proofs.Wholes.{Whole}
+use Rattle.event_player.proofs.Moves.{one_of, IsMoveOf, move_of, still_may, move_is, no_move, writes_move}
 
 -- MOMENTS one behind the other
 played_append : (xs ys : List Moment) → played (xs ++ ys) ≡ played xs ++ played ys
@@ -49,37 +46,19 @@ played_append (Played line input ∷ xs) ys = ap (λ (ns : List Numbered). recor
 played_append (Told line unit id deed ∷ xs) ys = played_append xs ys
 played_append (Idle line ∷ xs) ys = played_append xs ys
 
-none_played : (ms : List Moment) → played ms ≡ [] → only_played ms ≡ []
-none_played [] none = refl
-none_played (Played line input ∷ ms) none = absurd (cc none)
-none_played (Told line unit id deed ∷ ms) none = none_played ms none
-none_played (Idle line ∷ ms) none = none_played ms none
-
 -- the line of the script at which an event begins, if one does
 pub record IsOpening (opening : List Moment) : Type 0 where
   pub plays : (ms : List Moment) → played (opening ++ ms) ≡ played opening ++ played ms
-  pub told : (ms : List Moment) → lines_told (opening ++ ms) ≡ lines_told ms
-  pub text : (ms : List Moment) → trace_text (opening ++ ms) ≡ trace_text ms
-  pub only : (ms : List Moment) → only_played (opening ++ ms) ≡ opening ++ only_played ms
-  pub answers : (ms : List Moment) → answers_in (opening ++ ms) ≡ answers_in ms
-  pub quiet : (ms : List Moment) → AreNoSectors ms → AreNoSectors (opening ++ ms)
   pub one : length (played opening) ≤ 1
 
 pub opens_none : IsOpening []
-opens_none = record { plays = λ ms. refl; told = λ ms. refl; text = λ ms. refl; only = λ ms. refl; answers = λ ms. refl; quiet = λ ms none. none; one = omega arith }
+opens_none = record { plays = λ ms. refl; one = omega arith }
 
 pub opens_line : (line : ℕ) (input : Input) → IsOpening (Played line input ∷ [])
-opens_line line input = record { plays = λ ms. refl; told = λ ms. refl; text = λ ms. refl; only = λ ms. refl; answers = λ ms. refl; quiet = λ ms none. (tt, none); one = omega arith }
+opens_line line input = record { plays = λ ms. refl; one = omega arith }
 
--- A RUN done whole: it follows, and the packs are as it leaves them.
-pub record Whole (script : Script) (tables : ℕ → Option Table) (first held : ℕ → Pack) (moments : List Moment) : Type 0 where
-  pub follows : Follows (start_of script tables first) moments
-  pub behind : AreBehind script tables first held moments
-  pub reach : (ends : ℕ → ℕ) → AskBelow ends (drives_of script) (played moments) → TablesBelow ends (drives_of script) tables → StayFrom ends first held
-
--- WHERE A CALL BEGINS: behind moments that follow, with the packs and the texts that they leave; what is said as the line is played
--- is said.
-pub record Context (script : Script) (tables : ℕ → Option Table) (first : ℕ → Pack) (said taken : List ℕ) (now : Stage) (opening : List Moment) : Type 0 where
+-- WHERE A CALL BEGINS: behind moments that follow, with the packs that they leave.
+pub record Place (script : Script) (tables : ℕ → Option Table) (first : ℕ → Pack) (now : Stage) (opening : List Moment) : Type 0 where
   pub done : List Moment
   pub later : List Numbered
   pub rest : List Numbered
@@ -92,57 +71,26 @@ pub record Context (script : Script) (tables : ℕ → Option Table) (first : �
   pub declared : AreDeclared (drives_of script) now.world
   pub shows : ShowsAll now.world (after_moments (start_of script tables first) done)
   pub reach : (ends : ℕ → ℕ) → AskBelow ends (drives_of script) (played done) → TablesBelow ends (drives_of script) tables → IsWithinReach ends first now.held now.world
-  pub trace : IsTrue now.trace_tells → now.taken ≡ taken ++ trace_text done
-  pub out : IsTrue now.out_tells → now.said ≡ said ++ out_text (done ++ opening)
 
--- where nothing is said of the line, it may as well not have been played
-abbrev pub unopened : {script : Script} {tables : ℕ → Option Table} {first : ℕ → Pack} {said taken : List ℕ} {now : Stage} {opening : List Moment}
-    → Context script tables first said taken now opening → out_text opening ≡ [] → Context script tables first said taken now []
-unopened {said = said} {now = now} {opening = opening} ctx silent = record {
-  done = ctx.done;
-  later = ctx.later;
-  rest = ctx.later;
-  follows = ctx.follows;
-  ended = ctx.ended;
-  behind = ctx.behind;
-  inputs = ctx.inputs;
+-- the line may as well not have been played
+abbrev pub unopened : {script : Script} {tables : ℕ → Option Table} {first : ℕ → Pack} {now : Stage} {opening : List Moment}
+    → Place script tables first now opening → Place script tables first now []
+unopened at = record {
+  done = at.done;
+  later = at.later;
+  rest = at.later;
+  follows = at.follows;
+  ended = at.ended;
+  behind = at.behind;
+  inputs = at.inputs;
   opened = refl;
   opens = opens_none;
-  declared = ctx.declared;
-  shows = ctx.shows;
-  reach = ctx.reach;
-  trace = ctx.trace;
-  out = λ t. ctx.out t ∙ ap (λ (text : List ℕ). said ++ text)
-      (flat_map-append said_text ctx.done opening ∙ ap (λ (text : List ℕ). out_text ctx.done ++ text) silent ∙ append-nil (out_text ctx.done)
-      ∙ ap out_text (sym (append-nil ctx.done)));
+  declared = at.declared;
+  shows = at.shows;
+  reach = at.reach;
 }
 
-module _ {script : Script} {tables : ℕ → Option Table} {first : ℕ → Pack} {said taken : List ℕ} {now : Stage} {opening : List Moment}
-    (ctx : Context script tables first said taken now opening) where
-  -- THE TEXTS of what was done, and of the lines of the call
-  trace_is : (lines : List Moment) → now.taken ≡ taken ++ trace_text ctx.done
-      → now.taken ++ trace_text lines ≡ taken ++ trace_text (ctx.done ++ (opening ++ lines))
-  trace_is lines is =
-      ap (λ (text : List ℕ). text ++ trace_text lines) is ∙ append_assoc taken (trace_text ctx.done) (trace_text lines)
-      ∙ ap (λ (text : List ℕ). taken ++ text)
-      (ap (λ (text : List ℕ). trace_text ctx.done ++ text) (sym (ctx.opens.text lines)) ∙ sym (flat_map-append moment_text ctx.done (opening ++ lines)))
-
-  out_is : (lines : List Moment) → now.said ≡ said ++ out_text (ctx.done ++ opening)
-      → now.said ++ out_text lines ≡ said ++ out_text (ctx.done ++ (opening ++ lines))
-  out_is lines is =
-      ap (λ (text : List ℕ). text ++ out_text lines) is ∙ append_assoc said (out_text (ctx.done ++ opening)) (out_text lines)
-      ∙ ap (λ (text : List ℕ). said ++ text)
-      (sym (flat_map-append said_text (ctx.done ++ opening) lines) ∙ ap out_text (append_assoc ctx.done opening lines))
-
-  said_front : now.said ≡ said ++ out_text (ctx.done ++ opening) → IsFront (said ++ out_text ctx.done) now.said
-  said_front is = record {
-    rest = out_text opening;
-    whole = is ∙ ap (λ (text : List ℕ). said ++ text) (flat_map-append said_text ctx.done opening) ∙ sym (append_assoc said (out_text ctx.done) (out_text opening));
-  }
-
-  only_is : (lines : List Moment) → played lines ≡ [] → only_played (opening ++ lines) ≡ opening
-  only_is lines none = ctx.opens.only lines ∙ ap (λ (ms : List Moment). opening ++ ms) (none_played lines none) ∙ append-nil opening
-
+module _ {script : Script} {tables : ℕ → Option Table} {first : ℕ → Pack} {now : Stage} {opening : List Moment} (ctx : Place script tables first now opening) where
   inputs_are : (lines : List Moment) → played lines ≡ [] → inputs_of script ≡ played (ctx.done ++ (opening ++ lines)) ++ ctx.rest
   inputs_are lines none =
       let behind : played (ctx.done ++ (opening ++ lines)) ≡ played ctx.done ++ played opening =
@@ -169,236 +117,127 @@ module _ {script : Script} {tables : ℕ → Option Table} {first : ℕ → Pack
       ap (λ (packs : ℕ → Pack). drop (512 * ends unit) (packs unit).image) same
       ∙ whole.reach ends (ask_parts ends (drives_of script) (played (ctx.done ++ (opening ++ lines))) ctx.rest (subst (AskBelow ends (drives_of script)) (inputs_are lines none) below)).0 tables_below unit
 
-  -- A SINK FAILED in a call that told these lines, or was to.
-  pub stops_by : (lines : List Moment) (new : Stage) → played lines ≡ [] → Follows (start_of script tables first) (ctx.done ++ (opening ++ lines))
-      → AreOfOneEvent (after_moments (start_of script tables first) ctx.done) (opening ++ lines)
-      → (AreNoSectors lines × AreBehind script tables first new.held ctx.done) ⊎ (SaysOneSector lines × AreBehind script tables first new.held (ctx.done ++ (opening ++ lines)))
-      → StaysBeyond script tables first new.held → (IsTrue new.trace_tells → IsTrue now.trace_tells)
-      → (IsTrue new.trace_tells → IsBetween now.taken (now.taken ++ trace_text lines) new.taken)
-      → (IsTrue new.out_tells → IsBetween (said ++ out_text ctx.done) (said ++ out_text (ctx.done ++ (opening ++ lines))) new.said)
-      → (IsTrue new.trace_tells → new.taken ≡ now.taken ++ trace_text lines) ⊎ (IsTrue new.out_tells → new.said ≡ said ++ out_text (ctx.done ++ opening))
-      → StopsAtSink script tables first new.held new.out_tells said new.said new.trace_tells taken new.taken
-  stops_by lines new none follows event packs beyond still_traced trace out order = record {
-    done = ctx.done;
-    under = opening ++ lines;
-    later = ctx.rest;
-    came = record { follows = follows; inputs = inputs_are lines none; ended = ctx.ended; event = event; one = one_line lines none };
-    packs = packs_by packs;
-    reach = beyond;
-    trace = λ t. record {
-      least = subst (λ (text : List ℕ). IsFront text new.taken) (ctx.trace (still_traced t)) (trace t).least;
-      most = subst (IsFront new.taken) (trace_is lines (ctx.trace (still_traced t))) (trace t).most;
-    };
-    out = out;
-    lines_first = order_by order;
-  }
-    where
-      packs_by : (AreNoSectors lines × AreBehind script tables first new.held ctx.done) ⊎ (SaysOneSector lines × AreBehind script tables first new.held (ctx.done ++ (opening ++ lines)))
-          → (AreNoSectors (opening ++ lines) × AreBehind script tables first new.held ctx.done) ⊎ (SaysOneSector (opening ++ lines) × AreBehind script tables first new.held (ctx.done ++ (opening ++ lines)))
-      packs_by (inl same) = inl (ctx.opens.quiet lines same.0, same.1)
-      packs_by (inr moved) = inr (
-        record { few = subst (λ (n : ℕ). n ≤ 1) (sym (ctx.opens.told lines)) moved.0.few; silent = ctx.opens.answers lines ∙ moved.0.silent },
-        moved.1,
-      )
-
-      order_by : (IsTrue new.trace_tells → new.taken ≡ now.taken ++ trace_text lines) ⊎ (IsTrue new.out_tells → new.said ≡ said ++ out_text (ctx.done ++ opening))
-          → (IsTrue new.trace_tells → new.taken ≡ taken ++ trace_text (ctx.done ++ (opening ++ lines)))
-          ⊎ (IsTrue new.out_tells → new.said ≡ said ++ out_text (ctx.done ++ only_played (opening ++ lines)))
-      order_by (inl whole) = inl (λ t. whole t ∙ trace_is lines (ctx.trace (still_traced t)))
-      order_by (inr same) = inr (λ t. same t ∙ ap (λ (ms : List Moment). said ++ out_text (ctx.done ++ ms)) (sym (only_is lines none)))
-
-  pub stops_at_sink : (lines : List Moment) (new : Stage) → played lines ≡ [] → Follows (start_of script tables first) (ctx.done ++ (opening ++ lines))
-      → AreOfOneEvent (after_moments (start_of script tables first) ctx.done) (opening ++ lines)
-      → (AreNoSectors lines × AreBehind script tables first new.held ctx.done) ⊎ (SaysOneSector lines × AreBehind script tables first new.held (ctx.done ++ (opening ++ lines)))
-      → StaysBeyond script tables first new.held → (IsTrue new.trace_tells → IsTrue now.trace_tells) → (IsTrue new.out_tells → IsTrue now.out_tells)
-      → (IsTrue new.trace_tells → IsBetween now.taken (now.taken ++ trace_text lines) new.taken)
-      → (IsTrue new.out_tells → IsBetween now.said (now.said ++ out_text lines) new.said)
-      → (IsTrue new.trace_tells → new.taken ≡ now.taken ++ trace_text lines) ⊎ (new.said ≡ now.said)
-      → StopsAtSink script tables first new.held new.out_tells said new.said new.trace_tells taken new.taken
-  stops_at_sink lines new none follows event packs beyond still_traced still trace out order =
-      stops_by lines new none follows event packs beyond still_traced trace
-      (λ t. record {
-        least = front_of_front (said ++ out_text ctx.done) now.said new.said (said_front (ctx.out (still t))) (out t).least;
-        most = subst (IsFront new.said) (out_is lines (ctx.out (still t))) (out t).most;
-      }) (order_by order)
-    where
-      order_by : (IsTrue new.trace_tells → new.taken ≡ now.taken ++ trace_text lines) ⊎ (new.said ≡ now.said)
-          → (IsTrue new.trace_tells → new.taken ≡ now.taken ++ trace_text lines) ⊎ (IsTrue new.out_tells → new.said ≡ said ++ out_text (ctx.done ++ opening))
-      order_by (inl whole) = inl whole
-      order_by (inr same) = inr (λ t. same ∙ ctx.out (still t))
-
   -- a front of the acts
-  front_follows : (acts done left : List Act) → acts ≡ done ++ left → Follows (start_of script tables first) (ctx.done ++ (opening ++ lines_of_all now.world acts))
+  pub front_follows : (acts done left : List Act) → acts ≡ done ++ left → Follows (start_of script tables first) (ctx.done ++ (opening ++ lines_of_all now.world acts))
       → Follows (start_of script tables first) (ctx.done ++ (opening ++ lines_of_all now.world done))
   front_follows acts done left all follows =
       subst (Follows (start_of script tables first)) (append_assoc ctx.done opening (lines_of_all now.world done))
       (event_fronts (start_of script tables first) (ctx.done ++ opening) now.world acts done left
       (subst (Follows (start_of script tables first)) (sym (append_assoc ctx.done opening (lines_of_all now.world acts))) follows) all)
 
-  -- THE TRACE FAILED,
-  pub tells_stop : (acts : List Act) (new : Stage) (tells : TellsFront acts now new)
-      → Follows (start_of script tables first) (ctx.done ++ (opening ++ lines_of_all now.world acts))
-      → AreOfOneEvent (after_moments (start_of script tables first) ctx.done) (opening ++ lines_of_all now.world acts)
-      → (AreNoSectors (lines_of_all now.world tells.done) × AreBehind script tables first new.held ctx.done)
-      ⊎ (SaysOneSector (lines_of_all now.world tells.done) × AreBehind script tables first new.held (ctx.done ++ (opening ++ lines_of_all now.world tells.done)))
-      → StaysBeyond script tables first new.held → (IsTrue new.trace_tells → IsTrue now.trace_tells) → (IsTrue new.out_tells → IsTrue now.out_tells)
-      → StopsAtSink script tables first new.held new.out_tells said new.said new.trace_tells taken new.taken
-  tells_stop acts new tells follows event packs beyond still_traced still =
-      stops_at_sink (lines_of_all now.world tells.done) new (lines_play_nothing [] now.world tells.done)
-      (front_follows acts tells.done tells.left tells.all follows)
-      (acts_front (after_moments (start_of script tables first) ctx.done) opening now.world acts tells.done tells.left tells.all event) packs beyond still_traced still tells.trace
-      (λ t. subst (IsBetween now.said (now.said ++ out_text (lines_of_all now.world tells.done))) (sym tells.out)
-      (record { least = front_same now.said; most = front_more now.said (out_text (lines_of_all now.world tells.done)) }))
-      (inr tells.out)
+module _ {script : Script} {tables : ℕ → Option Table} {first : ℕ → Pack} {said taken : List ℕ} {now : Stage} {opening : List Moment}
+    (ctx : Place script tables first now opening) where
+  -- A SINK FAILED in a call that told these lines.
+  pub stops_by : (lines : List Moment) (new : Stage) → played lines ≡ [] → Follows (start_of script tables first) (ctx.done ++ (opening ++ lines))
+      → AreOfOneEvent (after_moments (start_of script tables first) ctx.done) (opening ++ lines)
+      → IsCut script tables first ((ctx.done ++ opening) ++ lines) said taken new → StaysBeyond script tables first new.held
+      → StopsAtSink script tables first new.held new.out_tells said new.out_took new.trace_tells taken new.trace_took
+  stops_by lines new none follows event cut beyond = record {
+    done = ctx.done;
+    under = opening ++ lines;
+    later = ctx.rest;
+    came = record { follows = follows; inputs = inputs_are ctx lines none; ended = ctx.ended; event = event; one = one_line ctx lines none };
+    sent = cut.sent;
+    late = cut.late;
+    same = cut.cut ∙ append_assoc ctx.done opening lines;
+    ahead = cut.ahead;
+    texts = cut.texts;
+    reach = beyond;
+  }
 
-  -- and the sink of the answers, behind all acts.
-  pub says_stop : (acts : List Act) (new : Stage) (text : List ℕ) → Follows (start_of script tables first) (ctx.done ++ (opening ++ lines_of_all now.world acts))
-      → AreOfOneEvent (after_moments (start_of script tables first) ctx.done) (opening ++ lines_of_all now.world acts)
-      → (AreNoSectors (lines_of_all now.world acts) × AreBehind script tables first new.held ctx.done)
-      ⊎ (SaysOneSector (lines_of_all now.world acts) × AreBehind script tables first new.held (ctx.done ++ (opening ++ lines_of_all now.world acts)))
-      → StaysBeyond script tables first new.held → (IsTrue new.trace_tells → IsTrue now.trace_tells) → (IsTrue new.out_tells → IsTrue now.out_tells)
-      → (IsTrue new.trace_tells → new.taken ≡ now.taken ++ trace_text (lines_of_all now.world acts))
-      → (IsTrue new.out_tells → text ≡ now.said ++ out_text (lines_of_all now.world acts)) → (IsTrue new.out_tells → IsBetween now.said text new.said)
-      → StopsAtSink script tables first new.held new.out_tells said new.said new.trace_tells taken new.taken
-  says_stop acts new text follows event packs beyond still_traced still trace whole between =
-      stops_at_sink (lines_of_all now.world acts) new (lines_play_nothing [] now.world acts) follows event packs beyond still_traced still
-      (λ t. subst (IsBetween now.taken (now.taken ++ trace_text (lines_of_all now.world acts))) (sym (trace t))
-      (record { least = front_more now.taken (trace_text (lines_of_all now.world acts)); most = front_same (now.taken ++ trace_text (lines_of_all now.world acts)) }))
-      (λ t. subst (λ (most : List ℕ). IsBetween now.said most new.said) (whole t) (between t))
-      (inl trace)
+  -- The first acts of it were done.
+  pub acts_stop : (writes : Bool) (acts : List Act) (new : Stage) (stops : StopsActs writes acts now new) → IsAhead script tables first (ctx.done ++ opening) said taken now
+      → Follows (start_of script tables first) (ctx.done ++ (opening ++ lines_of_all now.world stops.done))
+      → AreOfOneEvent (after_moments (start_of script tables first) ctx.done) (opening ++ lines_of_all now.world stops.done)
+      → (writes ≡ false → (new.held ≡ now.held) × WriteNothing (after_moments (start_of script tables first) (ctx.done ++ opening)) (lines_of_all now.world stops.done))
+      → (writes ≡ true → SaysOneSector (lines_of_all now.world stops.done) × AreBehind script tables first new.held ((ctx.done ++ opening) ++ lines_of_all now.world stops.done))
+      → StaysBeyond script tables first new.held
+      → StopsAtSink script tables first new.held new.out_tells said new.out_took new.trace_tells taken new.trace_took
+  acts_stop writes acts new stops rule follows event quiet moves beyond =
+      stops_by (lines_of_all now.world stops.done) new (lines_play_nothing [] now.world stops.done) follows event
+      (cut_more rule writes (now.said ++ stops.text) (now.taken ++ trace_text (lines_of_all now.world stops.done)) (lines_of_all now.world stops.done) new stops.passes quiet moves
+      (λ tells. record {
+        rest = stops.says.rest;
+        whole = ap (λ (text : List ℕ). now.said ++ text) stops.says.whole ∙ sym (append_assoc now.said stops.text stops.says.rest);
+      }) (λ tells. refl)) beyond
 
--- A MOVE says one line at most.
-says_none : SaysOneSector []
-says_none = record { few = omega arith; silent = refl }
+-- a stage of other packs
+passes_held : {said taken : List ℕ} {old new : Stage} {held : ℕ → Pack} (writes : Bool) → PassesAhead writes said taken old new → PassesAhead writes said taken old (record new { held = held })
+passes_held {said} {taken} {old} {new} {held} writes passes = record { sent = λ is. by (passes.sent is); kept = λ is. by (passes.kept is) }
+  where
+    by : {out trace : List ℕ} → Passes out trace said taken old new → Passes out trace said taken old (record new { held = held })
+    by p = record { again = p.again; again_trace = p.again_trace; out = p.out; trace = p.trace; lines_first = p.lines_first }
 
-says_idle : (line : ℕ) → SaysOneSector (Idle line ∷ [])
-says_idle line = record { few = omega arith; silent = refl }
+still_said_by : {said taken : List ℕ} {old new : Stage} (writes : Bool) → PassesAhead writes said taken old new → IsTrue new.out_tells → IsTrue old.out_tells
+still_said_by true passes tells = (passes.sent refl).again tells
+still_said_by false passes tells = (passes.kept refl).again tells
 
-one_in_hand : (queue : List Waiter) (line u block : ℕ) (t : Tried) (w : World) → SaysOneSector (lines_of_all w (in_hand_by queue line u (Sector block t) w))
-one_in_hand [] line u block t w = says_none
-one_in_hand (x ∷ rest) line u block t w = record { few = omega arith; silent = refl }
+still_told_by : {said taken : List ℕ} {old new : Stage} (writes : Bool) → PassesAhead writes said taken old new → IsTrue new.trace_tells → IsTrue old.trace_tells
+still_told_by true passes tells = (passes.sent refl).again_trace tells
+still_told_by false passes tells = (passes.kept refl).again_trace tells
 
-one_or : (b : Bool) (line u block : ℕ) (t : Tried) (w : World) → SaysOneSector (lines_of_all w (or_nothing b line (in_hand line u (Sector block t)) w))
-one_or true line u block t w = one_in_hand (unit_at w u).queue line u block t w
-one_or false line u block t w = says_idle line
+-- where no act was done nothing was to be said or told
+none_text : (old : Stage) (done : List Act) (text : List ℕ) → done ≡ [] → IsFront text (out_text (lines_of_all old.world done))
+    → (old.said ++ text ≡ old.said) × (old.taken ++ trace_text (lines_of_all old.world done) ≡ old.taken)
+none_text old done text none says = (
+  ap (λ (xs : List ℕ). old.said ++ xs) (empty text says.rest (sym says.whole ∙ ap (λ (acts : List Act). out_text (lines_of_all old.world acts)) none)) ∙ append-nil old.said,
+  ap (λ (acts : List Act). old.taken ++ trace_text (lines_of_all old.world acts)) none ∙ append-nil old.taken,
+)
+  where
+    empty : (xs ys : List ℕ) → xs ++ ys ≡ [] → xs ≡ []
+    empty [] ys is = refl
+    empty (x ∷ xs) ys is = absurd (cc is)
 
-one_of : (line : ℕ) (input : Input) (tried : Tried) (w : World) → is_move input ≡ true → SaysOneSector (lines_of_all w (event_acts line input tried w))
-one_of line (says.MoveAt a) tried w is = one_or (can_move (adapter_at w a)) line (unit_of w a) (next_block (adapter_at w a).state) tried w
-one_of line (says.Submit r) tried w is = absurd (false≢true is)
-one_of line (says.ArriveAt u) tried w is = absurd (false≢true is)
-one_of line (says.AttendTo a) tried w is = absurd (false≢true is)
-one_of line says.Drain tried w is = absurd (false≢true is)
-one_of line (says.Turn u sector) tried w is = absurd (false≢true is)
-one_of line (says.Noise n) tried w is = absurd (false≢true is)
-one_of line (says.Arm u kind times) tried w is = absurd (false≢true is)
-one_of line (says.SetOnline u on) tried w is = absurd (false≢true is)
-one_of line (says.SetLocked u on) tried w is = absurd (false≢true is)
-
-pub record IsMoveOf (line : ℕ) (input : Input) (tried : Tried) (w : World) (held : ℕ → Pack) : Type 0 where
-  pub short : IsShort (event_acts line input tried w)
-  pub may : Run w (event_acts line input tried w) → MayCome w input tried
-  pub reads : ReadAll w held (event_acts line input tried w) → IsReadOf w held input tried
-
-move_of : (line : ℕ) (input : Input) (tried : Tried) (w : World) (held : ℕ → Pack) → is_move input ≡ true → Sound w → AllFlip w.book.live → IsMoveOf line input tried w held
-move_of line (says.MoveAt a) tried w held is sound noise = record {
-  short = short_or (can_move (adapter_at w a)) line (unit_of w a) (Sector (next_block (adapter_at w a).state) tried) w;
-  may = λ run can. tried_by_rules w line a tried sound can run;
-  reads = λ reads can. read_from w line a tried sound can held noise reads;
-}
-move_of line (says.Submit r) tried w held is sound noise = absurd (false≢true is)
-move_of line (says.ArriveAt u) tried w held is sound noise = absurd (false≢true is)
-move_of line (says.AttendTo a) tried w held is sound noise = absurd (false≢true is)
-move_of line says.Drain tried w held is sound noise = absurd (false≢true is)
-move_of line (says.Turn u sector) tried w held is sound noise = absurd (false≢true is)
-move_of line (says.Noise n) tried w held is sound noise = absurd (false≢true is)
-move_of line (says.Arm u kind times) tried w held is sound noise = absurd (false≢true is)
-move_of line (says.SetOnline u on) tried w held is sound noise = absurd (false≢true is)
-move_of line (says.SetLocked u on) tried w held is sound noise = absurd (false≢true is)
-
--- Any other event may come wherever it speaks of what is there.
-still_may : (input : Input) (tried : Tried) (w : World) (held : ℕ → Pack) → is_move input ≡ false → IsThere w input → MayCome w input tried × IsReadOf w held input tried
-still_may (says.MoveAt a) tried w held is there = absurd (false≢true (sym is))
-still_may (says.Submit r) tried w held is there = absurd there
-still_may (says.ArriveAt u) tried w held is there = (tt, tt)
-still_may (says.AttendTo a) tried w held is there = (tt, tt)
-still_may says.Drain tried w held is there = absurd there
-still_may (says.Turn u sector) tried w held is there = (there, tt)
-still_may (says.Noise n) tried w held is there = (there, tt)
-still_may (says.Arm u kind times) tried w held is there = (there, tt)
-still_may (says.SetOnline u on) tried w held is there = (there, tt)
-still_may (says.SetLocked u on) tried w held is there = (there, tt)
-
-pub move_is : (input : Input) → is_move input ≡ true → (a : ℕ) × (input ≡ says.MoveAt a)
-move_is (says.MoveAt a) is = (a, refl)
-move_is (says.Submit r) is = absurd (false≢true is)
-move_is (says.ArriveAt u) is = absurd (false≢true is)
-move_is (says.AttendTo a) is = absurd (false≢true is)
-move_is says.Drain is = absurd (false≢true is)
-move_is (says.Turn u sector) is = absurd (false≢true is)
-move_is (says.Noise n) is = absurd (false≢true is)
-move_is (says.Arm u kind times) is = absurd (false≢true is)
-move_is (says.SetOnline u on) is = absurd (false≢true is)
-move_is (says.SetLocked u on) is = absurd (false≢true is)
-
-no_move : (input : Input) → is_move input ≡ false → IsNoMove input
-no_move (says.MoveAt a) is = absurd (false≢true (sym is))
-no_move input is = tt
+passes_none : {writes : Bool} {acts : List Act} {old new : Stage} (stops : StopsActs writes acts old new) → stops.done ≡ [] → PassesAhead writes old.said old.taken old new
+passes_none {writes} {acts} {old} {new} stops none =
+    let texts : (old.said ++ stops.text ≡ old.said) × (old.taken ++ trace_text (lines_of_all old.world stops.done) ≡ old.taken) = none_text old stops.done stops.text none stops.says in
+    subst (λ (text : List ℕ). PassesAhead writes text old.taken old new) texts.0
+    (subst (λ (text : List ℕ). PassesAhead writes (old.said ++ stops.text) text old new) texts.1 stops.passes)
 
 -- WHERE AN EVENT BEGINS: done whole it would follow, and the packs would be as it leaves them.
 pub record EventContext (script : Script) (tables : ℕ → Option Table) (first : ℕ → Pack) (said taken : List ℕ) (now : Stage) (opening : List Moment) (line : ℕ) (input : Input) : Type 0 where
-  pub ctx : Context script tables first said taken now opening
+  pub ctx : Place script tables first now opening
+  pub rule : IsAhead script tables first (ctx.done ++ opening) said taken now
+  pub before : is_move input ≡ true → IsAhead script tables first ctx.done said taken now
   pub sound : Sound now.world
   pub goes : (tried : Tried) → MayCome now.world input tried → IsReadOf now.world now.held input tried
       → Whole script tables first (packs_after_all now.world now.held (event_acts line input tried now.world)) (ctx.done ++ (opening ++ lines_of_all now.world (event_acts line input tried now.world)))
   pub one : (tried : Tried) → MayCome now.world input tried → IsReadOf now.world now.held input tried
       → AreOfOneEvent (after_moments (start_of script tables first) ctx.done) (opening ++ lines_of_all now.world (event_acts line input tried now.world))
-  pub silent : is_move input ≡ true → out_text opening ≡ []
+  pub quiet : (tried : Tried) (acts rest : List Act) → event_acts line input tried now.world ≡ acts ++ rest → writes_by now.world input ≡ false
+      → WriteNothing (after_moments (start_of script tables first) (ctx.done ++ opening)) (lines_of_all now.world acts)
   pub move : (a : ℕ) → input ≡ says.MoveAt a → IsAtMove now.world (after_moments (start_of script tables first) ctx.done) ctx.later a
 
 module _ {script : Script} {tables : ℕ → Option Table} {first : ℕ → Pack} {said taken : List ℕ} {now : Stage} {opening : List Moment} {line : ℕ} {input : Input}
-    (at : EventContext script tables first said taken now opening line input) (new : Stage) (told : IsTrue new.packs_tell)
-    (still_traced : IsTrue new.trace_tells → IsTrue now.trace_tells) (still : IsTrue new.out_tells → IsTrue now.out_tells) where
-  same_behind : new.held ≡ now.held → AreBehind script tables first new.held at.ctx.done
-  same_behind same = subst (λ (held : ℕ → Pack). AreBehind script tables first held at.ctx.done) (sym same) at.ctx.behind
-
+    (at : EventContext script tables first said taken now opening line input) (new : Stage) (told : IsTrue new.packs_tell) where
   abbrev Sink : Type 0
-  Sink = StopsAtSink script tables first new.held new.out_tells said new.said new.trace_tells taken new.taken
+  Sink = StopsAtSink script tables first new.held new.out_tells said new.out_took new.trace_tells taken new.trace_took
+
+  never_writes : is_move input ≡ false → writes_by now.world input ≡ true → ⊥
+  never_writes is on = false≢true (sym is ∙ writes_move now.world input on)
 
   -- EVENTS that do not touch the packs
-  still_tells : is_move input ≡ false → IsThere now.world input → new.held ≡ now.held → EventTellsFront line input now new → Sink
-  still_tells is there same e =
+  still_stops : is_move input ≡ false → IsThere now.world input → new.held ≡ now.held → StopsEvent line input now new → Sink
+  still_stops is there same e =
+      let acts : List Act = event_acts line input e.tried now.world in
       let may : MayCome now.world input e.tried × IsReadOf now.world now.held input e.tried = still_may input e.tried now.world now.held is there in
-      tells_stop at.ctx (event_acts line input e.tried now.world) new e.tells (at.goes e.tried may.0 may.1).follows (at.one e.tried may.0 may.1)
-      (inl (event_quiet line input e.tried now.world e.tells.done e.tells.left (no_move input is) e.tells.all, same_behind same)) (same_beyond at.ctx new.held same) still_traced still
+      acts_stop at.ctx (writes_by now.world input) acts new e.stops at.rule
+      (front_follows at.ctx acts e.stops.done e.stops.left e.stops.all (at.goes e.tried may.0 may.1).follows)
+      (acts_front (after_moments (start_of script tables first) at.ctx.done) opening now.world acts e.stops.done e.stops.left e.stops.all (at.one e.tried may.0 may.1))
+      (λ off. (same, at.quiet e.tried e.stops.done e.stops.left e.stops.all off)) (λ on. absurd (never_writes is on)) (same_beyond at.ctx new.held same)
 
-  says_by : ((is_move input ≡ false) × AreBehind script tables first new.held at.ctx.done) ⊎ (is_move input ≡ true) → now.world.answers ≡ [] → EventSaysFront line input now new → Sink
-  says_by packs none e =
-      let acts : List Act = event_acts line input e.plays.tried now.world in
-      let whole : Whole script tables first (packs_after_all now.world now.held acts) (at.ctx.done ++ (opening ++ lines_of_all now.world acts)) =
-      at.goes e.plays.tried e.plays.may (e.plays.reads told) in
-      let text : IsTrue new.out_tells → e.text ≡ now.said ++ out_text (lines_of_all now.world acts) =
-      λ t. e.plays.plays.out t ∙ ap (λ (xs : List ℕ). now.said ++ xs) (event_said line input now (record new { world = e.world; said = e.text; tally = e.tally }) none e.plays) in
-      says_stop at.ctx acts new e.text whole.follows (at.one e.plays.tried e.plays.may (e.plays.reads told)) (packs_by packs)
-      (whole_beyond at.ctx (lines_of_all now.world acts) new.held (packs_after_all now.world now.held acts) (lines_play_nothing [] now.world acts) (e.plays.packs told) whole)
-      still_traced still e.plays.plays.trace text e.said
-    where
-      packs_by : ((is_move input ≡ false) × AreBehind script tables first new.held at.ctx.done) ⊎ (is_move input ≡ true)
-          → (AreNoSectors (lines_of_all now.world (event_acts line input e.plays.tried now.world)) × AreBehind script tables first new.held at.ctx.done)
-          ⊎ (SaysOneSector (lines_of_all now.world (event_acts line input e.plays.tried now.world))
-          × AreBehind script tables first new.held (at.ctx.done ++ (opening ++ lines_of_all now.world (event_acts line input e.plays.tried now.world))))
-      packs_by (inl same) = inl (
-        event_quiet line input e.plays.tried now.world (event_acts line input e.plays.tried now.world) [] (no_move input same.0) (sym (append-nil (event_acts line input e.plays.tried now.world))),
-        same.1,
-      )
-      packs_by (inr moves) = inr (
-        one_of line input e.plays.tried now.world moves,
-        subst (λ (held : ℕ → Pack). AreBehind script tables first held (at.ctx.done ++ (opening ++ lines_of_all now.world (event_acts line input e.plays.tried now.world))))
-            (sym (e.plays.packs told)) (at.goes e.plays.tried e.plays.may (e.plays.reads told)).behind,
-      )
+  -- Nothing was done of a move.
+  none_stops : is_move input ≡ true → (writes : Bool) → PassesAhead writes now.said now.taken now new → new.held ≡ now.held → Sink
+  none_stops moves writes passes same =
+      stops_by (unopened at.ctx) [] new refl (subst (Follows (start_of script tables first)) (sym (append-nil at.ctx.done)) at.ctx.follows) tt
+      (subst (λ (ms : List Moment). IsCut script tables first ms said taken new)
+      (sym (append-nil at.ctx.done) ∙ ap (λ (ms : List Moment). ms ++ []) (sym (append-nil at.ctx.done)))
+      (nothing_more (at.before moves) writes new passes at.ctx.behind same).0)
+      (same_beyond at.ctx new.held same)
 
-  -- and a move: nothing of it was done, or its one act
-  move_tells : is_move input ≡ true → EventTellsFront line input now new → Sink
-  move_tells moves e = by (front_short acts e.tells.done e.tells.left is.short e.tells.all)
+  -- or its one act was
+  move_stops : is_move input ≡ true → StopsEvent line input now new → Sink
+  move_stops moves e = by (front_short acts e.stops.done e.stops.left is.short e.stops.all)
     where
       acts : List Act
       acts = event_acts line input e.tried now.world
@@ -406,48 +245,50 @@ module _ {script : Script} {tables : ℕ → Option Table} {first : ℕ → Pack
       is : IsMoveOf line input e.tried now.world now.held
       is = move_of line input e.tried now.world now.held moves at.sound e.noise
 
-      none_done : e.tells.done ≡ [] → Sink
+      none_done : e.stops.done ≡ [] → Sink
       none_done none =
-          stops_at_sink (unopened at.ctx (at.silent moves)) [] new refl
-          (subst (Follows (start_of script tables first)) (sym (append-nil at.ctx.done)) at.ctx.follows) tt
-          (inl (tt, same_behind (e.tells.packs told ∙ ap (λ (done : List Act). packs_after_all now.world now.held done) none)))
-          (same_beyond at.ctx new.held (e.tells.packs told ∙ ap (λ (done : List Act). packs_after_all now.world now.held done) none)) still_traced still
-          (λ t. subst (λ (done : List Act). IsBetween now.taken (now.taken ++ trace_text (lines_of_all now.world done)) new.taken) none (e.tells.trace t))
-          (λ t. subst (IsBetween now.said (now.said ++ [])) (sym e.tells.out) (record { least = front_same now.said; most = front_more now.said [] }))
-          (inr e.tells.out)
+          none_stops moves (writes_by now.world input) (passes_none e.stops none)
+          (e.stops.packs told ∙ ap (λ (done : List Act). packs_after_all now.world now.held done) none)
 
-      all_done : e.tells.done ≡ acts → Sink
+      all_done : e.stops.done ≡ acts → Sink
       all_done all =
-          let whole : Whole script tables first (packs_after_all now.world now.held acts) (at.ctx.done ++ (opening ++ lines_of_all now.world acts)) =
-          at.goes e.tried (is.may (subst (Run now.world) all e.tells.run)) (is.reads (subst (ReadAll now.world now.held) all (e.tells.reads told))) in
-          tells_stop at.ctx acts new e.tells whole.follows
-          (at.one e.tried (is.may (subst (Run now.world) all e.tells.run)) (is.reads (subst (ReadAll now.world now.held) all (e.tells.reads told))))
-          (inr (
+          let may : MayCome now.world input e.tried = is.may (subst (Run now.world) all e.stops.run) in
+          let reads : IsReadOf now.world now.held input e.tried = is.reads (subst (ReadAll now.world now.held) all (e.stops.reads told)) in
+          let whole : Whole script tables first (packs_after_all now.world now.held acts) (at.ctx.done ++ (opening ++ lines_of_all now.world acts)) = at.goes e.tried may reads in
+          acts_stop at.ctx (writes_by now.world input) acts new e.stops at.rule
+          (front_follows at.ctx acts e.stops.done e.stops.left e.stops.all whole.follows)
+          (acts_front (after_moments (start_of script tables first) at.ctx.done) opening now.world acts e.stops.done e.stops.left e.stops.all (at.one e.tried may reads))
+          (λ off. (e.leaves off told, at.quiet e.tried e.stops.done e.stops.left e.stops.all off))
+          (λ on. (
             subst (λ (done : List Act). SaysOneSector (lines_of_all now.world done)) (sym all) (one_of line input e.tried now.world moves),
-            subst (λ (held : ℕ → Pack). AreBehind script tables first held (at.ctx.done ++ (opening ++ lines_of_all now.world e.tells.done))) (sym (e.tells.packs told))
-                (subst (λ (done : List Act). AreBehind script tables first (packs_after_all now.world now.held done) (at.ctx.done ++ (opening ++ lines_of_all now.world done))) (sym all) whole.behind),
+            subst (AreBehind script tables first new.held) (sym (append_assoc at.ctx.done opening (lines_of_all now.world e.stops.done)))
+                (subst (λ (held : ℕ → Pack). AreBehind script tables first held (at.ctx.done ++ (opening ++ lines_of_all now.world e.stops.done))) (sym (e.stops.packs told))
+                (subst (λ (done : List Act). AreBehind script tables first (packs_after_all now.world now.held done) (at.ctx.done ++ (opening ++ lines_of_all now.world done))) (sym all) whole.behind)),
           ))
           (whole_beyond at.ctx (lines_of_all now.world acts) new.held (packs_after_all now.world now.held acts) (lines_play_nothing [] now.world acts)
-          (e.tells.packs told ∙ ap (λ (done : List Act). packs_after_all now.world now.held done) all) whole)
-          still_traced still
+          (e.stops.packs told ∙ ap (λ (done : List Act). packs_after_all now.world now.held done) all) whole)
 
-      by : (e.tells.done ≡ []) ⊎ (e.tells.done ≡ acts) → Sink
+      by : (e.stops.done ≡ []) ⊎ (e.stops.done ≡ acts) → Sink
       by (inl none) = none_done none
       by (inr all) = all_done all
 
-  event_sink : IsThere now.world input → now.world.answers ≡ [] → EventStops line input faults.Sink now new → Sink
-  event_sink there none e = by_kind (is_move input) refl e.1
+  event_sink : IsThere now.world input → EventStops line input faults.Sink now new → Sink
+  event_sink there e = by_kind (is_move input) refl e.1
     where
-      by_kind : (b : Bool) → is_move input ≡ b → EventTellsFront line input now new ⊎ EventSaysFront line input now new → Sink
-      by_kind false is (inl tells) = still_tells is there (e.0 is) tells
-      by_kind false is (inr says) = says_by (inl (is, same_behind (e.0 is))) none says
-      by_kind true is (inl tells) = move_tells is tells
-      by_kind true is (inr says) = says_by (inr is) none says
+      by_kind : (b : Bool) → is_move input ≡ b → StopsBefore input now new ⊎ StopsEvent line input now new → Sink
+      by_kind false is (inl before) = absurd (never_writes is before.writes)
+      by_kind false is (inr stops) = still_stops is there (e.0 is) stops
+      by_kind true is (inl before) = none_stops is false (record { sent = λ on. absurd (false≢true on); kept = λ off. before.passes }) before.held
+      by_kind true is (inr stops) = move_stops is stops
 
   -- THE PACKS FAILED
-  event_store : MoveFails input now new → StopsAtStore script tables first new.held new.out_tells said new.said new.trace_tells taken new.taken
+  event_store : MoveFails input now new → StopsAtMove script tables first said taken new
   event_store e =
       let moved : (a : ℕ) × (input ≡ says.MoveAt a) = move_is input e.move in
+      let before : IsAhead script tables first at.ctx.done said taken now = at.before e.move in
+      let writes : writes_by now.world input ≡ writes_next now.world moved.0 = ap (λ (i : Input). writes_by now.world i) moved.1 in
+      let cut : (rule : IsCut script tables first at.ctx.done said taken (record new { held = now.held })) × (writes_by now.world input ≡ true → rule.late ≡ []) =
+      nothing_more before (writes_by now.world input) (record new { held = now.held }) (passes_held (writes_by now.world input) e.passes) at.ctx.behind refl in
       record {
         done = at.ctx.done;
         later = at.ctx.later;
@@ -465,18 +306,29 @@ module _ {script : Script} {tables : ℕ → Option Table} {first : ℕ → Pack
         adapter = moved.0;
         move = at.move moved.0 moved.1;
         held = now.held;
-        behind = at.ctx.behind;
-        packs = e.packs told;
+        rule = record {
+          at = cut.0;
+          out = λ t. e.out t ∙ before.out (still_said_by (writes_by now.world input) e.passes t);
+          trace = λ t. e.trace t ∙ before.trace (still_told_by (writes_by now.world input) e.passes t);
+        };
+        none_late = λ on. cut.1 (writes ∙ on);
+        packs = packs_by writes (e.packs told);
         reach = λ ends below tables_below. left_stays ends first now.held new.held now.world at.sound
             (at.ctx.reach ends (ask_parts ends (drives_of script) (played at.ctx.done) at.ctx.later (subst (AskBelow ends (drives_of script)) at.ctx.inputs below)).0 tables_below)
-            (e.packs told);
-        trace = λ t. e.trace t ∙ at.ctx.trace (still_traced t);
-        out = λ t. e.out ∙ (unopened at.ctx (at.silent e.move)).out (still t) ∙ ap (λ (ms : List Moment). said ++ out_text ms) (append-nil at.ctx.done);
+            (left_by (e.packs told));
       }
+    where
+      packs_by : {b : Bool} → writes_by now.world input ≡ b → (new.held ≡ now.held) ⊎ ((writes_by now.world input ≡ true) × IsNextBlock now.world now.held new.held)
+          → (new.held ≡ now.held) ⊎ ((b ≡ true) × IsNextBlock now.world now.held new.held)
+      packs_by writes (inl same) = inl same
+      packs_by writes (inr next) = inr (sym writes ∙ next.0, next.1)
 
-  pub event_stops : (fault : PlayFault) → IsThere now.world input → now.world.answers ≡ [] → EventStops line input fault now new
-      → Stopped fault script tables first new.held new.out_tells said new.said new.trace_tells taken new.taken
-  event_stops faults.Memory there none e = absurd e
-  event_stops (faults.TooLong u n) there none e = absurd e
-  event_stops faults.Store there none e = event_store e
-  event_stops faults.Sink there none e = event_sink there none e
+      left_by : (new.held ≡ now.held) ⊎ ((writes_by now.world input ≡ true) × IsNextBlock now.world now.held new.held) → (new.held ≡ now.held) ⊎ IsNextBlock now.world now.held new.held
+      left_by (inl same) = inl same
+      left_by (inr next) = inr next.1
+
+  pub event_stops : (fault : PlayFault) → IsThere now.world input → EventStops line input fault now new → StopsAt fault script tables first said taken new
+  event_stops faults.Memory there e = absurd e
+  event_stops (faults.TooLong u n) there e = absurd e
+  event_stops faults.Store there e = event_store e
+  event_stops faults.Sink there e = event_sink there e

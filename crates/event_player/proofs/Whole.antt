@@ -16,30 +16,30 @@ use Rattle.trace_replay.specs.Moments.{Moment}
 use Rattle.trace_replay.specs.Script as says
 use Rattle.trace_replay.specs.Script.{Script, Statement, Declares, Plays, Line, IsScript, IsStatement, AreNumbered, drives_of, inputs_before}
 use Rattle.trace_replay.specs.Runs.{ArePlayed}
-use Rattle.trace_replay.specs.Text.{trace_text}
 use Rattle.pack_geometry.specs.declared.DriveKind.TheVariants.{Rp06}
 use Rattle.driver_machine.specs.World.{World, UnitView, Setup, no_unit, new_world, unit_at}
+use Rattle.driver_machine.specs.Events.{next_event}
 use Rattle.driver_machine.specs.Guards.{IsSetUp}
 use Rattle.driver_machine.specs.Sound.{Sound}
 use Rattle.driver_slots.proofs.Starts.{sound_new}
-use Rattle.driver_trace.proofs.Start.{starts}
-use Rattle.driver_runs.proofs.Runs.{starts_kept, runs_are_legal}
-use Rattle.driver_reach.specs.Reach.{AskBelow}
-use Rattle.driver_reach.proofs.Calls.{starts_within_reach}
+use Rattle.run_stops.proofs.Passes.{starts}
+use Rattle.run_stops.proofs.Passes.{starts_kept, runs_are_legal}
+use Rattle.run_stops.specs.Passes.{AskBelow}
+use Rattle.run_stops.proofs.Passes.{starts_within_reach}
 use Rattle.driver_counts.proofs.Starts.{starts_with_none, starts_with_room}
 use Rattle.driver_answers.proofs.Ids.{starts_of_none}
-use Rattle.answer_lines.specs.AnswerText.{out_text}
 use Rattle.answer_tally.specs.Counting.{CountsAll, tally_by}
 use Rattle.answer_tally.proofs.CountLaws.{counts_none, counts_more}
 use Rattle.hp_core.specs.declared.start.UnitSetup.{UnitSetup}
 use Rattle.hp_core.specs.Setups.{setups_of}
-use Rattle.hp_driver.specs.Subsystem.{State}
+use Rattle.run_stops.specs.Passes.{State}
 use Rattle.one_run.specs.Steps.{AreUnits, tables_in, AreSetFor}
 use Rattle.event_player.specs.Plays.{Plays as IsPlayed, Tallied}
 use Rattle.event_player.specs.Playing.{HasRun, counted, one_request, one_noise}
-use Rattle.event_player.specs.Steps.{Stage, GoesOn, PlaysLine, PlaysDrain, Drains, EndsWith, PlaysScript, Ready, Brings, MayPlay, HasData}
+use Rattle.event_player.specs.Steps.{Stage, IsAhead, GoesOn, PlaysLine, PlaysDrain, Drains, EndsWith, PlaysScript, Ready, Brings, MayPlay, HasData}
 use Rattle.event_player.proofs.Going.{line_for, inputs_append}
-use Rattle.event_player.proofs.Inputs.{said_more, told_more}
+use Rattle.event_player.proofs.Ahead.{starts_ahead}
+use Rattle.event_player.proofs.Wholes.{whole_run}
 use Rattle.event_player.proofs.Rooms.{ReadyBehind, ready_next, may_play}
 
 -- SO FAR the first lines are played.
@@ -48,21 +48,19 @@ pub record PlayedTo (s : Script) (tables : ℕ → Option Table) (old now : Stag
   pub ahead : AreNumbered last s.count (drop i s.lines)
   pub moments : List Moment
   pub run : HasRun s tables old.held now.held last (take i s.lines) now.world moments
-  pub out : IsTrue now.out_tells → now.said ≡ old.said ++ out_text moments
-  pub trace : IsTrue now.trace_tells → now.taken ≡ old.taken ++ trace_text moments
+  pub rule : IsAhead s tables old.held moments old.said old.taken now
   pub tally : CountsAll moments old.tally now.tally
 
 abbrev pub PlaysTo : Script → Stage → Stage → ℕ → Type 0
 PlaysTo s old now i = (tables : ℕ → Option Table) → HasRun s tables old.held old.held 0 [] old.world [] → PlayedTo s tables old now i
 
-pub plays_none_yet : (s : Script) (old : Stage) → IsScript s → PlaysTo s old old 0
-plays_none_yet s old is tables run = record {
+pub plays_none_yet : (s : Script) (old : Stage) → IsScript s → old.out_took ≡ old.said → old.trace_took ≡ old.taken → PlaysTo s old old 0
+plays_none_yet s old is out trace tables run = record {
   last = 0;
   ahead = is.numbers;
   moments = [];
   run = run;
-  out = λ t. sym (append-nil old.said);
-  trace = λ t. sym (append-nil old.taken);
+  rule = starts_ahead s tables old.held old (whole_run s tables old.held old.held 0 [] old.world [] run).behind out trace;
   tally = counts_none old.tally old.tally refl;
 }
 
@@ -86,22 +84,19 @@ declared_run s tables first held last done w moments line u kind at run = record
 }
 
 module _ (s : Script) (tables : ℕ → Option Table) (i : ℕ) (line : Line) (old mid new : Stage) (here : drop i s.lines ≡ line ∷ drop (i + 1) s.lines)
-    (more : take (i + 1) s.lines ≡ take i s.lines ++ line ∷ []) (still : IsTrue new.out_tells → IsTrue mid.out_tells) (still_traced : IsTrue new.trace_tells → IsTrue mid.trace_tells) where
+    (more : take (i + 1) s.lines ≡ take i s.lines ++ line ∷ []) where
   line_next : (statement : Statement) → line.statement ≡ statement → PlaysLine line.number statement mid new → PlayedTo s tables old mid i → PlayedTo s tables old new (i + 1)
   line_next (Declares u kind) at plays so =
       let ahead : AreNumbered so.last s.count (line ∷ drop (i + 1) s.lines) = subst (AreNumbered so.last s.count) here so.ahead in
-      record {
+      subst (λ (now : Stage). PlayedTo s tables old now (i + 1)) (sym plays) (record {
         last = so.last;
         ahead = earlier so.last line.number s.count (drop (i + 1) s.lines) ahead.0 ahead.1;
         moments = so.moments;
-        run = subst (λ (done : List Line). HasRun s tables old.held new.held so.last done new.world so.moments) (sym more)
-            (subst (λ (held : ℕ → Pack). HasRun s tables old.held held so.last (take i s.lines ++ line ∷ []) new.world so.moments) (sym plays.held)
-            (subst (λ (w : World). HasRun s tables old.held mid.held so.last (take i s.lines ++ line ∷ []) w so.moments) (sym plays.world)
-            (declared_run s tables old.held mid.held so.last (take i s.lines) mid.world so.moments line u kind at so.run)));
-        out = λ t. plays.out ∙ so.out (still t);
-        trace = λ t. plays.trace ∙ so.trace (still_traced t);
-        tally = subst (CountsAll so.moments old.tally) (sym plays.tally) so.tally;
-      }
+        run = subst (λ (done : List Line). HasRun s tables old.held mid.held so.last done mid.world so.moments) (sym more)
+            (declared_run s tables old.held mid.held so.last (take i s.lines) mid.world so.moments line u kind at so.run);
+        rule = so.rule;
+        tally = so.tally;
+      })
   line_next (Plays input) at plays so =
       let ahead : AreNumbered so.last s.count (line ∷ drop (i + 1) s.lines) = subst (AreNumbered so.last s.count) here so.ahead in
       let goes : GoesOn s tables old.held (take i s.lines) so.moments line.number input mid new =
@@ -113,38 +108,62 @@ module _ (s : Script) (tables : ℕ → Option Table) (i : ℕ) (line : Line) (o
         moments = so.moments ++ goes.more;
         run = subst (λ (done : List Line). HasRun s tables old.held new.held line.number done new.world (so.moments ++ goes.more))
             (sym (more ∙ ap (λ (l : Line). take i s.lines ++ l ∷ []) is)) goes.run;
-        out = λ t. said_more old.said mid.said new.said so.moments goes.more (so.out (still t)) (goes.out t);
-        trace = λ t. told_more old.taken mid.taken new.taken so.moments goes.more (so.trace (still_traced t)) (goes.trace t);
+        rule = goes.rule old.said old.taken so.rule;
         tally = counts_more old.tally mid.tally new.tally so.moments goes.more so.tally goes.tally;
       }
 
 pub plays_next : (s : Script) (i : ℕ) (line : Line) (old mid new : Stage) → drop i s.lines ≡ line ∷ drop (i + 1) s.lines → take (i + 1) s.lines ≡ take i s.lines ++ line ∷ []
-    → (IsTrue new.out_tells → IsTrue mid.out_tells) → (IsTrue new.trace_tells → IsTrue mid.trace_tells) → PlaysLine line.number line.statement mid new
-    → PlaysTo s old mid i → PlaysTo s old new (i + 1)
-plays_next s i line old mid new here more still still_traced plays before tables run =
-    line_next s tables i line old mid new here more still still_traced line.statement refl plays (before tables run)
+    → PlaysLine line.number line.statement mid new → PlaysTo s old mid i → PlaysTo s old new (i + 1)
+plays_next s i line old mid new here more plays before tables run = line_next s tables i line old mid new here more line.statement refl plays (before tables run)
 
--- the end: the drain behind the last line
-pub plays_end : (s : Script) (i : ℕ) (old mid new : Stage) → length s.lines ≤ i → (IsTrue new.out_tells → IsTrue mid.out_tells) → (IsTrue new.trace_tells → IsTrue mid.trace_tells)
-    → PlaysDrain (s.count + 1) mid new → PlaysTo s old mid i → (tables : ℕ → Option Table) → PlaysScript s tables old new
-plays_end s i old mid new all still still_traced drains before tables run =
+-- the end: the drain behind the last line, and all that is kept is sent.
+pub record IsAllSent (old new : Stage) : Type 0 where
+  pub world : new.world ≡ old.world
+  pub held : new.held ≡ old.held
+  pub tally : new.tally ≡ old.tally
+  pub out : IsTrue new.out_tells → IsTrue old.out_tells × (new.out_took ≡ old.said)
+  pub trace : IsTrue new.trace_tells → IsTrue old.trace_tells × (new.trace_took ≡ old.taken)
+
+pub record EndsAt (s : Script) (tables : ℕ → Option Table) (old now : Stage) : Type 0 where
+  pub moments : List Moment
+  pub run : HasRun s tables old.held now.held (s.count + 1) (s.lines ++ line_for (s.count + 1) says.Drain ∷ []) now.world moments
+  pub over : next_event now.world ≡ None
+  pub rule : IsAhead s tables old.held moments old.said old.taken now
+  pub tally : CountsAll moments old.tally now.tally
+
+pub ends_at : (s : Script) (i number : ℕ) (old mid new : Stage) → length s.lines ≤ i → number ≡ s.count + 1 → PlaysDrain number mid new → PlaysTo s old mid i
+    → (tables : ℕ → Option Table) → HasRun s tables old.held old.held 0 [] old.world [] → EndsAt s tables old new
+ends_at s i number old mid new all is drains before tables run =
     let so : PlayedTo s tables old mid i = before tables run in
     let none : drop i s.lines ≡ [] = drop_all i s.lines all in
     let last : so.last ≤ s.count = subst (AreNumbered so.last s.count) none so.ahead in
     let ends : Drains s tables old.held (take i s.lines) so.moments (s.count + 1) mid new =
-    drains s tables old.held so.last (take i s.lines) so.moments (behind so.last s.count last) so.run in
+    subst (λ (n : ℕ). PlaysDrain n mid new) is drains s tables old.held so.last (take i s.lines) so.moments (behind so.last s.count last) so.run in
     record {
       moments = so.moments ++ ends.goes.more;
       run = subst (λ (done : List Line). HasRun s tables old.held new.held (s.count + 1) (done ++ line_for (s.count + 1) says.Drain ∷ []) new.world (so.moments ++ ends.goes.more))
           (take_all i s.lines all) ends.goes.run;
       over = ends.over;
-      out = λ t. said_more old.said mid.said new.said so.moments ends.goes.more (so.out (still t)) (ends.goes.out t);
-      trace = λ t. told_more old.taken mid.taken new.taken so.moments ends.goes.more (so.trace (still_traced t)) (ends.goes.trace t);
+      rule = ends.goes.rule old.said old.taken so.rule;
       tally = counts_more old.tally mid.tally new.tally so.moments ends.goes.more so.tally ends.goes.tally;
     }
   where
     behind : (a b : ℕ) → a ≤ b → a < b + 1
     behind a b le = omega (arith, le)
+
+pub plays_end : (s : Script) (i number : ℕ) (old mid drained new : Stage) → length s.lines ≤ i → number ≡ s.count + 1 → PlaysDrain number mid drained → IsAllSent drained new → PlaysTo s old mid i
+    → (tables : ℕ → Option Table) → PlaysScript s tables old new
+plays_end s i number old mid drained new all is drains sent before tables run =
+    let ends : EndsAt s tables old drained = ends_at s i number old mid drained all is drains before tables run in
+    record {
+      moments = ends.moments;
+      run = subst (λ (held : ℕ → Pack). HasRun s tables old.held held (s.count + 1) (s.lines ++ line_for (s.count + 1) says.Drain ∷ []) new.world ends.moments) (sym sent.held)
+          (subst (λ (w : World). HasRun s tables old.held drained.held (s.count + 1) (s.lines ++ line_for (s.count + 1) says.Drain ∷ []) w ends.moments) (sym sent.world) ends.run);
+      over = ap next_event sent.world ∙ ends.over;
+      out = λ t. (sent.out t).1 ∙ ends.rule.out (sent.out t).0;
+      trace = λ t. (sent.trace t).1 ∙ ends.rule.trace (sent.trace t).0;
+      tally = subst (CountsAll ends.moments old.tally) (sym sent.tally) ends.tally;
+    }
 
 -- WHAT A WRITE WRITES is there, where statements are well formed.
 data_of : (known : Known) (st : Said) → IsInRange known st → HasData st
@@ -208,10 +227,8 @@ module _ (stored : Stored) (i : ℕ) (item : Kept) (is : item ≡ get_or stored.
       subst (λ (front : List Line). ReadyBehind (meaning_of stored) front new) (sym more_is)
       (ready_next (meaning_of stored) (take i (meaning_of stored).lines) line old new brings ready)
 
-  pub next_plays : (old mid new : Stage) → (IsTrue new.out_tells → IsTrue mid.out_tells) → (IsTrue new.trace_tells → IsTrue mid.trace_tells)
-      → PlaysLine item.number line.statement mid new → PlaysTo (meaning_of stored) old mid i → PlaysTo (meaning_of stored) old new (i + 1)
-  next_plays old mid new still still_traced plays before =
-      plays_next (meaning_of stored) i line old mid new here_is more_is still still_traced plays before
+  pub next_plays : (old mid new : Stage) → PlaysLine item.number line.statement mid new → PlaysTo (meaning_of stored) old mid i → PlaysTo (meaning_of stored) old new (i + 1)
+  next_plays old mid new plays before = plays_next (meaning_of stored) i line old mid new here_is more_is plays before
 
   pub next_data : AreWell (known_of {D = List ℕ} {N = List ℕ} []) (map (λ (l : Numbered). l.statement) (lines_in stored)) → HasData (seen stored.text item).statement
   next_data well =
@@ -226,7 +243,7 @@ module _ (stored : Stored) (i : ℕ) (item : Kept) (is : item ≡ get_or stored.
 
 -- AT THE END a run is a legal run of its script.
 pub plays_whole : (s : Script) (tables : ℕ → Option Table) (old new : Stage) → IsScript s → AreTablesOf (drives_of s) old.held tables → EndsWith s tables old new
-    → IsPlayed s old.held new.held new.out_tells old.said new.said new.trace_tells old.taken new.taken
+    → IsPlayed s old.held new.held new.out_tells old.said new.out_took new.trace_tells old.taken new.trace_took
 plays_whole s tables old new is read ends = record {
   tables = tables;
   moments = ends.moments;
@@ -244,7 +261,7 @@ plays_whole s tables old new is read ends = record {
 -- and its tally is that of the run.
 pub tally_whole : (s : Script) (tables : ℕ → Option Table) (old new : Stage) → IsScript s → AreTablesOf (drives_of s) old.held tables
     → old.tally ≡ tally_by (counted one_request s.lines) [] [] → EndsWith s tables old new
-    → Tallied s old.held new.held new.out_tells old.said new.said new.trace_tells old.taken new.taken new.tally
+    → Tallied s old.held new.held new.out_tells old.said new.out_took new.trace_tells old.taken new.trace_took new.tally
 unfolding plays_whole
 tally_whole s tables old new is read none_yet ends = record {
   plays = plays_whole s tables old new is read ends;
@@ -304,15 +321,17 @@ pub ready_for : (s : Script) (units slice : List UnitSetup) (requests noises : �
 ready_for s units slice requests noises state same set count is =
     subst (Ready s 0 0 0 []) (sym (new_is units slice requests noises state same is)) (starts_ready s (setups_of units) requests noises set count)
 
-pub whole_for : (s : Script) (units slice : List UnitSetup) (requests noises : ℕ) (state : State) (held : ℕ → Pack) (old new : Stage) → IsScript s → slice ≡ units
+pub whole_for : (s : Script) (units slice : List UnitSetup) (requests noises : ℕ) (state : State) (held : ℕ → Pack) (said taken : List ℕ) (old new : Stage) → IsScript s → slice ≡ units
     → AreSetFor s (tables_in (setups_of units)) (setups_of units) → AreTablesOf (drives_of s) held (tables_in (setups_of units)) → old.held ≡ held
     → state ≡ record { world = new_world (setups_of slice) (min requests 16384) noises; outstanding = requests; failed = false; kept = [] } → old.world ≡ state.world
-    → old.tally ≡ tally_by (counted one_request s.lines) [] [] → ((tables : ℕ → Option Table) → PlaysScript s tables old new)
-    → Tallied s held new.held new.out_tells old.said new.said new.trace_tells old.taken new.taken new.tally
-whole_for s units slice requests noises state held old new script same set read same_held is world none_yet goes =
+    → old.tally ≡ tally_by (counted one_request s.lines) [] [] → old.said ≡ said → old.taken ≡ taken → ((tables : ℕ → Option Table) → PlaysScript s tables old new)
+    → Tallied s held new.held new.out_tells said new.out_took new.trace_tells taken new.trace_took new.tally
+whole_for s units slice requests noises state held said taken old new script same set read same_held is world none_yet said_is taken_is goes =
     let tables : ℕ → Option Table = tables_in (setups_of units) in
     let run : HasRun s tables old.held old.held 0 [] old.world [] =
     subst (λ (w : World). HasRun s tables old.held old.held 0 [] w []) (sym (world ∙ new_is units slice requests noises state same is))
     (starts_run s (setups_of units) (min requests 16384) noises old.held set) in
-    subst (λ (h : ℕ → Pack). Tallied s h new.held new.out_tells old.said new.said new.trace_tells old.taken new.taken new.tally) same_held
-    (tally_whole s tables old new script (subst (λ (h : ℕ → Pack). AreTablesOf (drives_of s) h tables) (sym same_held) read) none_yet (goes tables run))
+    subst (λ (xs : List ℕ). Tallied s held new.held new.out_tells said new.out_took new.trace_tells xs new.trace_took new.tally) taken_is
+    (subst (λ (xs : List ℕ). Tallied s held new.held new.out_tells xs new.out_took new.trace_tells old.taken new.trace_took new.tally) said_is
+    (subst (λ (h : ℕ → Pack). Tallied s h new.held new.out_tells old.said new.out_took new.trace_tells old.taken new.trace_took new.tally) same_held
+    (tally_whole s tables old new script (subst (λ (h : ℕ → Pack). AreTablesOf (drives_of s) h tables) (sym same_held) read) none_yet (goes tables run))))

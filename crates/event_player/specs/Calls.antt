@@ -1,23 +1,19 @@
 -- What each call of the player needs, and what it leaves.
-use Rattle.std.specs.Prelude.{◌≡◌, ℕ, false, IsTrue, List, [], Result, OnOk, IfErr}
-use Rattle.hp_driver.specs.Subsystem.{State}
+use Rattle.std.specs.Prelude.{◌≡◌, false, IsTrue, [], Result, OnOk, IfErr}
+use Rattle.run_stops.specs.Passes.{State}
 use Rattle.event_player.specs.declared.play.PlayFault.{PlayFault}
 use Rattle.event_player.specs.Faults.{HaveTold}
 use Rattle.event_player.specs.Steps.{Stage}
 
--- IT MAY COME where no call of the driver failed, no answer waits, and nothing is kept for either sink.
-pub record MayGoOn (s : State) (gathered : List ℕ) : Type 0 where
+-- IT MAY COME where no call of the driver failed, and no answer waits.
+pub record MayGoOn (s : State) : Type 0 where
   pub going : s.failed ≡ false
   pub none_waits : s.world.answers ≡ []
-  pub kept : gathered ≡ []
-  pub sent : s.kept ≡ []
 
--- Behind one that did not stop still no call failed, there is room for as many requests, and nothing is kept.
-pub record KeepsGoing (old new : State) (gathered : List ℕ) : Type 0 where
+-- Behind one that did not stop still no call failed, and there is room for as many requests.
+pub record KeepsGoing (old new : State) : Type 0 where
   pub going : new.failed ≡ false
   pub outstanding : new.outstanding ≡ old.outstanding
-  pub kept : gathered ≡ []
-  pub sent : new.kept ≡ []
 
 -- THE STAGE BEHIND IT, where the packs tell, is that of what was to be played, or of a stop; an object that tells now told before, and
 -- the tally counts the same requests.

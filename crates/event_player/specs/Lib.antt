@@ -1,6 +1,7 @@
 pub mod Playing
 pub mod Plays
 pub mod Faults
+pub mod Saying
 pub mod Steps
 pub mod Calls
 pub mod Answering

@@ -1,18 +1,16 @@
 -- How far a script is played: what stands between two lines of it.
-use Rattle.std.specs.Prelude.{◌≡◌, ℕ, ◌+◌, Bool, IsTrue, List, [], ◌∷◌, ◌++◌, Option}
+use Rattle.std.specs.Prelude.{◌≡◌, ℕ, ◌+◌, List, [], ◌∷◌, Option}
 use Rattle.pack_model.specs.Pack.{Pack}
 use Rattle.pack_model.specs.TableSpelling.{Table}
 use Rattle.trace_replay.specs.Moments.{Moment, played}
 use Rattle.trace_replay.specs.Script.{Script, Submit, Noise, Arm, Statement, Plays as PlaysInput, Line, drives_of, inputs_before}
 use Rattle.trace_replay.specs.Runs.{start_of}
-use Rattle.trace_replay.specs.Text.{trace_text}
 use Rattle.driver_machine.specs.World.{World}
-use Rattle.driver_trace.specs.Runs.{IsSoFar}
-use Rattle.driver_runs.specs.Runs.{IsKept}
-use Rattle.driver_reach.specs.Reach.{AskBelow, TablesBelow, IsWithinReach}
-use Rattle.driver_reach.specs.Lengths.{AreAsLong}
+use Rattle.run_stops.specs.Passes.{IsSoFar}
+use Rattle.run_stops.specs.Passes.{IsKept}
+use Rattle.run_stops.specs.Passes.{AskBelow, TablesBelow, IsWithinReach}
+use Rattle.run_stops.specs.Passes.{AreAsLong}
 use Rattle.driver_drains.specs.Drains.{AreAsked}
-use Rattle.answer_lines.specs.AnswerText.{out_text}
 
 -- HOW MUCH lines bring: so many requests, noises, and lines that arm faults
 abbrev pub one_request : Statement → ℕ
@@ -41,11 +39,3 @@ pub record HasRun (script : Script) (tables : ℕ → Option Table) (old held : 
   pub asked : AreAsked (start_of script tables old).there moments
   pub reach : (ends : ℕ → ℕ) → AskBelow ends (drives_of script) (played moments) → TablesBelow ends (drives_of script) tables → IsWithinReach ends old held w
   pub long : AreAsLong (start_of script tables old) moments old held
-
--- and its texts are told.
-pub record HasTold (script : Script) (tables : ℕ → Option Table) (old held : ℕ → Pack) (line : ℕ) (done : List Line) (w : World)
-    (out_tells : Bool) (said said' : List ℕ) (trace_tells : Bool) (taken taken' : List ℕ) : Type 0 where
-  pub moments : List Moment
-  pub run : HasRun script tables old held line done w moments
-  pub out : IsTrue out_tells → said' ≡ said ++ out_text moments
-  pub trace : IsTrue trace_tells → taken' ≡ taken ++ trace_text moments

@@ -5,19 +5,15 @@ use Rattle.pack_geometry.specs.Geometry.{block_count}
 use Rattle.pack_model.specs.Pack.{Pack}
 use Rattle.pack_model.specs.TableSpelling.{Table}
 use Rattle.trace_replay.specs.Moments.{Moment}
-use Rattle.trace_replay.specs.Script.{Script, Line, Declares, drives_in, drives_of, inputs_of}
+use Rattle.trace_replay.specs.Script.{Script, Line, Declares, drives_in, drives_of}
 use Rattle.trace_replay.specs.Runs.{IsLegalRun, start_of}
 use Rattle.trace_replay.specs.Text.{trace_text}
-use Rattle.driver_reach.specs.Reach.{AskBelow, TablesBelow, StayFrom}
-use Rattle.driver_reach.specs.Lengths.{AreAsLong}
+use Rattle.run_stops.specs.Passes.{AreAsLong}
 use Rattle.answer_lines.specs.AnswerText.{out_text}
 use Rattle.answer_tally.specs.declared.tally.Tally.{Tally}
 use Rattle.answer_tally.specs.Counting.{tally_of}
+use Rattle.run_stops.specs.Stops.{StaysBeyond}
 use Rattle.event_player.specs.Playing.{counted, one_request}
-
--- WHAT LIES BEYOND the ends of all writes stayed: of a unit to which nothing is written the whole image.
-abbrev pub StaysBeyond : Script → (ℕ → Option Table) → (old new : ℕ → Pack) → Type 0
-StaysBeyond script tables old new = (ends : ℕ → ℕ) → AskBelow ends (drives_of script) (inputs_of script) → TablesBelow ends (drives_of script) tables → StayFrom ends old new
 
 -- A LEGAL RUN of the script over the packs, from what they held first to what they hold now, with the tables of these packs. Where the
 -- sink for the answers tells, it took just the text of the run's answers and noises; where the trace tells, it took just the run's lines.

@@ -1,5 +1,5 @@
 -- What playing does line by line: the acts of a call with the answers behind them, and how a run goes on.
-use Rattle.std.specs.Prelude.{◌≡◌, ◌≢◌, ◌⊎◌, ℕ, ◌+◌, ◌-◌, ◌^◌, ◌<◌, ◌≤◌, Bool, IsTrue, List, [], ◌∷◌, ◌++◌, length, Option, Some, None, Result, IsErrOf}
+use Rattle.std.specs.Prelude.{◌≡◌, ◌≢◌, ◌⊎◌, ℕ, ◌+◌, ◌-◌, ◌^◌, ◌<◌, ◌≤◌, Bool, true, false, IsTrue, List, [], ◌∷◌, ◌++◌, length, Option, Some, None, Result, IsErrOf}
 use Rattle.std.specs.List.{flat_map}
 use Rattle.pack_model.specs.Pack.{Pack}
 use Rattle.pack_model.specs.TableSpelling.{Table}
@@ -23,11 +23,11 @@ use Rattle.driver_machine.specs.Guards.{IsSetUp, IsHeldFor}
 use Rattle.driver_machine.specs.Sound.{Sound, AtWork}
 use Rattle.driver_machine.specs.Runs.{Run, MaySubmit, MayCome}
 use Rattle.driver_outcome.specs.Packs.{packs_after_all}
-use Rattle.driver_trace.specs.Calls.{IsReadOf}
-use Rattle.driver_trace.specs.Runs.{IsDraining}
-use Rattle.driver_runs.specs.Runs.{IsKept}
-use Rattle.driver_reach.specs.Reach.{AskBelow, TablesBelow, IsWithinReach}
-use Rattle.driver_reach.specs.Lengths.{AreAsLong}
+use Rattle.run_stops.specs.Passes.{IsReadOf}
+use Rattle.run_stops.specs.Passes.{IsDraining}
+use Rattle.run_stops.specs.Passes.{IsKept}
+use Rattle.run_stops.specs.Passes.{AskBelow, TablesBelow, IsWithinReach}
+use Rattle.run_stops.specs.Passes.{AreAsLong}
 use Rattle.driver_drains.specs.Drains.{AreAsked}
 use Rattle.driver_counts.specs.Counts.{IsWithin, in_use}
 use Rattle.driver_answers.specs.Ids.{AreOf}
@@ -35,7 +35,8 @@ use Rattle.driver_answers.specs.Waiting.{waiting, all_taken}
 use Rattle.answer_lines.specs.AnswerText.{answer_text, out_text}
 use Rattle.answer_tally.specs.declared.tally.Tally.{Tally}
 use Rattle.answer_tally.specs.Counting.{Counts, CountsAll}
-use Rattle.hp_driver.specs.Subsystem.{State, IsThere}
+use Rattle.run_stops.specs.Passes.{State, IsThere, writes_by}
+use Rattle.run_stops.specs.Ahead.{IsBetween, WritesAhead, TellsAhead}
 use Rattle.event_player.specs.declared.play.PlayFault.{PlayFault}
 use Rattle.event_player.specs.declared.play.PlayFault.TheVariants as faults
 use Rattle.one_run.specs.Steps.{AreUnits}
@@ -45,28 +46,66 @@ use Rattle.event_player.specs.Playing.{HasRun, counted, one_request, one_noise, 
 abbrev pub waiting_text : World → List ℕ
 waiting_text w = flat_map answer_text (waiting w)
 
--- WHAT IS PLAYED ON: the driver's world, what the packs hold, and what the two sinks took; whether each of them tells that; and the tally
+-- WHAT IS PLAYED ON: the driver's world, and what the packs hold; all that was said and told, and what each of the two sinks took of it,
+-- the rest of which is kept; whether packs and sinks tell; and the tally
 pub record Stage : Type 0 where
   pub world : World
   pub packs_tell : Bool
   pub held : ℕ → Pack
   pub out_tells : Bool
   pub said : List ℕ
+  pub out_took : List ℕ
   pub trace_tells : Bool
   pub taken : List ℕ
+  pub trace_took : List ℕ
   pub tally : Tally
 
-abbrev pub stage : {P O T : Type 0} → (P → Bool) → (P → ℕ → Pack) → (O → Bool) → (O → List ℕ) → (T → Bool) → (T → List ℕ) → World → P → O → T → Tally → Stage
-stage packs_tell held out_tells said trace_tells taken w packs out trace tally = record {
-  world = w;
+abbrev pub stage : {P O T : Type 0} → (P → Bool) → (P → ℕ → Pack) → (O → Bool) → (O → List ℕ) → (T → Bool) → (T → List ℕ) → State → P → O → T → List ℕ → Tally → Stage
+stage packs_tell held out_tells took trace_tells taken s packs out trace gathered tally = record {
+  world = s.world;
   packs_tell = packs_tell packs;
   held = held packs;
   out_tells = out_tells out;
-  said = said out;
+  said = took out ++ gathered;
+  out_took = took out;
   trace_tells = trace_tells trace;
-  taken = taken trace;
+  taken = taken trace ++ s.kept;
+  trace_took = taken trace;
   tally = tally;
 }
+
+-- WHAT THE SINKS TOOK, of all that was said and told: fronts of it, behind what they took before. No answer goes out before the lines of its
+-- moments: either the sink of the answers took no more, or the trace took all.
+pub record Passes (out_from trace_from said taken : List ℕ) (old new : Stage) : Type 0 where
+  pub again : IsTrue new.out_tells → IsTrue old.out_tells
+  pub again_trace : IsTrue new.trace_tells → IsTrue old.trace_tells
+  pub out : IsTrue new.out_tells → IsBetween out_from said new.out_took
+  pub trace : IsTrue new.trace_tells → IsBetween trace_from taken new.trace_took
+  pub lines_first : (IsTrue new.out_tells → new.out_took ≡ out_from) ⊎ (IsTrue new.trace_tells → new.trace_took ≡ taken)
+
+-- Before an event that may write a block all that was said and told before it was sent.
+pub record PassesAhead (writes : Bool) (said taken : List ℕ) (old new : Stage) : Type 0 where
+  pub sent : writes ≡ true → Passes old.said old.taken said taken old new
+  pub kept : writes ≡ false → Passes old.out_took old.trace_took said taken old new
+
+-- HOW MUCH WAS SENT by the rule, of these moments,
+pub record IsCut (script : Script) (tables : ℕ → Option Table) (first : ℕ → Pack) (moments : List Moment) (said taken : List ℕ) (now : Stage) : Type 0 where
+  pub sent : List Moment
+  pub late : List Moment
+  pub cut : sent ++ late ≡ moments
+  pub ahead : WritesAhead script tables first now.held sent late
+  pub texts : TellsAhead now.out_tells said now.out_took now.trace_tells taken now.trace_took sent late
+
+-- whose texts were all said and told;
+pub record IsAhead (script : Script) (tables : ℕ → Option Table) (first : ℕ → Pack) (moments : List Moment) (said taken : List ℕ) (now : Stage) : Type 0 where
+  pub at : IsCut script tables first moments said taken now
+  pub out : IsTrue now.out_tells → now.said ≡ said ++ out_text moments
+  pub trace : IsTrue now.trace_tells → now.taken ≡ taken ++ trace_text moments
+
+-- and moments that come behind keep it.
+abbrev pub KeepsAhead : Script → (ℕ → Option Table) → (first : ℕ → Pack) → (moments more : List Moment) → Stage → Stage → Type 0
+KeepsAhead script tables first moments more old new = (said taken : List ℕ) → IsAhead script tables first moments said taken old
+    → IsAhead script tables first (moments ++ more) said taken new
 
 -- ACTS come with their lines to a world that is sound and at work, and behind them the answers that wait are said, counted and taken.
 pub record PlaysActs (acts : List Act) (old new : Stage) : Type 0 where
@@ -78,8 +117,10 @@ pub record PlaysActs (acts : List Act) (old new : Stage) : Type 0 where
   pub trace : IsTrue new.trace_tells → new.taken ≡ old.taken ++ trace_text (lines_of_all old.world acts)
   pub tally : Counts (waiting (after_all old.world acts)) (waiting_text (after_all old.world acts)) old.tally new.tally
 
--- those of an event that may come, of what the packs hold,
+-- those of an event that may come, of what the packs hold; what writes nothing leaves them,
 pub record PlaysEvent (line : ℕ) (input : Input) (old new : Stage) : Type 0 where
+  pub passes : PassesAhead (writes_by old.world input) new.said new.taken old new
+  pub leaves : writes_by old.world input ≡ false → IsTrue new.packs_tell → new.held ≡ old.held
   pub tried : Tried
   pub may : MayCome old.world input tried
   pub reads : IsTrue new.packs_tell → IsReadOf old.world old.held input tried
@@ -93,22 +134,15 @@ pub record PlaysSubmission (line : ℕ) (r : Request) (old new : Stage) : Type 0
   pub may : MaySubmit old.world r slot held
   pub is : refusal_of r old.world ≡ None → IsHeldFor (unit_at old.world held.unit).drive.kind r held
   pub packs : new.held ≡ packs_after_all old.world old.held (submit_acts r line slot held old.world)
+  pub same : new.held ≡ old.held
+  pub passes : Passes old.out_took old.trace_took new.said new.taken old new
   pub plays : PlaysActs (submit_acts r line slot held old.world) old new
 
--- WHERE NOTHING IS DONE the stage stays.
-pub record IsStill (old new : Stage) : Type 0 where
-  pub world : new.world ≡ old.world
-  pub held : new.held ≡ old.held
-  pub out : new.said ≡ old.said
-  pub trace : new.taken ≡ old.taken
-  pub tally : new.tally ≡ old.tally
-
--- THE RUN GOES ON behind a run so far with a line of the script: its moments come with their texts, and are counted.
+-- THE RUN GOES ON behind a run so far with a line of the script: its moments come with their texts, by the rule, and are counted.
 pub record GoesOn (script : Script) (tables : ℕ → Option Table) (first : ℕ → Pack) (done : List Line) (moments : List Moment) (line : ℕ) (input : Input) (old new : Stage) : Type 0 where
   pub more : List Moment
   pub run : HasRun script tables first new.held line (done ++ record { number = line; statement = Plays input } ∷ []) new.world (moments ++ more)
-  pub out : IsTrue new.out_tells → new.said ≡ old.said ++ out_text more
-  pub trace : IsTrue new.trace_tells → new.taken ≡ old.taken ++ trace_text more
+  pub rule : KeepsAhead script tables first moments more old new
   pub tally : CountsAll more old.tally new.tally
 
 -- It does so behind any run so far whose lines are earlier;
@@ -118,7 +152,7 @@ PlaysInput line input old new = (script : Script) (tables : ℕ → Option Table
 
 -- a line that declares a drive does nothing.
 abbrev pub PlaysLine : ℕ → Statement → Stage → Stage → Type 0
-PlaysLine line (Declares unit kind) old new = IsStill old new
+PlaysLine line (Declares unit kind) old new = new ≡ old
 PlaysLine line (Plays input) old new = PlaysInput line input old new
 
 -- Behind a drain no event can come, where there is a run so far.
@@ -145,8 +179,7 @@ pub record EndsDraining (script : Script) (tables : ℕ → Option Table) (first
   pub more : List Moment
   pub run : HasRun script tables first new.held line done new.world (moments ++ more)
   pub over : next_event new.world ≡ None
-  pub out : IsTrue new.out_tells → new.said ≡ old.said ++ out_text more
-  pub trace : IsTrue new.trace_tells → new.taken ≡ old.taken ++ trace_text more
+  pub rule : KeepsAhead script tables first moments more old new
   pub tally : CountsAll more old.tally new.tally
 
 abbrev pub GoesOnDraining : ℕ → Stage → Stage → Type 0
@@ -154,13 +187,13 @@ GoesOnDraining line old new = (script : Script) (tables : ℕ → Option Table) 
     → events_left (after_moments (start_of script tables first) moments) < 2 ^ 64 - 1
     → HasDrained script tables first old.held line done old.world moments → EndsDraining script tables first done moments line old new
 
--- THE WHOLE of a script, from a start on
+-- THE WHOLE of a script, from a start on: all text was sent.
 pub record EndsWith (script : Script) (tables : ℕ → Option Table) (old new : Stage) : Type 0 where
   pub moments : List Moment
   pub run : HasRun script tables old.held new.held (script.count + 1) (script.lines ++ record { number = script.count + 1; statement = Plays Drain } ∷ []) new.world moments
   pub over : next_event new.world ≡ None
-  pub out : IsTrue new.out_tells → new.said ≡ old.said ++ out_text moments
-  pub trace : IsTrue new.trace_tells → new.taken ≡ old.taken ++ trace_text moments
+  pub out : IsTrue new.out_tells → new.out_took ≡ old.said ++ out_text moments
+  pub trace : IsTrue new.trace_tells → new.trace_took ≡ old.taken ++ trace_text moments
   pub tally : CountsAll moments old.tally new.tally
 
 abbrev pub PlaysScript : Script → (ℕ → Option Table) → Stage → Stage → Type 0

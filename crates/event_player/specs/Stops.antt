@@ -1,113 +1,88 @@
--- What playing leaves where a sink or the packs failed.
-use Rattle.std.specs.Prelude.{◌≡◌, ◌⊎◌, ℕ, ◌+◌, ◌<◌, ◌≤◌, Bool, true, false, IsTrue, List, [], ◌∷◌, ◌++◌, length, Option, None, Some}
+-- What a call leaves where a sink or the packs failed, and a script with it.
+use Rattle.std.specs.Prelude.{◌≡◌, ◌⊎◌, ℕ, ◌<◌, Bool, true, false, IsTrue, List, [], ◌∷◌, ◌++◌, Option, None}
 use Rattle.pack_model.specs.Pack.{Pack}
 use Rattle.pack_model.specs.PackTable.{AreTablesOf}
 use Rattle.pack_model.specs.TableSpelling.{Table}
 use Rattle.subsystem_spec.specs.Requests.{Request}
-use Rattle.trace_replay.specs.Moments.{Moment, Played, played, answers_in}
-use Rattle.trace_replay.specs.Script.{Script, Input, MoveAt, Drain, Line, Numbered, Statement, Declares, Plays, drives_of, inputs_of, inputs_before}
-use Rattle.trace_replay.specs.Events.{NoLine}
-use Rattle.trace_replay.specs.Replay.{Replay, Follows, AreLeft, next_wish, after_moment, after_moments}
+use Rattle.trace_replay.specs.Moments.{Moment}
+use Rattle.trace_replay.specs.Script.{Script, Input, Line, Numbered, Statement, Declares, Plays, drives_of, inputs_of, inputs_before}
+use Rattle.trace_replay.specs.Replay.{after_moments}
 use Rattle.trace_replay.specs.Runs.{start_of}
 use Rattle.trace_replay.specs.Text.{trace_text}
 use Rattle.driver_machine.specs.World.{World, Held, unit_at}
 use Rattle.driver_machine.specs.Acts.{Act, Tried}
 use Rattle.driver_machine.specs.Lines.{lines_of_all}
-use Rattle.driver_machine.specs.Events.{refusal_of, submit_acts, event_acts, next_event}
+use Rattle.driver_machine.specs.Events.{refusal_of, submit_acts, event_acts}
 use Rattle.driver_machine.specs.Guards.{IsHeldFor}
 use Rattle.driver_machine.specs.Sound.{Sound}
 use Rattle.driver_machine.specs.Runs.{Run, MaySubmit}
 use Rattle.driver_outcome.specs.Outcome.{IsFront, IsNextBlock}
 use Rattle.driver_outcome.specs.Packs.{ReadAll, packs_after_all}
-use Rattle.driver_runs.specs.Runs.{AreDeclared}
-use Rattle.driver_reach.specs.Lengths.{AreAsLong}
-use Rattle.driver_trace.specs.Noises.{AllFlip}
-use Rattle.driver_trace.specs.Within.{ShowsAll}
+use Rattle.run_stops.specs.Passes.{AreDeclared}
+use Rattle.run_stops.specs.Passes.{AllFlip}
+use Rattle.run_stops.specs.Passes.{ShowsAll}
 use Rattle.answer_lines.specs.AnswerText.{out_text}
-use Rattle.answer_tally.specs.declared.tally.Tally.{Tally}
-use Rattle.hp_driver.specs.Subsystem.{is_move}
-use Rattle.run_promises.specs.Beginnings.{AreNoSectors}
+use Rattle.run_stops.specs.Passes.{is_move, writes_by}
+use Rattle.run_stops.specs.Passes.{writes_next}
+use Rattle.run_stops.specs.Stops.{CameTo, StaysBeyond, IsAtMove, Took, StopsAtSink, StopsAtStore}
 use Rattle.event_player.specs.declared.play.PlayFault.{PlayFault}
 use Rattle.event_player.specs.declared.play.PlayFault.TheVariants as faults
-use Rattle.event_player.specs.Plays.{StaysBeyond}
-use Rattle.event_player.specs.Playing.{HasRun, HasTold}
-use Rattle.event_player.specs.Steps.{Stage, PlaysEvent, PlaysSubmission, HasDrained}
+use Rattle.event_player.specs.Playing.{HasRun}
+use Rattle.event_player.specs.Steps.{Stage, Passes, PassesAhead, IsAhead, HasDrained}
 
--- a text lies between two others: the first is a front of it, and it is a front of the second
-pub record IsBetween (first last text : List ℕ) : Type 0 where
-  pub least : IsFront first text
-  pub most : IsFront text last
+-- A CALL THAT STOPPED AT A SINK: its first acts were done and told, or all of them, and a front of what these say was to be said.
+pub record StopsActs (writes : Bool) (acts : List Act) (old new : Stage) : Type 0 where
+  pub done : List Act
+  pub left : List Act
+  pub all : acts ≡ done ++ left
+  pub run : Run old.world done
+  pub reads : IsTrue new.packs_tell → ReadAll old.world old.held done
+  pub packs : IsTrue new.packs_tell → new.held ≡ packs_after_all old.world old.held done
+  pub text : List ℕ
+  pub says : IsFront text (out_text (lines_of_all old.world done))
+  pub passes : PassesAhead writes (old.said ++ text) (old.taken ++ trace_text (lines_of_all old.world done)) old new
 
--- how many lines of the trace moments tell, and which lines of the script they play
-abbrev pub lines_told : List Moment → ℕ
-lines_told [] = 0
-lines_told (Played line input ∷ ms) = lines_told ms
-lines_told (m ∷ ms) = lines_told ms + 1
+-- an event, before which all text was sent if it may write;
+pub record StopsEvent (line : ℕ) (input : Input) (old new : Stage) : Type 0 where
+  pub tried : Tried
+  pub noise : AllFlip old.world.book.live
+  pub leaves : writes_by old.world input ≡ false → IsTrue new.packs_tell → new.held ≡ old.held
+  pub stops : StopsActs (writes_by old.world input) (event_acts line input tried old.world) old new
 
-abbrev pub only_played : List Moment → List Moment
-only_played [] = []
-only_played (Played line input ∷ ms) = Played line input ∷ only_played ms
-only_played (m ∷ ms) = only_played ms
+-- or one that may write, before which text could not be sent;
+pub record StopsBefore (input : Input) (old new : Stage) : Type 0 where
+  pub writes : writes_by old.world input ≡ true
+  pub held : new.held ≡ old.held
+  pub passes : Passes old.out_took old.trace_took old.said old.taken old new
 
--- what a move says: one line at most, and no answer
-pub record SaysOneSector (moments : List Moment) : Type 0 where
-  pub few : lines_told moments ≤ 1
-  pub silent : answers_in moments ≡ []
+-- and a submission.
+pub record StopsSubmission (line : ℕ) (r : Request) (old new : Stage) : Type 0 where
+  pub slot : ℕ
+  pub held : Held
+  pub may : MaySubmit old.world r slot held
+  pub is : refusal_of r old.world ≡ None → IsHeldFor (unit_at old.world held.unit).drive.kind r held
+  pub same : new.held ≡ old.held
+  pub stops : StopsActs false (submit_acts r line slot held old.world) old new
 
--- THE PACKS are as the replay has them behind some moments, and each image is as long as the blocks that these wrote make it.
-pub record AreBehind (script : Script) (tables : ℕ → Option Table) (first left : ℕ → Pack) (moments : List Moment) : Type 0 where
-  pub surface : AreLeft (drives_of script) first left (after_moments (start_of script tables first) moments).surface
-  pub long : AreAsLong (start_of script tables first) moments first left
+-- THE PACKS FAILED at a move: nothing was done or told; one that may write perhaps wrote its block, and before it all text was sent.
+pub record MoveFails (input : Input) (old new : Stage) : Type 0 where
+  pub move : is_move input ≡ true
+  pub packs : IsTrue new.packs_tell → (new.held ≡ old.held) ⊎ ((writes_by old.world input ≡ true) × IsNextBlock old.world old.held new.held)
+  pub out : IsTrue new.out_tells → new.said ≡ old.said
+  pub trace : IsTrue new.trace_tells → new.taken ≡ old.taken
+  pub passes : PassesAhead (writes_by old.world input) old.said old.taken old new
 
--- AN EVENT IS OVER where no line of it is still to come, or a drain stands before its next one.
-abbrev pub IsEventOver : Replay → Type 0
-IsEventOver s = (next_wish s ≡ NoLine) ⊎ (s.event.between ≡ true)
+abbrev pub EventStops : ℕ → Input → PlayFault → Stage → Stage → Type 0
+EventStops line input faults.Store old new = MoveFails input old new
+EventStops line input faults.Sink old new = (is_move input ≡ false → new.held ≡ old.held) × (StopsBefore input old new ⊎ StopsEvent line input old new)
+EventStops line input fault old new = ⊥
 
--- MOMENTS OF ONE EVENT: it is over behind none of them but the last.
-abbrev pub AreOfOneEvent : Replay → List Moment → Type 0
-AreOfOneEvent s [] = Unit {0}
-AreOfOneEvent s (m ∷ []) = Unit {0}
-AreOfOneEvent s (m ∷ n ∷ ms) = (IsEventOver (after_moment s m) → ⊥) × AreOfOneEvent (after_moment s m) (n ∷ ms)
+abbrev pub SubmissionStops : ℕ → Request → PlayFault → Stage → Stage → Type 0
+SubmissionStops line r faults.Sink old new = StopsSubmission line r old new
+SubmissionStops line r fault old new = ⊥
 
--- HOW FAR IT CAME: what was done, the last event of it to its end, and the one event under way as far as it came, of one line of the
--- script at most. The moments follow from the start, and play the first inputs of the script.
-pub record CameTo (script : Script) (tables : ℕ → Option Table) (first : ℕ → Pack) (done under : List Moment) (later : List Numbered) : Type 0 where
-  pub follows : Follows (start_of script tables first) (done ++ under)
-  pub inputs : inputs_of script ≡ played (done ++ under) ++ later
-  pub ended : IsEventOver (after_moments (start_of script tables first) done)
-  pub event : AreOfOneEvent (after_moments (start_of script tables first) done) under
-  pub one : length (played under) ≤ 1
-
--- A SINK FAILED. The packs are as before the event, which told of no sector; or behind it, which was a move. Each sink took all that was
--- said before the event, and a front of what the event said; no answer of it was written before all its lines were. What images have
--- beyond all writes stayed.
-pub record StopsAtSink (script : Script) (tables : ℕ → Option Table) (first left : ℕ → Pack) (out_tells : Bool) (said said' : List ℕ) (trace_tells : Bool) (taken taken' : List ℕ) : Type 0 where
-  pub done : List Moment
-  pub under : List Moment
-  pub later : List Numbered
-  pub came : CameTo script tables first done under later
-  pub packs : (AreNoSectors under × AreBehind script tables first left done) ⊎ (SaysOneSector under × AreBehind script tables first left (done ++ under))
-  pub reach : StaysBeyond script tables first left
-  pub trace : IsTrue trace_tells → IsBetween (taken ++ trace_text done) (taken ++ trace_text (done ++ under)) taken'
-  pub out : IsTrue out_tells → IsBetween (said ++ out_text done) (said ++ out_text (done ++ under)) said'
-  pub lines_first : (IsTrue trace_tells → taken' ≡ taken ++ trace_text (done ++ under)) ⊎ (IsTrue out_tells → said' ≡ said ++ out_text (done ++ only_played under))
-
--- the next event is the move of an adapter: the next line of the script is, or that of a drain
-abbrev pub IsMoveLine : ℕ → List Numbered → Type 0
-IsMoveLine a [] = ⊥
-IsMoveLine a (next ∷ later) = next.input ≡ MoveAt a
-
-abbrev pub IsDrainLine : List Numbered → Type 0
-IsDrainLine [] = ⊥
-IsDrainLine (next ∷ later) = next.input ≡ Drain
-
-abbrev pub IsAtMove : World → Replay → List Numbered → ℕ → Type 0
-IsAtMove w s later a = IsMoveLine a later ⊎ ((IsDrainLine later ⊎ IsTrue s.event.drains) × (next_event w ≡ Some (MoveAt a)))
-
--- THE PACKS FAILED, at a move, which did nothing else: all that was said before is taken. The packs are as before, but for one block
--- at most, the next one of a write whose transfer is under way; the driver's world is that which the replay shows, of the units that are
--- declared. What images have beyond all writes stayed.
-pub record StopsAtStore (script : Script) (tables : ℕ → Option Table) (first left : ℕ → Pack) (out_tells : Bool) (said said' : List ℕ) (trace_tells : Bool) (taken taken' : List ℕ) : Type 0 where
+-- A RUN THAT STOPPED AT THE PACKS, before the rest of its text is sent
+pub record StopsAtMove (script : Script) (tables : ℕ → Option Table) (first : ℕ → Pack) (said taken : List ℕ) (now : Stage) : Type 0 where
   pub done : List Moment
   pub later : List Numbered
   pub came : CameTo script tables first done [] later
@@ -118,84 +93,29 @@ pub record StopsAtStore (script : Script) (tables : ℕ → Option Table) (first
   pub adapter : ℕ
   pub move : IsAtMove world (after_moments (start_of script tables first) done) later adapter
   pub held : ℕ → Pack
-  pub behind : AreBehind script tables first held done
-  pub packs : (left ≡ held) ⊎ IsNextBlock world held left
-  pub reach : StaysBeyond script tables first left
-  pub trace : IsTrue trace_tells → taken' ≡ taken ++ trace_text done
-  pub out : IsTrue out_tells → said' ≡ said ++ out_text done
+  pub rule : IsAhead script tables first done said taken (record now { held = held })
+  pub none_late : writes_next world adapter ≡ true → rule.at.late ≡ []
+  pub packs : (now.held ≡ held) ⊎ ((writes_next world adapter ≡ true) × IsNextBlock world held now.held)
+  pub reach : StaysBeyond script tables first now.held
 
--- what stops playing is a sink or the packs
-abbrev pub Stopped : PlayFault → Script → (ℕ → Option Table) → (first left : ℕ → Pack) → Bool → (said said' : List ℕ) → Bool → (taken taken' : List ℕ) → Type 0
-Stopped faults.Store script tables first left out_tells said said' trace_tells taken taken' = StopsAtStore script tables first left out_tells said said' trace_tells taken taken'
-Stopped faults.Sink script tables first left out_tells said said' trace_tells taken taken' = StopsAtSink script tables first left out_tells said said' trace_tells taken taken'
-Stopped fault script tables first left out_tells said said' trace_tells taken taken' = ⊥
+abbrev pub StopsAt : PlayFault → Script → (ℕ → Option Table) → (first : ℕ → Pack) → (said taken : List ℕ) → Stage → Type 0
+StopsAt faults.Store script tables first said taken now = StopsAtMove script tables first said taken now
+StopsAt faults.Sink script tables first said taken now = StopsAtSink script tables first now.held now.out_tells said now.out_took now.trace_tells taken now.trace_took
+StopsAt fault script tables first said taken now = ⊥
 
--- A CALL THAT STOPPED. The trace failed: the first acts of the call were done, and a front of their lines was taken;
-pub record TellsFront (acts : List Act) (old new : Stage) : Type 0 where
-  pub done : List Act
-  pub left : List Act
-  pub all : acts ≡ done ++ left
-  pub run : Run old.world done
-  pub reads : IsTrue new.packs_tell → ReadAll old.world old.held done
-  pub packs : IsTrue new.packs_tell → new.held ≡ packs_after_all old.world old.held done
-  pub trace : IsTrue new.trace_tells → IsBetween old.taken (old.taken ++ trace_text (lines_of_all old.world done)) new.taken
-  pub out : new.said ≡ old.said
+-- BEHIND ANY RUN SO FAR that kept the rule, of a script whose next line this is, the whole stops so;
+pub record HasTold (script : Script) (tables : ℕ → Option Table) (first : ℕ → Pack) (line : ℕ) (done : List Line) (said taken : List ℕ) (now : Stage) : Type 0 where
+  pub moments : List Moment
+  pub run : HasRun script tables first now.held line done now.world moments
+  pub rule : IsAhead script tables first moments said taken now
 
--- of an event,
-pub record EventTellsFront (line : ℕ) (input : Input) (old new : Stage) : Type 0 where
-  pub tried : Tried
-  pub noise : AllFlip old.world.book.live
-  pub tells : TellsFront (event_acts line input tried old.world) old new
-
--- and of a submission;
-pub record SubmissionTellsFront (line : ℕ) (r : Request) (old new : Stage) : Type 0 where
-  pub slot : ℕ
-  pub held : Held
-  pub may : MaySubmit old.world r slot held
-  pub is : refusal_of r old.world ≡ None → IsHeldFor (unit_at old.world held.unit).drive.kind r held
-  pub tells : TellsFront (submit_acts r line slot held old.world) old new
-
--- the sink of the answers failed: the call was done, and a front of what it was to say was taken;
-pub record EventSaysFront (line : ℕ) (input : Input) (old new : Stage) : Type 0 where
-  pub world : World
-  pub text : List ℕ
-  pub tally : Tally
-  pub plays : PlaysEvent line input old (record new { world = world; said = text; tally = tally })
-  pub said : IsTrue new.out_tells → IsBetween old.said text new.said
-
-pub record SubmissionSaysFront (line : ℕ) (r : Request) (old new : Stage) : Type 0 where
-  pub world : World
-  pub text : List ℕ
-  pub tally : Tally
-  pub plays : PlaysSubmission line r old (record new { world = world; said = text; tally = tally })
-  pub said : IsTrue new.out_tells → IsBetween old.said text new.said
-
--- the packs failed: nothing was done, but perhaps the block was written.
-pub record MoveFails (input : Input) (old new : Stage) : Type 0 where
-  pub move : is_move input ≡ true
-  pub packs : IsTrue new.packs_tell → (new.held ≡ old.held) ⊎ IsNextBlock old.world old.held new.held
-  pub trace : IsTrue new.trace_tells → new.taken ≡ old.taken
-  pub out : new.said ≡ old.said
-
-abbrev pub EventStops : ℕ → Input → PlayFault → Stage → Stage → Type 0
-EventStops line input faults.Store old new = MoveFails input old new
-EventStops line input faults.Sink old new = (is_move input ≡ false → new.held ≡ old.held) × (EventTellsFront line input old new ⊎ EventSaysFront line input old new)
-EventStops line input fault old new = ⊥
-
-abbrev pub SubmissionStops : ℕ → Request → PlayFault → Stage → Stage → Type 0
-SubmissionStops line r faults.Sink old new = (new.held ≡ old.held) × (SubmissionTellsFront line r old new ⊎ SubmissionSaysFront line r old new)
-SubmissionStops line r fault old new = ⊥
-
--- BEHIND ANY RUN SO FAR, whose texts are told, of a script whose next line this is, the whole stops so;
 pub record IsNext (script : Script) (done : List Line) (line : ℕ) (input : Input) : Type 0 where
   pub later : List Numbered
   pub inputs : inputs_of script ≡ inputs_before [] done ++ record { line = line; input = input } ∷ later
 
 abbrev pub StopsInput : ℕ → Input → PlayFault → Stage → Stage → Type 0
 StopsInput line input fault old new = (script : Script) (tables : ℕ → Option Table) (first : ℕ → Pack) (last : ℕ) (done : List Line) (said taken : List ℕ)
-    → last < line → IsNext script done line input
-    → HasTold script tables first old.held last done old.world old.out_tells said old.said old.trace_tells taken old.taken
-    → Stopped fault script tables first new.held new.out_tells said new.said new.trace_tells taken new.taken
+    → last < line → IsNext script done line input → HasTold script tables first last done said taken old → StopsAt fault script tables first said taken new
 
 -- a line that declares a drive does not;
 abbrev pub StopsLine : ℕ → Statement → PlayFault → Stage → Stage → Type 0
@@ -207,33 +127,34 @@ pub record HasDrainedTold (script : Script) (tables : ℕ → Option Table) (fir
   pub moments : List Moment
   pub drained : HasDrained script tables first now.held line done now.world moments
   pub inputs : inputs_of script ≡ inputs_before [] done ++ later
-  pub out : IsTrue now.out_tells → now.said ≡ said ++ out_text moments
-  pub trace : IsTrue now.trace_tells → now.taken ≡ taken ++ trace_text moments
+  pub rule : IsAhead script tables first moments said taken now
 
 abbrev pub StopsDraining : ℕ → PlayFault → Stage → Stage → Type 0
 StopsDraining line fault old new = (script : Script) (tables : ℕ → Option Table) (first : ℕ → Pack) (done : List Line) (later : List Numbered) (said taken : List ℕ)
-    → HasDrainedTold script tables first line done later said taken old
-    → Stopped fault script tables first new.held new.out_tells said new.said new.trace_tells taken new.taken
+    → HasDrainedTold script tables first line done later said taken old → StopsAt fault script tables first said taken new
 
 -- THE WHOLE of a script, from a start on
 abbrev pub StopsScript : Script → (ℕ → Option Table) → PlayFault → Stage → Stage → Type 0
-StopsScript script tables fault old new = HasRun script tables old.held old.held 0 [] old.world []
-    → Stopped fault script tables old.held new.held new.out_tells old.said new.said new.trace_tells old.taken new.taken
+StopsScript script tables fault old new = HasRun script tables old.held old.held 0 [] old.world [] → StopsAt fault script tables old.held old.said old.taken new
 
 -- WHAT PLAYING LEAVES where it stopped: nothing was played, as the packs failed when a unit was attached; or it was played so far, with
--- the tables of these packs.
-pub record IsUnplayed (first left : ℕ → Pack) (said said' taken taken' : List ℕ) : Type 0 where
+-- the tables of these packs, and where the packs failed the rest of the text was sent.
+pub record IsUnplayed (first left : ℕ → Pack) (out trace : Took) : Type 0 where
   pub packs : left ≡ first
-  pub out : said' ≡ said
-  pub trace : taken' ≡ taken
+  pub unsaid : out.after ≡ out.before
+  pub untold : trace.after ≡ trace.before
 
-pub record StopsPlaying (fault : PlayFault) (script : Script) (first left : ℕ → Pack) (out_tells : Bool) (said said' : List ℕ) (trace_tells : Bool) (taken taken' : List ℕ) : Type 0 where
+abbrev pub Stopped : PlayFault → Script → (ℕ → Option Table) → (first left : ℕ → Pack) → (out trace : Took) → Type 0
+Stopped faults.Store script tables first left out trace = StopsAtStore script tables first left out trace
+Stopped faults.Sink script tables first left out trace = StopsAtSink script tables first left out.tells out.before out.after trace.tells trace.before trace.after
+Stopped fault script tables first left out trace = ⊥
+
+pub record StopsPlaying (fault : PlayFault) (script : Script) (first left : ℕ → Pack) (out trace : Took) : Type 0 where
   pub tables : ℕ → Option Table
   pub read : AreTablesOf (drives_of script) first tables
-  pub stopped : Stopped fault script tables first left out_tells said said' trace_tells taken taken'
+  pub stopped : Stopped fault script tables first left out trace
 
-abbrev pub Leaves : PlayFault → Script → (first left : ℕ → Pack) → Bool → (said said' : List ℕ) → Bool → (taken taken' : List ℕ) → Type 0
-Leaves faults.Store script first left out_tells said said' trace_tells taken taken' =
-    IsUnplayed first left said said' taken taken' ⊎ StopsPlaying faults.Store script first left out_tells said said' trace_tells taken taken'
-Leaves faults.Sink script first left out_tells said said' trace_tells taken taken' = StopsPlaying faults.Sink script first left out_tells said said' trace_tells taken taken'
-Leaves fault script first left out_tells said said' trace_tells taken taken' = Unit {0}
+abbrev pub Leaves : PlayFault → Script → (first left : ℕ → Pack) → (out trace : Took) → Type 0
+Leaves faults.Store script first left out trace = IsUnplayed first left out trace ⊎ StopsPlaying faults.Store script first left out trace
+Leaves faults.Sink script first left out trace = StopsPlaying faults.Sink script first left out trace
+Leaves fault script first left out trace = Unit {0}

@@ -1,16 +1,17 @@
 // Where answers are written: what is gathered for their sink, and what is counted of them.
-ghost use Rattle.std.specs.Prelude.{◌≡◌, [], IfOk};
-ghost use Rattle.mass_gather.specs.Gathers.{Gathers};
+ghost use Rattle.std.specs.Prelude.{◌≡◌, [], IfOk, OnOk};
 ghost use Rattle.answer_tally.specs.Counting.{Counts, tally_by};
+ghost use Rattle.event_player.specs.Saying.{side, Says};
 
 use answer_lines::{BlockLine, FillLine};
 use answer_tally::Tally;
 use mass_gather::Gather;
 use outside_traits::traits::{NoMemory, Sink, SinkFailed};
+use run_stops::Subsystem;
 use std::alloc::Global;
 
 /// How many bytes of answers are gathered at most.
-const ANSWER_ROOM: u32 = 16384;
+const ANSWER_ROOM: u32 = 262_144;
 
 /// Text that is gathered for a sink, the tally of the run so far, and room for a block and for its line, of either form.
 #[derive(Drop)]
@@ -41,32 +42,87 @@ impl Desk {
         })
     }
 
-    /// Counts a text, and gathers it.
-    pub fn put<O: Sink>(&mut self, text: &[u8], out: &mut O) -> Result<(), SinkFailed>
-        ensures gathers { Gathers O.tells O.taken O.faults out.old out.new self.old.gather self.new.gather result text.now }
+    /// Sends all text that is kept, lines first.
+    pub fn send<O: Sink, T: Sink>(
+        &mut self,
+        subsystem: &mut Subsystem,
+        out: &mut O,
+        trace: &mut T,
+    ) -> Result<(), SinkFailed>
+        ensures says { Says (side O.tells O.taken O.faults out.old self.old.gather) (side O.tells O.taken O.faults out.new self.new.gather)
+            (side T.tells T.taken T.faults trace.old subsystem.old.kept) (side T.tells T.taken T.faults trace.new subsystem.new.kept) result [] }
+        ensures emptied { OnOk result ((self.new.gather ≡ []) × (subsystem.new.kept ≡ [])) }
+        ensures same { subsystem.new ≡ record subsystem.old { kept = subsystem.new.kept } }
+        ensures tally { self.new.tally ≡ self.old.tally }
+    {
+        subsystem.send(trace)?;
+        self.gather.flush(out)
+    }
+
+    /// Counts a text, and keeps it; where it does not fit all lines are sent, and then what was kept.
+    pub fn say<O: Sink, T: Sink>(
+        &mut self,
+        text: &[u8],
+        subsystem: &mut Subsystem,
+        out: &mut O,
+        trace: &mut T,
+    ) -> Result<(), SinkFailed>
+        ensures says { Says (side O.tells O.taken O.faults out.old self.old.gather) (side O.tells O.taken O.faults out.new self.new.gather)
+            (side T.tells T.taken T.faults trace.old subsystem.old.kept) (side T.tells T.taken T.faults trace.new subsystem.new.kept) result text.now }
         ensures counts { Counts [] text.now self.old.tally self.new.tally }
         ensures requests { self.new.tally.requests ≡ self.old.tally.requests }
+        ensures same { subsystem.new ≡ record subsystem.old { kept = subsystem.new.kept } }
     {
         self.tally.count_text(text);
+        if self.gather.try_keep(text) {
+            return Ok(());
+        }
+        subsystem.send(trace)?;
         self.gather.put(text, out)
     }
 
-    /// Counts the line of a block, and gathers it.
-    pub fn put_line<O: Sink>(&mut self, out: &mut O) -> Result<(), SinkFailed>
-        ensures gathers { Gathers O.tells O.taken O.faults out.old out.new self.old.gather self.new.gather result self.old.line }
+    /// Counts the line of a block, and says it as [`Desk::say`] does.
+    pub fn say_line<O: Sink, T: Sink>(
+        &mut self,
+        subsystem: &mut Subsystem,
+        out: &mut O,
+        trace: &mut T,
+    ) -> Result<(), SinkFailed>
+        ensures says { Says (side O.tells O.taken O.faults out.old self.old.gather) (side O.tells O.taken O.faults out.new self.new.gather)
+            (side T.tells T.taken T.faults trace.old subsystem.old.kept) (side T.tells T.taken T.faults trace.new subsystem.new.kept) result self.old.line }
         ensures counts { Counts [] self.old.line self.old.tally self.new.tally }
         ensures requests { self.new.tally.requests ≡ self.old.tally.requests }
+        ensures same { subsystem.new ≡ record subsystem.old { kept = subsystem.new.kept } }
     {
         self.tally.count_text(self.line.as_bytes());
+        if self.gather.try_keep(self.line.as_bytes()) {
+            return Ok(());
+        }
+        subsystem.send(trace)?;
         self.gather.put(self.line.as_bytes(), out)
     }
-    /// Counts the line of a block whose bytes are all one byte, and gathers it.
-    pub fn put_fill<O: Sink>(&mut self, out: &mut O) -> Result<(), SinkFailed>
-        ensures gathers { Gathers O.tells O.taken O.faults out.old out.new self.old.gather self.new.gather result self.old.fill }
+
+    /// Counts the line of a block whose bytes are all one byte, and says it as [`Desk::say`] does.
+    pub fn say_fill<O: Sink, T: Sink>(
+        &mut self,
+        subsystem: &mut Subsystem,
+        out: &mut O,
+        trace: &mut T,
+    ) -> Result<(), SinkFailed>
+        ensures says { Says (side O.tells O.taken O.faults out.old self.old.gather) (side O.tells O.taken O.faults out.new self.new.gather)
+            (side T.tells T.taken T.faults trace.old subsystem.old.kept) (side T.tells T.taken T.faults trace.new subsystem.new.kept) result self.old.fill }
         ensures counts { Counts [] self.old.fill self.old.tally self.new.tally }
         ensures requests { self.new.tally.requests ≡ self.old.tally.requests }
+        ensures same { subsystem.new ≡ record subsystem.old { kept = subsystem.new.kept } }
     {
         self.tally.count_text(self.fill.as_bytes());
+        if self
+            .gather
+            .try_keep_short(self.fill.front(), self.fill.len())
+        {
+            return Ok(());
+        }
+        subsystem.send(trace)?;
         self.gather
             .put_short(self.fill.front(), self.fill.len(), out)
     }

@@ -1,9 +1,6 @@
 // A drain: events happen until no request is outstanding.
 ghost use Rattle.std.specs.Prelude.{◌≤◌, length, OnOk};
-ghost use Rattle.outside_traits.specs.Puts.{Puts};
-ghost use Rattle.trace_replay.specs.Moments.{Idle};
 ghost use Rattle.trace_replay.specs.Script.{Plays, Drain};
-ghost use Rattle.trace_replay.specs.Text.{moment_text};
 ghost use Rattle.event_player.specs.Calls.{MayGoOn, KeepsGoing, IsPlayed};
 ghost use Rattle.event_player.specs.Steps.{stage, GoesOnDraining, PlaysDrain, Brings, HasCauses};
 ghost use Rattle.event_player.specs.Stops.{StopsDraining, StopsInput};
@@ -11,17 +8,8 @@ ghost use Rattle.event_player.specs.Stops.{StopsDraining, StopsInput};
 use crate::calls::happen;
 use crate::desk::Desk;
 use crate::play::PlayFault;
-use hp_driver::Subsystem;
-use outside_traits::traits::{Packs, Sink, SinkFailed};
-use outside_traits::whole::write_all;
-use trace_lines::idle;
-
-/// Says that a drain found nothing to do.
-fn say_idle<T: Sink>(number: u64, trace: &mut T) -> Result<(), SinkFailed>
-    ensures { Puts T.tells T.taken T.faults trace.old trace.new result (moment_text (Idle number)) }
-{
-    write_all(trace, idle(number).as_bytes())
-}
+use outside_traits::traits::{Packs, Sink};
+use run_stops::Subsystem;
 
 /// The events of a drain behind its first one. It comes to its end long before it has turned so often.
 fn go_on<P: Packs, O: Sink, T: Sink>(
@@ -32,12 +20,12 @@ fn go_on<P: Packs, O: Sink, T: Sink>(
     out: &mut O,
     trace: &mut T,
 ) -> Result<(), PlayFault>
-    requires ready { MayGoOn subsystem.old desk.old.gather }
+    requires ready { MayGoOn subsystem.old }
     ensures played { IsPlayed (GoesOnDraining number) (StopsDraining number)
-        (stage P.tells P.held O.tells O.taken T.tells T.taken subsystem.old.world packs.old out.old trace.old desk.old.tally)
-        (stage P.tells P.held O.tells O.taken T.tells T.taken subsystem.new.world packs.new out.new trace.new desk.new.tally) result }
+        (stage P.tells P.held O.tells O.taken T.tells T.taken subsystem.old packs.old out.old trace.old desk.old.gather desk.old.tally)
+        (stage P.tells P.held O.tells O.taken T.tells T.taken subsystem.new packs.new out.new trace.new desk.new.gather desk.new.tally) result }
     ensures brings { OnOk result (Brings (Plays Drain) subsystem.old.world subsystem.new.world) }
-    ensures goes { OnOk result (KeepsGoing subsystem.old subsystem.new desk.new.gather) }
+    ensures goes { OnOk result (KeepsGoing subsystem.old subsystem.new) }
     ensures causes { HasCauses (P.faults packs.old) (P.faults packs.new) (O.faults out.old) (O.faults out.new) (T.faults trace.old) (T.faults trace.new) result }
 {
     for turn in 0..u64::MAX {
@@ -58,17 +46,17 @@ pub fn drain<P: Packs, O: Sink, T: Sink>(
     out: &mut O,
     trace: &mut T,
 ) -> Result<(), PlayFault>
-    requires ready { MayGoOn subsystem.old desk.old.gather }
+    requires ready { MayGoOn subsystem.old }
     requires few { length subsystem.old.world.slots ≤ 65536 }
     ensures played { IsPlayed (PlaysDrain number) (StopsInput number Drain)
-        (stage P.tells P.held O.tells O.taken T.tells T.taken subsystem.old.world packs.old out.old trace.old desk.old.tally)
-        (stage P.tells P.held O.tells O.taken T.tells T.taken subsystem.new.world packs.new out.new trace.new desk.new.tally) result }
+        (stage P.tells P.held O.tells O.taken T.tells T.taken subsystem.old packs.old out.old trace.old desk.old.gather desk.old.tally)
+        (stage P.tells P.held O.tells O.taken T.tells T.taken subsystem.new packs.new out.new trace.new desk.new.gather desk.new.tally) result }
     ensures brings { OnOk result (Brings (Plays Drain) subsystem.old.world subsystem.new.world) }
-    ensures goes { OnOk result (KeepsGoing subsystem.old subsystem.new desk.new.gather) }
+    ensures goes { OnOk result (KeepsGoing subsystem.old subsystem.new) }
     ensures causes { HasCauses (P.faults packs.old) (P.faults packs.new) (O.faults out.old) (O.faults out.new) (T.faults trace.old) (T.faults trace.new) result }
 {
     let Some(first) = subsystem.next_event() else {
-        say_idle(number, trace)?;
+        subsystem.idle(number, trace)?;
         return Ok(());
     };
     happen(subsystem, number, first, desk, packs, out, trace)?;

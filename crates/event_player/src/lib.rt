@@ -5,11 +5,11 @@
 //! handed in and as they are; where `out` tells it took just the answer text of that run, and where `trace` tells just its
 //! lines (`Plays`); and the tally is that of the same run (`Tallied`), whether or not `out` tells. TooLong comes only for an
 //! image that is too long, and before anything is played; so does Memory; Store and Sink have their causes, and `Leaves` says
-//! what they leave: how far the script came, what each sink took of it, and the packs after it. Of a run, and of one that
+//! what they leave by the write-ahead rule of `run_stops`: how far the script came, where text was last sent, what each sink took
+//! of it, and the packs after it. Of a run, and of one that
 //! stopped at the packs, what images have beyond all writes stayed (`reach`), and each is as long as the blocks that were written
-//! make it (`long`). Inside: what each line does is
-//! said for any run so far (`GoesOn`), with what is counted of it, so that a script's run is put together line by line, and a
-//! drain event by event.
+//! make it (`long`). Inside: what each line does is said for any run so far (`GoesOn`), with what is counted of it and how it keeps
+//! the rule (`IsAhead`), so that a script's run is put together line by line, and a drain event by event.
 //!
 //! Only tested, in `hpsim_rows`: that memory suffices.
 #![tactic(auto)]
@@ -23,5 +23,5 @@ mod drains;
 pub mod play;
 mod player;
 
-pub use driver_runs::next_block_law;
+pub use run_stops::next_block_law;
 pub use script_reader::{ReadFault, Script, ScriptKind, read_script};

@@ -1,5 +1,5 @@
 // A script is played to its end.
-ghost use Rattle.std.specs.Prelude.{◌≡◌, ℕ, [], length, IsTrue, Result, Ok, IfOk, IfErr, vec_len, Option};
+ghost use Rattle.std.specs.Prelude.{◌≡◌, ◌≤◌, ℕ, [], length, IsTrue, Result, Ok, IfOk, IfErr, vec_len, Option};
 ghost use Rattle.pack_model.specs.TableSpelling.{Table};
 ghost use Rattle.script_reader.specs.Grammar.{Spells};
 ghost use Rattle.script_reader.specs.Stored.{lines_in};
@@ -12,6 +12,8 @@ ghost use Rattle.event_player.specs.Playing.{counted, one_request};
 ghost use Rattle.event_player.specs.Calls.{MayGoOn, IsPlayed};
 ghost use Rattle.event_player.specs.Steps.{stage, Ready, PlaysScript, HasCauses};
 ghost use Rattle.event_player.specs.Stops.{StopsScript, Leaves};
+ghost use Rattle.event_player.specs.declared.play.PlayFault.TheVariants.{Store};
+ghost use Rattle.run_stops.specs.Stops.{took, TakesRest};
 
 use crate::attaching::attach_units;
 use crate::counting::{count_noises, count_requests};
@@ -20,8 +22,8 @@ use crate::drains::drain;
 use crate::player::play_line;
 pub use answer_tally::Tally;
 use driver_outcome::Stop;
-use hp_driver::Subsystem;
 use outside_traits::traits::{NoMemory, Packs, Sink, SinkFailed};
+use run_stops::Subsystem;
 use script_meaning::meaning_law;
 use script_reader::{Script, read_back_law};
 use std::alloc::{AllocError, Global};
@@ -134,14 +136,16 @@ fn play_lines<P: Packs, O: Sink, T: Sink>(
     trace: &mut T,
 ) -> Result<Tally, PlayFault>
     requires good { Spells all_verbs script.now.text (lines_in script.now) script.now.count }
-    requires may { MayGoOn subsystem.old desk.old.gather }
+    requires may { MayGoOn subsystem.old }
     requires ready { Ready (meaning_of script.now) 0 0 0 [] subsystem.old.world }
     requires outstanding { subsystem.old.outstanding ≡ counted one_request (meaning_of script.now).lines }
     requires room { length room.old ≡ 65024 }
+    requires kept { desk.old.gather ≡ [] }
+    requires sent { subsystem.old.kept ≡ [] }
     ensures played { IsPlayed (λ old new. (tables : ℕ → Option Table) → PlaysScript (meaning_of script.now) tables old new)
         (λ fault old new. (tables : ℕ → Option Table) → StopsScript (meaning_of script.now) tables fault old new)
-        (stage P.tells P.held O.tells O.taken T.tells T.taken subsystem.old.world packs.old out.old trace.old desk.old.tally)
-        (stage P.tells P.held O.tells O.taken T.tells T.taken subsystem.new.world packs.new out.new trace.new desk.new.tally) result }
+        (stage P.tells P.held O.tells O.taken T.tells T.taken subsystem.old packs.old out.old trace.old desk.old.gather desk.old.tally)
+        (stage P.tells P.held O.tells O.taken T.tells T.taken subsystem.new packs.new out.new trace.new desk.new.gather desk.new.tally) result }
     ensures told { IfOk result (λ tally. tally ≡ desk.new.tally) }
     ensures causes { HasCauses (P.faults packs.old) (P.faults packs.new) (O.faults out.old) (O.faults out.new) (T.faults trace.old) (T.faults trace.new) result }
 {
@@ -153,11 +157,36 @@ fn play_lines<P: Packs, O: Sink, T: Sink>(
         play_line(script, subsystem, line, room, desk, packs, out, trace)?;
     }
     drain(subsystem, number, desk, packs, out, trace)?;
+    desk.send(subsystem, out, trace)?;
     Ok(desk.tally)
 }
 
-/// Plays a script line by line, and behind its last line a drain, whose number is the number of lines plus one. The answers of
-/// each submission and event go to `out` behind it, and its lines to `trace`.
+/// Where the packs failed all that is kept is sent, lines first, whatever comes of it.
+fn send_rest<O: Sink, T: Sink>(
+    fault: PlayFault,
+    subsystem: &mut Subsystem,
+    desk: &mut Desk,
+    out: &mut O,
+    trace: &mut T,
+)
+    ensures lines { fault ≡ Store → TakesRest (took T.tells T.taken T.faults trace.old trace.new) [] subsystem.old.kept }
+    ensures answers { fault ≡ Store → TakesRest (took O.tells O.taken O.faults out.old out.new) [] desk.old.gather }
+    ensures same { (fault ≡ Store → ⊥) → (out.new ≡ out.old) × (trace.new ≡ trace.old) }
+    ensures never_again { IsTrue (O.tells out.new) → IsTrue (O.tells out.old) }
+    ensures never_again_trace { IsTrue (T.tells trace.new) → IsTrue (T.tells trace.old) }
+    ensures later { O.faults out.old ≤ O.faults out.new }
+    ensures later_trace { T.faults trace.old ≤ T.faults trace.new }
+    ensures tally { desk.new.tally ≡ desk.old.tally }
+{
+    if let PlayFault::Store = fault {
+        let _ = subsystem.send(trace);
+        let _ = desk.gather.flush(out);
+    }
+}
+
+/// Plays a script line by line, and behind its last line a drain, whose number is the number of lines plus one. Its lines are kept for
+/// `trace`, and its answers for `out`. They are sent, lines first, before a move that may write a block, where there is no room for more,
+/// at the end, and where the packs failed.
 ///
 /// The units are attached first, in the order of their lines. TooLong tells the first unit whose image has more bytes than the
 /// blocks of its drive. Store comes only where the packs' count of faults rose in this call, and Sink only where that of
@@ -165,8 +194,8 @@ fn play_lines<P: Packs, O: Sink, T: Sink>(
 ///
 /// The tally counts the script's requests and the answers of the run with their text, also where `out` does not tell what it took.
 ///
-/// Behind Store and Sink it is known how far the script came: `trace` and `out` took fronts of the texts of a run so far, the
-/// packs are as its replay leaves them but for one block at most.
+/// Behind Store and Sink it is known how far the script came: `trace` and `out` took fronts of the texts of a run so far, no answer goes
+/// out before its lines, and since text was last sent one move at most may have written a block.
 pub fn play<P: Packs, O: Sink, T: Sink>(
     alloc: Global,
     script: &Script,
@@ -179,7 +208,7 @@ pub fn play<P: Packs, O: Sink, T: Sink>(
         (O.tells out.new) (O.taken out.old) (O.taken out.new) (T.tells trace.new) (T.taken trace.old) (T.taken trace.new) tally) }
     ensures requests { IfOk result (λ tally. tally.requests ≡ counted one_request (meaning_of script.now).lines) }
     ensures stopped { IfErr result (λ fault. IsTrue (P.tells packs.new) → Leaves fault (meaning_of script.now) (P.held packs.old) (P.held packs.new)
-        (O.tells out.new) (O.taken out.old) (O.taken out.new) (T.tells trace.new) (T.taken trace.old) (T.taken trace.new)) }
+        (took O.tells O.taken O.faults out.old out.new) (took T.tells T.taken T.faults trace.old trace.new)) }
     ensures fits { IsPlaying result → IsTrue (P.tells packs.new) → (unit n : ℕ) → ¬ (IsTooLong (meaning_of script.now) (P.held packs.old) unit n) }
     ensures too_long { IfErr result (IsLongFor (meaning_of script.now) (P.tells packs.new) (P.held packs.old)) }
     ensures told { HaveTold (P.tells packs.old) (P.tells packs.new) (O.tells out.old) (O.tells out.new) (T.tells trace.old) (T.tells trace.new) }
@@ -192,7 +221,7 @@ pub fn play<P: Packs, O: Sink, T: Sink>(
     let noises = count_noises(script);
     let mut bench = Bench::new(alloc, u64::from(requests))?;
     let mut subsystem = Subsystem::new(alloc, units.as_slice(), requests, noises)?;
-    play_lines(
+    match play_lines(
         script,
         &mut subsystem,
         bench.room.as_mut_slice(),
@@ -200,5 +229,11 @@ pub fn play<P: Packs, O: Sink, T: Sink>(
         packs,
         out,
         trace,
-    )
+    ) {
+        Ok(tally) => Ok(tally),
+        Err(fault) => {
+            send_rest(fault, &mut subsystem, &mut bench.desk, out, trace);
+            Err(fault)
+        }
+    }
 }

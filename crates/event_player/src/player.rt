@@ -1,9 +1,8 @@
 // What a line of a script does.
-ghost use Rattle.std.specs.Prelude.{◌≡◌, ◌*◌, ◌≤◌, ℕ, List, [], ◌++◌, length, take, IsTrue, OnOk, OnErr, IfSome, IfNone};
+ghost use Rattle.std.specs.Prelude.{◌≡◌, ◌⊎◌, ◌*◌, ◌≤◌, ℕ, List, [], IsTrue, length, take, OnOk, OnErr, IfSome, IfNone};
 ghost use Rattle.std.specs.Box.{box_value};
 ghost use Rattle.hardware_table.specs.Noise.{LiveNoise};
-ghost use Rattle.outside_traits.specs.Causes.{HasCause};
-ghost use Rattle.outside_traits.specs.Puts.{TakesFront};
+ghost use Rattle.outside_traits.specs.Causes.{Rose};
 ghost use Rattle.script_reader.specs.Formed.{IsWritten};
 ghost use Rattle.script_lines.specs.declared.statement.Span.{Span};
 ghost use Rattle.script_reader.specs.Stored.{seen, digits_at};
@@ -13,7 +12,8 @@ ghost use Rattle.trace_replay.specs.Moments.{Played};
 ghost use Rattle.trace_replay.specs.Script.{Noise as NoiseInput, Plays};
 ghost use Rattle.answer_lines.specs.AnswerText.{said_text};
 ghost use Rattle.answer_tally.specs.Counting.{Counts};
-ghost use Rattle.hp_events.specs.Inputs.{input_of};
+ghost use Rattle.run_stops.specs.Passes.{input_of};
+ghost use Rattle.event_player.specs.Saying.{side, Says};
 ghost use Rattle.event_player.specs.Calls.{MayGoOn, KeepsGoing, IsPlayed};
 ghost use Rattle.event_player.specs.Steps.{stage, IsNoEvent, PlaysLine, Brings, MayPlay, HasData, HasCauses};
 ghost use Rattle.event_player.specs.Stops.{StopsLine};
@@ -23,34 +23,36 @@ use crate::desk::Desk;
 use crate::drains::drain;
 use crate::play::PlayFault;
 use answer_lines::noise_line;
-use answer_tally::Tally;
 use fire_code::{Noise, class_of};
-use hp_driver::{Event, Request, Subsystem};
 use outside_traits::traits::{Packs, Sink, SinkFailed};
-use outside_traits::whole::write_all;
+use run_stops::{Event, Request, Subsystem};
 use script_meaning::meaning_law;
 use script_reader::{Content, Request as Asked, Script, Span, Statement, Stored};
 
 /// Says the class of noise that is armed at a line, and counts what it says.
-fn say_noise<O: Sink>(
+fn say_noise<O: Sink, T: Sink>(
     number: u64,
     noise: &Noise,
-    tally: &mut Tally,
+    subsystem: &mut Subsystem,
+    desk: &mut Desk,
     out: &mut O,
+    trace: &mut T,
 ) -> Result<(), SinkFailed>
-    ensures counts { (live : LiveNoise) → live.places ≡ noise.now → Counts [] (said_text (Played number (NoiseInput live))) tally.old tally.new }
-    ensures requests { tally.new.requests ≡ tally.old.requests }
-    ensures text { (live : LiveNoise) → live.places ≡ noise.now
-        → OnOk result (IsTrue (O.tells out.new) → O.taken out.new ≡ O.taken out.old ++ said_text (Played number (NoiseInput live))) }
-    ensures front { (live : LiveNoise) → live.places ≡ noise.now
-        → OnErr result (IsTrue (O.tells out.new) → TakesFront (O.taken out.old) (O.taken out.new) (said_text (Played number (NoiseInput live)))) }
+    ensures says { (live : LiveNoise) → live.places ≡ noise.now
+        → Says (side O.tells O.taken O.faults out.old desk.old.gather) (side O.tells O.taken O.faults out.new desk.new.gather)
+        (side T.tells T.taken T.faults trace.old subsystem.old.kept) (side T.tells T.taken T.faults trace.new subsystem.new.kept) result (said_text (Played number (NoiseInput live))) }
+    ensures counts { (live : LiveNoise) → live.places ≡ noise.now → Counts [] (said_text (Played number (NoiseInput live))) desk.old.tally desk.new.tally }
     ensures never_again { IsTrue (O.tells out.new) → IsTrue (O.tells out.old) }
-    ensures cause { HasCause (O.faults out.old) (O.faults out.new) result }
+    ensures never_again_trace { IsTrue (T.tells trace.new) → IsTrue (T.tells trace.old) }
+    ensures later { O.faults out.old ≤ O.faults out.new }
+    ensures later_trace { T.faults trace.old ≤ T.faults trace.new }
+    ensures failed { OnErr result (Rose (O.faults out.old) (O.faults out.new) ⊎ Rose (T.faults trace.old) (T.faults trace.new)) }
+    ensures requests { desk.new.tally.requests ≡ desk.old.tally.requests }
+    ensures same { subsystem.new ≡ record subsystem.old { kept = subsystem.new.kept } }
 {
     let _ = noise.places();
     let line = noise_line(number, class_of(noise));
-    tally.count_text(line.as_bytes());
-    write_all(out, line.as_bytes())
+    desk.say(line.as_bytes(), subsystem, out, trace)
 }
 
 /// A request as the driver takes it.
@@ -150,15 +152,15 @@ fn play_other<P: Packs, O: Sink, T: Sink>(
     trace: &mut T,
 ) -> Result<(), PlayFault>
     requires no_event { IsNoEvent line.now.statement }
-    requires ready { MayGoOn subsystem.old desk.old.gather }
+    requires ready { MayGoOn subsystem.old }
     requires may { MayPlay subsystem.old (statement_of (seen script.now.text line.now).statement) }
     requires data { HasData (seen script.now.text line.now).statement }
     requires room { length room.old ≡ 65024 }
     ensures played { IsPlayed (PlaysLine line.now.number (statement_of (seen script.now.text line.now).statement)) (StopsLine line.now.number (statement_of (seen script.now.text line.now).statement))
-        (stage P.tells P.held O.tells O.taken T.tells T.taken subsystem.old.world packs.old out.old trace.old desk.old.tally)
-        (stage P.tells P.held O.tells O.taken T.tells T.taken subsystem.new.world packs.new out.new trace.new desk.new.tally) result }
+        (stage P.tells P.held O.tells O.taken T.tells T.taken subsystem.old packs.old out.old trace.old desk.old.gather desk.old.tally)
+        (stage P.tells P.held O.tells O.taken T.tells T.taken subsystem.new packs.new out.new trace.new desk.new.gather desk.new.tally) result }
     ensures brings { OnOk result (Brings (statement_of (seen script.now.text line.now).statement) subsystem.old.world subsystem.new.world) }
-    ensures goes { OnOk result (KeepsGoing subsystem.old subsystem.new desk.new.gather) }
+    ensures goes { OnOk result (KeepsGoing subsystem.old subsystem.new) }
     ensures causes { HasCauses (P.faults packs.old) (P.faults packs.new) (O.faults out.old) (O.faults out.new) (T.faults trace.old) (T.faults trace.new) result }
 {
     let number = u64::from(line.number);
@@ -178,7 +180,7 @@ fn play_other<P: Packs, O: Sink, T: Sink>(
             span,
             places,
         } => {
-            say_noise(number, places, &mut desk.tally, out)?;
+            say_noise(number, places, subsystem, desk, out, trace)?;
             let event = Event::Noise {
                 unit: *unit,
                 block: *block,
@@ -203,15 +205,15 @@ pub(crate) fn play_line<P: Packs, O: Sink, T: Sink>(
     out: &mut O,
     trace: &mut T,
 ) -> Result<(), PlayFault>
-    requires ready { MayGoOn subsystem.old desk.old.gather }
+    requires ready { MayGoOn subsystem.old }
     requires may { MayPlay subsystem.old (statement_of (seen script.now.text line.now).statement) }
     requires data { HasData (seen script.now.text line.now).statement }
     requires room { length room.old ≡ 65024 }
     ensures played { IsPlayed (PlaysLine line.now.number (statement_of (seen script.now.text line.now).statement)) (StopsLine line.now.number (statement_of (seen script.now.text line.now).statement))
-        (stage P.tells P.held O.tells O.taken T.tells T.taken subsystem.old.world packs.old out.old trace.old desk.old.tally)
-        (stage P.tells P.held O.tells O.taken T.tells T.taken subsystem.new.world packs.new out.new trace.new desk.new.tally) result }
+        (stage P.tells P.held O.tells O.taken T.tells T.taken subsystem.old packs.old out.old trace.old desk.old.gather desk.old.tally)
+        (stage P.tells P.held O.tells O.taken T.tells T.taken subsystem.new packs.new out.new trace.new desk.new.gather desk.new.tally) result }
     ensures brings { OnOk result (Brings (statement_of (seen script.now.text line.now).statement) subsystem.old.world subsystem.new.world) }
-    ensures goes { OnOk result (KeepsGoing subsystem.old subsystem.new desk.new.gather) }
+    ensures goes { OnOk result (KeepsGoing subsystem.old subsystem.new) }
     ensures causes { HasCauses (P.faults packs.old) (P.faults packs.new) (O.faults out.old) (O.faults out.new) (T.faults trace.old) (T.faults trace.new) result }
 {
     match event_of(&line.statement) {

@@ -24,7 +24,8 @@ use Rattle.event_player.specs.declared.play.PlayFault.{PlayFault}
 use Rattle.event_player.specs.declared.play.PlayFault.TheVariants as faults
 use Rattle.event_player.specs.Playing.{counted, one_request}
 use Rattle.event_player.specs.Plays.{Tallied}
-use Rattle.event_player.specs.Stops.{Leaves}
+use Rattle.event_player.specs.Passes.{Took, StopsAtSink}
+use Rattle.event_player.specs.Stops.{Leaves, StopsPlaying}
 use Rattle.hp_exercise.specs.Bounds.{HasShortNoise}
 use Rattle.hp_exercise.specs.Exercise.{script_text}
 use Rattle.hp_exercise.specs.Statements.{script_statements}
@@ -119,13 +120,22 @@ exercised_for number script first last tells taken taken' tally same exercise go
       answered = all_counted (exercise_script number) first last tells taken taken' tally good keeps small played;
     }
 
-pub cut_short_for : (number : ℕ) (script : Script) (fault : PlayFault) (first left : ℕ → Pack) (tells : Bool) (taken taken' : List ℕ) → script ≡ exercise_script number
-    → IsExercise number → AreEmpty first → fault ≡ faults.Sink → Leaves fault script first left false [] [] tells taken taken' → IsCutShort number tells taken taken'
-cut_short_for number script fault first left tells taken taken' same exercise empty sink leaves = record {
-  exercise = exercise;
-  first = first;
-  left = left;
-  empty = empty;
-  stops = subst (λ (s : Script). Leaves faults.Sink s first left false [] [] tells taken taken') same
-      (subst (λ (f : PlayFault). Leaves f script first left false [] [] tells taken taken') sink leaves);
-}
+pub cut_short_for : (number : ℕ) (script : Script) (fault : PlayFault) (first left : ℕ → Pack) (out trace : Took) → script ≡ exercise_script number
+    → IsExercise number → AreEmpty first → fault ≡ faults.Sink → out.tells ≡ false → out.before ≡ [] → out.after ≡ [] → Leaves fault script first left out trace
+    → IsCutShort number trace.tells trace.before trace.after
+cut_short_for number script fault first left out trace same exercise empty sink untold before after leaves =
+    let stops : StopsPlaying faults.Sink (exercise_script number) first left out trace =
+    subst (λ (s : Script). Leaves faults.Sink s first left out trace) same (subst (λ (f : PlayFault). Leaves f script first left out trace) sink leaves) in
+    record {
+      exercise = exercise;
+      first = first;
+      left = left;
+      empty = empty;
+      stops = record {
+        tables = stops.tables;
+        read = stops.read;
+        stopped = subst (λ (b : Bool). StopsAtSink (exercise_script number) stops.tables first left b [] [] trace.tells trace.before trace.after) untold
+            (subst (λ (text : List ℕ). StopsAtSink (exercise_script number) stops.tables first left out.tells text [] trace.tells trace.before trace.after) before
+            (subst (λ (text : List ℕ). StopsAtSink (exercise_script number) stops.tables first left out.tells out.before text trace.tells trace.before trace.after) after stops.stopped));
+      };
+    }

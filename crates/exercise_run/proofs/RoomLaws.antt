@@ -11,6 +11,8 @@ use Rattle.trace_replay.specs.Script.{Script, drives_of}
 use Rattle.driver_outcome.specs.Outcome.{IsNextBlock}
 use Rattle.event_player.specs.declared.play.PlayFault.{PlayFault}
 use Rattle.event_player.specs.declared.play.PlayFault.TheVariants as faults
+use Rattle.event_player.specs.Passes.{writes_next}
+use Rattle.event_player.specs.Passes.{Took}
 use Rattle.event_player.specs.Stops.{Leaves}
 use Rattle.exercise_run.specs.Room.{AreEmpty, IsOutside, faults_of, room_on, with_outside}
 use Rattle.exercise_run.specs.Exercises.{exercise_script}
@@ -44,20 +46,20 @@ marks_stay held u block bytes unit = by_unit (eqb_tells unit u)
     by_unit (inr other) = ap (λ (t : Bool). (if t then written (held u) block bytes else held unit).marks) other.0
 
 -- So they are left where the packs failed,
-module _ (number : ℕ) (first left : ℕ → Pack) (said said' : List ℕ) (tells trace_tells : Bool) (taken taken' : List ℕ) (empty : AreEmpty first) where
-  pub store_within : Leaves faults.Store (exercise_script number) first left tells said said' trace_tells taken taken' → IsWithin left
+module _ (number : ℕ) (first left : ℕ → Pack) (out trace : Took) (empty : AreEmpty first) where
+  pub store_within : Leaves faults.Store (exercise_script number) first left out trace → IsWithin left
   store_within (inl unplayed) = subst IsWithin (sym unplayed.packs) (empty_within first empty)
   store_within (inr is) = record {
     beyond = λ unit.
         is.stopped.reach room_on (asks_below number)
         (λ u kind table there some. absurd (no_tables (drives_of (exercise_script number)) first is.tables u table is.read empty some)) unit
         ∙ (empty_within first empty).beyond unit;
-    marks = λ unit. by_block unit is.stopped.packs ∙ is.stopped.behind.surface.marks unit ∙ (empty_within first empty).marks unit;
+    marks = λ unit. by_block unit is.stopped.packs ∙ is.stopped.ahead.packs.surface.marks unit ∙ (empty_within first empty).marks unit;
   }
     where
-      by_block : (unit : ℕ) → (left ≡ is.stopped.held) ⊎ IsNextBlock is.stopped.world is.stopped.held left → (left unit).marks ≡ (is.stopped.held unit).marks
+      by_block : (unit : ℕ) → (left ≡ is.stopped.held) ⊎ ((writes_next is.stopped.world is.stopped.adapter ≡ true) × IsNextBlock is.stopped.world is.stopped.held left) → (left unit).marks ≡ (is.stopped.held unit).marks
       by_block unit (inl same) = ap (λ (f : ℕ → Pack). (f unit).marks) same
-      by_block unit (inr next) = ap (λ (f : ℕ → Pack). (f unit).marks) next.is ∙ marks_stay is.stopped.held next.unit _ _ unit
+      by_block unit (inr next) = ap (λ (f : ℕ → Pack). (f unit).marks) next.1.is ∙ marks_stay is.stopped.held next.1.unit _ _ unit
 
 -- and nothing that lies outside is among what they hold.
 long_window : (image bytes : List ℕ) (at : ℕ) → at + length bytes ≤ length (with_window at bytes image)
@@ -110,11 +112,11 @@ inside_only (Some (Mark unit block on)) packs left lies within is rose =
     no_mark packs left unit block (if on then 1 else 0) (packs unit).image within is
 
 -- THE PACKS DO NOT FAIL.
-pub never_fails : (number : ℕ) (fault : PlayFault) (script : Script) (first left packs : ℕ → Pack) (said said' : List ℕ) (tells trace_tells : Bool) (taken taken' : List ℕ)
+pub never_fails : (number : ℕ) (fault : PlayFault) (script : Script) (first left packs : ℕ → Pack) (out trace : Took)
     (outside : Option Outside) → fault ≡ faults.Store → script ≡ exercise_script number → AreEmpty first
-    → Leaves fault script first left tells said said' trace_tells taken taken' → IsOutside outside → left ≡ with_outside outside packs → Rose 0 (faults_of outside) → ⊥
-never_fails number fault script first left packs said said' tells trace_tells taken taken' outside store same empty leaves lies is rose =
+    → Leaves fault script first left out trace → IsOutside outside → left ≡ with_outside outside packs → Rose 0 (faults_of outside) → ⊥
+never_fails number fault script first left packs out trace outside store same empty leaves lies is rose =
     inside_only outside packs left lies
-    (store_within number first left said said' tells trace_tells taken taken' empty
-    (subst (λ (s : Script). Leaves faults.Store s first left tells said said' trace_tells taken taken') same
-    (subst (λ (f : PlayFault). Leaves f script first left tells said said' trace_tells taken taken') store leaves))) is rose
+    (store_within number first left out trace empty
+    (subst (λ (s : Script). Leaves faults.Store s first left out trace) same
+    (subst (λ (f : PlayFault). Leaves f script first left out trace) store leaves))) is rose

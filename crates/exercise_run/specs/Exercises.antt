@@ -13,6 +13,7 @@ use Rattle.block_machine.specs.LegalAnswers.{AreNoAliases}
 use Rattle.answer_tally.specs.declared.tally.Tally.{Tally}
 use Rattle.event_player.specs.declared.play.PlayFault.TheVariants as faults
 use Rattle.event_player.specs.Plays.{Tallied}
+use Rattle.event_player.specs.Passes.{Took}
 use Rattle.event_player.specs.Stops.{StopsPlaying}
 use Rattle.hp_exercise.specs.Exercise.{script_text}
 use Rattle.hp_exercise.specs.Statements.{script_statements}
@@ -51,6 +52,10 @@ pub record IsDone (number : ℕ) (out_tells : Bool) (said said' : List ℕ) (tra
   pub exercised : Exercised number trace_tells taken taken' tally
   pub told : IsTrue out_tells → said' ≡ said ++ exercise_text number tally
 
+-- nobody reads the answers
+abbrev pub unheard : Took
+unheard = record { tells = false; before = []; after = []; faults = 0; faults_after = 0 }
+
 -- A SINK FAILED, whose count of faults rose: the trace, and the script was played so far; or the other sink, and it took a front of the
 -- four lines.
 pub record IsCutShort (number : ℕ) (trace_tells : Bool) (taken taken' : List ℕ) : Type 0 where
@@ -58,7 +63,7 @@ pub record IsCutShort (number : ℕ) (trace_tells : Bool) (taken taken' : List �
   pub first : ℕ → Pack
   pub left : ℕ → Pack
   pub empty : AreEmpty first
-  pub stops : StopsPlaying faults.Sink (exercise_script number) first left false [] [] trace_tells taken taken'
+  pub stops : StopsPlaying faults.Sink (exercise_script number) first left unheard (record { tells = trace_tells; before = taken; after = taken'; faults = 0; faults_after = 0 })
 
 pub record IsUntold (number : ℕ) (out_tells : Bool) (said said' : List ℕ) (trace_tells : Bool) (taken taken' : List ℕ) : Type 0 where
   pub tally : Tally

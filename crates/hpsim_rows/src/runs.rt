@@ -44,7 +44,7 @@ pub(crate) const NONE: Faults = Faults {
         number: 0,
     },
     out_room: 400_000,
-    trace_room: 90_000,
+    trace_room: 600_000,
 };
 
 /// What a run came to.

@@ -17,6 +17,7 @@ use Rattle.hpsim_run.specs.Loading.{RefusesAll}
 use Rattle.command_parts.specs.Lines.{Told}
 use Rattle.script_words.specs.Refusals.{refusal_text}
 use Rattle.event_player.specs.Plays.{NamesTooLong}
+use Rattle.event_player.specs.Passes.{Took}
 use Rattle.event_player.specs.Stops.{Leaves}
 
 -- a text that was written whole, or whose sink failed
@@ -62,10 +63,8 @@ refusal_is text line other kind another e f is =
     subst (λ (k : ScriptKind). text ≡ refusal_text line k) (sym f) (subst (λ (n : ℕ). text ≡ refusal_text n another) (sym e) is)
 
 -- what a fault leaves
-pub left_by : (fault other : PlayFault) (script : Script) (first left : ℕ → Pack) (out_tells : Bool) (said said' : List ℕ) (trace_tells : Bool) (taken taken' : List ℕ) → fault ≡ other
-    → Leaves fault script first left out_tells said said' trace_tells taken taken' → Leaves other script first left out_tells said said' trace_tells taken taken'
-left_by fault other script first left out_tells said said' trace_tells taken taken' e is =
-    subst (λ (f : PlayFault). Leaves f script first left out_tells said said' trace_tells taken taken') e is
+pub left_by : (fault other : PlayFault) (script : Script) (first left : ℕ → Pack) (out trace : Took) → fault ≡ other → Leaves fault script first left out trace → Leaves other script first left out trace
+left_by fault other script first left out trace e is = subst (λ (f : PlayFault). Leaves f script first left out trace) e is
 
 -- a fault by its name
 pub err_is : {T E : Type 0} {fault other : E} → fault ≡ other → ◌≡◌ {A = Result T E} (Err fault) (Err other)

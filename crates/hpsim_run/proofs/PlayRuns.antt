@@ -11,6 +11,7 @@ use Rattle.event_player.specs.declared.play.PlayFault.{PlayFault}
 use Rattle.event_player.specs.declared.play.PlayFault.TheVariants as faults
 use Rattle.event_player.specs.Plays.{IsTooLong}
 use Rattle.command_parts.specs.Outside.{Outside}
+use Rattle.hpsim_run.specs.Sinks.{out_took, trace_took}
 use Rattle.hpsim_run.specs.Headline.{Headline, HasStopped, TellsRefusal, TellsTooLong, longest}
 use Rattle.hpsim_run.specs.Plays.{RunsPlay}
 use Rattle.hpsim_run.proofs.TheRunLaws.{done_is_that_run}
@@ -47,7 +48,7 @@ module _ (old new : Outside) (read : IsRead old new) where
   }
 
   abbrev Stop : PlayFault → Type 0
-  Stop fault = HasStopped fault new.source_tells old.left new.left new.packs_tell old.held new.held new.out_tells old.said new.said new.trace_tells old.taken new.taken
+  Stop fault = HasStopped fault new.source_tells old.left new.left new.packs_tell old.held new.held (out_took old new) (trace_took old new)
 
   pub runs_sink : (s : Stop faults.Sink) → (IsTrue new.packs_tell → (unit n : ℕ) → ¬ (IsTooLong (meaning s.lines s.count) old.held unit n))
       → Rose old.out_faults new.out_faults ⊎ Rose old.trace_faults new.trace_faults → RunsPlay 5 old new

@@ -1,5 +1,5 @@
 -- The laws of legal beginnings, of the moments that a script came to before it stopped.
-use Rattle.std.proofs.Common.{◌≡◌, ◌⊎◌, inl, inr, ℕ, ◌+◌, ◌==◌, ◌||◌, Bool, true, false, All, List, [], ◌∷◌, ◌++◌, Option, Some, None, refl, sym, ap, subst, ◌∙◌, append-nil}
+use Rattle.std.proofs.Common.{◌≡◌, ◌⊎◌, inl, inr, ℕ, ◌+◌, ◌==◌, ◌||◌, Bool, true, false, All, List, [], ◌∷◌, ◌++◌, Option, Some, None, refl, sym, ap, subst, arith, ◌∙◌, append-nil, append_assoc}
 use Rattle.std.specs.List.{list_any}
 use Rattle.std.proofs.lemmas.List.Elements.{All-head, All-tail}
 use Rattle.pack_geometry.specs.declared.DriveKind.{DriveKind}
@@ -23,15 +23,15 @@ use Rattle.event_player.specs.declared.play.PlayFault.{PlayFault}
 use Rattle.event_player.specs.declared.play.PlayFault.TheVariants as faults
 use Rattle.driver_outcome.specs.Outcome.{IsNextBlock}
 use Rattle.event_player.specs.Passes.{HasNext, NextBlocksShow}
-use Rattle.event_player.specs.Stops.{AreBehind, CameTo, SaysOneSector, StopsPlaying}
-use Rattle.run_promises.specs.Beginnings.{IsBegun, AreNoSectors, BeginningsKeep, FrontsKeep, NextBlocksKeep, PromisesSoFar}
-use Rattle.hpsim_run.specs.SoFar.{KeepsSoFar, HoldSoFar, HoldTaken, Keeps}
-use Rattle.hpsim_run.proofs.Standing.{Found, found, stand_silent}
-
--- moments without a sector
-none_front : (ms more : List Moment) → AreNoSectors (ms ++ more) → AreNoSectors ms
-none_front [] more none = tt
-none_front (m ∷ ms) more none = (none.0, none_front ms more none.1)
+use Rattle.event_player.specs.Passes.{ShowsAll}
+use Rattle.event_player.specs.Passes.{writes_next}
+use Rattle.event_player.specs.Passes.{AreBehind, WritesAhead}
+use Rattle.event_player.specs.Passes.{CameTo, Took}
+use Rattle.event_player.proofs.Passes.{rules_hold, behind_more}
+use Rattle.event_player.specs.Stops.{StopsPlaying}
+use Rattle.run_promises.specs.Beginnings.{IsBegun, BeginningsKeep, NextBlocksKeep, PromisesSoFar}
+use Rattle.hpsim_run.specs.SoFar.{KeepsSoFar, HoldSoFar, Holds, Keeps}
+use Rattle.hpsim_run.proofs.Standing.{FoundBehind, found_behind}
 
 -- THE INPUTS of a script are good, and so are the first of them.
 abbrev AllGood : (ℕ → Option DriveKind) → List Numbered → Type 0
@@ -144,72 +144,95 @@ module _ (script : Script) (good : IsScript script) (tables : ℕ → Option Tab
   }
 
 -- WITH THE PACKS behind them
-module _ (keep : BeginningsKeep) (fronts : FrontsKeep) (script : Script) (good : IsScript script) (tables : ℕ → Option Table) (first left : ℕ → Pack)
-    (read : AreTablesOf (drives_of script) first tables) (done under : List Moment) (later : List Numbered) (came : CameTo script tables first done under later) where
-  begun : IsBegun script tables first (done ++ under)
-  begun = record { good = good; later = later; inputs = came.inputs; tables_read = read; follows = came.follows }
+module _ (keep : BeginningsKeep) (script : Script) (good : IsScript script) (tables : ℕ → Option Table) (first left : ℕ → Pack)
+    (read : AreTablesOf (drives_of script) first tables) (done under : List Moment) (later : List Numbered) (came : CameTo script tables first done under later)
+    (sent late : List Moment) (same : sent ++ late ≡ done ++ under) where
+  begun : IsBegun script tables first (sent ++ late)
+  begun = subst (IsBegun script tables first) (sym same) (record { good = good; later = later; inputs = came.inputs; tables_read = read; follows = came.follows })
 
-  hold_done : AreBehind script tables first left done → PromisesSoFar script tables first left done
-  hold_done behind =
-      subst (PromisesSoFar script tables first left) (append-nil done)
-      (fronts script tables first left done [] under begun tt behind.surface)
+  hold_so_far : WritesAhead script tables first left sent late → HoldSoFar script tables first left sent late
+  hold_so_far ahead = record {
+    move = ahead.move;
+    quiet = ahead.quiet;
+    cut = ahead.cut;
+    one = ahead.one;
+    each = rules_hold keep script tables first left sent late begun ahead;
+  }
 
-  hold_each : AreNoSectors under → AreBehind script tables first left done → (front rest : List Moment) → under ≡ front ++ rest → PromisesSoFar script tables first left (done ++ front)
-  hold_each none behind front rest cut =
-      fronts script tables first left done front rest (subst (λ (ms : List Moment). IsBegun script tables first (done ++ ms)) cut begun)
-      (none_front front rest (subst AreNoSectors cut none)) behind.surface
+holds : (script : Script) (tables : ℕ → Option Table) (first left : ℕ → Pack) (out : Took) (sent late : List Moment) → HoldSoFar script tables first left sent late → Holds script tables first left out sent late
+holds script tables first left out sent late hold =
+    let f : FoundBehind out.before out.after sent hold.move hold.quiet = found_behind out.before out.after sent hold.move hold.quiet hold.one.silent in
+    record {
+      so_far = hold;
+      taken = record {
+        front = hold.move ++ f.front;
+        rest = f.rest;
+        cut = hold.cut ∙ ap (λ (ms : List Moment). hold.move ++ ms) f.cut ∙ sym (append_assoc hold.move f.front f.rest);
+        stand = f.stand;
+        hold = hold.each f.front f.rest f.cut;
+      };
+    }
 
-  hold_so_far : (AreNoSectors under × AreBehind script tables first left done) ⊎ (SaysOneSector under × AreBehind script tables first left (done ++ under))
-      → HoldSoFar script tables first left done under
-  hold_so_far (inl still) = inl (hold_each still.0 still.1)
-  hold_so_far (inr moved) = inr (moved.0, keep script tables first left (done ++ under) begun moved.1.surface)
+-- the packs behind all of them
+all_behind : (script : Script) (tables : ℕ → Option Table) (first left : ℕ → Pack) (sent late : List Moment) → WritesAhead script tables first left sent late → AreBehind script tables first left (sent ++ late)
+all_behind script tables first left sent late ahead =
+    subst (AreBehind script tables first left) (append_assoc sent ahead.move ahead.quiet ∙ ap (λ (ms : List Moment). sent ++ ms) (sym ahead.cut))
+    (behind_more script tables first left (sent ++ ahead.move) ahead.quiet ahead.packs ahead.nothing)
 
-hold_taken : (script : Script) (tables : ℕ → Option Table) (first left : ℕ → Pack) (said said' : List ℕ) (done under : List Moment) → HoldSoFar script tables first left done under
-    → HoldTaken script tables first left said said' done under
-hold_taken script tables first left said said' done under (inl each) =
-    let f : Found said said' done under = found said said' done under in
-    record { front = f.front; rest = f.rest; cut = f.cut; stand = f.stand; hold = each f.front f.rest f.cut }
-hold_taken script tables first left said said' done under (inr moved) = record {
-  front = under;
-  rest = [];
-  cut = sym (append-nil under);
-  stand = stand_silent said said' done under moved.0.silent;
-  hold = moved.1;
+-- where nothing is late
+hold_none : (script : Script) (tables : ℕ → Option Table) (first left : ℕ → Pack) (sent late : List Moment) → late ≡ [] → PromisesSoFar script tables first left (sent ++ late)
+    → HoldSoFar script tables first left sent late
+hold_none script tables first left sent late none promises = record {
+  move = [];
+  quiet = [];
+  cut = none;
+  one = record { few = omega arith; silent = refl };
+  each = each;
 }
+  where
+    each : (front rest : List Moment) → [] ≡ front ++ rest → PromisesSoFar script tables first left (sent ++ ([] ++ front))
+    each [] rest cut = subst (λ (ms : List Moment). PromisesSoFar script tables first left (sent ++ ms)) none promises
+    each (m ∷ front) rest cut = absurd (cc cut)
 
 -- THE PACKS FAILED: with the block that may be new, and without it
-left_keeps : BeginningsKeep → FrontsKeep → NextBlocksKeep → NextBlocksShow → (script : Script) (good : IsScript script) (first left : ℕ → Pack) (out_tells : Bool) (said said' : List ℕ) (trace_tells : Bool) (taken taken' : List ℕ)
-    → (is : StopsPlaying faults.Store script first left out_tells said said' trace_tells taken taken') → PromisesSoFar script is.tables first left is.stopped.done
-left_keeps keep fronts next shows script good first left out_tells said said' trace_tells taken taken' is = by is.stopped.packs
-  where
-    without : PromisesSoFar script is.tables first is.stopped.held is.stopped.done
-    without = hold_done keep fronts script good is.tables first is.stopped.held is.read is.stopped.done [] is.stopped.later is.stopped.came is.stopped.behind
+module _ (keep : BeginningsKeep) (next : NextBlocksKeep) (shows : NextBlocksShow) (script : Script) (good : IsScript script) (first left : ℕ → Pack) (out trace : Took)
+    (is : StopsPlaying faults.Store script first left out trace) where
+  same_moments : is.stopped.sent ++ is.stopped.late ≡ is.stopped.done ++ []
+  same_moments = is.stopped.same ∙ sym (append-nil is.stopped.done)
 
-    begun_so : IsBegun script is.tables first is.stopped.done
-    begun_so = subst (IsBegun script is.tables first) (append-nil is.stopped.done)
-        (begun keep fronts script good is.tables first left is.read is.stopped.done [] is.stopped.later is.stopped.came)
+  without : HoldSoFar script is.tables first is.stopped.held is.stopped.sent is.stopped.late
+  without = hold_so_far keep script good is.tables first is.stopped.held is.read is.stopped.done [] is.stopped.later is.stopped.came is.stopped.sent is.stopped.late same_moments is.stopped.ahead
 
-    by : (left ≡ is.stopped.held) ⊎ IsNextBlock is.stopped.world is.stopped.held left → PromisesSoFar script is.tables first left is.stopped.done
-    by (inl same) = subst (λ (packs : ℕ → Pack). PromisesSoFar script is.tables first packs is.stopped.done) (sym same) without
-    by (inr block) =
-        let has : HasNext (drives_of script) first left (after_moments (start_of script is.tables first) is.stopped.done) =
-        shows (drives_of script) first is.stopped.held left (after_moments (start_of script is.tables first) is.stopped.done) is.stopped.world is.stopped.sound is.stopped.shows
-        is.stopped.declared is.stopped.behind.surface block in
-        next script is.tables first left is.stopped.done has.unit has.block has.kind begun_so has.declared has.next has.packs
+  begun_so : IsBegun script is.tables first (is.stopped.sent ++ is.stopped.late)
+  begun_so = begun keep script good is.tables first left is.read is.stopped.done [] is.stopped.later is.stopped.came is.stopped.sent is.stopped.late same_moments
 
-pub keeps : BeginningsKeep → FrontsKeep → NextBlocksKeep → NextBlocksShow → (fault : PlayFault) (script : Script) (first left : ℕ → Pack) (out_tells : Bool) (said said' : List ℕ) (trace_tells : Bool) (taken taken' : List ℕ)
-    → IsScript script → Keeps fault script first left out_tells said said' trace_tells taken taken'
-keeps keep fronts next shows faults.Memory script first left out_tells said said' trace_tells taken taken' good = tt
-keeps keep fronts next shows (faults.TooLong u n) script first left out_tells said said' trace_tells taken taken' good = tt
-keeps keep fronts next shows faults.Store script first left out_tells said said' trace_tells taken taken' good = λ is. (
+  shown : ShowsAll is.stopped.world (after_moments (start_of script is.tables first) (is.stopped.sent ++ is.stopped.late))
+  shown = subst (λ (ms : List Moment). ShowsAll is.stopped.world (after_moments (start_of script is.tables first) ms)) (sym is.stopped.same) is.stopped.shows
+
+  left_holds : HoldSoFar script is.tables first left is.stopped.sent is.stopped.late
+  left_holds = by is.stopped.packs
+    where
+      by : (left ≡ is.stopped.held) ⊎ ((writes_next is.stopped.world is.stopped.adapter ≡ true) × IsNextBlock is.stopped.world is.stopped.held left)
+          → HoldSoFar script is.tables first left is.stopped.sent is.stopped.late
+      by (inl same) = subst (λ (packs : ℕ → Pack). HoldSoFar script is.tables first packs is.stopped.sent is.stopped.late) (sym same) without
+      by (inr block) =
+          let has : HasNext (drives_of script) first left (after_moments (start_of script is.tables first) (is.stopped.sent ++ is.stopped.late)) =
+          shows (drives_of script) first is.stopped.held left (after_moments (start_of script is.tables first) (is.stopped.sent ++ is.stopped.late)) is.stopped.world is.stopped.sound shown
+          is.stopped.declared (all_behind script is.tables first is.stopped.held is.stopped.sent is.stopped.late is.stopped.ahead).surface block.1 in
+          hold_none script is.tables first left is.stopped.sent is.stopped.late (is.stopped.none_late block.0)
+          (next script is.tables first left (is.stopped.sent ++ is.stopped.late) has.unit has.block has.kind begun_so has.declared has.next has.packs)
+
+pub keeps : BeginningsKeep → NextBlocksKeep → NextBlocksShow → (fault : PlayFault) (script : Script) (first left : ℕ → Pack) (out trace : Took)
+    → IsScript script → Keeps fault script first left out trace
+keeps keep next shows faults.Memory script first left out trace good = tt
+keeps keep next shows (faults.TooLong u n) script first left out trace good = tt
+keeps keep next shows faults.Store script first left out trace good = λ is. (
   keeps_so_far script good is.tables first is.read is.stopped.done [] is.stopped.later is.stopped.came,
-  hold_done keep fronts script good is.tables first is.stopped.held is.read is.stopped.done [] is.stopped.later is.stopped.came is.stopped.behind,
-  left_keeps keep fronts next shows script good first left out_tells said said' trace_tells taken taken' is,
+  holds script is.tables first is.stopped.held out is.stopped.sent is.stopped.late (without keep next shows script good first left out trace is),
+  holds script is.tables first left out is.stopped.sent is.stopped.late (left_holds keep next shows script good first left out trace is),
 )
-keeps keep fronts next shows faults.Sink script first left out_tells said said' trace_tells taken taken' good = λ is.
-    let hold : HoldSoFar script is.tables first left is.stopped.done is.stopped.under =
-    hold_so_far keep fronts script good is.tables first left is.read is.stopped.done is.stopped.under is.stopped.later is.stopped.came is.stopped.packs in (
-      keeps_so_far script good is.tables first is.read is.stopped.done is.stopped.under is.stopped.later is.stopped.came,
-      hold,
-      hold_taken script is.tables first left said said' is.stopped.done is.stopped.under hold,
-    )
+keeps keep next shows faults.Sink script first left out trace good = λ is. (
+  keeps_so_far script good is.tables first is.read is.stopped.done is.stopped.under is.stopped.later is.stopped.came,
+  holds script is.tables first left out is.stopped.sent is.stopped.late
+      (hold_so_far keep script good is.tables first left is.read is.stopped.done is.stopped.under is.stopped.later is.stopped.came is.stopped.sent is.stopped.late is.stopped.same is.stopped.ahead),
+)

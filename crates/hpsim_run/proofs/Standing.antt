@@ -132,16 +132,11 @@ module _ (said said' : List ℕ) where
     later before = append_assoc done (m ∷ []) before
 
     -- with one more moment before them
-    found_more : ((line unit id : ℕ) (answer : Answer) → m ≡ Told line unit id (End answer) → Stands said said' done line id answer) → Found said said' done (m ∷ ms)
-    found_more stands = record {
-      front = m ∷ f.front;
-      rest = f.rest;
-      cut = ap (λ (ns : List Moment). m ∷ ns) f.cut;
-      stand = record {
-        each = λ line unit id answer before after is. each line unit id answer before after is;
-        no_more = λ line unit id answer before after is stands. f.stand.no_more line unit id answer before after is
-            (subst (λ (ns : List Moment). Stands said said' ns line id answer) (sym (later (f.front ++ before))) stands);
-      };
+    more_stand : ((line unit id : ℕ) (answer : Answer) → m ≡ Told line unit id (End answer) → Stands said said' done line id answer) → StandIn said said' done (m ∷ f.front) f.rest
+    more_stand stands = record {
+      each = λ line unit id answer before after is. each line unit id answer before after is;
+      no_more = λ line unit id answer before after is stands. f.stand.no_more line unit id answer before after is
+          (subst (λ (ns : List Moment). Stands said said' ns line id answer) (sym (later (f.front ++ before))) stands);
     }
       where
         each : (line unit id : ℕ) (answer : Answer) (before after : List Moment) → m ∷ f.front ≡ before ++ Told line unit id (End answer) ∷ after
@@ -151,6 +146,9 @@ module _ (said said' : List ℕ) where
         each line unit id answer (n ∷ before) after is =
             subst (λ (z : Moment). Stands said said' (done ++ z ∷ before) line id answer) (ap (head_or m) is)
             (subst (λ (ns : List Moment). Stands said said' ns line id answer) (later before) (f.stand.each line unit id answer before after (ap tail_or is)))
+
+    found_more : ((line unit id : ℕ) (answer : Answer) → m ≡ Told line unit id (End answer) → Stands said said' done line id answer) → Found said said' done (m ∷ ms)
+    found_more stands = record { front = m ∷ f.front; rest = f.rest; cut = ap (λ (ns : List Moment). m ∷ ns) f.cut; stand = more_stand stands }
 
     -- or none of them
     found_stop : (end : IsEnd m) → (Stands said said' done end.line end.id end.answer → ⊥) → Found said said' done (m ∷ ms)
@@ -194,9 +192,28 @@ module _ (said said' : List ℕ) where
   found done [] = found_none done
   found done (m ∷ ms) = found_by done m ms (found (done ++ m ∷ []) ms) (end_or_none m)
 
-  -- where none is an answer, none stands
-  pub stand_silent : (done under : List Moment) → answers_in under ≡ [] → StandIn said said' done under []
-  stand_silent done under silent = record {
-    each = λ line unit id answer before after is. absurd (some_answer before after line unit id answer (ap answers_in (sym is) ∙ silent));
-    no_more = λ line unit id answer before after is stands. absurd (nowhere before after line unit id answer is);
-  }
+  -- and behind moments of which none is an answer
+  pub record FoundBehind (done move under : List Moment) : Type 0 where
+    pub front : List Moment
+    pub rest : List Moment
+    pub cut : under ≡ front ++ rest
+    pub stand : StandIn said said' done (move ++ front) rest
+
+  pub found_behind : (done move under : List Moment) → answers_in move ≡ [] → FoundBehind done move under
+  found_behind done [] under silent =
+      let f : Found said said' done under = found done under in
+      record { front = f.front; rest = f.rest; cut = f.cut; stand = f.stand }
+  found_behind done (m ∷ ms) under silent =
+      let f : FoundBehind (done ++ m ∷ []) ms under = found_behind (done ++ m ∷ []) ms under (silent_rest (end_or_none m)) in
+      record {
+        front = f.front;
+        rest = f.rest;
+        cut = f.cut;
+        stand = more_stand done m (ms ++ under)
+            (record { front = ms ++ f.front; rest = f.rest; cut = ap (λ (ns : List Moment). ms ++ ns) f.cut ∙ sym (append_assoc ms f.front f.rest); stand = f.stand })
+            (λ line unit id answer is. some_answer [] ms line unit id answer (ap (λ (z : Moment). answers_in (z ∷ ms)) (sym is) ∙ silent));
+      }
+    where
+      silent_rest : IsEnd m ⊎ IsNoEnd m → answers_in ms ≡ []
+      silent_rest (inr none) = sym (skipped m ms none) ∙ silent
+      silent_rest (inl end) = absurd (some_answer [] ms end.line end.unit end.id end.answer (ap (λ (z : Moment). answers_in (z ∷ ms)) (sym end.is) ∙ silent))

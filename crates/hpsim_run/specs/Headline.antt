@@ -9,6 +9,7 @@ use Rattle.script_meaning.specs.Meaning.{meaning}
 use Rattle.run_promises.specs.Promises.{Promises}
 use Rattle.event_player.specs.declared.play.PlayFault.{PlayFault}
 use Rattle.event_player.specs.Plays.{Plays, IsTooLong, NamesTooLong}
+use Rattle.event_player.specs.Passes.{Took}
 use Rattle.event_player.specs.Stops.{Leaves}
 use Rattle.hpsim_run.specs.SoFar.{Keeps}
 use Rattle.command_parts.specs.Lines.{Told as TextTold, too_long_text}
@@ -28,14 +29,13 @@ pub record Headline (source_tells : Bool) (left left_after : List ℕ) (tells : 
 
 -- WHERE IT STOPPED as a sink or the packs failed. Where the source tells, it was read to its end, and its bytes spell these lines; where the
 -- packs tell, the lines were played so far, this is what is left, and of the moments so far all is promised that can be.
-pub record HasStopped (fault : PlayFault) (source_tells : Bool) (left left_after : List ℕ) (tells : Bool) (old new : ℕ → Pack) (out_tells : Bool) (said said' : List ℕ)
-    (trace_tells : Bool) (taken taken' : List ℕ) : Type 0 where
+pub record HasStopped (fault : PlayFault) (source_tells : Bool) (left left_after : List ℕ) (tells : Bool) (old new : ℕ → Pack) (out trace : Took) : Type 0 where
   pub lines : List Numbered
   pub count : ℕ
   pub read : IsTrue source_tells → left_after ≡ []
   pub spelled : IsTrue source_tells → Spells all_verbs left lines count
-  pub leaves : IsTrue tells → Leaves fault (meaning lines count) old new out_tells said said' trace_tells taken taken'
-  pub keeps : IsTrue tells → Keeps fault (meaning lines count) old new out_tells said said' trace_tells taken taken'
+  pub leaves : IsTrue tells → Leaves fault (meaning lines count) old new out trace
+  pub keeps : IsTrue tells → Keeps fault (meaning lines count) old new out trace
 
 -- the longest script, in bytes: 16 MiB
 abbrev pub longest : ℕ

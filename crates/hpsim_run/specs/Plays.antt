@@ -8,6 +8,7 @@ use Rattle.script_meaning.specs.Meaning.{meaning}
 use Rattle.event_player.specs.declared.play.PlayFault.TheVariants as faults
 use Rattle.event_player.specs.Plays.{IsTooLong}
 use Rattle.command_parts.specs.Outside.{Outside}
+use Rattle.hpsim_run.specs.Sinks.{out_took, trace_took}
 use Rattle.hpsim_run.specs.Headline.{Headline, HasStopped, SpellNone, TellsRefusal, TellsTooLong, longest}
 use Rattle.command_parts.specs.Statuses.{status_code}
 use Rattle.hpsim_run.specs.Statuses.{IsPlayCode}
@@ -22,9 +23,9 @@ pub record RunsPlay (code : ℕ) (old new : Outside) : Type 0 where
       → IsThatRun lines count old.held new.held new.out_tells old.said new.said new.trace_tells old.taken new.taken
   -- what stands after a stop
   pub stopped : code ≡ status_code SinkFailed
-      → HasStopped faults.Sink new.source_tells old.left new.left new.packs_tell old.held new.held new.out_tells old.said new.said new.trace_tells old.taken new.taken
+      → HasStopped faults.Sink new.source_tells old.left new.left new.packs_tell old.held new.held (out_took old new) (trace_took old new)
   pub stopped_packs : code ≡ status_code PacksFailed
-      → HasStopped faults.Store new.source_tells old.left new.left new.packs_tell old.held new.held new.out_tells old.said new.said new.trace_tells old.taken new.taken
+      → HasStopped faults.Store new.source_tells old.left new.left new.packs_tell old.held new.held (out_took old new) (trace_took old new)
   -- a refusal and an image that is too long, each exactly where one can see it
   pub refused : code ≡ status_code Refused → TellsRefusal new.source_tells old.left new.out_tells old.said new.said old.out_faults new.out_faults
   pub only_refused : IsTrue new.source_tells → SpellNone old.left → (code ≡ status_code Refused) ⊎ (code ≡ status_code SourceFailed) ⊎ (code ≡ status_code OutOfMemory)

@@ -15,7 +15,7 @@ use Rattle.trace_replay.specs.Script as says
 use Rattle.trace_replay.specs.Script.{Input, Numbered, drives_of, inputs_of}
 use Rattle.trace_bounds.specs.Drains.{event_by}
 use Rattle.driver_reach.specs.Reach.{AsksBelow, AskBelow, TablesBelow}
-use Rattle.event_player.specs.Stops.{AreOfOneEvent}
+use Rattle.run_stops.specs.Stops.{AreOfOneEvent}
 use Rattle.event_player.proofs.OneEvent.{over_at_last}
 use Rattle.promise_rows.specs.Naming.{LaterUnitNamed, FittingLengthNamed, FirstEventUntold, OtherRunByOtherTables, NoneWrites, WritesTo, ReadsLengthen, TwoLinesUnderWay, TwoEventsUnderWay, MarkGoneBehindAFailure, NotAsLongAsWritten}
 
@@ -137,4 +137,4 @@ two_events_under_way script tables first left out_tells said said' trace_tells t
     (subst (AreOfOneEvent (after_moments (start_of script tables first) stops.done)) is stops.came.event) over
 
 pub mark_gone_behind_a_failure : MarkGoneBehindAFailure
-mark_gone_behind_a_failure script first left out_tells said said' trace_tells taken taken' stops keeps unit other = other ((keeps stops).2.marks unit)
+mark_gone_behind_a_failure script first left out trace stops keeps unit other = other ((keeps stops).2.taken.hold.marks unit)

@@ -101,7 +101,7 @@ block_of_no_unit left left_after old new out_tells said said' trace_tells taken 
 
 pub block_behind_a_stop : BlockBehindAStop
 block_behind_a_stop script tables first left out_tells said said' trace_tells taken taken' stops unit none other =
-    elim stops.packs [ inl still ↦ other (still.1.surface.others unit none) | inr moved ↦ other (moved.1.surface.others unit none) ]
+    other (stops.ahead.packs.surface.others unit none)
 
 -- A LINE OF NOISE is text.
 noise_said : (line : ℕ) (noise : LiveNoise) (before after : List Moment) → out_text (before ++ Played line (Noise noise) ∷ after) ≡ [] → ⊥

@@ -13,7 +13,8 @@ use Rattle.run_promises.specs.Promises.{Promises}
 use Rattle.driver_reach.specs.Lengths.{length_behind}
 use Rattle.event_player.specs.declared.play.PlayFault.TheVariants as faults
 use Rattle.event_player.specs.Plays.{NamesTooLong, Plays}
-use Rattle.event_player.specs.Stops.{IsEventOver, StopsAtSink, StopsPlaying}
+use Rattle.run_stops.specs.Stops.{IsEventOver, Took, StopsAtSink}
+use Rattle.event_player.specs.Stops.{StopsPlaying}
 use Rattle.hpsim_run.specs.SoFar.{Keeps}
 
 -- A LATER UNIT NAMED: the image of a unit that a line before declares is too long, and another unit is named.
@@ -69,6 +70,5 @@ TwoEventsUnderWay = (script : Script) (tables : ℕ → Option Table) (first lef
 
 -- A MARK GONE BEHIND A FAILURE: the packs failed, and in what is left a mark is another one.
 abbrev pub MarkGoneBehindAFailure : Type 0
-MarkGoneBehindAFailure = (script : Script) (first left : ℕ → Pack) (out_tells : Bool) (said said' : List ℕ) (trace_tells : Bool) (taken taken' : List ℕ)
-    → StopsPlaying faults.Store script first left out_tells said said' trace_tells taken taken' → Keeps faults.Store script first left out_tells said said' trace_tells taken taken'
+MarkGoneBehindAFailure = (script : Script) (first left : ℕ → Pack) (out trace : Took) → StopsPlaying faults.Store script first left out trace → Keeps faults.Store script first left out trace
     → (unit : ℕ) → ¬ ((left unit).marks ≢ (first unit).marks)

@@ -14,7 +14,7 @@ use Rattle.trace_replay.specs.Script.{Script, Noise, drives_of, ids_of}
 use Rattle.answer_lines.specs.AnswerText.{answer_text}
 use Rattle.answer_tally.specs.declared.tally.Tally.{Tally}
 use Rattle.event_player.specs.Plays.{Tallied}
-use Rattle.event_player.specs.Stops.{StopsAtSink}
+use Rattle.run_stops.specs.Stops.{StopsAtSink}
 use Rattle.hpsim_run.specs.Headline.{Headline}
 
 -- ALWAYS A FAULT: a fault is answered, and no count rose.

@@ -1,34 +1,38 @@
-use Rattle.event_player.proofs.Submitting.{submits_plays}
-use Rattle.event_player.proofs.calls.ask.Goals as goal
+use Rattle.std.proofs.Common.{◌≡◌, refl, ap, subst, sym}
+use Rattle.driver_machine.specs.World.{World}
+use Rattle.run_stops.specs.Passes.{State, asked}
 use Rattle.event_player.specs.declared.play.PlayFault.TheVariants as faults
-use Rattle.event_player.proofs.Calling.{submission_halted, submission_unsent, submission_unsaid}
+use Rattle.event_player.specs.Saying.{Side, side}
+use Rattle.event_player.specs.Steps.{PlaysSubmission}
+use Rattle.event_player.proofs.Saying.{by_sides, is_said}
+use Rattle.event_player.proofs.Calling.{submits_plays, submission_halted, submission_unsaid}
 use Rattle.event_player.proofs.Halting.{err_is}
+use Rattle.event_player.proofs.calls.ask.Goals as goal
 
 pub returns-clause-plays : goal.returns-clause-plays
-returns-clause-plays g c =
-    submits_plays g.T.Sink.tells g.T.Sink.taken c.args.trace.now c.submit.new.trace c.send.new.trace c.args.number _ c.args.subsystem.now c.submit.new.self c.send.new.self c.write_answers.new.subsystem
-    (g.O.Sink.tells c.args.out.now) (g.O.Sink.tells c.write_answers.new.out) (g.O.Sink.taken c.args.out.now) (g.O.Sink.taken c.write_answers.new.out)
-    c.law.ensures.sound (c.law.ensures.work c.requires.ready.going) c.in_ok-submit.ensures.does c.requires.ready.sent
-    (record { again = c.send.ensures.puts.never_again; took = c.in_ok-send.ensures.puts.bytes; same = c.send.ensures.same })
-    c.in_ok-write_answers.ensures.taken c.in_ok-write_answers.ensures.puts.bytes c.args.desk.now.tally c.write_answers.new.desk.tally c.in_ok-write_answers.ensures.counts
+returns-clause-plays g c = λ tells held.
+    let said = c.in_ok-say_answers.ensures in
+    let out : Side = side g.O.Sink.tells g.O.Sink.taken g.O.Sink.faults c.args.out.now c.args.desk.now.gather in
+    let out' : Side = side g.O.Sink.tells g.O.Sink.taken g.O.Sink.faults c.say_answers.new.out c.say_answers.new.desk.gather in
+    let lines : Side = side g.T.Sink.tells g.T.Sink.taken g.T.Sink.faults c.args.trace.now c.args.subsystem.now.kept in
+    let lines' : Side = side g.T.Sink.tells g.T.Sink.taken g.T.Sink.faults c.say_answers.new.trace c.say_answers.new.subsystem.kept in
+    subst (λ (w : World). PlaysSubmission c.args.number (asked c.args.request c.args.bytes.now) (by_sides c.args.subsystem.now.world tells held out lines c.args.desk.now.tally)
+    (by_sides w tells held out' lines' c.say_answers.new.desk.tally)) (sym (ap (λ (s : State). s.world) said.taken))
+    (submits_plays g.T.Sink.tells g.T.Sink.taken g.T.Sink.faults c.args.trace.now c.submit.new.trace c.args.number (asked c.args.request c.args.bytes.now) c.args.subsystem.now.world c.submit.new.self.world
+    c.args.subsystem.now.kept c.submit.new.self.kept out c.args.desk.now.tally tells held c.in_ok-submit.ensures.never_again
+    c.law.ensures.sound (c.law.ensures.work c.requires.ready.going) c.in_ok-submit.ensures.does out' lines' c.say_answers.new.desk.tally _ refl said.says said.counts)
 
 pub returns-in_err-submit-clause-stops : goal.returns-in_err-submit-clause-stops
 returns-in_err-submit-clause-stops g c =
     err_is _ c.from_residual.result faults.Sink c.from_residual.ensures.1
-    (λ tells held. submission_halted g.T.Sink.tells g.T.Sink.taken c.args.trace.now c.submit.new.trace c.args.number _ c.args.subsystem.now c.submit.new.self c.requires.ready.sent (g.O.Sink.tells c.args.out.now)
-    (g.O.Sink.taken c.args.out.now) c.args.desk.now.tally tells held c.submit.new.self.world c.args.desk.now.tally c.in_err-submit.ensures.does)
+    (λ tells held. submission_halted g.T.Sink.tells g.T.Sink.taken g.T.Sink.faults c.args.trace.now c.submit.new.trace c.args.number (asked c.args.request c.args.bytes.now) c.args.subsystem.now.world c.submit.new.self.world
+    c.args.subsystem.now.kept c.submit.new.self.kept (side g.O.Sink.tells g.O.Sink.taken g.O.Sink.faults c.args.out.now c.args.desk.now.gather) c.args.desk.now.tally tells held c.in_err-submit.ensures.never_again
+    c.submit.new.self.world c.args.desk.now.tally c.in_err-submit.ensures.does)
 
-pub returns-in_err-send-clause-stops : goal.returns-in_err-send-clause-stops
-returns-in_err-send-clause-stops g c =
-    err_is _ c.from_residual-in_err-send.result faults.Sink c.from_residual-in_err-send.ensures.1
-    (λ tells held. submission_unsent g.T.Sink.tells g.T.Sink.taken c.args.trace.now c.submit.new.trace c.args.number _ c.args.subsystem.now c.submit.new.self c.requires.ready.sent (g.O.Sink.tells c.args.out.now)
-    (g.O.Sink.taken c.args.out.now) c.args.desk.now.tally tells held c.send.new.trace c.send.new.self.world c.args.desk.now.tally c.in_ok-submit.ensures.does
-    (record { again = c.send.ensures.puts.never_again; took = c.in_err-send.ensures.puts.front }))
-
-pub returns-in_err-write_answers-clause-stops : goal.returns-in_err-write_answers-clause-stops
-returns-in_err-write_answers-clause-stops g c =
-    err_is _ c.from_residual-in_err-write_answers.result faults.Sink c.from_residual-in_err-write_answers.ensures.1
-    (λ tells held. submission_unsaid g.T.Sink.tells g.T.Sink.taken c.args.trace.now c.submit.new.trace c.args.number _ c.args.subsystem.now c.submit.new.self c.requires.ready.sent (g.O.Sink.tells c.args.out.now)
-    (g.O.Sink.taken c.args.out.now) c.args.desk.now.tally tells held c.send.new.trace c.send.new.self c.write_answers.new.subsystem.world (g.O.Sink.tells c.write_answers.new.out)
-    (g.O.Sink.taken c.write_answers.new.out) c.write_answers.new.desk.tally c.law.ensures.sound (c.law.ensures.work c.requires.ready.going) c.in_ok-submit.ensures.does
-    (record { again = c.send.ensures.puts.never_again; took = c.in_ok-send.ensures.puts.bytes; same = c.send.ensures.same }) c.in_err-write_answers.ensures.puts.front)
+pub returns-in_err-say_answers-clause-stops : goal.returns-in_err-say_answers-clause-stops
+returns-in_err-say_answers-clause-stops g c =
+    err_is _ c.from_residual-in_err-say_answers.result faults.Sink c.from_residual-in_err-say_answers.ensures.1
+    (λ tells held. submission_unsaid g.T.Sink.tells g.T.Sink.taken g.T.Sink.faults c.args.trace.now c.submit.new.trace c.args.number (asked c.args.request c.args.bytes.now) c.args.subsystem.now.world c.submit.new.self.world
+    c.args.subsystem.now.kept c.submit.new.self.kept (side g.O.Sink.tells g.O.Sink.taken g.O.Sink.faults c.args.out.now c.args.desk.now.gather) c.args.desk.now.tally tells held c.in_ok-submit.ensures.never_again
+    c.law.ensures.sound (c.law.ensures.work c.requires.ready.going) c.in_ok-submit.ensures.does c.say_answers.new.subsystem.world
+    (side g.O.Sink.tells g.O.Sink.taken g.O.Sink.faults c.say_answers.new.out c.say_answers.new.desk.gather) (side g.T.Sink.tells g.T.Sink.taken g.T.Sink.faults c.say_answers.new.trace c.say_answers.new.subsystem.kept) c.say_answers.new.desk.tally (is_said c.in_err-say_answers.ensures.says))

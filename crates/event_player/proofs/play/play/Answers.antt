@@ -1,4 +1,4 @@
-use Rattle.std.proofs.Common.{ℕ, Bool, [], ◌≡◌, refl, ap, sym, subst, ◌∙◌, IfOk, IfErr, OnOk}
+use Rattle.std.proofs.Common.{ℕ, Bool, List, [], ◌++◌, ◌≡◌, refl, ap, sym, subst, ◌∙◌, IfErr, append-nil}
 use Rattle.std.specs.Prelude.{Result, Ok, Err}
 use Rattle.pack_model.specs.Pack.{Pack}
 use Rattle.trace_replay.specs.Script.{Script}
@@ -8,19 +8,14 @@ use Rattle.answer_tally.specs.declared.tally.Tally.{Tally}
 use Rattle.event_player.specs.declared.play.PlayFault.{PlayFault}
 use Rattle.event_player.specs.declared.play.PlayFault.TheVariants as fault
 use Rattle.event_player.specs.Faults.{IsBefore, IsLongFor}
+use Rattle.hp_core.specs.Setups.{setups_of}
+use Rattle.run_stops.specs.Passes.{State}
+use Rattle.one_run.specs.Steps.{tables_in}
+use Rattle.event_player.specs.Plays.{Tallied}
 use Rattle.event_player.specs.Steps.{Stage, stage, HasCauses}
 use Rattle.event_player.proofs.Whole.{ready_for, whole_for}
 use Rattle.event_player.proofs.play.play.Goals as goal
-use Rattle.event_player.proofs.Halting.{play_halts}
-
--- what is known of the tally that is counted, of the one that is answered
-at_told : {A : Type 0} (Q : Tally → Type 0) (result : Result Tally PlayFault) (now : Tally) → IfOk result (λ x. x ≡ now) → OnOk result A → (A → Q now) → IfOk result Q
-at_told Q (Ok x) now is holds gives = subst Q (sym is) (gives holds)
-at_told Q (Err e) now is holds gives = tt
-
-at_err : {P Q : PlayFault → Type 0} (result : Result Tally PlayFault) → IfErr result P → ((e : PlayFault) → P e → Q e) → IfErr result Q
-at_err (Ok x) holds gives = tt
-at_err (Err e) holds gives = gives e holds
+use Rattle.event_player.proofs.Halting.{play_halts, stopped_leaves}
 
 -- behind the units nothing is too long, and there is memory
 never_before : {a b c d e f : ℕ} (result : Result Tally PlayFault) → HasCauses a b c d e f result → IsBefore result → ⊥
@@ -42,40 +37,58 @@ play_lines-requires-clause-ready g c =
     ready_for (meaning_of c.args.script.now) c.in_ok-units.units.items c.as_slice.result.now c.count_requests-requests.result c.count_noises-noises.result c.in_ok-subsystem.subsystem
     c.as_slice.ensures.value c.in_ok-units.ensures.set c.count_noises-noises.ensures.count c.in_ok-subsystem.ensures
 
-pub returns-clause-fits : goal.returns-clause-fits
-returns-clause-fits g c = λ playing t. c.in_ok-units.ensures.fits (c.play_lines.ensures.played.told.never_again t)
+pub play_lines-requires-clause-sent : goal.play_lines-requires-clause-sent
+play_lines-requires-clause-sent g c = ap (λ (st : State). st.kept) c.in_ok-subsystem.ensures
 
-pub returns-clause-requests : goal.returns-clause-requests
-returns-clause-requests g c =
-    let lines = c.play_lines.ensures in
-    at_told _ c.play_lines.result c.play_lines.new.desk.tally lines.told lines.played.plays
-    (λ plays. lines.played.requests ∙ ap (λ (x : Tally). x.requests) c.in_ok-bench.ensures.tally ∙ c.from.ensures ∙ c.count_requests-requests.ensures.count)
-
-pub returns-clause-tallied : goal.returns-clause-tallied
-returns-clause-tallied g c =
+pub returns-in-Ok-clause-tallied : goal.returns-in-Ok-clause-tallied
+returns-in-Ok-clause-tallied g c = λ t.
     let units = c.in_ok-units.ensures in
-    let lines = c.play_lines.ensures in
-    let old : Stage = stage g.P.Packs.tells g.P.Packs.held g.O.Sink.tells g.O.Sink.taken g.T.Sink.tells g.T.Sink.taken c.in_ok-subsystem.subsystem.world c.attach_units.new.packs c.args.out.now c.args.trace.now c.in_ok-bench.bench.desk.tally in
-    let new : Stage = stage g.P.Packs.tells g.P.Packs.held g.O.Sink.tells g.O.Sink.taken g.T.Sink.tells g.T.Sink.taken c.play_lines.new.subsystem.world c.play_lines.new.packs c.play_lines.new.out c.play_lines.new.trace c.play_lines.new.desk.tally in
-    at_told _ c.play_lines.result c.play_lines.new.desk.tally lines.told lines.played.plays (λ plays t.
-    whole_for (meaning_of c.args.script.now) c.in_ok-units.units.items c.as_slice.result.now c.count_requests-requests.result c.count_noises-noises.result c.in_ok-subsystem.subsystem
-    (g.P.Packs.held c.args.packs.now) old new (c.meaning_law.ensures.read c.args.script.now.text c.args.script.now c.requires.good) c.as_slice.ensures.value units.set
+    let lines = c.in-Ok.ensures in
+    let old : Stage = stage g.P.Packs.tells g.P.Packs.held g.O.Sink.tells g.O.Sink.taken g.T.Sink.tells g.T.Sink.taken c.in_ok-subsystem.subsystem c.attach_units.new.packs c.args.out.now c.args.trace.now c.in_ok-bench.bench.desk.gather c.in_ok-bench.bench.desk.tally in
+    let new : Stage = stage g.P.Packs.tells g.P.Packs.held g.O.Sink.tells g.O.Sink.taken g.T.Sink.tells g.T.Sink.taken c.play_lines.new.subsystem c.play_lines.new.packs c.play_lines.new.out c.play_lines.new.trace c.play_lines.new.desk.gather c.play_lines.new.desk.tally in
+    let said_is : old.said ≡ g.O.Sink.taken c.args.out.now = ap (λ (xs : List ℕ). g.O.Sink.taken c.args.out.now ++ xs) c.in_ok-bench.ensures.gather ∙ append-nil (g.O.Sink.taken c.args.out.now) in
+    let taken_is : old.taken ≡ g.T.Sink.taken c.args.trace.now =
+    ap (λ (xs : List ℕ). g.T.Sink.taken c.args.trace.now ++ xs) (ap (λ (st : State). st.kept) c.in_ok-subsystem.ensures) ∙ append-nil (g.T.Sink.taken c.args.trace.now) in
+    subst (Tallied (meaning_of c.args.script.now) (g.P.Packs.held c.args.packs.now) new.held new.out_tells (g.O.Sink.taken c.args.out.now) new.out_took new.trace_tells (g.T.Sink.taken c.args.trace.now) new.trace_took)
+    (sym lines.told)
+    (whole_for (meaning_of c.args.script.now) c.in_ok-units.units.items c.as_slice.result.now c.count_requests-requests.result c.count_noises-noises.result c.in_ok-subsystem.subsystem
+    (g.P.Packs.held c.args.packs.now) (g.O.Sink.taken c.args.out.now) (g.T.Sink.taken c.args.trace.now) old new
+    (c.meaning_law.ensures.read c.args.script.now.text c.args.script.now c.requires.good) c.as_slice.ensures.value units.set
     (units.tables (lines.played.told.never_again t)) (units.same (lines.played.told.never_again t)) c.in_ok-subsystem.ensures refl
-    (c.in_ok-bench.ensures.tally ∙ ap (λ (n : ℕ). tally_by n [] []) (c.from.ensures ∙ c.count_requests-requests.ensures.count)) (plays t))
+    (c.in_ok-bench.ensures.tally ∙ ap (λ (n : ℕ). tally_by n [] []) (c.from.ensures ∙ c.count_requests-requests.ensures.count)) said_is taken_is (lines.played.plays t))
+
+pub returns-in-Ok-clause-requests : goal.returns-in-Ok-clause-requests
+returns-in-Ok-clause-requests g c =
+    let lines = c.in-Ok.ensures in
+    ap (λ (x : Tally). x.requests) lines.told ∙ lines.played.requests ∙ ap (λ (x : Tally). x.requests) c.in_ok-bench.ensures.tally ∙ c.from.ensures ∙ c.count_requests-requests.ensures.count
 
 pub returns-clause-stopped : goal.returns-clause-stopped
-returns-clause-stopped g c =
+returns-clause-stopped g c = λ t.
     let units = c.in_ok-units.ensures in
-    let lines = c.play_lines.ensures in
-    let old : Stage = stage g.P.Packs.tells g.P.Packs.held g.O.Sink.tells g.O.Sink.taken g.T.Sink.tells g.T.Sink.taken c.in_ok-subsystem.subsystem.world c.attach_units.new.packs c.args.out.now c.args.trace.now c.in_ok-bench.bench.desk.tally in
-    let new : Stage = stage g.P.Packs.tells g.P.Packs.held g.O.Sink.tells g.O.Sink.taken g.T.Sink.tells g.T.Sink.taken c.play_lines.new.subsystem.world c.play_lines.new.packs c.play_lines.new.out c.play_lines.new.trace c.play_lines.new.desk.tally in
-    at_err c.play_lines.result lines.played.stops (λ stop stops t.
-    play_halts (meaning_of c.args.script.now) c.in_ok-units.units.items c.as_slice.result.now c.count_requests-requests.result c.count_noises-noises.result c.in_ok-subsystem.subsystem
-    (g.P.Packs.held c.args.packs.now) stop old new c.as_slice.ensures.value units.set
-    (units.tables (lines.played.told.never_again t)) (units.same (lines.played.told.never_again t)) c.in_ok-subsystem.ensures refl (stops t))
+    let lines = c.in-Err.ensures in
+    let old : Stage = stage g.P.Packs.tells g.P.Packs.held g.O.Sink.tells g.O.Sink.taken g.T.Sink.tells g.T.Sink.taken c.in_ok-subsystem.subsystem c.attach_units.new.packs c.args.out.now c.args.trace.now c.in_ok-bench.bench.desk.gather c.in_ok-bench.bench.desk.tally in
+    let new : Stage = stage g.P.Packs.tells g.P.Packs.held g.O.Sink.tells g.O.Sink.taken g.T.Sink.tells g.T.Sink.taken c.play_lines.new.subsystem c.play_lines.new.packs c.play_lines.new.out c.play_lines.new.trace c.play_lines.new.desk.gather c.play_lines.new.desk.tally in
+    let said_is : old.said ≡ g.O.Sink.taken c.args.out.now = ap (λ (xs : List ℕ). g.O.Sink.taken c.args.out.now ++ xs) c.in_ok-bench.ensures.gather ∙ append-nil (g.O.Sink.taken c.args.out.now) in
+    let taken_is : old.taken ≡ g.T.Sink.taken c.args.trace.now =
+    ap (λ (xs : List ℕ). g.T.Sink.taken c.args.trace.now ++ xs) (ap (λ (st : State). st.kept) c.in_ok-subsystem.ensures) ∙ append-nil (g.T.Sink.taken c.args.trace.now) in
+    stopped_leaves g.P.Packs.tells g.P.Packs.held g.O.Sink.tells g.O.Sink.taken g.O.Sink.faults g.T.Sink.tells g.T.Sink.taken g.T.Sink.faults
+    c.play_lines.new.packs c.args.out.now c.play_lines.new.out c.send_rest.new.out c.args.trace.now c.play_lines.new.trace c.send_rest.new.trace
+    c.play_lines.new.subsystem c.play_lines.new.desk.gather c.play_lines.new.desk.tally
+    c.send_rest.ensures.never_again c.send_rest.ensures.never_again_trace lines.causes.later_out lines.causes.later_trace
+    c.in-Err.fault (meaning_of c.args.script.now) (tables_in (setups_of c.in_ok-units.units.items)) (g.P.Packs.held c.args.packs.now) (units.tables (lines.played.told.never_again t))
+    (play_halts (meaning_of c.args.script.now) c.in_ok-units.units.items c.as_slice.result.now c.count_requests-requests.result c.count_noises-noises.result c.in_ok-subsystem.subsystem
+    (g.P.Packs.held c.args.packs.now) (g.O.Sink.taken c.args.out.now) (g.T.Sink.taken c.args.trace.now) c.in-Err.fault old new c.as_slice.ensures.value units.set
+    (units.same (lines.played.told.never_again t)) c.in_ok-subsystem.ensures refl said_is taken_is (lines.played.stops t))
+    c.send_rest.ensures.answers c.send_rest.ensures.lines c.send_rest.ensures.same
+
+pub returns-in-Ok-clause-fits : goal.returns-in-Ok-clause-fits
+returns-in-Ok-clause-fits g c = λ playing t. c.in_ok-units.ensures.fits (c.in-Ok.ensures.played.told.never_again t)
+
+pub returns-clause-fits : goal.returns-clause-fits
+returns-clause-fits g c = λ playing t. c.in_ok-units.ensures.fits (c.in-Err.ensures.played.told.never_again t)
 
 pub returns-clause-too_long : goal.returns-clause-too_long
-returns-clause-too_long g c = never_long c.play_lines.result c.play_lines.ensures.causes _ _ _
+returns-clause-too_long g c = never_long (Err c.in-Err.fault) c.in-Err.ensures.causes _ _ _
 
 pub returns-clause-untouched : goal.returns-clause-untouched
-returns-clause-untouched g c = λ before. absurd (never_before c.play_lines.result c.play_lines.ensures.causes before)
+returns-clause-untouched g c = λ before. absurd (never_before (Err c.in-Err.fault) c.in-Err.ensures.causes before)

@@ -1,18 +1,23 @@
-use Rattle.std.proofs.Common.{rules, ◌≡◌, ◌<◌, ◌≤◌, ℕ, ◌+◌, List, length, get_or, subst, sym, arith, ◌∙◌, ap}
+use Rattle.std.proofs.Common.{rules, ◌≡◌, ◌<◌, ◌≤◌, ℕ, ◌+◌, List, ◌++◌, length, get_or, refl, subst, sym, arith, ◌∙◌, ap, append-nil}
 use Rattle.std.proofs.lemmas.List.{length-map}
 use Rattle.script_reader.specs.Stored.{Kept, seen, lines_in}
 use Rattle.script_words.specs.Words.{all_verbs}
 use Rattle.script_meaning.specs.Meaning.{line_of, meaning_of}
 use Rattle.trace_replay.specs.Script.{IsScript}
-use Rattle.event_player.specs.Steps.{Stage, stage, PlaysDrain}
+use Rattle.answer_tally.specs.declared.tally.Tally.{Tally}
+use Rattle.run_stops.specs.Passes.{State}
+use Rattle.event_player.specs.declared.play.PlayFault.TheVariants as faults
+use Rattle.event_player.specs.Saying.{side}
+use Rattle.event_player.specs.Steps.{Stage, stage}
+use Rattle.event_player.proofs.Saying.{is_said, unsent_passes, all_sent}
 use Rattle.event_player.proofs.Whole.{plays_none_yet, plays_end, next_may, next_ready, next_plays, next_data}
 use Rattle.event_player.proofs.play.play_lines.Goals as goal
-use Rattle.event_player.proofs.Halting.{err_is, line_halts, end_halts}
+use Rattle.event_player.proofs.Halting.{err_is, line_halts, end_halts, sending_halts}
 use Rattle.event_player.proofs.Whole.{here_is}
 
 pub loop-i-init : goal.loop-i-init
 loop-i-init g c =
-    let old : Stage = stage g.P.Packs.tells g.P.Packs.held g.O.Sink.tells g.O.Sink.taken g.T.Sink.tells g.T.Sink.taken c.args.subsystem.now.world c.args.packs.now c.args.out.now c.args.trace.now c.args.desk.now.tally in
+    let old : Stage = stage g.P.Packs.tells g.P.Packs.held g.O.Sink.tells g.O.Sink.taken g.T.Sink.tells g.T.Sink.taken c.args.subsystem.now c.args.packs.now c.args.out.now c.args.trace.now c.args.desk.now.gather c.args.desk.now.tally in
     let script : IsScript (meaning_of c.args.script.now) = c.meaning_law.ensures.read c.args.script.now.text c.args.script.now c.requires.good in
     record {
       told = record { never_again = λ t. t; never_again_out = λ t. t; never_again_trace = λ t. t };
@@ -21,11 +26,11 @@ loop-i-init g c =
       later_trace = search rules;
       going = search rules;
       outstanding = search rules;
-      kept = search rules;
-      sent = search rules;
       requests = search rules;
       ready = c.requires.ready;
-      plays = λ t. plays_none_yet (meaning_of c.args.script.now) old script;
+      plays = λ t. plays_none_yet (meaning_of c.args.script.now) old script
+          (sym (append-nil (g.O.Sink.taken c.args.out.now)) ∙ ap (λ (xs : List ℕ). g.O.Sink.taken c.args.out.now ++ xs) (sym c.requires.kept))
+          (sym (append-nil (g.T.Sink.taken c.args.trace.now)) ∙ ap (λ (xs : List ℕ). g.T.Sink.taken c.args.trace.now ++ xs) (sym c.requires.sent));
     }
 
 pub play_line-requires-clause-may : goal.play_line-requires-clause-may
@@ -50,9 +55,9 @@ pub loop-i-preserved : goal.loop-i-preserved
 loop-i-preserved g c =
     let so = c.loop-i.invariant in
     let plays = c.in_ok-play_line.ensures in
-    let old : Stage = stage g.P.Packs.tells g.P.Packs.held g.O.Sink.tells g.O.Sink.taken g.T.Sink.tells g.T.Sink.taken c.args.subsystem.now.world c.args.packs.now c.args.out.now c.args.trace.now c.args.desk.now.tally in
-    let mid : Stage = stage g.P.Packs.tells g.P.Packs.held g.O.Sink.tells g.O.Sink.taken g.T.Sink.tells g.T.Sink.taken c.loop-i.subsystem.world c.loop-i.packs c.loop-i.out c.loop-i.trace c.loop-i.desk.tally in
-    let new : Stage = stage g.P.Packs.tells g.P.Packs.held g.O.Sink.tells g.O.Sink.taken g.T.Sink.tells g.T.Sink.taken c.play_line.new.subsystem.world c.play_line.new.packs c.play_line.new.out c.play_line.new.trace c.play_line.new.desk.tally in
+    let old : Stage = stage g.P.Packs.tells g.P.Packs.held g.O.Sink.tells g.O.Sink.taken g.T.Sink.tells g.T.Sink.taken c.args.subsystem.now c.args.packs.now c.args.out.now c.args.trace.now c.args.desk.now.gather c.args.desk.now.tally in
+    let mid : Stage = stage g.P.Packs.tells g.P.Packs.held g.O.Sink.tells g.O.Sink.taken g.T.Sink.tells g.T.Sink.taken c.loop-i.subsystem c.loop-i.packs c.loop-i.out c.loop-i.trace c.loop-i.desk.gather c.loop-i.desk.tally in
+    let new : Stage = stage g.P.Packs.tells g.P.Packs.held g.O.Sink.tells g.O.Sink.taken g.T.Sink.tells g.T.Sink.taken c.play_line.new.subsystem c.play_line.new.packs c.play_line.new.out c.play_line.new.trace c.play_line.new.desk.gather c.play_line.new.desk.tally in
     let stored = c.args.script.now in
     let item = c.index-lines-i.result in
     let is : item ≡ get_or stored.lines c.loop-i.i item = subst (λ (xs : List Kept). item ≡ get_or xs c.loop-i.i item) c.lines-lines.ensures c.index-lines-i.is in
@@ -68,30 +73,68 @@ loop-i-preserved g c =
       later_trace = search rules;
       going = plays.goes.going;
       outstanding = plays.goes.outstanding ∙ so.outstanding;
-      kept = plays.goes.kept;
-      sent = plays.goes.sent;
       requests = plays.played.requests ∙ so.requests;
       ready = next_ready stored c.loop-i.i item is lt c.loop-i.subsystem.world c.play_line.new.subsystem.world plays.brings so.ready;
-      plays = λ t. next_plays stored c.loop-i.i item is lt old mid new plays.played.told.never_again_out plays.played.told.never_again_trace (plays.played.plays t) (so.plays (plays.played.told.never_again t));
+      plays = λ t. next_plays stored c.loop-i.i item is lt old mid new (plays.played.plays t) (so.plays (plays.played.told.never_again t));
     }
 
 pub returns-clause-played : goal.returns-clause-played
 returns-clause-played g c = record {
   plays =
       let drains = c.in_ok-drain.ensures in
-      let old : Stage = stage g.P.Packs.tells g.P.Packs.held g.O.Sink.tells g.O.Sink.taken g.T.Sink.tells g.T.Sink.taken c.args.subsystem.now.world c.args.packs.now c.args.out.now c.args.trace.now c.args.desk.now.tally in
-      let mid : Stage = stage g.P.Packs.tells g.P.Packs.held g.O.Sink.tells g.O.Sink.taken g.T.Sink.tells g.T.Sink.taken c.loop-i.subsystem.world c.loop-i.packs c.loop-i.out c.loop-i.trace c.loop-i.desk.tally in
-      let new : Stage = stage g.P.Packs.tells g.P.Packs.held g.O.Sink.tells g.O.Sink.taken g.T.Sink.tells g.T.Sink.taken c.drain.new.subsystem.world c.drain.new.packs c.drain.new.out c.drain.new.trace c.drain.new.desk.tally in
+      let sends = c.in_ok-send.ensures in
+      let old : Stage = stage g.P.Packs.tells g.P.Packs.held g.O.Sink.tells g.O.Sink.taken g.T.Sink.tells g.T.Sink.taken c.args.subsystem.now c.args.packs.now c.args.out.now c.args.trace.now c.args.desk.now.gather c.args.desk.now.tally in
+      let mid : Stage = stage g.P.Packs.tells g.P.Packs.held g.O.Sink.tells g.O.Sink.taken g.T.Sink.tells g.T.Sink.taken c.loop-i.subsystem c.loop-i.packs c.loop-i.out c.loop-i.trace c.loop-i.desk.gather c.loop-i.desk.tally in
+      let drained : Stage = stage g.P.Packs.tells g.P.Packs.held g.O.Sink.tells g.O.Sink.taken g.T.Sink.tells g.T.Sink.taken c.drain.new.subsystem c.drain.new.packs c.drain.new.out c.drain.new.trace c.drain.new.desk.gather c.drain.new.desk.tally in
+      let new : Stage = stage g.P.Packs.tells g.P.Packs.held g.O.Sink.tells g.O.Sink.taken g.T.Sink.tells g.T.Sink.taken c.send.new.subsystem c.drain.new.packs c.send.new.out c.send.new.trace c.send.new.self.gather c.send.new.self.tally in
       let stored = c.args.script.now in
       let past : length stored.lines ≤ c.loop-i.i = subst (λ (xs : List Kept). length xs ≤ c.loop-i.i) c.lines-lines.ensures c.loop-i-test.false in
       let all : length (meaning_of stored).lines ≤ c.loop-i.i =
       subst (λ (n : ℕ). n ≤ c.loop-i.i) (sym (length-map (lines_in stored) line_of ∙ length-map stored.lines (seen stored.text))) past in
       let number : c.from-number.result + 1 ≡ stored.count + 1 = ap (λ (n : ℕ). n + 1) (c.from-number.ensures ∙ c.count.ensures) in
-      λ t. plays_end (meaning_of stored) c.loop-i.i old mid new all drains.played.told.never_again_out drains.played.told.never_again_trace
-      (subst (λ (n : ℕ). PlaysDrain n mid new) number (drains.played.plays t)) (c.loop-i.invariant.plays (drains.played.told.never_again t));
+      λ t. plays_end (meaning_of stored) c.loop-i.i (c.from-number.result + 1) old mid drained new all number (drains.played.plays t)
+      (all_sent c.drain.new.subsystem.world c.send.new.subsystem.world (g.P.Packs.tells c.drain.new.packs) (g.P.Packs.held c.drain.new.packs) c.drain.new.desk.tally c.send.new.self.tally
+      (side g.O.Sink.tells g.O.Sink.taken g.O.Sink.faults c.drain.new.out c.drain.new.desk.gather) (side g.O.Sink.tells g.O.Sink.taken g.O.Sink.faults c.send.new.out c.send.new.self.gather)
+      (side g.T.Sink.tells g.T.Sink.taken g.T.Sink.faults c.drain.new.trace c.drain.new.subsystem.kept) (side g.T.Sink.tells g.T.Sink.taken g.T.Sink.faults c.send.new.trace c.send.new.subsystem.kept)
+      sends.says sends.emptied.0 sends.emptied.1 (ap (λ (s : State). s.world) sends.same) sends.tally)
+      (c.loop-i.invariant.plays (drains.played.told.never_again t));
   stops = search rules;
-  told = search rules;
-  requests = search rules;
+  told = record {
+    never_again = λ t. c.loop-i.invariant.told.never_again (c.in_ok-drain.ensures.played.told.never_again t);
+    never_again_out = λ t. c.loop-i.invariant.told.never_again_out (c.in_ok-drain.ensures.played.told.never_again_out (c.in_ok-send.ensures.says.again t));
+    never_again_trace = λ t. c.loop-i.invariant.told.never_again_trace (c.in_ok-drain.ensures.played.told.never_again_trace (c.in_ok-send.ensures.says.again_lines t));
+  };
+  requests = ap (λ (x : Tally). x.requests) c.in_ok-send.ensures.tally ∙ c.in_ok-drain.ensures.played.requests ∙ c.loop-i.invariant.requests;
+}
+
+pub returns-in_err-send-clause-played : goal.returns-in_err-send-clause-played
+returns-in_err-send-clause-played g c = record {
+  plays = search rules;
+  stops =
+      let drains = c.in_ok-drain.ensures in
+      let sends = c.in_err-send.ensures in
+      let old : Stage = stage g.P.Packs.tells g.P.Packs.held g.O.Sink.tells g.O.Sink.taken g.T.Sink.tells g.T.Sink.taken c.args.subsystem.now c.args.packs.now c.args.out.now c.args.trace.now c.args.desk.now.gather c.args.desk.now.tally in
+      let mid : Stage = stage g.P.Packs.tells g.P.Packs.held g.O.Sink.tells g.O.Sink.taken g.T.Sink.tells g.T.Sink.taken c.loop-i.subsystem c.loop-i.packs c.loop-i.out c.loop-i.trace c.loop-i.desk.gather c.loop-i.desk.tally in
+      let drained : Stage = stage g.P.Packs.tells g.P.Packs.held g.O.Sink.tells g.O.Sink.taken g.T.Sink.tells g.T.Sink.taken c.drain.new.subsystem c.drain.new.packs c.drain.new.out c.drain.new.trace c.drain.new.desk.gather c.drain.new.desk.tally in
+      let new : Stage = stage g.P.Packs.tells g.P.Packs.held g.O.Sink.tells g.O.Sink.taken g.T.Sink.tells g.T.Sink.taken c.send.new.subsystem c.drain.new.packs c.send.new.out c.send.new.trace c.send.new.self.gather c.send.new.self.tally in
+      let stored = c.args.script.now in
+      let past : length stored.lines ≤ c.loop-i.i = subst (λ (xs : List Kept). length xs ≤ c.loop-i.i) c.lines-lines.ensures c.loop-i-test.false in
+      let all : length (meaning_of stored).lines ≤ c.loop-i.i =
+      subst (λ (n : ℕ). n ≤ c.loop-i.i) (sym (length-map (lines_in stored) line_of ∙ length-map stored.lines (seen stored.text))) past in
+      let number : c.from-number.result + 1 ≡ stored.count + 1 = ap (λ (n : ℕ). n + 1) (c.from-number.ensures ∙ c.count.ensures) in
+      err_is _ c.from_residual-in_err-send.result faults.Sink c.from_residual-in_err-send.ensures.1
+      (λ t. sending_halts (meaning_of stored) c.loop-i.i (c.from-number.result + 1) old mid drained new all number (drains.played.plays t) (c.loop-i.invariant.plays (drains.played.told.never_again t)) refl
+      (unsent_passes c.drain.new.subsystem.world c.send.new.subsystem.world (g.P.Packs.tells c.drain.new.packs) (g.P.Packs.tells c.drain.new.packs) (g.P.Packs.held c.drain.new.packs) (g.P.Packs.held c.drain.new.packs)
+      c.drain.new.desk.tally c.send.new.self.tally
+      (side g.O.Sink.tells g.O.Sink.taken g.O.Sink.faults c.drain.new.out c.drain.new.desk.gather) (side g.O.Sink.tells g.O.Sink.taken g.O.Sink.faults c.send.new.out c.send.new.self.gather)
+      (side g.T.Sink.tells g.T.Sink.taken g.T.Sink.faults c.drain.new.trace c.drain.new.subsystem.kept) (side g.T.Sink.tells g.T.Sink.taken g.T.Sink.faults c.send.new.trace c.send.new.subsystem.kept)
+      (is_said sends.says)));
+  told = record {
+    never_again = λ t. c.loop-i.invariant.told.never_again (c.in_ok-drain.ensures.played.told.never_again t);
+    never_again_out = λ t. c.loop-i.invariant.told.never_again_out (c.in_ok-drain.ensures.played.told.never_again_out (c.in_err-send.ensures.says.again t));
+    never_again_trace = λ t. c.loop-i.invariant.told.never_again_trace (c.in_ok-drain.ensures.played.told.never_again_trace (c.in_err-send.ensures.says.again_lines t));
+  };
+  requests = ap (λ (x : Tally). x.requests) c.in_err-send.ensures.tally ∙ c.in_ok-drain.ensures.played.requests ∙ c.loop-i.invariant.requests;
 }
 
 pub returns-in_err-play_line-clause-played : goal.returns-in_err-play_line-clause-played
@@ -100,9 +143,9 @@ returns-in_err-play_line-clause-played g c = record {
   stops =
       let so = c.loop-i.invariant in
       let plays = c.in_err-play_line.ensures in
-      let old : Stage = stage g.P.Packs.tells g.P.Packs.held g.O.Sink.tells g.O.Sink.taken g.T.Sink.tells g.T.Sink.taken c.args.subsystem.now.world c.args.packs.now c.args.out.now c.args.trace.now c.args.desk.now.tally in
-      let mid : Stage = stage g.P.Packs.tells g.P.Packs.held g.O.Sink.tells g.O.Sink.taken g.T.Sink.tells g.T.Sink.taken c.loop-i.subsystem.world c.loop-i.packs c.loop-i.out c.loop-i.trace c.loop-i.desk.tally in
-      let new : Stage = stage g.P.Packs.tells g.P.Packs.held g.O.Sink.tells g.O.Sink.taken g.T.Sink.tells g.T.Sink.taken c.play_line.new.subsystem.world c.play_line.new.packs c.play_line.new.out c.play_line.new.trace c.play_line.new.desk.tally in
+      let old : Stage = stage g.P.Packs.tells g.P.Packs.held g.O.Sink.tells g.O.Sink.taken g.T.Sink.tells g.T.Sink.taken c.args.subsystem.now c.args.packs.now c.args.out.now c.args.trace.now c.args.desk.now.gather c.args.desk.now.tally in
+      let mid : Stage = stage g.P.Packs.tells g.P.Packs.held g.O.Sink.tells g.O.Sink.taken g.T.Sink.tells g.T.Sink.taken c.loop-i.subsystem c.loop-i.packs c.loop-i.out c.loop-i.trace c.loop-i.desk.gather c.loop-i.desk.tally in
+      let new : Stage = stage g.P.Packs.tells g.P.Packs.held g.O.Sink.tells g.O.Sink.taken g.T.Sink.tells g.T.Sink.taken c.play_line.new.subsystem c.play_line.new.packs c.play_line.new.out c.play_line.new.trace c.play_line.new.desk.gather c.play_line.new.desk.tally in
       let stored = c.args.script.now in
       let item = c.index-lines-i.result in
       let is : item ≡ get_or stored.lines c.loop-i.i item = subst (λ (xs : List Kept). item ≡ get_or xs c.loop-i.i item) c.lines-lines.ensures c.index-lines-i.is in
@@ -119,9 +162,9 @@ returns-in_err-drain-clause-played g c = record {
   plays = search rules;
   stops =
       let drains = c.in_err-drain.ensures in
-      let old : Stage = stage g.P.Packs.tells g.P.Packs.held g.O.Sink.tells g.O.Sink.taken g.T.Sink.tells g.T.Sink.taken c.args.subsystem.now.world c.args.packs.now c.args.out.now c.args.trace.now c.args.desk.now.tally in
-      let mid : Stage = stage g.P.Packs.tells g.P.Packs.held g.O.Sink.tells g.O.Sink.taken g.T.Sink.tells g.T.Sink.taken c.loop-i.subsystem.world c.loop-i.packs c.loop-i.out c.loop-i.trace c.loop-i.desk.tally in
-      let new : Stage = stage g.P.Packs.tells g.P.Packs.held g.O.Sink.tells g.O.Sink.taken g.T.Sink.tells g.T.Sink.taken c.drain.new.subsystem.world c.drain.new.packs c.drain.new.out c.drain.new.trace c.drain.new.desk.tally in
+      let old : Stage = stage g.P.Packs.tells g.P.Packs.held g.O.Sink.tells g.O.Sink.taken g.T.Sink.tells g.T.Sink.taken c.args.subsystem.now c.args.packs.now c.args.out.now c.args.trace.now c.args.desk.now.gather c.args.desk.now.tally in
+      let mid : Stage = stage g.P.Packs.tells g.P.Packs.held g.O.Sink.tells g.O.Sink.taken g.T.Sink.tells g.T.Sink.taken c.loop-i.subsystem c.loop-i.packs c.loop-i.out c.loop-i.trace c.loop-i.desk.gather c.loop-i.desk.tally in
+      let new : Stage = stage g.P.Packs.tells g.P.Packs.held g.O.Sink.tells g.O.Sink.taken g.T.Sink.tells g.T.Sink.taken c.drain.new.subsystem c.drain.new.packs c.drain.new.out c.drain.new.trace c.drain.new.desk.gather c.drain.new.desk.tally in
       let stored = c.args.script.now in
       let past : length stored.lines ≤ c.loop-i.i = subst (λ (xs : List Kept). length xs ≤ c.loop-i.i) c.lines-lines.ensures c.loop-i-test.false in
       let all : length (meaning_of stored).lines ≤ c.loop-i.i =

@@ -1,4 +1,4 @@
-use Rattle.std.proofs.Common.{◌≡◌, ◌≤◌, [], false, take, IsTrue}
+use Rattle.std.proofs.Common.{◌≡◌, ◌≤◌, false, take, IsTrue}
 use Rattle.script_meaning.specs.Meaning.{meaning_of}
 use Rattle.event_player.specs.Faults.{HaveTold}
 use Rattle.event_player.specs.Steps.{stage}
@@ -15,11 +15,9 @@ invariant-loop-i g l = record {
   later_trace : g.T.Sink.faults l.fn.trace ≤ g.T.Sink.faults l.trace;
   going : l.subsystem.failed ≡ false;
   outstanding : l.subsystem.outstanding ≡ l.fn.subsystem.outstanding;
-  kept : l.desk.gather ≡ [];
-  sent : l.subsystem.kept ≡ [];
   requests : l.desk.tally.requests ≡ l.fn.desk.tally.requests;
   ready : ReadyBehind (meaning_of l.script) (take l.i (meaning_of l.script).lines) l.subsystem.world;
   plays : IsTrue (g.P.Packs.tells l.packs) → PlaysTo (meaning_of l.script)
-      (stage g.P.Packs.tells g.P.Packs.held g.O.Sink.tells g.O.Sink.taken g.T.Sink.tells g.T.Sink.taken l.fn.subsystem.world l.fn.packs l.fn.out l.fn.trace l.fn.desk.tally)
-      (stage g.P.Packs.tells g.P.Packs.held g.O.Sink.tells g.O.Sink.taken g.T.Sink.tells g.T.Sink.taken l.subsystem.world l.packs l.out l.trace l.desk.tally) l.i;
+      (stage g.P.Packs.tells g.P.Packs.held g.O.Sink.tells g.O.Sink.taken g.T.Sink.tells g.T.Sink.taken l.fn.subsystem l.fn.packs l.fn.out l.fn.trace l.fn.desk.gather l.fn.desk.tally)
+      (stage g.P.Packs.tells g.P.Packs.held g.O.Sink.tells g.O.Sink.taken g.T.Sink.tells g.T.Sink.taken l.subsystem l.packs l.out l.trace l.desk.gather l.desk.tally) l.i;
 }

@@ -1,0 +1,4 @@
+pub mod Writing
+pub mod Events
+pub mod Ahead
+pub mod Passes

@@ -1,0 +1,4 @@
+pub mod Writing
+pub mod Ahead
+pub mod Stops
+pub mod Passes
