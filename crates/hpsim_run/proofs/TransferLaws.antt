@@ -1,5 +1,6 @@
 -- What a transfer leaves as it was, by its status.
-use Rattle.std.proofs.Common.{◌≡◌, ◌⊎◌, inl, inr, ℕ, true, false, Option, Some, refl, arith}
+use Rattle.std.proofs.Common.{◌≡◌, ◌⊎◌, inl, inr, ℕ, true, false, Option, Some, refl, sym, subst, arith}
+use Rattle.command_parts.specs.Outside.{HasItsCause, Outside}
 use Rattle.command_words.specs.Passes.{Stays}
 use Rattle.command_words.specs.Passes.{IsReadCode, IsTransferCode}
 use Rattle.command_words.specs.Passes.{reads_source as transfer_reads}
@@ -59,3 +60,14 @@ transfer_leaves transfer code is stays unread = record {
     | inr (inr (inr nine)) ↦ stays.untraced (inr (inr nine))
   ];
 }
+
+-- and by the answer that the status is of
+pub causes_by : {old new : Outside} (code n : ℕ) → code ≡ n → HasItsCause n old new → HasItsCause code old new
+causes_by {old} {new} code n e causes = subst (λ (m : ℕ). HasItsCause m old new) (sym e) causes
+
+pub leaves_by : {S P O T : Type 0} {source source' : S} {packs packs' : P} {out out' : O} {trace trace' : T} (transfer : Transfer) (code n : ℕ) → code ≡ n
+    → IsTransferCode transfer n → Stays n packs packs' out out' trace trace' → (transfer_reads transfer ≡ false → source' ≡ source)
+    → LeavesAlone (Some (TransferBytes transfer)) code source source' packs packs' out out' trace trace'
+leaves_by {source = source} {source' = source'} {packs = packs} {packs' = packs'} {out = out} {out' = out'} {trace = trace} {trace' = trace'} transfer code n e is stays unread =
+    subst (λ (m : ℕ). LeavesAlone (Some (TransferBytes transfer)) m source source' packs packs' out out' trace trace') (sym e)
+    (transfer_leaves transfer n is stays unread)
