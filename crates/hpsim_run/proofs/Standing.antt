@@ -211,7 +211,7 @@ module _ (said said' : List ℕ) where
         cut = f.cut;
         stand = more_stand done m (ms ++ under)
             (record { front = ms ++ f.front; rest = f.rest; cut = ap (λ (ns : List Moment). ms ++ ns) f.cut ∙ sym (append_assoc ms f.front f.rest); stand = f.stand })
-            (λ line unit id answer is. some_answer [] ms line unit id answer (ap (λ (z : Moment). answers_in (z ∷ ms)) (sym is) ∙ silent));
+            (λ line unit id answer is. absurd (some_answer [] ms line unit id answer (ap (λ (z : Moment). answers_in (z ∷ ms)) (sym is) ∙ silent)));
       }
     where
       silent_rest : IsEnd m ⊎ IsNoEnd m → answers_in ms ≡ []
