@@ -2,3 +2,4 @@
 pub use Rattle.quiet_driver.proofs.Calls.{played_consistent}
 pub use Rattle.quiet_driver.proofs.New.{new_is_quiet}
 pub use Rattle.quiet_driver.proofs.Rests.{quiet_rests}
+pub use Rattle.run_promises.proofs.Few.{done_few}

@@ -34,7 +34,7 @@ use Rattle.answer_lines.specs.AnswerText.{said_text}
 use Rattle.run_stops.specs.Passes.{IsThere, is_move, writes_by}
 use Rattle.run_stops.specs.Writing.{WriteNothing}
 use Rattle.run_stops.specs.Stops.{AreOfOneEvent, StopsAtSink}
-use Rattle.run_stops.proofs.Writing.{after_parts}
+use Rattle.run_stops.proofs.Passes.{after_parts}
 use Rattle.run_stops.proofs.Events.{submissions_write_nothing, empty_drains_write_nothing}
 use Rattle.event_player.specs.declared.play.PlayFault.{PlayFault}
 use Rattle.event_player.specs.declared.play.PlayFault.TheVariants as faults

@@ -24,7 +24,7 @@ use Rattle.driver_answers.specs.Waiting.{all_taken}
 use Rattle.run_stops.specs.Passes.{writes_by}
 use Rattle.run_stops.specs.Writing.{WriteNothing}
 use Rattle.run_stops.specs.Ahead.{AreBehind}
-use Rattle.run_stops.proofs.Writing.{after_parts}
+use Rattle.run_stops.proofs.Passes.{after_parts}
 use Rattle.run_stops.proofs.Events.{first_events_write_nothing, later_events_write_nothing, empty_drains_write_nothing}
 use Rattle.event_player.specs.Playing.{HasRun}
 use Rattle.event_player.specs.Steps.{Stage, Passes, IsAhead, KeepsAhead, PlaysEvent, HasDrained, EndsDraining, GoesOnDraining, PlaysDrain}

@@ -27,7 +27,7 @@ use Rattle.answer_tally.proofs.CountLaws.{counts_none, counts_both, counts_same}
 use Rattle.run_stops.specs.Passes.{IsThere, writes_by}
 use Rattle.run_stops.specs.Writing.{WriteNothing}
 use Rattle.run_stops.specs.Ahead.{AreBehind}
-use Rattle.run_stops.proofs.Writing.{after_parts}
+use Rattle.run_stops.proofs.Passes.{after_parts}
 use Rattle.run_stops.proofs.Events.{events_write_nothing, submissions_write_nothing}
 use Rattle.driver_answers.proofs.Taking.{none_waits}
 use Rattle.event_player.specs.Playing.{HasRun}

@@ -49,7 +49,7 @@ use Rattle.blocking_io.proofs.Passes.{quiet_rests}
 use Rattle.blocking_io.specs.Asking.{setup_at, Follows}
 use Rattle.blocking_io.specs.Stopping.{LeftAt, IsCut, begun}
 use Rattle.request_fronts.specs.Fronts.{OthersStay, HoldsFront, StoppedHoldsFront, AnsweredMovesClean}
-use Rattle.request_fronts.proofs.Few.{done_few}
+use Rattle.blocking_io.proofs.Passes.{done_few}
 
 -- ---- WHERE THE MACHINE IS behind a submission and some answers: the request was refused, is outstanding, or was answered
 record IsSame (setup : Setup) (m : Machine) : Type 0 where

@@ -1,3 +1,2 @@
-mod Few
 mod Fronts
 pub mod Passes

@@ -1,5 +1,6 @@
 mod Asked
 mod Begun
+pub mod Few
 mod Complete
 mod Fronts
-mod Quiet
+pub mod Quiet

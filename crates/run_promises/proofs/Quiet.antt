@@ -9,7 +9,7 @@ use Rattle.trace_replay.specs.Replay.{Replay, Submission, Refused, Joined, AreLe
 use Rattle.trace_replay.proofs.Unchanged.{told_keeps}
 use Rattle.run_promises.specs.Beginnings.{IsNoSector, AreNoSectors, QuietMomentsKeep}
 
-abbrev Same : Replay → Replay → Type 0
+abbrev pub Same : Replay → Replay → Type 0
 Same s t = t.surface.sector ≡ s.surface.sector
 
 deed_same : (s : Replay) (line unit id : ℕ) (deed : Deed) → IsNoSector (Told line unit id deed) → (surface_after s unit deed).sector ≡ s.surface.sector
@@ -28,7 +28,7 @@ deed_same s line unit id (Try b f) none = refl
 deed_same s line unit id Attn none = refl
 deed_same s line unit id (End a) none = refl
 
-played_same : (s : Replay) (line : ℕ) (input : Input) → Same s (after_moment s (Played line input))
+pub played_same : (s : Replay) (line : ℕ) (input : Input) → Same s (after_moment s (Played line input))
 played_same s line (Submit r) = at (submission s r)
   where
     at : (met : Submission) → (submitted s r met).surface.sector ≡ s.surface.sector
@@ -53,11 +53,11 @@ moments_same : (s : Replay) (ms : List Moment) → AreNoSectors ms → Same s (a
 moments_same s [] none = refl
 moments_same s (m ∷ ms) none = moments_same (after_moment s m) ms none.1 ∙ moment_same s m none.0
 
-after_parts : (s : Replay) (ms ns : List Moment) → after_moments s (ms ++ ns) ≡ after_moments (after_moments s ms) ns
+pub after_parts : (s : Replay) (ms ns : List Moment) → after_moments s (ms ++ ns) ≡ after_moments (after_moments s ms) ns
 after_parts s [] ns = refl
 after_parts s (m ∷ ms) ns = after_parts (after_moment s m) ms ns
 
-same_left : (drives : ℕ → Option DriveKind) (old new : ℕ → model.Pack) (one other : Surface) → other.sector ≡ one.sector → AreLeft drives old new one → AreLeft drives old new other
+pub same_left : (drives : ℕ → Option DriveKind) (old new : ℕ → model.Pack) (one other : Surface) → other.sector ≡ one.sector → AreLeft drives old new one → AreLeft drives old new other
 same_left drives old new one other same is = record {
   sectors = λ unit kind block declared below. is.sectors unit kind block declared below ∙ sym (ap (λ f. f unit block) same);
   beyond = is.beyond;

@@ -9,8 +9,9 @@ use Rattle.trace_replay.specs.Runs.{start_of}
 use Rattle.trace_replay.proofs.Following.{follow_on}
 use Rattle.run_promises.specs.Beginnings.{IsBegun, BeginningsKeep, PromisesSoFar}
 use Rattle.run_stops.specs.Writing.{WriteNothing}
-use Rattle.run_stops.specs.Ahead.{AreBehind, WritesAhead, RulesStart, AllSent, NothingKeepsRule, WritesKeepRule, RulesHold}
-use Rattle.run_stops.proofs.Writing.{after_parts, nothing_leaves_packs, nothing_leaves_lengths, nothing_joined, nothing_front}
+use Rattle.run_stops.specs.Ahead.{AreBehind, RulesStart, AllSent, NothingKeepsRule, WritesKeepRule, RulesHold}
+use Rattle.run_promises.proofs.Quiet.{after_parts}
+use Rattle.run_stops.proofs.Writing.{nothing_leaves_packs, nothing_leaves_lengths, nothing_joined, nothing_front}
 
 -- BEHIND MOMENTS THAT WRITE NOTHING the packs are as before.
 pub behind_more : (script : Script) (tables : ℕ → Option Table) (first left : ℕ → Pack) (moments more : List Moment) → AreBehind script tables first left moments

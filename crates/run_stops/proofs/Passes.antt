@@ -16,3 +16,4 @@ pub use Rattle.driver_trace.proofs.Start.{starts}
 pub use Rattle.driver_trace.proofs.Starting.{other_act}
 pub use Rattle.driver_trace.proofs.Telling.{LineFollows, LinesFollow, told_within}
 pub use Rattle.hp_driver.proofs.Moves.{read_from, tried_by_rules}
+pub use Rattle.run_promises.proofs.Quiet.{after_parts}

@@ -1,20 +1,19 @@
 -- Moments that write nothing leave the packs, and how long images are.
-use Rattle.std.proofs.Common.{◌≡◌, ℕ, Bool, true, false, ◌==◌, ◌&&◌, List, [], ◌∷◌, ◌++◌, Option, refl, sym, ap, ◌∙◌}
+use Rattle.std.proofs.Common.{◌≡◌, ℕ, Bool, true, false, ◌==◌, ◌&&◌, List, [], ◌∷◌, ◌++◌, refl, sym, ap, ◌∙◌}
 use Rattle.std.specs.Prelude.{if◌then◌else◌, length}
-use Rattle.pack_geometry.specs.declared.DriveKind.{DriveKind}
 use Rattle.pack_model.specs.Pack as model
 use Rattle.hardware_table.specs.Drive.{DriveState}
 use Rattle.hardware_table.specs.Moves.{was_read, was_written}
 use Rattle.subsystem_spec.specs.Requests.{Request}
 use Rattle.trace_replay.specs.Moments.{Deed, Search, Seek, Recal, Offset, Centre, Clear, Pack, Transfer, Arrive, Sector, Intr, Try, Attn, End, Moment, Played, Told, Idle}
-use Rattle.trace_replay.specs.Script.{Input, Submit, ArriveAt, MoveAt, AttendTo, Drain, Turn, Noise, Arm, SetOnline, SetLocked}
 use Rattle.trace_replay.specs.Service.{in_hand}
 use Rattle.trace_replay.specs.Packs.{Surface, surface_read, surface_written}
-use Rattle.trace_replay.specs.Replay.{Replay, Submission, Refused, Joined, AreLeft, submission, submitted, surface_after, next_wish, after_moment, after_moments}
+use Rattle.trace_replay.specs.Replay.{Replay, surface_after, next_wish, after_moment, after_moments}
 use Rattle.trace_replay.proofs.Unchanged.{told_keeps}
 use Rattle.driver_reach.specs.Lengths.{length_told, length_behind, reaching}
 use Rattle.driver_reach.proofs.Lengths.{long_append}
-use Rattle.run_promises.specs.Beginnings.{IsNoSector, AreNoSectors}
+use Rattle.run_promises.specs.Beginnings.{IsNoSector}
+use Rattle.run_promises.proofs.Quiet.{Same, played_same, after_parts, same_left}
 use Rattle.run_stops.specs.Writing.{was_written_at, WriteNothing, QuietWriteNothing, NothingLeavesPacks, NothingLeavesLengths}
 
 -- WITHOUT A SECTOR nothing is written.
@@ -41,9 +40,6 @@ quiet_write_nothing s (Told line unit id deed ∷ ms) none = (quiet_told s line 
 quiet_write_nothing s (Idle line ∷ ms) none = (refl, quiet_write_nothing (after_moment s (Idle line)) ms none.1)
 
 -- SECTORS stay,
-abbrev Same : Replay → Replay → Type 0
-Same s t = t.surface.sector ≡ s.surface.sector
-
 unwritten : (written read : Bool) (s : Surface) (unit block : ℕ) (d : DriveState) (r : Request) (k : ℕ) → written ≡ false
     → (surface_written written (surface_read read s unit d block) unit block r k).sector ≡ s.sector
 unwritten true read s unit block d r k off = absurd (let e : true ≡ false = off in cc)
@@ -67,22 +63,6 @@ deed_same s line unit id (Try b f) off = refl
 deed_same s line unit id Attn off = refl
 deed_same s line unit id (End a) off = refl
 
-played_same : (s : Replay) (line : ℕ) (input : Input) → Same s (after_moment s (Played line input))
-played_same s line (Submit r) = at (submission s r)
-  where
-    at : (met : Submission) → (submitted s r met).surface.sector ≡ s.surface.sector
-    at (Refused why) = refl
-    at Joined = refl
-played_same s line (ArriveAt u) = refl
-played_same s line (MoveAt a) = refl
-played_same s line (AttendTo a) = refl
-played_same s line Drain = refl
-played_same s line (Turn u y) = refl
-played_same s line (Noise n) = refl
-played_same s line (Arm u k n) = refl
-played_same s line (SetOnline u on) = refl
-played_same s line (SetLocked u on) = refl
-
 moment_same : (s : Replay) (m : Moment) → was_written_at s m ≡ false → Same s (after_moment s m)
 moment_same s (Played line input) off = played_same s line input
 moment_same s (Told line unit id deed) off = told_keeps (Same s) (next_wish s) s unit deed (λ event. refl) (λ event. deed_same s line unit id deed off)
@@ -91,18 +71,6 @@ moment_same s (Idle line) off = refl
 moments_same : (s : Replay) (ms : List Moment) → WriteNothing s ms → Same s (after_moments s ms)
 moments_same s [] none = refl
 moments_same s (m ∷ ms) none = moments_same (after_moment s m) ms none.1 ∙ moment_same s m none.0
-
-pub after_parts : (s : Replay) (ms ns : List Moment) → after_moments s (ms ++ ns) ≡ after_moments (after_moments s ms) ns
-after_parts s [] ns = refl
-after_parts s (m ∷ ms) ns = after_parts (after_moment s m) ms ns
-
-same_left : (drives : ℕ → Option DriveKind) (old left : ℕ → model.Pack) (one other : Surface) → other.sector ≡ one.sector → AreLeft drives old left one → AreLeft drives old left other
-same_left drives old left one other same is = record {
-  sectors = λ unit kind block declared below. is.sectors unit kind block declared below ∙ sym (ap (λ f. f unit block) same);
-  beyond = is.beyond;
-  marks = is.marks;
-  others = is.others;
-}
 
 pub nothing_leaves_packs : NothingLeavesPacks
 nothing_leaves_packs drives old left start moments more none is =
