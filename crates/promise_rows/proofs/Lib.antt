@@ -3,3 +3,4 @@ mod Naming
 mod Headers
 mod Others
 mod Strikes
+mod Stopping

@@ -3,3 +3,4 @@ pub mod Naming
 pub mod Headers
 pub mod Others
 pub mod Strikes
+pub mod Stopping

@@ -3,6 +3,7 @@
 
 ghost use Rattle.promise_rows.specs.Playing.{AlwaysAFault, AnswersKeptBack, BlockBeforeItsEvent, BlockBehindAStop, BlockOfNoUnit, NoiseLineUncounted, ShortLastBlockWhole};
 ghost use Rattle.promise_rows.specs.Naming.{LaterUnitNamed, FittingLengthNamed, FirstEventUntold, OtherRunByOtherTables, ReadsLengthen, NotAsLongAsWritten, TwoLinesUnderWay, TwoEventsUnderWay, MarkGoneBehindAFailure};
+ghost use Rattle.promise_rows.specs.Stopping.{AnswerBeforeItsLine, TextDropped, TextSentTwice, TwoBlocksAhead};
 ghost use Rattle.promise_rows.specs.Strikes.{FailedByFewStrikes};
 ghost use Rattle.promise_rows.specs.Headers.{HeadersAreAsTheDriveHasThem};
 ghost use Rattle.promise_rows.specs.Others.{DoneWhereTheTextWasNotTaken, FaultThatPrints, HandedInPacksPlayed, PlayedAsRefusedByTheTool};
@@ -48,4 +49,13 @@ pub fn naming_rows()
 /// A header's fault is the drive's: the header of a marked block shows the fault whose error bit the drive sets at a marked sector.
 pub fn header_rows()
     ensures { HeadersAreAsTheDriveHasThem }
+{}
+
+/// Of a stop: no answer stands before its line, of the blocks that were written one at most has no line that was sent, and where the packs
+/// failed and the trace did not, all lines were sent, once.
+pub fn stop_rows()
+    ensures answer_before_its_line { AnswerBeforeItsLine }
+    ensures write_before_its_lines { TwoBlocksAhead }
+    ensures text_dropped_at_a_stop { TextDropped }
+    ensures text_sent_twice { TextSentTwice }
 {}

@@ -1,0 +1,92 @@
+-- What is promised of a stop refuses these outcomes.
+use Rattle.std.proofs.Common.{◌≡◌, ℕ, ◌+◌, ◌≤◌, Bool, true, false, List, [], ◌∷◌, ◌++◌, refl, sym, ap, subst, arith, ◌∙◌}
+use Rattle.std.proofs.lemmas.List.{append_assoc, append_cancel_left, append-nil}
+use Rattle.subsystem_spec.specs.Requests.{Answer}
+use Rattle.trace_replay.specs.Moments.{Moment, Deed, Told, Sector, End}
+use Rattle.trace_replay.specs.Replay.{Replay, after_moments}
+use Rattle.trace_replay.specs.Runs.{start_of}
+use Rattle.trace_replay.specs.Text.{trace_text, moment_text}
+use Rattle.answer_lines.specs.AnswerText.{out_text}
+use Rattle.driver_outcome.specs.Outcome.{IsFront}
+use Rattle.driver_outcome.proofs.Joined.{text_append}
+use Rattle.run_stops.specs.Ahead.{IsBetween, lines_told}
+use Rattle.run_stops.specs.Writing.{WriteNothing, was_written_at}
+use Rattle.promise_rows.specs.Stopping.{AnswerBeforeItsLine, TwoBlocksAhead, TextDropped, TextSentTwice}
+
+pub nothing_more : (said text : List ℕ) → said ≡ said ++ text → text ≡ []
+nothing_more said text is = append_cancel_left said text [] (sym is ∙ sym (append-nil said))
+
+no_front : (a b : List ℕ) → a ++ b ≡ [] → a ≡ []
+no_front [] b is = refl
+no_front (x ∷ a) b is = absurd (cc is)
+
+-- what is no longer has nothing more
+not_longer : (said more : List ℕ) → IsFront (said ++ more) said → more ≡ []
+not_longer said more f = no_front more f.rest (nothing_more said (more ++ f.rest) (f.whole ∙ append_assoc said more f.rest))
+
+-- AN ANSWER has a line.
+ended : (line unit id : ℕ) (answer : Answer) → moment_text (Told line unit id (End answer)) ≡ [] → ⊥
+ended line unit id answer is = absurd (cc is)
+
+none_told : (taken : List ℕ) (sent told untold late : List Moment) (line unit id : ℕ) (answer : Answer) → Told line unit id (End answer) ∷ late ≡ told ++ untold
+    → IsFront (taken ++ trace_text (sent ++ told)) (taken ++ trace_text sent) → told ≡ []
+none_told taken sent [] untold late line unit id answer cut f = refl
+none_told taken sent (m ∷ told) untold late line unit id answer cut f =
+    let first : Told line unit id (End answer) ≡ m = cc cut in
+    let more : List ℕ = moment_text m ++ trace_text told in
+    let longer : IsFront ((taken ++ trace_text sent) ++ more) (taken ++ trace_text sent) =
+    subst (λ (text : List ℕ). IsFront text (taken ++ trace_text sent)) (ap (λ (text : List ℕ). taken ++ text) (text_append sent (m ∷ told)) ∙ sym (append_assoc taken (trace_text sent) more)) f in
+    absurd (ended line unit id answer (ap moment_text first ∙ no_front (moment_text m) (trace_text told) (not_longer (taken ++ trace_text sent) more longer)))
+
+just : (text text' : List ℕ) → IsBetween text text text' → text' ≡ text
+just text text' between =
+    between.least.whole ∙ ap (λ (more : List ℕ). text ++ more) (not_longer text between.least.rest (subst (λ (t : List ℕ). IsFront t text) between.least.whole between.most)) ∙ append-nil text
+
+pub answer_before_its_line : AnswerBeforeItsLine
+answer_before_its_line said said' taken sent late line unit id answer tells other =
+    let none : tells.told ≡ [] = none_told taken sent tells.told tells.untold late line unit id answer tells.cut (tells.trace refl).least in
+    other (just (said ++ out_text sent) said' (subst (λ (ms : List Moment). IsBetween (said ++ out_text sent) (said ++ out_text ms) said')
+    (ap (λ (ms : List Moment). sent ++ ms) none ∙ append-nil sent) (tells.out refl)))
+
+never : (b : Bool) → b ≡ true → b ≡ false → ⊥
+never true on off = absurd (cc off)
+never false on off = absurd (cc on)
+
+-- OF WHAT CAME LATE one moment at most tells of a block that was written.
+one_written : (start : Replay) (sent move quiet late : List Moment) (line unit id line' unit' id' : ℕ) (deed deed' : Deed) → Told line unit id deed ∷ Told line' unit' id' deed' ∷ late ≡ move ++ quiet
+    → lines_told move ≤ 1 → WriteNothing (after_moments start (sent ++ move)) quiet
+    → was_written_at (after_moments start sent) (Told line unit id deed) ≡ true
+    → was_written_at (after_moments start (sent ++ Told line unit id deed ∷ [])) (Told line' unit' id' deed') ≡ true → ⊥
+one_written start sent [] quiet late line unit id line' unit' id' deed deed' cut few nothing one other =
+    let same : after_moments start (sent ++ []) ≡ after_moments start sent = ap (after_moments start) (append-nil sent) in
+    let none : WriteNothing (after_moments start sent) (Told line unit id deed ∷ Told line' unit' id' deed' ∷ late) =
+    subst (λ (s : Replay). WriteNothing s (Told line unit id deed ∷ Told line' unit' id' deed' ∷ late)) same (subst (WriteNothing (after_moments start (sent ++ []))) (sym cut) nothing) in
+    never (was_written_at (after_moments start sent) (Told line unit id deed)) one none.0
+one_written start sent (m ∷ []) quiet late line unit id line' unit' id' deed deed' cut few nothing one other =
+    let first : Told line unit id deed ≡ m = cc cut in
+    let rest : Told line' unit' id' deed' ∷ late ≡ quiet = cc cut in
+    let same : after_moments start (sent ++ m ∷ []) ≡ after_moments start (sent ++ Told line unit id deed ∷ []) = ap (λ (n : Moment). after_moments start (sent ++ n ∷ [])) (sym first) in
+    let none : WriteNothing (after_moments start (sent ++ Told line unit id deed ∷ [])) (Told line' unit' id' deed' ∷ late) =
+    subst (λ (s : Replay). WriteNothing s (Told line' unit' id' deed' ∷ late)) same (subst (WriteNothing (after_moments start (sent ++ m ∷ []))) (sym rest) nothing) in
+    never (was_written_at (after_moments start (sent ++ Told line unit id deed ∷ [])) (Told line' unit' id' deed')) other none.0
+one_written start sent (m ∷ n ∷ move) quiet late line unit id line' unit' id' deed deed' cut few nothing one other =
+    let first : Told line unit id deed ≡ m = cc cut in
+    let second : Told line' unit' id' deed' ≡ n = cc cut in
+    let two : lines_told (Told line unit id deed ∷ Told line' unit' id' deed' ∷ move) ≤ 1 =
+    subst (λ (x : Moment). lines_told (x ∷ Told line' unit' id' deed' ∷ move) ≤ 1) (sym first) (subst (λ (x : Moment). lines_told (m ∷ x ∷ move) ≤ 1) (sym second) few) in
+    many (lines_told move) two
+  where
+    many : (n : ℕ) → n + 1 + 1 ≤ 1 → ⊥
+    many n less = omega (arith, less)
+
+pub two_blocks_ahead : TwoBlocksAhead
+two_blocks_ahead script tables first held sent late line unit id block line' unit' id' block' moved moved' one other ahead =
+    one_written (start_of script tables first) sent ahead.move ahead.quiet late line unit id line' unit' id' (Sector block moved) (Sector block' moved') ahead.cut ahead.one.few ahead.nothing one other
+
+pub text_dropped : TextDropped
+text_dropped script tables first left out trace stops calm tells other = other (stops.lines.whole calm tells)
+
+pub text_sent_twice : TextSentTwice
+text_sent_twice script tables first left out trace stops calm tells some twice =
+    let text : List ℕ = trace_text stops.done in
+    some (nothing_more text text (append_cancel_left trace.before text (text ++ text) (sym (stops.lines.whole calm tells) ∙ twice)))
