@@ -4,9 +4,9 @@
 //! ranges.
 #![tactic(auto)]
 
-mod usage;
+mod text;
 mod words;
 
 pub use raw_command::{Transfer, TransferFault, run_transfer};
-pub use usage::usage;
+pub use text::usage;
 pub use words::{Command, command_of};
