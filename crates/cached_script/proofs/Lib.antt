@@ -1,0 +1,4 @@
+mod Wrongs
+mod Knows
+mod Passes
+pub mod ReadingLaws

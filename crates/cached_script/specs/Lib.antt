@@ -1,0 +1,4 @@
+pub mod Kinds
+pub mod Scripts
+pub mod Knowing
+pub mod Reading
