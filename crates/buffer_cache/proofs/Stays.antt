@@ -118,6 +118,9 @@ all_left P keep zero (e ∷ entries) all = (keep e all.0, all_left P keep zero e
 all_left P keep (suc n) [] all = tt
 all_left P keep (suc n) (e ∷ entries) all = (all.0, all_left P keep n entries all.1)
 
+pub unchanged_data : (w : World) (s s' : State) → s' ≡ record s { entries = last_unchanged s.entries } → AllByRecursion (λ e. IsData w e.unit e.block) s.entries → AllByRecursion (λ e. IsData w e.unit e.block) s'.entries
+unchanged_data w s s' is all = subst (λ (z : State). AllByRecursion (λ e. IsData w e.unit e.block) z.entries) (sym is) (all_left (λ e. IsData w e.unit e.block) (λ e d. d) (length s.entries - 1) s.entries all)
+
 all_taken : (P : Entry → Type 0) (n : ℕ) (entries : List Entry) → AllByRecursion P entries → AllByRecursion P (take n entries)
 all_taken P zero entries all = tt
 all_taken P (suc n) [] all = tt

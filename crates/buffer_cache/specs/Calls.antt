@@ -9,9 +9,9 @@ use Rattle.hp_driver.specs.Subsystem.{State as Driver}
 use Rattle.request_fronts.specs.Fronts.{OthersStay}
 use Rattle.raw_io.specs.Calls.{map_at, left_map}
 use Rattle.cached_blocks.specs.declared.Entry.{Entry}
-use Rattle.cached_blocks.specs.Entries.{State, to_write_back, with_room, write_backs, flushed, written_back}
-use Rattle.cached_blocks.specs.Requests.{reads}
-use Rattle.cached_blocks.specs.Calls.{read_done, write_done}
+use Rattle.cached_blocks.specs.Entries.{State, to_write_back, with_room, write_backs, put, flushed, written_back}
+use Rattle.cached_blocks.specs.Requests.{reads, writes}
+use Rattle.cached_blocks.specs.Calls.{entry, read_done, write_done}
 use Rattle.cached_blocks.specs.Contents.{AllFit, Gives, Takes, Flushes, IsOne}
 use Rattle.single_blocks.specs.Asks.{IsData, Asks, found_bytes}
 use Rattle.buffer_cache.specs.declared.fault.CacheFault.{CacheFault}
@@ -32,6 +32,12 @@ pub record Fetched (line unit block : ℕ) (found : Bool) (into : List ℕ) (s s
   pub state : s' ≡ (if found then with_room s else s)
   pub asks : Asks line (reads unit block ∷ (if found then write_backs (to_write_back s) else [])) old new
   pub told : IsTrue new.packs_tell → HasTables (setup_at old) → map_at old unit block ≡ found_bytes found into
+
+-- IT IS PUT IN FRONT, changed; where memory refuses that, it is written at once.
+pub record Placed (line unit block : ℕ) (from : List ℕ) (s s' : State) (old new : Stage) : Type 0 where
+  pub refuses : Bool
+  pub state : s' ≡ put refuses (entry unit block from true) s
+  pub asks : Asks line (if refuses then writes unit block from ∷ [] else []) old new
 
 -- A READ that gave these bytes, or none
 pub record Reads (line unit block : ℕ) (given : Option (List ℕ)) (s s' : State) (old new : Stage) : Type 0 where

@@ -1,6 +1,5 @@
 // A block is read or written through the cache.
-ghost use Rattle.std.specs.Prelude.{◌≡◌, ◌≤◌, ℕ, true, IsTrue, IsSome, None, Some, OnErr, Err};
-ghost use Rattle.driver_outcome.specs.declared.Stop.{Stop};
+ghost use Rattle.std.specs.Prelude.{◌≡◌, ◌≤◌, IsSome, None, Some};
 ghost use Rattle.cached_blocks.specs.Entries.{entry_of};
 ghost use Rattle.raw_io.specs.Transfers.{site, Keeps};
 ghost use Rattle.single_blocks.specs.Asks.{IsData};
@@ -8,11 +7,9 @@ ghost use Rattle.buffer_cache.specs.Calls.{MayUse, Holds, IfTold, Reads, Writes,
 
 use crate::fault::CacheFault;
 use crate::slots::Cache;
-use blocking_io::sessions_law;
 use cached_blocks::cache_law;
 use hp_driver::Subsystem;
 use outside_traits::traits::{Packs, Sink};
-use single_blocks::store_block;
 
 impl Cache {
     /// Reads a data block of a unit through the cache, at a line from 1 on. A block that is an entry comes to the front, and nothing else is
@@ -23,7 +20,6 @@ impl Cache {
     /// `Unusable` comes exactly where the block can't be used; cache and packs are as they were then, and of the buffer nothing is said.
     /// `Stop` comes only where the count of faults of the packs or of the trace rose; no further call may follow then. Want of memory is
     /// never answered: where an insertion is refused, that is counted, and the block is not in the cache.
-    #[tactic(none)]
     pub fn read<P: Packs, T: Sink>(
         &mut self,
         subsystem: &mut Subsystem,
@@ -55,11 +51,7 @@ impl Cache {
         if self.give(unit, block, into) {
             return Ok(());
         }
-        if !self.fetch(subsystem, line, unit, block, into, packs, trace)? {
-            return Err(CacheFault::Unusable);
-        }
-        self.insert(unit, block, into, false);
-        Ok(())
+        self.read_new(subsystem, line, unit, block, into, packs, trace)
     }
 
     /// Writes a data block of a unit through the cache, at a line from 1 on: its bytes are in the cache then, and go to the pack when the
@@ -67,7 +59,6 @@ impl Cache {
     /// the pack at once.
     ///
     /// `Unusable` and `Stop` come as they do for `read`.
-    #[tactic(none)]
     pub fn write<P: Packs, T: Sink>(
         &mut self,
         subsystem: &mut Subsystem,
@@ -95,18 +86,10 @@ impl Cache {
         ensures keeps { Keeps P.tells P.faults T.tells T.faults subsystem.old subsystem.new packs.old packs.new trace.old trace.new (stop_of result) }
     {
         cache_law();
-        sessions_law();
         self.law();
         if self.change(unit, block, from) {
             return Ok(());
         }
-        let mut held = [0; 512];
-        if !self.fetch(subsystem, line, unit, block, &mut held, packs, trace)? {
-            return Err(CacheFault::Unusable);
-        }
-        if !self.insert(unit, block, from, true) {
-            store_block(subsystem, line, unit, block, from, packs, trace)?;
-        }
-        Ok(())
+        self.write_new(subsystem, line, unit, block, from, packs, trace)
     }
 }

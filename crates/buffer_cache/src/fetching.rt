@@ -26,6 +26,7 @@ impl Cache {
         requires line { 1 ≤ line }
         requires may { MayUse self.old subsystem.old }
         ensures state { OnOk result (self.new ≡ with_room self.old) }
+        ensures may { OnOk result (MayUse self.new subsystem.new) }
         ensures asks { OnOk result (Asks line (write_backs (to_write_back self.old))
             (site P.tells P.held T.tells T.taken subsystem.old.world packs.old trace.old)
             (site P.tells P.held T.tells T.taken subsystem.new.world packs.new trace.new)) }
@@ -71,6 +72,7 @@ impl Cache {
         ensures fetches { IfOk result (λ found. Fetched line unit block found into.new self.old self.new
             (site P.tells P.held T.tells T.taken subsystem.old.world packs.old trace.old)
             (site P.tells P.held T.tells T.taken subsystem.new.world packs.new trace.new)) }
+        ensures may { OnOk result (MayUse self.new subsystem.new) }
         ensures stops { OnErr result (IfTold self.old
             (site P.tells P.held T.tells T.taken subsystem.old.world packs.old trace.old)
             (site P.tells P.held T.tells T.taken subsystem.new.world packs.new trace.new)

@@ -12,6 +12,7 @@ mod cache;
 mod entry;
 mod fault;
 mod fetching;
+mod placing;
 mod slots;
 mod syncing;
 

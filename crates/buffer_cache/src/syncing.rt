@@ -50,7 +50,6 @@ fn write_back<P: Packs, T: Sink>(
 }
 
 /// Writes each changed entry back, the first one first.
-#[tactic(none)]
 fn write_all_back<P: Packs, T: Sink>(
     order: &LruCache<Key, usize>,
     slots: &mut Vec<Held>,
@@ -88,7 +87,6 @@ impl Cache {
     /// changed; so the packs hold what is cached.
     ///
     /// `Store` and `Sink` come only where the count of faults of the packs or of the trace rose; no further call may follow then.
-    #[tactic(none)]
     pub fn sync<P: Packs, T: Sink>(
         &mut self,
         subsystem: &mut Subsystem,
@@ -112,6 +110,7 @@ impl Cache {
     {
         cache_law();
         self.law();
-        write_all_back(&self.order, &mut self.slots, subsystem, line, packs, trace)
+        write_all_back(&self.order, &mut self.slots, subsystem, line, packs, trace)?;
+        Ok(())
     }
 }

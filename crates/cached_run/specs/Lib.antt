@@ -1,1 +1,4 @@
 pub mod Faults
+pub mod Meaning
+pub mod Answers
+pub mod Theorem

@@ -47,3 +47,13 @@ returns-clause-fetches g c =
     fetched_true c.sessions_law.ensures.join c.args.line c.args.unit c.args.block c.fetch_block.new.into c.args.self.now c.make_room.new.self old mid new
     (subst (λ b. Fetches c.args.line c.args.unit c.args.block b c.fetch_block.new.into old mid) c.if-not-branch.false c.in_ok-fetch_block.ensures.fetches) c.in_ok-make_room.ensures.state c.in_ok-make_room.ensures.asks
     (record { packs = c.in_ok-make_room.ensures.keeps.never_again; trace = c.in_ok-make_room.ensures.keeps.never_again_trace })
+
+pub returns-then-not-branch-clause-may : goal.returns-then-not-branch-clause-may
+returns-then-not-branch-clause-may g c =
+    let old : Stage = site g.P.Packs.tells g.P.Packs.held g.T.Sink.tells g.T.Sink.taken c.args.subsystem.now.world c.args.packs.now c.args.trace.now in
+    let mid : Stage = site g.P.Packs.tells g.P.Packs.held g.T.Sink.tells g.T.Sink.taken c.fetch_block.new.subsystem.world c.fetch_block.new.packs c.fetch_block.new.trace in
+    record {
+      ready = c.in_ok-fetch_block.ensures.keeps.ready refl;
+      room = subst (λ n. 1 ≤ n) (sym c.in_ok-fetch_block.ensures.keeps.outstanding) c.requires.may.room;
+      entries = all_data old mid c.args.self.now.entries c.in_ok-fetch_block.ensures.fetches.asks.goes.setup (c.in_ok-fetch_block.ensures.keeps.units refl) c.requires.may.entries;
+    }

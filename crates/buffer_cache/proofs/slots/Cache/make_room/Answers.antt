@@ -1,4 +1,4 @@
-use Rattle.std.proofs.Common.{◌≡◌, [], sym, ◌∙◌, subst}
+use Rattle.std.proofs.Common.{◌≡◌, ◌≤◌, [], refl, sym, ◌∙◌, subst}
 use Rattle.std.specs.Prelude.{None, Some}
 use Rattle.blocking_io.specs.Calls.{Stage}
 use Rattle.raw_io.specs.Transfers.{site}
@@ -10,7 +10,7 @@ use Rattle.cached_blocks.specs.Entries.{to_write_back, write_backs}
 use Rattle.cached_blocks.proofs.Ones.{IsFound, each_found, back_all, back_one, none_one}
 use Rattle.single_blocks.specs.Asks.{IsData, Asks}
 use Rattle.single_blocks.proofs.Joins.{asks_none}
-use Rattle.buffer_cache.proofs.Stays.{holds_left}
+use Rattle.buffer_cache.proofs.Stays.{all_data, holds_left, unchanged_data}
 use Rattle.buffer_cache.proofs.slots.Cache.make_room.Goals as goal
 
 pub returns-in_default-clause-asks : goal.returns-in_default-clause-asks
@@ -39,3 +39,14 @@ returns-in_err-store_block-clause-stops g c =
     on_err c.from_residual.result _ (λ t tables fit.
     holds_left c.args.line [] (writes c.in-Some.last.unit c.in-Some.last.block c.in-Some.last.bytes) 0 0 None c.args.self.now old old new (asks_none c.args.line old) first
     (back_one (map_at old) c.args.self.now.entries 0 0 None (map_at old) c.in-Some.last found first) c.in_err-store_block.ensures.keeps.never_again c.in_err-store_block.ensures.stops t tables)
+
+pub returns-clause-may : goal.returns-clause-may
+returns-clause-may g c =
+    let old : Stage = site g.P.Packs.tells g.P.Packs.held g.T.Sink.tells g.T.Sink.taken c.args.subsystem.now.world c.args.packs.now c.args.trace.now in
+    let mid : Stage = site g.P.Packs.tells g.P.Packs.held g.T.Sink.tells g.T.Sink.taken c.store_block.new.subsystem.world c.store_block.new.packs c.store_block.new.trace in
+    record {
+      ready = c.in_ok-store_block.ensures.keeps.ready refl;
+      room = subst (λ n. 1 ≤ n) (sym c.in_ok-store_block.ensures.keeps.outstanding) c.requires.may.room;
+      entries = unchanged_data mid.world c.args.self.now c.last_is_written.new.self c.last_is_written.ensures
+          (all_data old mid c.args.self.now.entries c.in_ok-store_block.ensures.stores.goes.setup (c.in_ok-store_block.ensures.keeps.units refl) c.requires.may.entries);
+    }
