@@ -1,8 +1,10 @@
 -- One more entry of a sync.
-use Rattle.std.proofs.Common.{◌≡◌, ◌≢◌, ◌⊎◌, inl, inr, ℕ, ◌<◌, Bool, true, false, IsTrue, List, [], ◌∷◌, ◌++◌, length, Option, None, Some, refl, sym, ap, ◌∙◌, subst, append-nil, append_assoc}
+use Rattle.std.proofs.Common.{◌≡◌, ◌≢◌, ◌⊎◌, inl, inr, ℕ, ◌<◌, Bool, true, false, IsTrue, List, [], ◌∷◌, ◌++◌, length, Option, None, Some, refl, sym, ap, ◌∙◌, subst, append-nil, append_assoc, ◌≤◌, arith}
 use Rattle.std.specs.Prelude.{map, slice_index_or, slice_set, if◌then◌else◌}
 use Rattle.std.specs.List.{AllByRecursion}
 use Rattle.std.proofs.lemmas.List.{length-set, map-append}
+use Rattle.lru.specs.LruCache.{LruCache}
+use Rattle.driver_machine.specs.World.{World}
 use Rattle.waited_requests.specs.Rest.{HasTables}
 use Rattle.blocking_io.specs.Calls.{Stage}
 use Rattle.blocking_io.specs.Asking.{setup_at}
@@ -10,15 +12,17 @@ use Rattle.blocking_io.specs.Sessions.{StillTell, SessionsJoin}
 use Rattle.raw_io.specs.Calls.{map_at}
 use Rattle.cached_blocks.specs.declared.Entry.{Entry}
 use Rattle.cached_blocks.specs.Requests.{writes}
-use Rattle.cached_blocks.specs.Entries.{State, AreApart, if_changed, unchanged, write_backs, written_back}
+use Rattle.cached_blocks.specs.Contents.{Flushes}
+use Rattle.cached_blocks.specs.Laws.{SyncWrites}
+use Rattle.cached_blocks.specs.Entries.{State, AreApart, IsCache, if_changed, unchanged, write_backs, written_back}
 use Rattle.cached_blocks.proofs.Lookups.{all_parts}
 use Rattle.cached_blocks.proofs.Ones.{IsFound, each_found, back_one, backs_one, none_one}
-use Rattle.single_blocks.specs.Asks.{Asks, LeftBy}
+use Rattle.single_blocks.specs.Asks.{IsData, Asks, LeftBy}
 use Rattle.single_blocks.proofs.Joins.{asks_join}
 use Rattle.buffer_cache.specs.declared.entry.Key.{Key}
 use Rattle.buffer_cache.specs.declared.entry.Held.{Held}
-use Rattle.buffer_cache.specs.Views.{nothing, entry_with, entry_at, entries_of, Misses, AreSlots}
-use Rattle.buffer_cache.specs.Calls.{Holds}
+use Rattle.buffer_cache.specs.Views.{nothing, entry_with, entry_at, entries_of, state_of, Misses, AreSlots, IsKept}
+use Rattle.buffer_cache.specs.Calls.{Holds, Syncs}
 use Rattle.buffer_cache.proofs.Orders.{entries_set, entry_set}
 use Rattle.buffer_cache.proofs.Stays.{holds_left}
 
@@ -95,3 +99,33 @@ flush_stops line order slots now s old mid new p rest is apart f still stops t t
     holds_left line (written_back (entries_of f.done slots)) (writes p.0.unit p.0.block (entry_at slots p).bytes) 0 0 None s old mid new f.asks before
     (back_one (map_at old) s.entries 0 0 None _ (entry_at slots p) found.1.0 before) still
     (subst (λ (e : Entry). IsTrue new.packs_tell → HasTables (setup_at mid) → LeftBy (writes p.0.unit p.0.block e.bytes) mid new) same stops) t tables
+
+-- ---- the next one: its slot is there, and its block is a data block
+pub slot_now : (line : ℕ) (order : LruCache Key ℕ) (slots now : List Held) (old mid : Stage) (p : Key × ℕ) (rest : List (Key × ℕ)) → IsKept order slots → length order.entries ≤ order.cap
+    → Flushing line order.entries slots now old mid (p ∷ rest) → p.1 < length now
+slot_now line order slots now old mid p rest k few f =
+    let lt = (split_misses (length order.entries) f.done p rest (subst (AreSlots (length order.entries)) f.all k.slots_are)).0 in
+    let room = k.room in
+    let same = f.room in
+    omega (arith, lt, few, room, same)
+
+pub data_now : (line : ℕ) (order : List (Key × ℕ)) (slots now : List Held) (old mid : Stage) (p : Key × ℕ) (rest : List (Key × ℕ)) (w : World) → AllByRecursion (λ e. IsData w e.unit e.block) (entries_of order slots)
+    → Flushing line order slots now old mid (p ∷ rest) → IsData w p.0.unit p.0.block
+data_now line order slots now old mid p rest w all f =
+    (all_parts (λ e. IsData w e.unit e.block) (entries_of f.done slots) (entries_of (p ∷ rest) slots)
+    (subst (AllByRecursion (λ e. IsData w e.unit e.block)) (ap (λ z. entries_of z slots) f.all ∙ map-append (entry_at slots) f.done (p ∷ rest)) all)).1.0
+
+-- ---- ALL OF THEM
+pub flushed_data : (w : World) (entries : List Entry) → AllByRecursion (λ e. IsData w e.unit e.block) entries → AllByRecursion (λ e. IsData w e.unit e.block) (map unchanged entries)
+flushed_data w [] all = tt
+flushed_data w (e ∷ entries) all = (all.0, flushed_data w entries all.1)
+
+pub syncs_of : SyncWrites → (line : ℕ) (order : LruCache Key ℕ) (slots slots' : List Held) (refused : ℕ) (old new : Stage) → IsCache (state_of order slots refused)
+    → Asks line (written_back (entries_of order.entries slots)) old new → entries_of order.entries slots' ≡ map unchanged (entries_of order.entries slots)
+    → Syncs line (state_of order slots refused) (state_of order slots' refused) old new
+syncs_of law line order slots slots' refused old new is asks same = record {
+  state = ap (λ z. record { entries = z; capacity = order.cap; refused = refused }) same;
+  asks = asks;
+  told = λ t tables fit. subst (λ z. Flushes (map_at old) (map_at new) (entries_of order.entries slots) z) (sym same)
+      (subst (λ m. Flushes (map_at old) m (entries_of order.entries slots) (map unchanged (entries_of order.entries slots))) (sym (asks.map t tables)) (law (map_at old) (state_of order slots refused) is fit));
+}

@@ -1,17 +1,11 @@
-use Rattle.std.proofs.Common.{◌≡◌, ◌≤◌, length}
 use Rattle.std.specs.Prelude.{None}
-use Rattle.std.specs.List.{AllByRecursion}
 use Rattle.raw_io.specs.Transfers.{site, Keeps}
-use Rattle.single_blocks.specs.Asks.{IsData}
-use Rattle.buffer_cache.specs.Views.{entries_of}
 use Rattle.buffer_cache.proofs.Turns.{Flushing}
 use Rattle.buffer_cache.proofs.syncing.write_all_back.Given as goal
 
 -- the entries in front were written back, and the rest is as it was
 abbrev pub invariant-loop-key : goal.invariant-loop-key
 invariant-loop-key g l = record {
-  next : (goal.iterator-loop-key g).can_next l.key-iterator;
-  finite : (goal.iterator-loop-key g).is_finite l.key-iterator;
   flushing : Flushing l.line l.order.entries l.fn.slots.items l.slots.items
       (site g.P.Packs.tells g.P.Packs.held g.T.Sink.tells g.T.Sink.taken l.fn.subsystem.world l.fn.packs l.fn.trace)
       (site g.P.Packs.tells g.P.Packs.held g.T.Sink.tells g.T.Sink.taken l.subsystem.world l.packs l.trace) l.key-iterator;
