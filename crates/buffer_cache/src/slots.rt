@@ -112,7 +112,7 @@ impl Cache {
     }
 
     /// The law of the cache: it has no more entries than it may, and no block twice.
-    pub(crate) fn law(&self)
+    pub fn law(&self)
         ensures { IsCache self.now }
     {
         let _count = self.order.len();

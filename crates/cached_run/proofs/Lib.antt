@@ -1,1 +1,2 @@
-
+mod Replacings
+mod Leavings

@@ -2,3 +2,4 @@ pub mod Faults
 pub mod Meaning
 pub mod Answers
 pub mod Theorem
+pub mod Leaving
