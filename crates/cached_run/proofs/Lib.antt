@@ -1,2 +1,5 @@
 mod Replacings
 mod Leavings
+mod Firsts
+mod Readings
+mod Writings
