@@ -3,3 +3,4 @@ mod Leavings
 mod Firsts
 mod Readings
 mod Writings
+mod Legal

@@ -3,3 +3,4 @@ pub mod Meaning
 pub mod Answers
 pub mod Theorem
 pub mod Leaving
+pub mod Saying

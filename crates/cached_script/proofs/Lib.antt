@@ -2,3 +2,4 @@ mod Wrongs
 mod Knows
 mod Passes
 pub mod ReadingLaws
+mod Wells

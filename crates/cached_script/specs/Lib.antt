@@ -2,3 +2,4 @@ pub mod Kinds
 pub mod Scripts
 pub mod Knowing
 pub mod Reading
+pub mod Formed

@@ -2,6 +2,7 @@ ghost use Rattle.std.specs.Prelude.{◌≡◌, ◌⊎◌, ◌<◌, ◌≤◌, �
 ghost use Rattle.script_words.specs.declared.kinds.ScriptKind.{ScriptKind};
 ghost use Rattle.script_reader.specs.Lines.{lines_of};
 ghost use Rattle.cached_script.specs.declared.statement.Line.{Line};
+ghost use Rattle.cached_script.specs.Formed.{IsScript};
 ghost use Rattle.cached_script.specs.Kinds.{kind_of};
 ghost use Rattle.cached_script.specs.Knowing.{known_in, LearnsFrom};
 ghost use Rattle.cached_script.specs.Scripts.{known_of, more, line_says, Spells, IsRefused, Refuses};
@@ -142,6 +143,14 @@ pub fn read_cached(alloc: Global, bytes: Vec<u8>) -> Result<CachedScript, Cached
 }
 
 impl CachedScript {
+    /// The law of scripts: units are declared first, each once and among 32; each request is of a unit that is declared, for 1 to 127 blocks;
+    /// and the numbers of lines ascend, up to the number of all lines.
+    pub fn law(&self)
+        ensures { IsScript self.now }
+    {
+        let _count = self.count;
+    }
+
     /// The lines that say something, in order.
     pub fn lines(&self) -> &[Line]
         ensures { result.now ≡ self.now.lines }
