@@ -213,8 +213,10 @@ answers_legal drives (n ∷ inputs) map all long = by n.input all.0 (answers_leg
     by : (input : Input) → IsAskedWell input → Rest (map_by drives map input)
         → AnswersTo drives all_claimed (idle map) (record { line = n.line; input = input } ∷ inputs)
         (with_answer drives map n.line input (answers_of drives (map_by drives map input) inputs)) (idle (map_of_inputs drives (map_by drives map input) inputs))
-    by (Submit r) is rest = (record { line = n.line; id = r.id; answer = answer_to drives map r } ∷ [],
-        (answers_of drives (map_after drives map r) inputs, (idle (map_after drives map r), (refl, (answered_at drives map n.line r is long, rest)))))
+    by (Submit r) is rest = (
+      record { line = n.line; id = r.id; answer = answer_to drives map r } ∷ [],
+      (answers_of drives (map_after drives map r) inputs, (idle (map_after drives map r), (refl, (answered_at drives map n.line r is long, rest)))),
+    )
     by (ArriveAt u) is rest = ([], (answers_of drives map inputs, (idle map, (refl, (quiet_at drives map (record { line = n.line; input = ArriveAt u }) refl refl, rest)))))
     by (MoveAt a) is rest = ([], (answers_of drives map inputs, (idle map, (refl, (quiet_at drives map (record { line = n.line; input = MoveAt a }) refl refl, rest)))))
     by (AttendTo a) is rest = ([], (answers_of drives map inputs, (idle map, (refl, (quiet_at drives map (record { line = n.line; input = AttendTo a }) refl refl, rest)))))

@@ -35,11 +35,7 @@ fn gather_blocks<O: Sink>(count: u32, desk: &mut Desk, out: &mut O) -> Result<()
 }
 
 /// Gathers what is said behind the line of an answer: the blocks of a read.
-fn gather_rest<O: Sink>(
-    kind: AnswerKind,
-    desk: &mut Desk,
-    out: &mut O,
-) -> Result<(), SinkFailed>
+fn gather_rest<O: Sink>(kind: AnswerKind, desk: &mut Desk, out: &mut O) -> Result<(), SinkFailed>
     requires { (count last : ℕ) → kind ≡ AnswerKind.ReadOk count last → count ≤ length desk.old.blocks.items }
     ensures gathers { Gathers O.tells O.taken O.faults out.old out.new desk.old.gather desk.new.gather result (rest_text kind desk.old.blocks.items) }
     ensures blocks { desk.new.blocks ≡ desk.old.blocks }
