@@ -11,7 +11,7 @@ use Rattle.driver_outcome.specs.declared.Stop.TheVariants.{Store, Sink}
 use Rattle.driver_outcome.specs.Outcome.{stop_in}
 use Rattle.driver_counts.specs.Counts.{in_use}
 use Rattle.driver_counts.proofs.Slots.{none_ended}
-use Rattle.hp_core.specs.Done.{HasCauses}
+use Rattle.hp_driver.specs.Passes.{HasCauses}
 use Rattle.subsystem_spec.specs.declared.request.Request.{Request}
 use Rattle.hp_driver.specs.Subsystem.{State, IsAsked}
 use Rattle.blocking_io.specs.Asking.{MayAsk}

@@ -30,7 +30,7 @@ use Rattle.driver_outcome.proofs.Joined.{front_more, front_of_front}
 use Rattle.driver_trace.specs.Calls.{Ends, IsSurfaceOf}
 use Rattle.driver_trace.proofs.Drains.{GoesOn, drain_begins, drain_goes_on, drain_between}
 use Rattle.driver_trace.proofs.Inputted.{lines_play_nothing}
-use Rattle.driver_drains.proofs.Fronts.{event_fronts}
+use Rattle.hp_driver.proofs.Passes.{event_fronts}
 use Rattle.driver_runs.specs.Runs.{Stay}
 use Rattle.driver_runs.specs.NextBlock.{NextBlocksShow}
 use Rattle.driver_runs.proofs.Sectors.{submission_quiet}

@@ -22,7 +22,7 @@ use Rattle.driver_outcome.specs.declared.Stop.TheVariants.{Store}
 use Rattle.driver_trace.specs.Calls.{IsReadOf}
 use Rattle.driver_trace.specs.Noises.{AllFlip}
 use Rattle.driver_trace.specs.Within.{ShowsAll}
-use Rattle.driver_drains.proofs.Fronts.{event_fronts}
+use Rattle.hp_driver.proofs.Passes.{event_fronts}
 use Rattle.driver_runs.specs.Runs.{AreDeclared}
 use Rattle.driver_runs.proofs.Sectors.{IsNoMove, event_quiet}
 use Rattle.driver_runs.specs.NextBlock.{NextBlocksShow}

@@ -1,6 +1,6 @@
 -- What is passed on of the crates below, so that those above stand on this one.
 pub use Rattle.driver_runs.specs.Runs.{Stay}
-pub use Rattle.hp_core.specs.Done.{HasCauses}
+pub use Rattle.hp_driver.specs.Passes.{HasCauses}
 pub use Rattle.hp_driver.specs.Subsystem.{State, asked}
 pub use Rattle.quiet_driver.specs.Quiet.{IsQuiet, StandsQuiet, kind_if, rested, setup_of, table_if}
 pub use Rattle.run_promises.specs.Beginnings.{IsNextSector, with_next}

@@ -14,9 +14,9 @@ use Rattle.driver_machine.specs.Events.{submit_acts, event_acts}
 use Rattle.driver_machine.specs.Guards.{InHand, Allowed, MayChange}
 use Rattle.driver_due.proofs.Frame.{effect_same}
 use Rattle.driver_machine.specs.Runs.{Run, Works}
-use Rattle.driver_work.proofs.Calls.{submit_works, event_works}
-use Rattle.driver_slots.proofs.Lists.{Contains-first, Contains-later}
-use Rattle.driver_slots.proofs.Hand.{slot_there}
+use Rattle.driver_invariant.proofs.Passes.{submit_works, event_works}
+use Rattle.driver_invariant.proofs.Passes.{Contains-first, Contains-later}
+use Rattle.driver_invariant.proofs.Passes.{slot_there}
 use Rattle.driver_invariant.proofs.Sound.{sound_after}
 use Rattle.driver_answers.specs.Ids.{AreOf, ids_with, StartsOfNone, ActsAdd, RunsAdd, EventsAddNone, SubmissionsAdd, TakingAddsNone, NoOthers, OthersAreFresh}
 use Rattle.driver_answers.proofs.Parts.{AreAll, Holds, all_submitted, all_of_event}

@@ -2,3 +2,4 @@ pub mod Ids
 pub mod Parts
 pub mod Waiting
 pub mod Taking
+pub mod Passes

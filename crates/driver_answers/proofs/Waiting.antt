@@ -20,10 +20,10 @@ use Rattle.driver_machine.specs.Guards.{InHand, MayChange}
 use Rattle.driver_machine.specs.Sound.{Among, Once, slot_made, slots_made, IsMade, Sound}
 use Rattle.driver_due.proofs.Frame.{other_slot}
 use Rattle.driver_machine.specs.Runs.{Works}
-use Rattle.driver_work.proofs.Calls.{submit_works, event_works}
-use Rattle.driver_slots.proofs.Lists.{Contains-first, Contains-later}
-use Rattle.driver_slots.proofs.Hand.{held_is, hand_there, not_made}
-use Rattle.driver_slots.proofs.Quiet.{among_made}
+use Rattle.driver_invariant.proofs.Passes.{submit_works, event_works}
+use Rattle.driver_invariant.proofs.Passes.{Contains-first, Contains-later}
+use Rattle.driver_invariant.proofs.Passes.{held_is, hand_there, not_made}
+use Rattle.driver_invariant.proofs.Passes.{among_made}
 use Rattle.driver_invariant.proofs.Sound.{sound_after}
 use Rattle.driver_answers.specs.Waiting.{blocks_for, told_by, waiting, is_taking, AreNoTakings, ActsAnswer, RunsAnswer, RunsAlone, TakingDrops, EventsTakeNone, SubmissionsTakeNone, EventsAnswer, EventsAlone, SubmissionsAlone}
 use Rattle.driver_answers.proofs.Parts.{AreAll, Holds, all_submitted, all_of_event}

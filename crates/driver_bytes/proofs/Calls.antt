@@ -12,7 +12,7 @@ use Rattle.driver_machine.specs.Sound.{Sound}
 use Rattle.driver_machine.specs.Runs.{Run}
 use Rattle.driver_answers.specs.Waiting.{is_taking}
 use Rattle.driver_answers.proofs.Parts.{AreAll, Holds, all_submitted, all_of_event}
-use Rattle.driver_invariant.proofs.Sound.{sound_after}
+use Rattle.driver_answers.proofs.Passes.{sound_after}
 use Rattle.driver_outcome.specs.Packs.{ReadAll, packs_after, packs_after_all}
 use Rattle.driver_bytes.specs.Bytes.{Bears}
 use Rattle.driver_bytes.specs.Laws.{armed_with, maps_after, SubmissionsBear, EventsBear, TakingsBear}

@@ -8,8 +8,8 @@ use Rattle.pack_geometry.specs.Geometry.{sectors_of}
 use Rattle.seek_engine.specs.Seek.{is_near, distance, sector_before}
 use Rattle.seek_engine.specs.declared.Position.{Position}
 use Rattle.seek_engine.specs.declared.Position.TheVariants as position
-use Rattle.transfer_engine.specs.State.{segment_of}
-use Rattle.transfer_engine.specs.Calls.{entry_for}
+use Rattle.driver_machine.specs.Passes.{segment_of}
+use Rattle.driver_machine.specs.Passes.{entry_for}
 use Rattle.subsystem_spec.specs.declared.answers.AnswerKind.TheVariants.{Error}
 use Rattle.subsystem_spec.specs.declared.answers.Cause.TheVariants as cause
 use Rattle.driver_machine.specs.declared.RetryStep.{RetryStep}

@@ -7,7 +7,7 @@ use Rattle.hardware_table.specs.declared.Moved.TheVariants as verdict
 use Rattle.hardware_table.specs.Drive.{DriveState}
 use Rattle.retry_offsets.specs.declared.Step.{Step}
 use Rattle.retry_offsets.specs.declared.Step.TheVariants as retry
-use Rattle.disksort.specs.declared.Waiter.{Waiter}
+use Rattle.driver_machine.specs.Passes.{Waiter}
 use Rattle.driver_machine.specs.declared.Task.{Task}
 use Rattle.driver_machine.specs.declared.Task.TheVariants.{Clear, Judge, Command}
 use Rattle.driver_machine.specs.declared.Phase.{Phase}

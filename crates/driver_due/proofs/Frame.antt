@@ -20,7 +20,7 @@ use Rattle.hardware_table.specs.Events.{arrived_from, transfer_ended}
 use Rattle.hardware_table.specs.Moves.{after_move, with_mark_bits, with_fault_bits, fault_used, was_read}
 use Rattle.hardware_table.specs.Noise.{book_struck}
 use Rattle.hardware_table.specs.Adapter.{AdapterState, drive_stepped, stepped, next_block, next_window}
-use Rattle.trace_replay.specs.Drives.{addressed, search_place, offset_written, transfer_function}
+use Rattle.driver_machine.specs.Passes.{addressed, search_place, offset_written, transfer_function}
 use Rattle.driver_machine.specs.declared.RetryStep.{RetryStep}
 use Rattle.driver_machine.specs.declared.RetryStep.TheVariants as step
 use Rattle.driver_machine.specs.World.{World, UnitView, AdapterView, unit_at, adapter_at, slot_at, no_unit, new_adapter_view, adapter_of, with_block_in}

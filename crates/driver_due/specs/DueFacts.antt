@@ -5,8 +5,8 @@ use Rattle.hardware_table.specs.declared.Moved.{Moved}
 use Rattle.hardware_table.specs.declared.Moved.TheVariants as verdict
 use Rattle.hardware_table.specs.Drive.{DriveState}
 use Rattle.seek_engine.specs.declared.Position.TheVariants as position
-use Rattle.transfer_engine.specs.State.{TransferState, begun, segment_of}
-use Rattle.transfer_engine.specs.Calls.{entry_for}
+use Rattle.driver_machine.specs.Passes.{TransferState, begun, segment_of}
+use Rattle.driver_machine.specs.Passes.{entry_for}
 use Rattle.subsystem_spec.specs.declared.answers.AnswerKind.{AnswerKind}
 use Rattle.subsystem_spec.specs.declared.answers.AnswerKind.TheVariants.{Error}
 use Rattle.subsystem_spec.specs.declared.answers.Cause.TheVariants as cause

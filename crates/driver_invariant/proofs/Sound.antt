@@ -1,8 +1,8 @@
 -- Each act keeps what holds of the driver, from its parts.
-use Rattle.driver_machine.specs.World.{World}
-use Rattle.driver_machine.specs.Acts.{Act, after}
-use Rattle.driver_machine.specs.Guards.{Allowed}
-use Rattle.driver_machine.specs.Sound.{Sound}
+use Rattle.driver_phases.specs.Passes.{World}
+use Rattle.driver_phases.specs.Passes.{Act, after}
+use Rattle.driver_phases.specs.Passes.{Allowed}
+use Rattle.driver_phases.specs.Passes.{Sound}
 use Rattle.driver_phases.proofs.EachAct.{Keeps, act_keeps}
 use Rattle.driver_slots.proofs.EachAct.{queues_after, slots_after, frames_after, answers_after}
 use Rattle.driver_slots.proofs.Whole.{sound_from}

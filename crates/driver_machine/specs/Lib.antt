@@ -7,3 +7,4 @@ pub mod Lines
 pub mod Guards
 pub mod Sound
 pub mod Runs
+pub mod Passes

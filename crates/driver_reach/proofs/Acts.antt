@@ -22,7 +22,7 @@ use Rattle.driver_slots.proofs.Hand.{slot_there}
 use Rattle.driver_counts.proofs.Units.{setups_stay}
 use Rattle.driver_answers.proofs.Ids.{freed_was}
 use Rattle.driver_outcome.specs.Packs.{packs_after}
-use Rattle.driver_trace.proofs.Starting.{set_up}
+use Rattle.driver_runs.proofs.Passes.{set_up}
 use Rattle.driver_runs.proofs.Acts.{beyond_by, is_inside}
 use Rattle.driver_reach.specs.Reach.{Reaches, StayFrom, JoinsBelow, ActsKeepReach}
 use Rattle.driver_reach.proofs.Blocks.{next_in_reach}

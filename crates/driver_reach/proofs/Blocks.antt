@@ -24,7 +24,7 @@ use Rattle.driver_phases.proofs.Frame.{head_out, held_is, scene_ok, unit_on-own}
 use Rattle.driver_phases.proofs.Sector.{moved_less}
 use Rattle.driver_phases.proofs.DeedFacts.{transfer_at}
 use Rattle.driver_work.proofs.Calls.{IsServing, serving}
-use Rattle.driver_trace.proofs.Starting.{set_up}
+use Rattle.driver_runs.proofs.Passes.{set_up}
 use Rattle.driver_runs.proofs.Acts.{piece_few, written_beyond}
 use Rattle.driver_reach.specs.Reach.{Reaches, NextBlocksStay}
 

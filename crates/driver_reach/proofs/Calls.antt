@@ -19,7 +19,7 @@ use Rattle.driver_machine.specs.Sound.{Sound}
 use Rattle.driver_machine.specs.Runs.{Run, Works, MaySubmit}
 use Rattle.driver_work.proofs.Calls.{submit_works, event_works}
 use Rattle.driver_slots.proofs.Starts.{sound_new}
-use Rattle.driver_invariant.proofs.Sound.{sound_after}
+use Rattle.driver_answers.proofs.Passes.{sound_after}
 use Rattle.driver_answers.proofs.Parts.{AreAll, Holds, all_submitted, all_of_event}
 use Rattle.driver_outcome.specs.Packs.{packs_after, packs_after_all}
 use Rattle.driver_runs.specs.Runs.{AreDeclared}

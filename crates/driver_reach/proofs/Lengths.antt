@@ -27,8 +27,8 @@ use Rattle.driver_work.proofs.Deeds.{deed_at}
 use Rattle.driver_work.proofs.Due.{in_hand_one}
 use Rattle.driver_work.proofs.Calls.{IsServing, serving}
 use Rattle.driver_outcome.specs.Packs.{packs_after, packs_after_all}
-use Rattle.driver_trace.specs.Within.{ShowsAll}
-use Rattle.driver_trace.proofs.Starting.{set_up}
+use Rattle.driver_runs.specs.Passes.{ShowsAll}
+use Rattle.driver_runs.proofs.Passes.{set_up}
 use Rattle.driver_runs.proofs.Acts.{is_inside}
 use Rattle.driver_runs.proofs.Sectors.{IsNoMove, event_quiet, submission_quiet}
 use Rattle.run_promises.specs.Beginnings.{AreNoSectors}

@@ -13,8 +13,8 @@ use Rattle.driver_machine.specs.Lines.{lines_of_all}
 use Rattle.driver_machine.specs.Events.{submit_acts, event_acts}
 use Rattle.driver_machine.specs.Sound.{Sound}
 use Rattle.driver_outcome.specs.Packs.{packs_after_all}
-use Rattle.driver_trace.specs.Within.{ShowsAll}
-use Rattle.driver_trace.specs.Runs.{with_call}
+use Rattle.driver_runs.specs.Passes.{ShowsAll}
+use Rattle.driver_runs.specs.Passes.{with_call}
 use Rattle.driver_machine.specs.Runs.{Run}
 
 -- so many bytes, or as many as there are up to the end of a block

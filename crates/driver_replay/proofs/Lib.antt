@@ -39,3 +39,4 @@ pub mod Brought
 pub mod Speech
 pub mod Begun
 pub mod Told
+pub mod Passes

@@ -5,3 +5,4 @@ pub mod Acts
 pub mod Moments
 pub mod Events
 pub mod Speech
+pub mod Passes

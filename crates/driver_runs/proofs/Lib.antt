@@ -4,3 +4,4 @@ mod Units
 pub mod Runs
 mod NextBlock
 pub mod Sectors
+pub mod Passes

@@ -1,3 +1,4 @@
 pub mod Acts
 pub mod Runs
 pub mod NextBlock
+pub mod Passes

@@ -17,7 +17,7 @@ use Rattle.driver_machine.specs.Acts.{Tried, Taken, after_all}
 use Rattle.driver_machine.specs.Lines.{lines_of_all}
 use Rattle.driver_machine.specs.Events.{submit_by, submit_acts, refusal_of, event_acts, next_event}
 use Rattle.driver_machine.specs.Runs.{Run, Works, MaySubmit, MayCome}
-use Rattle.driver_work.proofs.Calls.{submit_works, event_works, taken_works}
+use Rattle.driver_invariant.proofs.Passes.{submit_works, event_works, taken_works}
 use Rattle.driver_invariant.proofs.Sound.{sound_after}
 use Rattle.driver_outcome.specs.Packs.{packs_after_all}
 use Rattle.driver_trace.specs.Calls.{Stands}

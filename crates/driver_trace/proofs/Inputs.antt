@@ -23,11 +23,11 @@ use Rattle.driver_machine.proofs.Measure.{is_resting}
 use Rattle.driver_machine.specs.Events.{in_hand, can_arrive, can_attend, or_nothing, attended, arrive_acts, attend_acts}
 use Rattle.driver_machine.specs.Guards.{IsSetUp}
 use Rattle.driver_machine.specs.Sound.{IsPhase, IsTask, is_waiting}
-use Rattle.driver_due.proofs.DueFacts.{false_true}
-use Rattle.driver_due.proofs.Until.{own_unit, resting}
+use Rattle.driver_replay.proofs.Passes.{false_true}
+use Rattle.driver_replay.proofs.Passes.{own_unit, resting}
 use Rattle.driver_machine.specs.Runs.{Run}
-use Rattle.driver_work.proofs.Deeds.{deed_at}
-use Rattle.driver_work.proofs.Due.{in_hand_one}
+use Rattle.driver_invariant.proofs.Passes.{deed_at}
+use Rattle.driver_invariant.proofs.Passes.{in_hand_one}
 use Rattle.driver_trace.specs.Within.{Rests}
 use Rattle.driver_trace.proofs.Telling.{Speaks, IsTold}
 use Rattle.driver_trace.specs.Calls.{IsSurfaceOf, Stands, IsOverWithin}

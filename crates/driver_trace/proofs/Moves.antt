@@ -29,12 +29,12 @@ use Rattle.driver_machine.specs.Events.{can_move}
 use Rattle.driver_machine.specs.Events as part
 use Rattle.driver_machine.specs.Guards.{Allowed, IsSetUp}
 use Rattle.driver_machine.specs.Sound.{Sound}
-use Rattle.driver_due.proofs.DueFacts.{false_true}
-use Rattle.driver_due.proofs.Until.{own_unit}
+use Rattle.driver_replay.proofs.Passes.{false_true}
+use Rattle.driver_replay.proofs.Passes.{own_unit}
 use Rattle.driver_machine.specs.Runs.{Run}
-use Rattle.driver_work.proofs.Deeds.{deed_at}
-use Rattle.driver_work.proofs.Due.{in_hand_one}
-use Rattle.driver_work.proofs.Calls.{IsServing, serving}
+use Rattle.driver_invariant.proofs.Passes.{deed_at}
+use Rattle.driver_invariant.proofs.Passes.{in_hand_one}
+use Rattle.driver_invariant.proofs.Passes.{IsServing, serving}
 use Rattle.driver_outcome.specs.Packs.{packs_after}
 use Rattle.driver_replay.specs.Shows.{Shows, is_coming, IsOnSurface}
 use Rattle.driver_replay.proofs.Writes.{writes_show}

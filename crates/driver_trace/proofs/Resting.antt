@@ -13,10 +13,10 @@ use Rattle.driver_machine.specs.Due.{next_by}
 use Rattle.driver_machine.specs.Events.{in_hand_by, due_by, next_acts, due_acts, begun}
 use Rattle.driver_machine.proofs.Measure.{is_resting}
 use Rattle.driver_machine.specs.Sound.{Sound, is_waiting}
-use Rattle.driver_due.proofs.Until.{due_over}
+use Rattle.driver_replay.proofs.Passes.{due_over}
 use Rattle.driver_machine.specs.Runs.{Run}
-use Rattle.driver_work.proofs.Deeds.{deed_at}
-use Rattle.driver_work.proofs.Due.{begun_one}
+use Rattle.driver_invariant.proofs.Passes.{deed_at}
+use Rattle.driver_invariant.proofs.Passes.{begun_one}
 use Rattle.driver_replay.specs.Shows.{Shows, with_coming, is_coming}
 use Rattle.driver_trace.specs.Within.{ShowsAll, Rests}
 use Rattle.driver_trace.proofs.Telling.{Speaks, Tells}

@@ -19,9 +19,9 @@ use Rattle.driver_machine.specs.Lines.{lines_of_all}
 use Rattle.driver_machine.specs.Events.{event_acts, next_event}
 use Rattle.driver_machine.specs.Guards.{Allowed}
 use Rattle.driver_machine.specs.Sound.{Sound, AtWork}
-use Rattle.driver_due.proofs.Frame.{effect_same}
+use Rattle.driver_replay.proofs.Passes.{effect_same}
 use Rattle.driver_machine.specs.Runs.{Run}
-use Rattle.driver_work.proofs.Next.{next_can}
+use Rattle.driver_invariant.proofs.Passes.{next_can}
 pub use Rattle.driver_invariant.proofs.Sound.{sound_after}
 use Rattle.driver_outcome.specs.Packs.{packs_after_all}
 use Rattle.driver_trace.specs.Calls.{Ends, IsLeft, AreThere}

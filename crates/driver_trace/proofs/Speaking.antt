@@ -17,11 +17,11 @@ use Rattle.driver_machine.specs.Lines.{deed_told, step_told, lines_with, lines_o
 use Rattle.driver_machine.specs.Events.{go_on, until, next_acts}
 use Rattle.driver_machine.specs.Guards.{Allowed, IsSetUp}
 use Rattle.driver_machine.specs.Sound.{Sound}
-use Rattle.driver_due.proofs.DueFacts.{due_facts}
-use Rattle.driver_due.proofs.Frame.{other_unit, effect_same}
-use Rattle.driver_due.proofs.Until.{IsNext, next_cases, own_unit}
+use Rattle.driver_replay.proofs.Passes.{due_facts}
+use Rattle.driver_replay.proofs.Passes.{other_unit, effect_same}
+use Rattle.driver_replay.proofs.Passes.{IsNext, next_cases, own_unit}
 use Rattle.driver_machine.specs.Runs.{Run}
-use Rattle.driver_work.proofs.Deeds.{deed_at, own_adapter}
+use Rattle.driver_invariant.proofs.Passes.{deed_at, own_adapter}
 use Rattle.driver_invariant.proofs.Sound.{sound_after}
 use Rattle.driver_outcome.specs.Packs.{packs_after}
 use Rattle.driver_replay.specs.Shows.{Shows, IsOnSurface}

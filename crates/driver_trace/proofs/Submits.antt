@@ -30,8 +30,8 @@ use Rattle.driver_machine.specs.Events.{followed, and_then, choose_by, choose_ac
 use Rattle.driver_machine.specs.Guards.{Allowed, IsSetUp, IsHeldFor, MayChange}
 use Rattle.driver_machine.specs.Sound.{Sound, AtWork, WorkOf}
 use Rattle.driver_machine.specs.Runs.{Run}
-use Rattle.driver_work.proofs.Leads.{run_split}
-use Rattle.driver_work.proofs.Start.{until_stop}
+use Rattle.driver_invariant.proofs.Passes.{run_split}
+use Rattle.driver_invariant.proofs.Passes.{until_stop}
 use Rattle.driver_invariant.proofs.Sound.{sound_after}
 use Rattle.driver_outcome.specs.Packs.{packs_after_all}
 use Rattle.driver_replay.specs.Shows.{Shows}

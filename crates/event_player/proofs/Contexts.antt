@@ -27,7 +27,7 @@ use Rattle.run_stops.specs.Passes.{ShowsAll}
 use Rattle.run_stops.specs.Passes.{with_call}
 use Rattle.run_stops.proofs.Passes.{lines_play_nothing}
 use Rattle.run_stops.proofs.Passes.{GoesOn, drain_begins, drain_goes_on, drain_between}
-use Rattle.driver_drains.proofs.Falls.{scripts_can_start}
+use Rattle.one_run.proofs.Passes.{scripts_can_start}
 use Rattle.trace_work.proofs.Consistency.{moments_consistent}
 use Rattle.run_stops.proofs.Passes.{drained_shows}
 use Rattle.answer_lines.specs.AnswerText.{said_text}

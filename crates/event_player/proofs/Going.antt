@@ -31,9 +31,9 @@ use Rattle.run_stops.proofs.Passes.{calls_are_played, lines_play_nothing}
 use Rattle.run_stops.proofs.Passes.{events_keep, submissions_keep}
 use Rattle.run_stops.proofs.Passes.{events_keep_reach, submissions_keep_reach}
 use Rattle.run_stops.proofs.Passes.{events_keep_lengths, first_events_keep_lengths, later_events_keep_lengths, empty_drains_keep_lengths, submissions_keep_lengths, drained_shows}
-use Rattle.driver_drains.specs.Drains.{Falls}
-use Rattle.driver_drains.proofs.Asked.{lines_ask_nothing, calls_ask}
-use Rattle.driver_drains.proofs.Falls.{first_events_fall, drains_fall}
+use Rattle.one_run.specs.Passes.{Falls}
+use Rattle.one_run.proofs.Passes.{lines_ask_nothing, calls_ask}
+use Rattle.one_run.proofs.Passes.{first_events_fall, drains_fall}
 use Rattle.run_stops.specs.Passes.{IsThere}
 use Rattle.driver_answers.specs.Waiting.{all_taken}
 use Rattle.event_player.specs.Playing.{HasRun}

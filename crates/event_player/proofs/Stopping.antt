@@ -22,7 +22,7 @@ use Rattle.run_stops.specs.Passes.{AskBelow, TablesBelow, IsWithinReach}
 use Rattle.run_stops.specs.Passes.{IsReadOf}
 use Rattle.run_stops.specs.Passes.{ShowsAll}
 use Rattle.run_stops.proofs.Passes.{lines_play_nothing}
-use Rattle.driver_drains.proofs.Fronts.{event_fronts}
+use Rattle.one_run.proofs.Passes.{event_fronts}
 use Rattle.answer_lines.specs.AnswerText.{out_text}
 use Rattle.run_stops.specs.Passes.{IsThere, is_move, writes_by}
 use Rattle.run_stops.specs.Passes.{writes_next}

@@ -10,7 +10,7 @@ use Rattle.run_stops.specs.Passes.{IsSoFar}
 use Rattle.run_stops.specs.Passes.{IsKept}
 use Rattle.run_stops.specs.Passes.{AskBelow, TablesBelow, IsWithinReach}
 use Rattle.run_stops.specs.Passes.{AreAsLong}
-use Rattle.driver_drains.specs.Drains.{AreAsked}
+use Rattle.one_run.specs.Passes.{AreAsked}
 
 -- HOW MUCH lines bring: so many requests, noises, and lines that arm faults
 abbrev pub one_request : Statement → ℕ

@@ -28,7 +28,7 @@ use Rattle.run_stops.specs.Passes.{IsDraining}
 use Rattle.run_stops.specs.Passes.{IsKept}
 use Rattle.run_stops.specs.Passes.{AskBelow, TablesBelow, IsWithinReach}
 use Rattle.run_stops.specs.Passes.{AreAsLong}
-use Rattle.driver_drains.specs.Drains.{AreAsked}
+use Rattle.one_run.specs.Passes.{AreAsked}
 use Rattle.driver_counts.specs.Counts.{IsWithin, in_use}
 use Rattle.driver_answers.specs.Ids.{AreOf}
 use Rattle.driver_answers.specs.Waiting.{waiting, all_taken}

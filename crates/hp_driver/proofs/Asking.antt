@@ -12,7 +12,7 @@ use Rattle.driver_machine.specs.Events.{refusal_of, submit_by, submit_acts, join
 use Rattle.driver_machine.specs.Guards.{IsSetUp, IsFresh, IsNew, IsHeldFor}
 use Rattle.driver_machine.specs.Runs.{MaySubmit}
 use Rattle.driver_work.proofs.Calls.{submit_works}
-use Rattle.driver_invariant.proofs.Sound.{sound_after}
+use Rattle.hp_events.proofs.Passes.{sound_after}
 use Rattle.driver_outcome.specs.declared.Stop.{Stop}
 use Rattle.driver_outcome.specs.Outcome.{stop_in}
 use Rattle.request_slots.specs.declared.asked.Asked.{Asked}

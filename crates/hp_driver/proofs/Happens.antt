@@ -9,7 +9,7 @@ use Rattle.driver_machine.specs.Acts.{Act, Change, Tried}
 use Rattle.driver_machine.specs.Events.{event_acts, arrive_acts, attend_acts}
 use Rattle.driver_machine.specs.Runs.{MayCome}
 use Rattle.driver_outcome.specs.declared.Stop.{Stop}
-use Rattle.driver_trace.specs.Calls.{IsReadOf}
+use Rattle.driver_drains.specs.Passes.{IsReadOf}
 use Rattle.hp_core.specs.State.{State}
 use Rattle.hp_core.specs.Done.{DoesSilently}
 use Rattle.hp_events.specs.Done.{DoesActs}

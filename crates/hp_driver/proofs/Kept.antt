@@ -21,8 +21,8 @@ use Rattle.driver_slots.proofs.Starts.{sound_new, rests_new}
 use Rattle.driver_machine.specs.Runs.{CanCome, NoneOutstanding}
 use Rattle.driver_work.proofs.Calls.{taken_works}
 use Rattle.driver_work.proofs.Next.{next_none, next_can}
-use Rattle.driver_invariant.proofs.Sound.{sound_after}
-use Rattle.driver_trace.proofs.LiveNoises.{none_at_start}
+use Rattle.hp_events.proofs.Passes.{sound_after}
+use Rattle.driver_drains.proofs.Passes.{none_at_start}
 use Rattle.hp_core.specs.State as core
 use Rattle.hp_core.specs.Done.{DoesSilently}
 use Rattle.hp_events.specs.declared.drain.Event.{Event}

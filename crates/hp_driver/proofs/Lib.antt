@@ -8,3 +8,4 @@ mod Happens
 mod Asking
 mod Kept
 mod Bytes
+pub mod Passes

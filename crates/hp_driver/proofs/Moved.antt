@@ -7,7 +7,7 @@ use Rattle.driver_machine.specs.Events.{move_acts}
 use Rattle.driver_machine.specs.Sound.{AtWork}
 use Rattle.driver_machine.specs.Runs.{MayCome}
 use Rattle.driver_work.proofs.Calls.{event_works}
-use Rattle.driver_invariant.proofs.Sound.{sound_after}
+use Rattle.hp_events.proofs.Passes.{sound_after}
 use Rattle.driver_outcome.specs.Outcome.{stop_in}
 use Rattle.driver_outcome.specs.declared.Stop.{Stop}
 use Rattle.hp_core.specs.State.{State}

@@ -13,9 +13,9 @@ use Rattle.driver_work.proofs.Deeds.{deed_at}
 use Rattle.driver_work.proofs.Due.{in_hand_one}
 use Rattle.driver_work.proofs.Calls.{IsServing, serving}
 use Rattle.driver_outcome.specs.Packs.{ReadAll}
-use Rattle.driver_trace.specs.Calls.{IsReadFrom}
-use Rattle.driver_trace.specs.Noises.{AllFlip}
-use Rattle.driver_trace.proofs.LiveNoises.{strikes_flip}
+use Rattle.driver_drains.specs.Passes.{IsReadFrom}
+use Rattle.driver_drains.specs.Passes.{AllFlip}
+use Rattle.driver_drains.proofs.Passes.{strikes_flip}
 
 busy_too : (b c : Bool) → b && not c ≡ true → b ≡ true
 busy_too true c e = refl

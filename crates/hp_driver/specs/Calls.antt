@@ -14,7 +14,7 @@ use Rattle.driver_outcome.specs.declared.Stop.TheVariants.{Sink}
 use Rattle.driver_outcome.specs.Outcome.{stop_in}
 use Rattle.request_slots.specs.declared.asked.Asked.{Asked}
 use Rattle.driver_counts.specs.Counts.{in_use}
-use Rattle.driver_trace.specs.Noises.{AllFlip}
+use Rattle.driver_drains.specs.Passes.{AllFlip}
 use Rattle.hp_core.specs.State.{State}
 use Rattle.hp_core.specs.Done.{HasCauses}
 use Rattle.subsystem_spec.specs.declared.request.Request.{Request}

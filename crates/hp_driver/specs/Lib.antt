@@ -1,3 +1,4 @@
 pub mod Subsystem
 pub mod Calls
 pub mod Bytes
+pub mod Passes

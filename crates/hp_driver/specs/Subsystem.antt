@@ -21,9 +21,9 @@ use Rattle.driver_outcome.specs.declared.Stop.{Stop}
 use Rattle.driver_outcome.specs.declared.Stop.TheVariants.{Store, Sink}
 use Rattle.driver_outcome.specs.Outcome.{Site, Outcome, StopsBefore}
 use Rattle.driver_counts.specs.Counts.{in_use}
-use Rattle.driver_trace.specs.Calls.{IsReadOf}
-use Rattle.driver_trace.specs.Noises.{AllFlip}
-use Rattle.driver_trace.specs.Runs.{IsDraining}
+use Rattle.driver_drains.specs.Passes.{IsReadOf}
+use Rattle.driver_drains.specs.Passes.{AllFlip}
+use Rattle.driver_drains.specs.Passes.{IsDraining}
 use Rattle.driver_drains.specs.Drains.{CanStart, AreAsked, Falls}
 use Rattle.hp_events.specs.Moves.{writes_next}
 use Rattle.subsystem_spec.specs.declared.request.Request.{Request}

@@ -14,7 +14,7 @@ ghost use Rattle.driver_machine.specs.Events.{next_event};
 ghost use Rattle.driver_machine.specs.Sound.{Sound, AtWork};
 ghost use Rattle.driver_slots.specs.Parts.{AreSetups};
 ghost use Rattle.driver_machine.specs.Runs.{NoneOutstanding};
-ghost use Rattle.driver_trace.specs.Noises.{AllFlip};
+ghost use Rattle.driver_drains.specs.Passes.{AllFlip};
 ghost use Rattle.driver_outcome.specs.Outcome.{stop_in};
 ghost use Rattle.hp_core.specs.Done.{HasCauses};
 ghost use Rattle.hp_core.specs.Setups.{setups_of};

@@ -12,3 +12,4 @@ pub mod Attends
 pub mod Exits
 pub mod Moving
 pub mod Submitting
+pub mod Passes

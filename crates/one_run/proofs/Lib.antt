@@ -14,3 +14,4 @@ pub mod Starts
 pub mod Lines
 pub mod Whole
 pub mod Bytes
+pub mod Passes

@@ -3,7 +3,7 @@ use Rattle.std.specs.Prelude.{ℕ, true, List, [], ◌∷◌, codes, Some}
 use Rattle.pack_geometry.specs.declared.DriveKind.{DriveKind}
 use Rattle.pack_model.specs.Pack.{Pack}
 use Rattle.bad144_tool.specs.declared.edit.AddWay.{AddWay}
-use Rattle.command_words.specs.declared.words.Command.TheVariants.{Play}
+use Rattle.hpsim_run.specs.Passes.{Play}
 use Rattle.command_parts.specs.declared.status.Status.TheVariants.{ToolRefused}
 use Rattle.command_parts.specs.Statuses.{status_code}
 use Rattle.hpsim_run.specs.Statuses.{IsStatusOf}

@@ -8,6 +8,6 @@ pub use Rattle.driver_trace.specs.Noises.{AllFlip}
 pub use Rattle.driver_trace.specs.Runs.{IsDraining, IsOfUnits, IsSoFar, with_call}
 pub use Rattle.driver_trace.specs.Within.{Rests, ShowsAll}
 pub use Rattle.hp_driver.specs.Subsystem.{Comes, IsAsked, IsOldest, IsThere, Reads, State, Submits, asked, is_move, seen, writes_by}
-pub use Rattle.hp_events.specs.Inputs.{input_of}
-pub use Rattle.hp_events.specs.Moves.{writes_next}
-pub use Rattle.hp_events.specs.declared.drain.Event.{Event}
+pub use Rattle.hp_driver.specs.Passes.{input_of}
+pub use Rattle.hp_driver.specs.Passes.{writes_next}
+pub use Rattle.hp_driver.specs.Passes.{Event}

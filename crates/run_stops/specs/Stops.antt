@@ -17,7 +17,7 @@ use Rattle.driver_runs.specs.Runs.{AreDeclared}
 use Rattle.driver_reach.specs.Reach.{AskBelow, TablesBelow, StayFrom}
 use Rattle.driver_trace.specs.Within.{ShowsAll}
 use Rattle.answer_lines.specs.AnswerText.{out_text}
-use Rattle.hp_events.specs.Moves.{writes_next}
+use Rattle.hp_driver.specs.Passes.{writes_next}
 use Rattle.run_stops.specs.Ahead.{IsBetween, WritesAhead, TellsAhead}
 
 -- AN EVENT IS OVER where no line of it is still to come, or a drain stands before its next one.

@@ -1,6 +1,6 @@
 -- What is asked of the subsystem, and how it is answered.
 use Rattle.std.specs.Prelude.{◌≡◌, ℕ, ◌<◌, ◌≤◌, ◌+◌, ◌-◌, ◌*◌, List, length, Option, Some}
-use Rattle.pack_geometry.specs.declared.DriveKind.{DriveKind}
+use Rattle.partitions.specs.Passes.{DriveKind}
 use Rattle.partitions.specs.declared.Part.{Part}
 use Rattle.partitions.specs.Partitions.{first_of}
 

@@ -1,7 +1,7 @@
 use Rattle.std.proofs.Common.{refl, sym, subst, arith, ◌∙◌}
 use Rattle.driver_outcome.specs.declared.Stop.{Stop}
 use Rattle.subsystem_spec.specs.Requests as told
-use Rattle.hp_events.specs.Inputs.{input_of}
+use Rattle.hp_driver.specs.Passes.{input_of}
 use Rattle.hp_driver.specs.Subsystem.{asked}
 use Rattle.blocking_io.specs.declared.reached.Reached.TheVariants.{Before}
 use Rattle.blocking_io.specs.Calls.{Stage, stage}

@@ -1,4 +1,4 @@
-use Rattle.hp_events.specs.Inputs.{input_of}
+use Rattle.hp_driver.specs.Passes.{input_of}
 use Rattle.blocking_io.proofs.Calling.{event_given, event_halts, event_unsent}
 use Rattle.blocking_io.proofs.asking.happen.Goals as goal
 
