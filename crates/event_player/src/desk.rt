@@ -11,7 +11,7 @@ use run_stops::Subsystem;
 use std::alloc::Global;
 
 /// How many bytes of answers are gathered at most.
-const ANSWER_ROOM: u32 = 262_144;
+const ANSWER_ROOM: u32 = 32_768;
 
 /// Text that is gathered for a sink, the tally of the run so far, and room for a block and for its line, of either form.
 #[derive(Drop)]
