@@ -8,6 +8,7 @@ use Rattle.outside_traits.specs.Puts.{TakesFront}
 use Rattle.driver_outcome.specs.Outcome.{IsFront}
 use Rattle.driver_outcome.specs.declared.Stop.{Stop}
 use Rattle.driver_outcome.specs.declared.Stop.TheVariants as stop
+use Rattle.driver_outcome.proofs.Joined.{front_more, front_of_front}
 use Rattle.hp_driver.specs.Passes.{HasCauses}
 use Rattle.blocking_io.specs.Calls.{SendsRest}
 
@@ -21,6 +22,13 @@ taken_front before after text front = record {
   whole = ap (λ (xs : List ℕ). before ++ xs) (sym (take-append-drop front.0 text)) ∙ sym (append_assoc before (take front.0 text) (drop front.0 text))
       ∙ ap (λ (xs : List ℕ). xs ++ drop front.0 text) (sym front.1);
 }
+
+-- where all was taken, and where more was told
+pub sent_begin : (first before after text : List ℕ) → IsFront first before → after ≡ before ++ text → IsFront first after
+sent_begin first before after text is all = front_of_front first before after is (record { rest = text; whole = all })
+
+pub taken_of_more : (before after text more : List ℕ) → TakesFront before after text → IsFront after ((before ++ text) ++ more)
+taken_of_more before after text more front = front_of_front after (before ++ text) ((before ++ text) ++ more) (taken_front before after text front) (front_more (before ++ text) more)
 
 -- ---- AHEAD of an event: what is kept is sent if it may write.
 abbrev pub ahead : Bool → List ℕ → List ℕ
