@@ -82,11 +82,12 @@ pub record IsAhead {O : Type 0} (tells : O → Bool) (taken : O → List ℕ) (t
   pub same : mid ≡ record old { kept = left writes old.kept }
 
 comes_from : {O Q : Type 0} (holds : Q → Bool) (held : Q → ℕ → Pack) (tells : O → Bool) (taken : O → List ℕ) (packs packs' : Q) (trace trace' : O) (line : ℕ) (input : Input) (old mid new : State)
-    (kept : List ℕ) (halt : Option Stop) → mid ≡ record old { kept = kept }
-    → Comes holds held tells taken packs packs' trace trace' line input mid.world new.world mid.kept new.kept halt
+    (kept : List ℕ) (halt other : Option Stop) → mid ≡ record old { kept = kept } → other ≡ halt
+    → Comes holds held tells taken packs packs' trace trace' line input mid.world new.world mid.kept new.kept other
     → Comes holds held tells taken packs packs' trace trace' line input old.world new.world kept new.kept halt
-comes_from holds held tells taken packs packs' trace trace' line input old mid new kept halt is comes =
-    subst (λ (s : State). Comes holds held tells taken packs packs' trace trace' line input s.world new.world s.kept new.kept halt) is comes
+comes_from holds held tells taken packs packs' trace trace' line input old mid new kept halt other is halts comes =
+    subst (λ (s : State). Comes holds held tells taken packs packs' trace trace' line input s.world new.world s.kept new.kept halt) is
+    (subst (λ (h : Option Stop). Comes holds held tells taken packs packs' trace trace' line input mid.world new.world mid.kept new.kept h) halts comes)
 
 module _ {O Q : Type 0} (holds : Q → Bool) (held : Q → ℕ → Pack) (tells : O → Bool) (taken : O → List ℕ) (packs packs' : Q) (trace mid_trace trace' : O) (line : ℕ) (input : Input) (writes : Bool)
     (old mid after : State) (sends : IsAhead tells taken trace mid_trace writes old mid) (again : IsTrue (tells trace') → IsTrue (tells mid_trace)) where
@@ -103,7 +104,7 @@ module _ {O Q : Type 0} (holds : Q → Bool) (held : Q → ℕ → Pack) (tells 
       (record { world = old.world; packs_tell = holds packs; held = held packs; trace_tells = tells trace; taken = taken trace ++ old.kept; given = given })
       (record { world = new.world; packs_tell = holds packs'; held = held packs'; trace_tells = tells trace'; taken = taken trace' ++ new.kept; given = given' })
   event_given new given given' came is gives =
-      let comes = comes_from holds held tells taken packs packs' mid_trace trace' line input old mid after (left writes old.kept) None sends.same came in
+      let comes = comes_from holds held tells taken packs packs' mid_trace trace' line input old mid after (left writes old.kept) None None sends.same refl came in
       let does : Does (record { packs = holds packs'; trace = tells trace' }) (event_acts line input comes.tried old.world) (seen old.world (held packs) (taken mid_trace) (left writes old.kept))
       (seen after.world (held packs') (taken trace') after.kept) = comes.outcome in
       record {
@@ -125,11 +126,11 @@ module _ {O Q : Type 0} (holds : Q → Bool) (held : Q → ℕ → Pack) (tells 
 
   -- or stops at the trace,
   pub event_halts : (given given' : Given) → AllFlip old.world.book.live → IsThere old.world input → (is_move input ≡ false → packs' ≡ packs)
-      → Comes holds held tells taken packs packs' mid_trace trace' line input mid.world after.world mid.kept after.kept (Some stop.Sink) → EventTellsFront (taken trace) line input
+      → (halt : Stop) → halt ≡ stop.Sink → Comes holds held tells taken packs packs' mid_trace trace' line input mid.world after.world mid.kept after.kept (Some halt) → EventTellsFront (taken trace) line input
       (record { world = old.world; packs_tell = holds packs; held = held packs; trace_tells = tells trace; taken = taken trace ++ old.kept; given = given })
       (record { world = after.world; packs_tell = holds packs'; held = held packs'; trace_tells = tells trace'; taken = taken trace'; given = given' })
-  event_halts given given' noise there still came =
-      let comes = comes_from holds held tells taken packs packs' mid_trace trace' line input old mid after (left writes old.kept) (Some stop.Sink) sends.same came in
+  event_halts given given' noise there still halt is_halt came =
+      let comes = comes_from holds held tells taken packs packs' mid_trace trace' line input old mid after (left writes old.kept) (Some stop.Sink) (Some halt) sends.same (ap (λ (s : Stop). Some s) is_halt) came in
       let halts = comes.outcome in
       record {
         tried = comes.tried;
@@ -152,9 +153,9 @@ module _ {O Q : Type 0} (holds : Q → Bool) (held : Q → ℕ → Pack) (tells 
   -- or at the packs, and what is kept is sent.
   module _ (faults : O → ℕ) (last : O) (failed : Stop) (rest : SendsRest tells taken faults trace' last writes after.kept failed) (is_writes : writes ≡ writes_by old.world input)
       (noise : AllFlip old.world.book.live) (there : IsThere old.world input) (still : is_move input ≡ false → packs' ≡ packs)
-      (came : Comes holds held tells taken packs packs' mid_trace trace' line input mid.world after.world mid.kept after.kept (Some stop.Store)) (world : World) (given given' : Given) where
+      (halt : Stop) (is_halt : halt ≡ stop.Store) (came : Comes holds held tells taken packs packs' mid_trace trace' line input mid.world after.world mid.kept after.kept (Some halt)) (world : World) (given given' : Given) where
     comes : Comes holds held tells taken packs packs' mid_trace trace' line input old.world after.world (left writes old.kept) after.kept (Some stop.Store)
-    comes = comes_from holds held tells taken packs packs' mid_trace trace' line input old mid after (left writes old.kept) (Some stop.Store) sends.same came
+    comes = comes_from holds held tells taken packs packs' mid_trace trace' line input old mid after (left writes old.kept) (Some stop.Store) (Some halt) sends.same (ap (λ (s : Stop). Some s) is_halt) came
 
     nothing_told : IsTrue (tells last) → taken trace' ++ after.kept ≡ taken mid_trace ++ left writes old.kept
     nothing_told t = (comes.before refl).text (rest.never_again t)

@@ -26,11 +26,11 @@ pub returns-in-Err-Sink-clause-stops : goal.returns-in-Err-Sink-clause-stops
 returns-in-Err-Sink-clause-stops g c =
     event_halts g.P.Packs.tells g.P.Packs.held g.T.Sink.tells g.T.Sink.taken c.args.packs.now c.event.new.packs c.args.trace.now c.send_ahead.new.trace c.event.new.trace c.args.line (input_of c.args.event)
     c.may_write-writes.result c.args.subsystem.now c.send_ahead.new.subsystem c.event.new.self (record { took = c.in_ok-send_ahead.ensures.says.bytes; same = c.send_ahead.ensures.same })
-    c.event.ensures.never_again_trace _ _ c.law.ensures.noise c.requires.there c.in-Err-Sink.ensures.still c.in-Err-Sink.ensures.does
+    c.event.ensures.never_again_trace _ _ c.law.ensures.noise c.requires.there c.in-Err-Sink.ensures.still c.in-Err-Sink.field-0 c.in-Err-Sink.field-0-is c.in-Err-Sink.ensures.does
 
 pub returns-in-Err-Store-clause-stops : goal.returns-in-Err-Store-clause-stops
 returns-in-Err-Store-clause-stops g c =
     event_fails g.P.Packs.tells g.P.Packs.held g.T.Sink.tells g.T.Sink.taken c.args.packs.now c.event.new.packs c.args.trace.now c.send_ahead.new.trace c.event.new.trace c.args.line (input_of c.args.event)
     c.may_write-writes.result c.args.subsystem.now c.send_ahead.new.subsystem c.event.new.self (record { took = c.in_ok-send_ahead.ensures.says.bytes; same = c.send_ahead.ensures.same })
     c.event.ensures.never_again_trace g.T.Sink.faults c.send_behind.new.trace c.send_behind.result c.send_behind.ensures.sends c.may_write-writes.ensures c.law.ensures.noise c.requires.there
-    c.in-Err-Store.ensures.still c.in-Err-Store.ensures.does c.send_behind.new.subsystem.world _ _
+    c.in-Err-Store.ensures.still c.in-Err-Store.field-0 c.in-Err-Store.field-0-is c.in-Err-Store.ensures.does c.send_behind.new.subsystem.world _ _
