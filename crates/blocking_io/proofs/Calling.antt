@@ -1,5 +1,5 @@
 -- A call of the driver, whose lines are kept, and the answers behind it.
-use Rattle.std.proofs.Common.{◌≡◌, ◌≤◌, ℕ, Bool, true, false, IsTrue, List, [], ◌++◌, Option, Some, None, refl, sym, ap, subst, ◌∙◌, append-nil}
+use Rattle.std.proofs.Common.{◌≡◌, ℕ, Bool, true, false, IsTrue, List, [], ◌++◌, Option, Some, None, refl, sym, ap, subst, ◌∙◌, append-nil}
 use Rattle.pack_model.specs.Pack.{Pack, empty_pack}
 use Rattle.outside_traits.specs.Puts.{TakesFront}
 use Rattle.hardware_table.specs.declared.Moved.TheVariants as verdict
@@ -10,14 +10,14 @@ use Rattle.driver_machine.specs.World.{World}
 use Rattle.driver_machine.specs.Lines.{lines_of_all}
 use Rattle.driver_machine.specs.Events.{submit_acts, event_acts}
 use Rattle.driver_answers.specs.Waiting.{waiting, all_taken}
-use Rattle.driver_machine.specs.Acts.{Act, Tried}
+use Rattle.driver_machine.specs.Acts.{Tried}
 use Rattle.driver_outcome.specs.Outcome.{Does, IsFront}
 use Rattle.driver_outcome.specs.declared.Stop.{Stop}
 use Rattle.driver_outcome.specs.declared.Stop.TheVariants as stop
 use Rattle.driver_outcome.proofs.Joined.{front_more, front_of_front}
 use Rattle.driver_trace.specs.Noises.{AllFlip}
 use Rattle.hp_driver.specs.Subsystem.{Submits, Comes, State, seen, IsThere, is_move, writes_by}
-use Rattle.hp_driver.proofs.Sent.{whole_sent, sent_behind, front_told}
+use Rattle.hp_driver.proofs.Sent.{whole_sent, front_told}
 use Rattle.blocking_io.specs.Given.{Given, gives_all}
 use Rattle.blocking_io.specs.Calls.{GivesSubmission, GivesEvent, SubmissionStops, EventTellsFront, EventStops, SendsRest}
 use Rattle.blocking_io.proofs.Sending.{begins_taken, taken_front, ahead, left, told_same, sent_begins, ahead_front, still_taken, rest_sent}

@@ -1,16 +1,11 @@
 -- Lines that are kept, and sent ahead of an event that may write or behind a failure of the packs: what the trace took is a front of what
 -- was told.
-use Rattle.std.proofs.Common.{◌≡◌, ℕ, ◌≤◌, Bool, true, false, IsTrue, List, [], ◌++◌, Option, Some, take, drop, refl, sym, ap, subst, arith, ◌∙◌, append-nil, append_assoc, take-append-drop}
+use Rattle.std.proofs.Common.{◌≡◌, ℕ, Bool, true, false, List, [], ◌++◌, take, drop, sym, ap, ◌∙◌, append-nil, append_assoc, take-append-drop}
 use Rattle.std.specs.Prelude.{if◌then◌else◌}
 use Rattle.std.proofs.lemmas.List.{append_cancel_right}
-use Rattle.outside_traits.specs.Causes.{Rose}
 use Rattle.outside_traits.specs.Puts.{TakesFront}
 use Rattle.driver_outcome.specs.Outcome.{IsFront}
-use Rattle.driver_outcome.specs.declared.Stop.{Stop}
-use Rattle.driver_outcome.specs.declared.Stop.TheVariants as stop
 use Rattle.driver_outcome.proofs.Joined.{front_more, front_of_front}
-use Rattle.hp_driver.specs.Passes.{HasCauses}
-use Rattle.blocking_io.specs.Calls.{SendsRest}
 
 -- ---- A FRONT OF A TEXT was taken: it begins with what was taken before, and is a front of all.
 pub begins_taken : (before after text : List ℕ) → TakesFront before after text → IsFront before after
@@ -62,30 +57,3 @@ pub rest_sent : (writes : Bool) (x y z last kept now : List ℕ) → y ≡ x ++ 
     → last ≡ z ++ (if writes then [] else now) → last ≡ x ++ kept
 rest_sent true x y z last kept now ahead_is same told is = is ∙ append-nil z ∙ still_taken y z [] now same told ∙ ahead_is
 rest_sent false x y z last kept now ahead_is same told is = is ∙ told ∙ ap (λ (xs : List ℕ). xs ++ kept) (ahead_is ∙ append-nil x)
-
--- ---- COUNTS
-pub rose_more : (first before now : ℕ) → first ≤ before → Rose before now → Rose first now
-rose_more first before now less r = omega (arith, less, r)
-
-later : (a b c : ℕ) → a ≤ b → b ≤ c → a ≤ c
-later a b c one two = omega (arith, one, two)
-
-pub ahead_causes : (packs packs' trace mid trace' : ℕ) (halt : Option Stop) → trace ≤ mid → HasCauses packs packs' mid trace' halt → HasCauses packs packs' trace trace' halt
-ahead_causes packs packs' trace mid trace' halt less causes = record {
-  later_packs = causes.later_packs;
-  later = later trace mid trace' less causes.later;
-  store = causes.store;
-  sink = λ e. rose_more trace mid trace' less (causes.sink e);
-}
-
-pub behind_causes : {O : Type 0} (tells : O → Bool) (taken : O → List ℕ) (faults : O → ℕ) (old new : O) (writes : Bool) (kept : List ℕ) (halt : Stop) (packs packs' trace : ℕ)
-    → SendsRest tells taken faults old new writes kept halt → HasCauses packs packs' trace (faults old) (Some stop.Store) → HasCauses packs packs' trace (faults new) (Some halt)
-behind_causes tells taken faults old new writes kept halt packs packs' trace rest causes = record {
-  later_packs = causes.later_packs;
-  later = later trace (faults old) (faults new) causes.later rest.later;
-  store = λ e. causes.store refl;
-  sink = λ e. rose_more trace (faults old) (faults new) causes.later (rest.rose (same halt e));
-}
-  where
-    same : (x : Stop) → ◌≡◌ {A = Option Stop} (Some x) (Some stop.Sink) → x ≡ stop.Sink
-    same x e = cc

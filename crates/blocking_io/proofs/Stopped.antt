@@ -1,6 +1,6 @@
 -- A request that stopped: in its submission, as the drain found nothing to do, or in an event of its drain.
 use Rattle.std.proofs.Common.{◌≡◌, ℕ, ◌≤◌, Bool, true, false, IsTrue, List, [], ◌∷◌, ◌++◌, Option, None, Some, refl, sym, ap, subst, ◌∙◌, append-nil, append_assoc}
-use Rattle.std.specs.Prelude.{◌&&◌, nat_lt, if◌then◌else◌}
+use Rattle.std.specs.Prelude.{◌&&◌, nat_lt, if◌then◌else◌, Result, Ok, Err, IfErr, IsErrAnd}
 use Rattle.std.proofs.lemmas.Bool.{false≢true}
 use Rattle.std.proofs.lemmas.Grind.{flat_map-append}
 use Rattle.pack_geometry.specs.declared.DriveKind.{DriveKind}
@@ -281,7 +281,7 @@ drained_stopped line r old mid new some still still_traced same least most so = 
 }
 
 -- what was given is not seen
-pub stops_given : (stop : Stop) (line : ℕ) (r : Request) (old new : Stage) (given : Given) → Stops stop line r old new → Stops stop line r old (record new { given = given })
+stops_given : (stop : Stop) (line : ℕ) (r : Request) (old new : Stage) (given : Given) → Stops stop line r old new → Stops stop line r old (record new { given = given })
 stops_given stop line r old new given e = record {
   asked = e.asked;
   drained = e.drained;
@@ -292,3 +292,9 @@ stops_given stop line r old new given e = record {
         record { session = at.session; packs = at.packs };
   };
 }
+
+-- an error that is handed on
+pub stops_on : {T : Type 0} (line : ℕ) (r : Request) (old new : Stage) (given : Given) (result : Result T Stop) (stop : Stop) → IsErrAnd result (λ x. x ≡ stop) → Stops stop line r old new
+    → IfErr result (λ halt. Stops halt line r old (record new { given = given }))
+stops_on line r old new given (Ok value) stop is e = tt
+stops_on line r old new given (Err other) stop is e = subst (λ (halt : Stop). Stops halt line r old (record new { given = given })) (sym is) (stops_given stop line r old new given e)

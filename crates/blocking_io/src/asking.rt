@@ -81,16 +81,16 @@ fn may_write(subsystem: &Subsystem, event: &Event) -> bool
 }
 
 /// Sends the lines that are kept before an event that may write a block.
-fn send_ahead<T: Sink>(
-    subsystem: &mut Subsystem,
-    writes: bool,
-    trace: &mut T,
-) -> Result<(), Stop>
+fn send_ahead<T: Sink>(subsystem: &mut Subsystem, writes: bool, trace: &mut T) -> Result<(), Stop>
     ensures says { SaysText T.tells T.taken trace.old trace.new result (if writes then subsystem.old.kept else []) }
     ensures same { subsystem.new ≡ record subsystem.old { kept = if writes then [] else subsystem.old.kept } }
     ensures cause { HasCause (T.faults trace.old) (T.faults trace.new) result }
 {
-    if writes { send(subsystem, trace) } else { Ok(()) }
+    if writes {
+        send(subsystem, trace)
+    } else {
+        Ok(())
+    }
 }
 
 /// Sends the lines that are kept where the packs failed at an event that writes nothing. Where the trace fails too, that is the answer.

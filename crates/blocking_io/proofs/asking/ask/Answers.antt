@@ -13,11 +13,11 @@ use Rattle.hp_driver.proofs.Sent.{sent_behind}
 use Rattle.blocking_io.specs.declared.reached.Reached.TheVariants.{Before}
 use Rattle.blocking_io.specs.Calls.{Stage, stage, telling}
 use Rattle.blocking_io.specs.Stopping.{Stops}
-use Rattle.blocking_io.proofs.Sending.{begins_taken, taken_front, sent_begin, taken_of_more}
+use Rattle.blocking_io.proofs.Sending.{taken_front, sent_begin, taken_of_more}
 use Rattle.blocking_io.proofs.Waiting.{SoAsked, SoDrained, asked_so, first_drained, first_turns, more_drained, more_turns, drained_sent}
 use Rattle.blocking_io.proofs.Ending.{quiet_waiting, quiet_drained, drained_answers, nothing_answers}
-use Rattle.blocking_io.proofs.Stopped.{submission_stopped, idle_stopped, first_stopped, later_stopped, drained_stopped, stops_given}
-use Rattle.blocking_io.proofs.Readying.{may_submit, err_is, submit_causes, never}
+use Rattle.blocking_io.proofs.Stopped.{submission_stopped, idle_stopped, first_stopped, later_stopped, drained_stopped, stops_on}
+use Rattle.blocking_io.proofs.Readying.{may_submit, submit_causes, never}
 use Rattle.blocking_io.proofs.asking.ask.Goals as goal
 
 pub submit-requires-clause-asked : goal.submit-requires-clause-asked
@@ -28,9 +28,8 @@ returns-in_err-submit-clause-stops g c =
     let r : told.Request = asked c.args.request c.args.from.now in
     let old : Stage = stage g.P.Packs.tells g.P.Packs.held g.T.Sink.tells g.T.Sink.taken c.args.subsystem.now.world c.args.packs.now c.args.trace.now (Before 0) c.args.into.now in
     let new : Stage = stage g.P.Packs.tells g.P.Packs.held g.T.Sink.tells g.T.Sink.taken c.submit.new.subsystem.world c.args.packs.now c.submit.new.trace c.submit.new.reached c.submit.new.into in
-    err_is _ c.from_residual.result c.in_err-submit.field-0.0 c.from_residual.ensures.1
-    (stops_given c.in_err-submit.field-0.0 c.args.line r old new (record { reached = Before 0; bytes = c.submit.new.into })
-    (submission_stopped c.beginnings_law.ensures.quiet c.in_err-submit.field-0.0 c.args.line r old new c.requires.line (c.in_err-submit.ensures.stops (g.P.Packs.tells c.args.packs.now) (g.P.Packs.held c.args.packs.now))))
+    stops_on c.args.line r old new (record { reached = Before 0; bytes = c.submit.new.into }) c.from_residual.result c.in_err-submit.field-0.0 c.from_residual.ensures.1
+    (submission_stopped c.beginnings_law.ensures.quiet c.in_err-submit.field-0.0 c.args.line r old new c.requires.line (c.in_err-submit.ensures.stops (g.P.Packs.tells c.args.packs.now) (g.P.Packs.held c.args.packs.now)))
 
 pub returns-in_err-submit-clause-causes : goal.returns-in_err-submit-clause-causes
 returns-in_err-submit-clause-causes g c =
@@ -46,7 +45,7 @@ returns-in_err-send-clause-stops g c =
     let so : SoAsked c.args.line r old mid = asked_so c.args.line r old mid c.law.ensures.sound (c.law.ensures.work c.requires.may.ready.going) c.requires.may.ready.quiet c.requires.may.request c.requires.line
     (c.in_ok-submit.ensures.gives (g.P.Packs.tells c.args.packs.now) (g.P.Packs.held c.args.packs.now)) in
     let says = c.in_err-send.ensures.says in
-    err_is _ c.from_residual-in_err-send.result c.in_err-send.field-0.0 c.from_residual-in_err-send.ensures.1
+    stops_on c.args.line r old new new.given c.from_residual-in_err-send.result c.in_err-send.field-0.0 c.from_residual-in_err-send.ensures.1
     (subst (λ (s : Stop). Stops s c.args.line r old new) (sym says.by)
     (idle_stopped c.args.line r old mid new c.requires.line says.never_again c.in_default.ensures.over refl
     (λ t. sent_behind (g.T.Sink.taken c.args.trace.now) (g.T.Sink.taken c.submit.new.trace) (g.T.Sink.taken c.send.new.trace) c.submit.new.subsystem.kept
@@ -64,7 +63,7 @@ returns-in_err-say_idle-clause-stops g c =
     let sends = c.in_ok-send.ensures.says in
     let says = c.in_err-say_idle.ensures.says in
     let sent : List ℕ = g.T.Sink.taken c.send.new.trace in
-    err_is _ c.from_residual-in_err-say_idle.result c.in_err-say_idle.field-0.0 c.from_residual-in_err-say_idle.ensures.1
+    stops_on c.args.line r old new new.given c.from_residual-in_err-say_idle.result c.in_err-say_idle.field-0.0 c.from_residual-in_err-say_idle.ensures.1
     (subst (λ (s : Stop). Stops s c.args.line r old new) (sym says.by)
     (idle_stopped c.args.line r old mid new c.requires.line (λ t. sends.never_again (says.never_again t)) c.in_default.ensures.over refl
     (λ t. sent_behind (g.T.Sink.taken c.args.trace.now) sent (g.T.Sink.taken c.say_idle.new.trace) (moment_text (Idle c.args.line))
@@ -118,11 +117,10 @@ returns-in_err-happen-clause-stops g c =
     let new : Stage = stage g.P.Packs.tells g.P.Packs.held g.T.Sink.tells g.T.Sink.taken c.happen.new.subsystem.world c.happen.new.packs c.happen.new.trace c.happen.new.reached c.happen.new.into in
     let so : SoAsked c.args.line r old mid = asked_so c.args.line r old mid c.law.ensures.sound (c.law.ensures.work c.requires.may.ready.going) c.requires.may.ready.quiet c.requires.may.request c.requires.line
     (c.in_ok-submit.ensures.gives (g.P.Packs.tells c.args.packs.now) (g.P.Packs.held c.args.packs.now)) in
-    err_is _ c.from_residual-in_err-happen.result c.in_err-happen.field-0.0 c.from_residual-in_err-happen.ensures.1
-    (stops_given c.in_err-happen.field-0.0 c.args.line r old new (record { reached = Before 0; bytes = c.happen.new.into })
+    stops_on c.args.line r old new (record { reached = Before 0; bytes = c.happen.new.into }) c.from_residual-in_err-happen.result c.in_err-happen.field-0.0 c.from_residual-in_err-happen.ensures.1
     (first_stopped c.beginnings_law.ensures.quiet c.next_block_law.ensures c.in_err-happen.field-0.0 c.args.line r (input_of c.in-Some.first) old mid new (g.T.Sink.taken c.submit.new.trace) c.requires.line
     c.in_err-happen.ensures.never_again_trace (λ t. c.in_ok-submit.ensures.sent (c.in_err-happen.ensures.never_again_trace t))
-    c.law-2.ensures.sound (c.law-2.ensures.work c.in_ok-submit.ensures.going) c.in-Some.ensures.next so c.in_err-happen.ensures.stops))
+    c.law-2.ensures.sound (c.law-2.ensures.work c.in_ok-submit.ensures.going) c.in-Some.ensures.next so c.in_err-happen.ensures.stops)
 
 pub loop-turn-init : goal.loop-turn-init
 loop-turn-init g c =
@@ -159,7 +157,7 @@ returns-in_err-send-2-clause-stops g c =
     let new : Stage = stage g.P.Packs.tells g.P.Packs.held g.T.Sink.tells g.T.Sink.taken c.send-in_default-next_event.new.subsystem.world c.loop-turn.packs c.send-in_default-next_event.new.trace (Before 0) c.loop-turn.into in
     let so = c.loop-turn.invariant in
     let says = c.in_err-send-2.ensures.says in
-    err_is _ c.from_residual-in_err-send-2.result c.in_err-send-2.field-0.0 c.from_residual-in_err-send-2.ensures.1
+    stops_on c.args.line r old new new.given c.from_residual-in_err-send-2.result c.in_err-send-2.field-0.0 c.from_residual-in_err-send-2.ensures.1
     (subst (λ (s : Stop). Stops s c.args.line r old new) (sym says.by)
     (drained_stopped c.args.line r old mid new c.requires.line (λ t. t) says.never_again refl
     (λ t. sent_behind (g.T.Sink.taken c.args.trace.now) (g.T.Sink.taken c.loop-turn.trace) (g.T.Sink.taken c.send-in_default-next_event.new.trace) c.loop-turn.subsystem.kept (so.sent (says.never_again t)) (says.front t))
@@ -195,11 +193,10 @@ returns-in_err-happen-2-clause-stops g c =
     let mid : Stage = telling g.P.Packs.tells g.P.Packs.held g.T.Sink.tells g.T.Sink.taken c.loop-turn.subsystem c.loop-turn.packs c.loop-turn.trace c.loop-turn.reached c.loop-turn.into in
     let new : Stage = stage g.P.Packs.tells g.P.Packs.held g.T.Sink.tells g.T.Sink.taken c.happen-in-loop-turn.new.subsystem.world c.happen-in-loop-turn.new.packs c.happen-in-loop-turn.new.trace c.happen-in-loop-turn.new.reached c.happen-in-loop-turn.new.into in
     let so = c.loop-turn.invariant in
-    err_is _ c.from_residual-in_err-happen-2.result c.in_err-happen-2.field-0.0 c.from_residual-in_err-happen-2.ensures.1
-    (stops_given c.in_err-happen-2.field-0.0 c.args.line r old new (record { reached = Before 0; bytes = c.happen-in-loop-turn.new.into })
+    stops_on c.args.line r old new (record { reached = Before 0; bytes = c.happen-in-loop-turn.new.into }) c.from_residual-in_err-happen-2.result c.in_err-happen-2.field-0.0 c.from_residual-in_err-happen-2.ensures.1
     (later_stopped c.beginnings_law.ensures.quiet c.next_block_law.ensures c.in_err-happen-2.field-0.0 c.args.line r (input_of c.in-Some-next_event.event) old mid new (g.T.Sink.taken c.loop-turn.trace) c.requires.line
     c.in_err-happen-2.ensures.never_again c.in_err-happen-2.ensures.never_again_trace (λ t. so.sent (c.in_err-happen-2.ensures.never_again_trace t))
-    c.law-in-loop-turn.ensures.sound (c.law-in-loop-turn.ensures.work so.going) c.in-Some-next_event.ensures.next so.drained c.in_err-happen-2.ensures.stops))
+    c.law-in-loop-turn.ensures.sound (c.law-in-loop-turn.ensures.work so.going) c.in-Some-next_event.ensures.next so.drained c.in_err-happen-2.ensures.stops)
 
 pub loop-turn-preserved : goal.loop-turn-preserved
 loop-turn-preserved g c =
@@ -231,4 +228,3 @@ loop-turn-preserved g c =
 pub unreachable-requires : goal.unreachable-requires
 unreachable-requires g c =
     never c.loop-turn.turn c.loop-turn.invariant.turns.left c.loop-turn-test.false c.loop-turn.invariant.turns.few
-

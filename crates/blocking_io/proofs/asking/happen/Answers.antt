@@ -1,12 +1,17 @@
-use Rattle.std.proofs.Common.{refl}
+use Rattle.driver_outcome.specs.declared.Stop.{Stop}
 use Rattle.hp_driver.specs.Passes.{input_of}
+use Rattle.blocking_io.specs.Calls.{stage, telling, EventStops}
 use Rattle.blocking_io.proofs.Calling.{event_given, event_sent, event_halts, event_fails, event_unsent}
 use Rattle.blocking_io.proofs.Readying.{err_is}
 use Rattle.blocking_io.proofs.asking.happen.Goals as goal
 
 pub returns-in_err-send_ahead-clause-stops : goal.returns-in_err-send_ahead-clause-stops
 returns-in_err-send_ahead-clause-stops g c =
-    err_is _ c.from_residual.result c.in_err-send_ahead.field-0.0 c.from_residual.ensures.1
+    err_is
+    (λ (halt : Stop). EventStops halt (g.T.Sink.taken c.args.trace.now) c.args.line (input_of c.args.event)
+    (telling g.P.Packs.tells g.P.Packs.held g.T.Sink.tells g.T.Sink.taken c.args.subsystem.now c.args.packs.now c.args.trace.now c.args.reached.now c.args.into.now)
+    (stage g.P.Packs.tells g.P.Packs.held g.T.Sink.tells g.T.Sink.taken c.send_ahead.new.subsystem.world c.args.packs.now c.send_ahead.new.trace c.args.reached.now c.args.into.now))
+    c.from_residual.result c.in_err-send_ahead.field-0.0 c.from_residual.ensures.1
     (event_unsent g.P.Packs.tells g.P.Packs.held g.T.Sink.tells g.T.Sink.taken c.args.packs.now c.args.trace.now c.send_ahead.new.trace c.args.line (input_of c.args.event) c.may_write-writes.result
     c.args.subsystem.now c.send_ahead.new.subsystem.world _ _ c.in_err-send_ahead.field-0.0 c.in_err-send_ahead.ensures.says.by c.law.ensures.noise c.requires.there c.in_err-send_ahead.ensures.says.front)
 
