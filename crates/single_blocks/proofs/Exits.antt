@@ -1,5 +1,5 @@
 -- What the functions over one block owe, from what `ask_read` and `ask_write` promise.
-use Rattle.std.proofs.Common.{◌≡◌, ◌≢◌, ◌⊎◌, inl, inr, ℕ, ◌<◌, ◌≤◌, ◌+◌, Bool, IsTrue, List, [], ◌∷◌, length, refl, sym, ap, ◌∙◌, subst, arith}
+use Rattle.std.proofs.Common.{◌≡◌, inl, inr, ℕ, ◌+◌, Bool, IsTrue, List, [], ◌∷◌, length, refl, sym, ◌∙◌, subst, arith}
 use Rattle.std.specs.Prelude.{if◌then◌else◌, None, Some}
 use Rattle.std.proofs.lemmas.Bool.Decides.{eqb_tells}
 use Rattle.partitions.specs.declared.Part.TheVariants.{C}
@@ -12,10 +12,10 @@ use Rattle.blocking_io.specs.Calls.{Stage}
 use Rattle.blocking_io.specs.Asking.{setup_at, Answers}
 use Rattle.blocking_io.specs.Sessions.{GoesOn, AnswersReach}
 use Rattle.raw_io.specs.Calls.{kind_at, map_at, left_map}
-use Rattle.raw_io.specs.Blocks.{blocks_reached, origin, ReadsOnce, PutsBlocks, PutsFront}
+use Rattle.raw_io.specs.Blocks.{blocks_reached, ReadsOnce, PutsBlocks, PutsFront}
 use Rattle.raw_io.proofs.Asks.{plain, few_reached, read_once_of, puts_of}
 use Rattle.raw_io.proofs.Joins.{map_long}
-use Rattle.cached_blocks.specs.Requests.{one_block, reads, writes, behind_one, behind}
+use Rattle.cached_blocks.specs.Requests.{reads, writes, behind_one}
 use Rattle.cached_blocks.proofs.Requested.{read_leaves}
 use Rattle.single_blocks.specs.Asks.{IsData, Asks, Fetches, LeftBy}
 use Rattle.single_blocks.proofs.Maps.{first_c, are_blocks, other_unit, write_one, stop_one, read_one}

@@ -1,7 +1,7 @@
 -- Requests one behind the other.
 use Rattle.std.proofs.Common.{◌≡◌, ℕ, List, [], ◌∷◌, ◌++◌, refl, sym, ap, ◌∙◌, subst, append-nil, append_assoc}
 use Rattle.subsystem_spec.specs.Requests.{Request}
-use Rattle.waited_requests.specs.Sessions.{Part, waited}
+use Rattle.waited_requests.specs.Sessions.{waited}
 use Rattle.blocking_io.specs.Calls.{Stage}
 use Rattle.blocking_io.specs.Asking.{setup_at}
 use Rattle.blocking_io.specs.Sessions.{GoesOn, StillTell, SessionsJoin}

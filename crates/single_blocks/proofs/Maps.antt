@@ -1,5 +1,5 @@
 -- What a write of one block leaves in a map.
-use Rattle.std.proofs.Common.{◌≡◌, ◌≢◌, ◌⊎◌, inl, inr, ℕ, ◌<◌, ◌≤◌, ◌+◌, ◌*◌, ◌==◌, ◌&&◌, Bool, true, false, List, [], ◌∷◌, length, take, drop, Option, None, Some, refl, sym, ap, ◌∙◌, subst, arith}
+use Rattle.std.proofs.Common.{◌≡◌, ◌≢◌, ◌⊎◌, inl, inr, ℕ, ◌<◌, ◌≤◌, ◌+◌, ◌*◌, ◌==◌, ◌&&◌, Bool, true, false, List, [], ◌∷◌, length, take, Option, None, Some, refl, sym, ap, ◌∙◌, subst, arith}
 use Rattle.std.specs.Prelude.{IsSome, if◌then◌else◌}
 use Rattle.std.proofs.lemmas.Bool.{eq-eqb, ne_eqb}
 use Rattle.std.proofs.lemmas.Bool.Decides.{eqb_tells}
@@ -8,8 +8,7 @@ use Rattle.pack_geometry.specs.declared.DriveKind.TheVariants.{Rp06, Rm03, Rm05}
 use Rattle.pack_geometry.specs.Geometry.{limit_of}
 use Rattle.partitions.specs.declared.Part.TheVariants.{C}
 use Rattle.partitions.specs.Partitions.{first_of, size_of}
-use Rattle.subsystem_spec.specs.Requests.{Request}
-use Rattle.trace_replay.specs.Packs.{size_of_block, sector_of_block}
+use Rattle.trace_replay.specs.Packs.{sector_of_block}
 use Rattle.block_machine.specs.Machine.{Blocks, bytes_or_none, blocks_done, bytes_of_first}
 use Rattle.block_machine.proofs.Blocks.{begun_blocks, block_done, other_blocks}
 use Rattle.partition_bytes.specs.Pieces.{Reaches}
