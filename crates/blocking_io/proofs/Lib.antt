@@ -1,6 +1,7 @@
 mod Laying
 mod Blocks
 mod Taking
+mod Sending
 mod Calling
 mod Waiting
 mod Ending

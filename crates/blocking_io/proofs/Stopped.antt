@@ -1,11 +1,10 @@
 -- A request that stopped: in its submission, as the drain found nothing to do, or in an event of its drain.
-use Rattle.std.proofs.Common.{◌≡◌, ℕ, ◌≤◌, Bool, true, false, IsTrue, List, [], ◌∷◌, ◌++◌, take, drop, Option, None, Some, refl, sym, ap, subst, ◌∙◌, append-nil, append_assoc, take-append-drop}
-use Rattle.std.specs.Prelude.{◌&&◌, nat_lt, if◌then◌else◌}
+use Rattle.std.proofs.Common.{◌≡◌, ℕ, ◌≤◌, Bool, true, false, IsTrue, List, [], ◌∷◌, ◌++◌, Option, None, Some, refl, sym, ap, subst, ◌∙◌, append-nil, append_assoc}
+use Rattle.std.specs.Prelude.{◌&&◌, nat_lt, if◌then◌else◌, Result, Ok, Err, IfErr, IsErrAnd}
 use Rattle.std.proofs.lemmas.Bool.{false≢true}
 use Rattle.std.proofs.lemmas.Grind.{flat_map-append}
 use Rattle.pack_geometry.specs.declared.DriveKind.{DriveKind}
 use Rattle.pack_model.specs.Pack.{Pack}
-use Rattle.outside_traits.specs.Puts.{TakesFront}
 use Rattle.subsystem_spec.specs.Requests.{Request}
 use Rattle.trace_replay.specs.Moments.{Moment, Played, Idle, played}
 use Rattle.trace_replay.specs.Script as script
@@ -26,7 +25,7 @@ use Rattle.driver_outcome.specs.Packs.{packs_after_all}
 use Rattle.driver_outcome.specs.Outcome.{IsFront}
 use Rattle.driver_outcome.specs.declared.Stop.{Stop}
 use Rattle.driver_outcome.specs.declared.Stop.TheVariants.{Store, Sink}
-use Rattle.driver_outcome.proofs.Joined.{front_more, front_of_front}
+use Rattle.driver_outcome.proofs.Joined.{front_of_front}
 use Rattle.driver_trace.specs.Calls.{Ends, IsSurfaceOf}
 use Rattle.driver_trace.proofs.Drains.{GoesOn, drain_begins, drain_goes_on, drain_between}
 use Rattle.driver_trace.proofs.Inputted.{lines_play_nothing}
@@ -53,24 +52,14 @@ told_asked line r asked = append-nil asked
 told_drained : (line : ℕ) (r : Request) (asked drained : List Moment) → told_in (begun line r asked (Some drained)) ≡ asked ++ drained
 told_drained line r asked drained = ap (λ (ms : List Moment). asked ++ ms) (append-nil drained)
 
-front_by : (before after text : List ℕ) → TakesFront before after text → TookFront before after text
-front_by before after text front = record {
-  least = record { rest = take front.0 text; whole = front.1 };
-  most = record {
-    rest = drop front.0 text;
-    whole = ap (λ (xs : List ℕ). before ++ xs) (sym (take-append-drop front.0 text)) ∙ sym (append_assoc before (take front.0 text) (drop front.0 text))
-        ∙ ap (λ (xs : List ℕ). xs ++ drop front.0 text) (sym front.1);
-  };
-}
-
--- behind a text that was taken whole
-front_on : (first next : List Moment) (before mid after : List ℕ) → mid ≡ before ++ trace_text first → TookFront mid after (trace_text next)
+-- a front of a text, behind another that was told
+front_on : (first next : List Moment) (before mid after : List ℕ) → mid ≡ before ++ trace_text first → IsFront before after → IsFront after (mid ++ trace_text next)
     → TookFront before after (trace_text (first ++ next))
-front_on first next before mid after is front = record {
-  least = front_of_front before mid after (subst (IsFront before) (sym is) (front_more before (trace_text first))) front.least;
+front_on first next before mid after is least most = record {
+  least = least;
   most = subst (IsFront after)
       (ap (λ (text : List ℕ). text ++ trace_text next) is ∙ append_assoc before (trace_text first) (trace_text next)
-      ∙ ap (λ (text : List ℕ). before ++ text) (sym (flat_map-append moment_text first next))) front.most;
+      ∙ ap (λ (text : List ℕ). before ++ text) (sym (flat_map-append moment_text first next))) most;
 }
 
 -- ---- PACKS that hold what a surface has
@@ -126,16 +115,17 @@ submission_stopped quiet_keep stop line r old new some e =
       };
     })
 
--- ---- WHERE THE DRAIN FOUND NOTHING, and that was not told whole
+-- ---- WHERE THE DRAIN FOUND NOTHING, and not all lines were sent
 pub idle_stopped : (line : ℕ) (r : Request) (old mid new : Stage) → 1 ≤ line → (IsTrue new.trace_tells → IsTrue mid.trace_tells) → next_event mid.world ≡ None
-    → new.held ≡ mid.held → (IsTrue new.trace_tells → TakesFront mid.taken new.taken (moment_text (Idle line))) → SoAsked line r old mid → Stops Sink line r old new
-idle_stopped line r old mid new some still idle same front so = record {
+    → new.held ≡ mid.held → (IsTrue new.trace_tells → IsFront old.taken new.taken) → (IsTrue new.trace_tells → IsFront new.taken (mid.taken ++ moment_text (Idle line)))
+    → SoAsked line r old mid → Stops Sink line r old new
+idle_stopped line r old mid new some still idle same least most so = record {
   asked = so.asked;
   drained = Some (Idle line ∷ []);
   stops = record {
     trace = λ t. subst (λ (ms : List Moment). TookFront old.taken new.taken (trace_text ms)) (sym (told_drained line r so.asked (Idle line ∷ [])))
-        (front_on so.asked (Idle line ∷ []) old.taken mid.taken new.taken (so.trace (still t))
-        (subst (TookFront mid.taken new.taken) (sym (append-nil (moment_text (Idle line)))) (front_by mid.taken new.taken (moment_text (Idle line)) (front t))));
+        (front_on so.asked (Idle line ∷ []) old.taken mid.taken new.taken (so.trace (still t)) (least t)
+        (subst (λ (text : List ℕ). IsFront new.taken (mid.taken ++ text)) (sym (append-nil (moment_text (Idle line)))) (most t)));
     cut = λ t tables s q.
         let at : IsAskedTo line r so.asked mid s = so.far s q in
         let goes : GoesTo line script.Drain mid.held mid.world (behind s (first_part line r so.asked)) (Nothing line ∷ []) =
@@ -154,11 +144,11 @@ record InDrain (line : ℕ) (r : Request) (asked moments : List Moment) (input :
   may : MayPlay (behind s (first_part line r asked))
   begins : Begins line (setup_at old).drives old.held mid.held mid.world input (after_moment (behind s (first_part line r asked)) (Played line script.Drain)) moments
 
-event_stopped : QuietMomentsKeep → NextBlocksShow → (stop : Stop) (line : ℕ) (r : Request) (asked moments : List Moment) (input : Input) (old mid new : Stage) → 1 ≤ line → played moments ≡ []
-    → (IsTrue new.trace_tells → mid.taken ≡ old.taken ++ trace_text (asked ++ moments))
+event_stopped : QuietMomentsKeep → NextBlocksShow → (stop : Stop) (line : ℕ) (r : Request) (asked moments : List Moment) (input : Input) (old mid new : Stage) (sent : List ℕ) → 1 ≤ line → played moments ≡ []
+    → (IsTrue new.trace_tells → mid.taken ≡ old.taken ++ trace_text (asked ++ moments)) → (IsTrue new.trace_tells → IsFront old.taken sent)
     → (IsTrue new.packs_tell → (s : Replay) → StandsQuiet old.held old.world s → InDrain line r asked moments input old mid s)
-    → EventStops stop line input mid new → Stops stop line r old new
-event_stopped quiet_keep next_shows Sink line r asked moments input old mid new some alone trace far e =
+    → EventStops stop sent line input mid new → Stops stop line r old new
+event_stopped quiet_keep next_shows Sink line r asked moments input old mid new sent some alone trace begins far e =
     let lines : List Moment = lines_of_all mid.world e.tells.done in
     record {
       asked = asked;
@@ -166,18 +156,18 @@ event_stopped quiet_keep next_shows Sink line r asked moments input old mid new 
       stops = record {
         trace = λ t. subst (λ (ms : List Moment). TookFront old.taken new.taken (trace_text ms))
             (append_assoc asked moments lines ∙ sym (told_drained line r asked (moments ++ lines)))
-            (front_on (asked ++ moments) lines old.taken mid.taken new.taken (trace t) (record { least = e.tells.least t; most = e.tells.most t }));
+            (front_on (asked ++ moments) lines old.taken mid.taken new.taken (trace t) (front_of_front old.taken sent new.taken (begins t) (e.tells.least t)) (e.tells.most t));
         cut = λ t tables s q.
             let at : InDrain line r asked moments input old mid s = far t s q in
             let whole : Whole (setup_at old).drives old.held new.held (after_moment (behind s (first_part line r asked)) (Played line script.Drain)) (moments ++ lines) =
-            event_tells quiet_keep line (setup_at old).drives old.held mid new input (after_moment (behind s (first_part line r asked)) (Played line script.Drain)) moments at.begins t e in
+            event_tells quiet_keep line (setup_at old).drives old.held mid new input sent (after_moment (behind s (first_part line r asked)) (Played line script.Drain)) moments at.begins t e in
             record {
               session = (at.part, (record { number = some; may = at.may; follows = whole.follows; lines_alone = lines_play_nothing moments mid.world e.tells.done ∙ alone }, tt));
               packs = whole.packs;
             };
       };
     }
-event_stopped quiet_keep next_shows Store line r asked moments input old mid new some alone trace far e = record {
+event_stopped quiet_keep next_shows Store line r asked moments input old mid new sent some alone trace begins far e = record {
   asked = asked;
   drained = Some moments;
   stops = record {
@@ -199,11 +189,12 @@ event_stay old mid line input tried sound work may same stay =
     acts_stay (setup_at old).drives old.held mid.held mid.world (event_acts line input tried mid.world) sound works.run (declared_now old.world mid.world old.held mid.held same) stay
 
 -- the first one,
-pub first_stopped : QuietMomentsKeep → NextBlocksShow → (stop : Stop) (line : ℕ) (r : Request) (input : Input) (old mid new : Stage) → 1 ≤ line → (IsTrue new.trace_tells → IsTrue mid.trace_tells)
-    → Sound mid.world → AtWork mid.world → next_event mid.world ≡ Some input → SoAsked line r old mid → EventStops stop line input mid new → Stops stop line r old new
-first_stopped quiet_keep next_shows stop line r input old mid new some still sound work is so e =
-    event_stopped quiet_keep next_shows stop line r so.asked [] input old mid new some refl
-    (λ t. so.trace (still t) ∙ ap (λ (ms : List Moment). old.taken ++ trace_text ms) (sym (append-nil so.asked)))
+pub first_stopped : QuietMomentsKeep → NextBlocksShow → (stop : Stop) (line : ℕ) (r : Request) (input : Input) (old mid new : Stage) (sent : List ℕ) → 1 ≤ line → (IsTrue new.trace_tells → IsTrue mid.trace_tells)
+    → (IsTrue new.trace_tells → IsFront old.taken sent) → Sound mid.world → AtWork mid.world → next_event mid.world ≡ Some input → SoAsked line r old mid
+    → EventStops stop sent line input mid new → Stops stop line r old new
+first_stopped quiet_keep next_shows stop line r input old mid new sent some still begins sound work is so e =
+    event_stopped quiet_keep next_shows stop line r so.asked [] input old mid new sent some refl
+    (λ t. so.trace (still t) ∙ ap (λ (ms : List Moment). old.taken ++ trace_text ms) (sym (append-nil so.asked))) begins
     (λ t s q.
     let at : IsAskedTo line r so.asked mid s = so.far s q in
     let from : Replay = behind s (first_part line r so.asked) in
@@ -235,11 +226,11 @@ work_of : (b : Bool) (s : Replay) → b ≡ true → WorkMay b s → are_at_work
 work_of true s is w = w
 work_of false s is w = absurd (false≢true is)
 
-pub later_stopped : QuietMomentsKeep → NextBlocksShow → (stop : Stop) (line : ℕ) (r : Request) (input : Input) (old mid new : Stage) → 1 ≤ line → (IsTrue new.packs_tell → IsTrue mid.packs_tell)
-    → (IsTrue new.trace_tells → IsTrue mid.trace_tells) → Sound mid.world → AtWork mid.world → next_event mid.world ≡ Some input → SoDrained line r old mid
-    → EventStops stop line input mid new → Stops stop line r old new
-later_stopped quiet_keep next_shows stop line r input old mid new some still still_traced sound work is so e =
-    event_stopped quiet_keep next_shows stop line r so.asked so.drained input old mid new some so.alone (λ t. so.trace (still_traced t))
+pub later_stopped : QuietMomentsKeep → NextBlocksShow → (stop : Stop) (line : ℕ) (r : Request) (input : Input) (old mid new : Stage) (sent : List ℕ) → 1 ≤ line → (IsTrue new.packs_tell → IsTrue mid.packs_tell)
+    → (IsTrue new.trace_tells → IsTrue mid.trace_tells) → (IsTrue new.trace_tells → IsFront old.taken sent) → Sound mid.world → AtWork mid.world → next_event mid.world ≡ Some input
+    → SoDrained line r old mid → EventStops stop sent line input mid new → Stops stop line r old new
+later_stopped quiet_keep next_shows stop line r input old mid new sent some still still_traced begins sound work is so e =
+    event_stopped quiet_keep next_shows stop line r so.asked so.drained input old mid new sent some so.alone (λ t. so.trace (still_traced t)) begins
     (λ t s q.
     let at : IsDrainedTo line r so.asked so.drained mid s = so.far (still t) s q in
     let from : Replay = behind s (first_part line r so.asked) in
@@ -270,8 +261,27 @@ later_stopped quiet_keep next_shows stop line r input old mid new some still sti
       };
     }) e
 
+-- ---- BEHIND ITS LAST EVENT, where not all lines were sent
+pub drained_stopped : (line : ℕ) (r : Request) (old mid new : Stage) → 1 ≤ line → (IsTrue new.packs_tell → IsTrue mid.packs_tell) → (IsTrue new.trace_tells → IsTrue mid.trace_tells) → new.held ≡ mid.held
+    → (IsTrue new.trace_tells → IsFront old.taken new.taken) → (IsTrue new.trace_tells → IsFront new.taken mid.taken) → SoDrained line r old mid → Stops Sink line r old new
+drained_stopped line r old mid new some still still_traced same least most so = record {
+  asked = so.asked;
+  drained = Some so.drained;
+  stops = record {
+    trace = λ t. subst (λ (ms : List Moment). TookFront old.taken new.taken (trace_text ms)) (sym (told_drained line r so.asked so.drained))
+        (record { least = least t; most = subst (IsFront new.taken) (so.trace (still_traced t)) (most t) });
+    cut = λ t tables s q.
+        let at : IsDrainedTo line r so.asked so.drained mid s = so.far (still t) s q in
+        record {
+          session = (at.part, (record { number = some; may = at.may; follows = at.from.draining.follows; lines_alone = so.alone }, tt));
+          packs = subst (λ (held : ℕ → Pack). AreLeft (setup_at old).drives old.held held (behind_all s (waited line r so.asked so.drained)).surface) (sym same)
+              (ends_left line (setup_at old).drives old.held mid.held mid.world (behind_all s (waited line r so.asked so.drained)) at.from.draining.ends (so.stay (still t)));
+        };
+  };
+}
+
 -- what was given is not seen
-pub stops_given : (stop : Stop) (line : ℕ) (r : Request) (old new : Stage) (given : Given) → Stops stop line r old new → Stops stop line r old (record new { given = given })
+stops_given : (stop : Stop) (line : ℕ) (r : Request) (old new : Stage) (given : Given) → Stops stop line r old new → Stops stop line r old (record new { given = given })
 stops_given stop line r old new given e = record {
   asked = e.asked;
   drained = e.drained;
@@ -282,3 +292,9 @@ stops_given stop line r old new given e = record {
         record { session = at.session; packs = at.packs };
   };
 }
+
+-- an error that is handed on
+pub stops_on : {T : Type 0} (line : ℕ) (r : Request) (old new : Stage) (given : Given) (result : Result T Stop) (stop : Stop) → IsErrAnd result (λ x. x ≡ stop) → Stops stop line r old new
+    → IfErr result (λ halt. Stops halt line r old (record new { given = given }))
+stops_on line r old new given (Ok value) stop is e = tt
+stops_on line r old new given (Err other) stop is e = subst (λ (halt : Stop). Stops halt line r old (record new { given = given })) (sym is) (stops_given stop line r old new given e)

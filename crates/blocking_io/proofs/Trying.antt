@@ -102,8 +102,8 @@ pub record Begins (line : ℕ) (drives : ℕ → Option DriveKind) (old held : �
       → Whole drives old (packs_after_all w held (event_acts line input tried w)) start (moments ++ lines_of_all w (event_acts line input tried w))
 
 -- ---- ITS FIRST ACTS, whose text the trace did not take whole
-module _ (quiet_keep : QuietMomentsKeep) (line : ℕ) (drives : ℕ → Option DriveKind) (old : ℕ → Pack) (mid new : Stage) (input : Input) (start : Replay) (moments : List Moment)
-    (at : Begins line drives old mid.held mid.world input start moments) (told : IsTrue new.packs_tell) (e : EventTellsFront line input mid new) where
+module _ (quiet_keep : QuietMomentsKeep) (line : ℕ) (drives : ℕ → Option DriveKind) (old : ℕ → Pack) (mid new : Stage) (input : Input) (sent : List ℕ) (start : Replay) (moments : List Moment)
+    (at : Begins line drives old mid.held mid.world input start moments) (told : IsTrue new.packs_tell) (e : EventTellsFront sent line input mid new) where
   abbrev TellsIts : List Act → Type 0
   TellsIts done = Whole drives old new.held start (moments ++ lines_of_all mid.world done)
 

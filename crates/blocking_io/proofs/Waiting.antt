@@ -210,6 +210,28 @@ pub record SoDrained (line : ℕ) (r : Request) (old now : Stage) : Type 0 where
   pub stay : IsTrue now.packs_tell → Stay (setup_of old.world old.held).drives old.held now.held
   pub far : IsTrue now.packs_tell → (s : Replay) → StandsQuiet old.held old.world s → IsDrainedTo line r asked drained now s
 
+-- and all lines are sent
+pub drained_sent : (line : ℕ) (r : Request) (old mid : Stage) (w : World) (tells : Bool) (taken : List ℕ) → w ≡ mid.world → (IsTrue tells → IsTrue mid.trace_tells) → (IsTrue tells → taken ≡ mid.taken)
+    → SoDrained line r old mid → SoDrained line r old (record mid { world = w; trace_tells = tells; taken = taken })
+drained_sent line r old mid w tells taken same still sent so = record {
+  asked = so.asked;
+  drained = so.drained;
+  trace = λ t. sent t ∙ so.trace (still t);
+  given = so.given;
+  none = ap (λ (v : World). v.answers) same ∙ so.none;
+  alone = so.alone;
+  unit = subst (λ (v : World). IsSetUp v r.unit) (sym same) so.unit;
+  setup = subst (λ (v : World). setup_of v mid.held ≡ with_packs (setup_of old.world old.held) mid.held) (sym same) so.setup;
+  stay = so.stay;
+  far = λ t s q.
+      let at : IsDrainedTo line r so.asked so.drained mid s = so.far t s q in
+      record {
+        part = at.part;
+        may = at.may;
+        from = subst (λ (v : World). DrainsFrom line (behind s (first_part line r so.asked)) so.drained mid.held v) (sym same) at.from;
+      };
+}
+
 -- how many turns are left
 pub record Turns (line turn : ℕ) (w : World) : Type 0 where
   pub left : ℕ

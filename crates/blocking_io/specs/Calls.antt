@@ -1,6 +1,7 @@
 -- ONE CALL OF THE DRIVER, and behind it the answers that wait are given and taken.
-use Rattle.std.specs.Prelude.{◌≡◌, ◌⊎◌, ℕ, Bool, true, false, IsTrue, List, ◌++◌, None, Result, IfErr, OnOk, OnErr}
+use Rattle.std.specs.Prelude.{◌≡◌, ◌⊎◌, ◌≤◌, ℕ, Bool, true, false, if◌then◌else◌, IsTrue, List, [], ◌++◌, None, Result, IfErr, OnOk, OnErr}
 use Rattle.pack_model.specs.Pack.{Pack}
+use Rattle.outside_traits.specs.Causes.{Rose}
 use Rattle.outside_traits.specs.Puts.{TakesFront}
 use Rattle.subsystem_spec.specs.Requests as told
 use Rattle.trace_replay.specs.Script.{Input}
@@ -18,7 +19,7 @@ use Rattle.driver_outcome.specs.declared.Stop.TheVariants.{Store, Sink}
 use Rattle.driver_answers.specs.Waiting.{waiting, all_taken}
 use Rattle.driver_trace.specs.Calls.{IsReadOf}
 use Rattle.driver_trace.specs.Noises.{AllFlip}
-use Rattle.hp_driver.specs.Subsystem.{IsThere, is_move}
+use Rattle.hp_driver.specs.Subsystem.{State, IsThere, is_move}
 use Rattle.blocking_io.specs.declared.reached.Reached.{Reached}
 use Rattle.blocking_io.specs.Given.{Given, gives_all}
 
@@ -38,6 +39,17 @@ stage holds held tells taken w packs trace reached bytes = record {
   held = held packs;
   trace_tells = tells trace;
   taken = taken trace;
+  given = record { reached = reached; bytes = bytes };
+}
+
+-- the same where lines are kept: taken is what the trace took, and behind it what is kept
+abbrev pub telling : {O Q : Type 0} → (holds : Q → Bool) → (held : Q → ℕ → Pack) → (tells : O → Bool) → (taken : O → List ℕ) → State → Q → O → Reached → List ℕ → Stage
+telling holds held tells taken s packs trace reached bytes = record {
+  world = s.world;
+  packs_tell = holds packs;
+  held = held packs;
+  trace_tells = tells trace;
+  taken = taken trace ++ s.kept;
   given = record { reached = reached; bytes = bytes };
 }
 
@@ -65,15 +77,15 @@ pub record GivesEvent (line : ℕ) (input : Input) (old new : Stage) : Type 0 wh
   pub packs : IsTrue new.packs_tell → new.held ≡ packs_after_all old.world old.held (event_acts line input tried old.world)
   pub acts : GivesActs (event_acts line input tried old.world) old new
 
--- THE TRACE FAILED: the first acts were done, and a front of their lines was taken;
-pub record TellsFront (acts : List Act) (old new : Stage) : Type 0 where
+-- THE TRACE FAILED: the first acts were done, and a front of all lines was taken, which begins with what had been sent;
+pub record TellsFront (sent : List ℕ) (acts : List Act) (old new : Stage) : Type 0 where
   pub done : List Act
   pub left : List Act
   pub all : acts ≡ done ++ left
   pub run : Run old.world done
   pub reads : IsTrue new.packs_tell → ReadAll old.world old.held done
   pub packs : IsTrue new.packs_tell → new.held ≡ packs_after_all old.world old.held done
-  pub least : IsTrue new.trace_tells → IsFront old.taken new.taken
+  pub least : IsTrue new.trace_tells → IsFront sent new.taken
   pub most : IsTrue new.trace_tells → IsFront new.taken (old.taken ++ trace_text (lines_of_all old.world done))
 
 -- of a submission, which only the trace stops,
@@ -84,15 +96,15 @@ pub record SubmissionStops (stop : Stop) (line : ℕ) (r : told.Request) (old ne
   pub is : refusal_of r old.world ≡ None → IsHeldFor (unit_at old.world held.unit).drive.kind r held
   pub by : stop ≡ Sink
   pub same : new.held ≡ old.held
-  pub tells : TellsFront (submit_acts r line slot held old.world) old new
+  pub tells : TellsFront old.taken (submit_acts r line slot held old.world) old new
 
 -- and of an event, of which only a move does.
-pub record EventTellsFront (line : ℕ) (input : Input) (old new : Stage) : Type 0 where
+pub record EventTellsFront (sent : List ℕ) (line : ℕ) (input : Input) (old new : Stage) : Type 0 where
   pub tried : Tried
   pub there : IsThere old.world input
   pub noise : AllFlip old.world.book.live
   pub still : is_move input ≡ false → new.held ≡ old.held
-  pub tells : TellsFront (event_acts line input tried old.world) old new
+  pub tells : TellsFront sent (event_acts line input tried old.world) old new
 
 -- A TEXT is said: the trace took it, or a front of it where it failed.
 pub record SaysText {O : Type 0} (tells : O → Bool) (taken : O → List ℕ) (old new : O) (result : Result (Unit {0}) Stop) (text : List ℕ) : Type 0 where
@@ -101,12 +113,22 @@ pub record SaysText {O : Type 0} (tells : O → Bool) (taken : O → List ℕ) (
   pub front : OnErr result (IsTrue (tells new) → TakesFront (taken old) (taken new) text)
   pub by : IfErr result (λ stop. stop ≡ Sink)
 
--- THE PACKS FAILED, at a move: nothing was done or told, but the block that was to be written may be there.
+-- THE PACKS FAILED, at a move: nothing was done or told, but the block that was to be written may be there; and all lines are sent.
 pub record MoveFails (input : Input) (old new : Stage) : Type 0 where
   pub move : is_move input ≡ true
   pub packs : IsTrue new.packs_tell → (new.held ≡ old.held) ⊎ IsNextBlock old.world old.held new.held
   pub trace : IsTrue new.trace_tells → new.taken ≡ old.taken
 
-abbrev pub EventStops : Stop → ℕ → Input → Stage → Stage → Type 0
-EventStops Sink line input old new = EventTellsFront line input old new
-EventStops Store line input old new = MoveFails input old new
+abbrev pub EventStops : Stop → (sent : List ℕ) → ℕ → Input → Stage → Stage → Type 0
+EventStops Sink sent line input old new = EventTellsFront sent line input old new
+EventStops Store sent line input old new = MoveFails input old new
+
+-- BEHIND A FAILURE OF THE PACKS what is kept is sent, unless the event was to write, before which all had been. Where the trace fails in that,
+-- it is what failed.
+pub record SendsRest {O : Type 0} (tells : O → Bool) (taken : O → List ℕ) (faults : O → ℕ) (old new : O) (writes : Bool) (kept : List ℕ) (stop : Stop) : Type 0 where
+  pub never_again : IsTrue (tells new) → IsTrue (tells old)
+  pub all : stop ≡ Store → IsTrue (tells new) → taken new ≡ taken old ++ (if writes then [] else kept)
+  pub still : stop ≡ Sink → writes ≡ false
+  pub front : stop ≡ Sink → IsTrue (tells new) → TakesFront (taken old) (taken new) kept
+  pub later : faults old ≤ faults new
+  pub rose : stop ≡ Sink → Rose (faults old) (faults new)

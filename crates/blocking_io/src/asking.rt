@@ -1,15 +1,15 @@
 // A request is submitted, drained, and its answer given.
-ghost use Rattle.std.specs.Prelude.{◌≡◌, ◌≤◌, ℕ, [], Bool, false, IsTrue, IfOk, IfErr, OnOk};
+ghost use Rattle.std.specs.Prelude.{◌≡◌, ◌≤◌, ℕ, [], Bool, false, if◌then◌else◌, IsTrue, IfOk, IfErr, OnOk};
 ghost use Rattle.pack_model.specs.Pack.{Pack};
 ghost use Rattle.outside_traits.specs.Causes.{HasCause};
 ghost use Rattle.trace_replay.specs.Moments.{Idle};
 ghost use Rattle.trace_replay.specs.Text.{moment_text};
-ghost use Rattle.driver_outcome.specs.Outcome.{stop_in};
+ghost use Rattle.driver_outcome.specs.Outcome.{IsFront, stop_in};
 ghost use Rattle.hp_driver.specs.Passes.{HasCauses};
 ghost use Rattle.hp_driver.specs.Passes.{input_of};
-ghost use Rattle.hp_driver.specs.Subsystem.{asked, IsAsked, IsThere};
+ghost use Rattle.hp_driver.specs.Subsystem.{asked, IsAsked, IsThere, writes_by};
 ghost use Rattle.blocking_io.specs.declared.reached.Reached.TheVariants.{Before};
-ghost use Rattle.blocking_io.specs.Calls.{stage, GivesSubmission, GivesEvent, SubmissionStops, EventStops, SaysText};
+ghost use Rattle.blocking_io.specs.Calls.{stage, telling, GivesSubmission, GivesEvent, SubmissionStops, EventStops, SaysText, SendsRest};
 ghost use Rattle.blocking_io.specs.Asking.{IsReady, MayAsk, Answers};
 ghost use Rattle.blocking_io.specs.Stopping.{Stops};
 
@@ -22,7 +22,7 @@ use outside_traits::whole::write_all;
 use run_promises::beginnings_law;
 use trace_lines::idle;
 
-/// Submits a request at a line, with the bytes of a write, and sends its lines.
+/// Submits a request at a line, with the bytes of a write. Its lines are kept.
 fn submit<T: Sink>(
     subsystem: &mut Subsystem,
     line: u64,
@@ -38,21 +38,17 @@ fn submit<T: Sink>(
     requires sent { subsystem.old.kept ≡ [] }
     ensures gives { OnOk result ((tells : Bool) → (held : ℕ → Pack) → GivesSubmission line (asked request from.now)
         (stage (λ _. tells) (λ _. held) T.tells T.taken subsystem.old.world line trace.old reached.old into.old)
-        (stage (λ _. tells) (λ _. held) T.tells T.taken subsystem.new.world line trace.new reached.new into.new)) }
+        (telling (λ _. tells) (λ _. held) T.tells T.taken subsystem.new line trace.new reached.new into.new)) }
     ensures stops { IfErr result (λ stop. (tells : Bool) → (held : ℕ → Pack) → SubmissionStops stop line (asked request from.now)
         (stage (λ _. tells) (λ _. held) T.tells T.taken subsystem.old.world line trace.old reached.old into.old)
         (stage (λ _. tells) (λ _. held) T.tells T.taken subsystem.new.world line trace.new reached.new into.new)) }
     ensures going { OnOk result (subsystem.new.failed ≡ false) }
-    ensures sent { OnOk result (subsystem.new.kept ≡ []) }
+    ensures sent { OnOk result (IsTrue (T.tells trace.new) → IsFront (T.taken trace.old) (T.taken trace.new)) }
     ensures outstanding { subsystem.new.outstanding ≡ subsystem.old.outstanding }
     ensures never_again { IsTrue (T.tells trace.new) → IsTrue (T.tells trace.old) }
     ensures cause { HasCause (T.faults trace.old) (T.faults trace.new) result }
 {
     match subsystem.submit(line, request, from, trace) {
-        Ok(()) => {}
-        Err(_) => return Err(Stop::Sink),
-    }
-    match subsystem.send(trace) {
         Ok(()) => {
             take_answers(subsystem, reached, into);
             Ok(())
@@ -61,7 +57,58 @@ fn submit<T: Sink>(
     }
 }
 
-/// An event happens at a line, and its lines are sent.
+/// Sends the lines that are kept.
+fn send<T: Sink>(subsystem: &mut Subsystem, trace: &mut T) -> Result<(), Stop>
+    ensures says { SaysText T.tells T.taken trace.old trace.new result subsystem.old.kept }
+    ensures same { subsystem.new ≡ record subsystem.old { kept = [] } }
+    ensures cause { HasCause (T.faults trace.old) (T.faults trace.new) result }
+{
+    match subsystem.send(trace) {
+        Ok(()) => Ok(()),
+        Err(_) => Err(Stop::Sink),
+    }
+}
+
+/// Whether an event may write a block.
+fn may_write(subsystem: &Subsystem, event: &Event) -> bool
+    requires there { IsThere subsystem.now.world (input_of event.now) }
+    ensures { result ≡ writes_by subsystem.now.world (input_of event.now) }
+{
+    match event {
+        Event::Move { adapter } => subsystem.writes(*adapter),
+        _ => false,
+    }
+}
+
+/// Sends the lines that are kept before an event that may write a block.
+fn send_ahead<T: Sink>(subsystem: &mut Subsystem, writes: bool, trace: &mut T) -> Result<(), Stop>
+    ensures says { SaysText T.tells T.taken trace.old trace.new result (if writes then subsystem.old.kept else []) }
+    ensures same { subsystem.new ≡ record subsystem.old { kept = if writes then [] else subsystem.old.kept } }
+    ensures cause { HasCause (T.faults trace.old) (T.faults trace.new) result }
+{
+    if writes {
+        send(subsystem, trace)
+    } else {
+        Ok(())
+    }
+}
+
+/// Sends the lines that are kept where the packs failed at an event that writes nothing. Where the trace fails too, that is the answer.
+fn send_behind<T: Sink>(subsystem: &mut Subsystem, writes: bool, trace: &mut T) -> Stop
+    ensures sends { SendsRest T.tells T.taken T.faults trace.old trace.new writes subsystem.old.kept result }
+    ensures same { subsystem.new ≡ record subsystem.old { kept = if writes then subsystem.old.kept else [] } }
+{
+    if writes {
+        return Stop::Store;
+    }
+    match subsystem.send(trace) {
+        Ok(()) => Stop::Store,
+        Err(_) => Stop::Sink,
+    }
+}
+
+/// An event happens at a line. Its lines are kept; those of before are sent ahead of it where it may write a block, and behind it where
+/// the packs failed.
 fn happen<P: Packs, T: Sink>(
     subsystem: &mut Subsystem,
     line: u64,
@@ -74,31 +121,29 @@ fn happen<P: Packs, T: Sink>(
     requires going { subsystem.old.failed ≡ false }
     requires none_waits { subsystem.old.world.answers ≡ [] }
     requires there { IsThere subsystem.old.world (input_of event) }
-    requires sent { subsystem.old.kept ≡ [] }
     ensures gives { OnOk result (GivesEvent line (input_of event)
-        (stage P.tells P.held T.tells T.taken subsystem.old.world packs.old trace.old reached.old into.old)
-        (stage P.tells P.held T.tells T.taken subsystem.new.world packs.new trace.new reached.new into.new)) }
-    ensures stops { IfErr result (λ stop. EventStops stop line (input_of event)
-        (stage P.tells P.held T.tells T.taken subsystem.old.world packs.old trace.old reached.old into.old)
+        (telling P.tells P.held T.tells T.taken subsystem.old packs.old trace.old reached.old into.old)
+        (telling P.tells P.held T.tells T.taken subsystem.new packs.new trace.new reached.new into.new)) }
+    ensures stops { IfErr result (λ stop. EventStops stop (T.taken trace.old) line (input_of event)
+        (telling P.tells P.held T.tells T.taken subsystem.old packs.old trace.old reached.old into.old)
         (stage P.tells P.held T.tells T.taken subsystem.new.world packs.new trace.new reached.new into.new)) }
     ensures going { OnOk result (subsystem.new.failed ≡ false) }
-    ensures sent { OnOk result (subsystem.new.kept ≡ []) }
+    ensures sent { OnOk result (IsTrue (T.tells trace.new) → IsFront (T.taken trace.old) (T.taken trace.new)) }
     ensures outstanding { subsystem.new.outstanding ≡ subsystem.old.outstanding }
     ensures never_again { IsTrue (P.tells packs.new) → IsTrue (P.tells packs.old) }
     ensures never_again_trace { IsTrue (T.tells trace.new) → IsTrue (T.tells trace.old) }
     ensures causes { HasCauses (P.faults packs.old) (P.faults packs.new) (T.faults trace.old) (T.faults trace.new) (stop_in result) }
 {
     subsystem.law();
+    let writes = may_write(subsystem, &event);
+    send_ahead(subsystem, writes, trace)?;
     match subsystem.event(line, event, packs, trace) {
-        Ok(()) => {}
-        Err(stop) => return Err(stop),
-    }
-    match subsystem.send(trace) {
         Ok(()) => {
             take_answers(subsystem, reached, into);
             Ok(())
         }
-        Err(_) => Err(Stop::Sink),
+        Err(Stop::Sink) => Err(Stop::Sink),
+        Err(Stop::Store) => Err(send_behind(subsystem, writes, trace)),
     }
 }
 
@@ -145,6 +190,7 @@ fn ask<P: Packs, T: Sink>(
     submit(subsystem, line, request, from, &mut reached, into, trace)?;
     subsystem.law();
     let Some(first) = subsystem.next_event() else {
+        send(subsystem, trace)?;
         say_idle(line, trace)?;
         return Ok(reached);
     };
@@ -152,6 +198,7 @@ fn ask<P: Packs, T: Sink>(
     for turn in 0..u64::MAX {
         subsystem.law();
         let Some(event) = subsystem.next_event() else {
+            send(subsystem, trace)?;
             return Ok(reached);
         };
         happen(subsystem, line, event, &mut reached, into, packs, trace)?;

@@ -1,7 +1,8 @@
 use Rattle.std.proofs.Common.{◌≡◌, ◌≤◌, [], false, IsTrue}
 use Rattle.blocking_io.specs.declared.reached.Reached.TheVariants.{Before}
 use Rattle.hp_driver.specs.Subsystem.{asked}
-use Rattle.blocking_io.specs.Calls.{stage}
+use Rattle.driver_outcome.specs.Outcome.{IsFront}
+use Rattle.blocking_io.specs.Calls.{stage, telling}
 use Rattle.blocking_io.proofs.Waiting.{SoDrained, Turns}
 use Rattle.blocking_io.proofs.asking.ask.Given as goal
 
@@ -13,11 +14,11 @@ invariant-loop-turn g l = record {
   later : g.P.Packs.faults l.fn.packs ≤ g.P.Packs.faults l.packs;
   later_trace : g.T.Sink.faults l.fn.trace ≤ g.T.Sink.faults l.trace;
   going : l.subsystem.failed ≡ false;
-  sent : l.subsystem.kept ≡ [];
+  sent : IsTrue (g.T.Sink.tells l.trace) → IsFront (g.T.Sink.taken l.fn.trace) (g.T.Sink.taken l.trace);
   outstanding : l.subsystem.outstanding ≡ l.fn.subsystem.outstanding;
   none_waits : l.subsystem.world.answers ≡ [];
   turns : Turns l.line l.turn l.subsystem.world;
   drained : SoDrained l.line (asked l.fn.request l.from)
       (stage g.P.Packs.tells g.P.Packs.held g.T.Sink.tells g.T.Sink.taken l.fn.subsystem.world l.fn.packs l.fn.trace (Before 0) l.fn.into)
-      (stage g.P.Packs.tells g.P.Packs.held g.T.Sink.tells g.T.Sink.taken l.subsystem.world l.packs l.trace l.reached l.into);
+      (telling g.P.Packs.tells g.P.Packs.held g.T.Sink.tells g.T.Sink.taken l.subsystem l.packs l.trace l.reached l.into);
 }
