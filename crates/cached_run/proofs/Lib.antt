@@ -1,0 +1,6 @@
+mod Replacings
+mod Leavings
+mod Firsts
+mod Readings
+mod Writings
+mod Legal

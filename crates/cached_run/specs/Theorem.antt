@@ -1,0 +1,69 @@
+-- THE THEOREM on scripts of the cache.
+use Rattle.std.specs.Prelude.{◌≡◌, ◌⊎◌, ℕ, ◌<◌, ◌≤◌, Bool, IsTrue, List, [], ◌∷◌, ◌++◌, length, take, Option, Some}
+use Rattle.pack_geometry.specs.declared.DriveKind.{DriveKind}
+use Rattle.pack_geometry.specs.Geometry.{limit_of}
+use Rattle.pack_model.specs.Pack.{Pack}
+use Rattle.pack_model.specs.TableSpelling.{Table}
+use Rattle.pack_model.specs.PackTable.{AreTablesOf}
+use Rattle.pack_model.specs.Homes.{contents_of}
+use Rattle.trace_replay.specs.Script.{Input, Drain, Numbered, Script, drives_of, inputs_of}
+use Rattle.block_machine.specs.Machine.{Blocks}
+use Rattle.block_machine.specs.LegalAnswers.{AreLegal, all_claimed}
+use Rattle.block_machine.specs.Laws.{HoldMap, RestStays}
+use Rattle.driver_outcome.specs.Outcome.{IsFront}
+use Rattle.cached_run.specs.Answers.{Replacement, answers_of, map_of_inputs, text_of, replacements_of, after}
+
+-- what the packs hold, with these tables
+abbrev pub contents : Script → (ℕ → Option Table) → (ℕ → Pack) → ℕ → Blocks
+contents script tables packs = contents_of (drives_of script) tables packs
+
+-- PLAYED TO ITS END: with the tables of the packs, the answers are those that the map gives one by one. They are legal, with the bytes of
+-- all reads, from what the packs held first to what they hold now; the rest of the packs is as it was; and where `out` tells it took just
+-- their text.
+pub record CachedPlays (script : Script) (old new : ℕ → Pack) (out_tells : Bool) (said said' : List ℕ) : Type 0 where
+  pub tables : ℕ → Option Table
+  pub read : AreTablesOf (drives_of script) old tables
+  pub legal : AreLegal (drives_of script) all_claimed (inputs_of script) (answers_of (drives_of script) (contents script tables old) (inputs_of script)) (contents script tables old)
+      (map_of_inputs (drives_of script) (contents script tables old) (inputs_of script))
+  pub held : HoldMap (drives_of script) tables new (map_of_inputs (drives_of script) (contents script tables old) (inputs_of script))
+  pub rest : RestStays script tables old new
+  pub out : IsTrue out_tells → said' ≡ said ++ text_of (answers_of (drives_of script) (contents script tables old) (inputs_of script))
+
+-- A BLOCK HOLDS what its first content is after so many of the replacements, not fewer than these.
+pub record IsAfter (list : List Replacement) (least : ℕ) (first : ℕ → Blocks) (unit block : ℕ) (now : Option (List ℕ)) : Type 0 where
+  pub number : ℕ
+  pub from : least ≤ number
+  pub to : number ≤ length list
+  pub holds : now ≡ after (take number list) first unit block
+
+-- inputs that end with a sync, and inputs with none
+abbrev pub EndsWithSync : List Numbered → Type 0
+EndsWithSync [] = ⊥
+EndsWithSync (n ∷ []) = n.input ≡ Drain
+EndsWithSync (n ∷ next ∷ inputs) = EndsWithSync (next ∷ inputs)
+
+abbrev pub HasNoSync : List Numbered → Type 0
+HasNoSync [] = Unit {0}
+HasNoSync (n ∷ inputs) = (n.input ≡ Drain → ⊥) × HasNoSync inputs
+
+-- THE STOP CAME at one of the inputs; up to `synced` the last sync before it came to its end.
+pub record CameTo (inputs synced since : List Numbered) (at : Numbered) (later : List Numbered) : Type 0 where
+  pub parts : inputs ≡ synced ++ (since ++ at ∷ later)
+  pub ends : (synced ≡ []) ⊎ EndsWithSync synced
+  pub none : HasNoSync since
+
+-- STOPPED IN PLAYING: `out` took a front of the text of such answers; and each data block holds what some of the replacements up to the line of
+-- the stop left, not fewer than those before the last sync that ended. The rest of the packs is as it was.
+pub record CachedStops (script : Script) (old new : ℕ → Pack) (out_tells : Bool) (said said' : List ℕ) : Type 0 where
+  pub tables : ℕ → Option Table
+  pub read : AreTablesOf (drives_of script) old tables
+  pub synced : List Numbered
+  pub since : List Numbered
+  pub at : Numbered
+  pub later : List Numbered
+  pub came : CameTo (inputs_of script) synced since at later
+  pub held : (unit block : ℕ) (kind : DriveKind) → drives_of script unit ≡ Some kind → block < limit_of kind
+      → IsAfter (replacements_of (drives_of script) (contents script tables old) (synced ++ (since ++ at ∷ [])))
+      (length (replacements_of (drives_of script) (contents script tables old) synced)) (contents script tables old) unit block (contents script tables new unit block)
+  pub rest : RestStays script tables old new
+  pub out : IsTrue out_tells → IsFront said' (said ++ text_of (answers_of (drives_of script) (contents script tables old) (inputs_of script)))
