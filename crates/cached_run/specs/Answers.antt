@@ -73,10 +73,10 @@ abbrev pub replaced_by : (ℕ → Option DriveKind) → (ℕ → Blocks) → Inp
 replaced_by drives map (Submit r) = replaced_at (met_by drives r) (map r.unit) (first_by drives r) r
 replaced_by drives map input = []
 
--- (which blocks can be used does not change, so the first map serves for all inputs)
+-- each write by the map that those before it left
 abbrev pub replacements_of : (ℕ → Option DriveKind) → (ℕ → Blocks) → List Numbered → List Replacement
 replacements_of drives map [] = []
-replacements_of drives map (n ∷ inputs) = replaced_by drives map n.input ++ replacements_of drives map inputs
+replacements_of drives map (n ∷ inputs) = replaced_by drives map n.input ++ replacements_of drives (map_by drives map n.input) inputs
 
 abbrev pub with_replacement : Replacement → (ℕ → Blocks) → ℕ → Blocks
 with_replacement r map unit block = if (unit == r.unit) && (block == r.block) then Some r.bytes else map unit block

@@ -1,4 +1,12 @@
 // A script is played to its end.
+ghost use Rattle.std.specs.Prelude.{◌≡◌, ◌≤◌, ℕ, IsTrue, IfErr, OnOk};
+ghost use Rattle.run_stops.specs.Stops.{took};
+ghost use Rattle.event_player.specs.Faults.{AreUntouched, HaveTold};
+ghost use Rattle.event_player.specs.Plays.{IsTooLong};
+ghost use Rattle.cached_run.specs.Faults.{IsBefore, IsPlaying, IsLongFor, Rise};
+ghost use Rattle.cached_run.specs.Meaning.{meaning_of};
+ghost use Rattle.cached_run.specs.Theorem.{CachedPlays, CachedLeaves};
+
 use crate::attaching::attach_units;
 use crate::desk::Desk;
 use crate::fault::CachedPlayFault;
@@ -35,6 +43,9 @@ fn play_lines<P: Packs, O: Sink, T: Sink>(
 /// The units are attached first, in the order of their lines. TooLong tells the first unit whose image has more bytes than the blocks of
 /// its drive. Store comes only where the packs' count of faults rose in this call, and Sink only where that of `out` or of `trace` rose;
 /// Memory only before the first line is played, with the packs, `out` and `trace` as they were.
+///
+/// Behind Store and Sink each block of the packs holds what some of the blocks that were written up to the line of the stop left, those
+/// before the last sync that ended among them; and `out` took a front of the answers.
 pub fn play_cached<P: Packs, O: Sink, T: Sink>(
     alloc: Global,
     script: &CachedScript,
@@ -42,7 +53,19 @@ pub fn play_cached<P: Packs, O: Sink, T: Sink>(
     packs: &mut P,
     out: &mut O,
     trace: &mut T,
-) -> Result<(), CachedPlayFault> {
+) -> Result<(), CachedPlayFault>
+    requires some { 1 ≤ capacity }
+    requires most { capacity ≤ 4096 }
+    ensures plays { OnOk result (IsTrue (P.tells packs.new) → CachedPlays (meaning_of script.now) (P.held packs.old) (P.held packs.new)
+        (took O.tells O.taken O.faults out.old out.new)) }
+    ensures stopped { IfErr result (λ fault. IsTrue (P.tells packs.new) → CachedLeaves fault (meaning_of script.now) (P.held packs.old) (P.held packs.new)
+        (took O.tells O.taken O.faults out.old out.new) (took T.tells T.taken T.faults trace.old trace.new)) }
+    ensures fits { IsPlaying result → IsTrue (P.tells packs.new) → (unit n : ℕ) → ¬ (IsTooLong (meaning_of script.now) (P.held packs.old) unit n) }
+    ensures too_long { IfErr result (IsLongFor (meaning_of script.now) (P.tells packs.new) (P.held packs.old)) }
+    ensures told { HaveTold (P.tells packs.old) (P.tells packs.new) (O.tells out.old) (O.tells out.new) (T.tells trace.old) (T.tells trace.new) }
+    ensures causes { Rise (P.faults packs.old) (P.faults packs.new) (O.faults out.old) (O.faults out.new) (T.faults trace.old) (T.faults trace.new) result }
+    ensures untouched { IsBefore result → AreUntouched (P.tells packs.new) (P.held packs.old) (P.held packs.new) out.old out.new trace.old trace.new }
+{
     let units = attach_units(alloc, script, packs)?;
     let mut desk = Desk::new(alloc)?;
     let mut cache = Cache::new(alloc, capacity)?;
