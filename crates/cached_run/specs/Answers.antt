@@ -25,6 +25,10 @@ first_by drives r = first_block (kind_of drives r.unit) r
 abbrev pub answer_to : (ℕ → Option DriveKind) → (ℕ → Blocks) → Request → Answer
 answer_to drives map r = answer_at (met_by drives r) (map r.unit) (first_by drives r) r
 
+-- the same by the kind of its unit's drive and the blocks of the unit
+abbrev pub answer_with : DriveKind → Blocks → Request → Answer
+answer_with kind blocks r = answer_at (admission kind r.part r.block r.count) blocks (first_block kind r) r
+
 abbrev pub map_after : (ℕ → Option DriveKind) → (ℕ → Blocks) → Request → ℕ → Blocks
 map_after drives map r = map_at (met_by drives r) map (first_by drives r) r (answer_to drives map r)
 
@@ -68,6 +72,9 @@ abbrev pub replaced_at : Admission → Blocks → (first : ℕ) → Request → 
 replaced_at (Inside at) blocks first r = if is_some r.written then replaced (usable_of (first_unusable r.count blocks first 0) r.count) first 0 r else []
 replaced_at Eof blocks first r = []
 replaced_at Outside blocks first r = []
+
+abbrev pub replaced_with : DriveKind → Blocks → Request → List Replacement
+replaced_with kind blocks r = replaced_at (admission kind r.part r.block r.count) blocks (first_block kind r) r
 
 abbrev pub replaced_by : (ℕ → Option DriveKind) → (ℕ → Blocks) → Input → List Replacement
 replaced_by drives map (Submit r) = replaced_at (met_by drives r) (map r.unit) (first_by drives r) r

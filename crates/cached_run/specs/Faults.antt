@@ -40,6 +40,12 @@ pub record Rise {T : Type 0} (packs packs' out out' trace trace' : ℕ) (result 
   pub store : IsErrOf result fault.Store → Rose packs packs'
   pub sink : IsErrOf result fault.Sink → Rose out out' ⊎ Rose trace trace'
 
+-- in playing nothing else stops it
+pub record IsCaused {T : Type 0} (packs packs' out out' trace trace' : ℕ) (result : Result T CachedPlayFault) : Type 0 where
+  pub rise : Rise packs packs' out out' trace trace' result
+  pub memory : IsErrOf result fault.Memory → ⊥
+  pub too_long : (unit length_is : ℕ) → IsErrOf result (fault.TooLong unit length_is) → ⊥
+
 -- what stopped a call of the driver stops the play
 abbrev pub from_stop : Stop → CachedPlayFault
 from_stop stop.Store = fault.Store

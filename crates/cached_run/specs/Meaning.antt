@@ -14,6 +14,10 @@ use Rattle.cached_script.specs.Scripts as cached
 unfoldable pub filled : (count byte : ℕ) → List ℕ
 filled count byte = replicate (512 * count) byte
 
+-- and one such block
+unfoldable pub one_filled : (byte : ℕ) → List ℕ
+one_filled byte = replicate 512 byte
+
 abbrev pub request_of : Asked → Option (List ℕ) → Request
 request_of a written = record { id = a.id; unit = a.unit; part = C; block = a.block; count = a.count; last = 512; offset = 0; written = written }
 

@@ -8,6 +8,7 @@ mod desk;
 mod fault;
 mod lines;
 mod play;
+mod requests;
 mod transfers;
 
 pub use fault::CachedPlayFault;

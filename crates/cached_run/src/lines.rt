@@ -1,87 +1,119 @@
 // A line of a script is played.
+ghost use Rattle.std.specs.Prelude.{◌≤◌, ℕ, Bool, None, Some, [], ◌∷◌, IsTrue, OnOk, OnErr};
+ghost use Rattle.trace_replay.specs.Script.{Submit};
+ghost use Rattle.raw_io.specs.Transfers.{site};
+ghost use Rattle.buffer_cache.specs.Calls.{MayUse};
+ghost use Rattle.event_player.specs.Faults.{HaveTold};
+ghost use Rattle.cached_run.specs.Faults.{IsCaused};
+ghost use Rattle.cached_run.specs.Going.{scene, GoesOn, Halts, SyncGoesOn, SyncHalts};
+ghost use Rattle.cached_run.specs.Lines.{MayAsk, MayPlay, IsRoomy, KeepsUnits, input_at};
+ghost use Rattle.cached_run.specs.Meaning.{request_of, filled};
+
 use crate::answers::write_answer;
 use crate::desk::Desk;
 use crate::fault::CachedPlayFault;
-use crate::transfers::{read_blocks, write_blocks};
+use crate::requests::{read_asked, write_asked};
 use buffer_cache::Cache;
 use cached_script::{Asked, Line, Statement};
-use driver_outcome::Stop;
-use hp_driver::{AnswerKind, Cause, Subsystem};
+use hp_driver::Subsystem;
 use outside_traits::traits::{Packs, Sink};
-use partitions::{Admission, Part, admit};
 
-/// How a request is answered of whose blocks so many were done, with the kind that it has where all were.
-fn answered(done: u32, count: u32, whole: AnswerKind) -> AnswerKind {
-    if done < count {
-        return AnswerKind::Error {
-            cause: Cause::Unforwarded,
-            done,
-        };
-    }
-    whole
-}
-
-/// What a request meets at partition `c` of its unit.
-fn met(subsystem: &Subsystem, asked: &Asked) -> Admission {
-    admit(
-        subsystem.kind(asked.unit),
-        Part::C,
-        asked.block,
-        u32::from(asked.count),
-    )
-}
-
-/// Reads what a line asks for: how it is answered.
-fn read_asked<P: Packs, T: Sink>(
-    cache: &mut Cache,
-    subsystem: &mut Subsystem,
-    line: u64,
+/// Plays a read at a line.
+fn play_read<P: Packs, O: Sink, T: Sink>(
+    number: u64,
     asked: &Asked,
-    blocks: &mut Vec<[u8; 512]>,
-    packs: &mut P,
-    trace: &mut T,
-) -> Result<AnswerKind, Stop> {
-    let count = u32::from(asked.count);
-    match met(subsystem, asked) {
-        Admission::Outside => Ok(AnswerKind::Error {
-            cause: Cause::Partition,
-            done: 0,
-        }),
-        Admission::Eof => Ok(AnswerKind::Eof),
-        Admission::Inside { first } => {
-            let done = read_blocks(
-                cache, subsystem, line, asked.unit, first, count, blocks, packs, trace,
-            )?;
-            Ok(answered(done, count, AnswerKind::ReadOk { count, last: 512 }))
-        }
-    }
-}
-
-/// Writes what a line asks for, blocks all of whose bytes are this one: how it is answered.
-fn write_asked<P: Packs, T: Sink>(
     cache: &mut Cache,
     subsystem: &mut Subsystem,
-    line: u64,
+    desk: &mut Desk,
+    packs: &mut P,
+    out: &mut O,
+    trace: &mut T,
+) -> Result<(), CachedPlayFault>
+    requires line { 1 ≤ number }
+    requires may { MayUse cache.old subsystem.old }
+    requires ask { MayAsk subsystem.old.world asked.now }
+    requires desk { IsRoomy desk.old.gather desk.old.blocks.items }
+    ensures goes { OnOk result (IsTrue (P.tells packs.new) → GoesOn (record { line = number; input = Submit (request_of asked.now None) } ∷ []) cache.old cache.new
+        (scene P.tells P.held O.tells O.taken O.faults T.tells T.taken subsystem.old.world packs.old out.old trace.old)
+        (scene P.tells P.held O.tells O.taken O.faults T.tells T.taken subsystem.new.world packs.new out.new trace.new)) }
+    ensures halts { OnErr result (IsTrue (P.tells packs.new) → Halts (record { line = number; input = Submit (request_of asked.now None) } ∷ []) cache.old
+        (scene P.tells P.held O.tells O.taken O.faults T.tells T.taken subsystem.old.world packs.old out.old trace.old)
+        (scene P.tells P.held O.tells O.taken O.faults T.tells T.taken subsystem.new.world packs.new out.new trace.new)) }
+    ensures may { OnOk result (MayUse cache.new subsystem.new) }
+    ensures units { OnOk result (KeepsUnits subsystem.old.world subsystem.new.world) }
+    ensures desk { OnOk result (IsRoomy desk.new.gather desk.new.blocks.items) }
+    ensures told { HaveTold (P.tells packs.old) (P.tells packs.new) (O.tells out.old) (O.tells out.new) (T.tells trace.old) (T.tells trace.new) }
+    ensures causes { IsCaused (P.faults packs.old) (P.faults packs.new) (O.faults out.old) (O.faults out.new) (T.faults trace.old) (T.faults trace.new) result }
+{
+    let kind = read_asked(
+        cache,
+        subsystem,
+        number,
+        asked,
+        &mut desk.blocks,
+        packs,
+        trace,
+    )?;
+    write_answer(number, asked.id, kind, desk, out)?;
+    Ok(())
+}
+
+/// Plays a write at a line, of blocks all of whose bytes are this one.
+fn play_write<P: Packs, O: Sink, T: Sink>(
+    number: u64,
     asked: &Asked,
     fill: u8,
+    cache: &mut Cache,
+    subsystem: &mut Subsystem,
+    desk: &mut Desk,
+    packs: &mut P,
+    out: &mut O,
+    trace: &mut T,
+) -> Result<(), CachedPlayFault>
+    requires line { 1 ≤ number }
+    requires may { MayUse cache.old subsystem.old }
+    requires ask { MayAsk subsystem.old.world asked.now }
+    requires desk { IsRoomy desk.old.gather desk.old.blocks.items }
+    ensures goes { OnOk result (IsTrue (P.tells packs.new) → GoesOn (record { line = number; input = Submit (request_of asked.now (Some (filled asked.now.count fill))) } ∷ []) cache.old cache.new
+        (scene P.tells P.held O.tells O.taken O.faults T.tells T.taken subsystem.old.world packs.old out.old trace.old)
+        (scene P.tells P.held O.tells O.taken O.faults T.tells T.taken subsystem.new.world packs.new out.new trace.new)) }
+    ensures halts { OnErr result (IsTrue (P.tells packs.new) → Halts (record { line = number; input = Submit (request_of asked.now (Some (filled asked.now.count fill))) } ∷ []) cache.old
+        (scene P.tells P.held O.tells O.taken O.faults T.tells T.taken subsystem.old.world packs.old out.old trace.old)
+        (scene P.tells P.held O.tells O.taken O.faults T.tells T.taken subsystem.new.world packs.new out.new trace.new)) }
+    ensures may { OnOk result (MayUse cache.new subsystem.new) }
+    ensures units { OnOk result (KeepsUnits subsystem.old.world subsystem.new.world) }
+    ensures desk { OnOk result (IsRoomy desk.new.gather desk.new.blocks.items) }
+    ensures told { HaveTold (P.tells packs.old) (P.tells packs.new) (O.tells out.old) (O.tells out.new) (T.tells trace.old) (T.tells trace.new) }
+    ensures causes { IsCaused (P.faults packs.old) (P.faults packs.new) (O.faults out.old) (O.faults out.new) (T.faults trace.old) (T.faults trace.new) result }
+{
+    let kind = write_asked(cache, subsystem, number, asked, fill, packs, trace)?;
+    write_answer(number, asked.id, kind, desk, out)?;
+    Ok(())
+}
+
+/// Plays a sync at a line.
+pub(crate) fn play_sync<P: Packs, T: Sink>(
+    number: u64,
+    cache: &mut Cache,
+    subsystem: &mut Subsystem,
     packs: &mut P,
     trace: &mut T,
-) -> Result<AnswerKind, Stop> {
-    let count = u32::from(asked.count);
-    match met(subsystem, asked) {
-        Admission::Outside => Ok(AnswerKind::Error {
-            cause: Cause::Partition,
-            done: 0,
-        }),
-        Admission::Eof => Ok(AnswerKind::Eof),
-        Admission::Inside { first } => {
-            let from = [fill; 512];
-            let done = write_blocks(
-                cache, subsystem, line, asked.unit, first, count, &from, packs, trace,
-            )?;
-            Ok(answered(done, count, AnswerKind::WriteOk))
-        }
-    }
+) -> Result<(), CachedPlayFault>
+    requires line { 1 ≤ number }
+    requires may { MayUse cache.old subsystem.old }
+    ensures goes { OnOk result (IsTrue (P.tells packs.new) → SyncGoesOn number cache.old cache.new
+        (site P.tells P.held T.tells T.taken subsystem.old.world packs.old trace.old)
+        (site P.tells P.held T.tells T.taken subsystem.new.world packs.new trace.new)) }
+    ensures halts { OnErr result (IsTrue (P.tells packs.new) → SyncHalts number cache.old
+        (site P.tells P.held T.tells T.taken subsystem.old.world packs.old trace.old)
+        (site P.tells P.held T.tells T.taken subsystem.new.world packs.new trace.new)) }
+    ensures may { OnOk result (MayUse cache.new subsystem.new) }
+    ensures units { OnOk result (KeepsUnits subsystem.old.world subsystem.new.world) }
+    ensures told { (says : Bool) → HaveTold (P.tells packs.old) (P.tells packs.new) says says (T.tells trace.old) (T.tells trace.new) }
+    ensures causes { (out : ℕ) → IsCaused (P.faults packs.old) (P.faults packs.new) out out (T.faults trace.old) (T.faults trace.new) result }
+{
+    cache.sync(subsystem, number, packs, trace)?;
+    Ok(())
 }
 
 /// Plays a line of a script.
@@ -93,31 +125,32 @@ pub(crate) fn play_line<P: Packs, O: Sink, T: Sink>(
     packs: &mut P,
     out: &mut O,
     trace: &mut T,
-) -> Result<(), CachedPlayFault> {
+) -> Result<(), CachedPlayFault>
+    requires line { 1 ≤ line.now.number }
+    requires may { MayUse cache.old subsystem.old }
+    requires ask { MayPlay subsystem.old.world line.now.statement }
+    requires desk { IsRoomy desk.old.gather desk.old.blocks.items }
+    ensures goes { OnOk result (IsTrue (P.tells packs.new) → GoesOn (input_at line.now) cache.old cache.new
+        (scene P.tells P.held O.tells O.taken O.faults T.tells T.taken subsystem.old.world packs.old out.old trace.old)
+        (scene P.tells P.held O.tells O.taken O.faults T.tells T.taken subsystem.new.world packs.new out.new trace.new)) }
+    ensures halts { OnErr result (IsTrue (P.tells packs.new) → Halts (input_at line.now) cache.old
+        (scene P.tells P.held O.tells O.taken O.faults T.tells T.taken subsystem.old.world packs.old out.old trace.old)
+        (scene P.tells P.held O.tells O.taken O.faults T.tells T.taken subsystem.new.world packs.new out.new trace.new)) }
+    ensures may { OnOk result (MayUse cache.new subsystem.new) }
+    ensures units { OnOk result (KeepsUnits subsystem.old.world subsystem.new.world) }
+    ensures desk { OnOk result (IsRoomy desk.new.gather desk.new.blocks.items) }
+    ensures told { HaveTold (P.tells packs.old) (P.tells packs.new) (O.tells out.old) (O.tells out.new) (T.tells trace.old) (T.tells trace.new) }
+    ensures causes { IsCaused (P.faults packs.old) (P.faults packs.new) (O.faults out.old) (O.faults out.new) (T.faults trace.old) (T.faults trace.new) result }
+{
     let number = u64::from(line.number);
     match line.statement {
         Statement::Unit { .. } => Ok(()),
         Statement::Read { asked } => {
-            let kind = read_asked(
-                cache,
-                subsystem,
-                number,
-                &asked,
-                &mut desk.blocks,
-                packs,
-                trace,
-            )?;
-            write_answer(number, asked.id, kind, desk, out)?;
-            Ok(())
+            play_read(number, &asked, cache, subsystem, desk, packs, out, trace)
         }
-        Statement::Write { asked, fill } => {
-            let kind = write_asked(cache, subsystem, number, &asked, fill, packs, trace)?;
-            write_answer(number, asked.id, kind, desk, out)?;
-            Ok(())
-        }
-        Statement::Sync => {
-            cache.sync(subsystem, number, packs, trace)?;
-            Ok(())
-        }
+        Statement::Write { asked, fill } => play_write(
+            number, &asked, fill, cache, subsystem, desk, packs, out, trace,
+        ),
+        Statement::Sync => play_sync(number, cache, subsystem, packs, trace),
     }
 }

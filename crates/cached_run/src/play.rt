@@ -1,16 +1,24 @@
 // A script is played to its end.
-ghost use Rattle.std.specs.Prelude.{◌≡◌, ◌≤◌, ℕ, IsTrue, IfErr, OnOk};
+ghost use Rattle.std.specs.Prelude.{◌≡◌, ◌≤◌, ℕ, [], IsTrue, IfErr, OnOk, OnErr};
+ghost use Rattle.trace_replay.specs.Script.{inputs_of};
+ghost use Rattle.waited_requests.specs.Rest.{HasTables};
+ghost use Rattle.blocking_io.specs.Asking.{setup_at};
+ghost use Rattle.raw_io.specs.Transfers.{site};
+ghost use Rattle.buffer_cache.specs.Calls.{MayUse};
+ghost use Rattle.one_run.specs.Steps.{AreUnits};
 ghost use Rattle.run_stops.specs.Stops.{took};
 ghost use Rattle.event_player.specs.Faults.{AreUntouched, HaveTold};
 ghost use Rattle.event_player.specs.Plays.{IsTooLong};
-ghost use Rattle.cached_run.specs.Faults.{IsBefore, IsPlaying, IsLongFor, Rise};
+ghost use Rattle.cached_run.specs.Faults.{IsBefore, IsPlaying, IsLongFor, IsCaused, Rise};
+ghost use Rattle.cached_run.specs.Going.{scene, IsFar, HaltsScript};
+ghost use Rattle.cached_run.specs.Lines.{IsRoomy};
 ghost use Rattle.cached_run.specs.Meaning.{meaning_of};
 ghost use Rattle.cached_run.specs.Theorem.{CachedPlays, CachedLeaves};
 
 use crate::attaching::attach_units;
 use crate::desk::Desk;
 use crate::fault::CachedPlayFault;
-use crate::lines::play_line;
+use crate::lines::{play_line, play_sync};
 use buffer_cache::Cache;
 use cached_script::CachedScript;
 use hp_driver::Subsystem;
@@ -27,12 +35,28 @@ fn play_lines<P: Packs, O: Sink, T: Sink>(
     packs: &mut P,
     out: &mut O,
     trace: &mut T,
-) -> Result<(), CachedPlayFault> {
+) -> Result<(), CachedPlayFault>
+    requires units { AreUnits (meaning_of script.now) subsystem.old.world }
+    requires may { MayUse cache.old subsystem.old }
+    requires desk { IsRoomy desk.old.gather desk.old.blocks.items }
+    requires empty { cache.old.entries ≡ [] }
+    ensures plays { OnOk result (IsTrue (P.tells packs.new)
+        → HasTables (setup_at (site P.tells P.held T.tells T.taken subsystem.old.world packs.old trace.old))
+        → IsFar (scene P.tells P.held O.tells O.taken O.faults T.tells T.taken subsystem.old.world packs.old out.old trace.old) (inputs_of (meaning_of script.now)) cache.new
+        (scene P.tells P.held O.tells O.taken O.faults T.tells T.taken subsystem.new.world packs.new out.new trace.new)) }
+    ensures stops { OnErr result (IsTrue (P.tells packs.new)
+        → HasTables (setup_at (site P.tells P.held T.tells T.taken subsystem.old.world packs.old trace.old)) → HaltsScript (meaning_of script.now)
+        (scene P.tells P.held O.tells O.taken O.faults T.tells T.taken subsystem.old.world packs.old out.old trace.old)
+        (scene P.tells P.held O.tells O.taken O.faults T.tells T.taken subsystem.new.world packs.new out.new trace.new)) }
+    ensures told { HaveTold (P.tells packs.old) (P.tells packs.new) (O.tells out.old) (O.tells out.new) (T.tells trace.old) (T.tells trace.new) }
+    ensures causes { IsCaused (P.faults packs.old) (P.faults packs.new) (O.faults out.old) (O.faults out.new) (T.faults trace.old) (T.faults trace.new) result }
+{
+    script.law();
+    let number = u64::from(script.count()) + 1;
     for line in script.lines() {
         play_line(line, cache, subsystem, desk, packs, out, trace)?;
     }
-    let number = u64::from(script.count()) + 1;
-    cache.sync(subsystem, number, packs, trace)?;
+    play_sync(number, cache, subsystem, packs, trace)?;
     Ok(())
 }
 
