@@ -226,3 +226,7 @@ answers_legal drives (n ∷ inputs) map all long = by n.input all.0 (answers_leg
     by (Arm u k t) is rest = ([], (answers_of drives map inputs, (idle map, (refl, (quiet_at drives map (record { line = n.line; input = Arm u k t }) refl refl, rest)))))
     by (SetOnline u on) is rest = ([], (answers_of drives map inputs, (idle map, (refl, (quiet_at drives map (record { line = n.line; input = SetOnline u on }) refl refl, rest)))))
     by (SetLocked u on) is rest = ([], (answers_of drives map inputs, (idle map, (refl, (quiet_at drives map (record { line = n.line; input = SetLocked u on }) refl refl, rest)))))
+
+pub long_inputs : (drives : ℕ → Option DriveKind) (inputs : List Numbered) (map : ℕ → Blocks) → LongMap map → LongMap (map_of_inputs drives map inputs)
+long_inputs drives [] map long = long
+long_inputs drives (n ∷ inputs) map long = long_inputs drives inputs (map_by drives map n.input) (long_by drives map n.input long)

@@ -4,3 +4,6 @@ mod Firsts
 mod Readings
 mod Writings
 mod Legal
+mod Inputs
+mod Sayings
+mod Goings
