@@ -7,3 +7,6 @@ mod Legal
 mod Inputs
 mod Sayings
 mod Goings
+mod Lines
+mod Whole
+mod Starts
