@@ -10,3 +10,5 @@ mod Goings
 mod Lines
 mod Whole
 mod Starts
+mod Attachings
+mod Causes

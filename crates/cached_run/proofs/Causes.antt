@@ -1,0 +1,99 @@
+-- Why playing stopped.
+use Rattle.std.proofs.Common.{◌≡◌, ◌⊎◌, inl, inr, ℕ, ◌≤◌, IsTrue, refl, sym, subst, arith, None, Some}
+use Rattle.std.specs.Prelude.{Result, Ok, Err, IfErr, OnErr, IsErrOf}
+use Rattle.std.specs.Result.{IsErrAnd}
+use Rattle.outside_traits.specs.Causes.{Rose, HasCause}
+use Rattle.outside_traits.specs.declared.traits.SinkFailed.{SinkFailed}
+use Rattle.mass_gather.proofs.GatherLaws.{rose_more}
+use Rattle.driver_outcome.specs.declared.Stop.{Stop}
+use Rattle.driver_outcome.specs.declared.Stop.TheVariants as stop
+use Rattle.raw_io.specs.Passes.{HasCauses}
+use Rattle.cached_run.specs.declared.fault.CachedPlayFault.{CachedPlayFault}
+use Rattle.cached_run.specs.declared.fault.CachedPlayFault.TheVariants as fault
+use Rattle.cached_run.specs.Faults.{from_stop, Rise, IsCaused}
+
+same : (n : ℕ) → n ≤ n
+same n = omega arith
+
+trans : (a b c : ℕ) → a ≤ b → b ≤ c → a ≤ c
+trans a b c p q = omega (arith, p, q)
+
+-- what holds of an error holds of the result that is it
+pub as_err : {T : Type 0} (P : Result T CachedPlayFault → Type 0) (result : Result T CachedPlayFault) (why : CachedPlayFault) → IsErrAnd result (λ x. x ≡ why) → P (Err why) → P result
+as_err P (Ok v) why is p = absurd is
+as_err P (Err x) why is p = subst (λ z. P (Err z)) (sym is) p
+
+pub on_err : {T : Type 0} {A : Type 0} (result : Result T CachedPlayFault) → A → OnErr result A
+on_err (Ok v) a = tt
+on_err (Err x) a = a
+
+module _ {T : Type 0} {p p' o o' t t' : ℕ} where
+  pub caused_ok : (value : T) → p ≤ p' → o ≤ o' → t ≤ t' → IsCaused p p' o o' t t' (Ok value)
+  caused_ok value first next last = record {
+    rise = record { later = first; later_out = next; later_trace = last; store = λ e. absurd (never e); sink = λ e. absurd (never e) };
+    memory = λ e. never e;
+    too_long = λ unit length_is e. never e;
+  }
+    where
+      never : {x : CachedPlayFault} → ◌≡◌ {A = Result T CachedPlayFault} (Ok value) (Err x) → ⊥
+      never e = cc
+
+  pub caused_stop : (why : Stop) → HasCauses p p' t t' (Some why) → o ≤ o' → IsCaused {T = T} p p' o o' t t' (Err (from_stop why))
+  caused_stop stop.Store h next = record {
+    rise = record { later = h.later_packs; later_out = next; later_trace = h.later; store = λ e. h.store refl; sink = λ e. absurd (never e) };
+    memory = λ e. no_memory e;
+    too_long = λ unit length_is e. not_long e;
+  }
+    where
+      never : ◌≡◌ {A = Result T CachedPlayFault} (Err fault.Store) (Err fault.Sink) → ⊥
+      never e = cc
+
+      no_memory : ◌≡◌ {A = Result T CachedPlayFault} (Err fault.Store) (Err fault.Memory) → ⊥
+      no_memory e = cc
+
+      not_long : {u n : ℕ} → ◌≡◌ {A = Result T CachedPlayFault} (Err fault.Store) (Err (fault.TooLong u n)) → ⊥
+      not_long e = cc
+  caused_stop stop.Sink h next = record {
+    rise = record { later = h.later_packs; later_out = next; later_trace = h.later; store = λ e. absurd (never e); sink = λ e. inr (h.sink refl) };
+    memory = λ e. no_memory e;
+    too_long = λ unit length_is e. not_long e;
+  }
+    where
+      never : ◌≡◌ {A = Result T CachedPlayFault} (Err fault.Sink) (Err fault.Store) → ⊥
+      never e = cc
+
+      no_memory : ◌≡◌ {A = Result T CachedPlayFault} (Err fault.Sink) (Err fault.Memory) → ⊥
+      no_memory e = cc
+
+      not_long : {u n : ℕ} → ◌≡◌ {A = Result T CachedPlayFault} (Err fault.Sink) (Err (fault.TooLong u n)) → ⊥
+      not_long e = cc
+
+  pub caused_out : p ≤ p' → t ≤ t' → o ≤ o' → Rose o o' → IsCaused {T = T} p p' o o' t t' (Err fault.Sink)
+  caused_out first last next rose = record {
+    rise = record { later = first; later_out = next; later_trace = last; store = λ e. absurd (never e); sink = λ e. inl rose };
+    memory = λ e. no_memory e;
+    too_long = λ unit length_is e. not_long e;
+  }
+    where
+      never : ◌≡◌ {A = Result T CachedPlayFault} (Err fault.Sink) (Err fault.Store) → ⊥
+      never e = cc
+
+      no_memory : ◌≡◌ {A = Result T CachedPlayFault} (Err fault.Sink) (Err fault.Memory) → ⊥
+      no_memory e = cc
+
+      not_long : {u n : ℕ} → ◌≡◌ {A = Result T CachedPlayFault} (Err fault.Sink) (Err (fault.TooLong u n)) → ⊥
+      not_long e = cc
+
+-- counts that rose before do so from an earlier one on
+pub caused_more : {T : Type 0} {p0 o0 t0 p p' o o' t t' : ℕ} (result : Result T CachedPlayFault) → p0 ≤ p → o0 ≤ o → t0 ≤ t → IsCaused p p' o o' t t' result → IsCaused p0 p' o0 o' t0 t' result
+caused_more {T} {p0} {o0} {t0} {p} {p'} {o} {o'} {t} {t'} result first next last c = record {
+  rise = record {
+    later = trans p0 p p' first c.rise.later;
+    later_out = trans o0 o o' next c.rise.later_out;
+    later_trace = trans t0 t t' last c.rise.later_trace;
+    store = λ e. rose_more p0 p p' first (c.rise.store e);
+    sink = λ e. elim (c.rise.sink e) [ | inl out ↦ inl (rose_more o0 o o' next out) | inr trace ↦ inr (rose_more t0 t t' last trace) ];
+  };
+  memory = c.memory;
+  too_long = c.too_long;
+}
