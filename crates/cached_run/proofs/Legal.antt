@@ -101,8 +101,12 @@ module _ (blocks : Blocks) (first : ℕ) (r : Request) (is : IsRequest r) (long 
       ∙ length-append (bytes_of_first n blocks first r) (take (size_of_block r n) (bytes_or_none (blocks (first + n))))
       ∙ ap (λ k. k + length (take (size_of_block r n) (bytes_or_none (blocks (first + n))))) before
       ∙ ap (λ k. 512 * n + k) (one_block n (usable n (omega (arith, count))) ∙ size)
+      ∙ at_last n r.last
       ∙ ap (λ k. 512 * (k - 1) + r.last) (sym count)
     where
+      at_last : (n last : ℕ) → 512 * n + last ≡ 512 * (suc n - 1) + last
+      at_last n last = omega arith
+
       is_last : (n count : ℕ) → count ≡ suc n → (n + 1 == count) ≡ true
       is_last n count e = grind (arith, nat_tests)
 
@@ -111,7 +115,7 @@ module _ (blocks : Blocks) (first : ℕ) (r : Request) (is : IsRequest r) (long 
   may_by (Some done) e =
       let f = first_is r.count blocks first 0 done e in
       let below = f.below in
-      (omega (arith, below), (λ k lt. f.before k (omega arith) lt, f.unusable))
+      (omega (arith, below), λ k lt. f.before k (omega arith) lt, f.unusable)
   may_by None e = by (r.written) refl
     where
       usable : AreUsable blocks first r.count
@@ -122,12 +126,12 @@ module _ (blocks : Blocks) (first : ℕ) (r : Request) (is : IsRequest r) (long 
 
       by : (written : Option (List ℕ)) → r.written ≡ written → MayAnswer (all_claimed 0 r) blocks first r (if is_some r.written then WriteOk else ReadOk (bytes_of_first r.count blocks first r))
       by None none = subst (λ t. MayAnswer (all_claimed 0 r) blocks first r (if t then WriteOk else ReadOk (bytes_of_first r.count blocks first r))) (sym (ap is_some none))
-          (none, (usable, (all_blocks (r.count - 1) (count_is r.count is.some) usable, λ claimed. refl)))
+          (none, usable, all_blocks (r.count - 1) (count_is r.count is.some) usable, λ claimed. refl)
       by (Some bytes) some = subst (λ t. MayAnswer (all_claimed 0 r) blocks first r (if t then WriteOk else ReadOk (bytes_of_first r.count blocks first r))) (sym (ap is_some some))
           (ap is_some some, usable)
 
 -- ---- ONE INPUT
-joined_machine : (ℕ → Blocks) → Request → Machine
+abbrev joined_machine : (ℕ → Blocks) → Request → Machine
 joined_machine map r = record { blocks = map; outstanding = r ∷ [] }
 
 module _ (drives : ℕ → Option DriveKind) (map : ℕ → Blocks) (line : ℕ) (r : Request) (is : IsRequest r) (long : LongMap map) where
@@ -173,7 +177,7 @@ module _ (drives : ℕ → Option DriveKind) (map : ℕ → Blocks) (line : ℕ)
         later = Told ∷ [];
         order = sym (ap (λ s. answers_at_once line r s ++ Told ∷ []) (meets_is (Inside at) e));
         steps = subst (λ m. Steps drives all_claimed line m (Told ∷ []) (idle (map_after drives map r))) (sym (ap (submitted (idle map) r) (meets_is (Inside at) e)))
-            (refl, (idle (map_after drives map r), (one_step at e, refl)));
+            (refl, idle (map_after drives map r), one_step at e, refl);
       }
 
 -- ---- ALL INPUTS
@@ -215,17 +219,21 @@ answers_legal drives (n ∷ inputs) map all long = by n.input all.0 (answers_leg
         (with_answer drives map n.line input (answers_of drives (map_by drives map input) inputs)) (idle (map_of_inputs drives (map_by drives map input) inputs))
     by (Submit r) is rest = (
       record { line = n.line; id = r.id; answer = answer_to drives map r } ∷ [],
-      (answers_of drives (map_after drives map r) inputs, (idle (map_after drives map r), (refl, (answered_at drives map n.line r is long, rest)))),
+      answers_of drives (map_after drives map r) inputs,
+      idle (map_after drives map r),
+      refl,
+      answered_at drives map n.line r is long,
+      rest,
     )
-    by (ArriveAt u) is rest = ([], (answers_of drives map inputs, (idle map, (refl, (quiet_at drives map (record { line = n.line; input = ArriveAt u }) refl refl, rest)))))
-    by (MoveAt a) is rest = ([], (answers_of drives map inputs, (idle map, (refl, (quiet_at drives map (record { line = n.line; input = MoveAt a }) refl refl, rest)))))
-    by (AttendTo a) is rest = ([], (answers_of drives map inputs, (idle map, (refl, (quiet_at drives map (record { line = n.line; input = AttendTo a }) refl refl, rest)))))
-    by Drain is rest = ([], (answers_of drives map inputs, (idle map, (refl, (quiet_at drives map (record { line = n.line; input = Drain }) refl refl, rest)))))
-    by (Turn u s) is rest = ([], (answers_of drives map inputs, (idle map, (refl, (quiet_at drives map (record { line = n.line; input = Turn u s }) refl refl, rest)))))
-    by (Noise noise) is rest = ([], (answers_of drives map inputs, (idle map, (refl, (quiet_at drives map (record { line = n.line; input = Noise noise }) refl refl, rest)))))
-    by (Arm u k t) is rest = ([], (answers_of drives map inputs, (idle map, (refl, (quiet_at drives map (record { line = n.line; input = Arm u k t }) refl refl, rest)))))
-    by (SetOnline u on) is rest = ([], (answers_of drives map inputs, (idle map, (refl, (quiet_at drives map (record { line = n.line; input = SetOnline u on }) refl refl, rest)))))
-    by (SetLocked u on) is rest = ([], (answers_of drives map inputs, (idle map, (refl, (quiet_at drives map (record { line = n.line; input = SetLocked u on }) refl refl, rest)))))
+    by (ArriveAt u) is rest = ([], answers_of drives map inputs, idle map, refl, quiet_at drives map (record { line = n.line; input = ArriveAt u }) refl refl, rest)
+    by (MoveAt a) is rest = ([], answers_of drives map inputs, idle map, refl, quiet_at drives map (record { line = n.line; input = MoveAt a }) refl refl, rest)
+    by (AttendTo a) is rest = ([], answers_of drives map inputs, idle map, refl, quiet_at drives map (record { line = n.line; input = AttendTo a }) refl refl, rest)
+    by Drain is rest = ([], answers_of drives map inputs, idle map, refl, quiet_at drives map (record { line = n.line; input = Drain }) refl refl, rest)
+    by (Turn u s) is rest = ([], answers_of drives map inputs, idle map, refl, quiet_at drives map (record { line = n.line; input = Turn u s }) refl refl, rest)
+    by (Noise noise) is rest = ([], answers_of drives map inputs, idle map, refl, quiet_at drives map (record { line = n.line; input = Noise noise }) refl refl, rest)
+    by (Arm u k t) is rest = ([], answers_of drives map inputs, idle map, refl, quiet_at drives map (record { line = n.line; input = Arm u k t }) refl refl, rest)
+    by (SetOnline u on) is rest = ([], answers_of drives map inputs, idle map, refl, quiet_at drives map (record { line = n.line; input = SetOnline u on }) refl refl, rest)
+    by (SetLocked u on) is rest = ([], answers_of drives map inputs, idle map, refl, quiet_at drives map (record { line = n.line; input = SetLocked u on }) refl refl, rest)
 
 pub long_inputs : (drives : ℕ → Option DriveKind) (inputs : List Numbered) (map : ℕ → Blocks) → LongMap map → LongMap (map_of_inputs drives map inputs)
 long_inputs drives [] map long = long

@@ -1,5 +1,6 @@
 -- Replacements, one behind the other.
 use Rattle.std.proofs.Common.{◌≡◌, ℕ, zero, suc, ◌+◌, ◌≤◌, List, [], ◌∷◌, ◌++◌, length, take, refl, sym, ap, ◌∙◌, arith}
+use Rattle.std.proofs.Math.Seq.{take-append-add}
 use Rattle.block_machine.specs.Machine.{Blocks}
 use Rattle.cached_run.specs.Answers.{Replacement, with_replacement, after}
 
@@ -18,5 +19,4 @@ take_first (suc n) [] ys le = absurd (omega (arith, le))
 take_first (suc n) (x ∷ xs) ys le = ap (λ zs. x ∷ zs) (take_first n xs ys (omega (arith, le)))
 
 pub take_second : (xs ys : List Replacement) (n : ℕ) → take (length xs + n) (xs ++ ys) ≡ xs ++ take n ys
-take_second [] ys n = refl
-take_second (x ∷ xs) ys n = ap (λ zs. x ∷ zs) (take_second xs ys n)
+take_second xs ys n = take-append-add xs ys n
