@@ -184,13 +184,10 @@ cut_out s a n x ys le =
     ∙ subst (λ z. take z (replicate s x ++ ys) ≡ replicate s x) (length-replicate s x) (take-append_seam (replicate s x) ys)
 
 module _ (a : Asked) (fill : ℕ) where
-  size_in : (t : Bool) → (if t then 512 else 512) ≡ 512
-  size_in t = whole_size t
-
   sector_is : (k : ℕ) → k < a.count → sector_of_block (request_of a (Some (filled a.count fill))) k ≡ one_filled fill
   unfolding filled one_filled
   sector_is k lt =
-      ap (λ z. take 512 (take z (drop (512 * k) (replicate (512 * a.count) fill)) ++ replicate 512 0)) (size_in (k + 1 == a.count))
+      ap (λ z. take 512 (take z (drop (512 * k) (replicate (512 * a.count) fill)) ++ replicate 512 0)) (whole_size {s = 512} (k + 1 == a.count))
       ∙ cut_out 512 (512 * k) (512 * a.count) fill (replicate 512 0) (fits k a.count lt)
     where
       fits : (k n : ℕ) → k < n → 512 * k + 512 ≤ 512 * n
@@ -218,9 +215,12 @@ module _ (a : Asked) (fill : ℕ) where
   spread_is kind contents first met is =
       let n : ℕ = usable_in contents a.unit first a.count in
       ap (λ z. spread n a.unit z (one_filled fill)) (none first)
-      ∙ spread_from n first 0 (no_more (first_unusable a.count (contents a.unit) first 0) (contents a.unit) first refl)
+      ∙ spread_from n first 0 (from_none n a.count (no_more (first_unusable a.count (contents a.unit) first 0) (contents a.unit) first refl))
       ∙ ap (λ z. replaced (usable_of (first_unusable a.count (contents a.unit) z 0) a.count) z 0 (request_of a (Some (filled a.count fill)))) is
       ∙ sym (ap (λ z. replaced_at z (contents a.unit) (first_of kind C + a.block) (request_of a (Some (filled a.count fill)))) met)
     where
       none : (first : ℕ) → first ≡ first + 0
       none first = omega arith
+
+      from_none : (n m : ℕ) → n ≤ m → 0 + n ≤ m
+      from_none n m le = omega (arith, le)
