@@ -23,10 +23,6 @@ pub as_err : {T : Type 0} (P : Result T CachedPlayFault → Type 0) (result : Re
 as_err P (Ok v) why is p = absurd is
 as_err P (Err x) why is p = subst (λ z. P (Err z)) (sym is) p
 
-pub on_err : {T : Type 0} {A : Type 0} (result : Result T CachedPlayFault) → A → OnErr result A
-on_err (Ok v) a = tt
-on_err (Err x) a = a
-
 module _ {T : Type 0} {p p' o o' t t' : ℕ} where
   pub caused_ok : (value : T) → p ≤ p' → o ≤ o' → t ≤ t' → IsCaused p p' o o' t t' (Ok value)
   caused_ok value first next last = record {

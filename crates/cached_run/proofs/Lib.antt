@@ -12,3 +12,4 @@ mod Whole
 mod Starts
 mod Attachings
 mod Causes
+mod Keepings

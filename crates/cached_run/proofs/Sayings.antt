@@ -224,3 +224,68 @@ module _ (a : Asked) (fill : ℕ) where
 
       from_none : (n m : ℕ) → n ≤ m → 0 + n ≤ m
       from_none n m le = omega (arith, le)
+
+-- ---- THE SAME of what a line asks for
+module _ (kind : DriveKind) (contents : Map) (a : Asked) (first done : ℕ) (met : admission kind C a.block a.count ≡ Inside first) (is : first ≡ first_of kind C + a.block) where
+  its_met : admission kind C a.block a.count ≡ Inside (first_of kind C + a.block)
+  its_met = met ∙ ap Inside is
+
+  pub asked_read : (lines : List (List ℕ)) → a.count ≤ length lines → AreRead contents a.unit first a.count done lines
+      → IsSaid kind (contents a.unit) (request_of a None) (kind_by done a.count (answer.ReadOk a.count 512)) lines
+  asked_read lines room read =
+      let at : AreRead contents a.unit (first_of kind C + a.block) a.count done lines = subst (λ z. AreRead contents a.unit z a.count done lines) is read in
+      read_said kind (contents a.unit) (request_of a None) done lines refl refl room its_met at.done_is at.bytes
+
+  pub asked_write : (fill : ℕ) (lines : List (List ℕ)) → done ≡ usable_in contents a.unit first a.count
+      → IsSaid kind (contents a.unit) (request_of a (Some (filled a.count fill))) (kind_by done a.count answer.WriteOk) lines
+  asked_write fill lines so =
+      write_said kind (contents a.unit) (request_of a (Some (filled a.count fill))) (filled a.count fill) done lines refl its_met
+      (so ∙ ap (λ z. usable_of (first_unusable a.count (contents a.unit) z 0) a.count) is)
+
+-- and no more blocks than there are
+one_kind : (t : Bool) (done count : ℕ) (lines : List (List ℕ)) → count ≤ length lines → GivesAmong (if t then answer.Error cause.Unforwarded done else answer.ReadOk count 512) lines
+one_kind true done count lines le n last e = absurd (never e)
+  where
+    never : {d n last : ℕ} → answer.Error cause.Unforwarded d ≡ answer.ReadOk n last → ⊥
+    never f = cc
+one_kind false done count lines le n last e = subst (λ z. z ≤ length lines) (same e) le
+  where
+    same : {x y v w : ℕ} → answer.ReadOk x v ≡ answer.ReadOk y w → x ≡ y
+    same f = cc
+
+pub read_among : (done count : ℕ) (lines : List (List ℕ)) → count ≤ length lines → GivesAmong (kind_by done count (answer.ReadOk count 512)) lines
+read_among done count lines le = one_kind (nat_lt done count) done count lines le
+
+wrote_kind : (t : Bool) (done : ℕ) (lines : List (List ℕ)) → GivesAmong (if t then answer.Error cause.Unforwarded done else answer.WriteOk) lines
+wrote_kind true done lines n last e = absurd (never e)
+  where
+    never : {d n last : ℕ} → answer.Error cause.Unforwarded d ≡ answer.ReadOk n last → ⊥
+    never f = cc
+wrote_kind false done lines n last e = absurd (never e)
+  where
+    never : {n last : ℕ} → answer.WriteOk ≡ answer.ReadOk n last → ⊥
+    never f = cc
+
+pub wrote_among : (done count : ℕ) (lines : List (List ℕ)) → GivesAmong (kind_by done count answer.WriteOk) lines
+wrote_among done count lines = wrote_kind (nat_lt done count) done lines
+
+pub eof_among : (lines : List (List ℕ)) → GivesAmong answer.Eof lines
+eof_among lines n last e = absurd (never e)
+  where
+    never : {n last : ℕ} → answer.Eof ≡ answer.ReadOk n last → ⊥
+    never f = cc
+
+-- a read replaces nothing, and nothing is replaced where the partition refuses
+pub none_read : (kind : DriveKind) (blocks : Blocks) (a : Asked) → [] ≡ replaced_with kind blocks (request_of a None)
+none_read kind blocks a = by (admission kind C a.block a.count)
+  where
+    by : (met : Admission) → [] ≡ replaced_at met blocks (first_of kind C + a.block) (request_of a None)
+    by (Inside at) = refl
+    by Eof = refl
+    by Outside = refl
+
+pub none_outside : (kind : DriveKind) (blocks : Blocks) (r : Request) → admission kind r.part r.block r.count ≡ Outside → [] ≡ replaced_with kind blocks r
+none_outside kind blocks r met = sym (ap (λ z. replaced_at z blocks (first_of kind r.part + r.block) r) met)
+
+pub none_eof : (kind : DriveKind) (blocks : Blocks) (r : Request) → admission kind r.part r.block r.count ≡ Eof → [] ≡ replaced_with kind blocks r
+none_eof kind blocks r met = sym (ap (λ z. replaced_at z blocks (first_of kind r.part + r.block) r) met)

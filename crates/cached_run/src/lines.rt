@@ -86,8 +86,8 @@ fn play_write<P: Packs, O: Sink, T: Sink>(
     ensures told { HaveTold (P.tells packs.old) (P.tells packs.new) (O.tells out.old) (O.tells out.new) (T.tells trace.old) (T.tells trace.new) }
     ensures causes { IsCaused (P.faults packs.old) (P.faults packs.new) (O.faults out.old) (O.faults out.new) (T.faults trace.old) (T.faults trace.new) result }
 {
-    let kind = write_asked(cache, subsystem, number, asked, fill, packs, trace)?;
-    write_answer(number, asked.id, kind, desk, out)?;
+    let how = write_asked(cache, subsystem, number, asked, fill, packs, trace)?;
+    write_answer(number, asked.id, how, desk, out)?;
     Ok(())
 }
 
