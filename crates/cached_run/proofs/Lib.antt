@@ -13,3 +13,4 @@ mod Starts
 mod Attachings
 mod Causes
 mod Keepings
+mod Gatherings
