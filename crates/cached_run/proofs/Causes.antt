@@ -88,7 +88,7 @@ caused_more {T} {p0} {o0} {t0} {p} {p'} {o} {o'} {t} {t'} result first next last
     later_out = trans o0 o o' next c.rise.later_out;
     later_trace = trans t0 t t' last c.rise.later_trace;
     store = λ e. rose_more p0 p p' first (c.rise.store e);
-    sink = λ e. elim (c.rise.sink e) [ | inl out ↦ inl (rose_more o0 o o' next out) | inr trace ↦ inr (rose_more t0 t t' last trace) ];
+    sink = λ e. elim (c.rise.sink e) [ inl out ↦ inl (rose_more o0 o o' next out) | inr trace ↦ inr (rose_more t0 t t' last trace) ];
   };
   memory = c.memory;
   too_long = c.too_long;

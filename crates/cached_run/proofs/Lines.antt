@@ -36,7 +36,7 @@ turned v u same not = elim (eqb_tells u v) [
 ]
   where
     never : (u == u) ≡ false → ⊥
-    never e = elim (eqb_tells u u) [ | inl is ↦ absurd (both is.0 e) | inr no ↦ no.1 refl ]
+    never e = elim (eqb_tells u u) [ inl is ↦ absurd (both is.0 e) | inr no ↦ no.1 refl ]
       where
         both : {t : Bool} → t ≡ true → t ≡ false → ⊥
         both p q = cc
@@ -76,7 +76,7 @@ some_step u (says.Unit v kind) before rest has = elim (eqb_tells v u) [
 ]
   where
     here : (v u : ℕ) → v ≡ u → (u == v) ≡ true
-    here v u e = elim (eqb_tells u v) [ | inl is ↦ is.0 | inr no ↦ absurd (no.1 (sym e)) ]
+    here v u e = elim (eqb_tells u v) [ inl is ↦ is.0 | inr no ↦ absurd (no.1 (sym e)) ]
 some_step u (says.Read a) before rest has = inl has
 some_step u (says.Write a fill) before rest has = inl has
 some_step u says.Sync before rest has = inl has
