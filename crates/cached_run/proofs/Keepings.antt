@@ -25,9 +25,9 @@ setup_more old mid new still first next = record {
 -- one of some data blocks is one, also behind calls
 pub data_at : (old new : Stage) (unit first count k : ℕ) → k < count → KeepsSetup old new → ((u : ℕ) → IsSetUp old.world u → IsSetUp new.world u) → AreData old.world unit first count
     → IsData new.world unit (first + k)
-data_at old new unit first count k lt keeps units data =
+data_at old new unit first count k lt keeps units are =
     data_stays old new unit (first + k) keeps.setup units
-    (record { unit_is = data.unit_is; inside = inside first k count (limit_of (kind_at old.world unit)) lt data.inside })
+    (record { unit_is = are.unit_is; inside = inside first k count (limit_of (kind_at old.world unit)) lt are.inside })
   where
     inside : (a k n m : ℕ) → k < n → a + n ≤ m → a + k < m
     inside a k n m lt le = omega (arith, lt, le)
@@ -39,7 +39,7 @@ small Rm05 = omega arith
 
 -- and its number is small
 pub number_small : (w : World) (unit first count k : ℕ) → k < count → AreData w unit first count → first + k ≤ 4294967295
-number_small w unit first count k lt data = under first k count (limit_of (kind_at w unit)) 4294967295 lt data.inside (small (kind_at w unit))
+number_small w unit first count k lt are = under first k count (limit_of (kind_at w unit)) 4294967295 lt are.inside (small (kind_at w unit))
   where
     under : (a k n m top : ℕ) → k < n → a + n ≤ m → m ≤ top → a + k ≤ top
     under a k n m top lt le most = omega (arith, lt, le, most)

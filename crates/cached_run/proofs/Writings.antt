@@ -28,12 +28,18 @@ use Rattle.cached_run.proofs.Leavings.{leaves_none, makes_none, leaves_more, lea
 
 -- ---- replacements of blocks one behind the other
 pub spread_more : (n m unit first : ℕ) (from : List ℕ) → spread (n + m) unit first from ≡ spread n unit first from ++ spread m unit (first + n) from
-spread_more zero m unit first from = ap (λ z. spread m unit z from) (none first)
+spread_more zero m unit first from = ap (λ z. spread z unit first from) (zeros m) ∙ ap (λ z. spread m unit z from) (none first)
   where
+    zeros : (z : ℕ) → 0 + z ≡ z
+    zeros z = omega arith
+
     none : (z : ℕ) → z ≡ z + 0
     none z = omega arith
-spread_more (suc n) m unit first from = ap (λ z. record { unit = unit; block = first; bytes = from } ∷ z) (spread_more n m unit (first + 1) from ∙ ap (λ z. spread n unit (first + 1) from ++ spread m unit z from) (along first n))
+spread_more (suc n) m unit first from = ap (λ z. spread z unit first from) (over n m) ∙ ap (λ z. record { unit = unit; block = first; bytes = from } ∷ z) (spread_more n m unit (first + 1) from ∙ ap (λ z. spread n unit (first + 1) from ++ spread m unit z from) (along first n))
   where
+    over : (n m : ℕ) → suc n + m ≡ suc (n + m)
+    over n m = omega arith
+
     along : (a n : ℕ) → (a + 1) + n ≡ a + suc n
     along a n = omega arith
 
