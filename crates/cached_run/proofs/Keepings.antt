@@ -1,16 +1,17 @@
 -- What calls keep, one behind the other.
-use Rattle.std.proofs.Common.{◌≡◌, ℕ, ◌+◌, ◌<◌, ◌≤◌, IsTrue, refl, ap, ◌∙◌, arith}
+use Rattle.std.proofs.Common.{◌≡◌, ℕ, List, ◌+◌, ◌<◌, ◌≤◌, IsTrue, refl, sym, ap, subst, ◌∙◌, arith}
 use Rattle.pack_geometry.specs.declared.DriveKind.{DriveKind}
 use Rattle.pack_geometry.specs.declared.DriveKind.TheVariants.{Rp06, Rm03, Rm05}
 use Rattle.pack_geometry.specs.Geometry.{limit_of}
+use Rattle.subsystem_spec.specs.Requests.{Request}
 use Rattle.block_machine.specs.Stands.{Setup}
 use Rattle.waited_requests.specs.Waited.{with_packs}
 use Rattle.blocking_io.specs.Calls.{Stage}
 use Rattle.driver_machine.specs.World.{World}
 use Rattle.driver_machine.specs.Guards.{IsSetUp}
 use Rattle.raw_io.specs.Calls.{kind_at}
-use Rattle.single_blocks.specs.Asks.{IsData}
-use Rattle.buffer_cache.proofs.Stays.{data_stays}
+use Rattle.single_blocks.specs.Asks.{IsData, Asks}
+use Rattle.raw_io.proofs.ReadPieces.{kind_stays}
 use Rattle.cached_run.specs.Leaving.{KeepsSetup, AreData}
 
 pub setup_none : (here : Stage) → KeepsSetup here here
@@ -22,12 +23,18 @@ setup_more old mid new still first next = record {
   tables = λ t tables. next.tables t (first.tables (still t) tables);
 }
 
+pub setup_asked : {line : ℕ} {rs : List Request} (old new : Stage) → Asks line rs old new → KeepsSetup old new
+setup_asked old new a = record { setup = a.goes.setup; tables = a.goes.tables }
+
 -- one of some data blocks is one, also behind calls
 pub data_at : (old new : Stage) (unit first count k : ℕ) → k < count → KeepsSetup old new → ((u : ℕ) → IsSetUp old.world u → IsSetUp new.world u) → AreData old.world unit first count
     → IsData new.world unit (first + k)
 data_at old new unit first count k lt keeps units are =
-    data_stays old new unit (first + k) keeps.setup units
-    (record { unit_is = are.unit_is; inside = inside first k count (limit_of (kind_at old.world unit)) lt are.inside })
+    record {
+      unit_is = units unit are.unit_is;
+      inside = subst (λ (kind : DriveKind). first + k < limit_of kind) (sym (kind_stays old new unit keeps.setup are.unit_is (units unit are.unit_is)))
+          (inside first k count (limit_of (kind_at old.world unit)) lt are.inside);
+    }
   where
     inside : (a k n m : ℕ) → k < n → a + n ≤ m → a + k < m
     inside a k n m lt le = omega (arith, lt, le)

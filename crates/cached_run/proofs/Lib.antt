@@ -7,7 +7,7 @@ mod Legal
 mod Inputs
 mod Sayings
 mod Goings
-mod Lines
+mod ScriptLines
 mod Whole
 mod Starts
 mod Attachings

@@ -19,9 +19,9 @@ use Rattle.cached_blocks.specs.Requests.{Map}
 use Rattle.cached_blocks.specs.Entries.{State, entry_of}
 use Rattle.cached_blocks.specs.Contents.{bytes_or, cached, Fits, AllFit, IsOne, Takes}
 use Rattle.cached_blocks.proofs.Lookups.{IsKey, is_key, found_key, found_all}
-use Rattle.buffer_cache.specs.Calls.{Writes, Holds}
+use Rattle.buffer_cache.specs.Calls.{IfTold, Writes, Holds}
 use Rattle.cached_run.specs.Answers.{Replacement, with_replacement, after}
-use Rattle.cached_run.specs.Leaving.{IfTold, IsLeft, Leaves, Makes, KeepsSetup, Does, usable_in, spread}
+use Rattle.cached_run.specs.Leaving.{IsLeft, Leaves, Makes, KeepsSetup, Does, usable_in, spread}
 use Rattle.cached_run.proofs.Replacings.{after_more}
 use Rattle.cached_run.proofs.Firsts.{all_usable, some_usable, at_least_usable}
 use Rattle.cached_run.proofs.Leavings.{leaves_none, makes_none, leaves_more, leaves_then, makes_then, left_read, leaves_write}
