@@ -6,6 +6,7 @@ mod Writings
 mod Legal
 mod Inputs
 mod Sayings
+mod Askings
 mod Goings
 mod ScriptLines
 mod Whole
