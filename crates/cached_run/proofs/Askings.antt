@@ -73,6 +73,12 @@ write_eof kind a fill s here met t tables fit = record {
   says = λ lines. eof_said kind (cached s.entries (map_at here) a.unit) (request_of a (Some (filled a.count fill))) lines met;
 }
 
+pub wrote_with : (kind : DriveKind) (a : Asked) (fill : ℕ) (how : AnswerKind) (lines : List (List ℕ)) (s s' : State) (old new : Stage) → WriteAs kind a fill how s s' old new
+    → IfTold s old new (Does (list_of kind (cached s.entries (map_at old)) a fill) (λ contents. IsSaid kind (contents a.unit) (request_of a (Some (filled a.count fill))) how lines) s s' old new)
+wrote_with kind a fill how lines s s' old new does t tables fit =
+    let d = does t tables fit in
+    record { leaves = d.leaves; makes = d.makes; says = d.says lines }
+
 module _ (kind : DriveKind) (a : Asked) (fill first count : ℕ) (from : List ℕ) (s : State) (old new : Stage) (met : admission kind C a.block a.count ≡ Inside first) (is : first ≡ first_of kind C + a.block)
     (same : count ≡ a.count) (from_is : from ≡ one_filled fill) where
   its_list : spread (usable_in (cached s.entries (map_at old)) a.unit first count) a.unit first from ≡ list_of kind (cached s.entries (map_at old)) a fill

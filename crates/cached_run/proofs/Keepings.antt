@@ -1,5 +1,6 @@
 -- What calls keep, one behind the other.
 use Rattle.std.proofs.Common.{◌≡◌, ℕ, List, ◌+◌, ◌<◌, ◌≤◌, IsTrue, refl, sym, ap, subst, ◌∙◌, arith}
+use Rattle.std.specs.Prelude.{Err, None}
 use Rattle.pack_geometry.specs.declared.DriveKind.{DriveKind}
 use Rattle.pack_geometry.specs.declared.DriveKind.TheVariants.{Rp06, Rm03, Rm05}
 use Rattle.pack_geometry.specs.Geometry.{limit_of}
@@ -12,6 +13,9 @@ use Rattle.driver_machine.specs.Guards.{IsSetUp}
 use Rattle.raw_io.specs.Calls.{kind_at}
 use Rattle.single_blocks.specs.Asks.{IsData, Asks}
 use Rattle.raw_io.proofs.ReadPieces.{kind_stays}
+use Rattle.buffer_cache.specs.Calls.{stop_of}
+use Rattle.buffer_cache.specs.declared.fault.CacheFault.{CacheFault}
+use Rattle.buffer_cache.specs.declared.fault.CacheFault.TheVariants as fault
 use Rattle.cached_run.specs.Leaving.{KeepsSetup, AreData}
 
 pub setup_none : (here : Stage) → KeepsSetup here here
@@ -50,3 +54,7 @@ number_small w unit first count k lt are = under first k count (limit_of (kind_a
   where
     under : (a k n m top : ℕ) → k < n → a + n ≤ m → m ≤ top → a + k ≤ top
     under a k n m top lt le most = omega (arith, lt, le, most)
+
+-- a block that can't be used stops nothing
+pub not_stopped : (A : Type 0) (why : CacheFault) → why ≡ fault.Unusable → stop_of {A = A} (Err why) ≡ None
+not_stopped A why is = ap (λ z. stop_of {A = A} (Err z)) is

@@ -13,5 +13,6 @@ mod Whole
 mod Starts
 mod Attachings
 mod Causes
+mod Playing
 mod Keepings
 mod Gatherings

@@ -1,5 +1,5 @@
 // What a line asks for, at the blocks of its unit.
-ghost use Rattle.std.specs.Prelude.{◌≡◌, ◌+◌, ◌≤◌, ℕ, None, Some, [], IfOk, OnOk, OnErr, length};
+ghost use Rattle.std.specs.Prelude.{◌≡◌, ◌+◌, ◌≤◌, ℕ, List, None, Some, [], IfOk, OnOk, OnErr, length};
 ghost use Rattle.pack_geometry.specs.Geometry.{limit_of};
 ghost use Rattle.partitions.specs.Partitions.{admission, first_of};
 ghost use Rattle.driver_machine.specs.Guards.{IsSetUp};

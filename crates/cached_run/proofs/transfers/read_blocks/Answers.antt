@@ -1,10 +1,10 @@
 use Rattle.std.proofs.Common.{◌≡◌, ◌<◌, ◌+◌, ℕ, [], length, refl, sym, ◌∙◌, arith}
-use Rattle.std.specs.Prelude.{None, Some, slice_set}
+use Rattle.std.specs.Prelude.{None, slice_set}
 use Rattle.std.proofs.lemmas.List.{length-set}
 use Rattle.blocking_io.specs.Calls.{Stage}
 use Rattle.raw_io.specs.Transfers.{site}
 use Rattle.raw_io.proofs.Exits.{keeps_none, keeps_join}
-use Rattle.cached_run.proofs.Keepings.{setup_none, setup_more, setup_asked, data_at}
+use Rattle.cached_run.proofs.Keepings.{setup_none, setup_more, setup_asked, data_at, not_stopped}
 use Rattle.cached_run.proofs.Readings.{AreGiven, given_none, given_more, given_all, given_end, given_stops, set_behind}
 use Rattle.cached_run.proofs.transfers.read_blocks.Goals as goal
 
@@ -53,20 +53,7 @@ returns-in-Err-Unusable-clause-reads g c =
     let new : Stage = site g.P.Packs.tells g.P.Packs.held g.T.Sink.tells g.T.Sink.taken c.read.new.subsystem.world c.read.new.packs c.read.new.trace in
     given_end c.args.line c.args.unit c.args.first c.args.count c.loop-k.k c.loop-k.blocks.items (slice_set c.loop-k.blocks.items c.loop-k.k c.read.new.into) c.args.cache.now c.loop-k.cache c.read.new.self old mid new
     c.loop-k-test.true (set_behind c.loop-k.blocks.items c.loop-k.k c.read.new.into) c.loop-k.invariant.setup c.in-Err-Unusable.ensures.keeps.never_again c.loop-k.invariant.so_far
-    (c.in-Err-Unusable.ensures.reads refl) c.in-Err-Unusable.ensures.holds
-
-pub returns-in-Err-Unusable-clause-setup : goal.returns-in-Err-Unusable-clause-setup
-returns-in-Err-Unusable-clause-setup g c =
-    let old : Stage = site g.P.Packs.tells g.P.Packs.held g.T.Sink.tells g.T.Sink.taken c.args.subsystem.now.world c.args.packs.now c.args.trace.now in
-    let mid : Stage = site g.P.Packs.tells g.P.Packs.held g.T.Sink.tells g.T.Sink.taken c.loop-k.subsystem.world c.loop-k.packs c.loop-k.trace in
-    let new : Stage = site g.P.Packs.tells g.P.Packs.held g.T.Sink.tells g.T.Sink.taken c.read.new.subsystem.world c.read.new.packs c.read.new.trace in
-    let reads = c.in-Err-Unusable.ensures.reads refl in
-    setup_more old mid new c.in-Err-Unusable.ensures.keeps.never_again c.loop-k.invariant.setup (setup_asked mid new reads.asks)
-
-pub returns-in-Err-Unusable-clause-keeps : goal.returns-in-Err-Unusable-clause-keeps
-returns-in-Err-Unusable-clause-keeps g c =
-    keeps_join g.P.Packs.tells g.P.Packs.faults g.T.Sink.tells g.T.Sink.faults c.args.subsystem.now c.loop-k.subsystem c.read.new.subsystem c.args.packs.now c.loop-k.packs c.read.new.packs
-    c.args.trace.now c.loop-k.trace c.read.new.trace None c.loop-k.invariant.keeps c.in-Err-Unusable.ensures.keeps
+    (c.in-Err-Unusable.ensures.reads (not_stopped (Unit {0}) c.in-Err-Unusable.field-0 c.in-Err-Unusable.field-0-is)) c.in-Err-Unusable.ensures.holds
 
 pub returns-in-Err-Stop-clause-stops : goal.returns-in-Err-Stop-clause-stops
 returns-in-Err-Stop-clause-stops g c =
@@ -75,11 +62,6 @@ returns-in-Err-Stop-clause-stops g c =
     let new : Stage = site g.P.Packs.tells g.P.Packs.held g.T.Sink.tells g.T.Sink.taken c.read.new.subsystem.world c.read.new.packs c.read.new.trace in
     given_stops c.args.unit (c.args.first + c.loop-k.k) (λ contents. AreGiven contents c.args.unit c.args.first c.loop-k.k c.loop-k.blocks.items) c.args.cache.now c.loop-k.cache old mid new
     c.loop-k.invariant.setup c.in-Err-Stop.ensures.keeps.never_again c.loop-k.invariant.so_far c.in-Err-Stop.ensures.holds
-
-pub returns-in-Err-Stop-clause-keeps : goal.returns-in-Err-Stop-clause-keeps
-returns-in-Err-Stop-clause-keeps g c =
-    keeps_join g.P.Packs.tells g.P.Packs.faults g.T.Sink.tells g.T.Sink.faults c.args.subsystem.now c.loop-k.subsystem c.read.new.subsystem c.args.packs.now c.loop-k.packs c.read.new.packs
-    c.args.trace.now c.loop-k.trace c.read.new.trace (Some c.in-Err-Stop.stop) c.loop-k.invariant.keeps c.in-Err-Stop.ensures.keeps
 
 pub returns-clause-reads : goal.returns-clause-reads
 returns-clause-reads g c =

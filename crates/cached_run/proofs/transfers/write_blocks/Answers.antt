@@ -1,9 +1,9 @@
 use Rattle.std.proofs.Common.{◌≡◌, ◌<◌, ◌+◌, ℕ, refl, arith}
-use Rattle.std.specs.Prelude.{None, Some}
+use Rattle.std.specs.Prelude.{None}
 use Rattle.blocking_io.specs.Calls.{Stage}
 use Rattle.raw_io.specs.Transfers.{site}
 use Rattle.raw_io.proofs.Exits.{keeps_none, keeps_join}
-use Rattle.cached_run.proofs.Keepings.{setup_none, setup_more, setup_asked, data_at}
+use Rattle.cached_run.proofs.Keepings.{setup_none, setup_more, setup_asked, data_at, not_stopped}
 use Rattle.cached_run.proofs.Writings.{written_none, written_more, written_all, written_end, written_stops}
 use Rattle.cached_run.proofs.transfers.write_blocks.Goals as goal
 
@@ -45,20 +45,7 @@ returns-in-Err-Unusable-clause-writes g c =
     let mid : Stage = site g.P.Packs.tells g.P.Packs.held g.T.Sink.tells g.T.Sink.taken c.loop-k.subsystem.world c.loop-k.packs c.loop-k.trace in
     let new : Stage = site g.P.Packs.tells g.P.Packs.held g.T.Sink.tells g.T.Sink.taken c.write.new.subsystem.world c.write.new.packs c.write.new.trace in
     written_end c.args.line c.args.unit c.args.first c.args.count c.loop-k.k c.args.from.now c.args.cache.now c.loop-k.cache c.write.new.self old mid new c.loop-k-test.true
-    c.loop-k.invariant.setup c.in-Err-Unusable.ensures.keeps.never_again c.loop-k.invariant.so_far (c.in-Err-Unusable.ensures.writes refl) c.in-Err-Unusable.ensures.holds
-
-pub returns-in-Err-Unusable-clause-setup : goal.returns-in-Err-Unusable-clause-setup
-returns-in-Err-Unusable-clause-setup g c =
-    let old : Stage = site g.P.Packs.tells g.P.Packs.held g.T.Sink.tells g.T.Sink.taken c.args.subsystem.now.world c.args.packs.now c.args.trace.now in
-    let mid : Stage = site g.P.Packs.tells g.P.Packs.held g.T.Sink.tells g.T.Sink.taken c.loop-k.subsystem.world c.loop-k.packs c.loop-k.trace in
-    let new : Stage = site g.P.Packs.tells g.P.Packs.held g.T.Sink.tells g.T.Sink.taken c.write.new.subsystem.world c.write.new.packs c.write.new.trace in
-    let writes = c.in-Err-Unusable.ensures.writes refl in
-    setup_more old mid new c.in-Err-Unusable.ensures.keeps.never_again c.loop-k.invariant.setup (setup_asked mid new writes.asks)
-
-pub returns-in-Err-Unusable-clause-keeps : goal.returns-in-Err-Unusable-clause-keeps
-returns-in-Err-Unusable-clause-keeps g c =
-    keeps_join g.P.Packs.tells g.P.Packs.faults g.T.Sink.tells g.T.Sink.faults c.args.subsystem.now c.loop-k.subsystem c.write.new.subsystem c.args.packs.now c.loop-k.packs c.write.new.packs
-    c.args.trace.now c.loop-k.trace c.write.new.trace None c.loop-k.invariant.keeps c.in-Err-Unusable.ensures.keeps
+    c.loop-k.invariant.setup c.in-Err-Unusable.ensures.keeps.never_again c.loop-k.invariant.so_far (c.in-Err-Unusable.ensures.writes (not_stopped (Unit {0}) c.in-Err-Unusable.field-0 c.in-Err-Unusable.field-0-is)) c.in-Err-Unusable.ensures.holds
 
 pub returns-in-Err-Stop-clause-stops : goal.returns-in-Err-Stop-clause-stops
 returns-in-Err-Stop-clause-stops g c =
@@ -67,11 +54,6 @@ returns-in-Err-Stop-clause-stops g c =
     let new : Stage = site g.P.Packs.tells g.P.Packs.held g.T.Sink.tells g.T.Sink.taken c.write.new.subsystem.world c.write.new.packs c.write.new.trace in
     written_stops c.args.unit c.args.first c.args.count c.loop-k.k c.args.from.now c.args.cache.now c.loop-k.cache old mid new c.loop-k-test.true
     c.loop-k.invariant.setup c.in-Err-Stop.ensures.keeps.never_again c.loop-k.invariant.so_far c.in-Err-Stop.ensures.holds
-
-pub returns-in-Err-Stop-clause-keeps : goal.returns-in-Err-Stop-clause-keeps
-returns-in-Err-Stop-clause-keeps g c =
-    keeps_join g.P.Packs.tells g.P.Packs.faults g.T.Sink.tells g.T.Sink.faults c.args.subsystem.now c.loop-k.subsystem c.write.new.subsystem c.args.packs.now c.loop-k.packs c.write.new.packs
-    c.args.trace.now c.loop-k.trace c.write.new.trace (Some c.in-Err-Stop.stop) c.loop-k.invariant.keeps c.in-Err-Stop.ensures.keeps
 
 pub returns-clause-writes : goal.returns-clause-writes
 returns-clause-writes g c =
