@@ -135,10 +135,10 @@ never_long (Err (fault.TooLong unit length_is)) c script tells packs = absurd (c
 never_long (Err fault.Store) c script tells packs = tt
 never_long (Err fault.Sink) c script tells packs = tt
 
-pub leaves_as : {T Q : Type 0} (result : Result T CachedPlayFault) (script : Script) (first left : ℕ → Pack) (out trace : Took) → OnErr result (Q → CachedStops script first left out)
+pub leaves_as : {T : Type 0} (Q : Type 0) (result : Result T CachedPlayFault) (script : Script) (first left : ℕ → Pack) (out trace : Took) → OnErr result (Q → CachedStops script first left out)
     → IfErr result (λ why. Q → CachedLeaves why script first left out trace)
-leaves_as (Ok value) script first left out trace stops = tt
-leaves_as (Err fault.Memory) script first left out trace stops = λ q. tt
-leaves_as (Err (fault.TooLong unit length_is)) script first left out trace stops = λ q. tt
-leaves_as (Err fault.Store) script first left out trace stops = λ q. inr (stops q)
-leaves_as (Err fault.Sink) script first left out trace stops = stops
+leaves_as Q (Ok value) script first left out trace stops = tt
+leaves_as Q (Err fault.Memory) script first left out trace stops = λ q. tt
+leaves_as Q (Err (fault.TooLong unit length_is)) script first left out trace stops = λ q. tt
+leaves_as Q (Err fault.Store) script first left out trace stops = λ q. inr (stops q)
+leaves_as Q (Err fault.Sink) script first left out trace stops = stops

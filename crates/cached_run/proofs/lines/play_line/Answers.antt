@@ -8,7 +8,7 @@ use Rattle.cached_run.proofs.lines.play_line.Goals as goal
 pub returns-in-Unit-clause-goes : goal.returns-in-Unit-clause-goes
 returns-in-Unit-clause-goes g c =
     let here : Scene = scene g.P.Packs.tells g.P.Packs.held g.O.Sink.tells g.O.Sink.taken g.O.Sink.faults g.T.Sink.tells g.T.Sink.taken c.args.subsystem.now.world c.args.packs.now c.args.out.now c.args.trace.now in
-    λ t. line_goes c.args.line.now c.from-number.result (says.Unit c.in-Unit.unit c.in-Unit.kind) c.in-Unit.is c.from-number.ensures c.args.cache.now c.args.cache.now here here (goes_none c.args.cache.now here)
+    λ t. line_goes c.args.line.now c.from-number.result _ c.in-Unit.is c.from-number.ensures c.args.cache.now c.args.cache.now here here (goes_none c.args.cache.now here)
 
 pub returns-in-Unit-clause-units : goal.returns-in-Unit-clause-units
 returns-in-Unit-clause-units g c =

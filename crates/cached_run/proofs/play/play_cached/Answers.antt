@@ -1,4 +1,4 @@
-use Rattle.std.proofs.Common.{◌≡◌, ◌+◌, length, refl, ap}
+use Rattle.std.proofs.Common.{◌≡◌, ◌+◌, IsTrue, length, refl, ap}
 use Rattle.trace_replay.specs.Script.{Drain}
 use Rattle.hp_core.specs.Setups.{setups_of}
 use Rattle.run_stops.specs.Stops.{Took, took}
@@ -60,7 +60,7 @@ returns-clause-stopped g c =
     let first : Scene = scene g.P.Packs.tells g.P.Packs.held g.O.Sink.tells g.O.Sink.taken g.O.Sink.faults g.T.Sink.tells g.T.Sink.taken c.in_ok-subsystem.subsystem.world c.attach_units.new.packs c.args.out.now c.args.trace.now in
     let now : Scene = scene g.P.Packs.tells g.P.Packs.held g.O.Sink.tells g.O.Sink.taken g.O.Sink.faults g.T.Sink.tells g.T.Sink.taken c.play_lines.new.subsystem.world c.play_lines.new.packs c.play_lines.new.out c.play_lines.new.trace in
     let out : Took = took g.O.Sink.tells g.O.Sink.taken g.O.Sink.faults c.args.out.now c.play_lines.new.out in
-    leaves_as c.play_lines.result (meaning_of s) old new out (took g.T.Sink.tells g.T.Sink.taken g.T.Sink.faults c.args.trace.now c.play_lines.new.trace)
+    leaves_as (IsTrue (g.P.Packs.tells c.play_lines.new.packs)) c.play_lines.result (meaning_of s) old new out (took g.T.Sink.tells g.T.Sink.taken g.T.Sink.faults c.args.trace.now c.play_lines.new.trace)
     (on_err_map c.play_lines.result (λ stops t.
     let t' = lines.told.never_again t in
     let read = units.tables t' in
