@@ -4,10 +4,11 @@ use Rattle.std.specs.Prelude.{if◌then◌else◌, slice_index_or}
 use Rattle.std.proofs.lemmas.Bool.{eq-eqb, ne_eqb}
 use Rattle.std.proofs.lemmas.Bool.Decides.{eqb_tells}
 use Rattle.std.proofs.lemmas.Option.{none-some, same_Some}
-use Rattle.std.proofs.lemmas.List.{take_more, take_all, map-append, length-replicate}
+use Rattle.std.proofs.lemmas.List.{take_more, take_all, map-append, length-replicate, get_or_default}
 use Rattle.std.proofs.Math.Seq.{drop-cons}
 use Rattle.std.proofs.lemmas.List.{take-append-drop}
 use Rattle.pack_geometry.specs.declared.DriveKind.{DriveKind}
+use Rattle.pack_geometry.specs.declared.DriveKind.TheVariants.{Rp06}
 use Rattle.subsystem_spec.specs.Requests.{Request, IsRequest}
 use Rattle.trace_replay.specs.Script.{Statement, Declares, Plays, Line, Numbered, Input, Drain, declared_by, drives_in, drives_of, with_input, inputs_before, inputs_of}
 use Rattle.driver_machine.specs.World.{World}
@@ -70,6 +71,13 @@ some_declared u (x ∷ xs) before has = elim (some_declared u xs (kind_after u x
   | inl here ↦ some_step u x.statement before (drives_in (map line_of xs) u) here
   | inr later ↦ inr (still_declared u x.statement (drives_in (map line_of xs) u) later)
 ]
+
+-- ---- a line that is read off a list of them
+abbrev pub blank : Said
+blank = record { number = 0; statement = says.Unit 0 Rp06 }
+
+pub item_is : (xs lines : List Said) (i : ℕ) → xs ≡ lines → i < length xs → slice_index_or xs i blank ≡ slice_index_or lines i (slice_index_or xs i blank)
+item_is xs lines i same lt = get_or_default xs i blank (slice_index_or xs i blank) lt ∙ ap (λ (zs : List Said). slice_index_or zs i (slice_index_or xs i blank)) same
 
 -- ---- AT A LINE
 record AtLine (before : List Said) (line : Said) : Type 0 where

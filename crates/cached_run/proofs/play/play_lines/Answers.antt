@@ -8,7 +8,7 @@ use Rattle.cached_run.specs.Lines.{inputs_till, input_at}
 use Rattle.cached_run.specs.Meaning.{line_of, meaning_of}
 use Rattle.cached_run.proofs.Causes.{same, caused_more, more_caused}
 use Rattle.cached_run.proofs.Playing.{halts_script}
-use Rattle.cached_run.proofs.ScriptLines.{number_is, may_play, inputs_next, inputs_split, inputs_all}
+use Rattle.cached_run.proofs.ScriptLines.{blank, item_is, number_is, may_play, inputs_next, inputs_split, inputs_all}
 use Rattle.cached_run.proofs.Starts.{far_none}
 use Rattle.cached_run.proofs.play.play_lines.Goals as goal
 
@@ -30,18 +30,18 @@ pub play_line-requires-clause-line : goal.play_line-requires-clause-line
 play_line-requires-clause-line g c =
     let s = c.args.script.now in
     let i = c.loop-line.line-index in
-    let line = c.line-item.result in
+    let line : Said = slice_index_or c.lines-line-items.result.now i blank in
     let lt : i < length s.lines = subst (λ (xs : List Said). i < length xs) c.lines-line-items.ensures c.loop-line-test.true in
-    let is : line ≡ slice_index_or s.lines i line = subst (λ (xs : List Said). line ≡ slice_index_or xs i line) c.lines-line-items.ensures c.line-item.is in
+    let is : line ≡ slice_index_or s.lines i line = item_is c.lines-line-items.result.now s.lines i c.lines-line-items.ensures c.loop-line-test.true in
     number_is s i line c.law.ensures lt is
 
 pub play_line-requires-clause-ask : goal.play_line-requires-clause-ask
 play_line-requires-clause-ask g c =
     let s = c.args.script.now in
     let i = c.loop-line.line-index in
-    let line = c.line-item.result in
+    let line : Said = slice_index_or c.lines-line-items.result.now i blank in
     let lt : i < length s.lines = subst (λ (xs : List Said). i < length xs) c.lines-line-items.ensures c.loop-line-test.true in
-    let is : line ≡ slice_index_or s.lines i line = subst (λ (xs : List Said). line ≡ slice_index_or xs i line) c.lines-line-items.ensures c.line-item.is in
+    let is : line ≡ slice_index_or s.lines i line = item_is c.lines-line-items.result.now s.lines i c.lines-line-items.ensures c.loop-line-test.true in
     may_play s i line c.law.ensures lt is c.args.subsystem.now.world c.loop-line.subsystem.world c.requires.units c.loop-line.invariant.units
 
 pub loop-line-preserved : goal.loop-line-preserved
@@ -50,9 +50,9 @@ loop-line-preserved g c =
     let new : Scene = scene g.P.Packs.tells g.P.Packs.held g.O.Sink.tells g.O.Sink.taken g.O.Sink.faults g.T.Sink.tells g.T.Sink.taken c.play_line.new.subsystem.world c.play_line.new.packs c.play_line.new.out c.play_line.new.trace in
     let s = c.args.script.now in
     let i = c.loop-line.line-index in
-    let line = c.line-item.result in
+    let line : Said = slice_index_or c.lines-line-items.result.now i blank in
     let lt : i < length s.lines = subst (λ (xs : List Said). i < length xs) c.lines-line-items.ensures c.loop-line-test.true in
-    let is : line ≡ slice_index_or s.lines i line = subst (λ (xs : List Said). line ≡ slice_index_or xs i line) c.lines-line-items.ensures c.line-item.is in
+    let is : line ≡ slice_index_or s.lines i line = item_is c.lines-line-items.result.now s.lines i c.lines-line-items.ensures c.loop-line-test.true in
     let so = c.loop-line.invariant in
     let step = c.in_ok-play_line.ensures in
     let later_before = so.later in
@@ -84,9 +84,9 @@ returns-in_err-play_line-clause-stops g c =
     let new : Scene = scene g.P.Packs.tells g.P.Packs.held g.O.Sink.tells g.O.Sink.taken g.O.Sink.faults g.T.Sink.tells g.T.Sink.taken c.play_line.new.subsystem.world c.play_line.new.packs c.play_line.new.out c.play_line.new.trace in
     let s = c.args.script.now in
     let i = c.loop-line.line-index in
-    let line = c.line-item.result in
+    let line : Said = slice_index_or c.lines-line-items.result.now i blank in
     let lt : i < length s.lines = subst (λ (xs : List Said). i < length xs) c.lines-line-items.ensures c.loop-line-test.true in
-    let is : line ≡ slice_index_or s.lines i line = subst (λ (xs : List Said). line ≡ slice_index_or xs i line) c.lines-line-items.ensures c.line-item.is in
+    let is : line ≡ slice_index_or s.lines i line = item_is c.lines-line-items.result.now s.lines i c.lines-line-items.ensures c.loop-line-test.true in
     on_err c.from_residual.result _ (λ t tables.
     halts_script (meaning_of s) (inputs_till s i) (input_at line) (inputs_before (record { line = s.count + 1; input = Drain } ∷ []) (map line_of (drop (suc i) s.lines))) c.loop-line.cache first here new
     (inputs_split s i line c.law.ensures lt is) (c.loop-line.invariant.far (c.in_err-play_line.ensures.told.never_again t) tables) (c.in_err-play_line.ensures.halts t))
