@@ -21,7 +21,7 @@ use Rattle.cached_run.specs.Attaching.{IsFoundLong, HasRoom, Adds, RefusesLine}
 use Rattle.cached_run.specs.Faults.{IsLongFor}
 use Rattle.cached_run.specs.Lines.{lines_before}
 use Rattle.cached_run.specs.Meaning.{statement_of, line_of, meaning_of}
-use Rattle.cached_run.proofs.ScriptLines.{lines_more, lines_split, first_at, lines_all}
+use Rattle.cached_run.proofs.Lines.{lines_more, lines_split, first_at, lines_all}
 
 set_up_as : {tells : Bool} {packs : ℕ → Pack} {u : ℕ} {kind : DriveKind} {s : Setup} → IsSet tells packs u kind s → IsSetupOf u kind s
 set_up_as set = record { unit_is = set.unit_is; kind_is = set.kind_is; good = set.good }

@@ -86,12 +86,7 @@ at_least (suc left) (suc n) blocks first k le usable =
 
 pub at_least_usable : (contents : Map) (unit first count n : ℕ) → n ≤ count → ((j : ℕ) → j < n → IsSome (contents unit (first + j))) → n ≤ usable_in contents unit first count
 at_least_usable contents unit first count n le usable =
-    subst (λ z. n ≤ usable_of (first_unusable count (contents unit) first 0) z) (sym (none count))
-    (from_none n (usable_of (first_unusable count (contents unit) first 0) (0 + count))
-    (at_least count n (contents unit) first 0 le (λ j lt. subst (λ n. IsSome (contents unit (first + n))) (none j) (usable j lt))))
+    at_least count n (contents unit) first 0 le (λ j lt. subst (λ n. IsSome (contents unit (first + n))) (none j) (usable j lt))
   where
     none : (j : ℕ) → j ≡ 0 + j
     none j = omega arith
-
-    from_none : (n m : ℕ) → 0 + n ≤ m → n ≤ m
-    from_none n m le = omega (arith, le)

@@ -30,10 +30,10 @@ use Rattle.cached_blocks.specs.declared.Entry.{Entry}
 use Rattle.cached_blocks.specs.Entries.{State, is_of, entry_of, unchanged, flushed}
 use Rattle.cached_blocks.specs.Contents.{bytes_or, cached, Fits, AllFit, Flushes}
 use Rattle.cached_blocks.proofs.Lookups.{IsKey, is_key, found_key, found_all}
-use Rattle.buffer_cache.specs.Calls.{IfTold, Holds, Syncs}
+use Rattle.buffer_cache.specs.Calls.{Holds, Syncs}
 use Rattle.cached_run.specs.Answers.{Replacement, answer_with, answers_of, map_of_inputs, text_of, replaced_with, replacements_of, after}
 use Rattle.cached_run.specs.Theorem.{IsAfter, EndsWithSync, HasNoSync, AreParted}
-use Rattle.cached_run.specs.Leaving.{IsLeft, Leaves, Makes, KeepsSetup, Does}
+use Rattle.cached_run.specs.Leaving.{IfTold, IsLeft, Leaves, Makes, KeepsSetup, Does}
 use Rattle.cached_run.specs.Saying.{said_text, IsSaid, AreLong}
 use Rattle.cached_run.specs.Going.{Scene, with_out, drives_at, blocks_at, HoldsSome, IsFar, HasHalted, GoesOn, Halts, SyncGoesOn, SyncHalts, syncs_at}
 use Rattle.cached_run.proofs.Replacings.{after_more, same_map, take_first, take_second}
@@ -48,8 +48,8 @@ ends_with (x ∷ []) n is = is
 ends_with (x ∷ y ∷ ys) n is = ends_with (y ∷ ys) n is
 
 none_more : (xs : List Numbered) (n : Numbered) → (n.input ≡ Drain → ⊥) → HasNoSync xs → HasNoSync (xs ++ n ∷ [])
-none_more [] n other none = (other, tt)
-none_more (x ∷ xs) n other none = (none.0, none_more xs n other none.1)
+none_more [] n no none = (no, tt)
+none_more (x ∷ xs) n no none = (none.0, none_more xs n no none.1)
 
 no_drain : {r : Request} → Submit r ≡ Drain → ⊥
 no_drain e = cc

@@ -15,7 +15,7 @@ use Rattle.cached_blocks.specs.Entries.{State}
 use Rattle.cached_blocks.specs.Contents.{cached, AllFit, IsOne}
 use Rattle.buffer_cache.specs.Calls.{Holds}
 use Rattle.cached_run.specs.Answers.{Replacement, with_replacement, after}
-use Rattle.cached_run.specs.Leaving.{SomeAfter, IsLeft, Leaves, Makes, KeepsSetup}
+use Rattle.cached_run.specs.Leaving.{IfTold, SomeAfter, IsLeft, Leaves, Makes, KeepsSetup}
 use Rattle.cached_run.proofs.Replacings.{after_more, same_map, take_first, take_second}
 
 -- ---- nothing is done

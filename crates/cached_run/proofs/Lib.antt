@@ -6,13 +6,10 @@ mod Writings
 mod Legal
 mod Inputs
 mod Sayings
-mod Askings
 mod Goings
-mod ScriptLines
+mod Lines
 mod Whole
 mod Starts
 mod Attachings
 mod Causes
-mod Playing
 mod Keepings
-mod Gatherings

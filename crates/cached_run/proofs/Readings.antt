@@ -10,8 +10,8 @@ use Rattle.raw_io.specs.Calls.{map_at}
 use Rattle.cached_blocks.specs.Requests.{Map}
 use Rattle.cached_blocks.specs.Entries.{State}
 use Rattle.cached_blocks.specs.Contents.{cached, AllFit, Gives}
-use Rattle.buffer_cache.specs.Calls.{IfTold, Reads, Holds}
-use Rattle.cached_run.specs.Leaving.{Leaves, Makes, KeepsSetup, AreRead, Does, usable_in}
+use Rattle.buffer_cache.specs.Calls.{Reads, Holds}
+use Rattle.cached_run.specs.Leaving.{IfTold, Leaves, Makes, KeepsSetup, AreRead, Does, usable_in}
 use Rattle.cached_run.proofs.Firsts.{all_usable, some_usable}
 use Rattle.cached_run.proofs.Leavings.{leaves_none, makes_none, leaves_then, makes_then, leaves_read}
 
@@ -73,13 +73,6 @@ given_all unit first count k blocks s s' old new same so_far t tables fit =
         bytes = λ j lt. d.says j (subst (λ n. j < n) (sym same) lt);
       };
     }
-
--- a block that is set behind the first ones leaves them
-pub set_behind : (blocks : List (List ℕ)) (k : ℕ) (into : List ℕ) (j : ℕ) → j < k → slice_index_or (slice_set blocks k into) j [] ≡ slice_index_or blocks j []
-set_behind blocks k into j lt = get_or-set_other blocks k j into [] (apart j k lt)
-  where
-    apart : (j k : ℕ) → j < k → j ≢ k
-    apart j k lt e = omega (arith, lt, e)
 
 -- OR NOT: this one can't be used
 pub given_end : (line unit first count k : ℕ) (blocks blocks' : List (List ℕ)) (s s' s'' : State) (old mid new : Stage) → k < count → ((j : ℕ) → j < k → slice_index_or blocks' j [] ≡ slice_index_or blocks j [])

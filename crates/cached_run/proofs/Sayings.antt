@@ -130,6 +130,9 @@ kind_whole : (n count : ℕ) (whole : AnswerKind) → n ≡ count → kind_by n 
 kind_whole n count whole e = ap (λ t. if t then answer.Error cause.Unforwarded n else whole) (not_below n count e)
 
 module _ (kind : DriveKind) (blocks : Blocks) (r : Request) (done : ℕ) (lines : List (List ℕ)) (met : admission kind r.part r.block r.count ≡ Inside (first_of kind r.part + r.block)) where
+
+
+
   unforwarded : (whole : AnswerKind) (d : ℕ) → first_unusable r.count blocks (first_of kind r.part + r.block) 0 ≡ Some d → done ≡ d → IsSaid kind blocks r (kind_by done r.count whole) lines
   unforwarded whole d e same =
       let lt = (first_is r.count blocks (first_of kind r.part + r.block) 0 d e).below in
@@ -168,10 +171,10 @@ read_said kind blocks r done lines reads whole room met is are = by (first_unusa
         let all : done ≡ r.count = is ∙ ap (λ z. usable_of z r.count) e in
         subst (λ z. IsSaid kind blocks r z lines) (sym (kind_whole done r.count (answer.ReadOk r.count 512) all))
         (λ long line.
-        sym (read_blocks_said blocks (first_of kind r.part + r.block) r whole lines long room (λ k lt. are k (subst (λ z. k < z) (sym all) lt)) line r.id)
-        ∙ read_text blocks (first_of kind r.part + r.block) r whole lines long room (λ k lt. are k (subst (λ z. k < z) (sym all) lt)) line r.id
-        ∙ said_as kind blocks r lines (ReadOk (bytes_of_first r.count blocks (first_of kind r.part + r.block) r))
-        (answered_whole kind blocks r done lines met e ∙ ap (λ z. if is_some z then WriteOk else ReadOk (bytes_of_first r.count blocks (first_of kind r.part + r.block) r)) reads) line)
+            sym (read_blocks_said blocks (first_of kind r.part + r.block) r whole lines long room (λ k lt. are k (subst (λ z. k < z) (sym all) lt)) line r.id)
+            ∙ read_text blocks (first_of kind r.part + r.block) r whole lines long room (λ k lt. are k (subst (λ z. k < z) (sym all) lt)) line r.id
+            ∙ said_as kind blocks r lines (ReadOk (bytes_of_first r.count blocks (first_of kind r.part + r.block) r))
+            (answered_whole kind blocks r done lines met e ∙ ap (λ z. if is_some z then WriteOk else ReadOk (bytes_of_first r.count blocks (first_of kind r.part + r.block) r)) reads) line)
 
 -- ---- WHAT A WRITE REPLACES: blocks all of whose bytes are one
 cut_out : (s a n x : ℕ) (ys : List ℕ) → a + s ≤ n → take s (take s (drop a (replicate n x)) ++ ys) ≡ replicate s x

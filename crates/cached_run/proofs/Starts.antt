@@ -1,6 +1,6 @@
 -- A new driver for the units of a script, and an empty cache.
 use Rattle.std.proofs.Common.{◌≡◌, ◌⊎◌, inl, inr, ℕ, ◌<◌, ◌≤◌, Bool, true, false, IsTrue, List, [], ◌∷◌, ◌++◌, length, Option, None, Some, refl, sym, ap, ◌∙◌, subst, arith, append-nil}
-use Rattle.std.specs.Prelude.{is_some, unwrap_or, min}
+use Rattle.std.specs.Prelude.{is_some, unwrap_or}
 use Rattle.std.proofs.Math.Path.{fun_ext}
 use Rattle.pack_geometry.specs.declared.DriveKind.{DriveKind}
 use Rattle.pack_geometry.specs.declared.DriveKind.TheVariants.{Rp06}
@@ -24,9 +24,7 @@ use Rattle.single_blocks.specs.Asks.{IsData}
 use Rattle.cached_blocks.specs.Entries.{State}
 use Rattle.cached_blocks.specs.Contents.{cached, AllFit}
 use Rattle.buffer_cache.specs.Calls.{MayUse}
-use Rattle.hp_core.specs.declared.start.UnitSetup.{UnitSetup as Made}
-use Rattle.hp_core.specs.Setups.{setups_of}
-use Rattle.one_run.specs.Steps.{tables_in, AreUnits, AreSetFor}
+use Rattle.one_run.specs.Steps.{AreUnits, AreSetFor}
 use Rattle.one_run.proofs.Attached.{below_or_not, unit_beyond}
 use Rattle.cached_run.specs.Going.{Scene, IsFar}
 use Rattle.cached_run.proofs.Whole.{setup_for}
@@ -105,25 +103,3 @@ far_none s here empty tables = record {
   where
     same : (n : ℕ) → n ≤ n
     same n = omega arith
-
--- ---- A NEW DRIVER, as it was made of the units that were attached
-module _ (script : Script) (units slice : List Made) (d : Driver) (same : slice ≡ units) (set : AreSetFor script (tables_in (setups_of units)) (setups_of units))
-    (is : d ≡ record { world = new_world (setups_of slice) (min 1 16384) 0; outstanding = 1; failed = false; kept = [] }) where
-  made_is : d ≡ record { world = new_world (setups_of units) 1 0; outstanding = 1; failed = false; kept = [] }
-  made_is = is ∙ ap (λ (us : List Made). record { world = new_world (setups_of us) 1 0; outstanding = 1; failed = false; kept = [] }) same
-
-  pub made_units : AreUnits script d.world
-  made_units = subst (λ (z : Driver). AreUnits script z.world) (sym made_is) (are_units script (tables_in (setups_of units)) (setups_of units) 1 0 set)
-
-  pub made_may : (s : State) → s.entries ≡ [] → MayUse s d
-  made_may s empty = may_use (setups_of units) 1 0 s d empty (omega arith) made_is
-
-  module _ (held first : ℕ → Pack) (held_is : held ≡ first) (read : AreTablesOf (drives_of script) first (tables_in (setups_of units))) where
-    pub made_setup : setup_of d.world held ≡ setup_for script (tables_in (setups_of units)) first
-    made_setup =
-        ap (λ (z : Driver). setup_of z.world held) made_is
-        ∙ ap (λ h. setup_of (new_world (setups_of units) 1 0) h) held_is
-        ∙ setup_new script (tables_in (setups_of units)) (setups_of units) 1 0 set first read
-
-    pub made_tables : HasTables (setup_of d.world held)
-    made_tables = subst HasTables (sym made_setup) read

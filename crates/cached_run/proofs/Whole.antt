@@ -121,7 +121,7 @@ module _ (script : Script) (tables : ℕ → Option Table) (old new : ℕ → Pa
         ∙ final unit block
         ∙ ap (λ (z : Setup). map_of_inputs z.drives (map_of z) (inputs_of script) unit block) set;
     rest = rest_stays script tables old new read (others_are far.others);
-    said = λ t. after_is ∙ far.said (subst IsTrue tells t) ∙ ap (λ z. z ++ text_of (answers_of (drives_at first) (blocks_at first) (inputs_of script))) (sym before)
+    out = λ t. after_is ∙ far.said (subst IsTrue tells t) ∙ ap (λ z. z ++ text_of (answers_of (drives_at first) (blocks_at first) (inputs_of script))) (sym before)
         ∙ ap (λ (z : Setup). out.before ++ text_of (answers_of z.drives (map_of z) (inputs_of script))) set;
   }
     where

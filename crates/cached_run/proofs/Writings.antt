@@ -19,27 +19,21 @@ use Rattle.cached_blocks.specs.Requests.{Map}
 use Rattle.cached_blocks.specs.Entries.{State, entry_of}
 use Rattle.cached_blocks.specs.Contents.{bytes_or, cached, Fits, AllFit, IsOne, Takes}
 use Rattle.cached_blocks.proofs.Lookups.{IsKey, is_key, found_key, found_all}
-use Rattle.buffer_cache.specs.Calls.{IfTold, Writes, Holds}
+use Rattle.buffer_cache.specs.Calls.{Writes, Holds}
 use Rattle.cached_run.specs.Answers.{Replacement, with_replacement, after}
-use Rattle.cached_run.specs.Leaving.{IsLeft, Leaves, Makes, KeepsSetup, Does, usable_in, spread}
+use Rattle.cached_run.specs.Leaving.{IfTold, IsLeft, Leaves, Makes, KeepsSetup, Does, usable_in, spread}
 use Rattle.cached_run.proofs.Replacings.{after_more}
 use Rattle.cached_run.proofs.Firsts.{all_usable, some_usable, at_least_usable}
 use Rattle.cached_run.proofs.Leavings.{leaves_none, makes_none, leaves_more, leaves_then, makes_then, left_read, leaves_write}
 
 -- ---- replacements of blocks one behind the other
 pub spread_more : (n m unit first : ℕ) (from : List ℕ) → spread (n + m) unit first from ≡ spread n unit first from ++ spread m unit (first + n) from
-spread_more zero m unit first from = ap (λ z. spread z unit first from) (zeros m) ∙ ap (λ z. spread m unit z from) (none first)
+spread_more zero m unit first from = ap (λ z. spread m unit z from) (none first)
   where
-    zeros : (z : ℕ) → 0 + z ≡ z
-    zeros z = omega arith
-
     none : (z : ℕ) → z ≡ z + 0
     none z = omega arith
-spread_more (suc n) m unit first from = ap (λ z. spread z unit first from) (over n m) ∙ ap (λ z. record { unit = unit; block = first; bytes = from } ∷ z) (spread_more n m unit (first + 1) from ∙ ap (λ z. spread n unit (first + 1) from ++ spread m unit z from) (along first n))
+spread_more (suc n) m unit first from = ap (λ z. record { unit = unit; block = first; bytes = from } ∷ z) (spread_more n m unit (first + 1) from ∙ ap (λ z. spread n unit (first + 1) from ++ spread m unit z from) (along first n))
   where
-    over : (n m : ℕ) → suc n + m ≡ suc (n + m)
-    over n m = omega arith
-
     along : (a n : ℕ) → (a + 1) + n ≡ a + suc n
     along a n = omega arith
 

@@ -16,6 +16,10 @@ use Rattle.cached_blocks.specs.Contents.{cached, AllFit}
 use Rattle.waited_requests.specs.Waited.{first_unusable}
 use Rattle.cached_run.specs.Answers.{Replacement, usable_of, after}
 
+-- what the packs told, where the driver's tables are theirs and the entries as they have them
+abbrev pub IfTold : State → (old new : Stage) → Type 0 → Type 0
+IfTold s old new P = IsTrue new.packs_tell → HasTables (setup_at old) → AllFit (map_at old) s.entries → P
+
 -- A BLOCK HOLDS what it held, or what was cached after some of these replacements.
 pub record SomeAfter (list : List Replacement) (contents : Map) (u b : ℕ) (now : Option (List ℕ)) : Type 0 where
   pub number : ℕ

@@ -32,7 +32,7 @@ pub record CachedPlays (script : Script) (old new : ℕ → Pack) (out : Took) :
       (map_of_inputs (drives_of script) (contents script tables old) (inputs_of script))
   pub held : HoldMap (drives_of script) tables new (map_of_inputs (drives_of script) (contents script tables old) (inputs_of script))
   pub rest : RestStays script tables old new
-  pub said : IsTrue out.tells → out.after ≡ out.before ++ text_of (answers_of (drives_of script) (contents script tables old) (inputs_of script))
+  pub out : IsTrue out.tells → out.after ≡ out.before ++ text_of (answers_of (drives_of script) (contents script tables old) (inputs_of script))
 
 -- A BLOCK HOLDS what its first content is after so many of the replacements, not fewer than these.
 pub record IsAfter (list : List Replacement) (least : ℕ) (first : ℕ → Blocks) (unit block : ℕ) (now : Option (List ℕ)) : Type 0 where

@@ -90,7 +90,6 @@ pub fn play_cached<P: Packs, O: Sink, T: Sink>(
     ensures causes { Rise (P.faults packs.old) (P.faults packs.new) (O.faults out.old) (O.faults out.new) (T.faults trace.old) (T.faults trace.new) result }
     ensures untouched { IsBefore result → AreUntouched (P.tells packs.new) (P.held packs.old) (P.held packs.new) out.old out.new trace.old trace.new }
 {
-    script.law();
     let units = attach_units(alloc, script, packs)?;
     let mut desk = Desk::new(alloc)?;
     let mut cache = Cache::new(alloc, capacity)?;

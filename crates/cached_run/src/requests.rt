@@ -1,5 +1,5 @@
 // What a line asks for, at the blocks of its unit.
-ghost use Rattle.std.specs.Prelude.{◌≡◌, ◌+◌, ◌≤◌, ℕ, List, None, Some, [], IfOk, OnOk, OnErr, length};
+ghost use Rattle.std.specs.Prelude.{◌≡◌, ◌+◌, ◌≤◌, ℕ, None, Some, [], IfOk, OnOk, OnErr, length};
 ghost use Rattle.pack_geometry.specs.Geometry.{limit_of};
 ghost use Rattle.partitions.specs.Partitions.{admission, first_of};
 ghost use Rattle.driver_machine.specs.Guards.{IsSetUp};
@@ -7,9 +7,9 @@ ghost use Rattle.driver_outcome.specs.Outcome.{stop_in};
 ghost use Rattle.raw_io.specs.Calls.{kind_at, map_at};
 ghost use Rattle.raw_io.specs.Transfers.{site, Keeps};
 ghost use Rattle.cached_blocks.specs.Contents.{cached};
-ghost use Rattle.buffer_cache.specs.Calls.{MayUse, IfTold};
+ghost use Rattle.buffer_cache.specs.Calls.{MayUse};
 ghost use Rattle.cached_run.specs.Answers.{replaced_with};
-ghost use Rattle.cached_run.specs.Leaving.{Leaves, KeepsSetup, Does};
+ghost use Rattle.cached_run.specs.Leaving.{IfTold, Leaves, KeepsSetup, Does};
 ghost use Rattle.cached_run.specs.Lines.{MayAsk};
 ghost use Rattle.cached_run.specs.Meaning.{request_of, filled, one_filled};
 ghost use Rattle.cached_run.specs.Saying.{kind_by, IsSaid, GivesAmong};

@@ -4,8 +4,8 @@ ghost use Rattle.driver_outcome.specs.Outcome.{stop_in};
 ghost use Rattle.raw_io.specs.Calls.{map_at};
 ghost use Rattle.raw_io.specs.Transfers.{site, Keeps};
 ghost use Rattle.cached_blocks.specs.Contents.{cached};
-ghost use Rattle.buffer_cache.specs.Calls.{MayUse, IfTold};
-ghost use Rattle.cached_run.specs.Leaving.{Leaves, KeepsSetup, AreData, AreRead, Does, usable_in, spread};
+ghost use Rattle.buffer_cache.specs.Calls.{MayUse};
+ghost use Rattle.cached_run.specs.Leaving.{IfTold, Leaves, KeepsSetup, AreData, AreRead, Does, usable_in, spread};
 
 use buffer_cache::{Cache, CacheFault};
 use driver_outcome::Stop;

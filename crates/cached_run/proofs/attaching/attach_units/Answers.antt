@@ -2,25 +2,24 @@ use Rattle.std.proofs.Common.{◌≡◌, ◌<◌, ◌≤◌, length, subst, ◌�
 use Rattle.hp_core.specs.Setups.{setups_of}
 use Rattle.cached_script.specs.declared.statement.Line.{Line as Said}
 use Rattle.cached_run.proofs.Attachings.{room_at, attached_at, told_at_line, long_at, at_fault, attached_all}
-use Rattle.cached_run.proofs.ScriptLines.{blank, item_is}
 use Rattle.cached_run.proofs.attaching.attach_units.Goals as goal
 
 pub attach_line-requires : goal.attach_line-requires
 attach_line-requires g c =
     let s = c.args.script.now in
     let i = c.loop-line.line-index in
-    let line : Said = slice_index_or c.lines-line-items.result.now i blank in
+    let line = c.line-item.result in
     let lt : i < length s.lines = subst (λ (xs : List Said). i < length xs) c.lines-line-items.ensures c.loop-line-test.true in
-    let is : line ≡ slice_index_or s.lines i line = item_is c.lines-line-items.result.now s.lines i c.lines-line-items.ensures c.loop-line-test.true in
+    let is : line ≡ slice_index_or s.lines i line = subst (λ (xs : List Said). line ≡ slice_index_or xs i line) c.lines-line-items.ensures c.line-item.is in
     record { room = room_at s i line c.law.ensures lt is }
 
 pub loop-line-preserved : goal.loop-line-preserved
 loop-line-preserved g c =
     let s = c.args.script.now in
     let i = c.loop-line.line-index in
-    let line : Said = slice_index_or c.lines-line-items.result.now i blank in
+    let line = c.line-item.result in
     let lt : i < length s.lines = subst (λ (xs : List Said). i < length xs) c.lines-line-items.ensures c.loop-line-test.true in
-    let is : line ≡ slice_index_or s.lines i line = item_is c.lines-line-items.result.now s.lines i c.lines-line-items.ensures c.loop-line-test.true in
+    let is : line ≡ slice_index_or s.lines i line = subst (λ (xs : List Said). line ≡ slice_index_or xs i line) c.lines-line-items.ensures c.line-item.is in
     let before = c.loop-line.invariant in
     let step = c.in_ok-attach_line.ensures in
     let tells = g.P.Packs.tells c.attach_line.new.packs in
@@ -42,9 +41,9 @@ pub returns-in_err-attach_line-clause-too_long : goal.returns-in_err-attach_line
 returns-in_err-attach_line-clause-too_long g c =
     let s = c.args.script.now in
     let i = c.loop-line.line-index in
-    let line : Said = slice_index_or c.lines-line-items.result.now i blank in
+    let line = c.line-item.result in
     let lt : i < length s.lines = subst (λ (xs : List Said). i < length xs) c.lines-line-items.ensures c.loop-line-test.true in
-    let is : line ≡ slice_index_or s.lines i line = item_is c.lines-line-items.result.now s.lines i c.lines-line-items.ensures c.loop-line-test.true in
+    let is : line ≡ slice_index_or s.lines i line = subst (λ (xs : List Said). line ≡ slice_index_or xs i line) c.lines-line-items.ensures c.line-item.is in
     at_fault _ _ c.from_residual.ensures.1
     (long_at s i line c.law.ensures lt is (g.P.Packs.tells c.attach_line.new.packs) (g.P.Packs.held c.loop-line.packs) (g.P.Packs.held c.args.packs.now) _ _
     (λ t. c.loop-line.invariant.same (c.in_err-attach_line.ensures.never_again t)) (λ t. c.loop-line.invariant.told (c.in_err-attach_line.ensures.never_again t))

@@ -1,14 +1,12 @@
 -- The lines of a script of the cache: which units they declare, what they ask for, and their inputs.
 use Rattle.std.proofs.Common.{◌≡◌, ◌⊎◌, inl, inr, ℕ, zero, suc, ◌+◌, ◌*◌, ◌-◌, ◌<◌, ◌≤◌, ◌==◌, Bool, true, false, List, [], ◌∷◌, ◌++◌, length, map, take, drop, replicate, Option, None, Some, refl, sym, ap, ◌∙◌, subst, arith, append-nil, append_assoc}
 use Rattle.std.specs.Prelude.{if◌then◌else◌, slice_index_or}
-use Rattle.std.proofs.lemmas.Bool.{eq-eqb, ne_eqb}
 use Rattle.std.proofs.lemmas.Bool.Decides.{eqb_tells}
 use Rattle.std.proofs.lemmas.Option.{none-some, same_Some}
-use Rattle.std.proofs.lemmas.List.{take_more, take_all, map-append, length-replicate, get_or_default}
+use Rattle.std.proofs.lemmas.List.{take_more, take_all, map-append, length-replicate}
 use Rattle.std.proofs.Math.Seq.{drop-cons}
 use Rattle.std.proofs.lemmas.List.{take-append-drop}
 use Rattle.pack_geometry.specs.declared.DriveKind.{DriveKind}
-use Rattle.pack_geometry.specs.declared.DriveKind.TheVariants.{Rp06}
 use Rattle.subsystem_spec.specs.Requests.{Request, IsRequest}
 use Rattle.trace_replay.specs.Script.{Statement, Declares, Plays, Line, Numbered, Input, Drain, declared_by, drives_in, drives_of, with_input, inputs_before, inputs_of}
 use Rattle.driver_machine.specs.World.{World}
@@ -31,11 +29,26 @@ use Rattle.cached_run.proofs.Legal.{AreAskedWell}
 abbrev Has : Option DriveKind → Type 0
 Has o = (k : DriveKind) × (o ≡ Some k)
 
+turned : (v u : ℕ) → ((v == u) ≡ true → v ≡ u) → ((v == u) ≡ false → (u == v) ≡ false)
+turned v u same not = elim (eqb_tells u v) [
+  | inl is ↦ absurd (never (subst (λ z. (z == u) ≡ false) (sym is.1) not))
+  | inr no ↦ no.0
+]
+  where
+    never : (u == u) ≡ false → ⊥
+    never e = elim (eqb_tells u u) [ | inl is ↦ absurd (both is.0 e) | inr no ↦ no.1 refl ]
+      where
+        both : {t : Bool} → t ≡ true → t ≡ false → ⊥
+        both p q = cc
+
 none_step : (u : ℕ) (st : Says) (before rest : Option DriveKind) → kind_after u st before ≡ None → rest ≡ None → (before ≡ None) × (declared_by (statement_of st) u rest ≡ None)
 none_step u (says.Unit v kind) before rest none also = elim (eqb_tells v u) [
   | inl same ↦ absurd (none-some kind (sym none ∙ ap (λ t. if t then Some kind else before) same.0))
-  | inr other ↦ (sym (ap (λ t. if t then Some kind else before) other.0) ∙ none, ap (λ t. if t then Some kind else rest) (ne_eqb u v (λ e. other.1 (sym e))) ∙ also)
+  | inr other ↦ (sym (ap (λ t. if t then Some kind else before) other.0) ∙ none, ap (λ t. if t then Some kind else rest) (turned v u (λ e. absurd (both e other.0)) other.0) ∙ also)
 ]
+  where
+    both : {t : Bool} → t ≡ true → t ≡ false → ⊥
+    both p q = cc
 none_step u (says.Read a) before rest none also = (none, also)
 none_step u (says.Write a fill) before rest none also = (none, also)
 none_step u says.Sync before rest none also = (none, also)
@@ -58,9 +71,12 @@ still_declared u says.Sync rest has = has
 
 some_step : (u : ℕ) (st : Says) (before rest : Option DriveKind) → Has (kind_after u st before) → Has before ⊎ Has (declared_by (statement_of st) u rest)
 some_step u (says.Unit v kind) before rest has = elim (eqb_tells v u) [
-  | inl same ↦ inr (kind, ap (λ t. if t then Some kind else rest) (eq-eqb u v (sym same.1)))
+  | inl same ↦ inr (kind, ap (λ t. if t then Some kind else rest) (here v u same.1))
   | inr other ↦ inl (has.0, sym (ap (λ t. if t then Some kind else before) other.0) ∙ has.1)
 ]
+  where
+    here : (v u : ℕ) → v ≡ u → (u == v) ≡ true
+    here v u e = elim (eqb_tells u v) [ | inl is ↦ is.0 | inr no ↦ absurd (no.1 (sym e)) ]
 some_step u (says.Read a) before rest has = inl has
 some_step u (says.Write a fill) before rest has = inl has
 some_step u says.Sync before rest has = inl has
@@ -71,13 +87,6 @@ some_declared u (x ∷ xs) before has = elim (some_declared u xs (kind_after u x
   | inl here ↦ some_step u x.statement before (drives_in (map line_of xs) u) here
   | inr later ↦ inr (still_declared u x.statement (drives_in (map line_of xs) u) later)
 ]
-
--- ---- a line that is read off a list of them
-abbrev pub blank : Said
-blank = record { number = 0; statement = says.Unit 0 Rp06 }
-
-pub item_is : (xs lines : List Said) (i : ℕ) → xs ≡ lines → i < length xs → slice_index_or xs i blank ≡ slice_index_or lines i (slice_index_or xs i blank)
-item_is xs lines i same lt = get_or_default xs i blank (slice_index_or xs i blank) lt ∙ ap (λ (zs : List Said). slice_index_or zs i (slice_index_or xs i blank)) same
 
 -- ---- AT A LINE
 record AtLine (before : List Said) (line : Said) : Type 0 where
@@ -205,16 +214,18 @@ module _ (a : Asked) (some : 1 ≤ a.count) (few : a.count ≤ 127) where
       whole : (bytes : List ℕ) → ◌≡◌ {A = Option (List ℕ)} (Some (filled a.count fill)) (Some bytes) → length bytes ≡ 512 * (a.count - 1) + 512
       whole bytes e = ap length (sym (same_Some (filled a.count fill) bytes e)) ∙ filled_long a.count fill ∙ counted a.count some
 
-asked_more : (number : ℕ) (st : Says) (before : List Said) (rest : List Numbered) → IsWell (known_of before) st → AreAskedWell rest → AreAskedWell (with_input number (statement_of st) rest)
-asked_more number (says.Unit v kind) before rest w all = all
-asked_more number (says.Read a) before rest w all = (read_good a w.some w.few, all)
-asked_more number (says.Write a fill) before rest w all = (write_good a w.0.some w.0.few fill, all)
-asked_more number says.Sync before rest w all = (tt, all)
-
 asked_well : (above most : ℕ) (before lines : List Said) (last : List Numbered) → AreWell above most before lines → AreAskedWell last → AreAskedWell (inputs_before last (map line_of lines))
 asked_well above most before [] last well all = all
-asked_well above most before (x ∷ xs) last well all =
-    asked_more x.number x.statement before (inputs_before last (map line_of xs)) well.1.0 (asked_well x.number most (before ++ x ∷ []) xs last well.1.1 all)
+asked_well above most before (x ∷ xs) last well all = by x.statement well.1.0
+  where
+    rest : AreAskedWell (inputs_before last (map line_of xs))
+    rest = asked_well x.number most (before ++ x ∷ []) xs last well.1.1 all
+
+    by : (st : Says) → IsWell (known_of before) st → AreAskedWell (with_input x.number (statement_of st) (inputs_before last (map line_of xs)))
+    by (says.Unit v kind) w = rest
+    by (says.Read a) w = (read_good a w.some w.few, rest)
+    by (says.Write a fill) w = (write_good a w.0.some w.0.few fill, rest)
+    by says.Sync w = (tt, rest)
 
 pub all_asked_well : (s : cached.Script) → IsScript s → AreAskedWell (inputs_of (meaning_of s))
 all_asked_well s script = asked_well 0 s.count [] s.lines (record { line = s.count + 1; input = Drain } ∷ []) script.lines (tt, tt)
