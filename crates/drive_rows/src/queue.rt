@@ -21,50 +21,70 @@ fn queue_with_all(alloc: Global, count: u32, cylinders: &[u32; 6]) -> Result<Sor
     Ok(queue)
 }
 
+/// What is served at a place, of so many.
+fn served_at(served: &[u32; 6], i: u32, count: u32) -> Option<u32> {
+    if i < count {
+        served.get(i as usize).copied()
+    } else {
+        None
+    }
+}
+
+/// What a queue answers that it should not; "" where there is nothing.
+fn otherwise(queue: &mut SortQueue, count: u32, served: &[u32; 6]) -> &'static str {
+    if queue.len() != count || queue.head() != queue.nth(0) {
+        return "its length or its head";
+    }
+    for i in 0..6u32 {
+        if queue.nth(i).map(|w| w.number) != served_at(served, i, count) {
+            return "its order";
+        }
+    }
+    for i in 0..6u32 {
+        if queue.take_head().map(|w| w.number) != served_at(served, i, count) {
+            return "what is taken";
+        }
+    }
+    if queue.len() != 0 {
+        return "what is left";
+    }
+    ""
+}
+
+/// The same of a queue in which so many joined.
+fn order_otherwise(
+    alloc: Global,
+    count: u32,
+    cylinders: &[u32; 6],
+    served: &[u32; 6],
+) -> Result<&'static str, NoMemory> {
+    let mut queue = queue_with_all(alloc, count, cylinders)?;
+    Ok(otherwise(&mut queue, count, served))
+}
+
 #[test]
 fn two_sweeps(rt: HostRuntime) -> Result<(), Fail> {
     for (count, cylinders, served) in ORDERS {
-        let mut queue = queue_with_all(rt.alloc(), count, &cylinders)?;
-        assert_eq!(rt; queue.len(), count);
-        assert_eq!(rt; queue.head(), queue.nth(0));
-        for (i, number) in served.iter().enumerate() {
-            let want = if (i as u32) < count {
-                Some(*number)
-            } else {
-                None
-            };
-            assert_eq!(rt;
-                queue.nth(i as u32).map(|w| w.number),
-                want,
-                "{i} of {cylinders:?}"
-            );
-        }
-        for (i, number) in served.iter().enumerate() {
-            let want = if (i as u32) < count {
-                Some(*number)
-            } else {
-                None
-            };
-            assert_eq!(rt;
-                queue.take_head().map(|w| w.number),
-                want,
-                "{i} of {cylinders:?}"
-            );
-        }
-        assert_eq!(rt; queue.len(), 0);
+        let word = order_otherwise(rt.alloc(), count, &cylinders, &served)?;
+        assert_eq!(rt; word, "", "{cylinders:?}");
     }
     Ok(())
+}
+
+/// Whether the last number waits at the last cylinder, alone.
+fn serves_last(queue: &mut SortQueue) -> bool {
+    let last = Waiter {
+        number: 65_535,
+        cylinder: 1023,
+    };
+    queue.take_head() == Some(last) && queue.take_head().is_none()
 }
 
 #[test]
 fn largest_queue(rt: HostRuntime) -> Result<(), Fail> {
     let mut queue = SortQueue::new(rt.alloc(), 65_536, 1024)?;
     queue.insert(65_535, 1023);
-    let last = Waiter {
-        number: 65_535,
-        cylinder: 1023,
-    };
-    assert_eq!(rt; queue.take_head(), Some(last));
-    assert_eq!(rt; queue.take_head(), None);
+    let is_so = serves_last(&mut queue);
+    assert!(rt; is_so);
     Ok(())
 }

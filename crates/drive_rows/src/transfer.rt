@@ -70,6 +70,49 @@ const SEGMENTS: [(Segment, u32, End); 4] = [
     (REST, 0, End::Failed(0)),
 ];
 
+// The transfer behind these segments; where one is not as it is said, what is otherwise.
+fn behind_segments(start: Transfer, table: &BadTable) -> Result<Transfer, &'static str> {
+    let mut transfer = start;
+    for (segment, failures, end) in SEGMENTS {
+        if transfer.segment() != segment || transfer.done() != segment.skip {
+            return Err("a segment");
+        }
+        if transfer.failures() != failures {
+            return Err("its failures");
+        }
+        match ended(transfer, end, table) {
+            Ok(Some(next)) => transfer = next,
+            _ => return Err("its end"),
+        }
+    }
+    Ok(transfer)
+}
+
+// The transfer behind 27 failures of what is left of it; where one is not as it is said, what is otherwise.
+fn behind_failures(start: Transfer) -> Result<Transfer, &'static str> {
+    let mut transfer = start;
+    for failures in 1..27 {
+        if transfer.segment() != REST || transfer.failures() != failures {
+            return Err("the rest, or its failures");
+        }
+        match transfer.on_fault(0) {
+            Ok((next, step)) if step != Step::GiveUp => transfer = next,
+            _ => return Err("it gave up"),
+        }
+    }
+    Ok(transfer)
+}
+
+// What is otherwise up to the end, which comes behind two blocks; "" where nothing is.
+fn otherwise(start: Transfer, table: &BadTable) -> Result<&'static str, &'static str> {
+    let rest = behind_segments(start, table)?;
+    let last = behind_failures(rest)?;
+    match ended(last, End::Failed(0), table) {
+        Err(2) => Ok(""),
+        _ => Ok("the end"),
+    }
+}
+
 #[test]
 fn forwarded_and_then_retried_to_the_end(rt: HostRuntime) {
     let mut table = empty_table(DriveKind::Rp06, 1);
@@ -78,30 +121,13 @@ fn forwarded_and_then_retried_to_the_end(rt: HostRuntime) {
         track: 7,
         sector: 10,
     };
-    assert!(rt; insert(&mut table, listed) == Ok(0));
-    let mut transfer = Transfer::Direct(begin(Job {
+    let place = insert(&mut table, listed);
+    let start = Transfer::Direct(begin(Job {
         kind: DriveKind::Rp06,
         first: 999,
         count: 4,
         write: false,
     }));
-    for (segment, failures, end) in SEGMENTS {
-        assert_eq!(rt; transfer.segment(), segment, "{end:?}");
-        assert_eq!(rt; transfer.done(), segment.skip);
-        assert_eq!(rt; transfer.failures(), failures, "{end:?}");
-        let Ok(Some(next)) = ended(transfer, end, &table) else {
-            panic!(rt; "ended early at {end:?}")
-        };
-        transfer = next;
-    }
-    for failures in 1..27 {
-        assert_eq!(rt; transfer.segment(), REST);
-        assert_eq!(rt; transfer.failures(), failures);
-        let Ok((next, step)) = transfer.on_fault(0) else {
-            panic!(rt; "gave up after {failures} failures")
-        };
-        assert!(rt; step != Step::GiveUp);
-        transfer = next;
-    }
-    assert!(rt; matches!(ended(transfer, End::Failed(0), &table), Err(2)));
+    let word = otherwise(start, &table);
+    assert!(rt; place == Ok(0) && word == Ok(""), "{word:?}");
 }
