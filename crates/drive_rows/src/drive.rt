@@ -9,7 +9,6 @@ use mass_outside::mem_packs::{FailCall, MemPacks, PackOp};
 use mass_outside::slots::Image;
 use pack_geometry::DriveKind;
 use std::alloc::Global;
-use std::process::Abort;
 use std::test::Fail;
 
 // What a sector meets that is tried.
@@ -136,51 +135,115 @@ fn packs_with(alloc: Global, trial: Trial, fail: Option<PackOp>) -> Result<MemPa
     Ok(MemPacks::new(alloc, images, calls)?)
 }
 
+// Whether a window holds this byte alone.
+fn is_filled(window: &Window<'_>, byte: u8) -> bool {
+    let mut bytes = [0; 512];
+    window.copy_out(&mut bytes);
+    bytes == [byte; 512]
+}
+
+// What a try leaves that the row does not say; "" where there is nothing.
+fn left_otherwise(drive: &Drive, verdict: Moved, row: &Row) -> &'static str {
+    if verdict != row.verdict {
+        return "its verdict";
+    }
+    if drive.read_register(Register::Er1) != row.er1 {
+        return "its first error register";
+    }
+    if drive.read_register(Register::Er2) != row.er2 {
+        return "its second error register";
+    }
+    ""
+}
+
 // Tries block 0. Where a call on the packs fails, nothing has changed, and the next try gives the verdict.
-fn try_row(
-    rt: &impl Abort,
-    alloc: Global,
+fn tried(
+    packs: &mut MemPacks,
+    book: &mut NoiseBook,
     kind: DriveKind,
-    row: Row,
-    fail: Option<PackOp>,
+    row: &Row,
+    fails: bool,
     window: &mut Window<'_>,
-) -> Result<(), Fail> {
-    let mut packs = packs_with(alloc, row.trial, fail)?;
+) -> &'static str {
+    let mut drive = transferring(kind, row.trial);
+    if fails {
+        if drive.move_sector(packs, 4, 0, book, window).is_ok() {
+            return "no failure";
+        }
+        if drive.read_register(Register::Er1) != 0 || !is_filled(window, 0x77) {
+            return "what a failure leaves";
+        }
+    }
+    match drive.move_sector(packs, 4, 0, book, window) {
+        Ok(verdict) => left_otherwise(&drive, verdict, row),
+        Err(_) => "a failure",
+    }
+}
+
+// Noise for the trial, if it is one by noise.
+fn noise_of(alloc: Global, trial: Trial) -> Result<NoiseBook, Fail> {
     let mut book = NoiseBook::new(alloc, 1)?;
-    if let Trial::Noise(places) = row.trial {
+    if let Trial::Noise(places) = trial {
         let noise = Noise::new(places).ok_or("no noise")?;
         book.arm(4, 0, noise, NoiseSpan::Times(1));
     }
+    Ok(book)
+}
+
+// What a row comes to that it does not say, where a call on the packs fails, or none; "" where there is nothing.
+fn otherwise(
+    alloc: Global,
+    kind: DriveKind,
+    row: &Row,
+    fail: Option<PackOp>,
+    window: &mut Window<'_>,
+) -> Result<&'static str, Fail> {
+    let mut packs = packs_with(alloc, row.trial, fail)?;
+    let mut book = noise_of(alloc, row.trial)?;
     window.copy_in(&[0x77; 512]);
-    let mut drive = transferring(kind, row.trial);
-    let mut verdict = drive.move_sector(&mut packs, 4, 0, &mut book, window);
-    if fail.is_some() {
-        assert!(rt; verdict.is_err());
-        assert_eq!(rt; drive.read_register(Register::Er1), 0);
-        let mut left = [0; 512];
-        window.copy_out(&mut left);
-        assert!(rt; left == [0x77; 512]);
-        verdict = drive.move_sector(&mut packs, 4, 0, &mut book, window);
+    Ok(tried(&mut packs, &mut book, kind, row, fail.is_some(), window))
+}
+
+// The same where no call fails, and where each of its calls fails.
+fn row_otherwise(
+    alloc: Global,
+    kind: DriveKind,
+    row: &Row,
+    window: &mut Window<'_>,
+) -> Result<&'static str, Fail> {
+    for call in row.calls {
+        let word = otherwise(alloc, kind, row, Some(*call), window)?;
+        if !word.is_empty() {
+            return Ok(word);
+        }
     }
-    assert!(rt; verdict == Ok(row.verdict));
-    assert_eq!(rt; drive.read_register(Register::Er1), row.er1);
-    assert_eq!(rt; drive.read_register(Register::Er2), row.er2);
-    Ok(())
+    otherwise(alloc, kind, row, None, window)
+}
+
+// The same of each row and each kind.
+fn rows_otherwise(alloc: Global, window: &mut Window<'_>) -> Result<&'static str, Fail> {
+    for kind in [DriveKind::Rp06, DriveKind::Rm03, DriveKind::Rm05] {
+        for row in rows(kind) {
+            let word = row_otherwise(alloc, kind, &row, window)?;
+            if !word.is_empty() {
+                return Ok(word);
+            }
+        }
+    }
+    Ok("")
+}
+
+// The same over a window of this memory.
+fn verdicts_otherwise(alloc: Global, memory: &mut MainMemory) -> Result<&'static str, Fail> {
+    let buffer = to_bus(memory.lend(1, 0, 512)?);
+    rows_otherwise(alloc, &mut memory.window(&buffer, 0))
 }
 
 #[test]
 fn verdicts(rt: HostRuntime) -> Result<(), Fail> {
     let mut memory = MainMemory::new(rt.alloc())?;
-    let buffer = to_bus(memory.lend(1, 0, 512)?);
-    let mut window = memory.window(&buffer, 0);
-    for kind in [DriveKind::Rp06, DriveKind::Rm03, DriveKind::Rm05] {
-        for row in rows(kind) {
-            try_row(&rt, rt.alloc(), kind, row, None, &mut window)?;
-            for call in row.calls {
-                try_row(&rt, rt.alloc(), kind, row, Some(*call), &mut window)?;
-            }
-        }
-    }
+    let word = verdicts_otherwise(rt.alloc(), &mut memory)?;
+    assert_eq!(rt; word, "");
     Ok(())
 }
 
