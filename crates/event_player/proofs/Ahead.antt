@@ -7,7 +7,7 @@ use Rattle.pack_model.specs.TableSpelling.{Table}
 use Rattle.outside_traits.specs.Puts.{TakesFront}
 use Rattle.trace_replay.specs.Moments.{Moment, Played}
 use Rattle.trace_replay.specs.Script.{Script, Input}
-use Rattle.trace_replay.specs.Replay.{Replay, after_moments}
+use Rattle.trace_replay.specs.Replay.{after_moments}
 use Rattle.trace_replay.specs.Runs.{start_of}
 use Rattle.trace_replay.specs.Text.{trace_text, moment_text}
 use Rattle.driver_outcome.specs.Outcome.{IsFront}

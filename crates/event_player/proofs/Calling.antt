@@ -23,7 +23,7 @@ use Rattle.driver_answers.proofs.Waiting.{events_alone, submissions_alone}
 use Rattle.answer_lines.specs.AnswerText.{out_text}
 use Rattle.answer_tally.specs.declared.tally.Tally.{Tally}
 use Rattle.answer_tally.specs.Counting.{Counts}
-use Rattle.run_stops.specs.Passes.{Submits, Comes, State, seen, is_move, writes_by}
+use Rattle.run_stops.specs.Passes.{Submits, Comes, seen, is_move, writes_by}
 use Rattle.event_player.specs.declared.play.PlayFault.TheVariants as playing
 use Rattle.event_player.specs.Faults.{from_stop}
 use Rattle.event_player.specs.Saying.{Side, side, Says, SendsAhead}

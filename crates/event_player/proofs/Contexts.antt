@@ -1,10 +1,10 @@
 -- Where a call begins: at a line of the script, at the line of a drain, and behind an event of a drain.
-use Rattle.std.proofs.Common.{◌≡◌, ◌⊎◌, inl, inr, ℕ, ◌<◌, ◌≤◌, Bool, false, IsTrue, List, [], ◌∷◌, ◌++◌, Option, Some, None, refl, sym, ap, subst, arith, ◌∙◌, append-nil, append_assoc}
+use Rattle.std.proofs.Common.{◌≡◌, inl, inr, ℕ, ◌<◌, Bool, false, IsTrue, List, [], ◌∷◌, ◌++◌, Option, Some, None, refl, sym, ap, subst, ◌∙◌, append-nil, append_assoc}
 use Rattle.std.proofs.lemmas.Bool.{false≢true}
 use Rattle.pack_model.specs.Pack.{Pack}
 use Rattle.pack_model.specs.TableSpelling.{Table}
 use Rattle.subsystem_spec.specs.Requests.{Request, IsRequest}
-use Rattle.trace_replay.specs.Moments.{Moment, Played, Idle, played}
+use Rattle.trace_replay.specs.Moments.{Moment, Played, Idle}
 use Rattle.trace_replay.specs.Script as says
 use Rattle.trace_replay.specs.Script.{Script, Input, Line, Numbered, drives_of}
 use Rattle.trace_replay.specs.Packs.{surface_of}
@@ -12,7 +12,6 @@ use Rattle.trace_replay.specs.Replay.{Replay, WorkMay, Follows, after_moment, af
 use Rattle.trace_replay.specs.Runs.{start_of}
 use Rattle.trace_replay.specs.Text.{moment_text}
 use Rattle.trace_bounds.specs.Drains.{IsOf}
-use Rattle.driver_machine.specs.World.{World}
 use Rattle.driver_machine.specs.Acts.{Act, Tried}
 use Rattle.driver_machine.specs.Lines.{lines_of_all}
 use Rattle.driver_machine.specs.Events.{submit_acts, event_acts, next_event}
@@ -31,14 +30,13 @@ use Rattle.one_run.proofs.Passes.{scripts_can_start}
 use Rattle.trace_work.proofs.Consistency.{moments_consistent}
 use Rattle.run_stops.proofs.Passes.{drained_shows}
 use Rattle.answer_lines.specs.AnswerText.{said_text}
-use Rattle.run_stops.specs.Passes.{IsThere, is_move, writes_by}
+use Rattle.run_stops.specs.Passes.{IsThere}
 use Rattle.run_stops.specs.Writing.{WriteNothing}
 use Rattle.run_stops.specs.Stops.{AreOfOneEvent, StopsAtSink}
 use Rattle.run_stops.proofs.Passes.{after_parts}
 use Rattle.run_stops.proofs.Events.{submissions_write_nothing, empty_drains_write_nothing}
 use Rattle.event_player.specs.declared.play.PlayFault.{PlayFault}
 use Rattle.event_player.specs.declared.play.PlayFault.TheVariants as faults
-use Rattle.event_player.specs.Playing.{HasRun}
 use Rattle.event_player.specs.Steps.{Stage, Passes, IsCut, IsAhead}
 use Rattle.event_player.specs.Stops.{HasTold, IsNext, HasDrainedTold, EventStops, SubmissionStops, StopsSubmission, StopsAt}
 use Rattle.event_player.proofs.Going.{event_goes, submission_goes, drain_empty, drain_first, drain_more}

@@ -6,7 +6,6 @@ use Rattle.std.proofs.lemmas.List.{take_all, drop_all}
 use Rattle.pack_model.specs.Pack.{Pack}
 use Rattle.pack_model.specs.PackTable.{AreTablesOf}
 use Rattle.pack_model.specs.TableSpelling.{Table}
-use Rattle.outside_traits.specs.Causes.{Rose}
 use Rattle.outside_traits.specs.Puts.{Puts}
 use Rattle.outside_traits.specs.declared.traits.SinkFailed.{SinkFailed}
 use Rattle.mass_gather.proofs.GatherLaws.{rose_more}
@@ -20,7 +19,6 @@ use Rattle.trace_replay.specs.Text.{trace_text, moment_text}
 use Rattle.hardware_table.specs.declared.Moved.TheVariants.{Clean}
 use Rattle.driver_machine.specs.World.{World, new_world}
 use Rattle.driver_machine.specs.Acts.{Act, Tried, after_all}
-use Rattle.driver_machine.specs.Lines.{lines_of_all}
 use Rattle.driver_machine.specs.Events.{event_acts, next_event}
 use Rattle.driver_machine.specs.Guards.{IsSetUp}
 use Rattle.driver_outcome.specs.Outcome.{IsFront}

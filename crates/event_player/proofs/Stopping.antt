@@ -9,7 +9,6 @@ use Rattle.trace_replay.specs.Script.{Script, Input, Numbered, drives_of, inputs
 use Rattle.trace_replay.specs.Replay.{Follows, after_moments}
 use Rattle.trace_replay.specs.Runs.{start_of}
 use Rattle.trace_replay.specs.Text.{trace_text}
-use Rattle.driver_machine.specs.World.{World}
 use Rattle.driver_machine.specs.Acts.{Act, Tried}
 use Rattle.driver_machine.specs.Lines.{lines_of_all}
 use Rattle.driver_machine.specs.Events.{event_acts}
@@ -37,7 +36,7 @@ use Rattle.event_player.proofs.Reaching.{ask_parts, left_stays}
 use Rattle.event_player.proofs.OneEvent.{front_short, acts_front}
 use Rattle.event_player.proofs.Ahead.{cut_more, nothing_more}
 use Rattle.event_player.proofs.Wholes.{Whole}
-use Rattle.event_player.proofs.Moves.{one_of, IsMoveOf, move_of, still_may, move_is, no_move, writes_move}
+use Rattle.event_player.proofs.Moves.{one_of, IsMoveOf, move_of, still_may, move_is, writes_move}
 
 -- MOMENTS one behind the other
 played_append : (xs ys : List Moment) → played (xs ++ ys) ≡ played xs ++ played ys

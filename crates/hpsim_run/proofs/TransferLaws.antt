@@ -1,5 +1,5 @@
 -- What a transfer leaves as it was, by its status.
-use Rattle.std.proofs.Common.{◌≡◌, ◌⊎◌, inl, inr, ℕ, true, false, Option, Some, refl, sym, subst, arith}
+use Rattle.std.proofs.Common.{◌≡◌, ◌⊎◌, inl, inr, ℕ, true, false, Some, refl, sym, subst, arith}
 use Rattle.command_parts.specs.Outside.{HasItsCause, Outside}
 use Rattle.command_words.specs.Passes.{Stays}
 use Rattle.command_words.specs.Passes.{IsReadCode, IsTransferCode}

@@ -1,4 +1,4 @@
-use Rattle.std.proofs.Common.{◌≡◌, refl, ap, subst, sym}
+use Rattle.std.proofs.Common.{refl, ap, subst, sym}
 use Rattle.driver_machine.specs.World.{World}
 use Rattle.run_stops.specs.Passes.{State, asked}
 use Rattle.event_player.specs.declared.play.PlayFault.TheVariants as faults

@@ -1,4 +1,4 @@
-use Rattle.std.proofs.Common.{◌≡◌, Some, None, refl, ap, subst, sym}
+use Rattle.std.proofs.Common.{Some, None, refl, ap, subst, sym}
 use Rattle.driver_machine.specs.World.{World}
 use Rattle.run_stops.specs.Passes.{input_of}
 use Rattle.run_stops.specs.Passes.{State, Comes}

@@ -1,4 +1,4 @@
-use Rattle.std.proofs.Common.{inl, subst, sym}
+use Rattle.std.proofs.Common.{subst, sym}
 use Rattle.command_parts.specs.Outside.{outside}
 use Rattle.raw_command.specs.Faults.{IsTransferCode, code_of}
 use Rattle.raw_command.specs.declared.words.Transfer.{Transfer}
