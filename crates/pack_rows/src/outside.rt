@@ -34,30 +34,40 @@ fn pieces_in_memory(alloc: Global, fail: u64) -> Result<[u8; 3], Fail> {
     Ok(pieces(&mut source))
 }
 
+/// Which call of a source fails, and how many bytes each piece gives then.
+const PIECES: [(u8, [u8; 3]); 4] = [
+    (1, [9, 2, 1]),
+    (2, [2, 9, 1]),
+    (3, [2, 1, 9]),
+    (4, [2, 1, 0]),
+];
+
+/// Whether all of a source in memory is read.
+fn is_read(alloc: Global, source: &mut SureSource) -> bool {
+    match read_all(alloc, source, 2) {
+        Ok(bytes) => bytes.as_slice() == b"abc".as_slice(),
+        Err(_) => false,
+    }
+}
+
 #[test]
 fn sources_in_memory(rt: HostRuntime) -> Result<(), Fail> {
-    for (fail, counts) in [
-        (1u64, [9u8, 2, 1]),
-        (2, [2, 9, 1]),
-        (3, [2, 1, 9]),
-        (4, [2, 1, 0]),
-    ] {
-        assert_eq!(rt; pieces_in_memory(rt.alloc(), fail)?, counts, "call {fail}");
+    for (fail, counts) in PIECES {
+        let given = pieces_in_memory(rt.alloc(), u64::from(fail))?;
+        assert_eq!(rt; given, counts, "call {fail}");
     }
     let mut sure = SureSource::new(Vec::from_slice(rt.alloc(), b"abc")?);
-    match read_all(rt.alloc(), &mut sure, 2) {
-        Ok(bytes) => assert_eq!(rt; bytes.as_slice(), b"abc".as_slice()),
-        Err(_) => assert!(rt; false, "a source in memory is read"),
-    }
+    let is_so = is_read(rt.alloc(), &mut sure);
+    assert!(rt; is_so, "a source in memory is read");
     Ok(())
 }
 
-/// A sink in memory to which two texts were written, where one call fails.
-fn written(alloc: Global, fail: u64, room: usize) -> Result<MemSink, Fail> {
+/// Whether a sink in memory has taken just this of two texts, where one call fails.
+fn is_written(alloc: Global, fail: u64, room: usize, text: &[u8]) -> Result<bool, Fail> {
     let mut sink = MemSink::new(alloc, room, Vec::from_slice(alloc, &[fail])?)?;
     let _ = write_all(&mut sink, b"ab");
     let _ = write_all(&mut sink, b"cd");
-    Ok(sink)
+    Ok(sink.taken() == text)
 }
 
 /// Which call of a sink in memory fails, its room, and what it takes.
@@ -72,8 +82,8 @@ const WRITTEN: [(u64, usize, &[u8]); 5] = [
 #[test]
 fn sinks_in_memory(rt: HostRuntime) -> Result<(), Fail> {
     for (fail, room, text) in WRITTEN {
-        let sink = written(rt.alloc(), fail, room)?;
-        assert_eq!(rt; sink.taken(), text, "call {fail}, room {room}");
+        let is_so = is_written(rt.alloc(), fail, room, text)?;
+        assert!(rt; is_so, "call {fail}, room {room}");
     }
     assert!(rt; SureSink::new().write(b"abc") == Ok(3));
     Ok(())
@@ -148,8 +158,8 @@ fn pieces_of_reader(fail: u8) -> [u8; 3] {
     pieces(&mut source)
 }
 
-/// What a writer takes that takes so much a call, and whether all of it.
-fn taken_by_writer(alloc: Global, most: usize, fail: u8) -> (Vec<u8>, bool) {
+/// Whether a writer that takes so much a call takes just this, and whether that is all.
+fn is_taken(alloc: Global, most: usize, fail: u8, done: bool, text: &[u8]) -> bool {
     let mut taken = Vec::new(alloc);
     let mut sink = StdSink::new(ShortWriter {
         taken: &mut taken,
@@ -157,8 +167,8 @@ fn taken_by_writer(alloc: Global, most: usize, fail: u8) -> (Vec<u8>, bool) {
         calls: 0,
         fail,
     });
-    let done = write_all(&mut sink, b"abcde").is_ok();
-    (taken, done)
+    let all = write_all(&mut sink, b"abcde").is_ok();
+    all == done && taken.as_slice() == text
 }
 
 /// How much a writer takes a call, which call fails, whether all is taken, and what is.
@@ -172,18 +182,12 @@ const TAKEN: [(usize, u8, bool, &[u8]); 5] = [
 
 #[test]
 fn streams_of_std(rt: HostRuntime) {
-    for (fail, counts) in [
-        (1u8, [9u8, 2, 1]),
-        (2, [2, 9, 1]),
-        (3, [2, 1, 9]),
-        (4, [2, 1, 0]),
-    ] {
+    for (fail, counts) in PIECES {
         assert_eq!(rt; pieces_of_reader(fail), counts, "call {fail}");
     }
     for (most, fail, done, text) in TAKEN {
-        let (taken, all) = taken_by_writer(rt.alloc(), most, fail);
-        assert_eq!(rt; all, done, "most {most}, call {fail}");
-        assert_eq!(rt; taken.as_slice(), text, "most {most}, call {fail}");
+        let is_so = is_taken(rt.alloc(), most, fail, done, text);
+        assert!(rt; is_so, "most {most}, call {fail}");
     }
 }
 
@@ -254,20 +258,26 @@ const EACH: [Call; 5] = [
     Call::Mark(2, true),
 ];
 
+/// Whether the second call of an operation fails, and no other call.
+fn fails_second(packs: &mut MemPacks, op: PackOp) -> bool {
+    for number in 1..4u64 {
+        for call in EACH {
+            let fails = number == 2 && operation(call) == op;
+            if answer(packs, 3, call).is_err() != fails {
+                return false;
+            }
+        }
+    }
+    true
+}
+
 #[test]
 fn second_call_fails(rt: HostRuntime) -> Result<(), Fail> {
     for failing in EACH {
         let op = operation(failing);
         let mut packs = packs(rt.alloc(), op, 2)?;
-        for number in 1..4u64 {
-            for call in EACH {
-                let fails = number == 2 && operation(call) == op;
-                assert!(rt;
-                    answer(&mut packs, 3, call).is_err() == fails,
-                    "{op:?} {number}"
-                );
-            }
-        }
+        let is_so = fails_second(&mut packs, op);
+        assert!(rt; is_so, "{op:?}");
     }
     Ok(())
 }
@@ -291,7 +301,8 @@ const MEMORY: [(u8, Call, Option<u64>); 12] = [
 #[test]
 fn packs_in_memory(rt: HostRuntime) -> Result<(), Fail> {
     let mut packs = packs(rt.alloc(), PackOp::Length, 9)?;
-    assert_eq!(rt; first_other(&mut packs, &MEMORY), MEMORY.len());
+    let other = first_other(&mut packs, &MEMORY);
+    assert_eq!(rt; other, MEMORY.len());
     Ok(())
 }
 
@@ -311,9 +322,8 @@ const SURE: [(u8, Call, Option<u64>); 12] = [
     (4, Call::Length, Some(0)),
 ];
 
-#[test]
-fn sure_packs(rt: HostRuntime) -> Result<(), Fail> {
-    let alloc = rt.alloc();
+/// Packs that never fail, for these calls.
+fn never_failing(alloc: Global) -> Result<SurePacks, Fail> {
     let mut images = Vec::new(alloc);
     images.push(Image {
         unit: 3,
@@ -321,7 +331,13 @@ fn sure_packs(rt: HostRuntime) -> Result<(), Fail> {
         marks: Vec::new(alloc),
         blocks: 2,
     })?;
-    let mut packs = SurePacks::new(alloc, images)?;
-    assert_eq!(rt; first_other(&mut packs, &SURE), SURE.len());
+    Ok(SurePacks::new(alloc, images)?)
+}
+
+#[test]
+fn sure_packs(rt: HostRuntime) -> Result<(), Fail> {
+    let mut packs = never_failing(rt.alloc())?;
+    let other = first_other(&mut packs, &SURE);
+    assert_eq!(rt; other, SURE.len());
     Ok(())
 }

@@ -11,6 +11,14 @@ fn changed(at: usize, new: [u8; 4]) -> [u8; 512] {
     bytes
 }
 
+// Whether these bytes are no table of an RP06, for this reason.
+fn is_fault(bytes: &[u8; 512], wanted: &TableFault) -> bool {
+    match read_table(DriveKind::Rp06, bytes) {
+        Ok(_) => false,
+        Err(fault) => fault == *wanted,
+    }
+}
+
 #[test]
 fn table_faults(rt: HostRuntime) {
     for (bytes, wanted) in [
@@ -25,22 +33,19 @@ fn table_faults(rt: HostRuntime) {
             TableFault::AfterEnd(125),
         ),
     ] {
-        match read_table(DriveKind::Rp06, &bytes) {
-            Ok(_) => assert!(rt; false, "{wanted:?}"),
-            Err(fault) => assert!(rt; fault == wanted, "{wanted:?}"),
-        }
+        assert!(rt; is_fault(&bytes, &wanted), "{wanted:?}");
     }
 }
 
-#[test]
-fn entries_and_bytes(rt: HostRuntime) {
-    let mut table = empty_table(DriveKind::Rp06, 7);
-    // blocks 1000, 125 and 340522 of an RP06
-    let listed = Place {
-        cylinder: 2,
-        track: 7,
-        sector: 10,
-    };
+// Block 1000 of an RP06.
+const LISTED: Place = Place {
+    cylinder: 2,
+    track: 7,
+    sector: 10,
+};
+
+// Whether a table takes blocks 1000 and 125 of an RP06, each once, and not block 340522.
+fn takes_two(table: &mut BadTable) -> bool {
     let before = Place {
         cylinder: 0,
         track: 5,
@@ -51,37 +56,54 @@ fn entries_and_bytes(rt: HostRuntime) {
         track: 12,
         sector: 6,
     };
-    assert!(rt; insert(&mut table, listed) == Ok(0));
-    assert!(rt; insert(&mut table, before) == Ok(0));
-    assert!(rt; insert(&mut table, listed) == Err(InsertFault::Listed(1)));
-    assert!(rt; insert(&mut table, reserved) == Err(InsertFault::Reserved));
-    assert!(rt; position(&table, listed) == Some(1));
-    assert!(rt; position(&table, reserved).is_none());
+    if insert(table, LISTED) != Ok(0) || insert(table, before) != Ok(0) {
+        return false;
+    }
+    if insert(table, LISTED) != Err(InsertFault::Listed(1)) {
+        return false;
+    }
+    insert(table, reserved) == Err(InsertFault::Reserved)
+        && position(table, LISTED) == Some(1)
+        && position(table, reserved).is_none()
+}
 
-    let mut bytes = [0; 512];
-    write_table(&table.copy(), &mut bytes);
+// Whether these are the bytes of the table with the two, and are read as one.
+fn is_of_two(bytes: &[u8; 512]) -> bool {
     let front = [
         7, 0, 0, 0, 0, 0, 0, 0, 0x00, 0x00, 0x0f, 0x05, 0x02, 0x00, 0x0a, 0x07,
     ];
-    assert!(rt; bytes[..16] == front[..]);
-    assert!(rt; bytes[16..].iter().all(|byte| *byte == 0xff));
-    match read_table(DriveKind::Rp06, &bytes) {
-        Err(_) => assert!(rt; false, "a table that was written is read"),
-        Ok(again) => {
-            assert!(rt; entries(&again) == 2);
-            assert!(rt; serial(&again) == 7);
-            assert!(rt; entry(&again, 1) == listed);
-        }
+    if bytes[..16] != front[..] || bytes[16..].iter().any(|byte| *byte != 0xff) {
+        return false;
     }
+    match read_table(DriveKind::Rp06, bytes) {
+        Err(_) => false,
+        Ok(again) => entries(&again) == 2 && serial(&again) == 7 && entry(&again, 1) == LISTED,
+    }
+}
 
-    // block 1000 of an RM05
-    let mut wide = empty_table(DriveKind::Rm05, 3);
+// The bytes of a table of an RM05 with block 1000; None where it does not take the block.
+fn wide() -> Option<[u8; 512]> {
+    let mut table = empty_table(DriveKind::Rm05, 3);
     let listed = Place {
         cylinder: 1,
         track: 12,
         sector: 8,
     };
-    assert!(rt; insert(&mut wide, listed) == Ok(0));
-    write_table(&wide, &mut bytes);
-    assert!(rt; bytes[8..12] == [0x01, 0x00, 0x08, 0x0c]);
+    if insert(&mut table, listed) != Ok(0) {
+        return None;
+    }
+    let mut bytes = [0; 512];
+    write_table(&table, &mut bytes);
+    Some(bytes)
+}
+
+#[test]
+fn entries_and_bytes(rt: HostRuntime) {
+    let mut table = empty_table(DriveKind::Rp06, 7);
+    let takes = takes_two(&mut table);
+    let mut bytes = [0; 512];
+    write_table(&table.copy(), &mut bytes);
+    assert!(rt; takes && is_of_two(&bytes));
+    let wide = wide().unwrap_or([0; 512]);
+    assert!(rt; wide[8..12] == [0x01, 0x00, 0x08, 0x0c]);
 }

@@ -61,6 +61,26 @@ fn front_of(bytes: &[u8]) -> LineBuf
     line
 }
 
+// Whether the line of a number and a block that is a5 all through is this one.
+fn is_line(value: u64, radix: Radix, wanted: &str) -> bool {
+    line_of(value, radix, &[0xa5; 512]).as_bytes() == wanted.as_bytes()
+}
+
+// Whether the front of a block is this in a line.
+fn is_front(bytes: &[u8], wanted: &str) -> bool
+    requires some { 1 ≤ length bytes.now }
+    requires few { length bytes.now ≤ 512 }
+{
+    front_of(bytes).as_bytes() == wanted.as_bytes()
+}
+
+// Whether a text is the line of a block with these first bytes, which is zeros behind them.
+fn is_long(text: &[u8]) -> bool {
+    text.len() == 1034
+        && &text[..20] == b"blk 0 hex 010a204001".as_slice()
+        && text[20..].iter().all(|digit| *digit == b'0')
+}
+
 #[test]
 fn lines(rt: HostRuntime) {
     for (value, radix, wanted) in [
@@ -69,12 +89,8 @@ fn lines(rt: HostRuntime) {
         (1025, Radix::Octal, "blk 2001 fill a5"),
         (48879, Radix::Hex, "blk beef fill a5"),
     ] {
-        assert!(rt;
-            line_of(value, radix, &[0xa5; 512]).as_bytes() == wanted.as_bytes(),
-            "{wanted}"
-        );
+        assert!(rt; is_line(value, radix, wanted), "{wanted}");
     }
-
     for (bytes, wanted) in [
         (b"\x07".as_slice(), "fill 07"),
         (b"\xff\xff\xff".as_slice(), "fill ff"),
@@ -82,19 +98,10 @@ fn lines(rt: HostRuntime) {
         (b"\x00\x00\x01".as_slice(), "hex 000001"),
     ] {
         if !bytes.is_empty() && bytes.len() <= 512 {
-            assert!(rt; front_of(bytes).as_bytes() == wanted.as_bytes(), "{wanted}");
+            assert!(rt; is_front(bytes, wanted), "{wanted}");
         }
     }
-
     let mut bytes = [0; 512];
-    bytes[0] = 0x01;
-    bytes[1] = 0x0a;
-    bytes[2] = 0x20;
-    bytes[3] = 0x40;
-    bytes[4] = 0x01;
-    let line = line_of(0, Radix::Decimal, &bytes);
-    let text = line.as_bytes();
-    assert!(rt; text.len() == 1034);
-    assert!(rt; &text[..20] == b"blk 0 hex 010a204001".as_slice());
-    assert!(rt; text[20..].iter().all(|digit| *digit == b'0'));
+    bytes[..5].copy_from_slice(&[0x01, 0x0a, 0x20, 0x40, 0x01]);
+    assert!(rt; is_long(line_of(0, Radix::Decimal, &bytes).as_bytes()));
 }

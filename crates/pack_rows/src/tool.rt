@@ -180,7 +180,30 @@ impl Packs for Sparse {
     }
 }
 
-/// An RM05's table lies in its last track, and entry 0 names block 1000 by its cylinder, track and sector.
+/// What is otherwise of an RM05's table that is made and gets block 1000; "" where nothing is. It lies in the last track, and entry 0
+/// names the block by its cylinder, track and sector.
+fn rm05_otherwise(packs: &mut Sparse) -> &'static str {
+    if fresh(packs, 0, DriveKind::Rm05, 3).is_err() {
+        return "the table";
+    }
+    if packs.blocks[..5] != [500_352, 500_354, 500_356, 500_358, 500_360] {
+        return "its copies";
+    }
+    if add(packs, 0, DriveKind::Rm05, 1000, WAY) != Ok(0) {
+        return "the block";
+    }
+    for k in 0..5usize {
+        let bytes = &packs.bytes[k];
+        if bytes[0] != 3 || bytes[8..12] != [0x01, 0x00, 0x08, 0x0c] {
+            return "an entry";
+        }
+    }
+    if packs.used != 6 || packs.blocks[5] != 500_351 || packs.marked != 1000 {
+        return "the replacement or the mark";
+    }
+    ""
+}
+
 #[test]
 fn rm05_table(rt: HostRuntime) {
     let mut packs = Sparse {
@@ -189,12 +212,6 @@ fn rm05_table(rt: HostRuntime) {
         used: 0,
         marked: 0,
     };
-    assert!(rt; fresh(&mut packs, 0, DriveKind::Rm05, 3).is_ok());
-    assert!(rt; packs.blocks[..5] == [500_352, 500_354, 500_356, 500_358, 500_360]);
-    assert!(rt; add(&mut packs, 0, DriveKind::Rm05, 1000, WAY) == Ok(0));
-    for k in 0..5usize {
-        let bytes = &packs.bytes[k];
-        assert!(rt; bytes[0] == 3 && bytes[8..12] == [0x01, 0x00, 0x08, 0x0c]);
-    }
-    assert!(rt; packs.used == 6 && packs.blocks[5] == 500_351 && packs.marked == 1000);
+    let word = rm05_otherwise(&mut packs);
+    assert_eq!(rt; word, "");
 }

@@ -125,25 +125,31 @@ fn packs(alloc: Global, fail: &[FailCall]) -> Result<MemPacks, Fail> {
     Ok(MemPacks::new(alloc, images, all)?)
 }
 
+/// The first of the calls that packs in memory answer otherwise, or their number.
+fn other_in_memory(alloc: Global) -> Result<usize, Fail> {
+    let mut packs = packs(alloc, &[])?;
+    Ok(first_other(&mut packs, &CALLS))
+}
+
+/// The same of packs behind windows, where a read of the packs in memory fails.
+fn other_behind_windows(alloc: Global, number: u64) -> Result<usize, Fail> {
+    let fail = FailCall {
+        op: PackOp::Read,
+        number,
+    };
+    let inner = BlockForBlock {
+        packs: packs(alloc, &[fail])?,
+    };
+    let mut packs = WindowPacks::new(alloc, inner)?;
+    Ok(first_other(&mut packs, &CALLS))
+}
+
+/// The first and the second read ahead fail, and the block is read alone.
 #[test]
 fn packs_behind_windows(rt: HostRuntime) -> Result<(), Fail> {
-    let alloc = rt.alloc();
-    assert_eq!(rt; first_other(&mut packs(alloc, &[])?, &CALLS), CALLS.len());
-    // The first and the second read ahead fail, and the block is read alone.
-    for number in [4u64, 11] {
-        let fail = FailCall {
-            op: PackOp::Read,
-            number,
-        };
-        let inner = BlockForBlock {
-            packs: packs(alloc, &[fail])?,
-        };
-        let mut packs = WindowPacks::new(alloc, inner)?;
-        assert_eq!(rt;
-            first_other(&mut packs, &CALLS),
-            CALLS.len(),
-            "read {number}"
-        );
-    }
+    let whole = other_in_memory(rt.alloc())?;
+    let first = other_behind_windows(rt.alloc(), 4)?;
+    let second = other_behind_windows(rt.alloc(), 11)?;
+    assert_eq!(rt; [whole, first, second], [CALLS.len(); 3]);
     Ok(())
 }
