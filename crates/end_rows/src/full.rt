@@ -1,5 +1,5 @@
 // Texts and packs on a full disk.
-use crate::words::end_here;
+use crate::words::{end_here, words};
 use hpsim_main::{end_status, words_of};
 use mass_outside::file_sink::FileSink;
 use mass_outside::mem_streams::SureSink;
@@ -14,13 +14,12 @@ const FULL: &str = "/dev/full";
 
 /// The status of a read whose answer goes to a full disk.
 fn answers_on_it(rt: &HostRuntime, script: &[u8], trace: &str) -> Result<u8, Fail> {
+    let words = words_of(rt.alloc(), Ok(words(rt.alloc(), "play")?));
     let mut how = OpenOptions::new();
     let full = how.write(true).open(rt, FULL)?;
-    let mut words = Vec::new(rt.alloc());
-    words.push(String::from_str(rt.alloc(), "play")?)?;
     Ok(end_status(
         rt.alloc(),
-        words_of(rt.alloc(), Ok(words)),
+        words,
         OsFolder::new(rt),
         script,
         full,

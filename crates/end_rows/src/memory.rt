@@ -1,5 +1,5 @@
 // A folder in memory whose calls are short, fail or are interrupted.
-ghost use Rattle.std.specs.Prelude.{◌<◌, ◌≤◌, length, IfOk};
+ghost use Rattle.std.specs.Prelude.{◌≡◌, ◌<◌, ◌≤◌, length, IfOk};
 
 use mass_outside::folder::{PackFolder, Part};
 use std::alloc::{AllocError, Global};
@@ -44,7 +44,9 @@ pub(crate) fn no_files(alloc: Global) -> Result<Vec<Vec<u8>>, AllocError> {
 
 impl<'a> MemFolder<'a> {
     /// A folder of these files.
-    pub fn new(files: &'a mut Vec<Vec<u8>>, habit: Habit) -> MemFolder<'a> {
+    pub fn new(files: &'a mut Vec<Vec<u8>>, habit: Habit) -> MemFolder<'a>
+        ensures { result ≡ record { files = files.entry; habit = habit; calls = 0; interrupts = 0 } }
+    {
         MemFolder {
             files,
             habit,

@@ -66,19 +66,24 @@ enum Ending {
     Other,
 }
 
+/// What this end is.
+fn ending(end: &End) -> Ending {
+    if end.is_front(6, PRINTED) {
+        return Ending::Stops;
+    }
+    if end.is(0, PRINTED) {
+        return Ending::Passes;
+    }
+    Ending::Other
+}
+
 fn failing(alloc: Global, call: u64) -> Result<Ending, AllocError> {
     let habit = Habit {
         fail: call,
         ..WHOLE
     };
     let end = played(alloc, habit)?;
-    if end.is_front(6, PRINTED) {
-        return Ok(Ending::Stops);
-    }
-    if end.is(0, PRINTED) {
-        return Ok(Ending::Passes);
-    }
-    Ok(Ending::Other)
+    Ok(ending(&end))
 }
 
 /// How many of the first calls stop the run where they fail; `None` where one comes to something else.

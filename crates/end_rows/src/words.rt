@@ -1,4 +1,7 @@
 // The words of a command line, and what a run of it comes to.
+ghost use Rattle.std.specs.Prelude.{◌≡◌, ◌==◌, ◌↔◌, IsTrue, false, if◌then◌else◌};
+ghost use Rattle.std.specs.List.{starts_with};
+
 use hpsim_main::{end_status, words_of};
 use mass_outside::folder::PackFolder;
 use mass_outside::os_folder::OsFolder;
@@ -14,18 +17,22 @@ pub(crate) struct End {
 
 impl End {
     /// Whether it ended so, and printed just this.
-    pub fn is(&self, status: u8, text: &str) -> bool {
+    pub fn is(&self, status: u8, text: &str) -> bool
+        ensures { IsTrue result ↔ ((self.now.status ≡ status) × (self.now.said.items ≡ text.now)) }
+    {
         self.status == status && self.said.as_slice() == text.as_bytes()
     }
 
     /// Whether it ended so, and printed a front of this.
-    pub fn is_front(&self, status: u8, text: &str) -> bool {
+    pub fn is_front(&self, status: u8, text: &str) -> bool
+        ensures { result ≡ (if self.now.status == status then starts_with ◌==◌ text.now self.now.said.items else false) }
+    {
         self.status == status && text.as_bytes().starts_with(self.said.as_slice())
     }
 }
 
 /// The words of a line, which stand between its blanks.
-fn words(alloc: Global, line: &str) -> Result<Vec<String>, AllocError> {
+pub(crate) fn words(alloc: Global, line: &str) -> Result<Vec<String>, AllocError> {
     let mut all = Vec::new(alloc);
     for word in line.split_whitespace() {
         all.push(String::from_str(alloc, word)?)?;
