@@ -232,14 +232,19 @@ fn packs_under(alloc: Global, row: &Text) -> Result<MemPacks, Fail> {
     }
 }
 
+/// What a run comes to that a row of traces does not say; "" if there is nothing.
+fn ran_otherwise(ran: &Ran, row: &Text) -> &'static str {
+    if ran.trace.taken() != row.trace {
+        return "its trace";
+    }
+    other_than(ran, 0, row.out)
+}
+
 /// What a row of traces comes to that it does not say.
 fn text_otherwise(alloc: Global, row: &Text) -> Result<&'static str, Fail> {
     let mut packs = packs_under(alloc, row)?;
     let ran = run_on(alloc, PLAY, row.script, &mut packs, NONE)?;
-    if ran.trace.taken() != row.trace {
-        return Ok("its trace");
-    }
-    Ok(other_than(&ran, 0, row.out))
+    Ok(ran_otherwise(&ran, row))
 }
 
 #[test]
@@ -344,11 +349,16 @@ fn reads_given(alloc: Global, out: &[u8]) -> Result<u32, Fail> {
     Ok(given)
 }
 
-/// The same of the run of that script, over a listed and marked block.
-fn reads_of_user(alloc: Global) -> Result<u32, Fail> {
+/// The run of that script, over a listed and marked block.
+fn user_run(alloc: Global) -> Result<Ran, Fail> {
     let script = user_script(alloc)?;
     let mut packs = listed(alloc, &[0x00, 0x00, 0x0F, 0x05], &[125], NONE.packs)?;
-    let ran = run_on(alloc, PLAY, script.as_bytes(), &mut packs, NONE)?;
+    run_on(alloc, PLAY, script.as_bytes(), &mut packs, NONE)
+}
+
+/// How many reads of that run give what they are to give.
+fn reads_of_user(alloc: Global) -> Result<u32, Fail> {
+    let ran = user_run(alloc)?;
     reads_given(alloc, ran.out.taken())
 }
 
@@ -506,12 +516,16 @@ fn too_long_a_script(rt: HostRuntime) -> Result<(), Fail> {
     Ok(())
 }
 
-/// An image with one byte more than an RP06 has.
+/// What a run over an image with one byte more than an RP06 has comes to that it should not; "" if there is nothing.
+fn too_long_otherwise(alloc: Global) -> Result<&'static str, Fail> {
+    let image = bytes_of(alloc, 174_423_041, 0)?;
+    let ran = play_over(alloc, b"unit 0 rp06\n", image.as_slice(), NONE)?;
+    Ok(other_than(&ran, 7, b"too long unit 0 length 174423041\n"))
+}
+
 #[test]
 fn too_long(rt: HostRuntime) -> Result<(), Fail> {
-    let image = bytes_of(rt.alloc(), 174_423_041, 0)?;
-    let ran = play_over(rt.alloc(), b"unit 0 rp06\n", image.as_slice(), NONE)?;
-    let word = other_than(&ran, 7, b"too long unit 0 length 174423041\n");
+    let word = too_long_otherwise(rt.alloc())?;
     assert_eq!(rt; word, "");
     Ok(())
 }
@@ -526,11 +540,16 @@ fn text_of_short(alloc: Global) -> Result<String, Fail> {
     Ok(text)
 }
 
+/// Whether that is printed.
+fn prints_short(alloc: Global) -> Result<bool, Fail> {
+    let text = text_of_short(alloc)?;
+    let script = b"unit 0 rp06\nread 1 0 c 1 1\n";
+    prints(alloc, script, &[0xFF; 700], text.as_bytes())
+}
+
 #[test]
 fn short_image(rt: HostRuntime) -> Result<(), Fail> {
-    let text = text_of_short(rt.alloc())?;
-    let script = b"unit 0 rp06\nread 1 0 c 1 1\n";
-    let is_so = prints(rt.alloc(), script, &[0xFF; 700], text.as_bytes())?;
+    let is_so = prints_short(rt.alloc())?;
     assert!(rt; is_so);
     Ok(())
 }

@@ -1,5 +1,5 @@
 // Commands one after another over a pack, with what each prints, and what some blocks hold then.
-use crate::runs::{NONE, holds, packs_of, run_line};
+use crate::runs::{NONE, Ran, holds, packs_of, run_line};
 use mass_outside::mem_packs::MemPacks;
 use outside_traits::traits::Packs;
 use std::alloc::Global;
@@ -220,29 +220,33 @@ fn put_table(packs: &mut MemPacks) -> Result<(), Fail> {
     Ok(())
 }
 
+/// What a run comes to that a step does not say; "" where there is nothing.
+fn ran_otherwise(ran: &Ran, step: &Step) -> &'static str {
+    if ran.status != step.status {
+        return "its status";
+    }
+    if ran.out.taken() != step.out {
+        return "its text";
+    }
+    if !step.trace.is_empty() && !holds(ran.trace.taken(), step.trace) {
+        return "its trace";
+    }
+    ""
+}
+
 /// What a command comes to that is not said; "" where there is nothing.
 fn step_otherwise(alloc: Global, step: &Step, packs: &mut MemPacks) -> Result<&'static str, Fail> {
     let ran = run_line(alloc, step.line, step.source, packs, NONE)?;
-    if ran.status != step.status {
-        return Ok("its status");
-    }
-    if ran.out.taken() != step.out {
-        return Ok("its text");
-    }
-    if !step.trace.is_empty() && !holds(ran.trace.taken(), step.trace) {
-        return Ok("its trace");
-    }
-    Ok("")
+    Ok(ran_otherwise(&ran, step))
 }
 
-/// What a row comes to that it does not say; "" where there is nothing.
-fn row_otherwise(alloc: Global, row: &Row) -> Result<&'static str, Fail> {
-    let mut packs = packs_of(alloc, row.room, row.marked, NONE.packs)?;
+/// What the commands of a row come to, and the blocks behind them, that it does not say; "" where there is nothing.
+fn steps_otherwise(alloc: Global, row: &Row, packs: &mut MemPacks) -> Result<&'static str, Fail> {
     if row.has_table {
-        put_table(&mut packs)?;
+        put_table(packs)?;
     }
     for step in row.steps {
-        let word = step_otherwise(alloc, step, &mut packs)?;
+        let word = step_otherwise(alloc, step, packs)?;
         if !word.is_empty() {
             return Ok(word);
         }
@@ -255,6 +259,12 @@ fn row_otherwise(alloc: Global, row: &Row) -> Result<&'static str, Fail> {
         }
     }
     Ok("")
+}
+
+/// The same over the packs of the row.
+fn row_otherwise(alloc: Global, row: &Row) -> Result<&'static str, Fail> {
+    let mut packs = packs_of(alloc, row.room, row.marked, NONE.packs)?;
+    steps_otherwise(alloc, row, &mut packs)
 }
 
 #[test]
@@ -284,12 +294,17 @@ const NO_SHAPES: [&str; 12] = [
 
 const USAGE: &[u8] = b"usage: hpsim play or bad144 list/add/fresh or exercise N\n";
 
+/// Whether a run is answered by the usage.
+fn is_usage(alloc: Global, line: &str) -> Result<bool, Fail> {
+    let mut packs = packs_of(alloc, 2, &[], NONE.packs)?;
+    let ran = run_line(alloc, line, b"", &mut packs, NONE)?;
+    Ok(ran.status == 2 && ran.out.taken() == USAGE)
+}
+
 /// The first of these words that is not answered by the usage; "" where each is.
 fn other_words(alloc: Global) -> Result<&'static str, Fail> {
     for line in NO_SHAPES {
-        let mut packs = packs_of(alloc, 2, &[], NONE.packs)?;
-        let ran = run_line(alloc, line, b"", &mut packs, NONE)?;
-        if ran.status != 2 || ran.out.taken() != USAGE {
+        if !is_usage(alloc, line)? {
             return Ok(line);
         }
     }
@@ -318,18 +333,23 @@ fn sources_that_are_too_long(rt: HostRuntime) -> Result<(), Fail> {
     Ok(())
 }
 
+/// Which of two ends a run has.
+fn end_of(ran: &Ran) -> &'static str {
+    if ran.status == 7 && ran.out.taken() == LONG {
+        return "too long";
+    }
+    if ran.status == 10 && ran.out.taken() == OUTSIDE {
+        return "outside";
+    }
+    "neither"
+}
+
 /// What a read of a place comes to over an image that is longer than its drive.
 fn over_long_image(alloc: Global, line: &str) -> Result<&'static str, Fail> {
     let mut packs = packs_of(alloc, 131_681, &[], NONE.packs)?;
     packs.write(0, 131_680, &[0x55; 512])?;
     let ran = run_line(alloc, line, b"", &mut packs, NONE)?;
-    if ran.status == 7 && ran.out.taken() == LONG {
-        return Ok("too long");
-    }
-    if ran.status == 10 && ran.out.taken() == OUTSIDE {
-        return Ok("outside");
-    }
-    Ok("neither")
+    Ok(end_of(&ran))
 }
 
 #[test]

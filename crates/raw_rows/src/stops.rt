@@ -1,5 +1,5 @@
 // Two writes over the same blocks, and a read of them, in which each call fails in turn.
-use crate::runs::{Faults, NONE, packs_of, run_line};
+use crate::runs::{Faults, NONE, Ran, packs_of, run_line};
 use mass_outside::mem_packs::{FailCall, MemPacks, PackOp};
 use outside_traits::traits::Packs;
 use std::alloc::Global;
@@ -111,17 +111,15 @@ fn failing(operation: Operation, number: u64) -> Faults {
     }
 }
 
-/// What does not hold of a write in which a call may fail; "" where all does, and "stopped" where it did fail.
-fn write_amiss(
-    alloc: Global,
+/// What does not hold of the run of a write in which a call may fail; "" where all does, and "stopped" where it did fail.
+fn ran_amiss(
+    ran: &Ran,
     packs: &mut MemPacks,
+    old: &Blocks,
     write: &Write,
-    faults: Faults,
     wanted: u8,
 ) -> Result<&'static str, Fail> {
-    let old = blocks_of(packs)?;
-    let new = written(&old, write);
-    let ran = run_line(alloc, write.line, write.source, packs, faults)?;
+    let new = written(old, write);
     let blocks = blocks_of(packs)?;
     if ran.status == 0 && ran.out.taken() == write.told && blocks == new {
         return Ok("");
@@ -129,7 +127,7 @@ fn write_amiss(
     if ran.status != wanted {
         return Ok("its status");
     }
-    if !is_front(&blocks, &new, &old) || wanted == 4 && blocks != old {
+    if !is_front(&blocks, &new, old) || wanted == 4 && blocks != *old {
         return Ok("its packs");
     }
     if !ran.out.taken().is_empty() {
@@ -138,7 +136,38 @@ fn write_amiss(
     Ok("stopped")
 }
 
+/// The same of a write over packs.
+fn write_amiss(
+    alloc: Global,
+    packs: &mut MemPacks,
+    write: &Write,
+    faults: Faults,
+    wanted: u8,
+) -> Result<&'static str, Fail> {
+    let old = blocks_of(packs)?;
+    let ran = run_line(alloc, write.line, write.source, packs, faults)?;
+    ran_amiss(&ran, packs, &old, write, wanted)
+}
+
 /// What does not hold of two writes in which a call may fail; "" where all does, and "stopped" where it did fail.
+fn two_over(
+    alloc: Global,
+    packs: &mut MemPacks,
+    faults: Faults,
+    wanted: u8,
+) -> Result<&'static str, Fail> {
+    let first = write_amiss(alloc, packs, &WRITES[0], faults, wanted)?;
+    let second = write_amiss(alloc, packs, &WRITES[1], faults, wanted)?;
+    if !first.is_empty() && first != "stopped" {
+        return Ok(first);
+    }
+    if second.is_empty() {
+        return Ok(first);
+    }
+    Ok(second)
+}
+
+/// The same over packs of their own.
 fn two_amiss(
     alloc: Global,
     operation: Operation,
@@ -147,15 +176,7 @@ fn two_amiss(
 ) -> Result<&'static str, Fail> {
     let faults = failing(operation, number);
     let mut packs = packs_of(alloc, 8, &[], faults.packs)?;
-    let first = write_amiss(alloc, &mut packs, &WRITES[0], faults, wanted)?;
-    let second = write_amiss(alloc, &mut packs, &WRITES[1], faults, wanted)?;
-    if !first.is_empty() && first != "stopped" {
-        return Ok(first);
-    }
-    if second.is_empty() {
-        return Ok(first);
-    }
-    Ok(second)
+    two_over(alloc, &mut packs, faults, wanted)
 }
 
 /// The first thing that does not hold where each call of an operation fails in turn; "" where all does, and some calls did fail.
