@@ -11,6 +11,8 @@ HERE = os.path.dirname(os.path.abspath(__file__))
 CRATES = os.path.join(HERE, '..', 'crates')
 # The examples over the pack that make-packs.sh makes; all others are played over empty packs.
 LISTED = ('course-table', 'forward')
+# The words of the command that plays an example: `play`, but for these, which have no picture.
+WORDS = {'cached': ['cached', '2']}
 
 
 def read(name):
@@ -32,9 +34,10 @@ def texts():
     lines = [
         '// The texts of `examples/`, as `examples/rows.py` writes them.',
         '',
-        '/// An example: whether it is played over the pack with a table, its script, what is printed, and the trace.',
+        '/// An example: the words that play it, whether that is over the pack with a table, its script, what is printed, and the trace.',
         'pub(crate) struct Example {',
         "    pub(crate) name: &'static str,",
+        "    pub(crate) words: &'static [&'static str],",
         '    pub(crate) is_listed: bool,',
         "    pub(crate) script: &'static [u8],",
         "    pub(crate) out: &'static [u8],",
@@ -45,7 +48,8 @@ def texts():
         f'pub(crate) const EXAMPLES: [Example; {len(names)}] = [',
     ]
     for name in names:
-        lines += ['    Example {', f'        name: "{name}",', f'        is_listed: {str(name in LISTED).lower()},']
+        words = ', '.join(f'"{word}"' for word in WORDS.get(name, ['play']))
+        lines += ['    Example {', f'        name: "{name}",', f'        words: &[{words}],', f'        is_listed: {str(name in LISTED).lower()},']
         for field, suffix in (('script', 'hps'), ('out', 'out'), ('trace', 'trace')):
             lines.append(f'        {field}: {literal(read(f"{name}.{suffix}"))},')
         lines.append('    },')
@@ -53,6 +57,7 @@ def texts():
 
 
 def pictures():
+    names = [it for it in NAMES if it not in WORDS]
     lines = [
         '// The texts of `examples/`, as `examples/rows.py` writes them.',
         '',
@@ -64,10 +69,10 @@ def pictures():
         '    pub(crate) picture: [u8; 32],',
         '}',
         '',
-        '/// Each script of the folder.',
-        f'pub(crate) const EXAMPLES: [Example; {len(NAMES)}] = [',
+        '/// Each script of the folder that `play` plays.',
+        f'pub(crate) const EXAMPLES: [Example; {len(names)}] = [',
     ]
-    for name in NAMES:
+    for name in names:
         lines += ['    Example {', f'        name: "{name}",']
         for field, suffix in (('script', 'hps'), ('trace', 'trace')):
             lines.append(f'        {field}: {literal(read(f"{name}.{suffix}"))},')

@@ -1,5 +1,5 @@
 -- The commands that the words of the command line name.
-use Rattle.std.specs.Prelude.{ℕ, ◌<◌, ◌-◌, ◌^◌, ◌&&◌, true, false, if◌then◌else◌, List, [], ◌∷◌, Option, None, Some, codes}
+use Rattle.std.specs.Prelude.{ℕ, ◌<◌, ◌≤◌, ◌-◌, ◌^◌, ◌==◌, ◌&&◌, true, false, if◌then◌else◌, List, [], ◌∷◌, Option, None, Some, codes}
 use Rattle.std.specs.Result.{result_ok}
 use Rattle.std.specs.Str.{bytes_eq}
 use Rattle.pack_geometry.specs.declared.DriveKind.{DriveKind}
@@ -11,7 +11,7 @@ use Rattle.command_parts.specs.Fields.{kind_named, unit_named}
 use Rattle.raw_command.specs.Words.{IsInRange, dump_named, raw_named}
 use Rattle.raw_command.specs.declared.words.Transfer.{Transfer}
 use Rattle.command_words.specs.declared.words.Command.{Command}
-use Rattle.command_words.specs.declared.words.Command.TheVariants.{Play, ListTable, AddBlock, FreshTable, MarkBlocks, Exercise, FormatPack, TransferBytes}
+use Rattle.command_words.specs.declared.words.Command.TheVariants.{Play, ListTable, AddBlock, FreshTable, MarkBlocks, Exercise, Cached, FormatPack, TransferBytes}
 
 -- a block is one of the drive's, a serial number is below 2^32, and the number of an exercise below 2^64; all are decimal
 abbrev pub block_named : DriveKind → List ℕ → Option ℕ
@@ -89,6 +89,25 @@ abbrev pub exercise_named : Option ℕ → Option Command
 exercise_named None = None
 exercise_named (Some number) = Some (Exercise number)
 
+-- `cached N`: a cache has 1 to 4,096 entries
+abbrev pub some_named : Option ℕ → Option ℕ
+some_named None = None
+some_named (Some number) = if number == 0 then None else Some number
+
+abbrev pub capacity_named : List ℕ → Option ℕ
+capacity_named word = some_named (result_ok (number_of Decimal 4096 word))
+
+abbrev pub cached_named : Option ℕ → Option Command
+cached_named None = None
+cached_named (Some capacity) = Some (Cached capacity)
+
+-- `exercise N` and `cached N`
+abbrev pub numbered_named : List ℕ → List ℕ → Option Command
+numbered_named word number =
+    if bytes_eq word (codes "exercise") then exercise_named (number_named number)
+    else if bytes_eq word (codes "cached") then cached_named (capacity_named number)
+    else None
+
 -- `format U KIND SERIAL`
 abbrev pub format_named : Option ℕ → Option DriveKind → Option ℕ → Option Command
 format_named None kind serial = None
@@ -105,11 +124,11 @@ abbrev pub transfer_named : Option Transfer → Option Command
 transfer_named None = None
 transfer_named (Some transfer) = Some (TransferBytes transfer)
 
--- THE COMMAND of the words: `play`, one of `bad144`, `exercise`, `format`, or one that transfers bytes
+-- THE COMMAND of the words: `play`, one of `bad144`, `exercise`, `cached`, `format`, or one that transfers bytes
 abbrev pub command_named : List (List ℕ) → Option Command
 command_named [] = None
 command_named (word ∷ []) = if bytes_eq word (codes "play") then Some Play else None
-command_named (word ∷ number ∷ []) = if bytes_eq word (codes "exercise") then exercise_named (number_named number) else None
+command_named (word ∷ number ∷ []) = numbered_named word number
 command_named (word ∷ unit ∷ kind ∷ []) = if bytes_eq word (codes "dump") then transfer_named (dump_named unit kind) else None
 command_named (tool ∷ verb ∷ unit ∷ kind ∷ words) =
     if bytes_eq tool (codes "bad144") then tool_named verb unit kind words
@@ -125,5 +144,6 @@ IsValid (AddBlock unit kind block way) = (unit < 32) × (block < block_count kin
 IsValid (FreshTable unit kind serial) = unit < 32
 IsValid (MarkBlocks unit kind) = unit < 32
 IsValid (Exercise number) = number < 2 ^ 64
+IsValid (Cached capacity) = (1 ≤ capacity) × (capacity ≤ 4096)
 IsValid (FormatPack unit kind serial) = unit < 32
 IsValid (TransferBytes transfer) = IsInRange transfer

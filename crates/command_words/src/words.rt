@@ -1,9 +1,9 @@
-ghost use Rattle.std.specs.Prelude.{◌≡◌, ◌<◌, ◌-◌, ◌^◌, map, IfSome, Some, None};
+ghost use Rattle.std.specs.Prelude.{◌≡◌, ◌<◌, ◌≤◌, ◌-◌, ◌^◌, map, IfSome, Some, None};
 ghost use Rattle.std.specs.String.{string_bytes};
 ghost use Rattle.pack_geometry.specs.Geometry.{block_count};
 ghost use Rattle.command_parts.specs.Fields.{kind_named, unit_named};
 ghost use Rattle.raw_command.specs.Words.{IsInRange};
-ghost use Rattle.command_words.specs.Commands.{IsValid, add_named, block_named, both_named, one_named, command_named, exercise_named, format_named, fresh_named, list_named, mark_named, number_named, pack_named, serial_named, tool_named, transfer_named, way_named};
+ghost use Rattle.command_words.specs.Commands.{IsValid, add_named, block_named, both_named, one_named, cached_named, capacity_named, command_named, exercise_named, format_named, fresh_named, list_named, mark_named, number_named, numbered_named, pack_named, serial_named, tool_named, transfer_named, way_named};
 
 use bad144_tool::AddWay;
 use command_parts::{kind_in, unit_in};
@@ -43,6 +43,10 @@ pub enum Command {
     Exercise {
         number: u64,
     },
+    /// A script is played through a cache of so many blocks.
+    Cached {
+        capacity: u32,
+    },
     /// A unit's pack is tested and formatted.
     FormatPack {
         unit: u8,
@@ -77,6 +81,19 @@ fn number_in(word: &str) -> Option<u64>
     ensures { result ≡ number_named word.now }
 {
     number(word.as_bytes(), Radix::Decimal, u64::MAX).ok()
+}
+
+/// How many blocks a cache has: 1 to 4,096, in decimal.
+fn capacity_in(word: &str) -> Option<u32>
+    ensures capacity { result ≡ capacity_named word.now }
+    ensures some { IfSome result (λ capacity. 1 ≤ capacity) }
+    ensures few { IfSome result (λ capacity. capacity ≤ 4096) }
+{
+    let capacity = number(word.as_bytes(), Radix::Decimal, 4096).ok()?;
+    if capacity == 0 {
+        return None;
+    }
+    Some(capacity as u32)
 }
 
 /// `copy` or `mark`.
@@ -178,6 +195,28 @@ fn exercise_command(number: &str) -> Option<Command>
     Some(Command::Exercise { number })
 }
 
+fn cached_command(capacity: &str) -> Option<Command>
+    ensures named { result ≡ cached_named (capacity_named capacity.now) }
+    ensures valid { IfSome result IsValid }
+{
+    let capacity = capacity_in(capacity)?;
+    Some(Command::Cached { capacity })
+}
+
+/// A command that a number follows: `exercise` or `cached`.
+fn numbered_command(word: &str, number: &str) -> Option<Command>
+    ensures named { result ≡ numbered_named word.now number.now }
+    ensures valid { IfSome result IsValid }
+{
+    if word == "exercise" {
+        return exercise_command(number);
+    }
+    if word == "cached" {
+        return cached_command(number);
+    }
+    None
+}
+
 /// A command of `bad144`, by its verb, a unit, a kind, and the words behind them.
 fn tool_command(verb: &str, unit: &str, kind: &str, rest: &[String]) -> Option<Command>
     ensures named { result ≡ tool_named verb.now unit.now kind.now (map string_bytes rest.now) }
@@ -260,12 +299,7 @@ pub fn command_of(words: &[String]) -> Option<Command>
             }
             None
         }
-        [word, number] => {
-            if word.as_str() == "exercise" {
-                return exercise_command(number.as_str());
-            }
-            None
-        }
+        [word, number] => numbered_command(word.as_str(), number.as_str()),
         [word, unit, kind] => {
             if word.as_str() == "dump" {
                 return transfer_command(dump_in(unit.as_str(), kind.as_str()));

@@ -1,5 +1,5 @@
 // Each example over its packs.
-use crate::texts::EXAMPLES;
+use crate::texts::{EXAMPLES, Example};
 use hpsim_run::run;
 use mass_outside::mem_packs::MemPacks;
 use mass_outside::mem_streams::{MemSink, MemSource};
@@ -47,11 +47,19 @@ fn listed(alloc: Global) -> Result<MemPacks, Fail> {
     Ok(packs)
 }
 
-/// Plays a script.
-fn play(alloc: Global, script: &[u8], packs: &mut MemPacks) -> Result<Ran, Fail> {
+/// The words of the command that plays an example.
+fn words_of(alloc: Global, example: &Example) -> Result<Vec<String>, Fail> {
     let mut words = Vec::new(alloc);
-    words.push(String::from_str(alloc, "play")?)?;
-    let mut source = MemSource::new(Vec::from_slice(alloc, script)?, Vec::new(alloc));
+    for word in example.words {
+        words.push(String::from_str(alloc, word)?)?;
+    }
+    Ok(words)
+}
+
+/// Plays an example.
+fn play(alloc: Global, example: &Example, packs: &mut MemPacks) -> Result<Ran, Fail> {
+    let words = words_of(alloc, example)?;
+    let mut source = MemSource::new(Vec::from_slice(alloc, example.script)?, Vec::new(alloc));
     let mut out = MemSink::new(alloc, 8_000, Vec::new(alloc))?;
     let mut trace = MemSink::new(alloc, 8_000, Vec::new(alloc))?;
     let status = run(
@@ -73,7 +81,7 @@ fn examples(rt: HostRuntime) -> Result<(), Fail> {
         } else {
             empty(rt.alloc())?
         };
-        let ran = play(rt.alloc(), example.script, &mut packs)?;
+        let ran = play(rt.alloc(), example, &mut packs)?;
         assert_eq!(rt; ran.status, 0, "{}", example.name);
         assert_eq!(rt; ran.out.taken(), example.out, "{}", example.name);
         assert_eq!(rt; ran.trace.taken(), example.trace, "{}", example.name);

@@ -4,4 +4,6 @@ pub mod SoFar
 mod Standing
 mod TheRunLaws
 mod PlayRuns
+mod ScriptRuns
+mod CachedRuns
 mod TransferLaws

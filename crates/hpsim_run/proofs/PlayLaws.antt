@@ -4,15 +4,13 @@ use Rattle.outside_traits.specs.Causes.{HasCause}
 use Rattle.outside_traits.specs.Puts.{TakesFront}
 use Rattle.pack_model.specs.Pack.{Pack}
 use Rattle.script_words.specs.declared.kinds.ScriptKind.{ScriptKind}
-use Rattle.script_words.specs.Words.{all_verbs}
-use Rattle.script_reader.specs.Grammar.{IsRefused}
 use Rattle.trace_replay.specs.Script.{Script}
 use Rattle.event_player.specs.declared.play.PlayFault.{PlayFault}
 use Rattle.event_player.specs.declared.play.PlayFault.TheVariants as faults
 use Rattle.event_player.specs.Faults.{IsPlaying, IsBefore, IsLongFor}
 use Rattle.hpsim_run.specs.declared.load.LoadFault.{LoadFault}
 use Rattle.hpsim_run.specs.declared.load.LoadFault.TheVariants as loading
-use Rattle.hpsim_run.specs.Headline.{SpellNone}
+use Rattle.hpsim_run.specs.Scripts.{MeanNone}
 use Rattle.hpsim_run.specs.Loading.{RefusesAll}
 use Rattle.command_parts.specs.Lines.{Told}
 use Rattle.script_words.specs.Refusals.{refusal_text}
@@ -35,9 +33,9 @@ told_of result taken after bytes line text faults faults_after tells same is all
     (subst (λ (x : List ℕ). Told taken after x faults faults_after) same (written result taken after bytes faults faults_after tells all front cause t))
 
 -- what a refusal says
-pub refused_parts : (left : List ℕ) (fault : LoadFault) (line : ℕ) (kind : ScriptKind) → fault ≡ loading.Refused line kind → RefusesAll fault left
-    → SpellNone left × IsRefused all_verbs left line kind
-refused_parts left fault line kind e is = subst (λ (f : LoadFault). RefusesAll f left) e is
+pub refused_parts : {Means : List ℕ → Script → Type 0} {First : List ℕ → ℕ → ScriptKind → Type 0} (left : List ℕ) (fault : LoadFault) (line : ℕ) (kind : ScriptKind)
+    → fault ≡ loading.Refused line kind → RefusesAll Means First fault left → MeanNone Means left × First left line kind
+refused_parts {Means} {First} left fault line kind e is = subst (λ (f : LoadFault). RefusesAll Means First f left) e is
 
 -- an image that is too long
 pub long_parts : (script : Script) (tells : Bool) (packs : ℕ → Pack) (fault : PlayFault) (unit length_is : ℕ) → fault ≡ faults.TooLong unit length_is

@@ -5,7 +5,7 @@ use Rattle.command_words.specs.Passes.{reads_source as transfer_reads}
 use Rattle.command_parts.specs.Statuses.{status_code}
 use Rattle.command_words.specs.Words.{usage_text}
 use Rattle.command_words.specs.declared.words.Command.{Command}
-use Rattle.command_words.specs.declared.words.Command.TheVariants.{Play, Exercise, TransferBytes}
+use Rattle.command_words.specs.declared.words.Command.TheVariants.{Play, Exercise, Cached, TransferBytes}
 use Rattle.command_parts.specs.declared.status.Status.TheVariants.{Usage, Refused, SourceFailed, TooLong, OutOfMemory}
 
 -- THE USAGE is told exactly where the words are no command.
@@ -16,12 +16,14 @@ pub record TellsUsage (command : Option Command) (code : ℕ) (out_tells : Bool)
 -- the commands that read the source, and those that tell the trace
 abbrev pub reads_source : Option Command → Bool
 reads_source (Some Play) = true
+reads_source (Some (Cached capacity)) = true
 reads_source (Some (TransferBytes transfer)) = transfer_reads transfer
 reads_source command = false
 
 abbrev pub tells_trace : Option Command → Bool
 tells_trace (Some Play) = true
 tells_trace (Some (Exercise number)) = true
+tells_trace (Some (Cached capacity)) = true
 tells_trace (Some (TransferBytes transfer)) = true
 tells_trace command = false
 

@@ -4,9 +4,12 @@ use Rattle.outside_traits.specs.declared.whole.ReadAllFault.{ReadAllFault}
 use Rattle.outside_traits.specs.declared.whole.ReadAllFault.TheVariants.{Memory as AllMemory, Failed as AllFailed}
 use Rattle.script_reader.specs.declared.fault.ReadFault.{ReadFault}
 use Rattle.script_reader.specs.declared.fault.ReadFault.TheVariants.{Memory as ReadMemory, Refused as ReadRefused}
-use Rattle.script_reader.specs.Grammar.{IsRefused}
-use Rattle.script_words.specs.Words.{all_verbs}
-use Rattle.hpsim_run.specs.Headline.{SpellNone}
+use Rattle.cached_script.specs.declared.kind.CachedRefusal.{CachedRefusal}
+use Rattle.cached_script.specs.declared.kind.CachedRefusal.TheVariants.{Memory as CachedMemory, Refused as CachedRefused}
+use Rattle.cached_script.specs.Kinds.{kind_of}
+use Rattle.script_words.specs.declared.kinds.ScriptKind.{ScriptKind}
+use Rattle.trace_replay.specs.Script.{Script}
+use Rattle.hpsim_run.specs.Scripts.{MeanNone}
 use Rattle.hpsim_run.specs.declared.load.LoadFault.{LoadFault}
 use Rattle.hpsim_run.specs.declared.load.LoadFault.TheVariants as faults
 
@@ -18,8 +21,12 @@ abbrev pub from_read : ReadFault → LoadFault
 from_read ReadMemory = faults.Memory
 from_read (ReadRefused line kind) = faults.Refused line kind
 
--- a refusal names the first fault of bytes that spell no script
-abbrev pub RefusesAll : LoadFault → List ℕ → Type 0
-RefusesAll faults.Memory bytes = Unit {0}
-RefusesAll faults.Failed bytes = Unit {0}
-RefusesAll (faults.Refused line kind) bytes = SpellNone bytes × IsRefused all_verbs bytes line kind
+abbrev pub from_cached : CachedRefusal → LoadFault
+from_cached CachedMemory = faults.Memory
+from_cached (CachedRefused line kind) = faults.Refused line (kind_of kind)
+
+-- a refusal names the first fault of bytes that mean no script
+abbrev pub RefusesAll : (List ℕ → Script → Type 0) → (List ℕ → ℕ → ScriptKind → Type 0) → LoadFault → List ℕ → Type 0
+RefusesAll Means First faults.Memory bytes = Unit {0}
+RefusesAll Means First faults.Failed bytes = Unit {0}
+RefusesAll Means First (faults.Refused line kind) bytes = MeanNone Means bytes × First bytes line kind

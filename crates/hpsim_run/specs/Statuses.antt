@@ -8,9 +8,9 @@ use Rattle.command_words.specs.Passes.{IsTransferCode}
 use Rattle.command_words.specs.Passes.{Transfer}
 use Rattle.pack_commands.specs.Formats.{IsFormatCode}
 use Rattle.command_words.specs.declared.words.Command.{Command}
-use Rattle.command_words.specs.declared.words.Command.TheVariants.{Play, ListTable, AddBlock, FreshTable, MarkBlocks, Exercise, FormatPack, TransferBytes}
+use Rattle.command_words.specs.declared.words.Command.TheVariants.{Play, ListTable, AddBlock, FreshTable, MarkBlocks, Exercise, Cached, FormatPack, TransferBytes}
 
--- the statuses of `play`, of the commands of `bad144` without and with refusals of their own, and of `exercise`
+-- the statuses of `play` and `cached`, of the commands of `bad144` without and with refusals of their own, and of `exercise`
 abbrev pub IsPlayCode : ℕ → Type 0
 IsPlayCode code = (code ≡ status_code Done) ⊎ (code ≡ status_code Refused) ⊎ (code ≡ status_code SourceFailed) ⊎ (code ≡ status_code SinkFailed)
     ⊎ (code ≡ status_code PacksFailed) ⊎ (code ≡ status_code TooLong) ⊎ (code ≡ status_code OutOfMemory)
@@ -33,5 +33,6 @@ pub record IsStatusOf (command : Option Command) (code : ℕ) : Type 0 where
   pub fresh : (unit serial : ℕ) (kind : DriveKind) → command ≡ Some (FreshTable unit kind serial) → IsToolCode code
   pub mark : (unit : ℕ) (kind : DriveKind) → command ≡ Some (MarkBlocks unit kind) → IsChangeCode code
   pub exercise : (number : ℕ) → command ≡ Some (Exercise number) → IsExerciseCode code
+  pub cached : (capacity : ℕ) → command ≡ Some (Cached capacity) → IsPlayCode code
   pub format : (unit serial : ℕ) (kind : DriveKind) → command ≡ Some (FormatPack unit kind serial) → IsFormatCode code
   pub transfer : (transfer : Transfer) → command ≡ Some (TransferBytes transfer) → IsTransferCode transfer code

@@ -1,19 +1,18 @@
 ghost use Rattle.std.specs.Prelude.{◌≡◌, ℕ, Some};
-ghost use Rattle.bad144_tool.specs.declared.edit.AddWay.{AddWay};
-ghost use Rattle.pack_geometry.specs.declared.DriveKind.{DriveKind};
 ghost use Rattle.command_parts.specs.Outside.{HasItsCause, outside};
 ghost use Rattle.command_words.specs.Passes.{RunsTransfer};
 ghost use Rattle.command_words.specs.Passes.{Transfer};
+ghost use Rattle.hpsim_run.specs.Cached.{RunsCached};
 ghost use Rattle.hpsim_run.specs.Exercises.{RunsExercise};
-ghost use Rattle.pack_commands.specs.Formats.{RunsFormat};
 ghost use Rattle.hpsim_run.specs.Leaves.{LeavesAlone, TellsUsage};
 ghost use Rattle.hpsim_run.specs.Plays.{RunsPlay};
 ghost use Rattle.command_parts.specs.Statuses.{status_code};
 ghost use Rattle.hpsim_run.specs.Statuses.{IsStatusOf};
-ghost use Rattle.pack_commands.specs.Tools.{RunsAdd, RunsFresh, RunsList, RunsMark};
+ghost use Rattle.hpsim_run.specs.Tools.{RunsTool};
 ghost use Rattle.command_words.specs.Words.{command_of as the_command};
-ghost use Rattle.command_words.specs.declared.words.Command.TheVariants.{Play, ListTable, AddBlock, FreshTable, MarkBlocks, Exercise, FormatPack, TransferBytes};
+ghost use Rattle.command_words.specs.declared.words.Command.TheVariants.{Play, Cached, Exercise, TransferBytes};
 
+use crate::cached::run_cached;
 use crate::exercise::run_exercise;
 use crate::load::{LoadFault, load};
 use crate::transfers::run_bytes;
@@ -81,6 +80,7 @@ fn run_play<S: Source, P: Packs, O: Sink, T: Sink>(
 /// `raw read U KIND PART AT LEN` gives bytes of a partition to `out`; `raw write U KIND PART AT` and `dump U KIND` write those of the source to
 /// a partition, or to the end of partition `b`. They go through the driver, and its lines go to `trace`.
 /// `format U KIND SERIAL` tests every block of a pack through the drive, and writes a table of its marked blocks.
+/// `cached N` plays a script of its own grammar over the packs through a cache of N blocks with delayed writes; its lines go to `trace`.
 /// `exercise N` plays the script of a number over empty packs of its own, and prints its tally; its trace goes to `trace`.
 ///
 /// | code | status | comes | printed on `out` |
@@ -90,7 +90,7 @@ fn run_play<S: Source, P: Packs, O: Sink, T: Sink>(
 /// | 3 | Refused | only where the source's bytes spell no script, and there unless 4 or 9 comes first | `refused line L KIND` |
 /// | 4 | SourceFailed | only where the source's count of faults rose | nothing |
 /// | 5 | SinkFailed | only where the count of `out` or of `trace` rose | nothing further |
-/// | 6 | PacksFailed | only where the packs' count rose | of `play` the answers so far; else nothing |
+/// | 6 | PacksFailed | only where the packs' count rose | of `play` and `cached` the answers so far; else nothing |
 /// | 7 | TooLong | only where the image of a declared unit, or of the unit of any other command, is longer than its pack, and there unless 4, 6 or 9 comes | `too long unit U length L` |
 /// | 8 | ToolRefused | only where `bad144 add` is refused, or `bad144 mark` finds no table, and there unless 6 or 7 comes | `refused no table`, `refused reserved`, `refused listed I`, `refused full`, `refused spare I` |
 /// | 9 | OutOfMemory | there was no memory, before the first line was played or the first block read or written; never of `bad144` | nothing |
@@ -109,23 +109,13 @@ pub fn run<S: Source, P: Packs, O: Sink, T: Sink>(
         (outside S.tells S.left S.faults P.tells P.held P.faults O.tells O.taken O.faults T.tells T.taken T.faults script.old packs.old out.old trace.old)
         (outside S.tells S.left S.faults P.tells P.held P.faults O.tells O.taken O.faults T.tells T.taken T.faults script.new packs.new out.new trace.new) }
 
-    // The tool for bad-sector tables.
-    ensures list { (unit : ℕ) → (kind : DriveKind) → the_command words.now ≡ Some (ListTable unit kind) →
-        RunsList kind unit result (P.tells packs.new) (P.held packs.old) (P.held packs.new)
-        (O.tells out.new) (O.taken out.old) (O.taken out.new) (O.faults out.old) (O.faults out.new) }
-    ensures add { (unit block : ℕ) → (kind : DriveKind) → (way : AddWay) → the_command words.now ≡ Some (AddBlock unit kind block way) →
-        RunsAdd kind unit block way result (P.tells packs.new) (P.held packs.old) (P.held packs.new)
-        (O.tells out.new) (O.taken out.old) (O.taken out.new) (O.faults out.old) (O.faults out.new) }
-    ensures fresh { (unit serial : ℕ) → (kind : DriveKind) → the_command words.now ≡ Some (FreshTable unit kind serial) →
-        RunsFresh kind unit serial result (P.tells packs.new) (P.held packs.old) (P.held packs.new)
-        (O.tells out.new) (O.taken out.old) (O.taken out.new) (O.faults out.old) (O.faults out.new) }
-    ensures mark { (unit : ℕ) → (kind : DriveKind) → the_command words.now ≡ Some (MarkBlocks unit kind) →
-        RunsMark kind unit result (P.tells packs.new) (P.held packs.old) (P.held packs.new)
-        (O.tells out.new) (O.taken out.old) (O.taken out.new) (O.faults out.old) (O.faults out.new) }
+    // `cached`: each request answered at its own line, what stands after a stop, and each other status.
+    ensures cached { (capacity : ℕ) → the_command words.now ≡ Some (Cached capacity) → RunsCached result
+        (outside S.tells S.left S.faults P.tells P.held P.faults O.tells O.taken O.faults T.tells T.taken T.faults script.old packs.old out.old trace.old)
+        (outside S.tells S.left S.faults P.tells P.held P.faults O.tells O.taken O.faults T.tells T.taken T.faults script.new packs.new out.new trace.new) }
 
-    // The formatter.
-    ensures format { (unit serial : ℕ) → (kind : DriveKind) → the_command words.now ≡ Some (FormatPack unit kind serial) →
-        RunsFormat kind unit serial result (P.tells packs.new) (P.held packs.old) (P.held packs.new)
+    // The tools: those for bad-sector tables, and the formatter.
+    ensures tool { RunsTool (the_command words.now) result (P.tells packs.new) (P.held packs.old) (P.held packs.new)
         (O.tells out.new) (O.taken out.old) (O.taken out.new) (O.faults out.old) (O.faults out.new) }
 
     // The exercise.
@@ -166,6 +156,9 @@ pub fn run<S: Source, P: Packs, O: Sink, T: Sink>(
         }
         Some(Command::MarkBlocks { unit, kind }) => run_mark(packs, out, unit, kind).code(),
         Some(Command::Exercise { number }) => run_exercise(alloc, number, out, trace).code(),
+        Some(Command::Cached { capacity }) => {
+            run_cached(alloc, capacity, script, packs, out, trace).code()
+        }
         Some(Command::FormatPack { unit, kind, serial }) => {
             run_format(alloc, packs, out, unit, kind, serial).code()
         }

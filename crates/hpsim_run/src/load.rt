@@ -1,11 +1,15 @@
 ghost use Rattle.std.specs.Prelude.{◌≡◌, ◌+◌, ◌≤◌, IsTrue, [], length, IfOk, IfErr, IsErrOf};
 ghost use Rattle.outside_traits.specs.Causes.{Rose};
-ghost use Rattle.script_reader.specs.Grammar.{Spells};
+ghost use Rattle.script_reader.specs.Grammar.{Spells, IsRefused};
 ghost use Rattle.script_reader.specs.Stored.{lines_in};
 ghost use Rattle.script_words.specs.Words.{all_verbs};
-ghost use Rattle.hpsim_run.specs.Headline.{longest};
+ghost use Rattle.cached_script.specs.Scripts.{Spells as CachedSpells, IsRefused as CachedRefused};
+ghost use Rattle.hpsim_run.specs.Cached.{MeansCached};
+ghost use Rattle.hpsim_run.specs.Headline.{Means};
+ghost use Rattle.hpsim_run.specs.Scripts.{longest};
 ghost use Rattle.hpsim_run.specs.Loading.{RefusesAll};
 
+use cached_script::{CachedRefusal, CachedScript, cached_grammar_law, read_cached};
 use outside_traits::traits::Source;
 use outside_traits::whole::{ReadAllFault, read_all};
 use script_reader::{ReadFault, Script, ScriptKind, grammar_law, read_script};
@@ -57,6 +61,23 @@ impl From<ReadFault> for LoadFault {
     }
 }
 
+impl From<CachedRefusal> for LoadFault {
+    ghost use Rattle.hpsim_run.specs.Loading.{from_cached};
+    ghost use Rattle.std.specs.Prelude.{◌≡◌};
+
+    ghost from_gives = { λ f e. e ≡ from_cached f };
+
+    fn from(fault: CachedRefusal) -> LoadFault {
+        match fault {
+            CachedRefusal::Memory => LoadFault::Memory,
+            CachedRefusal::Refused { line, kind } => LoadFault::Refused {
+                line,
+                kind: kind.script_kind(),
+            },
+        }
+    }
+}
+
 /// Reads the script that a source gives, to its end or to 16 MiB and one byte. Ok comes only where its bytes spell a
 /// script; Refused only where they spell none, with the first fault; Failed only where the source's count of faults
 /// rose in this call; Memory tells that there was none.
@@ -66,12 +87,28 @@ pub fn load<S: Source>(alloc: Global, source: &mut S) -> Result<Script, LoadFaul
     ensures ok { IfOk result (λ script. IsTrue (S.tells source.new) → Spells all_verbs (S.left source.old) (lines_in script) script.count) }
     ensures end { IfOk result (λ script. IsTrue (S.tells source.new) → S.left source.new ≡ []) }
     ensures taken { IsTrue (S.tells source.new) → length (S.left source.old) ≤ length (S.left source.new) + longest + 1 }
-    ensures refused { IfErr result (λ fault. IsTrue (S.tells source.new) → RefusesAll fault (S.left source.old)) }
+    ensures refused { IfErr result (λ fault. IsTrue (S.tells source.new) → RefusesAll Means (IsRefused all_verbs) fault (S.left source.old)) }
     ensures later { S.faults source.old ≤ S.faults source.new }
     ensures failed { IsErrOf result LoadFault.Failed → Rose (S.faults source.old) (S.faults source.new) }
 {
     grammar_law();
     let bytes = read_all(alloc, source, LONGEST)?;
     let script = read_script(alloc, bytes)?;
+    Ok(script)
+}
+
+/// Reads the script of a cache that a source gives, as `load` does, by the grammar of these scripts.
+pub fn load_cached<S: Source>(alloc: Global, source: &mut S) -> Result<CachedScript, LoadFault>
+    ensures never_again { IsTrue (S.tells source.new) → IsTrue (S.tells source.old) }
+    ensures ok { IfOk result (λ script. IsTrue (S.tells source.new) → CachedSpells (S.left source.old) script.lines script.count) }
+    ensures end { IfOk result (λ script. IsTrue (S.tells source.new) → S.left source.new ≡ []) }
+    ensures taken { IsTrue (S.tells source.new) → length (S.left source.old) ≤ length (S.left source.new) + longest + 1 }
+    ensures refused { IfErr result (λ fault. IsTrue (S.tells source.new) → RefusesAll MeansCached CachedRefused fault (S.left source.old)) }
+    ensures later { S.faults source.old ≤ S.faults source.new }
+    ensures failed { IsErrOf result LoadFault.Failed → Rose (S.faults source.old) (S.faults source.new) }
+{
+    cached_grammar_law();
+    let bytes = read_all(alloc, source, LONGEST)?;
+    let script = read_cached(alloc, bytes)?;
     Ok(script)
 }

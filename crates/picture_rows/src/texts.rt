@@ -8,7 +8,7 @@ pub(crate) struct Example {
     pub(crate) picture: [u8; 32],
 }
 
-/// Each script of the folder.
+/// Each script of the folder that `play` plays.
 pub(crate) const EXAMPLES: [Example; 15] = [
     Example {
         name: "alias",

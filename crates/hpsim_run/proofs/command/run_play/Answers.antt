@@ -1,19 +1,21 @@
 use Rattle.std.proofs.Common.{refl, sym}
 use Rattle.event_player.specs.declared.play.PlayFault.TheVariants as faults
 use Rattle.script_reader.specs.Stored.{lines_in}
+use Rattle.script_meaning.specs.Meaning.{meaning}
 use Rattle.hpsim_run.proofs.PlayLaws.{told_of, told_from, refused_parts, refusal_is, long_parts, long_before, sink_plays, left_by, err_is}
-use Rattle.hpsim_run.proofs.PlayRuns.{runs_done, runs_sink, runs_store, runs_refused, runs_too_long, runs_unread, runs_memory}
+use Rattle.hpsim_run.proofs.PlayRuns.{one_meaning, runs_done, runs_sink, runs_store, unplayed}
+use Rattle.hpsim_run.proofs.ScriptRuns.{memory_apart, refused_apart, too_long_apart, unread_apart, script_memory, script_refused, script_too_long, script_unread}
 use Rattle.hpsim_run.proofs.SoFar.{keeps}
 use Rattle.hpsim_run.proofs.command.run_play.Goals as goal
 
 pub returns-in-Err-Refused-clause-runs : goal.returns-in-Err-Refused-clause-runs
-returns-in-Err-Refused-clause-runs g c = runs_refused _ _ c.in-Err-Refused.ensures.taken (record {
+returns-in-Err-Refused-clause-runs g c = unplayed refused_apart (script_refused _ one_meaning _ _ c.in-Err-Refused.ensures.taken (record {
   line = c.in-Err-Refused.line;
   kind = c.in-Err-Refused.kind;
   none = λ t. (refused_parts _ _ _ _ c.in-Err-Refused.field-0-is (c.in-Err-Refused.ensures.refused t)).0;
   first = λ t. (refused_parts _ _ _ _ c.in-Err-Refused.field-0-is (c.in-Err-Refused.ensures.refused t)).1;
   told = told_of c.write_all.result _ _ _ _ _ _ _ _ c.as_bytes.ensures.text (refusal_is _ _ _ _ _ (sym c.in-Err-Refused.line-is) (sym c.in-Err-Refused.kind-is) c.refusal.ensures) c.write_all.ensures.bytes c.write_all.ensures.front c.write_all.ensures.cause;
-})
+}))
 
 pub returns-in-Ok-play-clause-runs : goal.returns-in-Ok-play-clause-runs
 returns-in-Ok-play-clause-runs g c = runs_done _ _ c.in-Ok.ensures.taken (record {
@@ -27,18 +29,17 @@ returns-in-Ok-play-clause-runs g c = runs_done _ _ c.in-Ok.ensures.taken (record
 })
 
 pub returns-in-Err-TooLong-clause-runs : goal.returns-in-Err-TooLong-clause-runs
-returns-in-Err-TooLong-clause-runs g c = runs_too_long _ _ c.in-Ok.ensures.taken
+returns-in-Err-TooLong-clause-runs g c = unplayed too_long_apart (script_too_long _ one_meaning _ _ c.in-Ok.ensures.taken
     (record {
-      lines = lines_in c.in-Ok.script;
-      count = c.in-Ok.script.count;
+      script = meaning (lines_in c.in-Ok.script) c.in-Ok.script.count;
       unit = c.in-Err-TooLong.unit;
       length_is = c.in-Err-TooLong.length;
-      spelled = λ t. c.in-Ok.ensures.ok t;
+      means = λ t. record { lines = lines_in c.in-Ok.script; count = c.in-Ok.script.count; spelled = c.in-Ok.ensures.ok t; is = refl };
       is = long_parts _ _ _ _ _ _ c.in-Err-TooLong.field-0-is c.in-Err-TooLong.ensures.too_long;
       told = λ t. told_from g.O.Sink.taken g.O.Sink.faults _ _ _ _ _ (c.in-Err-TooLong.ensures.untouched (long_before _ _ _ c.in-Err-TooLong.field-0-is)).silent
           (told_of c.write_all-in-Err-TooLong.result _ _ _ _ _ _ _ _ c.as_bytes-in-Err-TooLong.ensures.text c.too_long.ensures c.write_all-in-Err-TooLong.ensures.bytes c.write_all-in-Err-TooLong.ensures.front c.write_all-in-Err-TooLong.ensures.cause t);
     })
-    (c.in-Err-TooLong.ensures.untouched (long_before _ _ _ c.in-Err-TooLong.field-0-is)).same
+    (c.in-Err-TooLong.ensures.untouched (long_before _ _ _ c.in-Err-TooLong.field-0-is)).same)
 
 pub returns-in-Err-Sink-clause-runs : goal.returns-in-Err-Sink-clause-runs
 returns-in-Err-Sink-clause-runs g c = runs_sink _ _ c.in-Ok.ensures.taken
@@ -68,8 +69,8 @@ returns-in-Err-Store-clause-runs g c = runs_store _ _ c.in-Ok.ensures.taken
     (c.in-Err-Store.ensures.causes.store (err_is c.in-Err-Store.field-0-is))
 
 pub returns-in-Err-Failed-clause-runs : goal.returns-in-Err-Failed-clause-runs
-returns-in-Err-Failed-clause-runs g c = runs_unread _ _ c.in-Err-Failed.ensures.taken
-    (c.in-Err-Failed.ensures.failed (err_is c.in-Err-Failed.field-0-is))
+returns-in-Err-Failed-clause-runs g c = unplayed unread_apart (script_unread _ one_meaning _ _ c.in-Err-Failed.ensures.taken
+    (c.in-Err-Failed.ensures.failed (err_is c.in-Err-Failed.field-0-is)))
 
 pub returns-in-Err-Memory-clause-runs : goal.returns-in-Err-Memory-clause-runs
-returns-in-Err-Memory-clause-runs g c = runs_memory _ _ c.in-Err-Memory.ensures.taken (λ t. refl)
+returns-in-Err-Memory-clause-runs g c = unplayed memory_apart (script_memory _ one_meaning _ _ c.in-Err-Memory.ensures.taken (λ t. refl))

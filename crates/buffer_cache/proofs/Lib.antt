@@ -1,0 +1,4 @@
+mod Orders
+mod Stays
+mod Turns
+mod Wholes

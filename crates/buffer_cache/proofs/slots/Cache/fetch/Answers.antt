@@ -1,0 +1,59 @@
+use Rattle.std.proofs.Common.{◌≡◌, ◌≤◌, true, refl, sym, subst}
+use Rattle.std.specs.Prelude.{None, Some}
+use Rattle.blocking_io.specs.Calls.{Stage}
+use Rattle.raw_io.specs.Transfers.{site}
+use Rattle.raw_io.proofs.Exits.{on_err, keeps_err, keeps_join}
+use Rattle.single_blocks.specs.Asks.{Fetches}
+use Rattle.buffer_cache.specs.Calls.{IfTold, Holds}
+use Rattle.buffer_cache.proofs.Stays.{all_data, holds_untouched, holds_behind_read, fetched_true}
+use Rattle.buffer_cache.proofs.slots.Cache.fetch.Goals as goal
+
+pub returns-in_err-fetch_block-clause-stops : goal.returns-in_err-fetch_block-clause-stops
+returns-in_err-fetch_block-clause-stops g c =
+    let old : Stage = site g.P.Packs.tells g.P.Packs.held g.T.Sink.tells g.T.Sink.taken c.args.subsystem.now.world c.args.packs.now c.args.trace.now in
+    let new : Stage = site g.P.Packs.tells g.P.Packs.held g.T.Sink.tells g.T.Sink.taken c.fetch_block.new.subsystem.world c.fetch_block.new.packs c.fetch_block.new.trace in
+    on_err c.from_residual.result _ (λ t tables fit. holds_untouched 0 0 None c.args.self.now old new (c.in_err-fetch_block.ensures.stops t tables))
+
+pub make_room-requires-clause-may : goal.make_room-requires-clause-may
+make_room-requires-clause-may g c =
+    let old : Stage = site g.P.Packs.tells g.P.Packs.held g.T.Sink.tells g.T.Sink.taken c.args.subsystem.now.world c.args.packs.now c.args.trace.now in
+    let mid : Stage = site g.P.Packs.tells g.P.Packs.held g.T.Sink.tells g.T.Sink.taken c.fetch_block.new.subsystem.world c.fetch_block.new.packs c.fetch_block.new.trace in
+    record {
+      ready = c.in_ok-fetch_block.ensures.keeps.ready refl;
+      room = subst (λ n. 1 ≤ n) (sym c.in_ok-fetch_block.ensures.keeps.outstanding) c.requires.may.room;
+      entries = all_data old mid c.args.self.now.entries c.in_ok-fetch_block.ensures.fetches.asks.goes.setup (c.in_ok-fetch_block.ensures.keeps.units refl) c.requires.may.entries;
+    }
+
+pub returns-in_err-make_room-clause-stops : goal.returns-in_err-make_room-clause-stops
+returns-in_err-make_room-clause-stops g c =
+    let old : Stage = site g.P.Packs.tells g.P.Packs.held g.T.Sink.tells g.T.Sink.taken c.args.subsystem.now.world c.args.packs.now c.args.trace.now in
+    let mid : Stage = site g.P.Packs.tells g.P.Packs.held g.T.Sink.tells g.T.Sink.taken c.fetch_block.new.subsystem.world c.fetch_block.new.packs c.fetch_block.new.trace in
+    let new : Stage = site g.P.Packs.tells g.P.Packs.held g.T.Sink.tells g.T.Sink.taken c.make_room.new.subsystem.world c.make_room.new.packs c.make_room.new.trace in
+    on_err c.from_residual-in_err-make_room.result (IfTold c.args.self.now old new (Holds 0 0 None c.args.self.now old new))
+    (holds_behind_read c.args.line c.args.unit c.args.block c.args.self.now old mid new c.in_ok-fetch_block.ensures.fetches.asks c.in_err-make_room.ensures.keeps.never_again c.in_err-make_room.ensures.stops)
+
+pub returns-in_err-make_room-clause-keeps : goal.returns-in_err-make_room-clause-keeps
+returns-in_err-make_room-clause-keeps g c =
+    let joined = keeps_join g.P.Packs.tells g.P.Packs.faults g.T.Sink.tells g.T.Sink.faults c.args.subsystem.now c.fetch_block.new.subsystem c.make_room.new.subsystem c.args.packs.now c.fetch_block.new.packs
+    c.make_room.new.packs c.args.trace.now c.fetch_block.new.trace c.make_room.new.trace (Some c.in_err-make_room.field-0.0) c.in_ok-fetch_block.ensures.keeps c.in_err-make_room.ensures.keeps in
+    keeps_err g.P.Packs.tells g.P.Packs.faults g.T.Sink.tells g.T.Sink.faults c.args.subsystem.now c.make_room.new.subsystem c.args.packs.now c.make_room.new.packs c.args.trace.now c.make_room.new.trace
+    c.from_residual-in_err-make_room.result c.in_err-make_room.field-0.0 c.from_residual-in_err-make_room.ensures.1 joined.outstanding joined.never_again joined.never_again_trace joined.causes
+
+pub returns-clause-fetches : goal.returns-clause-fetches
+returns-clause-fetches g c =
+    let old : Stage = site g.P.Packs.tells g.P.Packs.held g.T.Sink.tells g.T.Sink.taken c.args.subsystem.now.world c.args.packs.now c.args.trace.now in
+    let mid : Stage = site g.P.Packs.tells g.P.Packs.held g.T.Sink.tells g.T.Sink.taken c.fetch_block.new.subsystem.world c.fetch_block.new.packs c.fetch_block.new.trace in
+    let new : Stage = site g.P.Packs.tells g.P.Packs.held g.T.Sink.tells g.T.Sink.taken c.make_room.new.subsystem.world c.make_room.new.packs c.make_room.new.trace in
+    fetched_true c.sessions_law.ensures.join c.args.line c.args.unit c.args.block c.fetch_block.new.into c.args.self.now c.make_room.new.self old mid new
+    (subst (λ b. Fetches c.args.line c.args.unit c.args.block b c.fetch_block.new.into old mid) c.if-not-branch.false c.in_ok-fetch_block.ensures.fetches) c.in_ok-make_room.ensures.state c.in_ok-make_room.ensures.asks
+    (record { packs = c.in_ok-make_room.ensures.keeps.never_again; trace = c.in_ok-make_room.ensures.keeps.never_again_trace })
+
+pub returns-then-not-branch-clause-may : goal.returns-then-not-branch-clause-may
+returns-then-not-branch-clause-may g c =
+    let old : Stage = site g.P.Packs.tells g.P.Packs.held g.T.Sink.tells g.T.Sink.taken c.args.subsystem.now.world c.args.packs.now c.args.trace.now in
+    let mid : Stage = site g.P.Packs.tells g.P.Packs.held g.T.Sink.tells g.T.Sink.taken c.fetch_block.new.subsystem.world c.fetch_block.new.packs c.fetch_block.new.trace in
+    record {
+      ready = c.in_ok-fetch_block.ensures.keeps.ready refl;
+      room = subst (λ n. 1 ≤ n) (sym c.in_ok-fetch_block.ensures.keeps.outstanding) c.requires.may.room;
+      entries = all_data old mid c.args.self.now.entries c.in_ok-fetch_block.ensures.fetches.asks.goes.setup (c.in_ok-fetch_block.ensures.keeps.units refl) c.requires.may.entries;
+    }

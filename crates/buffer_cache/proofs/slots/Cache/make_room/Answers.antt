@@ -1,0 +1,52 @@
+use Rattle.std.proofs.Common.{◌≡◌, ◌≤◌, [], refl, sym, ◌∙◌, subst}
+use Rattle.std.specs.Prelude.{None, Some}
+use Rattle.blocking_io.specs.Calls.{Stage}
+use Rattle.raw_io.specs.Transfers.{site}
+use Rattle.raw_io.specs.Calls.{map_at}
+use Rattle.raw_io.proofs.Exits.{on_err}
+use Rattle.cached_blocks.specs.declared.Entry.{Entry}
+use Rattle.cached_blocks.specs.Requests.{writes}
+use Rattle.cached_blocks.specs.Entries.{to_write_back, write_backs}
+use Rattle.cached_blocks.proofs.Ones.{IsFound, each_found, back_all, back_one, none_one}
+use Rattle.single_blocks.specs.Asks.{IsData, Asks}
+use Rattle.single_blocks.proofs.Joins.{asks_none}
+use Rattle.buffer_cache.proofs.Stays.{all_data, holds_left, unchanged_data}
+use Rattle.buffer_cache.proofs.slots.Cache.make_room.Goals as goal
+
+pub returns-in_default-clause-asks : goal.returns-in_default-clause-asks
+returns-in_default-clause-asks g c =
+    let old : Stage = site g.P.Packs.tells g.P.Packs.held g.T.Sink.tells g.T.Sink.taken c.args.subsystem.now.world c.args.packs.now c.args.trace.now in
+    subst (λ w. Asks c.args.line (write_backs w) old old) (sym (sym c.last_changed.ensures ∙ c.in_default.is)) (asks_none c.args.line old)
+
+pub store_block-requires-clause-may : goal.store_block-requires-clause-may
+store_block-requires-clause-may g c = record {
+  ready = c.requires.may.ready;
+  room = c.requires.may.room;
+  unit_is = (back_all (λ (e : Entry). IsData c.args.subsystem.now.world e.unit e.block) c.args.self.now c.in-Some.last c.requires.may.entries (sym c.last_changed.ensures ∙ c.in-Some.is)).unit_is;
+}
+
+pub store_block-requires-clause-block : goal.store_block-requires-clause-block
+store_block-requires-clause-block g c =
+    back_all (λ (e : Entry). IsData c.args.subsystem.now.world e.unit e.block) c.args.self.now c.in-Some.last c.requires.may.entries (sym c.last_changed.ensures ∙ c.in-Some.is)
+
+pub returns-in_err-store_block-clause-stops : goal.returns-in_err-store_block-clause-stops
+returns-in_err-store_block-clause-stops g c =
+    let old : Stage = site g.P.Packs.tells g.P.Packs.held g.T.Sink.tells g.T.Sink.taken c.args.subsystem.now.world c.args.packs.now c.args.trace.now in
+    let new : Stage = site g.P.Packs.tells g.P.Packs.held g.T.Sink.tells g.T.Sink.taken c.store_block.new.subsystem.world c.store_block.new.packs c.store_block.new.trace in
+    let some = sym c.last_changed.ensures ∙ c.in-Some.is in
+    let found = back_all (IsFound c.args.self.now.entries) c.args.self.now c.in-Some.last (each_found c.args.self.now.entries c.law.ensures.apart) some in
+    let first = none_one (map_at old) c.args.self.now.entries 0 0 None in
+    on_err c.from_residual.result _ (λ t tables fit.
+    holds_left c.args.line [] (writes c.in-Some.last.unit c.in-Some.last.block c.in-Some.last.bytes) 0 0 None c.args.self.now old old new (asks_none c.args.line old) first
+    (back_one (map_at old) c.args.self.now.entries 0 0 None (map_at old) c.in-Some.last found first) c.in_err-store_block.ensures.keeps.never_again c.in_err-store_block.ensures.stops t tables)
+
+pub returns-clause-may : goal.returns-clause-may
+returns-clause-may g c =
+    let old : Stage = site g.P.Packs.tells g.P.Packs.held g.T.Sink.tells g.T.Sink.taken c.args.subsystem.now.world c.args.packs.now c.args.trace.now in
+    let mid : Stage = site g.P.Packs.tells g.P.Packs.held g.T.Sink.tells g.T.Sink.taken c.store_block.new.subsystem.world c.store_block.new.packs c.store_block.new.trace in
+    record {
+      ready = c.in_ok-store_block.ensures.keeps.ready refl;
+      room = subst (λ n. 1 ≤ n) (sym c.in_ok-store_block.ensures.keeps.outstanding) c.requires.may.room;
+      entries = unchanged_data mid.world c.args.self.now c.last_is_written.new.self c.last_is_written.ensures
+          (all_data old mid c.args.self.now.entries c.in_ok-store_block.ensures.stores.goes.setup (c.in_ok-store_block.ensures.keeps.units refl) c.requires.may.entries);
+    }

@@ -1,0 +1,62 @@
+use Rattle.std.proofs.Common.{◌≡◌, refl, sym, subst}
+use Rattle.std.specs.Prelude.{not, None, Some, false, true}
+use Rattle.std.specs.List.{AllByRecursion}
+use Rattle.blocking_io.specs.Calls.{Stage}
+use Rattle.raw_io.specs.Transfers.{site}
+use Rattle.cached_blocks.specs.Entries.{State, entry_of}
+use Rattle.single_blocks.specs.Asks.{IsData}
+use Rattle.buffer_cache.specs.Calls.{Fetched}
+use Rattle.buffer_cache.proofs.Stays.{data_stays, room_none, put_data}
+use Rattle.buffer_cache.proofs.Wholes.{read_unusable, read_usable, holds_read}
+use Rattle.buffer_cache.proofs.slots.Cache.read_new.Goals as goal
+
+pub returns-then-not-branch-clause-reads : goal.returns-then-not-branch-clause-reads
+returns-then-not-branch-clause-reads g c =
+    let old : Stage = site g.P.Packs.tells g.P.Packs.held g.T.Sink.tells g.T.Sink.taken c.args.subsystem.now.world c.args.packs.now c.args.trace.now in
+    let mid : Stage = site g.P.Packs.tells g.P.Packs.held g.T.Sink.tells g.T.Sink.taken c.fetch.new.subsystem.world c.fetch.new.packs c.fetch.new.trace in
+    λ e. read_unusable c.cache_law.ensures.reads c.args.line c.args.unit c.args.block c.fetch.new.into c.args.self.now c.fetch.new.self old mid c.law.ensures c.requires.new
+    (subst (λ b. Fetched c.args.line c.args.unit c.args.block b c.fetch.new.into c.args.self.now c.fetch.new.self old mid) c.if-not-branch.true c.in_ok-fetch.ensures.fetches)
+
+pub returns-then-not-branch-clause-holds : goal.returns-then-not-branch-clause-holds
+returns-then-not-branch-clause-holds g c =
+    let old : Stage = site g.P.Packs.tells g.P.Packs.held g.T.Sink.tells g.T.Sink.taken c.args.subsystem.now.world c.args.packs.now c.args.trace.now in
+    let mid : Stage = site g.P.Packs.tells g.P.Packs.held g.T.Sink.tells g.T.Sink.taken c.fetch.new.subsystem.world c.fetch.new.packs c.fetch.new.trace in
+    holds_read c.cache_law.ensures.read_leaves c.args.line c.args.unit c.args.block None c.args.self.now c.fetch.new.self old mid c.law.ensures
+    (read_unusable c.cache_law.ensures.reads c.args.line c.args.unit c.args.block c.fetch.new.into c.args.self.now c.fetch.new.self old mid c.law.ensures c.requires.new
+    (subst (λ b. Fetched c.args.line c.args.unit c.args.block b c.fetch.new.into c.args.self.now c.fetch.new.self old mid) c.if-not-branch.true c.in_ok-fetch.ensures.fetches))
+
+pub insert-requires : goal.insert-requires
+insert-requires g c =
+    let old : Stage = site g.P.Packs.tells g.P.Packs.held g.T.Sink.tells g.T.Sink.taken c.args.subsystem.now.world c.args.packs.now c.args.trace.now in
+    let mid : Stage = site g.P.Packs.tells g.P.Packs.held g.T.Sink.tells g.T.Sink.taken c.fetch.new.subsystem.world c.fetch.new.packs c.fetch.new.trace in
+    record {
+      new = subst (λ (s : State). entry_of c.args.unit c.args.block s.entries ≡ None) (sym (subst (λ b. Fetched c.args.line c.args.unit c.args.block b c.fetch.new.into c.args.self.now c.fetch.new.self old mid) c.if-not-branch.false c.in_ok-fetch.ensures.fetches).state)
+          (room_none c.args.unit c.args.block c.args.self.now c.requires.new);
+    }
+
+pub returns-clause-reads : goal.returns-clause-reads
+returns-clause-reads g c =
+    let old : Stage = site g.P.Packs.tells g.P.Packs.held g.T.Sink.tells g.T.Sink.taken c.args.subsystem.now.world c.args.packs.now c.args.trace.now in
+    let mid : Stage = site g.P.Packs.tells g.P.Packs.held g.T.Sink.tells g.T.Sink.taken c.fetch.new.subsystem.world c.fetch.new.packs c.fetch.new.trace in
+    λ e. read_usable c.cache_law.ensures.reads c.args.line c.args.unit c.args.block c.fetch.new.into (not c.insert.result) c.args.self.now c.fetch.new.self c.insert.new.self old mid c.law.ensures c.requires.new
+    (subst (λ b. Fetched c.args.line c.args.unit c.args.block b c.fetch.new.into c.args.self.now c.fetch.new.self old mid) c.if-not-branch.false c.in_ok-fetch.ensures.fetches) c.insert.ensures
+
+pub returns-clause-holds : goal.returns-clause-holds
+returns-clause-holds g c =
+    let old : Stage = site g.P.Packs.tells g.P.Packs.held g.T.Sink.tells g.T.Sink.taken c.args.subsystem.now.world c.args.packs.now c.args.trace.now in
+    let mid : Stage = site g.P.Packs.tells g.P.Packs.held g.T.Sink.tells g.T.Sink.taken c.fetch.new.subsystem.world c.fetch.new.packs c.fetch.new.trace in
+    holds_read c.cache_law.ensures.read_leaves c.args.line c.args.unit c.args.block (Some c.fetch.new.into) c.args.self.now c.insert.new.self old mid c.law.ensures
+    (read_usable c.cache_law.ensures.reads c.args.line c.args.unit c.args.block c.fetch.new.into (not c.insert.result) c.args.self.now c.fetch.new.self c.insert.new.self old mid c.law.ensures c.requires.new
+    (subst (λ b. Fetched c.args.line c.args.unit c.args.block b c.fetch.new.into c.args.self.now c.fetch.new.self old mid) c.if-not-branch.false c.in_ok-fetch.ensures.fetches) c.insert.ensures)
+
+pub returns-clause-may : goal.returns-clause-may
+returns-clause-may g c =
+    let old : Stage = site g.P.Packs.tells g.P.Packs.held g.T.Sink.tells g.T.Sink.taken c.args.subsystem.now.world c.args.packs.now c.args.trace.now in
+    let mid : Stage = site g.P.Packs.tells g.P.Packs.held g.T.Sink.tells g.T.Sink.taken c.fetch.new.subsystem.world c.fetch.new.packs c.fetch.new.trace in
+    λ e. record {
+      ready = c.in_ok-fetch.ensures.may.ready;
+      room = c.in_ok-fetch.ensures.may.room;
+      entries = subst (λ (s : State). AllByRecursion (λ e. IsData mid.world e.unit e.block) s.entries) (sym c.insert.ensures)
+          (put_data mid.world (not c.insert.result) c.args.unit c.args.block c.fetch.new.into false c.fetch.new.self
+          (data_stays old mid c.args.unit c.args.block c.in_ok-fetch.ensures.fetches.asks.goes.setup (c.in_ok-fetch.ensures.keeps.units refl) c.requires.block) c.in_ok-fetch.ensures.may.entries);
+    }

@@ -1,0 +1,42 @@
+use Rattle.std.proofs.Common.{◌≡◌, ◌≤◌, refl, sym, ap, ◌∙◌, subst}
+use Rattle.std.specs.Prelude.{None, map}
+use Rattle.std.specs.List.{AllByRecursion}
+use Rattle.blocking_io.specs.Calls.{Stage}
+use Rattle.raw_io.specs.Transfers.{site}
+use Rattle.raw_io.specs.Calls.{map_at}
+use Rattle.cached_blocks.specs.Entries.{State, IsCache, unchanged, written_back}
+use Rattle.single_blocks.specs.Asks.{IsData, Asks}
+use Rattle.buffer_cache.specs.Views.{entries_of, state_of}
+use Rattle.buffer_cache.specs.Calls.{Syncs}
+use Rattle.buffer_cache.proofs.Stays.{all_data, holds_asked}
+use Rattle.buffer_cache.proofs.Turns.{flushed_data, syncs_of}
+use Rattle.buffer_cache.proofs.slots.Cache.sync.Goals as goal
+
+pub returns-clause-syncs : goal.returns-clause-syncs
+returns-clause-syncs g c =
+    let old : Stage = site g.P.Packs.tells g.P.Packs.held g.T.Sink.tells g.T.Sink.taken c.args.subsystem.now.world c.args.packs.now c.args.trace.now in
+    let new : Stage = site g.P.Packs.tells g.P.Packs.held g.T.Sink.tells g.T.Sink.taken c.write_all_back.new.subsystem.world c.write_all_back.new.packs c.write_all_back.new.trace in
+    subst (λ (s : State). Syncs c.args.line s (state_of c.self.inside.order c.write_all_back.new.slots.items c.self.inside.refused) old new) c.self.view_is
+    (syncs_of c.cache_law.ensures.syncs c.args.line c.self.inside.order c.self.inside.slots.items c.write_all_back.new.slots.items c.self.inside.refused old new
+    (subst IsCache (sym c.self.view_is) c.law.ensures) c.in_ok-write_all_back.ensures.asks c.in_ok-write_all_back.ensures.slots)
+
+pub returns-clause-holds : goal.returns-clause-holds
+returns-clause-holds g c =
+    let old : Stage = site g.P.Packs.tells g.P.Packs.held g.T.Sink.tells g.T.Sink.taken c.args.subsystem.now.world c.args.packs.now c.args.trace.now in
+    let new : Stage = site g.P.Packs.tells g.P.Packs.held g.T.Sink.tells g.T.Sink.taken c.write_all_back.new.subsystem.world c.write_all_back.new.packs c.write_all_back.new.trace in
+    λ t tables fit. holds_asked c.args.line (written_back c.args.self.now.entries) 0 0 None c.args.self.now old new
+    (subst (λ (s : State). Asks c.args.line (written_back s.entries) old new) c.self.view_is c.in_ok-write_all_back.ensures.asks)
+    (c.cache_law.ensures.sync_leaves (map_at old) c.args.self.now 0 0 c.law.ensures) t tables
+
+pub returns-clause-may : goal.returns-clause-may
+returns-clause-may g c =
+    let old : Stage = site g.P.Packs.tells g.P.Packs.held g.T.Sink.tells g.T.Sink.taken c.args.subsystem.now.world c.args.packs.now c.args.trace.now in
+    let new : Stage = site g.P.Packs.tells g.P.Packs.held g.T.Sink.tells g.T.Sink.taken c.write_all_back.new.subsystem.world c.write_all_back.new.packs c.write_all_back.new.trace in
+    record {
+      ready = c.in_ok-write_all_back.ensures.keeps.ready refl;
+      room = subst (λ n. 1 ≤ n) (sym c.in_ok-write_all_back.ensures.keeps.outstanding) c.requires.may.room;
+      entries = subst (AllByRecursion (λ e. IsData new.world e.unit e.block)) (sym c.in_ok-write_all_back.ensures.slots)
+          (flushed_data new.world (entries_of c.self.inside.order.entries c.self.inside.slots.items)
+          (all_data old new (entries_of c.self.inside.order.entries c.self.inside.slots.items) c.in_ok-write_all_back.ensures.asks.goes.setup (c.in_ok-write_all_back.ensures.keeps.units refl)
+          (subst (λ (s : State). AllByRecursion (λ e. IsData old.world e.unit e.block) s.entries) (sym c.self.view_is) c.requires.may.entries)));
+    }

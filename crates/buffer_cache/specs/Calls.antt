@@ -1,0 +1,83 @@
+-- WHAT THE CALLS OF THE CACHE COME TO, over the driver and the packs.
+use Rattle.std.specs.Prelude.{◌≡◌, ℕ, ◌≤◌, Bool, true, false, if◌then◌else◌, IsTrue, List, [], ◌∷◌, Option, None, Some, Result, Ok, Err}
+use Rattle.std.specs.List.{AllByRecursion}
+use Rattle.driver_outcome.specs.declared.Stop.{Stop}
+use Rattle.waited_requests.specs.Rest.{HasTables}
+use Rattle.blocking_io.specs.Calls.{Stage}
+use Rattle.blocking_io.specs.Asking.{setup_at, IsReady}
+use Rattle.hp_driver.specs.Subsystem.{State as Driver}
+use Rattle.request_fronts.specs.Fronts.{OthersStay}
+use Rattle.raw_io.specs.Calls.{map_at, left_map}
+use Rattle.cached_blocks.specs.declared.Entry.{Entry}
+use Rattle.cached_blocks.specs.Entries.{State, to_write_back, with_room, write_backs, put, flushed, written_back}
+use Rattle.cached_blocks.specs.Requests.{reads, writes}
+use Rattle.cached_blocks.specs.Calls.{entry, read_done, write_done}
+use Rattle.cached_blocks.specs.Contents.{AllFit, Gives, Takes, Flushes, IsOne}
+use Rattle.single_blocks.specs.Asks.{IsData, Asks, found_bytes}
+use Rattle.buffer_cache.specs.declared.fault.CacheFault.{CacheFault}
+use Rattle.buffer_cache.specs.declared.fault.CacheFault.TheVariants as fault
+
+-- WHAT MAY BE ASKED of a driver that is ready, with this cache: its entries are data blocks of the driver's units.
+pub record MayUse (s : State) (d : Driver) : Type 0 where
+  pub ready : IsReady d
+  pub room : 1 ≤ d.outstanding
+  pub entries : AllByRecursion (λ (e : Entry). IsData d.world e.unit e.block) s.entries
+
+-- where the packs tell what they hold, the driver's tables are theirs, and the entries can be used and are as the packs have them
+abbrev pub IfTold : State → (old new : Stage) → Type 0 → Type 0
+IfTold s old new P = IsTrue new.packs_tell → HasTables (setup_at old) → AllFit (map_at old) s.entries → P
+
+-- A BLOCK THAT IS NO ENTRY is read, and where it can be used the last entry of a full cache is written back.
+pub record Fetched (line unit block : ℕ) (found : Bool) (into : List ℕ) (s s' : State) (old new : Stage) : Type 0 where
+  pub state : s' ≡ (if found then with_room s else s)
+  pub asks : Asks line (reads unit block ∷ (if found then write_backs (to_write_back s) else [])) old new
+  pub told : IsTrue new.packs_tell → HasTables (setup_at old) → map_at old unit block ≡ found_bytes found into
+
+-- IT IS PUT IN FRONT, changed; where memory refuses that, it is written at once.
+pub record Placed (line unit block : ℕ) (from : List ℕ) (s s' : State) (old new : Stage) : Type 0 where
+  pub refuses : Bool
+  pub state : s' ≡ put refuses (entry unit block from true) s
+  pub asks : Asks line (if refuses then writes unit block from ∷ [] else []) old new
+
+-- A READ that gave these bytes, or none
+pub record Reads (line unit block : ℕ) (given : Option (List ℕ)) (s s' : State) (old new : Stage) : Type 0 where
+  pub held : Option (List ℕ)
+  pub refuses : Bool
+  pub state : s' ≡ (read_done held refuses s unit block).state
+  pub gives : given ≡ (read_done held refuses s unit block).given
+  pub asks : Asks line (read_done held refuses s unit block).asked old new
+  pub told : IfTold s old new (Gives (map_at old) (map_at new) unit block given s.entries s'.entries)
+
+-- A WRITE that was done, or not
+pub record Writes (line unit block : ℕ) (done : Bool) (from : List ℕ) (s s' : State) (old new : Stage) : Type 0 where
+  pub held : Option (List ℕ)
+  pub refuses : Bool
+  pub state : s' ≡ (write_done held refuses s unit block from).state
+  pub gives : (if done then Some from else None) ≡ (write_done held refuses s unit block from).given
+  pub asks : Asks line (write_done held refuses s unit block from).asked old new
+  pub told : IfTold s old new (Takes (map_at old) (map_at new) unit block done from s.entries s'.entries)
+
+-- A SYNC writes each changed entry back, the first one first.
+pub record Syncs (line : ℕ) (s s' : State) (old new : Stage) : Type 0 where
+  pub state : s' ≡ flushed s
+  pub asks : Asks line (written_back s.entries) old new
+  pub told : IfTold s old new (Flushes (map_at old) (map_at new) s.entries s'.entries)
+
+-- AFTER ANY ANSWER each block holds one of three, and what is no home of a data block stays. (That is told by the units and tables of
+-- before.)
+pub record Holds (unit block : ℕ) (from : Option (List ℕ)) (s : State) (old new : Stage) : Type 0 where
+  pub each : (u b : ℕ) → IsOne (map_at old) s.entries unit block from u b (left_map old new u b)
+  pub others : OthersStay (setup_at old) new.held
+
+-- THE ANSWER: what stopped a call, if something did; and what it gave where nothing did
+abbrev pub stop_of : {A : Type 0} → Result A CacheFault → Option Stop
+stop_of (Err (fault.Stop stop)) = Some stop
+stop_of result = None
+
+abbrev pub given_by : {A : Type 0} → Result A CacheFault → List ℕ → Option (List ℕ)
+given_by (Ok value) bytes = Some bytes
+given_by (Err fault) bytes = None
+
+abbrev pub is_done : {A : Type 0} → Result A CacheFault → Bool
+is_done (Ok value) = true
+is_done (Err fault) = false

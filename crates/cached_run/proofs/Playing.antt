@@ -1,0 +1,36 @@
+-- What is played at a line is what its statement says.
+use Rattle.std.proofs.Common.{◌≡◌, ℕ, ◌≤◌, List, [], ◌∷◌, ◌++◌, refl, sym, ap, ◌∙◌, subst, append-nil}
+use Rattle.trace_replay.specs.Script.{Numbered, Script, with_input, inputs_of}
+use Rattle.driver_machine.specs.World.{World}
+use Rattle.cached_blocks.specs.Entries.{State}
+use Rattle.cached_script.specs.declared.statement.Statement.{Statement as Says}
+use Rattle.cached_script.specs.declared.statement.Line.{Line as Said}
+use Rattle.cached_run.specs.Going.{Scene, IsFar, GoesOn, Halts, HaltsScript}
+use Rattle.cached_run.specs.Lines.{MayPlay, input_at}
+use Rattle.cached_run.specs.Meaning.{statement_of}
+
+-- a line with no input
+pub goes_none : (s : State) (here : Scene) → GoesOn [] s s here here
+goes_none s here first inputs far = subst (λ (z : List Numbered). IsFar first z s here) (sym (append-nil inputs)) far
+
+-- THE INPUT of a line, by the number and the statement that it has
+module _ (line : Said) (number : ℕ) (st : Says) (is : line.statement ≡ st) (numbered : number ≡ line.number) where
+  its_input : with_input number (statement_of st) [] ≡ input_at line
+  its_input = ap (λ n. with_input n (statement_of st) []) numbered ∙ ap (λ z. with_input line.number (statement_of z) []) (sym is)
+
+  pub line_goes : (s s' : State) (old new : Scene) → GoesOn (with_input number (statement_of st) []) s s' old new → GoesOn (input_at line) s s' old new
+  line_goes s s' old new goes = subst (λ (z : List Numbered). GoesOn z s s' old new) its_input goes
+
+  pub line_halts : (s : State) (old new : Scene) → Halts (with_input number (statement_of st) []) s old new → Halts (input_at line) s old new
+  line_halts s old new halts = subst (λ (z : List Numbered). Halts z s old new) its_input halts
+
+  pub may_as : (w : World) → MayPlay w line.statement → MayPlay w st
+  may_as w may = subst (MayPlay w) is may
+
+  pub numbered_so : 1 ≤ line.number → 1 ≤ number
+  numbered_so some = subst (λ n. 1 ≤ n) (sym numbered) some
+
+-- A SCRIPT that stopped at the one input of a line
+pub halts_script : (script : Script) (before own rest : List Numbered) (s : State) (first old new : Scene) → inputs_of script ≡ before ++ (own ++ rest) → IsFar first before s old → Halts own s old new → HaltsScript script first new
+halts_script script before [] rest s first old new split far halts = absurd halts
+halts_script script before (n ∷ own) rest s first old new split far halts = record { before = before; at = n; later = own ++ rest; inputs = split; halted = halts first before far }

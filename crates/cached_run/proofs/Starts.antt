@@ -1,0 +1,129 @@
+-- A new driver for the units of a script, and an empty cache.
+use Rattle.std.proofs.Common.{◌≡◌, ◌⊎◌, inl, inr, ℕ, ◌<◌, ◌≤◌, Bool, true, false, IsTrue, List, [], ◌∷◌, ◌++◌, length, Option, None, Some, refl, sym, ap, ◌∙◌, subst, arith, append-nil}
+use Rattle.std.specs.Prelude.{is_some, unwrap_or, min}
+use Rattle.std.proofs.Math.Path.{fun_ext}
+use Rattle.pack_geometry.specs.declared.DriveKind.{DriveKind}
+use Rattle.pack_geometry.specs.declared.DriveKind.TheVariants.{Rp06}
+use Rattle.pack_model.specs.Pack.{Pack}
+use Rattle.pack_model.specs.TableSpelling.{Table}
+use Rattle.pack_model.specs.PackTable.{IsTableAt, AreTablesOf}
+use Rattle.trace_replay.specs.Script.{Script, drives_of}
+use Rattle.block_machine.specs.Stands.{Setup}
+use Rattle.waited_requests.specs.Rest.{HasTables}
+use Rattle.driver_machine.specs.World.{World, UnitView, Setup as UnitSetup, no_unit, new_unit, new_world, unit_at}
+use Rattle.driver_machine.specs.Guards.{IsSetUp}
+use Rattle.raw_io.specs.Passes.{State as Driver}
+use Rattle.raw_io.specs.Passes.{kind_if, table_if, setup_of}
+use Rattle.raw_io.proofs.Joins.{others_none}
+use Rattle.raw_io.proofs.Passes.{new_is_quiet}
+use Rattle.blocking_io.specs.Asking.{setup_at}
+use Rattle.raw_io.specs.Calls.{map_at}
+use Rattle.std.specs.List.{AllByRecursion}
+use Rattle.cached_blocks.specs.declared.Entry.{Entry}
+use Rattle.single_blocks.specs.Asks.{IsData}
+use Rattle.cached_blocks.specs.Entries.{State}
+use Rattle.cached_blocks.specs.Contents.{cached, AllFit}
+use Rattle.buffer_cache.specs.Calls.{MayUse}
+use Rattle.hp_core.specs.declared.start.UnitSetup.{UnitSetup as Made}
+use Rattle.hp_core.specs.Setups.{setups_of}
+use Rattle.one_run.specs.Steps.{tables_in, AreUnits, AreSetFor}
+use Rattle.one_run.proofs.Attached.{below_or_not, unit_beyond}
+use Rattle.cached_run.specs.Going.{Scene, IsFar}
+use Rattle.cached_run.proofs.Whole.{setup_for}
+
+module _ (script : Script) (tables : ℕ → Option Table) (setups : List UnitSetup) (outstanding noises : ℕ) (set : AreSetFor script tables setups) where
+  abbrev New : World
+  New = new_world setups outstanding noises
+
+  never : true ≡ false → ⊥
+  never e = cc
+
+  up_at : (u : ℕ) (kind : DriveKind) → drives_of script u ≡ Some kind → IsSetUp New u
+  up_at u kind declared = elim (below_or_not u 32) [
+    | inl lt ↦ record { unit = lt; declared = is_there }
+    | inr le ↦ absurd (never (sym is_there ∙ ap (λ (v : UnitView). v.declared) (unit_beyond setups 32 u le)))
+  ]
+    where
+      is_there : (unit_at New u).declared ≡ true
+      is_there = sym (set.declared outstanding noises u) ∙ ap (λ (o : Option DriveKind). is_some o) declared
+
+  new_at : (u : ℕ) (kind : DriveKind) → drives_of script u ≡ Some kind → unit_at New u ≡ new_unit (record { unit = u; kind = kind; table = tables u })
+  new_at u kind declared = set.set outstanding noises u (up_at u kind declared) ∙ ap (λ (o : Option DriveKind). new_unit (record { unit = u; kind = unwrap_or o Rp06; table = tables u })) declared
+
+  none_at : (u : ℕ) → drives_of script u ≡ None → (unit_at New u).declared ≡ false
+  none_at u none = sym (set.declared outstanding noises u) ∙ ap (λ (o : Option DriveKind). is_some o) none
+
+  pub are_units : AreUnits script New
+  are_units u kind declared = (up_at u kind declared, ap (λ (v : UnitView). v.drive.kind) (new_at u kind declared))
+
+  kinds_at : (u : ℕ) → kind_if (unit_at New u).declared (unit_at New u).drive.kind ≡ drives_of script u
+  kinds_at u = by (drives_of script u) refl
+    where
+      by : (o : Option DriveKind) → drives_of script u ≡ o → kind_if (unit_at New u).declared (unit_at New u).drive.kind ≡ drives_of script u
+      by None e = ap (λ t. kind_if t (unit_at New u).drive.kind) (none_at u e) ∙ sym e
+      by (Some kind) e = ap (λ (v : UnitView). kind_if v.declared v.drive.kind) (new_at u kind e) ∙ sym e
+
+  module _ (held : ℕ → Pack) (read : AreTablesOf (drives_of script) held tables) where
+    tables_at : (u : ℕ) → table_if (unit_at New u).declared (unit_at New u).table ≡ tables u
+    tables_at u = by (drives_of script u) refl (read u)
+      where
+        by : (o : Option DriveKind) → drives_of script u ≡ o → IsTableAt o (held u) (tables u) → table_if (unit_at New u).declared (unit_at New u).table ≡ tables u
+        by None e none = ap (λ t. table_if t (unit_at New u).table) (none_at u e) ∙ sym none
+        by (Some kind) e is = ap (λ (v : UnitView). table_if v.declared v.table) (new_at u kind e)
+
+    pub setup_new : setup_of New held ≡ setup_for script tables held
+    setup_new =
+        ap (λ (drives : ℕ → Option DriveKind). record { drives = drives; tables = (setup_of New held).tables; packs = held }) (fun_ext kinds_at)
+        ∙ ap (λ (its : ℕ → Option Table). record { drives = drives_of script; tables = its; packs = held }) (fun_ext tables_at)
+
+    pub tables_new : HasTables (setup_of New held)
+    tables_new = subst HasTables (sym setup_new) read
+
+-- THE CACHE may be used
+pub may_use : (setups : List UnitSetup) (outstanding noises : ℕ) (s : State) (d : Driver) → s.entries ≡ [] → 1 ≤ outstanding
+    → d ≡ record { world = new_world setups outstanding noises; outstanding = outstanding; failed = false; kept = [] } → MayUse s d
+may_use setups outstanding noises s d empty room made = subst (MayUse s) (sym made)
+    (record { ready = record { quiet = new_is_quiet setups outstanding noises; going = refl; sent = refl }; room = room; entries = subst (AllByRecursion (λ (e : Entry). IsData (new_world setups outstanding noises) e.unit e.block)) (sym empty) tt })
+
+-- SO FAR nothing was played
+pub far_none : (s : State) (here : Scene) → s.entries ≡ [] → HasTables (setup_at here.site) → IsFar here [] s here
+far_none s here empty tables = record {
+  setup = refl;
+  tables = tables;
+  contents = λ u b. ap (λ z. cached z (map_at here.site) u b) empty;
+  fit = subst (AllFit (map_at here.site)) (sym empty) tt;
+  holds = record {
+    synced = [];
+    since = [];
+    parted = record { parts = refl; ends = inl refl; none = tt };
+    each = λ u b. record { number = 0; from = omega arith; to = omega arith; holds = refl };
+  };
+  others = others_none (setup_at here.site);
+  said = λ t. sym (append-nil here.said);
+  later = same here.out_faults;
+}
+  where
+    same : (n : ℕ) → n ≤ n
+    same n = omega arith
+
+-- ---- A NEW DRIVER, as it was made of the units that were attached
+module _ (script : Script) (units slice : List Made) (d : Driver) (same : slice ≡ units) (set : AreSetFor script (tables_in (setups_of units)) (setups_of units))
+    (is : d ≡ record { world = new_world (setups_of slice) (min 1 16384) 0; outstanding = 1; failed = false; kept = [] }) where
+  made_is : d ≡ record { world = new_world (setups_of units) 1 0; outstanding = 1; failed = false; kept = [] }
+  made_is = is ∙ ap (λ (us : List Made). record { world = new_world (setups_of us) 1 0; outstanding = 1; failed = false; kept = [] }) same
+
+  pub made_units : AreUnits script d.world
+  made_units = subst (λ (z : Driver). AreUnits script z.world) (sym made_is) (are_units script (tables_in (setups_of units)) (setups_of units) 1 0 set)
+
+  pub made_may : (s : State) → s.entries ≡ [] → MayUse s d
+  made_may s empty = may_use (setups_of units) 1 0 s d empty (omega arith) made_is
+
+  module _ (held first : ℕ → Pack) (held_is : held ≡ first) (read : AreTablesOf (drives_of script) first (tables_in (setups_of units))) where
+    pub made_setup : setup_of d.world held ≡ setup_for script (tables_in (setups_of units)) first
+    made_setup =
+        ap (λ (z : Driver). setup_of z.world held) made_is
+        ∙ ap (λ h. setup_of (new_world (setups_of units) 1 0) h) held_is
+        ∙ setup_new script (tables_in (setups_of units)) (setups_of units) 1 0 set first read
+
+    pub made_tables : HasTables (setup_of d.world held)
+    made_tables = subst HasTables (sym made_setup) read

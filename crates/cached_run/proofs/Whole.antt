@@ -1,0 +1,163 @@
+-- A script that was played to its end, and one that stopped.
+use Rattle.std.proofs.Common.{◌≡◌, ◌⊎◌, inl, inr, ℕ, zero, suc, ◌+◌, ◌*◌, ◌<◌, ◌≤◌, ◌==◌, Bool, true, false, IsTrue, List, [], ◌∷◌, ◌++◌, length, take, Option, None, Some, refl, sym, ap, ◌∙◌, subst, arith, append-nil}
+use Rattle.std.specs.Prelude.{is_some, not, slice_index, unwrap_or}
+use Rattle.std.proofs.lemmas.Option.{none-some}
+use Rattle.std.proofs.lemmas.List.{take_all}
+use Rattle.std.proofs.Math.Path.{fun_ext}
+use Rattle.outside_traits.specs.Causes.{Rose}
+use Rattle.outside_traits.specs.Puts.{TakesFront}
+use Rattle.pack_geometry.specs.declared.DriveKind.{DriveKind}
+use Rattle.pack_geometry.specs.declared.DriveKind.TheVariants.{Rp06, Rm03, Rm05}
+use Rattle.pack_geometry.specs.Geometry.{block_count, limit_of, copy_at}
+use Rattle.pack_model.specs.Pack.{Pack}
+use Rattle.pack_model.specs.Pack as model
+use Rattle.pack_model.specs.TableSpelling.{Table}
+use Rattle.pack_model.specs.PackTable.{IsTableAt, AreTablesOf, places_of}
+use Rattle.pack_model.specs.Homes.{home_of, contents_of, IsHome}
+use Rattle.pack_model.proofs.HomeLaws.{home_below}
+use Rattle.pack_model.proofs.PackTableLaws.{table_room, table_same}
+use Rattle.trace_replay.specs.Script.{Script, Numbered, Drain, drives_of, inputs_of}
+use Rattle.block_machine.specs.Machine.{Blocks}
+use Rattle.block_machine.specs.Laws.{HoldMap, RestStays}
+use Rattle.block_machine.specs.LegalAnswers.{AreLegal, all_claimed}
+use Rattle.block_machine.specs.Stands.{Setup, home_at, home_in}
+use Rattle.waited_requests.specs.Rest.{HasTables}
+use Rattle.waited_requests.specs.Waited.{map_of, with_packs}
+use Rattle.blocking_io.specs.Asking.{setup_at}
+use Rattle.request_fronts.specs.Fronts.{OthersStay}
+use Rattle.raw_io.specs.Calls.{map_at, left_map}
+use Rattle.raw_io.proofs.Joins.{map_long}
+use Rattle.cached_blocks.specs.Entries.{State}
+use Rattle.event_player.specs.Passes.{Took}
+use Rattle.cached_run.specs.Answers.{Replacement, answers_of, map_of_inputs, text_of, replacements_of, after}
+use Rattle.cached_run.specs.Theorem.{contents, CachedPlays, IsAfter, EndsWithSync, HasNoSync, AreParted, CachedStops}
+use Rattle.cached_run.specs.Going.{Scene, drives_at, blocks_at, HoldsSome, IsFar, HasHalted, HaltsScript}
+use Rattle.cached_run.proofs.Inputs.{map_is}
+use Rattle.cached_run.proofs.Legal.{AreAskedWell, answers_legal}
+use Rattle.cached_run.proofs.Goings.{ends_with}
+
+-- ---- tables stay where copies do
+module _ (setup : Setup) (new : ℕ → Pack) (tables : HasTables setup) (o : OthersStay setup new) where
+  copy_below : (kind : DriveKind) (k : ℕ) → k < 5 → copy_at kind k < block_count kind
+  copy_below Rp06 k lt = omega (arith, lt)
+  copy_below Rm03 k lt = omega (arith, lt)
+  copy_below Rm05 k lt = omega (arith, lt)
+
+  no_home : (unit k block : ℕ) (kind : DriveKind) → setup.drives unit ≡ Some kind → length (places_of (setup.tables unit)) ≤ 126 → home_in setup unit block ≡ Some (copy_at kind k) → ⊥
+  no_home unit k block kind declared room home =
+      apart (copy_at kind k) (home_below kind (setup.tables unit) (setup.packs unit) block (copy_at kind k) k room
+      (sym (ap (λ z. home_at z (setup.tables unit) (setup.packs unit) block) declared) ∙ home))
+    where
+      apart : (n : ℕ) → n < n → ⊥
+      apart n lt = omega (arith, lt)
+
+  table_left : (unit : ℕ) (drive : Option DriveKind) → setup.drives unit ≡ drive → IsTableAt drive (setup.packs unit) (setup.tables unit) → IsTableAt drive (new unit) (setup.tables unit)
+  table_left unit None declared is = is
+  table_left unit (Some kind) declared is = table_same kind (setup.packs unit) (new unit) (setup.tables unit)
+      (record {
+        bytes = λ k lt. sym (o.sectors unit (copy_at kind k) kind declared (copy_below kind k lt)
+            (λ block home. no_home unit k block kind declared (table_room kind (setup.packs unit) (setup.tables unit) is) home));
+        marks = λ k lt. ap (λ z. not (slice_index z (copy_at kind k) == 0)) (sym (o.stay.marks unit));
+      }) is
+
+  pub tables_left : AreTablesOf setup.drives new setup.tables
+  tables_left unit = table_left unit (setup.drives unit) refl (tables unit)
+
+-- ---- behind the last sync the packs hold the map
+last_syncs : (ys : List Numbered) (y : Numbered) → HasNoSync (y ∷ ys) → EndsWithSync (y ∷ ys) → ⊥
+last_syncs [] y none ends = none.0 ends
+last_syncs (z ∷ zs) y none ends = last_syncs zs z none.1 ends
+
+both_ways : (xs : List Numbered) (y : Numbered) (ys : List Numbered) → HasNoSync (y ∷ ys) → EndsWithSync (xs ++ y ∷ ys) → ⊥
+both_ways [] y ys none ends = last_syncs ys y none ends
+both_ways (x ∷ []) y ys none ends = last_syncs ys y none ends
+both_ways (x ∷ z ∷ zs) y ys none ends = both_ways (z ∷ zs) y ys none ends
+
+all_synced : (xs synced since : List Numbered) (n : Numbered) → n.input ≡ Drain → AreParted (xs ++ n ∷ []) synced since → synced ≡ xs ++ n ∷ []
+all_synced xs synced [] n is p = sym (p.parts ∙ append-nil synced)
+all_synced xs synced (y ∷ ys) n is p = absurd (both_ways synced y ys p.none (subst EndsWithSync p.parts (ends_with xs n is)))
+
+module _ {first now : Scene} {s : State} (xs : List Numbered) (n : Numbered) (is : n.input ≡ Drain) (far : IsFar first (xs ++ n ∷ []) s now) where
+  final_map : (u b : ℕ) → map_at now.site u b ≡ map_of_inputs (drives_at first) (blocks_at first) (xs ++ n ∷ []) u b
+  final_map u b =
+      let so = far.holds.each u b in
+      let synced : far.holds.synced ≡ xs ++ n ∷ [] = all_synced xs far.holds.synced far.holds.since n is far.holds.parted in
+      so.holds
+      ∙ ap (λ z. after z (blocks_at first) u b) (take_all so.number (replacements_of (drives_at first) (blocks_at first) (xs ++ n ∷ []))
+      (subst (λ z. length (replacements_of (drives_at first) (blocks_at first) z) ≤ so.number) synced so.from))
+      ∙ ap (λ z. z u b) (sym (map_is (drives_at first) (blocks_at first) (xs ++ n ∷ [])))
+
+-- ---- THE SETUP of a script over packs
+abbrev pub setup_for : Script → (ℕ → Option Table) → (ℕ → Pack) → Setup
+setup_for script tables old = record { drives = drives_of script; tables = tables; packs = old }
+
+rest_stays : (script : Script) (tables : ℕ → Option Table) (old new : ℕ → Pack) → AreTablesOf (drives_of script) old tables → OthersStay (setup_for script tables old) new → RestStays script tables old new
+rest_stays script tables old new read o = record {
+  sectors = λ unit sector kind declared below none.
+      o.sectors unit sector kind declared below (λ block home. none (record { block = block; at = sym (ap (λ z. home_at z (tables unit) (old unit) block) declared) ∙ home }));
+  marks = o.stay.marks;
+  tables_stay = tables_left (setup_for script tables old) new read o;
+  others = o.stay.others;
+}
+
+module _ (script : Script) (tables : ℕ → Option Table) (old new : ℕ → Pack) (first now : Scene) (set : setup_at first.site ≡ setup_for script tables old) (held : now.site.held ≡ new)
+    (read : AreTablesOf (drives_of script) old tables) where
+  left_is : left_map first.site now.site ≡ contents script tables new
+  left_is = ap (λ (z : Setup). map_of (with_packs z now.site.held)) set ∙ ap (λ h. contents script tables h) held
+
+  others_are : OthersStay (setup_at first.site) now.site.held → OthersStay (setup_for script tables old) new
+  others_are o = subst (OthersStay (setup_for script tables old)) held (subst (λ (z : Setup). OthersStay z now.site.held) set o)
+
+  -- PLAYED TO ITS END
+  pub whole_plays : (xs : List Numbered) (n : Numbered) (s : State) (out : Took) → inputs_of script ≡ xs ++ n ∷ [] → n.input ≡ Drain → AreAskedWell (inputs_of script) → IsFar first (inputs_of script) s now
+      → out.before ≡ first.said → out.after ≡ now.said → out.tells ≡ now.out_tells → CachedPlays script old new out
+  whole_plays xs n s out inputs last well far before after_is tells = record {
+    tables = tables;
+    read = read;
+    legal = subst (λ (z : Setup). AreLegal z.drives all_claimed (inputs_of script) (answers_of z.drives (map_of z) (inputs_of script)) (map_of z) (map_of_inputs z.drives (map_of z) (inputs_of script))) set
+        (answers_legal (drives_at first) (inputs_of script) (blocks_at first) well (λ u b bytes e. map_long (setup_at first.site) u b bytes e));
+    held = λ unit block kind declared below.
+        ap (λ (z : ℕ → Blocks). z unit block) (sym left_is) ∙ ap (λ (z : Setup). map_of z unit block) (sym far.setup)
+        ∙ final unit block
+        ∙ ap (λ (z : Setup). map_of_inputs z.drives (map_of z) (inputs_of script) unit block) set;
+    rest = rest_stays script tables old new read (others_are far.others);
+    said = λ t. after_is ∙ far.said (subst IsTrue tells t) ∙ ap (λ z. z ++ text_of (answers_of (drives_at first) (blocks_at first) (inputs_of script))) (sym before)
+        ∙ ap (λ (z : Setup). out.before ++ text_of (answers_of z.drives (map_of z) (inputs_of script))) set;
+  }
+    where
+      final : (u b : ℕ) → map_at now.site u b ≡ map_of_inputs (drives_at first) (blocks_at first) (inputs_of script) u b
+      final u b = subst (λ z. map_at now.site u b ≡ map_of_inputs (drives_at first) (blocks_at first) z u b) (sym inputs)
+          (final_map xs n last (subst (λ z. IsFar first z s now) inputs far) u b)
+
+  -- STOPPED
+  pub whole_stops : (out : Took) → HaltsScript script first now → out.before ≡ first.said → out.after ≡ now.said → out.tells ≡ now.out_tells
+      → out.faults ≡ first.out_faults → out.faults_after ≡ now.out_faults → CachedStops script old new out
+  whole_stops out h before after_is tells faults faults_after = record {
+    tables = tables;
+    read = read;
+    before = h.before;
+    at = h.at;
+    later = h.later;
+    inputs = h.inputs;
+    synced = h.halted.holds.synced;
+    since = h.halted.holds.since;
+    parted = h.halted.holds.parted;
+    held = λ unit block kind declared below.
+        subst (λ (z : Option (List ℕ)). IsAfter (replacements_of (drives_of script) (contents script tables old) (h.before ++ h.at ∷ []))
+        (length (replacements_of (drives_of script) (contents script tables old) h.halted.holds.synced)) (contents script tables old) unit block z) (ap (λ (z : ℕ → Blocks). z unit block) left_is)
+        (subst (λ (z : Setup). IsAfter (replacements_of z.drives (map_of z) (h.before ++ h.at ∷ [])) (length (replacements_of z.drives (map_of z) h.halted.holds.synced)) (map_of z) unit block
+        (left_map first.site now.site unit block)) set (h.halted.holds.each unit block));
+    rest = rest_stays script tables old new read (others_are h.halted.others);
+    front = λ t. front_as (h.halted.front (subst IsTrue tells t));
+    whole = λ rose t. after_is ∙ h.halted.whole (λ r. rose (subst (λ z. Rose z out.faults_after) (sym faults) (subst (λ z. Rose first.out_faults z) (sym faults_after) r))) (subst IsTrue tells t)
+        ∙ text_as h.before;
+  }
+    where
+      text_as : (inputs : List Numbered) → first.said ++ text_of (answers_of (drives_at first) (blocks_at first) inputs) ≡ out.before ++ text_of (answers_of (drives_of script) (contents script tables old) inputs)
+      text_as inputs = ap (λ z. z ++ text_of (answers_of (drives_at first) (blocks_at first) inputs)) (sym before)
+          ∙ ap (λ (z : Setup). out.before ++ text_of (answers_of z.drives (map_of z) inputs)) set
+
+      front_as : TakesFront first.said now.said (text_of (answers_of (drives_at first) (blocks_at first) (h.before ++ h.at ∷ [])))
+          → TakesFront out.before out.after (text_of (answers_of (drives_of script) (contents script tables old) (h.before ++ h.at ∷ [])))
+      front_as f = (f.0, after_is ∙ f.1 ∙ ap (λ z. z ++ take f.0 (text_of (answers_of (drives_at first) (blocks_at first) (h.before ++ h.at ∷ [])))) (sym before)
+          ∙ ap (λ (z : Setup). out.before ++ take f.0 (text_of (answers_of z.drives (map_of z) (h.before ++ h.at ∷ [])))) set)

@@ -1,0 +1,94 @@
+use Rattle.std.proofs.Common.{◌≡◌, ◌+◌, IsTrue, length, refl, ap}
+use Rattle.trace_replay.specs.Script.{Drain}
+use Rattle.hp_core.specs.Setups.{setups_of}
+use Rattle.run_stops.specs.Stops.{Took, took}
+use Rattle.one_run.specs.Steps.{tables_in}
+use Rattle.cached_blocks.specs.Entries.{State}
+use Rattle.cached_run.specs.Going.{Scene, scene}
+use Rattle.cached_run.specs.Lines.{inputs_till}
+use Rattle.cached_run.specs.Meaning.{meaning_of}
+use Rattle.cached_run.proofs.Causes.{same, caused_more, never_before, never_long, leaves_as, on_ok_map, on_err_map}
+use Rattle.cached_run.proofs.ScriptLines.{inputs_all, all_asked_well}
+use Rattle.cached_run.proofs.Starts.{made_units, made_may, made_setup, made_tables}
+use Rattle.cached_run.proofs.Whole.{whole_plays, whole_stops}
+use Rattle.cached_run.proofs.play.play_cached.Goals as goal
+
+pub play_lines-requires-clause-units : goal.play_lines-requires-clause-units
+play_lines-requires-clause-units g c =
+    made_units (meaning_of c.args.script.now) c.in_ok-units.units.items c.as_slice.result.now c.in_ok-subsystem.subsystem c.as_slice.ensures.value c.in_ok-units.ensures.set c.in_ok-subsystem.ensures
+
+pub play_lines-requires-clause-may : goal.play_lines-requires-clause-may
+play_lines-requires-clause-may g c =
+    made_may (meaning_of c.args.script.now) c.in_ok-units.units.items c.as_slice.result.now c.in_ok-subsystem.subsystem c.as_slice.ensures.value c.in_ok-units.ensures.set c.in_ok-subsystem.ensures c.in_ok-cache.cache (ap (λ (s : State). s.entries) c.in_ok-cache.ensures)
+
+pub play_lines-requires-clause-desk : goal.play_lines-requires-clause-desk
+play_lines-requires-clause-desk g c =
+    record { none = c.in_ok-desk.ensures.gather; room = c.in_ok-desk.ensures.blocks }
+
+pub play_lines-requires-clause-empty : goal.play_lines-requires-clause-empty
+play_lines-requires-clause-empty g c =
+    ap (λ (s : State). s.entries) c.in_ok-cache.ensures
+
+pub returns-clause-plays : goal.returns-clause-plays
+returns-clause-plays g c =
+    let units = c.in_ok-units.ensures in
+    let lines = c.play_lines.ensures in
+    let s = c.args.script.now in
+    let tables = tables_in (setups_of c.in_ok-units.units.items) in
+    let old = g.P.Packs.held c.args.packs.now in
+    let new = g.P.Packs.held c.play_lines.new.packs in
+    let first : Scene = scene g.P.Packs.tells g.P.Packs.held g.O.Sink.tells g.O.Sink.taken g.O.Sink.faults g.T.Sink.tells g.T.Sink.taken c.in_ok-subsystem.subsystem.world c.attach_units.new.packs c.args.out.now c.args.trace.now in
+    let now : Scene = scene g.P.Packs.tells g.P.Packs.held g.O.Sink.tells g.O.Sink.taken g.O.Sink.faults g.T.Sink.tells g.T.Sink.taken c.play_lines.new.subsystem.world c.play_lines.new.packs c.play_lines.new.out c.play_lines.new.trace in
+    let out : Took = took g.O.Sink.tells g.O.Sink.taken g.O.Sink.faults c.args.out.now c.play_lines.new.out in
+    on_ok_map c.play_lines.result (λ plays t.
+    let t' = lines.told.never_again t in
+    let read = units.tables t' in
+    let set = made_setup (meaning_of c.args.script.now) c.in_ok-units.units.items c.as_slice.result.now c.in_ok-subsystem.subsystem c.as_slice.ensures.value c.in_ok-units.ensures.set c.in_ok-subsystem.ensures first.site.held old (units.same t') read in
+    let has = made_tables (meaning_of c.args.script.now) c.in_ok-units.units.items c.as_slice.result.now c.in_ok-subsystem.subsystem c.as_slice.ensures.value c.in_ok-units.ensures.set c.in_ok-subsystem.ensures first.site.held old (units.same t') read in
+    whole_plays (meaning_of s) tables old new first now set refl read (inputs_till s (length s.lines)) (record { line = s.count + 1; input = Drain }) c.play_lines.new.cache out
+    (inputs_all s (length s.lines) (same (length s.lines))) refl (all_asked_well s c.law.ensures) (plays t has) refl refl refl)
+    lines.plays
+
+pub returns-clause-stopped : goal.returns-clause-stopped
+returns-clause-stopped g c =
+    let units = c.in_ok-units.ensures in
+    let lines = c.play_lines.ensures in
+    let s = c.args.script.now in
+    let tables = tables_in (setups_of c.in_ok-units.units.items) in
+    let old = g.P.Packs.held c.args.packs.now in
+    let new = g.P.Packs.held c.play_lines.new.packs in
+    let first : Scene = scene g.P.Packs.tells g.P.Packs.held g.O.Sink.tells g.O.Sink.taken g.O.Sink.faults g.T.Sink.tells g.T.Sink.taken c.in_ok-subsystem.subsystem.world c.attach_units.new.packs c.args.out.now c.args.trace.now in
+    let now : Scene = scene g.P.Packs.tells g.P.Packs.held g.O.Sink.tells g.O.Sink.taken g.O.Sink.faults g.T.Sink.tells g.T.Sink.taken c.play_lines.new.subsystem.world c.play_lines.new.packs c.play_lines.new.out c.play_lines.new.trace in
+    let out : Took = took g.O.Sink.tells g.O.Sink.taken g.O.Sink.faults c.args.out.now c.play_lines.new.out in
+    leaves_as (IsTrue (g.P.Packs.tells c.play_lines.new.packs)) c.play_lines.result (meaning_of s) old new out (took g.T.Sink.tells g.T.Sink.taken g.T.Sink.faults c.args.trace.now c.play_lines.new.trace)
+    (on_err_map c.play_lines.result (λ stops t.
+    let t' = lines.told.never_again t in
+    let read = units.tables t' in
+    let set = made_setup (meaning_of c.args.script.now) c.in_ok-units.units.items c.as_slice.result.now c.in_ok-subsystem.subsystem c.as_slice.ensures.value c.in_ok-units.ensures.set c.in_ok-subsystem.ensures first.site.held old (units.same t') read in
+    let has = made_tables (meaning_of c.args.script.now) c.in_ok-units.units.items c.as_slice.result.now c.in_ok-subsystem.subsystem c.as_slice.ensures.value c.in_ok-units.ensures.set c.in_ok-subsystem.ensures first.site.held old (units.same t') read in
+    whole_stops (meaning_of s) tables old new first now set refl read out (stops t has) refl refl refl refl refl)
+    lines.stops)
+
+pub returns-clause-fits : goal.returns-clause-fits
+returns-clause-fits g c =
+    λ playing t. c.in_ok-units.ensures.fits (c.play_lines.ensures.told.never_again t)
+
+pub returns-clause-too_long : goal.returns-clause-too_long
+returns-clause-too_long g c =
+    never_long c.play_lines.result c.play_lines.ensures.causes (meaning_of c.args.script.now) (g.P.Packs.tells c.play_lines.new.packs) (g.P.Packs.held c.args.packs.now)
+
+pub returns-clause-told : goal.returns-clause-told
+returns-clause-told g c =
+    record {
+      never_again = λ t. c.in_ok-units.ensures.never_again (c.play_lines.ensures.told.never_again t);
+      never_again_out = c.play_lines.ensures.told.never_again_out;
+      never_again_trace = c.play_lines.ensures.told.never_again_trace;
+    }
+
+pub returns-clause-causes : goal.returns-clause-causes
+returns-clause-causes g c =
+    (caused_more c.play_lines.result c.in_ok-units.ensures.later (same (g.O.Sink.faults c.args.out.now)) (same (g.T.Sink.faults c.args.trace.now)) c.play_lines.ensures.causes).rise
+
+pub returns-clause-untouched : goal.returns-clause-untouched
+returns-clause-untouched g c =
+    λ before. absurd (never_before c.play_lines.result c.play_lines.ensures.causes before)

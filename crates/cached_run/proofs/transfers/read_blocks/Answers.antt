@@ -1,0 +1,72 @@
+use Rattle.std.proofs.Common.{◌≡◌, ◌<◌, ◌+◌, ℕ, [], length, refl, sym, ◌∙◌, arith}
+use Rattle.std.specs.Prelude.{None, slice_set}
+use Rattle.std.proofs.lemmas.List.{length-set}
+use Rattle.blocking_io.specs.Calls.{Stage}
+use Rattle.raw_io.specs.Transfers.{site}
+use Rattle.raw_io.proofs.Exits.{keeps_none, keeps_join}
+use Rattle.cached_run.proofs.Keepings.{setup_none, setup_more, setup_asked, data_at, not_stopped}
+use Rattle.cached_run.proofs.Readings.{AreGiven, given_none, given_more, given_all, given_end, given_stops, set_behind}
+use Rattle.cached_run.proofs.transfers.read_blocks.Goals as goal
+
+pub loop-k-init : goal.loop-k-init
+loop-k-init g c =
+    let here : Stage = site g.P.Packs.tells g.P.Packs.held g.T.Sink.tells g.T.Sink.taken c.args.subsystem.now.world c.args.packs.now c.args.trace.now in
+    record {
+      so_far = given_none c.args.unit c.args.first c.args.blocks.now.items c.args.cache.now here;
+      setup = setup_none here;
+      may = c.requires.may;
+      room = refl;
+      keeps = keeps_none g.P.Packs.tells g.P.Packs.faults g.T.Sink.tells g.T.Sink.faults c.args.subsystem.now c.args.packs.now c.args.trace.now c.requires.may.ready;
+    }
+
+pub read-requires-clause-block : goal.read-requires-clause-block
+read-requires-clause-block g c =
+    let old : Stage = site g.P.Packs.tells g.P.Packs.held g.T.Sink.tells g.T.Sink.taken c.args.subsystem.now.world c.args.packs.now c.args.trace.now in
+    let mid : Stage = site g.P.Packs.tells g.P.Packs.held g.T.Sink.tells g.T.Sink.taken c.loop-k.subsystem.world c.loop-k.packs c.loop-k.trace in
+    data_at old mid c.args.unit c.args.first c.args.count c.loop-k.k c.loop-k-test.true c.loop-k.invariant.setup (c.loop-k.invariant.keeps.units refl) c.requires.data
+
+pub loop-k-preserved : goal.loop-k-preserved
+loop-k-preserved g c =
+    let old : Stage = site g.P.Packs.tells g.P.Packs.held g.T.Sink.tells g.T.Sink.taken c.args.subsystem.now.world c.args.packs.now c.args.trace.now in
+    let mid : Stage = site g.P.Packs.tells g.P.Packs.held g.T.Sink.tells g.T.Sink.taken c.loop-k.subsystem.world c.loop-k.packs c.loop-k.trace in
+    let new : Stage = site g.P.Packs.tells g.P.Packs.held g.T.Sink.tells g.T.Sink.taken c.read.new.subsystem.world c.read.new.packs c.read.new.trace in
+    let reads = c.in-Ok.ensures.reads refl in
+    let still = c.in-Ok.ensures.keeps.never_again in
+    let room = c.requires.room in
+    let same = c.loop-k.invariant.room in
+    let here = c.loop-k-test.true in
+    let lt : c.loop-k.k < length c.loop-k.blocks.items = omega (arith, room, same, here) in
+    record {
+      so_far = given_more c.args.line c.args.unit c.args.first c.loop-k.k c.read.new.into c.loop-k.blocks.items c.args.cache.now c.loop-k.cache c.read.new.self old mid new lt
+          c.loop-k.invariant.setup still c.loop-k.invariant.so_far reads c.in-Ok.ensures.holds;
+      setup = setup_more old mid new still c.loop-k.invariant.setup (setup_asked mid new reads.asks);
+      may = c.in-Ok.ensures.may refl;
+      room = length-set c.loop-k.blocks.items c.loop-k.k c.read.new.into ∙ same;
+      keeps = keeps_join g.P.Packs.tells g.P.Packs.faults g.T.Sink.tells g.T.Sink.faults c.args.subsystem.now c.loop-k.subsystem c.read.new.subsystem c.args.packs.now c.loop-k.packs c.read.new.packs
+          c.args.trace.now c.loop-k.trace c.read.new.trace None c.loop-k.invariant.keeps c.in-Ok.ensures.keeps;
+    }
+
+pub returns-in-Err-Unusable-clause-reads : goal.returns-in-Err-Unusable-clause-reads
+returns-in-Err-Unusable-clause-reads g c =
+    let old : Stage = site g.P.Packs.tells g.P.Packs.held g.T.Sink.tells g.T.Sink.taken c.args.subsystem.now.world c.args.packs.now c.args.trace.now in
+    let mid : Stage = site g.P.Packs.tells g.P.Packs.held g.T.Sink.tells g.T.Sink.taken c.loop-k.subsystem.world c.loop-k.packs c.loop-k.trace in
+    let new : Stage = site g.P.Packs.tells g.P.Packs.held g.T.Sink.tells g.T.Sink.taken c.read.new.subsystem.world c.read.new.packs c.read.new.trace in
+    given_end c.args.line c.args.unit c.args.first c.args.count c.loop-k.k c.loop-k.blocks.items (slice_set c.loop-k.blocks.items c.loop-k.k c.read.new.into) c.args.cache.now c.loop-k.cache c.read.new.self old mid new
+    c.loop-k-test.true (set_behind c.loop-k.blocks.items c.loop-k.k c.read.new.into) c.loop-k.invariant.setup c.in-Err-Unusable.ensures.keeps.never_again c.loop-k.invariant.so_far
+    (c.in-Err-Unusable.ensures.reads (not_stopped (Unit {0}) c.in-Err-Unusable.field-0 c.in-Err-Unusable.field-0-is)) c.in-Err-Unusable.ensures.holds
+
+pub returns-in-Err-Stop-clause-stops : goal.returns-in-Err-Stop-clause-stops
+returns-in-Err-Stop-clause-stops g c =
+    let old : Stage = site g.P.Packs.tells g.P.Packs.held g.T.Sink.tells g.T.Sink.taken c.args.subsystem.now.world c.args.packs.now c.args.trace.now in
+    let mid : Stage = site g.P.Packs.tells g.P.Packs.held g.T.Sink.tells g.T.Sink.taken c.loop-k.subsystem.world c.loop-k.packs c.loop-k.trace in
+    let new : Stage = site g.P.Packs.tells g.P.Packs.held g.T.Sink.tells g.T.Sink.taken c.read.new.subsystem.world c.read.new.packs c.read.new.trace in
+    given_stops c.args.unit (c.args.first + c.loop-k.k) (λ contents. AreGiven contents c.args.unit c.args.first c.loop-k.k c.loop-k.blocks.items) c.args.cache.now c.loop-k.cache old mid new
+    c.loop-k.invariant.setup c.in-Err-Stop.ensures.keeps.never_again c.loop-k.invariant.so_far c.in-Err-Stop.ensures.holds
+
+pub returns-clause-reads : goal.returns-clause-reads
+returns-clause-reads g c =
+    let old : Stage = site g.P.Packs.tells g.P.Packs.held g.T.Sink.tells g.T.Sink.taken c.args.subsystem.now.world c.args.packs.now c.args.trace.now in
+    let new : Stage = site g.P.Packs.tells g.P.Packs.held g.T.Sink.tells g.T.Sink.taken c.loop-k.subsystem.world c.loop-k.packs c.loop-k.trace in
+    let end = c.loop-k.auto.k-end in
+    let over = c.loop-k-test.false in
+    given_all c.args.unit c.args.first c.args.count c.loop-k.k c.loop-k.blocks.items c.args.cache.now c.loop-k.cache old new (omega (arith, end, over)) c.loop-k.invariant.so_far

@@ -1,0 +1,92 @@
+-- BEHIND SOME INPUTS of a script: what is cached, what the packs hold, and what was said; and what a line makes of it.
+use Rattle.std.specs.Prelude.{◌≡◌, ℕ, ◌≤◌, Bool, IsTrue, List, [], ◌∷◌, ◌++◌, length, Option}
+use Rattle.outside_traits.specs.Causes.{Rose}
+use Rattle.outside_traits.specs.Puts.{TakesFront}
+use Rattle.pack_geometry.specs.declared.DriveKind.{DriveKind}
+use Rattle.pack_model.specs.Pack.{Pack}
+use Rattle.trace_replay.specs.Script.{Numbered, Drain, Script, inputs_of}
+use Rattle.block_machine.specs.Machine.{Blocks}
+use Rattle.driver_machine.specs.World.{World}
+use Rattle.waited_requests.specs.Rest.{HasTables}
+use Rattle.waited_requests.specs.Waited.{with_packs}
+use Rattle.blocking_io.specs.Calls.{Stage}
+use Rattle.blocking_io.specs.Asking.{setup_at}
+use Rattle.request_fronts.specs.Fronts.{OthersStay}
+use Rattle.raw_io.specs.Calls.{map_at, left_map}
+use Rattle.raw_io.specs.Transfers.{site}
+use Rattle.cached_blocks.specs.Entries.{State}
+use Rattle.cached_blocks.specs.Contents.{cached, AllFit}
+use Rattle.cached_run.specs.Answers.{answers_of, map_of_inputs, text_of, replacements_of}
+use Rattle.cached_run.specs.Theorem.{IsAfter, AreParted}
+
+-- WHAT IS PLAYED ON: the driver's world, the packs and the trace, and the sink for the answers
+pub record Scene : Type 0 where
+  pub site : Stage
+  pub out_tells : Bool
+  pub said : List ℕ
+  pub out_faults : ℕ
+
+abbrev pub with_out : Stage → (says : Bool) → List ℕ → (faults : ℕ) → Scene
+with_out here says said faults = record { site = here; out_tells = says; said = said; out_faults = faults }
+
+abbrev pub scene : {Q O T : Type 0} → (holds : Q → Bool) → (held : Q → ℕ → Pack) → (says : O → Bool) → (said : O → List ℕ) → (faults : O → ℕ) → (tells : T → Bool) → (taken : T → List ℕ)
+    → World → Q → O → T → Scene
+scene holds held says said faults tells taken w packs out trace = with_out (site holds held tells taken w packs trace) (says out) (said out) (faults out)
+
+-- the drives that are set up, and what the packs hold
+abbrev pub drives_at : Scene → ℕ → Option DriveKind
+drives_at s = (setup_at s.site).drives
+
+abbrev pub blocks_at : Scene → ℕ → Blocks
+blocks_at s = map_at s.site
+
+-- EACH BLOCK HOLDS what some of the replacements of these inputs left, from a first scene on; those before the last sync of others among them.
+pub record HoldsSome (first : Scene) (ended all : List Numbered) (now : ℕ → Blocks) : Type 0 where
+  pub synced : List Numbered
+  pub since : List Numbered
+  pub parted : AreParted ended synced since
+  pub each : (u b : ℕ) → IsAfter (replacements_of (drives_at first) (blocks_at first) all) (length (replacements_of (drives_at first) (blocks_at first) synced)) (blocks_at first) u b (now u b)
+
+-- SO FAR these inputs came to their end, from a first scene on. What is cached is the map behind them, and their answers were said.
+pub record IsFar (first : Scene) (inputs : List Numbered) (s : State) (now : Scene) : Type 0 where
+  pub setup : setup_at now.site ≡ with_packs (setup_at first.site) now.site.held
+  pub tables : HasTables (setup_at now.site)
+  pub contents : (u b : ℕ) → cached s.entries (map_at now.site) u b ≡ map_of_inputs (drives_at first) (blocks_at first) inputs u b
+  pub fit : AllFit (map_at now.site) s.entries
+  pub holds : HoldsSome first inputs inputs (map_at now.site)
+  pub others : OthersStay (setup_at first.site) now.site.held
+  pub said : IsTrue now.out_tells → now.said ≡ first.said ++ text_of (answers_of (drives_at first) (blocks_at first) inputs)
+  pub later : first.out_faults ≤ now.out_faults
+
+-- IT STOPPED at an input behind these.
+pub record HasHalted (first : Scene) (inputs : List Numbered) (n : Numbered) (now : Scene) : Type 0 where
+  pub holds : HoldsSome first inputs (inputs ++ n ∷ []) (left_map first.site now.site)
+  pub others : OthersStay (setup_at first.site) now.site.held
+  pub front : IsTrue now.out_tells → TakesFront first.said now.said (text_of (answers_of (drives_at first) (blocks_at first) (inputs ++ n ∷ [])))
+  pub whole : (Rose first.out_faults now.out_faults → ⊥) → IsTrue now.out_tells → now.said ≡ first.said ++ text_of (answers_of (drives_at first) (blocks_at first) inputs)
+
+-- WHAT A LINE COMES TO, with no input or one, behind any inputs
+abbrev pub GoesOn : List Numbered → (s s' : State) → (old new : Scene) → Type 0
+GoesOn more s s' old new = (first : Scene) (inputs : List Numbered) → IsFar first inputs s old → IsFar first (inputs ++ more) s' new
+
+abbrev pub Halts : List Numbered → State → (old new : Scene) → Type 0
+Halts [] s old new = ⊥
+Halts (n ∷ more) s old new = (first : Scene) (inputs : List Numbered) → IsFar first inputs s old → HasHalted first inputs n new
+
+-- a sync says nothing
+abbrev pub syncs_at : (line : ℕ) → List Numbered
+syncs_at line = record { line = line; input = Drain } ∷ []
+
+abbrev pub SyncGoesOn : (line : ℕ) → (s s' : State) → (old new : Stage) → Type 0
+SyncGoesOn line s s' old new = (says : Bool) (said : List ℕ) (faults : ℕ) → GoesOn (syncs_at line) s s' (with_out old says said faults) (with_out new says said faults)
+
+abbrev pub SyncHalts : (line : ℕ) → State → (old new : Stage) → Type 0
+SyncHalts line s old new = (says : Bool) (said : List ℕ) (faults : ℕ) → Halts (syncs_at line) s (with_out old says said faults) (with_out new says said faults)
+
+-- A SCRIPT that stopped at one of its inputs
+pub record HaltsScript (script : Script) (old new : Scene) : Type 0 where
+  pub before : List Numbered
+  pub at : Numbered
+  pub later : List Numbered
+  pub inputs : inputs_of script ≡ before ++ at ∷ later
+  pub halted : HasHalted old before at new

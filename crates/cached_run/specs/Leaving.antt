@@ -1,0 +1,64 @@
+-- WHAT CALLS OF THE CACHE LEAVE, one behind the other: in what is cached, and on the packs.
+use Rattle.std.specs.Prelude.{◌≡◌, ◌⊎◌, ℕ, ◌+◌, ◌<◌, ◌≤◌, zero, suc, IsTrue, List, [], ◌∷◌, length, take, slice_index_or, Option, None, Some}
+use Rattle.pack_geometry.specs.Geometry.{limit_of}
+use Rattle.driver_machine.specs.World.{World}
+use Rattle.driver_machine.specs.Guards.{IsSetUp}
+use Rattle.waited_requests.specs.Rest.{HasTables}
+use Rattle.waited_requests.specs.Waited.{with_packs}
+use Rattle.blocking_io.specs.Calls.{Stage}
+use Rattle.blocking_io.specs.Asking.{setup_at}
+use Rattle.request_fronts.specs.Fronts.{OthersStay}
+use Rattle.raw_io.specs.Calls.{kind_at, map_at, left_map}
+use Rattle.cached_blocks.specs.declared.Entry.{Entry}
+use Rattle.cached_blocks.specs.Requests.{Map}
+use Rattle.cached_blocks.specs.Entries.{State}
+use Rattle.cached_blocks.specs.Contents.{cached, AllFit}
+use Rattle.waited_requests.specs.Waited.{first_unusable}
+use Rattle.cached_run.specs.Answers.{Replacement, usable_of, after}
+
+-- A BLOCK HOLDS what it held, or what was cached after some of these replacements.
+pub record SomeAfter (list : List Replacement) (contents : Map) (u b : ℕ) (now : Option (List ℕ)) : Type 0 where
+  pub number : ℕ
+  pub to : number ≤ length list
+  pub holds : now ≡ after (take number list) contents u b
+
+abbrev pub IsLeft : List Replacement → Map → List Entry → (u b : ℕ) → Option (List ℕ) → Type 0
+IsLeft list map entries u b now = (now ≡ map u b) ⊎ SomeAfter list (cached entries map) u b now
+
+pub record Leaves (list : List Replacement) (s : State) (old new : Stage) : Type 0 where
+  pub each : (u b : ℕ) → IsLeft list (map_at old) s.entries u b (left_map old new u b)
+  pub others : OthersStay (setup_at old) new.held
+
+-- WHERE NOTHING STOPPED them, what is cached is what these replacements left; units and tables of the driver stay.
+pub record Makes (list : List Replacement) (s s' : State) (old new : Stage) : Type 0 where
+  pub contents : (u b : ℕ) → cached s'.entries (map_at new) u b ≡ after list (cached s.entries (map_at old)) u b
+  pub fit : AllFit (map_at new) s'.entries
+
+pub record KeepsSetup (old new : Stage) : Type 0 where
+  pub setup : setup_at new ≡ with_packs (setup_at old) new.held
+  pub tables : IsTrue new.packs_tell → HasTables (setup_at old) → HasTables (setup_at new)
+
+-- ---- SOME BLOCKS of a unit that is set up, from one on
+pub record AreData (w : World) (unit first count : ℕ) : Type 0 where
+  pub unit_is : IsSetUp w unit
+  pub inside : first + count ≤ limit_of (kind_at w unit)
+
+-- so many come before the first of them that can't be used
+abbrev pub usable_in : Map → (unit first count : ℕ) → ℕ
+usable_in map unit first count = usable_of (first_unusable count (map unit) first 0) count
+
+-- READ: these are the bytes of the first ones, so many;
+pub record AreRead (contents : Map) (unit first count done : ℕ) (blocks : List (List ℕ)) : Type 0 where
+  pub done_is : done ≡ usable_in contents unit first count
+  pub bytes : (k : ℕ) → k < done → contents unit (first + k) ≡ Some (slice_index_or blocks k [])
+
+-- or WRITTEN, each with the same bytes: so many replacements
+abbrev pub spread : (n unit first : ℕ) → List ℕ → List Replacement
+spread zero unit first bytes = []
+spread (suc n) unit first bytes = record { unit = unit; block = first; bytes = bytes } ∷ spread n unit (first + 1) bytes
+
+-- WHAT WAS DONE where nothing stopped it, and where the packs tell
+pub record Does (list : List Replacement) (P : Map → Type 0) (s s' : State) (old new : Stage) : Type 0 where
+  pub leaves : Leaves list s old new
+  pub makes : Makes list s s' old new
+  pub says : P (cached s.entries (map_at old))

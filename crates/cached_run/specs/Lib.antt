@@ -1,0 +1,9 @@
+pub mod Meaning
+pub mod Answers
+pub mod Theorem
+pub mod Leaving
+pub mod Saying
+pub mod Faults
+pub mod Going
+pub mod Attaching
+pub mod Lines

@@ -1,0 +1,41 @@
+-- The lines of a script of the cache, one by one.
+use Rattle.std.specs.Prelude.{◌≡◌, ℕ, ◌≤◌, List, [], length, map, take}
+use Rattle.trace_replay.specs.Script.{Line, Numbered, inputs_before, with_input}
+use Rattle.driver_machine.specs.World.{World}
+use Rattle.driver_machine.specs.Guards.{IsSetUp}
+use Rattle.cached_script.specs.declared.statement.Asked.{Asked}
+use Rattle.cached_script.specs.declared.statement.Statement.{Statement}
+use Rattle.cached_script.specs.declared.statement.Statement.TheVariants as says
+use Rattle.cached_script.specs.declared.statement.Line.{Line as Said}
+use Rattle.cached_script.specs.Scripts as cached
+use Rattle.cached_run.specs.Meaning.{line_of, statement_of}
+
+-- those before one, and their inputs
+abbrev pub lines_before : cached.Script → ℕ → List Line
+lines_before s i = map line_of (take i s.lines)
+
+abbrev pub inputs_till : cached.Script → ℕ → List Numbered
+inputs_till s i = inputs_before [] (lines_before s i)
+
+-- the input of one, if it has one
+abbrev pub input_at : Said → List Numbered
+input_at line = with_input line.number (statement_of line.statement) []
+
+-- WHAT IS ASKED: 1 to 127 blocks of a unit that is set up
+pub record MayAsk (w : World) (a : Asked) : Type 0 where
+  pub unit_is : IsSetUp w a.unit
+  pub some : 1 ≤ a.count
+  pub few : a.count ≤ 127
+
+abbrev pub MayPlay : World → Statement → Type 0
+MayPlay w (says.Read a) = MayAsk w a
+MayPlay w (says.Write a fill) = MayAsk w a
+MayPlay w statement = Unit {0}
+
+-- WHAT IS KEPT between two lines: nothing is gathered at the desk, and it has room for the blocks of a read; and units that are set up stay so.
+pub record IsRoomy (gathered : List ℕ) (blocks : List (List ℕ)) : Type 0 where
+  pub none : gathered ≡ []
+  pub room : length blocks ≡ 127
+
+abbrev pub KeepsUnits : (old new : World) → Type 0
+KeepsUnits old new = (u : ℕ) → IsSetUp old u → IsSetUp new u

@@ -1,0 +1,85 @@
+-- THE THEOREM on scripts of the cache.
+use Rattle.std.specs.Prelude.{◌≡◌, ◌⊎◌, ℕ, ◌<◌, ◌≤◌, Bool, IsTrue, List, [], ◌∷◌, ◌++◌, length, take, Option, Some}
+use Rattle.outside_traits.specs.Causes.{Rose}
+use Rattle.outside_traits.specs.Puts.{TakesFront}
+use Rattle.pack_geometry.specs.declared.DriveKind.{DriveKind}
+use Rattle.pack_geometry.specs.Geometry.{limit_of}
+use Rattle.pack_model.specs.Pack.{Pack}
+use Rattle.pack_model.specs.TableSpelling.{Table}
+use Rattle.pack_model.specs.PackTable.{AreTablesOf}
+use Rattle.pack_model.specs.Homes.{contents_of}
+use Rattle.trace_replay.specs.Script.{Input, Drain, Numbered, Script, drives_of, inputs_of}
+use Rattle.block_machine.specs.Machine.{Blocks}
+use Rattle.block_machine.specs.LegalAnswers.{AreLegal, all_claimed}
+use Rattle.block_machine.specs.Laws.{HoldMap, RestStays}
+use Rattle.event_player.specs.Passes.{Took}
+use Rattle.event_player.specs.Stops.{IsUnplayed}
+use Rattle.cached_run.specs.declared.fault.CachedPlayFault.{CachedPlayFault}
+use Rattle.cached_run.specs.declared.fault.CachedPlayFault.TheVariants as faults
+use Rattle.cached_run.specs.Answers.{Replacement, answers_of, map_of_inputs, text_of, replacements_of, after}
+
+-- what the packs hold, with these tables
+abbrev pub contents : Script → (ℕ → Option Table) → (ℕ → Pack) → ℕ → Blocks
+contents script tables packs = contents_of (drives_of script) tables packs
+
+-- PLAYED TO ITS END: with the tables of the packs, the answers are those that the map gives one by one, each request at its own line. They are
+-- legal, with the bytes of all reads, from what the packs held first to what they hold now; the rest of the packs is as it was; and where
+-- `out` tells it took just their text.
+pub record CachedPlays (script : Script) (old new : ℕ → Pack) (out : Took) : Type 0 where
+  pub tables : ℕ → Option Table
+  pub read : AreTablesOf (drives_of script) old tables
+  pub legal : AreLegal (drives_of script) all_claimed (inputs_of script) (answers_of (drives_of script) (contents script tables old) (inputs_of script)) (contents script tables old)
+      (map_of_inputs (drives_of script) (contents script tables old) (inputs_of script))
+  pub held : HoldMap (drives_of script) tables new (map_of_inputs (drives_of script) (contents script tables old) (inputs_of script))
+  pub rest : RestStays script tables old new
+  pub said : IsTrue out.tells → out.after ≡ out.before ++ text_of (answers_of (drives_of script) (contents script tables old) (inputs_of script))
+
+-- A BLOCK HOLDS what its first content is after so many of the replacements, not fewer than these.
+pub record IsAfter (list : List Replacement) (least : ℕ) (first : ℕ → Blocks) (unit block : ℕ) (now : Option (List ℕ)) : Type 0 where
+  pub number : ℕ
+  pub from : least ≤ number
+  pub to : number ≤ length list
+  pub holds : now ≡ after (take number list) first unit block
+
+-- inputs that end with a sync, and inputs with none
+abbrev pub EndsWithSync : List Numbered → Type 0
+EndsWithSync [] = ⊥
+EndsWithSync (n ∷ []) = n.input ≡ Drain
+EndsWithSync (n ∷ next ∷ inputs) = EndsWithSync (next ∷ inputs)
+
+abbrev pub HasNoSync : List Numbered → Type 0
+HasNoSync [] = Unit {0}
+HasNoSync (n ∷ inputs) = (n.input ≡ Drain → ⊥) × HasNoSync inputs
+
+-- SOME INPUTS CAME TO THEIR END; up to `synced` the last sync among them, if there is one.
+pub record AreParted (inputs synced since : List Numbered) : Type 0 where
+  pub parts : inputs ≡ synced ++ since
+  pub ends : (synced ≡ []) ⊎ EndsWithSync synced
+  pub none : HasNoSync since
+
+-- STOPPED IN PLAYING, at the line of one input, which may have been answered or not. Each data block holds what some of the replacements up
+-- to this line left, not fewer than those before the last sync that ended. The rest of the packs is as it was. `out` took a front of the
+-- text of such answers up to this line, and of those before it the whole, unless its own count rose.
+pub record CachedStops (script : Script) (old new : ℕ → Pack) (out : Took) : Type 0 where
+  pub tables : ℕ → Option Table
+  pub read : AreTablesOf (drives_of script) old tables
+  pub before : List Numbered
+  pub at : Numbered
+  pub later : List Numbered
+  pub inputs : inputs_of script ≡ before ++ at ∷ later
+  pub synced : List Numbered
+  pub since : List Numbered
+  pub parted : AreParted before synced since
+  pub held : (unit block : ℕ) (kind : DriveKind) → drives_of script unit ≡ Some kind → block < limit_of kind
+      → IsAfter (replacements_of (drives_of script) (contents script tables old) (before ++ at ∷ []))
+      (length (replacements_of (drives_of script) (contents script tables old) synced)) (contents script tables old) unit block (contents script tables new unit block)
+  pub rest : RestStays script tables old new
+  pub front : IsTrue out.tells → TakesFront out.before out.after (text_of (answers_of (drives_of script) (contents script tables old) (before ++ at ∷ [])))
+  pub whole : (Rose out.faults out.faults_after → ⊥) → IsTrue out.tells
+      → out.after ≡ out.before ++ text_of (answers_of (drives_of script) (contents script tables old) before)
+
+-- WHAT PLAYING LEAVES where it stopped: nothing was played, as the packs failed when a unit was attached; or it stopped in playing.
+abbrev pub CachedLeaves : CachedPlayFault → Script → (first left : ℕ → Pack) → (out trace : Took) → Type 0
+CachedLeaves faults.Store script first left out trace = IsUnplayed first left out trace ⊎ CachedStops script first left out
+CachedLeaves faults.Sink script first left out trace = CachedStops script first left out
+CachedLeaves fault script first left out trace = Unit {0}

@@ -1,0 +1,15 @@
+//! The player of scripts for the cache: each request of a script is answered at its own line, block by block through a cache with
+//! delayed writes, and behind the last line all that is changed goes to the packs.
+#![tactic(auto)]
+
+mod answers;
+mod attaching;
+mod desk;
+mod fault;
+mod lines;
+mod play;
+mod requests;
+mod transfers;
+
+pub use fault::CachedPlayFault;
+pub use play::play_cached;

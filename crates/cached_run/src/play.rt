@@ -1,0 +1,107 @@
+// A script is played to its end.
+ghost use Rattle.std.specs.Prelude.{◌≡◌, ◌≤◌, ℕ, [], IsTrue, IfErr, OnOk, OnErr};
+ghost use Rattle.trace_replay.specs.Script.{inputs_of};
+ghost use Rattle.waited_requests.specs.Rest.{HasTables};
+ghost use Rattle.blocking_io.specs.Asking.{setup_at};
+ghost use Rattle.raw_io.specs.Transfers.{site};
+ghost use Rattle.buffer_cache.specs.Calls.{MayUse};
+ghost use Rattle.one_run.specs.Steps.{AreUnits};
+ghost use Rattle.run_stops.specs.Stops.{took};
+ghost use Rattle.event_player.specs.Faults.{AreUntouched, HaveTold};
+ghost use Rattle.event_player.specs.Plays.{IsTooLong};
+ghost use Rattle.cached_run.specs.Faults.{IsBefore, IsPlaying, IsLongFor, IsCaused, Rise};
+ghost use Rattle.cached_run.specs.Going.{scene, IsFar, HaltsScript};
+ghost use Rattle.cached_run.specs.Lines.{IsRoomy};
+ghost use Rattle.cached_run.specs.Meaning.{meaning_of};
+ghost use Rattle.cached_run.specs.Theorem.{CachedPlays, CachedLeaves};
+
+use crate::attaching::attach_units;
+use crate::desk::Desk;
+use crate::fault::CachedPlayFault;
+use crate::lines::{play_line, play_sync};
+use buffer_cache::Cache;
+use cached_script::CachedScript;
+use hp_driver::Subsystem;
+use outside_traits::traits::{Packs, Sink};
+use std::alloc::Global;
+
+/// Plays the lines of a script over units that are set up for it, and behind the last line a sync, whose number is the number of
+/// lines plus one.
+fn play_lines<P: Packs, O: Sink, T: Sink>(
+    script: &CachedScript,
+    cache: &mut Cache,
+    subsystem: &mut Subsystem,
+    desk: &mut Desk,
+    packs: &mut P,
+    out: &mut O,
+    trace: &mut T,
+) -> Result<(), CachedPlayFault>
+    requires units { AreUnits (meaning_of script.now) subsystem.old.world }
+    requires may { MayUse cache.old subsystem.old }
+    requires desk { IsRoomy desk.old.gather desk.old.blocks.items }
+    requires empty { cache.old.entries ≡ [] }
+    ensures plays { OnOk result (IsTrue (P.tells packs.new)
+        → HasTables (setup_at (site P.tells P.held T.tells T.taken subsystem.old.world packs.old trace.old))
+        → IsFar (scene P.tells P.held O.tells O.taken O.faults T.tells T.taken subsystem.old.world packs.old out.old trace.old) (inputs_of (meaning_of script.now)) cache.new
+        (scene P.tells P.held O.tells O.taken O.faults T.tells T.taken subsystem.new.world packs.new out.new trace.new)) }
+    ensures stops { OnErr result (IsTrue (P.tells packs.new)
+        → HasTables (setup_at (site P.tells P.held T.tells T.taken subsystem.old.world packs.old trace.old)) → HaltsScript (meaning_of script.now)
+        (scene P.tells P.held O.tells O.taken O.faults T.tells T.taken subsystem.old.world packs.old out.old trace.old)
+        (scene P.tells P.held O.tells O.taken O.faults T.tells T.taken subsystem.new.world packs.new out.new trace.new)) }
+    ensures told { HaveTold (P.tells packs.old) (P.tells packs.new) (O.tells out.old) (O.tells out.new) (T.tells trace.old) (T.tells trace.new) }
+    ensures causes { IsCaused (P.faults packs.old) (P.faults packs.new) (O.faults out.old) (O.faults out.new) (T.faults trace.old) (T.faults trace.new) result }
+{
+    script.law();
+    let number = u64::from(script.count()) + 1;
+    for line in script.lines() {
+        play_line(line, cache, subsystem, desk, packs, out, trace)?;
+    }
+    play_sync(number, cache, subsystem, packs, trace)?;
+    Ok(())
+}
+
+/// Plays a script line by line through a cache of so many blocks, from 1 to 4,096, and behind its last line a sync, whose number is the
+/// number of lines plus one. Each request is answered at its own line, and its answer goes to `out` behind it; the lines of the requests
+/// that the cache makes go to `trace`.
+///
+/// The units are attached first, in the order of their lines. TooLong tells the first unit whose image has more bytes than the blocks of
+/// its drive. Store comes only where the packs' count of faults rose in this call, and Sink only where that of `out` or of `trace` rose;
+/// Memory only before the first line is played, with the packs, `out` and `trace` as they were.
+///
+/// Behind Store and Sink each block of the packs holds what some of the blocks that were written up to the line of the stop left, those
+/// before the last sync that ended among them; and `out` took a front of the answers.
+pub fn play_cached<P: Packs, O: Sink, T: Sink>(
+    alloc: Global,
+    script: &CachedScript,
+    capacity: u32,
+    packs: &mut P,
+    out: &mut O,
+    trace: &mut T,
+) -> Result<(), CachedPlayFault>
+    requires some { 1 ≤ capacity }
+    requires most { capacity ≤ 4096 }
+    ensures plays { OnOk result (IsTrue (P.tells packs.new) → CachedPlays (meaning_of script.now) (P.held packs.old) (P.held packs.new)
+        (took O.tells O.taken O.faults out.old out.new)) }
+    ensures stopped { IfErr result (λ fault. IsTrue (P.tells packs.new) → CachedLeaves fault (meaning_of script.now) (P.held packs.old) (P.held packs.new)
+        (took O.tells O.taken O.faults out.old out.new) (took T.tells T.taken T.faults trace.old trace.new)) }
+    ensures fits { IsPlaying result → IsTrue (P.tells packs.new) → (unit n : ℕ) → ¬ (IsTooLong (meaning_of script.now) (P.held packs.old) unit n) }
+    ensures too_long { IfErr result (IsLongFor (meaning_of script.now) (P.tells packs.new) (P.held packs.old)) }
+    ensures told { HaveTold (P.tells packs.old) (P.tells packs.new) (O.tells out.old) (O.tells out.new) (T.tells trace.old) (T.tells trace.new) }
+    ensures causes { Rise (P.faults packs.old) (P.faults packs.new) (O.faults out.old) (O.faults out.new) (T.faults trace.old) (T.faults trace.new) result }
+    ensures untouched { IsBefore result → AreUntouched (P.tells packs.new) (P.held packs.old) (P.held packs.new) out.old out.new trace.old trace.new }
+{
+    script.law();
+    let units = attach_units(alloc, script, packs)?;
+    let mut desk = Desk::new(alloc)?;
+    let mut cache = Cache::new(alloc, capacity)?;
+    let mut subsystem = Subsystem::new(alloc, units.as_slice(), 1, 0)?;
+    play_lines(
+        script,
+        &mut cache,
+        &mut subsystem,
+        &mut desk,
+        packs,
+        out,
+        trace,
+    )
+}

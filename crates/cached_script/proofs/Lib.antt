@@ -1,0 +1,5 @@
+mod Wrongs
+mod Knows
+mod Passes
+pub mod ReadingLaws
+mod Wells

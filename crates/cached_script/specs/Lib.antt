@@ -1,0 +1,5 @@
+pub mod Kinds
+pub mod Scripts
+pub mod Knowing
+pub mod Reading
+pub mod Formed

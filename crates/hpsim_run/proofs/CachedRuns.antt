@@ -1,0 +1,80 @@
+-- A run of `cached`, by its status.
+use Rattle.std.proofs.Common.{◌≡◌, ◌⊎◌, ℕ, Bool, IsTrue, List, Result, Err, refl, sym, ap, subst, arith, ◌∙◌}
+use Rattle.pack_model.specs.Pack.{Pack}
+use Rattle.outside_traits.specs.Causes.{Rose}
+use Rattle.trace_replay.specs.Script.{Script}
+use Rattle.cached_script.specs.declared.statement.Line.{Line}
+use Rattle.cached_script.specs.Scripts.{Script as Lines, IsRefused}
+use Rattle.cached_script.proofs.ReadingLaws.{one_script}
+use Rattle.cached_run.specs.Faults.{IsBefore, IsLongFor, IsPlaying}
+use Rattle.cached_run.specs.Meaning.{meaning_of}
+use Rattle.cached_run.specs.Theorem.{CachedLeaves}
+use Rattle.cached_run.specs.declared.fault.CachedPlayFault.{CachedPlayFault}
+use Rattle.cached_run.specs.declared.fault.CachedPlayFault.TheVariants as faults
+use Rattle.event_player.specs.Passes.{Took}
+use Rattle.event_player.specs.Plays.{IsTooLong, NamesTooLong}
+use Rattle.command_parts.specs.Outside.{Outside}
+use Rattle.hpsim_run.specs.Sinks.{out_took, trace_took}
+use Rattle.hpsim_run.specs.Cached.{HasCached, HasStoppedCached, MeansCached, RunsCached}
+use Rattle.hpsim_run.specs.Scripts.{RunsScript}
+use Rattle.hpsim_run.proofs.ScriptRuns.{IsApart, IsRead, MeanOne, script_done, script_sink, script_store}
+
+pub one_cached : MeanOne MeansCached
+one_cached bytes script other means read =
+    let same : (means.lines.lines ≡ read.lines.lines) × (means.lines.count ≡ read.lines.count) =
+    one_script bytes means.lines.lines read.lines.lines means.lines.count read.lines.count means.spelled read.spelled in
+    means.is ∙ ap (λ (ls : List Line). meaning_of (record { lines = ls; count = means.lines.count })) same.0
+    ∙ ap (λ (n : ℕ). meaning_of (record { lines = read.lines.lines; count = n })) same.1 ∙ sym read.is
+
+module _ (old new : Outside) (read : IsRead old new) where
+  pub cached_done : HasCached new.source_tells old.left new.left new.packs_tell old.held new.held (out_took old new) → RunsCached 0 old new
+  cached_done h = record {
+    script = script_done _ one_cached old new read (meaning_of h.lines) (λ t. record { lines = h.lines; spelled = h.spelled t; is = refl }) h.fits;
+    done = λ e. h;
+    stopped = λ e. absurd (omega (arith, e));
+    stopped_packs = λ e. absurd (omega (arith, e));
+  }
+
+  abbrev Stop : CachedPlayFault → Type 0
+  Stop fault = HasStoppedCached fault new.source_tells old.left new.left new.packs_tell old.held new.held (out_took old new) (trace_took old new)
+
+  pub cached_sink : (s : Stop faults.Sink) → (IsTrue new.packs_tell → (unit n : ℕ) → ¬ (IsTooLong (meaning_of s.lines) old.held unit n))
+      → Rose old.out_faults new.out_faults ⊎ Rose old.trace_faults new.trace_faults → RunsCached 5 old new
+  cached_sink s fits rose = record {
+    script = script_sink _ one_cached old new read (meaning_of s.lines) (λ t. record { lines = s.lines; spelled = s.spelled t; is = refl }) fits rose;
+    done = λ e. absurd (omega (arith, e));
+    stopped = λ e. s;
+    stopped_packs = λ e. absurd (omega (arith, e));
+  }
+
+  pub cached_store : (s : Stop faults.Store) → Rose old.packs_faults new.packs_faults → RunsCached 6 old new
+  cached_store s rose = record {
+    script = script_store _ one_cached old new read (meaning_of s.lines) (λ t. record { lines = s.lines; spelled = s.spelled t; is = refl }) rose;
+    done = λ e. absurd (omega (arith, e));
+    stopped = λ e. absurd (omega (arith, e));
+    stopped_packs = λ e. s;
+  }
+
+-- nothing was played
+pub uncached : {old new : Outside} {code : ℕ} → IsApart code → RunsScript MeansCached IsRefused code old new → RunsCached code old new
+uncached apart script = record {
+  script = script;
+  done = λ e. absurd (apart.done e);
+  stopped = λ e. absurd (apart.sink e);
+  stopped_packs = λ e. absurd (apart.store e);
+}
+
+-- ---- by a fault's name
+pub cached_long : (script : Script) (tells : Bool) (packs : ℕ → Pack) (fault : CachedPlayFault) (unit length_is : ℕ) → fault ≡ faults.TooLong unit length_is
+    → IsLongFor script tells packs fault → NamesTooLong script tells packs unit length_is
+cached_long script tells packs fault unit length_is e is = subst (λ (f : CachedPlayFault). IsLongFor script tells packs f) e is
+
+pub cached_plays : {T : Type 0} (fault : CachedPlayFault) → fault ≡ faults.Sink → IsPlaying {T} (Err fault)
+cached_plays {T} fault e = subst (λ (f : CachedPlayFault). IsPlaying {T} (Err f)) (sym e) tt
+
+pub cached_before : {T : Type 0} (fault : CachedPlayFault) (unit length_is : ℕ) → fault ≡ faults.TooLong unit length_is → IsBefore {T} (Err fault)
+cached_before {T} fault unit length_is e = subst (λ (f : CachedPlayFault). IsBefore {T} (Err f)) (sym e) tt
+
+pub cached_leaves : (fault other : CachedPlayFault) (script : Script) (first left : ℕ → Pack) (out trace : Took) → fault ≡ other → CachedLeaves fault script first left out trace
+    → CachedLeaves other script first left out trace
+cached_leaves fault other script first left out trace e is = subst (λ (f : CachedPlayFault). CachedLeaves f script first left out trace) e is

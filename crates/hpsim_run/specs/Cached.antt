@@ -1,0 +1,48 @@
+-- What a run of `cached` comes to, by the status that it ends with.
+use Rattle.std.specs.Prelude.{◌≡◌, ℕ, Bool, IsTrue, List, []}
+use Rattle.pack_model.specs.Pack.{Pack}
+use Rattle.trace_replay.specs.Script.{Script}
+use Rattle.cached_script.specs.Scripts.{Script as Lines, Spells, IsRefused}
+use Rattle.cached_run.specs.Meaning.{meaning_of}
+use Rattle.cached_run.specs.Theorem.{CachedPlays, CachedLeaves}
+use Rattle.cached_run.specs.declared.fault.CachedPlayFault.{CachedPlayFault}
+use Rattle.cached_run.specs.declared.fault.CachedPlayFault.TheVariants as faults
+use Rattle.event_player.specs.Passes.{Took}
+use Rattle.event_player.specs.Plays.{IsTooLong}
+use Rattle.command_parts.specs.Outside.{Outside}
+use Rattle.command_parts.specs.Statuses.{status_code}
+use Rattle.command_parts.specs.declared.status.Status.TheVariants.{Done, SinkFailed, PacksFailed}
+use Rattle.hpsim_run.specs.Scripts.{RunsScript}
+use Rattle.hpsim_run.specs.Sinks.{out_took, trace_took}
+
+-- WHAT BYTES MEAN to `cached`: they spell lines that mean the script.
+pub record MeansCached (bytes : List ℕ) (script : Script) : Type 0 where
+  pub lines : Lines
+  pub spelled : Spells bytes lines.lines lines.count
+  pub is : script ≡ meaning_of lines
+
+-- PLAYED THROUGH THE CACHE. Where the source tells, it was read to its end, and its bytes spell these lines; where the packs tell, each
+-- request was answered at its own line, as the block machine answers it, the packs hold what all writes leave, and no image was too long.
+pub record HasCached (source_tells : Bool) (left left_after : List ℕ) (tells : Bool) (old new : ℕ → Pack) (out : Took) : Type 0 where
+  pub lines : Lines
+  pub read : IsTrue source_tells → left_after ≡ []
+  pub spelled : IsTrue source_tells → Spells left lines.lines lines.count
+  pub plays : IsTrue tells → CachedPlays (meaning_of lines) old new out
+  pub fits : IsTrue tells → (unit n : ℕ) → ¬ (IsTooLong (meaning_of lines) old unit n)
+
+-- WHERE IT STOPPED as a sink or the packs failed. Where the source tells, it was read to its end, and its bytes spell these lines; where the
+-- packs tell, each block holds what some of the writes up to the line of the stop left, those before the last sync that ended among them.
+pub record HasStoppedCached (fault : CachedPlayFault) (source_tells : Bool) (left left_after : List ℕ) (tells : Bool) (old new : ℕ → Pack) (out trace : Took) : Type 0 where
+  pub lines : Lines
+  pub read : IsTrue source_tells → left_after ≡ []
+  pub spelled : IsTrue source_tells → Spells left lines.lines lines.count
+  pub leaves : IsTrue tells → CachedLeaves fault (meaning_of lines) old new out trace
+
+pub record RunsCached (code : ℕ) (old new : Outside) : Type 0 where
+  -- what does not tell how it was played
+  pub script : RunsScript MeansCached IsRefused code old new
+  pub done : code ≡ status_code Done → HasCached new.source_tells old.left new.left new.packs_tell old.held new.held (out_took old new)
+  pub stopped : code ≡ status_code SinkFailed
+      → HasStoppedCached faults.Sink new.source_tells old.left new.left new.packs_tell old.held new.held (out_took old new) (trace_took old new)
+  pub stopped_packs : code ≡ status_code PacksFailed
+      → HasStoppedCached faults.Store new.source_tells old.left new.left new.packs_tell old.held new.held (out_took old new) (trace_took old new)
