@@ -2,3 +2,4 @@ mod Orders
 mod Stays
 mod Turns
 mod Wholes
+pub mod Passes

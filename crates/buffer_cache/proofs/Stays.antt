@@ -7,13 +7,13 @@ use Rattle.driver_machine.specs.World.{World}
 use Rattle.driver_machine.specs.Guards.{IsSetUp}
 use Rattle.waited_requests.specs.Rest.{HasTables}
 use Rattle.waited_requests.specs.Waited.{map_of, with_packs}
-use Rattle.blocking_io.specs.Calls.{Stage}
-use Rattle.blocking_io.specs.Asking.{setup_at}
-use Rattle.blocking_io.specs.Sessions.{StillTell, SessionsJoin}
-use Rattle.request_fronts.specs.Fronts.{OthersStay}
-use Rattle.raw_io.specs.Calls.{map_at, left_map, IsUntouched}
-use Rattle.raw_io.proofs.Joins.{others_over, left_over}
-use Rattle.raw_io.proofs.ReadPieces.{kind_stays}
+use Rattle.single_blocks.specs.Passes.{Stage}
+use Rattle.single_blocks.specs.Passes.{setup_at}
+use Rattle.single_blocks.specs.Passes.{StillTell, SessionsJoin}
+use Rattle.single_blocks.specs.Passes.{OthersStay}
+use Rattle.single_blocks.specs.Passes.{map_at, left_map, IsUntouched}
+use Rattle.single_blocks.proofs.Passes.{others_over, left_over}
+use Rattle.single_blocks.proofs.Passes.{kind_stays}
 use Rattle.subsystem_spec.specs.Requests.{Request}
 use Rattle.cached_blocks.specs.declared.Entry.{Entry}
 use Rattle.cached_blocks.specs.Requests.{Map, reads, writes, behind_one, behind}

@@ -6,10 +6,10 @@ use Rattle.std.proofs.lemmas.List.{length-set, map-append}
 use Rattle.lru.specs.LruCache.{LruCache}
 use Rattle.driver_machine.specs.World.{World}
 use Rattle.waited_requests.specs.Rest.{HasTables}
-use Rattle.blocking_io.specs.Calls.{Stage}
-use Rattle.blocking_io.specs.Asking.{setup_at}
-use Rattle.blocking_io.specs.Sessions.{StillTell, SessionsJoin}
-use Rattle.raw_io.specs.Calls.{map_at}
+use Rattle.single_blocks.specs.Passes.{Stage}
+use Rattle.single_blocks.specs.Passes.{setup_at}
+use Rattle.single_blocks.specs.Passes.{StillTell, SessionsJoin}
+use Rattle.single_blocks.specs.Passes.{map_at}
 use Rattle.cached_blocks.specs.declared.Entry.{Entry}
 use Rattle.cached_blocks.specs.Requests.{writes}
 use Rattle.cached_blocks.specs.Contents.{Flushes}

@@ -2,13 +2,13 @@
 use Rattle.std.proofs.Common.{◌≡◌, ℕ, Bool, true, false, IsTrue, List, [], ◌∷◌, Option, None, Some, sym, ap, ◌∙◌, subst}
 use Rattle.std.specs.Prelude.{if◌then◌else◌, Result, Ok, Err, IsErrAnd}
 use Rattle.driver_outcome.specs.declared.Stop.{Stop}
-use Rattle.hp_driver.specs.Subsystem.{State as Driver}
-use Rattle.raw_io.specs.Transfers.{Keeps}
+use Rattle.single_blocks.specs.Passes.{State as Driver}
+use Rattle.single_blocks.specs.Passes.{Keeps}
 use Rattle.waited_requests.specs.Rest.{HasTables}
-use Rattle.blocking_io.specs.Calls.{Stage}
-use Rattle.blocking_io.specs.Asking.{setup_at}
-use Rattle.blocking_io.specs.Sessions.{StillTell, SessionsJoin}
-use Rattle.raw_io.specs.Calls.{map_at}
+use Rattle.single_blocks.specs.Passes.{Stage}
+use Rattle.single_blocks.specs.Passes.{setup_at}
+use Rattle.single_blocks.specs.Passes.{StillTell, SessionsJoin}
+use Rattle.single_blocks.specs.Passes.{map_at}
 use Rattle.cached_blocks.specs.declared.Entry.{Entry}
 use Rattle.cached_blocks.specs.Requests.{Map, reads, writes, behind}
 use Rattle.cached_blocks.specs.Entries.{State, IsCache, entry_of, in_front, rewritten, fronted, changed_in_front, to_write_back, with_room, put, write_backs}

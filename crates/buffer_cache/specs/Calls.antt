@@ -3,11 +3,11 @@ use Rattle.std.specs.Prelude.{◌≡◌, ℕ, ◌≤◌, Bool, true, false, if�
 use Rattle.std.specs.List.{AllByRecursion}
 use Rattle.driver_outcome.specs.declared.Stop.{Stop}
 use Rattle.waited_requests.specs.Rest.{HasTables}
-use Rattle.blocking_io.specs.Calls.{Stage}
-use Rattle.blocking_io.specs.Asking.{setup_at, IsReady}
-use Rattle.hp_driver.specs.Subsystem.{State as Driver}
-use Rattle.request_fronts.specs.Fronts.{OthersStay}
-use Rattle.raw_io.specs.Calls.{map_at, left_map}
+use Rattle.single_blocks.specs.Passes.{Stage}
+use Rattle.single_blocks.specs.Passes.{setup_at, IsReady}
+use Rattle.single_blocks.specs.Passes.{State as Driver}
+use Rattle.single_blocks.specs.Passes.{OthersStay}
+use Rattle.single_blocks.specs.Passes.{map_at, left_map}
 use Rattle.cached_blocks.specs.declared.Entry.{Entry}
 use Rattle.cached_blocks.specs.Entries.{State, to_write_back, with_room, write_backs, put, flushed, written_back}
 use Rattle.cached_blocks.specs.Requests.{reads, writes}

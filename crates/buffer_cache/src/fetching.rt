@@ -3,16 +3,14 @@ ghost use Rattle.std.specs.Prelude.{◌≡◌, ◌≤◌, ◌∷◌, Some, None,
 ghost use Rattle.driver_outcome.specs.Outcome.{stop_in};
 ghost use Rattle.cached_blocks.specs.Entries.{with_room, to_write_back, write_backs, entry_of};
 ghost use Rattle.cached_blocks.specs.Requests.{reads};
-ghost use Rattle.raw_io.specs.Transfers.{site, Keeps};
+ghost use Rattle.single_blocks.specs.Passes.{site, Keeps};
 ghost use Rattle.single_blocks.specs.Asks.{IsData, Asks};
 ghost use Rattle.buffer_cache.specs.Calls.{MayUse, Holds, IfTold, Fetched, stop_of};
 
 use crate::fault::CacheFault;
 use crate::slots::Cache;
-use blocking_io::sessions_law;
-use hp_driver::{Stop, Subsystem};
 use outside_traits::traits::{Packs, Sink};
-use single_blocks::{fetch_block, store_block};
+use single_blocks::{Stop, Subsystem, fetch_block, sessions_law, store_block};
 
 impl Cache {
     /// Writes the last entry of a full cache back, where it was changed.

@@ -19,4 +19,5 @@ mod syncing;
 #[doc(hidden)]
 pub use entry::{Held, Key};
 pub use fault::CacheFault;
+pub use single_blocks::Subsystem;
 pub use slots::Cache;

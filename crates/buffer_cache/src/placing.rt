@@ -2,20 +2,18 @@
 ghost use Rattle.std.specs.Prelude.{◌≡◌, ◌≤◌, IsTrue, None, Some, OnOk, OnErr};
 ghost use Rattle.driver_outcome.specs.Outcome.{stop_in};
 ghost use Rattle.waited_requests.specs.Rest.{HasTables};
-ghost use Rattle.blocking_io.specs.Asking.{setup_at};
+ghost use Rattle.single_blocks.specs.Passes.{setup_at};
 ghost use Rattle.cached_blocks.specs.Entries.{entry_of};
 ghost use Rattle.cached_blocks.specs.Requests.{writes};
-ghost use Rattle.raw_io.specs.Transfers.{site, Keeps};
+ghost use Rattle.single_blocks.specs.Passes.{site, Keeps};
 ghost use Rattle.single_blocks.specs.Asks.{IsData, LeftBy};
 ghost use Rattle.buffer_cache.specs.Calls.{MayUse, Holds, IfTold, Placed, Reads, Writes, stop_of, given_by, is_done};
 
 use crate::fault::CacheFault;
 use crate::slots::Cache;
-use blocking_io::sessions_law;
 use cached_blocks::cache_law;
-use hp_driver::{Stop, Subsystem};
 use outside_traits::traits::{Packs, Sink};
-use single_blocks::store_block;
+use single_blocks::{Stop, Subsystem, sessions_law, store_block};
 
 impl Cache {
     /// Reads a block that is no entry, and puts it in front where it can be used.

@@ -2,8 +2,8 @@
 ghost use Rattle.std.specs.Prelude.{◌≡◌, ◌≤◌, false, IsTrue, Some, None, OnOk, OnErr, map, length};
 ghost use Rattle.driver_outcome.specs.Outcome.{stop_in};
 ghost use Rattle.waited_requests.specs.Rest.{HasTables};
-ghost use Rattle.blocking_io.specs.Asking.{setup_at};
-ghost use Rattle.raw_io.specs.Transfers.{site, Keeps, MayTransfer};
+ghost use Rattle.single_blocks.specs.Passes.{setup_at};
+ghost use Rattle.single_blocks.specs.Passes.{site, Keeps, MayTransfer};
 ghost use Rattle.cached_blocks.specs.Requests.{writes};
 ghost use Rattle.cached_blocks.specs.Entries.{unchanged, if_changed, write_backs, written_back};
 ghost use Rattle.single_blocks.specs.Asks.{IsData, Asks, LeftBy};
@@ -12,12 +12,10 @@ ghost use Rattle.buffer_cache.specs.Calls.{MayUse, Holds, IfTold, Syncs};
 
 use crate::entry::{Held, Key};
 use crate::slots::Cache;
-use blocking_io::sessions_law;
 use cached_blocks::cache_law;
-use hp_driver::{Stop, Subsystem};
 use lru::LruCache;
 use outside_traits::traits::{Packs, Sink};
-use single_blocks::store_block;
+use single_blocks::{Stop, Subsystem, sessions_law, store_block};
 
 /// Writes an entry back, where it was changed.
 fn write_back<P: Packs, T: Sink>(

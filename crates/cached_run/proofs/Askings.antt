@@ -7,8 +7,8 @@ use Rattle.partitions.specs.Partitions.{admission, first_of}
 use Rattle.subsystem_spec.specs.declared.answers.AnswerKind.{AnswerKind}
 use Rattle.subsystem_spec.specs.declared.answers.AnswerKind.TheVariants as answer
 use Rattle.subsystem_spec.specs.declared.answers.Cause.TheVariants as cause
-use Rattle.blocking_io.specs.Calls.{Stage}
-use Rattle.raw_io.specs.Calls.{map_at}
+use Rattle.buffer_cache.specs.Passes.{Stage}
+use Rattle.buffer_cache.specs.Passes.{map_at}
 use Rattle.cached_blocks.specs.Requests.{Map}
 use Rattle.cached_blocks.specs.Entries.{State}
 use Rattle.cached_blocks.specs.Contents.{cached}

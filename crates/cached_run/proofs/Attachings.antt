@@ -7,8 +7,8 @@ use Rattle.pack_geometry.specs.Geometry.{block_count}
 use Rattle.pack_model.specs.Pack.{Pack}
 use Rattle.trace_replay.specs.Script.{Statement, Declares, Plays, Line, drives_in, IsPlayed}
 use Rattle.driver_machine.specs.World.{Setup}
-use Rattle.one_run.specs.Steps.{tables_in, AreSetFor}
-use Rattle.one_run.proofs.Attached.{IsSetupOf, AreAttached, HasDrive, attached_more, attached_still, drive_there, set_for_script}
+use Rattle.event_player.specs.Passes.{tables_in, AreSetFor}
+use Rattle.event_player.proofs.Passes.{IsSetupOf, AreAttached, HasDrive, attached_more, attached_still, drive_there, set_for_script}
 use Rattle.event_player.specs.Attaching.{IsSet}
 use Rattle.event_player.specs.Plays.{NamesTooLong}
 use Rattle.event_player.proofs.AttachLaws.{AreTold, told_more, told_still}

@@ -9,7 +9,7 @@ use Rattle.pack_model.specs.Pack.{Pack}
 use Rattle.trace_replay.specs.Script.{Script}
 use Rattle.driver_outcome.specs.declared.Stop.{Stop}
 use Rattle.driver_outcome.specs.declared.Stop.TheVariants as stop
-use Rattle.raw_io.specs.Passes.{HasCauses}
+use Rattle.buffer_cache.specs.Passes.{HasCauses}
 use Rattle.cached_run.specs.declared.fault.CachedPlayFault.{CachedPlayFault}
 use Rattle.cached_run.specs.declared.fault.CachedPlayFault.TheVariants as fault
 use Rattle.event_player.specs.Passes.{Took}

@@ -17,12 +17,12 @@ use Rattle.driver_machine.specs.Guards.{IsSetUp}
 use Rattle.waited_requests.specs.Rest.{HasTables}
 use Rattle.waited_requests.specs.Waited.{map_of, with_packs}
 use Rattle.answer_lines.specs.AnswerText.{answer_text}
-use Rattle.blocking_io.specs.Calls.{Stage}
-use Rattle.blocking_io.specs.Asking.{setup_at}
-use Rattle.blocking_io.specs.Passes.{kind_if}
-use Rattle.request_fronts.specs.Fronts.{OthersStay}
-use Rattle.raw_io.specs.Calls.{kind_at, map_at, left_map}
-use Rattle.raw_io.proofs.Joins.{others_over, left_over, map_long}
+use Rattle.buffer_cache.specs.Passes.{Stage}
+use Rattle.buffer_cache.specs.Passes.{setup_at}
+use Rattle.buffer_cache.specs.Passes.{kind_if}
+use Rattle.buffer_cache.specs.Passes.{OthersStay}
+use Rattle.buffer_cache.specs.Passes.{kind_at, map_at, left_map}
+use Rattle.buffer_cache.proofs.Passes.{others_over, left_over, map_long}
 use Rattle.cached_blocks.specs.Requests.{Map}
 use Rattle.cached_blocks.specs.declared.Entry.{Entry}
 use Rattle.cached_blocks.specs.Entries.{State, is_of, entry_of, unchanged, flushed}
@@ -183,12 +183,14 @@ module _ {first old : Scene} {inputs : List Numbered} {s : State} (far : IsFar f
     where
       cut : TakesFront old.said new.said text → old.said ≡ first.said ++ text_of (answers_of (drives_at first) (blocks_at first) inputs)
           → TakesFront first.said new.said (text_of (answers_of (drives_at first) (blocks_at first) (inputs ++ n ∷ [])))
-      cut takes so = (length (text_of (answers_of (drives_at first) (blocks_at first) inputs)) + takes.0,
-          takes.1 ∙ ap (λ z. z ++ take takes.0 text) so
-          ∙ append_assoc first.said (text_of (answers_of (drives_at first) (blocks_at first) inputs)) (take takes.0 text)
-          ∙ ap (λ z. first.said ++ z) (sym (take-append-add (text_of (answers_of (drives_at first) (blocks_at first) inputs)) text takes.0)
-          ∙ ap (λ z. take (length (text_of (answers_of (drives_at first) (blocks_at first) inputs)) + takes.0) (text_of (answers_of (drives_at first) (blocks_at first) inputs) ++ z)) (sym says)
-          ∙ ap (λ z. take (length (text_of (answers_of (drives_at first) (blocks_at first) inputs)) + takes.0) z) (sym (text_more (drives_at first) (blocks_at first) inputs (n ∷ [])))))
+      cut takes so = (
+        length (text_of (answers_of (drives_at first) (blocks_at first) inputs)) + takes.0,
+        takes.1 ∙ ap (λ z. z ++ take takes.0 text) so
+            ∙ append_assoc first.said (text_of (answers_of (drives_at first) (blocks_at first) inputs)) (take takes.0 text)
+            ∙ ap (λ z. first.said ++ z) (sym (take-append-add (text_of (answers_of (drives_at first) (blocks_at first) inputs)) text takes.0)
+            ∙ ap (λ z. take (length (text_of (answers_of (drives_at first) (blocks_at first) inputs)) + takes.0) (text_of (answers_of (drives_at first) (blocks_at first) inputs) ++ z)) (sym says)
+            ∙ ap (λ z. take (length (text_of (answers_of (drives_at first) (blocks_at first) inputs)) + takes.0) z) (sym (text_more (drives_at first) (blocks_at first) inputs (n ∷ [])))),
+      )
 
   -- IT CAME TO ITS END
   goes_request : (line : ℕ) (r : Request) (list : List Replacement) (text : List ℕ) (s' : State) (new : Scene)

@@ -7,12 +7,12 @@ use Rattle.pack_geometry.specs.Geometry.{limit_of}
 use Rattle.subsystem_spec.specs.Requests.{Request}
 use Rattle.block_machine.specs.Stands.{Setup}
 use Rattle.waited_requests.specs.Waited.{with_packs}
-use Rattle.blocking_io.specs.Calls.{Stage}
+use Rattle.buffer_cache.specs.Passes.{Stage}
 use Rattle.driver_machine.specs.World.{World}
 use Rattle.driver_machine.specs.Guards.{IsSetUp}
-use Rattle.raw_io.specs.Calls.{kind_at}
-use Rattle.single_blocks.specs.Asks.{IsData, Asks}
-use Rattle.raw_io.proofs.ReadPieces.{kind_stays}
+use Rattle.buffer_cache.specs.Passes.{kind_at}
+use Rattle.buffer_cache.specs.Passes.{IsData, Asks}
+use Rattle.buffer_cache.proofs.Passes.{kind_stays}
 use Rattle.buffer_cache.specs.Calls.{stop_of}
 use Rattle.buffer_cache.specs.declared.fault.CacheFault.{CacheFault}
 use Rattle.buffer_cache.specs.declared.fault.CacheFault.TheVariants as fault

@@ -16,7 +16,7 @@ use Rattle.trace_replay.specs.Replay.{submission_by}
 use Rattle.block_machine.specs.Machine.{Blocks, Machine, idle, kind_of, request_of, without, meets, submitted, answers_at_once, after_input, answers_of_input, AreUsable, bytes_or_none, bytes_of_first, blocks_done, blocks_after, done_in, MayAnswer, Step, Steps}
 use Rattle.block_machine.specs.LegalAnswers.{AnswersAt, AnswersTo, all_claimed}
 use Rattle.block_machine.proofs.Blocks.{sector_full}
-use Rattle.raw_io.proofs.Asks.{none_unusable, first_is}
+use Rattle.buffer_cache.proofs.Passes.{none_unusable, first_is}
 use Rattle.waited_requests.specs.Waited.{first_unusable, answer_by, answer_of, answer_at, map_at}
 use Rattle.cached_run.specs.Answers.{met_by, first_by, answer_to, map_after, with_answer, map_by, answers_of, map_of_inputs}
 

@@ -20,7 +20,7 @@ use Rattle.waited_requests.specs.Waited.{first_unusable, answer_by, answer_at}
 use Rattle.answer_lines.specs.AnswerText.{answer_line, answer_text, block_texts}
 use Rattle.answer_lines.specs.Blocks.{joined, AreBlocks}
 use Rattle.answer_lines.proofs.TextLaws.{blocks_said}
-use Rattle.raw_io.proofs.Asks.{first_is}
+use Rattle.buffer_cache.proofs.Passes.{first_is}
 use Rattle.cached_blocks.specs.Requests.{Map}
 use Rattle.cached_script.specs.declared.statement.Asked.{Asked}
 use Rattle.cached_run.specs.Answers.{Replacement, answer_with, replaced, usable_of, replaced_at, replaced_with}

@@ -13,8 +13,8 @@ use Rattle.subsystem_spec.specs.Requests.{Request, IsRequest}
 use Rattle.trace_replay.specs.Script.{Statement, Declares, Plays, Line, Numbered, Input, Drain, declared_by, drives_in, drives_of, with_input, inputs_before, inputs_of}
 use Rattle.driver_machine.specs.World.{World}
 use Rattle.driver_machine.specs.Guards.{IsSetUp}
-use Rattle.one_run.specs.Steps.{AreUnits}
-use Rattle.one_run.proofs.Attached.{HasDrive, drives-append, first_some}
+use Rattle.event_player.specs.Passes.{AreUnits}
+use Rattle.event_player.proofs.Passes.{HasDrive, drives-append, first_some}
 use Rattle.event_player.proofs.Going.{inputs_append, inputs_end}
 use Rattle.cached_script.specs.declared.statement.Asked.{Asked}
 use Rattle.cached_script.specs.declared.statement.Statement.{Statement as Says}

@@ -12,22 +12,22 @@ use Rattle.block_machine.specs.Stands.{Setup}
 use Rattle.waited_requests.specs.Rest.{HasTables}
 use Rattle.driver_machine.specs.World.{World, UnitView, Setup as UnitSetup, no_unit, new_unit, new_world, unit_at}
 use Rattle.driver_machine.specs.Guards.{IsSetUp}
-use Rattle.raw_io.specs.Passes.{State as Driver}
-use Rattle.raw_io.specs.Passes.{kind_if, table_if, setup_of}
-use Rattle.raw_io.proofs.Joins.{others_none}
-use Rattle.raw_io.proofs.Passes.{new_is_quiet}
-use Rattle.blocking_io.specs.Asking.{setup_at}
-use Rattle.raw_io.specs.Calls.{map_at}
+use Rattle.buffer_cache.specs.Passes.{State as Driver}
+use Rattle.buffer_cache.specs.Passes.{kind_if, table_if, setup_of}
+use Rattle.buffer_cache.proofs.Passes.{others_none}
+use Rattle.buffer_cache.proofs.Passes.{new_is_quiet}
+use Rattle.buffer_cache.specs.Passes.{setup_at}
+use Rattle.buffer_cache.specs.Passes.{map_at}
 use Rattle.std.specs.List.{AllByRecursion}
 use Rattle.cached_blocks.specs.declared.Entry.{Entry}
-use Rattle.single_blocks.specs.Asks.{IsData}
+use Rattle.buffer_cache.specs.Passes.{IsData}
 use Rattle.cached_blocks.specs.Entries.{State}
 use Rattle.cached_blocks.specs.Contents.{cached, AllFit}
 use Rattle.buffer_cache.specs.Calls.{MayUse}
 use Rattle.hp_core.specs.declared.start.UnitSetup.{UnitSetup as Made}
 use Rattle.hp_core.specs.Setups.{setups_of}
-use Rattle.one_run.specs.Steps.{tables_in, AreUnits, AreSetFor}
-use Rattle.one_run.proofs.Attached.{below_or_not, unit_beyond}
+use Rattle.event_player.specs.Passes.{tables_in, AreUnits, AreSetFor}
+use Rattle.event_player.proofs.Passes.{below_or_not, unit_beyond}
 use Rattle.cached_run.specs.Going.{Scene, IsFar}
 use Rattle.cached_run.proofs.Whole.{setup_for}
 

@@ -23,10 +23,10 @@ use Rattle.block_machine.specs.LegalAnswers.{AreLegal, all_claimed}
 use Rattle.block_machine.specs.Stands.{Setup, home_at, home_in}
 use Rattle.waited_requests.specs.Rest.{HasTables}
 use Rattle.waited_requests.specs.Waited.{map_of, with_packs}
-use Rattle.blocking_io.specs.Asking.{setup_at}
-use Rattle.request_fronts.specs.Fronts.{OthersStay}
-use Rattle.raw_io.specs.Calls.{map_at, left_map}
-use Rattle.raw_io.proofs.Joins.{map_long}
+use Rattle.buffer_cache.specs.Passes.{setup_at}
+use Rattle.buffer_cache.specs.Passes.{OthersStay}
+use Rattle.buffer_cache.specs.Passes.{map_at, left_map}
+use Rattle.buffer_cache.proofs.Passes.{map_long}
 use Rattle.cached_blocks.specs.Entries.{State}
 use Rattle.event_player.specs.Passes.{Took}
 use Rattle.cached_run.specs.Answers.{Replacement, answers_of, map_of_inputs, text_of, replacements_of, after}
@@ -159,5 +159,8 @@ module _ (script : Script) (tables : ℕ → Option Table) (old new : ℕ → Pa
 
       front_as : TakesFront first.said now.said (text_of (answers_of (drives_at first) (blocks_at first) (h.before ++ h.at ∷ [])))
           → TakesFront out.before out.after (text_of (answers_of (drives_of script) (contents script tables old) (h.before ++ h.at ∷ [])))
-      front_as f = (f.0, after_is ∙ f.1 ∙ ap (λ z. z ++ take f.0 (text_of (answers_of (drives_at first) (blocks_at first) (h.before ++ h.at ∷ [])))) (sym before)
-          ∙ ap (λ (z : Setup). out.before ++ take f.0 (text_of (answers_of z.drives (map_of z) (h.before ++ h.at ∷ [])))) set)
+      front_as f = (
+        f.0,
+        after_is ∙ f.1 ∙ ap (λ z. z ++ take f.0 (text_of (answers_of (drives_at first) (blocks_at first) (h.before ++ h.at ∷ [])))) (sym before)
+            ∙ ap (λ (z : Setup). out.before ++ take f.0 (text_of (answers_of z.drives (map_of z) (h.before ++ h.at ∷ [])))) set,
+      )

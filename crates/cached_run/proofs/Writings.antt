@@ -10,10 +10,10 @@ use Rattle.pack_model.specs.TableSpelling.{Table}
 use Rattle.pack_model.specs.Homes.{home_of, content_at}
 use Rattle.block_machine.proofs.Runs.{home_marks}
 use Rattle.waited_requests.specs.Rest.{HasTables}
-use Rattle.blocking_io.specs.Calls.{Stage}
-use Rattle.blocking_io.specs.Asking.{setup_at}
-use Rattle.request_fronts.specs.Fronts.{OthersStay}
-use Rattle.raw_io.specs.Calls.{map_at, left_map}
+use Rattle.buffer_cache.specs.Passes.{Stage}
+use Rattle.buffer_cache.specs.Passes.{setup_at}
+use Rattle.buffer_cache.specs.Passes.{OthersStay}
+use Rattle.buffer_cache.specs.Passes.{map_at, left_map}
 use Rattle.cached_blocks.specs.declared.Entry.{Entry}
 use Rattle.cached_blocks.specs.Requests.{Map}
 use Rattle.cached_blocks.specs.Entries.{State, entry_of}

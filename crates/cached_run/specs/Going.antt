@@ -9,11 +9,11 @@ use Rattle.block_machine.specs.Machine.{Blocks}
 use Rattle.driver_machine.specs.World.{World}
 use Rattle.waited_requests.specs.Rest.{HasTables}
 use Rattle.waited_requests.specs.Waited.{with_packs}
-use Rattle.blocking_io.specs.Calls.{Stage}
-use Rattle.blocking_io.specs.Asking.{setup_at}
-use Rattle.request_fronts.specs.Fronts.{OthersStay}
-use Rattle.raw_io.specs.Calls.{map_at, left_map}
-use Rattle.raw_io.specs.Transfers.{site}
+use Rattle.buffer_cache.specs.Passes.{Stage}
+use Rattle.buffer_cache.specs.Passes.{setup_at}
+use Rattle.buffer_cache.specs.Passes.{OthersStay}
+use Rattle.buffer_cache.specs.Passes.{map_at, left_map}
+use Rattle.buffer_cache.specs.Passes.{site}
 use Rattle.cached_blocks.specs.Entries.{State}
 use Rattle.cached_blocks.specs.Contents.{cached, AllFit}
 use Rattle.cached_run.specs.Answers.{answers_of, map_of_inputs, text_of, replacements_of}

@@ -5,10 +5,10 @@ use Rattle.driver_machine.specs.World.{World}
 use Rattle.driver_machine.specs.Guards.{IsSetUp}
 use Rattle.waited_requests.specs.Rest.{HasTables}
 use Rattle.waited_requests.specs.Waited.{with_packs}
-use Rattle.blocking_io.specs.Calls.{Stage}
-use Rattle.blocking_io.specs.Asking.{setup_at}
-use Rattle.request_fronts.specs.Fronts.{OthersStay}
-use Rattle.raw_io.specs.Calls.{kind_at, map_at, left_map}
+use Rattle.buffer_cache.specs.Passes.{Stage}
+use Rattle.buffer_cache.specs.Passes.{setup_at}
+use Rattle.buffer_cache.specs.Passes.{OthersStay}
+use Rattle.buffer_cache.specs.Passes.{kind_at, map_at, left_map}
 use Rattle.cached_blocks.specs.declared.Entry.{Entry}
 use Rattle.cached_blocks.specs.Requests.{Map}
 use Rattle.cached_blocks.specs.Entries.{State}

@@ -7,9 +7,9 @@ ghost use Rattle.cached_run.specs.Saying.{rest_text, said_text};
 
 use crate::desk::Desk;
 use answer_lines::answer_line;
-use hp_driver::AnswerKind;
 use mass_gather::gather_law;
 use outside_traits::traits::{Sink, SinkFailed};
+use subsystem_spec::AnswerKind;
 
 /// Gathers the line of a block at the desk.
 fn gather_block<O: Sink>(k: u32, desk: &mut Desk, out: &mut O) -> Result<(), SinkFailed>

@@ -1,7 +1,7 @@
 // A line of a script is played.
 ghost use Rattle.std.specs.Prelude.{◌≤◌, ℕ, Bool, None, Some, [], ◌∷◌, IsTrue, OnOk, OnErr};
 ghost use Rattle.trace_replay.specs.Script.{Submit};
-ghost use Rattle.raw_io.specs.Transfers.{site};
+ghost use Rattle.buffer_cache.specs.Passes.{site};
 ghost use Rattle.buffer_cache.specs.Calls.{MayUse};
 ghost use Rattle.event_player.specs.Faults.{HaveTold};
 ghost use Rattle.cached_run.specs.Faults.{IsCaused};
@@ -13,9 +13,8 @@ use crate::answers::write_answer;
 use crate::desk::Desk;
 use crate::fault::CachedPlayFault;
 use crate::requests::{read_asked, write_asked};
-use buffer_cache::Cache;
+use buffer_cache::{Cache, Subsystem};
 use cached_script::{Asked, Line, Statement};
-use hp_driver::Subsystem;
 use outside_traits::traits::{Packs, Sink};
 
 /// Plays a read at a line.

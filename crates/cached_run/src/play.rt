@@ -2,11 +2,11 @@
 ghost use Rattle.std.specs.Prelude.{◌≡◌, ◌≤◌, ℕ, [], IsTrue, IfErr, OnOk, OnErr};
 ghost use Rattle.trace_replay.specs.Script.{inputs_of};
 ghost use Rattle.waited_requests.specs.Rest.{HasTables};
-ghost use Rattle.blocking_io.specs.Asking.{setup_at};
-ghost use Rattle.raw_io.specs.Transfers.{site};
+ghost use Rattle.buffer_cache.specs.Passes.{setup_at};
+ghost use Rattle.buffer_cache.specs.Passes.{site};
 ghost use Rattle.buffer_cache.specs.Calls.{MayUse};
-ghost use Rattle.one_run.specs.Steps.{AreUnits};
-ghost use Rattle.run_stops.specs.Stops.{took};
+ghost use Rattle.event_player.specs.Passes.{AreUnits};
+ghost use Rattle.event_player.specs.Passes.{took};
 ghost use Rattle.event_player.specs.Faults.{AreUntouched, HaveTold};
 ghost use Rattle.event_player.specs.Plays.{IsTooLong};
 ghost use Rattle.cached_run.specs.Faults.{IsBefore, IsPlaying, IsLongFor, IsCaused, Rise};
@@ -19,9 +19,8 @@ use crate::attaching::attach_units;
 use crate::desk::Desk;
 use crate::fault::CachedPlayFault;
 use crate::lines::{play_line, play_sync};
-use buffer_cache::Cache;
+use buffer_cache::{Cache, Subsystem};
 use cached_script::CachedScript;
-use hp_driver::Subsystem;
 use outside_traits::traits::{Packs, Sink};
 use std::alloc::Global;
 

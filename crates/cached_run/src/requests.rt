@@ -4,8 +4,8 @@ ghost use Rattle.pack_geometry.specs.Geometry.{limit_of};
 ghost use Rattle.partitions.specs.Partitions.{admission, first_of};
 ghost use Rattle.driver_machine.specs.Guards.{IsSetUp};
 ghost use Rattle.driver_outcome.specs.Outcome.{stop_in};
-ghost use Rattle.raw_io.specs.Calls.{kind_at, map_at};
-ghost use Rattle.raw_io.specs.Transfers.{site, Keeps};
+ghost use Rattle.buffer_cache.specs.Passes.{kind_at, map_at};
+ghost use Rattle.buffer_cache.specs.Passes.{site, Keeps};
 ghost use Rattle.cached_blocks.specs.Contents.{cached};
 ghost use Rattle.buffer_cache.specs.Calls.{MayUse, IfTold};
 ghost use Rattle.cached_run.specs.Answers.{replaced_with};
@@ -15,12 +15,12 @@ ghost use Rattle.cached_run.specs.Meaning.{request_of, filled, one_filled};
 ghost use Rattle.cached_run.specs.Saying.{kind_by, IsSaid, GivesAmong};
 
 use crate::transfers::{read_blocks, write_blocks};
-use buffer_cache::Cache;
+use buffer_cache::{Cache, Subsystem};
 use cached_script::Asked;
 use driver_outcome::Stop;
-use hp_driver::{AnswerKind, Cause, Subsystem};
 use outside_traits::traits::{Packs, Sink};
 use partitions::{Admission, Part, admit};
+use subsystem_spec::{AnswerKind, Cause};
 
 /// How a request is answered of whose blocks so many were done, with the kind that it has where all were.
 fn answered(done: u32, count: u32, whole: AnswerKind) -> AnswerKind

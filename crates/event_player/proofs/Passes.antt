@@ -2,3 +2,4 @@
 pub use Rattle.one_run.proofs.Bytes.{bytes_have_one_run}
 pub use Rattle.one_run.proofs.Whole.{legal_runs_are_one}
 pub use Rattle.run_stops.proofs.Ahead.{behind_more, rules_hold}
+pub use Rattle.one_run.proofs.Attached.{AreAttached, HasDrive, IsSetupOf, attached_more, attached_still, below_or_not, drive_there, drives-append, first_some, set_for_script, unit_beyond}

@@ -5,4 +5,5 @@ pub use Rattle.run_stops.specs.Passes.{ShowsAll}
 pub use Rattle.run_stops.specs.Passes.{writes_next}
 pub use Rattle.one_run.specs.OneRun.{HasOneRun, IsTheRun}
 pub use Rattle.run_stops.specs.Ahead.{AreBehind, SaysOneSector, WritesAhead}
-pub use Rattle.run_stops.specs.Stops.{CameTo, StopsAtSink, Took}
+pub use Rattle.run_stops.specs.Stops.{CameTo, StopsAtSink, Took, took}
+pub use Rattle.one_run.specs.Steps.{AreSetFor, AreUnits, tables_in}

@@ -1,5 +1,5 @@
 -- What is passed on of the crates below, so that those above stand on this one.
-pub use Rattle.request_fronts.specs.Passes.{setup_at}
+pub use Rattle.request_fronts.specs.Passes.{Answers, AnswersReach, Before, GoesOn, IsReady, MayAsk, SessionsJoin, StillTell, Stops, asked, setup_at, stage}
 pub use Rattle.request_fronts.specs.Passes.{Stage}
 pub use Rattle.request_fronts.specs.Passes.{Reaches}
 pub use Rattle.driver_runs.specs.Runs.{Stay}

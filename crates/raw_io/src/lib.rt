@@ -20,5 +20,7 @@ pub use dumping::dump;
 pub use fault::RawFault;
 pub use pieces::is_outside;
 pub use reading::raw_read;
-pub use request_fronts::{Subsystem, UnitSetup};
+pub use request_fronts::{
+    Reached, Request, Stop, Subsystem, UnitSetup, ask_read, ask_write, fronts_law, sessions_law,
+};
 pub use writing::raw_write;

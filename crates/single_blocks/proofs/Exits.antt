@@ -8,9 +8,9 @@ use Rattle.subsystem_spec.specs.Requests.{Request}
 use Rattle.block_machine.specs.Machine.{blocks_done}
 use Rattle.waited_requests.specs.Sessions.{waited}
 use Rattle.waited_requests.specs.Rest.{HasTables}
-use Rattle.blocking_io.specs.Calls.{Stage}
-use Rattle.blocking_io.specs.Asking.{setup_at, Answers}
-use Rattle.blocking_io.specs.Sessions.{GoesOn, AnswersReach}
+use Rattle.raw_io.specs.Passes.{Stage}
+use Rattle.raw_io.specs.Passes.{setup_at, Answers}
+use Rattle.raw_io.specs.Passes.{GoesOn, AnswersReach}
 use Rattle.raw_io.specs.Calls.{kind_at, map_at, left_map}
 use Rattle.raw_io.specs.Blocks.{blocks_reached, ReadsOnce, PutsBlocks, PutsFront}
 use Rattle.raw_io.proofs.Asks.{plain, few_reached, read_once_of, puts_of}

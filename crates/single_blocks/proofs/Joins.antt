@@ -2,9 +2,9 @@
 use Rattle.std.proofs.Common.{◌≡◌, ℕ, List, [], ◌∷◌, ◌++◌, refl, sym, ap, ◌∙◌, subst, append-nil, append_assoc}
 use Rattle.subsystem_spec.specs.Requests.{Request}
 use Rattle.waited_requests.specs.Sessions.{waited}
-use Rattle.blocking_io.specs.Calls.{Stage}
-use Rattle.blocking_io.specs.Asking.{setup_at}
-use Rattle.blocking_io.specs.Sessions.{GoesOn, StillTell, SessionsJoin}
+use Rattle.raw_io.specs.Passes.{Stage}
+use Rattle.raw_io.specs.Passes.{setup_at}
+use Rattle.raw_io.specs.Passes.{GoesOn, StillTell, SessionsJoin}
 use Rattle.raw_io.specs.Calls.{map_at}
 use Rattle.raw_io.proofs.Joins.{others_none, others_over}
 use Rattle.cached_blocks.specs.Requests.{behind}

@@ -1,3 +1,4 @@
 mod Maps
 pub mod Joins
 mod Exits
+pub mod Passes

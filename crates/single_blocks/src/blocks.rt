@@ -3,18 +3,16 @@ ghost use Rattle.std.specs.Prelude.{◌≡◌, ◌≤◌, ◌∷◌, [], true, I
 ghost use Rattle.partitions.specs.declared.Part.TheVariants.{C};
 ghost use Rattle.driver_outcome.specs.Outcome.{stop_in};
 ghost use Rattle.waited_requests.specs.Rest.{HasTables};
-ghost use Rattle.blocking_io.specs.Asking.{setup_at};
+ghost use Rattle.raw_io.specs.Passes.{setup_at};
 ghost use Rattle.raw_io.specs.Transfers.{site, Keeps, MayTransfer};
 ghost use Rattle.raw_io.specs.Calls.{IsUntouched};
 ghost use Rattle.raw_io.specs.Blocks.{blocks_reached};
 ghost use Rattle.cached_blocks.specs.Requests.{writes};
 ghost use Rattle.single_blocks.specs.Asks.{IsData, Asks, Fetches, LeftBy};
 
-use blocking_io::{Reached, ask_read, ask_write, sessions_law};
-use hp_driver::{Request, Stop, Subsystem};
 use outside_traits::traits::{Packs, Sink};
 use partitions::Part;
-use request_fronts::fronts_law;
+use raw_io::{Reached, Request, Stop, Subsystem, ask_read, ask_write, fronts_law, sessions_law};
 
 /// A request for one data block of a unit.
 fn one_block(unit: u8, block: u32, write: bool) -> Request

@@ -2,10 +2,10 @@ use Rattle.std.proofs.Common.{◌≡◌, ◌≤◌, ◌<◌, ℕ, IsTrue, [], re
 use Rattle.std.specs.Prelude.{None, Some, false, slice_set, slice_index_or}
 use Rattle.std.proofs.lemmas.List.{get_or_default}
 use Rattle.waited_requests.specs.Rest.{HasTables}
-use Rattle.blocking_io.specs.Calls.{Stage}
-use Rattle.blocking_io.specs.Asking.{setup_at}
-use Rattle.raw_io.specs.Transfers.{site}
-use Rattle.raw_io.proofs.Exits.{on_err, keeps_none, keeps_join}
+use Rattle.single_blocks.specs.Passes.{Stage}
+use Rattle.single_blocks.specs.Passes.{setup_at}
+use Rattle.single_blocks.specs.Passes.{site}
+use Rattle.single_blocks.proofs.Passes.{on_err, keeps_none, keeps_join}
 use Rattle.cached_blocks.specs.Requests.{writes}
 use Rattle.cached_blocks.specs.Entries.{if_changed, write_backs}
 use Rattle.single_blocks.specs.Asks.{IsData, Asks, LeftBy}

@@ -1,7 +1,7 @@
 use Rattle.std.proofs.Common.{sym, subst}
 use Rattle.std.specs.Prelude.{None, Some, if◌then◌else◌}
-use Rattle.blocking_io.specs.Calls.{Stage}
-use Rattle.raw_io.specs.Transfers.{site}
+use Rattle.single_blocks.specs.Passes.{Stage}
+use Rattle.single_blocks.specs.Passes.{site}
 use Rattle.cached_blocks.specs.Entries.{write_backs}
 use Rattle.single_blocks.specs.Asks.{Asks}
 use Rattle.single_blocks.proofs.Joins.{asks_none}

@@ -1,10 +1,10 @@
 use Rattle.std.proofs.Common.{◌≡◌, [], length, refl, ap, ◌∙◌}
 use Rattle.std.specs.Prelude.{None}
 use Rattle.subsystem_spec.specs.declared.answers.AnswerKind.TheVariants as answer
-use Rattle.blocking_io.specs.Calls.{Stage}
-use Rattle.raw_io.specs.Calls.{kind_at, map_at}
-use Rattle.raw_io.specs.Transfers.{site}
-use Rattle.raw_io.proofs.Exits.{on_err}
+use Rattle.buffer_cache.specs.Passes.{Stage}
+use Rattle.buffer_cache.specs.Passes.{kind_at, map_at}
+use Rattle.buffer_cache.specs.Passes.{site}
+use Rattle.buffer_cache.proofs.Passes.{on_err}
 use Rattle.cached_blocks.specs.Contents.{cached}
 use Rattle.cached_run.specs.Going.{Scene, scene}
 use Rattle.cached_run.specs.Meaning.{request_of}

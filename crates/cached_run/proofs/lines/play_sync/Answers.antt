@@ -1,7 +1,7 @@
 use Rattle.std.proofs.Common.{◌≡◌, refl}
-use Rattle.blocking_io.specs.Calls.{Stage}
-use Rattle.raw_io.specs.Transfers.{site}
-use Rattle.raw_io.proofs.Exits.{on_err}
+use Rattle.buffer_cache.specs.Passes.{Stage}
+use Rattle.buffer_cache.specs.Passes.{site}
+use Rattle.buffer_cache.proofs.Passes.{on_err}
 use Rattle.cached_run.proofs.Causes.{same, stop_caused, caused_ok}
 use Rattle.cached_run.proofs.Goings.{goes_sync, halts_sync}
 use Rattle.cached_run.proofs.Keepings.{setup_asked}

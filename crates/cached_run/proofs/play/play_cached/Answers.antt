@@ -1,8 +1,8 @@
 use Rattle.std.proofs.Common.{◌≡◌, ◌+◌, IsTrue, length, refl, ap}
 use Rattle.trace_replay.specs.Script.{Drain}
 use Rattle.hp_core.specs.Setups.{setups_of}
-use Rattle.run_stops.specs.Stops.{Took, took}
-use Rattle.one_run.specs.Steps.{tables_in}
+use Rattle.event_player.specs.Passes.{Took, took}
+use Rattle.event_player.specs.Passes.{tables_in}
 use Rattle.cached_blocks.specs.Entries.{State}
 use Rattle.cached_run.specs.Going.{Scene, scene}
 use Rattle.cached_run.specs.Lines.{inputs_till}

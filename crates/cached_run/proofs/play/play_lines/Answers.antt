@@ -1,7 +1,7 @@
 use Rattle.std.proofs.Common.{◌≡◌, ◌<◌, ◌≤◌, ◌+◌, ℕ, suc, List, [], ◌∷◌, ◌++◌, length, map, drop, refl, sym, ap, ◌∙◌, subst, arith}
 use Rattle.std.specs.Prelude.{Ok, slice_index_or}
 use Rattle.trace_replay.specs.Script.{Numbered, Drain, inputs_before, inputs_of}
-use Rattle.raw_io.proofs.Exits.{on_err}
+use Rattle.buffer_cache.proofs.Passes.{on_err}
 use Rattle.cached_script.specs.declared.statement.Line.{Line as Said}
 use Rattle.cached_run.specs.Going.{Scene, scene, IsFar, syncs_at}
 use Rattle.cached_run.specs.Lines.{inputs_till, input_at}

@@ -1,7 +1,7 @@
 use Rattle.std.proofs.Common.{◌≡◌, ◌≤◌, IsTrue}
 use Rattle.waited_requests.specs.Rest.{HasTables}
-use Rattle.blocking_io.specs.Asking.{setup_at}
-use Rattle.raw_io.specs.Transfers.{site}
+use Rattle.buffer_cache.specs.Passes.{setup_at}
+use Rattle.buffer_cache.specs.Passes.{site}
 use Rattle.buffer_cache.specs.Calls.{MayUse}
 use Rattle.event_player.specs.Faults.{HaveTold}
 use Rattle.cached_run.specs.Going.{scene, IsFar}

@@ -1,10 +1,10 @@
 use Rattle.std.proofs.Common.{◌≡◌, ◌+◌, ◌≤◌, length, sym, ◌∙◌, subst}
 use Rattle.pack_geometry.specs.Geometry.{limit_of}
 use Rattle.subsystem_spec.specs.declared.answers.Cause.TheVariants as cause
-use Rattle.blocking_io.specs.Calls.{Stage}
-use Rattle.raw_io.specs.Calls.{kind_at}
-use Rattle.raw_io.specs.Transfers.{site}
-use Rattle.raw_io.proofs.Exits.{on_err, keeps_none, keeps_err}
+use Rattle.buffer_cache.specs.Passes.{Stage}
+use Rattle.buffer_cache.specs.Passes.{kind_at}
+use Rattle.buffer_cache.specs.Passes.{site}
+use Rattle.buffer_cache.proofs.Passes.{on_err, keeps_none, keeps_err}
 use Rattle.cached_run.specs.Saying.{GivesAmong}
 use Rattle.cached_run.proofs.Keepings.{setup_none}
 use Rattle.cached_run.proofs.Sayings.{error_among, eof_among, wrote_among}

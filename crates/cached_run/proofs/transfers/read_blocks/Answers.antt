@@ -1,9 +1,9 @@
 use Rattle.std.proofs.Common.{◌≡◌, ◌<◌, ◌+◌, ℕ, [], length, refl, sym, ◌∙◌, arith}
 use Rattle.std.specs.Prelude.{None, slice_set}
 use Rattle.std.proofs.lemmas.List.{length-set}
-use Rattle.blocking_io.specs.Calls.{Stage}
-use Rattle.raw_io.specs.Transfers.{site}
-use Rattle.raw_io.proofs.Exits.{keeps_none, keeps_join}
+use Rattle.buffer_cache.specs.Passes.{Stage}
+use Rattle.buffer_cache.specs.Passes.{site}
+use Rattle.buffer_cache.proofs.Passes.{keeps_none, keeps_join}
 use Rattle.cached_run.proofs.Keepings.{setup_none, setup_more, setup_asked, data_at, not_stopped}
 use Rattle.cached_run.proofs.Readings.{AreGiven, given_none, given_more, given_all, given_end, given_stops, set_behind}
 use Rattle.cached_run.proofs.transfers.read_blocks.Goals as goal

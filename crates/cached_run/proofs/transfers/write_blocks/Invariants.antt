@@ -1,6 +1,6 @@
 use Rattle.std.proofs.Common.{◌≡◌, ◌≤◌, length}
 use Rattle.std.specs.Prelude.{None}
-use Rattle.raw_io.specs.Transfers.{site, Keeps}
+use Rattle.buffer_cache.specs.Passes.{site, Keeps}
 use Rattle.buffer_cache.specs.Calls.{MayUse}
 use Rattle.cached_run.specs.Leaving.{KeepsSetup}
 use Rattle.cached_run.proofs.Writings.{WrittenSoFar}

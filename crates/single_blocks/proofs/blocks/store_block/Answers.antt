@@ -1,10 +1,10 @@
 use Rattle.std.proofs.Common.{◌≡◌, true, false, [], refl, sym, subst}
 use Rattle.std.specs.Prelude.{Some}
-use Rattle.hp_driver.specs.Subsystem.{asked}
-use Rattle.blocking_io.specs.declared.reached.Reached.TheVariants.{Before}
-use Rattle.blocking_io.specs.Calls.{Stage, stage}
-use Rattle.blocking_io.specs.Asking.{MayAsk, Answers}
-use Rattle.blocking_io.specs.Stopping.{Stops}
+use Rattle.raw_io.specs.Passes.{asked}
+use Rattle.raw_io.specs.Passes.{Before}
+use Rattle.raw_io.specs.Passes.{Stage, stage}
+use Rattle.raw_io.specs.Passes.{MayAsk, Answers}
+use Rattle.raw_io.specs.Passes.{Stops}
 use Rattle.raw_io.specs.Calls.{kind_at}
 use Rattle.raw_io.proofs.Exits.{is_request, all_written, write_stops_of, on_err, keeps_err}
 use Rattle.cached_blocks.specs.Requests.{writes}

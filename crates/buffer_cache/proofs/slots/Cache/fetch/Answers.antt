@@ -1,8 +1,8 @@
 use Rattle.std.proofs.Common.{◌≡◌, ◌≤◌, true, refl, sym, subst}
 use Rattle.std.specs.Prelude.{None, Some}
-use Rattle.blocking_io.specs.Calls.{Stage}
-use Rattle.raw_io.specs.Transfers.{site}
-use Rattle.raw_io.proofs.Exits.{on_err, keeps_err, keeps_join}
+use Rattle.single_blocks.specs.Passes.{Stage}
+use Rattle.single_blocks.specs.Passes.{site}
+use Rattle.single_blocks.proofs.Passes.{on_err, keeps_err, keeps_join}
 use Rattle.single_blocks.specs.Asks.{Fetches}
 use Rattle.buffer_cache.specs.Calls.{IfTold, Holds}
 use Rattle.buffer_cache.proofs.Stays.{all_data, holds_untouched, holds_behind_read, fetched_true}

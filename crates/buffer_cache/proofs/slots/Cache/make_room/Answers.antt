@@ -1,9 +1,9 @@
 use Rattle.std.proofs.Common.{◌≡◌, ◌≤◌, [], refl, sym, ◌∙◌, subst}
 use Rattle.std.specs.Prelude.{None, Some}
-use Rattle.blocking_io.specs.Calls.{Stage}
-use Rattle.raw_io.specs.Transfers.{site}
-use Rattle.raw_io.specs.Calls.{map_at}
-use Rattle.raw_io.proofs.Exits.{on_err}
+use Rattle.single_blocks.specs.Passes.{Stage}
+use Rattle.single_blocks.specs.Passes.{site}
+use Rattle.single_blocks.specs.Passes.{map_at}
+use Rattle.single_blocks.proofs.Passes.{on_err}
 use Rattle.cached_blocks.specs.declared.Entry.{Entry}
 use Rattle.cached_blocks.specs.Requests.{writes}
 use Rattle.cached_blocks.specs.Entries.{to_write_back, write_backs}

@@ -1,8 +1,8 @@
 use Rattle.std.proofs.Common.{◌≡◌, ◌≤◌, false, true, refl, sym, ap, ◌∙◌, subst}
 use Rattle.std.specs.Prelude.{not}
 use Rattle.std.specs.List.{AllByRecursion}
-use Rattle.blocking_io.specs.Calls.{Stage}
-use Rattle.raw_io.specs.Transfers.{site}
+use Rattle.single_blocks.specs.Passes.{Stage}
+use Rattle.single_blocks.specs.Passes.{site}
 use Rattle.cached_blocks.specs.Entries.{State, put}
 use Rattle.cached_blocks.specs.Calls.{entry}
 use Rattle.single_blocks.specs.Asks.{IsData}

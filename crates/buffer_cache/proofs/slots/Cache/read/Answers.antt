@@ -1,8 +1,8 @@
 use Rattle.std.proofs.Common.{◌≡◌, sym, ◌∙◌, subst}
 use Rattle.std.specs.Prelude.{None, Some}
 use Rattle.std.specs.List.{AllByRecursion}
-use Rattle.blocking_io.specs.Calls.{Stage}
-use Rattle.raw_io.specs.Transfers.{site}
+use Rattle.single_blocks.specs.Passes.{Stage}
+use Rattle.single_blocks.specs.Passes.{site}
 use Rattle.cached_blocks.specs.Entries.{State}
 use Rattle.single_blocks.specs.Asks.{IsData}
 use Rattle.buffer_cache.specs.Calls.{IfTold, Holds}

@@ -1,9 +1,9 @@
 use Rattle.std.proofs.Common.{◌≡◌, ◌≤◌, refl, sym, ap, ◌∙◌, subst}
 use Rattle.std.specs.Prelude.{None, map}
 use Rattle.std.specs.List.{AllByRecursion}
-use Rattle.blocking_io.specs.Calls.{Stage}
-use Rattle.raw_io.specs.Transfers.{site}
-use Rattle.raw_io.specs.Calls.{map_at}
+use Rattle.single_blocks.specs.Passes.{Stage}
+use Rattle.single_blocks.specs.Passes.{site}
+use Rattle.single_blocks.specs.Passes.{map_at}
 use Rattle.cached_blocks.specs.Entries.{State, IsCache, unchanged, written_back}
 use Rattle.single_blocks.specs.Asks.{IsData, Asks}
 use Rattle.buffer_cache.specs.Views.{entries_of, state_of}
