@@ -1,0 +1,53 @@
+-- What is promised of the cache refuses these outcomes.
+use Rattle.std.proofs.Common.{◌≡◌, ℕ, ◌+◌, ◌-◌, ◌^◌, ◌<◌, ◌==◌, ◌&&◌, min, Bool, true, false, List, [], ◌∷◌, Option, None, Some, refl, sym, ap, ◌∙◌, arith}
+use Rattle.std.specs.Prelude.{if◌then◌else◌}
+use Rattle.std.proofs.lemmas.Bool.{eq-eqb}
+use Rattle.cached_blocks.specs.declared.Entry.{Entry}
+use Rattle.cached_blocks.specs.Entries.{State, entry_of}
+use Rattle.cached_blocks.specs.Calls.{Done, entry, read_by, read_done, read_found}
+use Rattle.cached_blocks.specs.Contents.{bytes_or}
+use Rattle.buffer_cache.specs.Passes.{map_at}
+use Rattle.transfer_rows.specs.Cache.{ChangedEntryDropped, AnotherBlockWrittenBack, RefusedInsertionNotCounted, SyncStopsEarly}
+
+pub changed_entry_dropped : ChangedEntryDropped
+changed_entry_dropped line unit block given e s s' old new reads tells tables fit held gone other =
+    other (sym (ap (λ (x : Option Entry). bytes_or x (map_at new e.unit e.block)) gone) ∙ (reads.told tells tables fit).contents e.unit e.block
+    ∙ ap (λ (x : Option Entry). bytes_or x (map_at old e.unit e.block)) held)
+
+pub another_block_written_back : AnotherBlockWrittenBack
+another_block_written_back line unit block u b given s s' old new reads tells tables fit none still other =
+    other (sym (ap (λ (x : Option Entry). bytes_or x (map_at new u b)) still) ∙ (reads.told tells tables fit).contents u b
+    ∙ ap (λ (x : Option Entry). bytes_or x (map_at old u b)) none)
+
+pub sync_stops_early : SyncStopsEarly
+sync_stops_early line e s s' old new syncs tells tables fit held other =
+    other ((syncs.told tells tables fit).contents e.unit e.block ∙ ap (λ (x : Option Entry). bytes_or x (map_at old e.unit e.block)) held)
+
+-- A BLOCK THAT WAS READ is an entry, or it was counted that it is none.
+both : (a b : Bool) → a ≡ true → b ≡ true → a && b ≡ true
+both true true one other = refl
+both true false one other = absurd (cc other)
+both false b one other = absurd (cc one)
+
+in_front : (unit block : ℕ) (bytes : List ℕ) (entries : List Entry) → entry_of unit block (entry unit block bytes false ∷ entries) ≡ Some (entry unit block bytes false)
+in_front unit block bytes entries =
+    ap (λ (b : Bool). if b then Some (entry unit block bytes false) else entry_of unit block entries) (both (unit == unit) (block == block) (eq-eqb unit unit refl) (eq-eqb block block refl))
+
+one_more : (n : ℕ) → n < 2 ^ 64 - 1 → min (n + 1) (2 ^ 64 - 1) ≡ n → ⊥
+one_more n less is = omega (arith, less, is)
+
+counted_or_there : (held : Option (List ℕ)) (refuses : Bool) (s : State) (unit block : ℕ) (given : List ℕ) → Some given ≡ (read_found held refuses s unit block).given
+    → entry_of unit block (read_found held refuses s unit block).state.entries ≡ None → s.refused < 2 ^ 64 - 1 → (read_found held refuses s unit block).state.refused ≡ s.refused → ⊥
+counted_or_there None refuses s unit block given is none less same = absurd (cc is)
+counted_or_there (Some bytes) true s unit block given is none less same = one_more s.refused less same
+counted_or_there (Some bytes) false s unit block given is none less same = some_none (sym (in_front unit block bytes _) ∙ none)
+  where
+    some_none : {e : Entry} → Some e ≡ None → ⊥
+    some_none is = cc is
+
+pub refused_insertion_not_counted : RefusedInsertionNotCounted
+refused_insertion_not_counted line unit block given s s' old new reads none still less same =
+    let found : read_done reads.held reads.refuses s unit block ≡ read_found reads.held reads.refuses s unit block = ap (λ (e : Option Entry). read_by e reads.held reads.refuses s unit block) none in
+    let state : s' ≡ (read_found reads.held reads.refuses s unit block).state = reads.state ∙ ap (λ (d : Done). d.state) found in
+    counted_or_there reads.held reads.refuses s unit block given (reads.gives ∙ ap (λ (d : Done). d.given) found)
+    (sym (ap (λ (x : State). entry_of unit block x.entries) state) ∙ still) less (sym (ap (λ (x : State). x.refused) state) ∙ same)

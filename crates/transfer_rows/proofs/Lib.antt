@@ -1,0 +1,3 @@
+mod Raw
+mod Cache
+mod Cached

@@ -1,0 +1,74 @@
+-- What is promised of requests that are waited for, and of raw transfers, refuses these outcomes.
+use Rattle.std.proofs.Common.{◌≡◌, ◌⊎◌, inl, inr, ℕ, ◌+◌, ◌-◌, ◌*◌, ◌/◌, ◌%◌, ◌<◌, ◌≤◌, nat_le, Bool, true, false, List, [], ◌∷◌, ◌++◌, length, take, drop, Option, Some, refl, sym, ap, ◌∙◌, arith}
+use Rattle.std.specs.Prelude.{if◌then◌else◌}
+use Rattle.std.proofs.lemmas.Bool.{false≢true}
+use Rattle.std.proofs.lemmas.Bool.Decides.{nat_tests}
+use Rattle.std.proofs.lemmas.List.{append-nil, drop_all, take_all}
+use Rattle.pack_geometry.specs.declared.DriveKind.{DriveKind}
+use Rattle.pack_geometry.specs.declared.DriveKind.TheVariants.{Rp06, Rm03, Rm05}
+use Rattle.partitions.specs.declared.Part.TheVariants.{B}
+use Rattle.block_machine.specs.Machine.{Blocks}
+use Rattle.partition_bytes.specs.Laid.{laid, laid_at}
+use Rattle.partition_bytes.specs.Bytes.{blocks_for, dump_place, dumped, with_bytes, with_range}
+use Rattle.partition_bytes.proofs.Ranges.{laid_over_none}
+use Rattle.raw_io.specs.Calls.{kind_at, map_at}
+use Rattle.raw_io.specs.Pieces.{start_of}
+use Rattle.transfer_rows.specs.Raw.{DrainEndsEarly, ReadComesFromThePack, DoneInBlocks, DumpAtTheFront, OutsideByOne}
+
+pub drain_ends_early : DrainEndsEarly
+drain_ends_early s slot h at not_ended ready = false≢true (sym not_ended ∙ ready.quiet.none slot h at)
+
+pub read_comes_from_the_pack : ReadComesFromThePack
+read_comes_from_the_pack line first old_first other r bytes into into' old new answers tells tables is had gives differs =
+    let given = (answers.mapped tells tables).bytes in
+    let laid_there = rw (gives, is, had) at given in
+    differs (cc laid_there)
+
+pub done_in_blocks : DoneInBlocks
+done_in_blocks unit blocks part into into' old new tells tables some few less gives = no_end blocks some few ((gives.told tells tables).comes.whole less)
+  where
+    no_end : (n : ℕ) → 0 < n → n < 512 → (n ≡ 0) ⊎ ((0 + n) % 512 ≡ 0) → ⊥
+    no_end n some few (inl none) = omega (arith, some, none)
+    no_end n some few (inr end) = omega (arith, some, few, end)
+
+-- bytes that are laid behind the end of a block leave it
+laid_behind : (at : ℕ) (from bytes : List ℕ) → length bytes ≤ at → laid_at at from bytes ≡ bytes
+laid_behind at from bytes far =
+    ap (λ (xs : List ℕ). take at bytes ++ laid from xs) (drop_all at bytes far) ∙ ap (λ (xs : List ℕ). take at bytes ++ xs) (laid_over_none from) ∙ append-nil (take at bytes) ∙ take_all at bytes far
+
+-- so a range that begins behind the first block leaves that
+first_stays : (blocks : Blocks) (first at : ℕ) (from bytes : List ℕ) → blocks first ≡ Some bytes → length bytes ≤ at → with_range blocks first at from first ≡ Some bytes
+first_stays blocks first at from bytes held far =
+    ap (λ (b : Bool). if b then with_bytes (first - first) at from (blocks first) else blocks first) (inside first)
+    ∙ ap (λ (n : ℕ). with_bytes n at from (blocks first)) (none first) ∙ ap (with_bytes 0 at from) held
+    ∙ ap (λ (xs : List ℕ). Some xs) (ap (λ (n : ℕ). laid_at n (drop (0 - at) from) bytes) (whole at) ∙ laid_behind at (drop (0 - at) from) bytes far)
+  where
+    inside : (n : ℕ) → nat_le n n ≡ true
+    inside n = grind (arith, nat_tests)
+
+    none : (n : ℕ) → n - n ≡ 0
+    none n = omega arith
+
+    whole : (n : ℕ) → n - 0 ≡ n
+    whole n = omega arith
+
+-- a dump begins behind the first block of its partition
+begins_behind : (kind : DriveKind) (size : ℕ) → size ≤ 8388608 → 512 ≤ dump_place kind size
+begins_behind Rp06 size few = behind (blocks_for size) (fits size few)
+  where
+    fits : (size : ℕ) → size ≤ 8388608 → (size + 511) / 512 ≤ 16384
+    fits size few = omega (arith, few)
+
+    behind : (n : ℕ) → n ≤ 16384 → 512 ≤ 512 * (33440 - n)
+    behind n few = omega (arith, few)
+begins_behind Rm03 size few = begins_behind Rp06 size few
+begins_behind Rm05 size few = begins_behind Rp06 size few
+
+pub dump_at_the_front : DumpAtTheFront
+dump_at_the_front unit done memory bytes old new tells tables few puts held long other =
+    let far : length bytes ≤ dump_place (kind_at old.world unit) (length memory) = rw long (begins_behind (kind_at old.world unit) (length memory) few) in
+    other ((puts.told tells tables).written (start_of old unit B)
+    ∙ first_stays (map_at old unit) (start_of old unit B) (dump_place (kind_at old.world unit) (length memory)) (take done (dumped memory)) bytes held far)
+
+pub outside_by_one : OutsideByOne
+outside_by_one kind part at size result ends iff refused = let beyond = iff.0 refused in omega (arith, ends, beyond)

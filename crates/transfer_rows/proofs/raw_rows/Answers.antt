@@ -1,0 +1,11 @@
+use Rattle.transfer_rows.proofs.Raw.{done_in_blocks, dump_at_the_front, outside_by_one}
+use Rattle.transfer_rows.proofs.raw_rows.Goals as goal
+
+pub returns-clause-done_in_blocks : goal.returns-clause-done_in_blocks
+returns-clause-done_in_blocks c = done_in_blocks
+
+pub returns-clause-dump_at_the_front : goal.returns-clause-dump_at_the_front
+returns-clause-dump_at_the_front c = dump_at_the_front
+
+pub returns-clause-outside_by_one : goal.returns-clause-outside_by_one
+returns-clause-outside_by_one c = outside_by_one

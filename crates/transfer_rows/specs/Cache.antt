@@ -1,0 +1,30 @@
+-- Wrong outcomes of the cache.
+use Rattle.std.specs.Prelude.{◌≡◌, ◌≢◌, ℕ, ◌-◌, ◌^◌, ◌<◌, IsTrue, List, Option, None, Some}
+use Rattle.waited_requests.specs.Rest.{HasTables}
+use Rattle.cached_blocks.specs.declared.Entry.{Entry}
+use Rattle.cached_blocks.specs.Entries.{State, entry_of}
+use Rattle.cached_blocks.specs.Contents.{AllFit}
+use Rattle.buffer_cache.specs.Passes.{Stage, map_at, setup_at}
+use Rattle.buffer_cache.specs.Calls.{Reads, Syncs}
+
+-- A CHANGED ENTRY IS DROPPED UNWRITTEN: a read put it out, and its pack does not hold its bytes.
+abbrev pub ChangedEntryDropped : Type 0
+ChangedEntryDropped = (line unit block : ℕ) (given : Option (List ℕ)) (e : Entry) (s s' : State) (old new : Stage) → Reads line unit block given s s' old new
+    → IsTrue new.packs_tell → HasTables (setup_at old) → AllFit (map_at old) s.entries
+    → entry_of e.unit e.block s.entries ≡ Some e → entry_of e.unit e.block s'.entries ≡ None → ¬ (map_at new e.unit e.block ≢ Some e.bytes)
+
+-- ANOTHER BLOCK IS WRITTEN BACK: a block that is no entry, and was none, holds other bytes.
+abbrev pub AnotherBlockWrittenBack : Type 0
+AnotherBlockWrittenBack = (line unit block u b : ℕ) (given : Option (List ℕ)) (s s' : State) (old new : Stage) → Reads line unit block given s s' old new
+    → IsTrue new.packs_tell → HasTables (setup_at old) → AllFit (map_at old) s.entries
+    → entry_of u b s.entries ≡ None → entry_of u b s'.entries ≡ None → ¬ (map_at new u b ≢ map_at old u b)
+
+-- A REFUSED INSERTION IS NOT COUNTED: a block was read that is no entry, and was none, and the count is what it was.
+abbrev pub RefusedInsertionNotCounted : Type 0
+RefusedInsertionNotCounted = (line unit block : ℕ) (given : List ℕ) (s s' : State) (old new : Stage) → Reads line unit block (Some given) s s' old new
+    → entry_of unit block s.entries ≡ None → entry_of unit block s'.entries ≡ None → s.refused < 2 ^ 64 - 1 → ¬ (s'.refused ≡ s.refused)
+
+-- A SYNC STOPS AT AN UNCHANGED ENTRY: the pack does not hold the bytes of one, be it behind that.
+abbrev pub SyncStopsEarly : Type 0
+SyncStopsEarly = (line : ℕ) (e : Entry) (s s' : State) (old new : Stage) → Syncs line s s' old new → IsTrue new.packs_tell → HasTables (setup_at old) → AllFit (map_at old) s.entries
+    → entry_of e.unit e.block s.entries ≡ Some e → ¬ (map_at new e.unit e.block ≢ Some e.bytes)

@@ -1,0 +1,29 @@
+-- Wrong outcomes of a script of the cache.
+use Rattle.std.specs.Prelude.{◌≡◌, ◌≢◌, ℕ, ◌+◌, ◌-◌, ◌^◌, ◌<◌, List, Option, None, Some, Err}
+use Rattle.pack_geometry.specs.declared.DriveKind.{DriveKind}
+use Rattle.pack_geometry.specs.Geometry.{limit_of}
+use Rattle.pack_model.specs.Pack.{Pack}
+use Rattle.partitions.specs.declared.Admission.TheVariants.{Inside}
+use Rattle.subsystem_spec.specs.Requests.{Request, WriteOk}
+use Rattle.trace_replay.specs.Script.{Script, drives_of, inputs_of}
+use Rattle.block_machine.specs.Machine.{Blocks}
+use Rattle.run_stops.specs.Stops.{Took}
+use Rattle.cached_run.specs.declared.fault.CachedPlayFault.TheVariants.{Sink}
+use Rattle.cached_run.specs.Answers.{answer_to, first_by, map_of_inputs, met_by}
+use Rattle.cached_run.specs.Faults.{Rise}
+use Rattle.cached_run.specs.Theorem.{CachedPlays, contents}
+
+-- THE LAST SYNC IS FORGOTTEN: at the end a data block does not hold what the requests left.
+abbrev pub LastSyncForgotten : Type 0
+LastSyncForgotten = (script : Script) (old new : ℕ → Pack) (out : Took) → (plays : CachedPlays script old new out) → (unit block : ℕ) (kind : DriveKind)
+    → drives_of script unit ≡ Some kind → block < limit_of kind
+    → ¬ (contents script plays.tables new unit block ≢ map_of_inputs (drives_of script) (contents script plays.tables old) (inputs_of script) unit block)
+
+-- THE LAST UNUSABLE BLOCK IS ANSWERED OK: of the blocks of a write one can't be used, be it the last.
+abbrev pub LastUnusableBlockOk : Type 0
+LastUnusableBlockOk = (drives : ℕ → Option DriveKind) (map : ℕ → Blocks) (r : Request) (at k : ℕ) → met_by drives r ≡ Inside at → k < r.count
+    → map r.unit (first_by drives r + k) ≡ None → ¬ (answer_to drives map r ≡ WriteOk)
+
+-- A FAULT OF THE PACKS IS CALLED THAT OF A SINK: of neither sink the count of faults rose.
+abbrev pub FaultCalledThatOfASink : Type 0
+FaultCalledThatOfASink = (packs packs' out trace : ℕ) → out < 2 ^ 64 - 1 → trace < 2 ^ 64 - 1 → ¬ Rise {T = Unit {0}} packs packs' out out trace trace (Err Sink)

@@ -1,0 +1,41 @@
+-- Wrong outcomes of requests that are waited for, and of raw transfers.
+use Rattle.std.specs.Prelude.{◌≡◌, ◌≢◌, ◌↔◌, ℕ, ◌+◌, ◌*◌, ◌<◌, ◌≤◌, false, IsTrue, List, ◌∷◌, length, Result, Err, Some}
+use Rattle.pack_geometry.specs.declared.DriveKind.{DriveKind}
+use Rattle.partitions.specs.declared.Part.{Part}
+use Rattle.partitions.specs.declared.Part.TheVariants.{B}
+use Rattle.partitions.specs.Partitions.{size_of}
+use Rattle.subsystem_spec.specs.Requests.{Request, ReadOk}
+use Rattle.driver_machine.specs.World.{Held, slot_at}
+use Rattle.waited_requests.specs.Rest.{HasTables}
+use Rattle.waited_requests.specs.Waited.{answer_in}
+use Rattle.partition_bytes.specs.Bytes.{IsOutside, dumped, dump_place}
+use Rattle.raw_io.specs.declared.fault.RawFault.{RawFault}
+use Rattle.raw_io.specs.declared.fault.RawFault.TheVariants.{Outside}
+use Rattle.raw_io.specs.Passes.{Answers, IsReady, Stage, State, setup_at}
+use Rattle.raw_io.specs.Calls.{kind_at, map_at}
+use Rattle.raw_io.specs.Pieces.{GivesRange, PutsRange, start_of}
+
+-- A DRAIN ENDS EARLY: a request has not ended behind it.
+abbrev pub DrainEndsEarly : Type 0
+DrainEndsEarly = (s : State) (slot : ℕ) (h : Held) → slot_at s.world slot ≡ Some h → h.ended ≡ false → ¬ IsReady s
+
+-- A READ COMES FROM THE PACK: its first byte is not that of its first block, as of one whose home is another sector.
+abbrev pub ReadComesFromThePack : Type 0
+ReadComesFromThePack = (line first old_first other : ℕ) (r : Request) (bytes into into' : List ℕ) (old new : Stage) → Answers line r old new → IsTrue new.packs_tell → HasTables (setup_at old)
+    → answer_in (setup_at old) r ≡ ReadOk (first ∷ bytes) → old.given.bytes ≡ old_first ∷ into → new.given.bytes ≡ other ∷ into' → ¬ (other ≢ first)
+
+-- DONE IN BLOCKS: a read stopped at a block that can't be used, and the number of blocks before that is told as the number of bytes.
+abbrev pub DoneInBlocks : Type 0
+DoneInBlocks = (unit blocks : ℕ) (part : Part) (into into' : List ℕ) (old new : Stage) → IsTrue new.packs_tell → HasTables (setup_at old)
+    → 0 < blocks → blocks < 512 → blocks < length into → ¬ GivesRange unit part 0 blocks into into' old new
+
+-- A DUMP AT THE FRONT: the first block of partition `b` holds other bytes than before.
+abbrev pub DumpAtTheFront : Type 0
+DumpAtTheFront = (unit done : ℕ) (memory bytes : List ℕ) (old new : Stage) → IsTrue new.packs_tell → HasTables (setup_at old) → length memory ≤ 8388608
+    → PutsRange unit B (dump_place (kind_at old.world unit) (length memory)) done (dumped memory) old new
+    → map_at old unit (start_of old unit B) ≡ Some bytes → length bytes ≡ 512 → ¬ (map_at new unit (start_of old unit B) ≢ Some bytes)
+
+-- OUTSIDE BY ONE: a range is refused that ends with the last byte of its partition.
+abbrev pub OutsideByOne : Type 0
+OutsideByOne = (kind : DriveKind) (part : Part) (at size : ℕ) (result : Result (Unit {0}) RawFault) → at + size ≡ 512 * size_of kind part
+    → (result ≡ Err Outside) ↔ IsOutside kind part at size → ¬ (result ≡ Err Outside)
