@@ -1,6 +1,8 @@
 //! Worked rows of the program that draws: the picture of each run of `examples/` is byte for byte the one that stands beside its
-//! script, by its SHA-256, and charts and refusals are these texts. Tests alone; `examples/rows.py` writes their texts.
+//! script, by its SHA-256, and charts and refusals are these texts, which `examples/rows.py` writes. And wrong outcomes: `picture_law`.
 #![tactic(auto)]
+
+ghost use Rattle.picture_rows.specs.Pictures.{ColumnDropsAnEvent, IdleEventLeftOut, AmpersandAsItIs};
 
 #[cfg(test)]
 mod ends;
@@ -10,3 +12,10 @@ mod pictures;
 mod texts;
 #[cfg(test)]
 mod views;
+
+/// A picture may not be drawn so.
+pub fn picture_law()
+    ensures column_drops_an_event { ColumnDropsAnEvent }
+    ensures idle_event_left_out { IdleEventLeftOut }
+    ensures ampersand_as_it_is { AmpersandAsItIs }
+{}

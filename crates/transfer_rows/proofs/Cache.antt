@@ -1,9 +1,9 @@
 -- What is promised of the cache refuses these outcomes.
-use Rattle.std.proofs.Common.{◌≡◌, ℕ, ◌+◌, ◌-◌, ◌^◌, ◌<◌, ◌==◌, ◌&&◌, min, Bool, true, false, List, [], ◌∷◌, Option, None, Some, refl, sym, ap, ◌∙◌, arith}
+use Rattle.std.proofs.Common.{◌≡◌, ℕ, ◌+◌, ◌-◌, ◌^◌, ◌<◌, ◌==◌, ◌&&◌, min, Bool, true, false, List, [], ◌∷◌, take, Option, None, Some, refl, sym, ap, ◌∙◌, arith}
 use Rattle.std.specs.Prelude.{if◌then◌else◌}
 use Rattle.std.proofs.lemmas.Bool.{eq-eqb}
 use Rattle.cached_blocks.specs.declared.Entry.{Entry}
-use Rattle.cached_blocks.specs.Entries.{State, entry_of}
+use Rattle.cached_blocks.specs.Entries.{State, entry_of, with_room}
 use Rattle.cached_blocks.specs.Calls.{Done, entry, read_by, read_done, read_found}
 use Rattle.cached_blocks.specs.Contents.{bytes_or}
 use Rattle.buffer_cache.specs.Passes.{map_at}
@@ -40,7 +40,7 @@ counted_or_there : (held : Option (List ℕ)) (refuses : Bool) (s : State) (unit
     → entry_of unit block (read_found held refuses s unit block).state.entries ≡ None → s.refused < 2 ^ 64 - 1 → (read_found held refuses s unit block).state.refused ≡ s.refused → ⊥
 counted_or_there None refuses s unit block given is none less same = absurd (cc is)
 counted_or_there (Some bytes) true s unit block given is none less same = one_more s.refused less same
-counted_or_there (Some bytes) false s unit block given is none less same = some_none (sym (in_front unit block bytes _) ∙ none)
+counted_or_there (Some bytes) false s unit block given is none less same = some_none (sym (in_front unit block bytes (take (s.capacity - 1) (with_room s).entries)) ∙ none)
   where
     some_none : {e : Entry} → Some e ≡ None → ⊥
     some_none is = cc is

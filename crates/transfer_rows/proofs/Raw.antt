@@ -21,7 +21,7 @@ drain_ends_early s slot h at not_ended ready = false≢true (sym not_ended ∙ r
 pub read_comes_from_the_pack : ReadComesFromThePack
 read_comes_from_the_pack line first old_first other r bytes into into' old new answers tells tables is had gives differs =
     let given = (answers.mapped tells tables).bytes in
-    let laid_there = rw (gives, is, had) at given in
+    let laid_there : other ∷ into' ≡ first ∷ laid bytes into = rw (gives, is, had) at given in
     differs (cc laid_there)
 
 pub done_in_blocks : DoneInBlocks
@@ -53,16 +53,16 @@ first_stays blocks first at from bytes held far =
     whole n = omega arith
 
 -- a dump begins behind the first block of its partition
+fits : (size : ℕ) → size ≤ 8388608 → (size + 511) / 512 ≤ 16384
+fits size few = omega (arith, few)
+
+behind : (n : ℕ) → n ≤ 16384 → 512 ≤ 512 * (33440 - n)
+behind n few = omega (arith, few)
+
 begins_behind : (kind : DriveKind) (size : ℕ) → size ≤ 8388608 → 512 ≤ dump_place kind size
 begins_behind Rp06 size few = behind (blocks_for size) (fits size few)
-  where
-    fits : (size : ℕ) → size ≤ 8388608 → (size + 511) / 512 ≤ 16384
-    fits size few = omega (arith, few)
-
-    behind : (n : ℕ) → n ≤ 16384 → 512 ≤ 512 * (33440 - n)
-    behind n few = omega (arith, few)
-begins_behind Rm03 size few = begins_behind Rp06 size few
-begins_behind Rm05 size few = begins_behind Rp06 size few
+begins_behind Rm03 size few = behind (blocks_for size) (fits size few)
+begins_behind Rm05 size few = behind (blocks_for size) (fits size few)
 
 pub dump_at_the_front : DumpAtTheFront
 dump_at_the_front unit done memory bytes old new tells tables few puts held long other =
