@@ -1,5 +1,5 @@
 -- The words of columns and of texts refuse these outcomes.
-use Rattle.std.proofs.Common.{◌≡◌, ℕ, ◌+◌, ◌-◌, ◌^◌, ◌<◌, min, List, [], ◌∷◌, sym, ap, ◌∙◌, arith}
+use Rattle.std.proofs.Common.{◌≡◌, ℕ, ◌+◌, ◌-◌, ◌^◌, ◌<◌, min, List, [], ◌∷◌, sym, ◌∙◌, arith}
 use Rattle.picture_rows.specs.Pictures.{ColumnDropsAnEvent, IdleEventLeftOut, AmpersandAsItIs}
 
 one_more : (n : ℕ) → n < 2 ^ 64 - 1 → min (n + 1) (2 ^ 64 - 1) ≡ n → ⊥

@@ -1,14 +1,18 @@
 -- What is promised of a script of the cache refuses these outcomes.
-use Rattle.std.proofs.Common.{◌≡◌, ◌⊎◌, inl, inr, ℕ, zero, suc, ◌+◌, ◌-◌, ◌^◌, ◌<◌, ◌≤◌, min, List, Option, None, Some, refl, sym, ap, subst, ◌∙◌, arith}
+use Rattle.std.proofs.Common.{◌≡◌, ◌⊎◌, inl, inr, ℕ, zero, suc, ◌+◌, ◌-◌, ◌^◌, ◌<◌, ◌≤◌, min, List, Option, None, Some, refl, sym, ap, ◌∙◌, arith}
 use Rattle.partitions.specs.declared.Admission.{Admission}
 use Rattle.subsystem_spec.specs.Requests.{Request, WriteOk}
 use Rattle.block_machine.specs.Machine.{Blocks}
 use Rattle.waited_requests.specs.Waited.{answer_at, answer_by, first_unusable, unusable_or}
 use Rattle.cached_run.specs.Answers.{first_by}
-use Rattle.transfer_rows.specs.Cached.{LastSyncForgotten, LastUnusableBlockOk, FaultCalledThatOfASink}
+use Rattle.transfer_rows.specs.Cached.{LastSyncForgotten, BlockOlderThanTheLastSync, LastUnusableBlockOk, FaultCalledThatOfASink}
 
 pub last_sync_forgotten : LastSyncForgotten
 last_sync_forgotten script old new out plays unit block kind there less other = other (plays.held unit block kind there less)
+
+pub block_older_than_the_last_sync : BlockOlderThanTheLastSync
+block_older_than_the_last_sync script old new out stops unit block kind there less none =
+    let here = stops.held unit block kind there less in none here.number here.from here.holds
 
 -- ONE THAT CAN'T BE USED is found among the blocks.
 here_found : (block : Option (List ℕ)) (k : ℕ) (later : Option ℕ) → block ≡ None → unusable_or block k later ≡ None → ⊥

@@ -1,5 +1,5 @@
 -- Wrong outcomes of a script of the cache.
-use Rattle.std.specs.Prelude.{◌≡◌, ◌≢◌, ℕ, ◌+◌, ◌-◌, ◌^◌, ◌<◌, List, Option, None, Some, Err}
+use Rattle.std.specs.Prelude.{◌≡◌, ◌≢◌, ℕ, ◌+◌, ◌-◌, ◌^◌, ◌<◌, ◌≤◌, [], ◌∷◌, ◌++◌, length, take, Option, None, Some, Err}
 use Rattle.pack_geometry.specs.declared.DriveKind.{DriveKind}
 use Rattle.pack_geometry.specs.Geometry.{limit_of}
 use Rattle.pack_model.specs.Pack.{Pack}
@@ -9,15 +9,23 @@ use Rattle.trace_replay.specs.Script.{Script, drives_of, inputs_of}
 use Rattle.block_machine.specs.Machine.{Blocks}
 use Rattle.run_stops.specs.Stops.{Took}
 use Rattle.cached_run.specs.declared.fault.CachedPlayFault.TheVariants.{Sink}
-use Rattle.cached_run.specs.Answers.{answer_to, first_by, map_of_inputs, met_by}
+use Rattle.cached_run.specs.Answers.{after, answer_to, first_by, map_of_inputs, met_by, replacements_of}
 use Rattle.cached_run.specs.Faults.{Rise}
-use Rattle.cached_run.specs.Theorem.{CachedPlays, contents}
+use Rattle.cached_run.specs.Theorem.{CachedPlays, CachedStops, contents}
 
 -- THE LAST SYNC IS FORGOTTEN: at the end a data block does not hold what the requests left.
 abbrev pub LastSyncForgotten : Type 0
 LastSyncForgotten = (script : Script) (old new : ℕ → Pack) (out : Took) → (plays : CachedPlays script old new out) → (unit block : ℕ) (kind : DriveKind)
     → drives_of script unit ≡ Some kind → block < limit_of kind
     → ¬ (contents script plays.tables new unit block ≢ map_of_inputs (drives_of script) (contents script plays.tables old) (inputs_of script) unit block)
+
+-- A BLOCK OLDER THAN THE LAST SYNC: where playing stopped, a data block holds what no replacements leave that have those before it among them.
+abbrev pub BlockOlderThanTheLastSync : Type 0
+BlockOlderThanTheLastSync = (script : Script) (old new : ℕ → Pack) (out : Took) → (stops : CachedStops script old new out) → (unit block : ℕ) (kind : DriveKind)
+    → drives_of script unit ≡ Some kind → block < limit_of kind
+    → ((number : ℕ) → length (replacements_of (drives_of script) (contents script stops.tables old) stops.synced) ≤ number
+    → contents script stops.tables new unit block
+    ≢ after (take number (replacements_of (drives_of script) (contents script stops.tables old) (stops.before ++ stops.at ∷ []))) (contents script stops.tables old) unit block) → ⊥
 
 -- THE LAST UNUSABLE BLOCK IS ANSWERED OK: of the blocks of a write one can't be used, be it the last.
 abbrev pub LastUnusableBlockOk : Type 0

@@ -4,7 +4,7 @@
 
 ghost use Rattle.transfer_rows.specs.Raw.{DrainEndsEarly, ReadComesFromThePack, DoneInBlocks, DumpAtTheFront, OutsideByOne};
 ghost use Rattle.transfer_rows.specs.Cache.{ChangedEntryDropped, AnotherBlockWrittenBack, RefusedInsertionNotCounted, SyncStopsEarly};
-ghost use Rattle.transfer_rows.specs.Cached.{LastSyncForgotten, LastUnusableBlockOk, FaultCalledThatOfASink};
+ghost use Rattle.transfer_rows.specs.Cached.{LastSyncForgotten, BlockOlderThanTheLastSync, LastUnusableBlockOk, FaultCalledThatOfASink};
 
 /// Of a request that is waited for: it has ended, and a read gives the bytes of its blocks.
 pub fn asked_rows()
@@ -27,10 +27,11 @@ pub fn cache_rows()
     ensures sync_stops_at_an_unchanged_entry { SyncStopsEarly }
 {}
 
-/// Of a script of the cache: at its end the packs hold what the requests left, a write is ok only where all its blocks can be used, and a
-/// sink failed only where its count rose.
+/// Of a script of the cache: at its end the packs hold what the requests left, and where it stopped what was there at the last sync, or
+/// later; a write is ok only where all its blocks can be used; and a sink failed only where its count rose.
 pub fn cached_rows()
     ensures last_sync_is_forgotten { LastSyncForgotten }
+    ensures block_older_than_the_last_sync { BlockOlderThanTheLastSync }
     ensures last_unusable_block_is_answered_ok { LastUnusableBlockOk }
     ensures fault_of_the_packs_is_called_that_of_a_sink { FaultCalledThatOfASink }
 {}

@@ -1,8 +1,11 @@
-use Rattle.transfer_rows.proofs.Cached.{last_sync_forgotten, last_unusable_block_ok, fault_called_that_of_a_sink}
+use Rattle.transfer_rows.proofs.Cached.{last_sync_forgotten, block_older_than_the_last_sync, last_unusable_block_ok, fault_called_that_of_a_sink}
 use Rattle.transfer_rows.proofs.cached_rows.Goals as goal
 
 pub returns-clause-last_sync_is_forgotten : goal.returns-clause-last_sync_is_forgotten
 returns-clause-last_sync_is_forgotten c = last_sync_forgotten
+
+pub returns-clause-block_older_than_the_last_sync : goal.returns-clause-block_older_than_the_last_sync
+returns-clause-block_older_than_the_last_sync c = block_older_than_the_last_sync
 
 pub returns-clause-last_unusable_block_is_answered_ok : goal.returns-clause-last_unusable_block_is_answered_ok
 returns-clause-last_unusable_block_is_answered_ok c = last_unusable_block_ok
