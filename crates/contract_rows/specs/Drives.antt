@@ -10,8 +10,10 @@ use Rattle.hardware_table.specs.Moves.{IsVerdict, first_armed}
 use Rattle.hardware_table.specs.Noise.{strikes}
 use Rattle.hardware_table.specs.Adapter.{AdapterState, loaded, stepped}
 use Rattle.main_memory.specs.Bytes.{filled}
-use Rattle.pack_model.specs.Pack.{block_at}
+use Rattle.pack_model.specs.Pack.{block_at, is_marked}
 use Rattle.drive_model.specs.Move.{Site, MovesSector}
+use Rattle.block_polls.specs.declared.station.Polled.{Polled}
+use Rattle.block_polls.specs.Polls.{Sides, Polls}
 
 -- the fire code names a burst of twelve places
 abbrev pub TwelvePlaceBurst : Type 0
@@ -66,3 +68,8 @@ CompletionOneSectorEarly = (a : AdapterState) → 512 < a.byte_count → (steppe
 -- a marked sector lets the transfer go on
 abbrev pub MarkedSectorLetThrough : Type 0
 MarkedSectorLetThrough = (a : AdapterState) → (stepped Marked a).completion ≡ false → ⊥
+
+-- a poll that writes finds its block marked, and the block differs from what it was
+abbrev pub MarkedBlockWritten : Type 0
+MarkedBlockWritten = (unit block : ℕ) (old new : Sides) (polled : Polled) → Polls unit block true true old new polled
+    → is_marked (old.held unit) block ≡ true → block_at (new.held unit).image block ≢ block_at (old.held unit).image block → ⊥

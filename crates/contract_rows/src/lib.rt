@@ -3,7 +3,7 @@
 #![tactic(auto)]
 
 ghost use Rattle.contract_rows.specs.Memory.{FirstPieceOnly, KnownFrameTakenForTheSame, ByteWrittenTakenForItsFrame, NextFrameNotAsked, OldBytesBehindTheEnd, LentFrameLeftFree, FramesWithoutTheOffset};
-ghost use Rattle.contract_rows.specs.Drives.{TwelvePlaceBurst, BurstPastTheEnd, WritesForgotten, WriteHeldBack, SectorWrittenWithoutItsZeros, MarkTestedBeforeTheArmedFault, NewestNoiseStrikes, ByteCountNotShortened, CompletionOneSectorEarly, MarkedSectorLetThrough};
+ghost use Rattle.contract_rows.specs.Drives.{TwelvePlaceBurst, BurstPastTheEnd, WritesForgotten, WriteHeldBack, SectorWrittenWithoutItsZeros, MarkTestedBeforeTheArmedFault, NewestNoiseStrikes, ByteCountNotShortened, CompletionOneSectorEarly, MarkedSectorLetThrough, MarkedBlockWritten};
 ghost use Rattle.contract_rows.specs.Machine.{FirstFailureIsFinal, OneSeekAtATime, RtcForgotten, RetryNamesTheFirstBlock, ReplacementForwardedAgain, NewestAnswerTakenFirst, AnswerAtAnotherLine, AllOthersLeaveTheAdapter, HighestUnitFirst, FramesBeforePartition, FirstBlocksLoaded};
 ghost use Rattle.contract_rows.specs.Bytes.{WriteNotAtItsHome, NeighbourWritten, OtherBlockRead, BurstElsewhere, UnusableBlockDone, UnmarkedBlockForwarded, OtherEntryForwarded, TableOfAnotherPack, AnsweredWithOtherBytes};
 ghost use Rattle.contract_rows.specs.Slots.{FrameLost, BitLeftOnBehindTheArrival, BitOfAnotherUnit};
@@ -19,7 +19,7 @@ pub fn memory_law()
     ensures frames_without_the_offset { FramesWithoutTheOffset }
 {}
 
-/// A sector may not be moved so: by the code's `Judges`, the drive's `MovesSector`, and what loads and steps do to an adapter.
+/// A sector may not be moved so: by the code's `Judges`, the drive's `MovesSector`, what loads and steps do to an adapter, and `Polls`.
 pub fn drive_law()
     ensures twelve_place_burst { TwelvePlaceBurst }
     ensures burst_past_the_end { BurstPastTheEnd }
@@ -31,6 +31,7 @@ pub fn drive_law()
     ensures byte_count_not_shortened { ByteCountNotShortened }
     ensures completion_one_sector_early { CompletionOneSectorEarly }
     ensures marked_sector_let_through { MarkedSectorLetThrough }
+    ensures marked_block_written { MarkedBlockWritten }
 {}
 
 /// The driver may not do so: by the deeds of its machine, and what its acts leave.

@@ -1,6 +1,15 @@
--- The words of columns and of texts refuse these outcomes.
-use Rattle.std.proofs.Common.{◌≡◌, ℕ, ◌+◌, ◌-◌, ◌^◌, ◌<◌, min, List, [], ◌∷◌, sym, ◌∙◌, arith}
-use Rattle.picture_rows.specs.Pictures.{ColumnDropsAnEvent, IdleEventLeftOut, AmpersandAsItIs}
+-- The words of columns, windows, letters and texts refuse these outcomes.
+use Rattle.std.proofs.Common.{◌≡◌, ℕ, ◌+◌, ◌-◌, ◌^◌, ◌<◌, ◌==◌, nat_le, min, Bool, true, false, not, ◌||◌, if◌then◌else◌, List, [], ◌∷◌, ◌++◌, length, refl, sym, ap, ◌∙◌, arith}
+use Rattle.std.proofs.lemmas.Bool.{false≢true, ne_eqb}
+use Rattle.std.proofs.lemmas.Bool.Decides.{nat_tests}
+use Rattle.drive_pictures.specs.declared.letters.Letter.{Letter}
+use Rattle.picture_markup.specs.declared.pieces.Element.{Element}
+use Rattle.picture_markup.specs.declared.pieces.Element.TheVariants.{Group, Title}
+use Rattle.picture_markup.specs.Nesting.{Drawn, is_same, started, ended, ended_in}
+use Rattle.picture_sheet.specs.Letters.{count_of, oftener}
+use Rattle.picture_scene.specs.declared.scene.Stretch.{Stretch}
+use Rattle.picture_scene.specs.Stretches.{stretches_of}
+use Rattle.picture_rows.specs.Pictures.{ColumnDropsAnEvent, IdleEventLeftOut, AmpersandAsItIs, WindowFromTheFirstEvent, LeadOfEqualsTheFirst, LineOfAnotherDrive, StretchEndedAtItsFirstColumn, GroupEndedAroundAnArm, TooltipEndedTwice}
 
 one_more : (n : ℕ) → n < 2 ^ 64 - 1 → min (n + 1) (2 ^ 64 - 1) ≡ n → ⊥
 one_more n less is = omega (arith, less, is)
@@ -16,3 +25,59 @@ ampersand_as_it_is is = longer is
   where
     longer : {x : ℕ} {xs : List ℕ} → 38 ∷ x ∷ xs ≡ 38 ∷ [] → ⊥
     longer is = cc is
+
+pub window_from_the_first_event : WindowFromTheFirstEvent
+window_from_the_first_event events first last some behind end is = least first last events behind end some is
+  where
+    least : (a b c : ℕ) → 0 < a → 0 < b → 0 < c → min a (min b c) ≡ 0 → ⊥
+    least a b c a' b' c' is = omega (arith, a', b', c', is)
+
+-- of as many the other one is taken
+other_taken : (m n : ℕ) (letter other : Letter) → m ≡ n → (if nat_le m n then other else letter) ≡ other
+other_taken m n letter other same = rw (le) refl
+  where
+    le : nat_le m n ≡ true
+    le = grind (arith, nat_tests)
+
+pub lead_of_equals_the_first : LeadOfEqualsTheFirst
+unfolding oftener
+lead_of_equals_the_first t events letter other same differs is =
+    differs (sym is ∙ other_taken (count_of t events letter) (count_of t events other) letter other same)
+
+-- of another unit nothing is told
+none_told : (here : Bool) (text : List ℕ) → here ≡ false → (if here then text ∷ [] else []) ++ [] ≡ text ∷ [] → ⊥
+none_told true text elsewhere is = false≢true (sym elsewhere)
+none_told false text elsewhere is = absurd (cc is)
+
+pub line_of_another_drive : LineOfAnotherDrive
+line_of_another_drive unit note differs is = none_told (note.unit == unit) note.text.now (ne_eqb note.unit unit differs) is
+
+pub stretch_ended_at_its_first_column : StretchEndedAtItsFirstColumn
+unfolding stretches_of
+stretch_ended_at_its_first_column is = other_end (ap end_of is) refl refl
+  where
+    end_of : List Stretch → ℕ
+    end_of [] = 0
+    end_of (s ∷ stretches) = s.to
+
+    other_end : {a b : ℕ} → a ≡ b → a ≡ 2 → b ≡ 0 → ⊥
+    other_end is two none = omega (arith, is, two, none)
+
+pub group_ended_around_an_arm : GroupEndedAroundAnArm
+group_ended_around_an_arm e d is = omega (arith, shorter)
+  where
+    shorter : length d.within ≡ length (e ∷ d.within)
+    shorter = ap (λ (d : Drawn). length d.within) is
+
+-- what is broken stays so
+or_true : (b : Bool) → b || true ≡ true
+or_true true = refl
+or_true false = refl
+
+stays_broken : (within : List Element) (e : Element) (d : Drawn) → d.broken ≡ true → (ended_in within e d).broken ≡ true
+stays_broken [] e d broken = refl
+stays_broken (f ∷ rest) e d broken = rw (broken) (or_true (not (is_same e f)))
+
+pub tooltip_ended_twice : TooltipEndedTwice
+tooltip_ended_twice d whole is =
+    false≢true (sym whole ∙ ap (λ (d : Drawn). d.broken) (sym is) ∙ stays_broken d.within Group (ended Title (ended Title (started Title (started Group d)))) refl)

@@ -1,4 +1,4 @@
-use Rattle.picture_rows.proofs.Pictures.{column_drops_an_event, idle_event_left_out, ampersand_as_it_is}
+use Rattle.picture_rows.proofs.Pictures.{column_drops_an_event, idle_event_left_out, ampersand_as_it_is, window_from_the_first_event, lead_of_equals_the_first, line_of_another_drive, stretch_ended_at_its_first_column, group_ended_around_an_arm, tooltip_ended_twice}
 use Rattle.picture_rows.proofs.picture_law.Goals as goal
 
 pub returns-clause-column_drops_an_event : goal.returns-clause-column_drops_an_event
@@ -9,3 +9,21 @@ returns-clause-idle_event_left_out c = idle_event_left_out
 
 pub returns-clause-ampersand_as_it_is : goal.returns-clause-ampersand_as_it_is
 returns-clause-ampersand_as_it_is c = ampersand_as_it_is
+
+pub returns-clause-window_from_the_first_event : goal.returns-clause-window_from_the_first_event
+returns-clause-window_from_the_first_event c = window_from_the_first_event
+
+pub returns-clause-lead_of_equals_the_first : goal.returns-clause-lead_of_equals_the_first
+returns-clause-lead_of_equals_the_first c = lead_of_equals_the_first
+
+pub returns-clause-line_of_another_drive : goal.returns-clause-line_of_another_drive
+returns-clause-line_of_another_drive c = line_of_another_drive
+
+pub returns-clause-stretch_ended_at_its_first_column : goal.returns-clause-stretch_ended_at_its_first_column
+returns-clause-stretch_ended_at_its_first_column c = stretch_ended_at_its_first_column
+
+pub returns-clause-group_ended_around_an_arm : goal.returns-clause-group_ended_around_an_arm
+returns-clause-group_ended_around_an_arm c = group_ended_around_an_arm
+
+pub returns-clause-tooltip_ended_twice : goal.returns-clause-tooltip_ended_twice
+returns-clause-tooltip_ended_twice c = tooltip_ended_twice
