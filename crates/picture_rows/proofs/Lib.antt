@@ -1,1 +1,1 @@
-mod Pictures
+mod Outcomes

@@ -2,7 +2,7 @@
 //! script, by its SHA-256, and charts and refusals are these texts, which `examples/rows.py` writes. And wrong outcomes: `picture_law`.
 #![tactic(auto)]
 
-ghost use Rattle.picture_rows.specs.Pictures.{ColumnDropsAnEvent, IdleEventLeftOut, AmpersandAsItIs, WindowFromTheFirstEvent, LeadOfEqualsTheFirst, LineOfAnotherDrive, StretchEndedAtItsFirstColumn, GroupEndedAroundAnArm, TooltipEndedTwice};
+ghost use Rattle.picture_rows.specs.Outcomes.{ColumnDropsAnEvent, IdleEventLeftOut, AmpersandAsItIs, WindowFromTheFirstEvent, LeadOfEqualsTheFirst, LineOfAnotherDrive, StretchEndedAtItsFirstColumn, GroupEndedAroundAnArm, TooltipEndedTwice};
 
 #[cfg(test)]
 mod ends;

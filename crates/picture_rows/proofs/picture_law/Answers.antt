@@ -1,4 +1,4 @@
-use Rattle.picture_rows.proofs.Pictures.{column_drops_an_event, idle_event_left_out, ampersand_as_it_is, window_from_the_first_event, lead_of_equals_the_first, line_of_another_drive, stretch_ended_at_its_first_column, group_ended_around_an_arm, tooltip_ended_twice}
+use Rattle.picture_rows.proofs.Outcomes.{column_drops_an_event, idle_event_left_out, ampersand_as_it_is, window_from_the_first_event, lead_of_equals_the_first, line_of_another_drive, stretch_ended_at_its_first_column, group_ended_around_an_arm, tooltip_ended_twice}
 use Rattle.picture_rows.proofs.picture_law.Goals as goal
 
 pub returns-clause-column_drops_an_event : goal.returns-clause-column_drops_an_event

@@ -9,7 +9,7 @@ use Rattle.picture_markup.specs.Nesting.{Drawn, is_same, started, ended, ended_i
 use Rattle.picture_sheet.specs.Letters.{count_of, oftener}
 use Rattle.picture_scene.specs.declared.scene.Stretch.{Stretch}
 use Rattle.picture_scene.specs.Stretches.{stretches_of}
-use Rattle.picture_rows.specs.Pictures.{ColumnDropsAnEvent, IdleEventLeftOut, AmpersandAsItIs, WindowFromTheFirstEvent, LeadOfEqualsTheFirst, LineOfAnotherDrive, StretchEndedAtItsFirstColumn, GroupEndedAroundAnArm, TooltipEndedTwice}
+use Rattle.picture_rows.specs.Outcomes.{ColumnDropsAnEvent, IdleEventLeftOut, AmpersandAsItIs, WindowFromTheFirstEvent, LeadOfEqualsTheFirst, LineOfAnotherDrive, StretchEndedAtItsFirstColumn, GroupEndedAroundAnArm, TooltipEndedTwice}
 
 one_more : (n : ℕ) → n < 2 ^ 64 - 1 → min (n + 1) (2 ^ 64 - 1) ≡ n → ⊥
 one_more n less is = omega (arith, less, is)
