@@ -63,22 +63,32 @@ impl Packs for Copies {
     }
 }
 
+type Probed = (u16, Result<DriveKind, ProbeFault>);
+
+const TYPES: [Probed; 6] = [
+    (0o020022, Ok(DriveKind::Rp06)),
+    (0o020024, Ok(DriveKind::Rm03)),
+    (0o020027, Ok(DriveKind::Rm05)),
+    (0o177022, Ok(DriveKind::Rp06)),
+    (0o020023, Err(ProbeFault::Unknown(0o023))),
+    (0o020122, Err(ProbeFault::Unknown(0o122))),
+];
+
+fn is_probed(row: &Probed) -> bool {
+    probe(row.0) == row.1
+}
+
 #[test]
 fn type_words(rt: HostRuntime) {
-    for (word, kind) in [
-        (0o020022, Ok(DriveKind::Rp06)),
-        (0o020024, Ok(DriveKind::Rm03)),
-        (0o020027, Ok(DriveKind::Rm05)),
-        (0o177022, Ok(DriveKind::Rp06)),
-        (0o020023, Err(ProbeFault::Unknown(0o023))),
-        (0o020122, Err(ProbeFault::Unknown(0o122))),
-    ] {
-        assert!(rt; probe(word) == kind, "{word:o}");
+    for row in &TYPES {
+        assert!(rt; is_probed(row), "{:o}", row.0);
     }
 }
 
 // Which copies are marked, their serial numbers, and the one that is found.
-const PACKS: [([bool; 5], [Option<u32>; 5], Option<u32>); 5] = [
+type Table = ([bool; 5], [Option<u32>; 5], Option<u32>);
+
+const PACKS: [Table; 5] = [
     (
         [true, false, false, false, false],
         [Some(1), Some(2), Some(3), None, None],
@@ -119,25 +129,36 @@ fn is_too_long(packs: &mut Copies, kind: DriveKind, length: u64) -> bool {
     fault == AttachFault::TooLong { length } && packs.asked == 0
 }
 
-#[test]
-fn attached_with_the_first_copy_that_is_good(rt: HostRuntime) {
-    for (kind, length) in [
-        (DriveKind::Rp06, 174_423_040),
-        (DriveKind::Rm03, 67_420_160),
-        (DriveKind::Rm05, 256_196_608),
-    ] {
-        for (marked, serials, wanted) in PACKS {
-            let mut packs = Copies {
-                kind,
-                length,
-                marked,
-                serials,
-                asked: 0,
-            };
-            assert!(rt; is_attached(&mut packs, kind, wanted), "{wanted:?}");
-            packs.length = length + 1;
-            packs.asked = 0;
-            assert!(rt; is_too_long(&mut packs, kind, length + 1));
+// Whether packs as long as an image may be are attached with this table, and those that are a byte longer are refused.
+fn is_bounded(kind: DriveKind, most: u32, row: &Table) -> bool {
+    let (marked, serials, wanted) = *row;
+    let length = u64::from(most);
+    let mut packs = Copies {
+        kind,
+        length,
+        marked,
+        serials,
+        asked: 0,
+    };
+    let is_so = is_attached(&mut packs, kind, wanted);
+    packs.length = length + 1;
+    packs.asked = 0;
+    is_so && is_too_long(&mut packs, kind, length + 1)
+}
+
+// Whether all of these packs are, for a kind with images of at most so many bytes.
+fn are_bounded(kind: DriveKind, most: u32) -> bool {
+    for row in &PACKS {
+        if !is_bounded(kind, most, row) {
+            return false;
         }
     }
+    true
+}
+
+#[test]
+fn attached_with_the_first_copy_that_is_good(rt: HostRuntime) {
+    assert!(rt; are_bounded(DriveKind::Rp06, 174_423_040));
+    assert!(rt; are_bounded(DriveKind::Rm03, 67_420_160));
+    assert!(rt; are_bounded(DriveKind::Rm05, 256_196_608));
 }

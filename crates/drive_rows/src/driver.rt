@@ -22,12 +22,19 @@ fn started(alloc: Global) -> Option<Subsystem>
     }
 }
 
+/// Whether a subsystem has no event and no answer.
+fn is_idle(subsystem: &Subsystem) -> bool {
+    subsystem.next_event().is_none() && subsystem.answer().is_none()
+}
+
+fn starts_idle(alloc: Global) -> bool {
+    match started(alloc) {
+        Some(subsystem) => is_idle(&subsystem),
+        None => false,
+    }
+}
+
 #[test]
 fn made_with_ample_memory(rt: HostRuntime) {
-    match started(rt.alloc()) {
-        Some(subsystem) => assert!(rt;
-            subsystem.next_event().is_none() && subsystem.answer().is_none()
-        ),
-        None => assert!(rt; false, "there is memory"),
-    }
+    assert!(rt; starts_idle(rt.alloc()));
 }
