@@ -65,7 +65,7 @@ impl Packs for Copies {
 
 type Probed = (u16, Result<DriveKind, ProbeFault>);
 
-const TYPES: [Probed; 6] = [
+static TYPES: [Probed; 6] = [
     (0o020022, Ok(DriveKind::Rp06)),
     (0o020024, Ok(DriveKind::Rm03)),
     (0o020027, Ok(DriveKind::Rm05)),
@@ -88,7 +88,7 @@ fn type_words(rt: HostRuntime) {
 // Which copies are marked, their serial numbers, and the one that is found.
 type Table = ([bool; 5], [Option<u32>; 5], Option<u32>);
 
-const PACKS: [Table; 5] = [
+static PACKS: [Table; 5] = [
     (
         [true, false, false, false, false],
         [Some(1), Some(2), Some(3), None, None],
@@ -146,19 +146,18 @@ fn is_bounded(kind: DriveKind, most: u32, row: &Table) -> bool {
     is_so && is_too_long(&mut packs, kind, length + 1)
 }
 
-// Whether all of these packs are, for a kind with images of at most so many bytes.
-fn are_bounded(kind: DriveKind, most: u32) -> bool {
-    for row in &PACKS {
-        if !is_bounded(kind, most, row) {
-            return false;
-        }
-    }
-    true
-}
+// The most bytes that an image of each kind may have.
+static LENGTHS: [(DriveKind, u32); 3] = [
+    (DriveKind::Rp06, 174_423_040),
+    (DriveKind::Rm03, 67_420_160),
+    (DriveKind::Rm05, 256_196_608),
+];
 
 #[test]
 fn attached_with_the_first_copy_that_is_good(rt: HostRuntime) {
-    assert!(rt; are_bounded(DriveKind::Rp06, 174_423_040));
-    assert!(rt; are_bounded(DriveKind::Rm03, 67_420_160));
-    assert!(rt; are_bounded(DriveKind::Rm05, 256_196_608));
+    for (kind, most) in &LENGTHS {
+        for row in &PACKS {
+            assert!(rt; is_bounded(*kind, *most, row), "{:?}", row.2);
+        }
+    }
 }

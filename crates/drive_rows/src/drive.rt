@@ -4,7 +4,7 @@ ghost use Rattle.hardware_table.specs.Drive.{is_transferring};
 use FaultKind::{Dte, Hcrc, Late, Opi, Seek};
 use Function::{Centre, Nop, Read, Search, Write, WriteHeader};
 use Moved::Faulted;
-use Trial::{Fault, Noisy};
+use Trial::{Fault, MarkedWrite, Noisy};
 use drive_model::{Drive, FaultKind, Moved, NoiseBook, NoiseSpan, Register};
 use drive_registers::Function;
 use fire_code::Noise;
@@ -37,7 +37,7 @@ fn transferring(kind: DriveKind, trial: Trial) -> Drive
         _ => {}
     }
     match trial {
-        Trial::Write | Trial::MarkedWrite => drive.go(Function::Write),
+        Trial::Write | MarkedWrite => drive.go(Function::Write),
         _ => drive.go(Function::Read),
     }
     match trial {
@@ -52,13 +52,15 @@ type Row = (Trial, Moved, (u16, u16), &'static [PackOp]);
 
 const READS: &[PackOp] = &[PackOp::Marked, PackOp::Read];
 
+const WRITES: &[PackOp] = &[PackOp::Marked, PackOp::Write];
+
 const SHORT: Moved = Moved::Burst {
     at: 4091,
     pattern: 0o2001,
 };
 
 // Of a mark it has what an RP06 leaves.
-const ROWS: [Row; 12] = [
+static ROWS: [Row; 12] = [
     (Trial::Offline, Moved::Offline, (0o40000, 0), &[]),
     (Fault(Seek), Faulted(Seek), (0, 0o40000), &[]),
     (Fault(Opi), Faulted(Opi), (0o20000, 0), &[]),
@@ -66,18 +68,8 @@ const ROWS: [Row; 12] = [
     (Fault(Hcrc), Faulted(Hcrc), (0o400, 0), &[]),
     (Fault(Late), Faulted(Late), (0, 0), &[]),
     (Trial::Mark, Moved::Marked, (0o20, 0), &[PackOp::Marked]),
-    (
-        Trial::MarkedWrite,
-        Moved::Marked,
-        (0o20, 0),
-        &[PackOp::Marked],
-    ),
-    (
-        Trial::Write,
-        Moved::Clean,
-        (0, 0),
-        &[PackOp::Marked, PackOp::Write],
-    ),
+    (MarkedWrite, Moved::Marked, (0o20, 0), &[PackOp::Marked]),
+    (Trial::Write, Moved::Clean, (0, 0), WRITES),
     (Noisy(&[0, 9, 11, 21, 30, 32]), Moved::Clean, (0, 0), READS),
     (Noisy(&[4090, 4100]), SHORT, (0o100000, 0), READS),
     (Noisy(&[0, 7, 14]), Moved::Hard, (0o100100, 0), READS),
@@ -87,21 +79,19 @@ const ROWS: [Row; 12] = [
 fn images(alloc: Global, mark: u8) -> Result<Vec<Image>, NoMemory> {
     let bytes = Vec::from_slice(alloc, &[0x5a; 1024])?;
     let marks = Vec::from_slice(alloc, &[mark])?;
-    Ok(Vec::from_array(
-        alloc,
-        [Image {
-            unit: 4,
-            bytes,
-            marks,
-            blocks: 2,
-        }],
-    )?)
+    let image = Image {
+        unit: 4,
+        bytes,
+        marks,
+        blocks: 2,
+    };
+    Ok(Vec::from_array(alloc, [image])?)
 }
 
 // The packs of a trial.
 fn packs_for(alloc: Global, trial: Trial, fails: &[FailCall]) -> Result<MemPacks, NoMemory> {
     let mark = match trial {
-        Trial::Mark | Trial::MarkedWrite => 1,
+        Trial::Mark | MarkedWrite => 1,
         _ => 0,
     };
     let calls = Vec::from_slice(alloc, fails)?;
@@ -137,6 +127,7 @@ fn tries(
             return false;
         }
     }
+    // An RM03 and an RM05 tell a mark in Er2.
     let (er1, er2) = match (verdict, kind) {
         (Moved::Marked, DriveKind::Rm03 | DriveKind::Rm05) => (0, 0o100000),
         _ => words,
@@ -198,7 +189,7 @@ fn verdicts(rt: HostRuntime) {
 // in Dc, and whether the drive is locked; Er1 and Ds; and Ds, Cc and La after the arrival, where there is one.
 type Done = (Function, u16, bool, [u16; 2], [u16; 3]);
 
-const FUNCTIONS: [Done; 8] = [
+static FUNCTIONS: [Done; 8] = [
     (Nop, 5, false, [0, 0o10700], [0o10700, 0, 0]),
     (Function::Seek, 5, false, [0, 0o30500], [0o110700, 5, 0]),
     (Search, 5, false, [0, 0o30500], [0o110700, 5, 0o700]),
@@ -238,7 +229,7 @@ fn does_function(kind: DriveKind, row: &Done) -> bool {
 }
 
 // The type word of each kind.
-const KINDS: [(DriveKind, u16); 3] = [
+static KINDS: [(DriveKind, u16); 3] = [
     (DriveKind::Rp06, 0o20022),
     (DriveKind::Rm03, 0o20024),
     (DriveKind::Rm05, 0o20027),

@@ -22,19 +22,15 @@ fn started(alloc: Global) -> Option<Subsystem>
     }
 }
 
-/// Whether a subsystem has no event and no answer.
-fn is_idle(subsystem: &Subsystem) -> bool {
-    subsystem.next_event().is_none() && subsystem.answer().is_none()
-}
-
-fn starts_idle(alloc: Global) -> bool {
+/// Whether there is one, and it has no event and no answer.
+fn is_idle(alloc: Global) -> bool {
     match started(alloc) {
-        Some(subsystem) => is_idle(&subsystem),
+        Some(subsystem) => subsystem.next_event().is_none() && subsystem.answer().is_none(),
         None => false,
     }
 }
 
 #[test]
 fn made_with_ample_memory(rt: HostRuntime) {
-    assert!(rt; starts_idle(rt.alloc()));
+    assert!(rt; is_idle(rt.alloc()));
 }

@@ -41,19 +41,17 @@ fn cause(kind: DriveKind, verdict: Moved, regs: TransferRegs) -> DataCause
     data_interrupt(regs)
 }
 
-const BURST: Moved = Moved::Burst {
-    at: 4091,
-    pattern: 0o2001,
-};
-
-const CORRECTED: DataCause = DataCause::Corrected {
-    at: 4091,
-    pattern: 0o2001,
-};
-
 // Whether each verdict but of a fault leaves its cause.
 fn leaves_cause() -> bool {
     let kind = DriveKind::Rp06;
+    let burst = Moved::Burst {
+        at: 4091,
+        pattern: 0o2001,
+    };
+    let corrected = DataCause::Corrected {
+        at: 4091,
+        pattern: 0o2001,
+    };
     let regs = TransferRegs {
         er1: 0o100000,
         er2: 0,
@@ -62,7 +60,7 @@ fn leaves_cause() -> bool {
         late: false,
     };
     cause(kind, Moved::Clean, CLEAR) == DataCause::Complete
-        && cause(kind, BURST, regs) == CORRECTED
+        && cause(kind, burst, regs) == corrected
         && cause(kind, Moved::Hard, first(0o100100)) == DataCause::Hard
         && cause(kind, Moved::Marked, first(0o20)) == DataCause::BadSector
         && cause(DriveKind::Rm03, Moved::Marked, second(0o100000)) == DataCause::BadSector
@@ -93,9 +91,19 @@ fn cause_of_each_verdict(rt: HostRuntime) {
 // The verdict that each cause tells, and whether the late flag shows it.
 type Told = (DataCause, Moved, bool);
 
-const CAUSES: [Told; 7] = [
+static CAUSES: [Told; 7] = [
     (DataCause::Complete, Moved::Clean, false),
-    (CORRECTED, BURST, false),
+    (
+        DataCause::Corrected {
+            at: 17,
+            pattern: 0o2001,
+        },
+        Moved::Burst {
+            at: 17,
+            pattern: 0o2001,
+        },
+        false,
+    ),
     (DataCause::Hard, Moved::Hard, false),
     (DataCause::BadSector, Moved::Marked, false),
     (DataCause::Offline, Moved::Offline, false),
@@ -118,7 +126,7 @@ fn verdict_of_each_cause(rt: HostRuntime) {
 // What is sensed of a status word for a read and for a write, and whether it needs PACK.
 type Status = (u16, Sensed, Sensed, bool);
 
-const STATUS: [Status; 4] = [
+static STATUS: [Status; 4] = [
     (0o10700, Sensed::Go, Sensed::Go, false),
     (0o10600, Sensed::Go, Sensed::Go, true),
     (0o14700, Sensed::Go, Sensed::Locked, false),

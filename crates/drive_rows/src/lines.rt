@@ -6,7 +6,7 @@ use trace_lines::*;
 /// A deed, and the line that tells it at line 4 of the script, of unit 9, for request 30.
 type Deed = (Told, &'static str);
 
-const DEEDS: [Deed; 19] = [
+static DEEDS: [Deed; 19] = [
     (
         Told::Search {
             cylinder: 822,
@@ -60,7 +60,7 @@ const DEEDS: [Deed; 19] = [
 /// The verdict of block 5, and the line that tells it there.
 type Sector = (Moved, &'static str);
 
-const SECTORS: [Sector; 10] = [
+static SECTORS: [Sector; 10] = [
     (Moved::Clean, "sector 4 9 30 5 clean\n"),
     (
         Moved::Burst {

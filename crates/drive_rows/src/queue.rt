@@ -7,7 +7,7 @@ use std::alloc::Global;
 /// How many join, at which cylinders, as the numbers 0, 1, 2 .. in this order, and in which order they are served.
 type Order = (u32, [u32; 6], [u32; 6]);
 
-const ORDERS: [Order; 5] = [
+static ORDERS: [Order; 5] = [
     (5, [10, 50, 20, 5, 20, 0], [0, 2, 4, 1, 3, 0]),
     (6, [10, 50, 20, 5, 20, 10], [0, 5, 2, 4, 1, 3]),
     (6, [7, 7, 7, 7, 7, 7], [0, 1, 2, 3, 4, 5]),

@@ -40,7 +40,7 @@ const REST: Segment = Segment {
 // A read of blocks 999 to 1002 of an RP06: block, skip and count of each segment, the failures at its first sector, and
 // how it ends. Block 1000 is listed and goes to the first replacement, which fails once; block 1001 then fails to the
 // end.
-const SEGMENTS: [((u32, u32, u32), u32, End); 4] = [
+static SEGMENTS: [((u32, u32, u32), u32, End); 4] = [
     ((999, 0, 4), 0, End::Marked(1)),
     ((340647, 1, 1), 0, End::Failed(0)),
     ((340647, 1, 1), 1, End::Done),
