@@ -5,14 +5,14 @@ use mba_autoconf::*;
 use outside_traits::traits::{Packs, StoreFailed};
 use pack_geometry::{DriveKind, copy_block};
 
-// A pack that has a length and the copies of its table, by the serial number; a copy without one is all zeros, which
+// A pack that has a length and the copies of its table, by the serial number; a copy with number 0 is all zeros, which
 // is no table. It tells nothing, and counts the calls that ask for a block or its mark.
 #[derive(Drop)]
 struct Copies {
     kind: DriveKind,
     length: u64,
     marked: [bool; 5],
-    serials: [Option<u32>; 5],
+    serials: [u32; 5],
     asked: u32,
 }
 
@@ -36,8 +36,8 @@ impl Packs for Copies {
         for k in 0..5u32 {
             if block == copy_block(self.kind, k) {
                 match self.serials[k as usize] {
-                    Some(number) => write_table(&empty_table(self.kind, number), into),
-                    None => {}
+                    0 => {}
+                    number => write_table(&empty_table(self.kind, number), into),
                 }
             }
         }
@@ -85,23 +85,15 @@ fn type_words(rt: HostRuntime) {
     }
 }
 
-// Which copies are marked, their serial numbers, and the one that is found.
-type Table = ([bool; 5], [Option<u32>; 5], Option<u32>);
+// Which copies are marked, their serial numbers, or 0 where there is no table, and the one that is found.
+type Table = ([bool; 5], [u32; 5], Option<u32>);
 
 static PACKS: [Table; 5] = [
-    (
-        [true, false, false, false, false],
-        [Some(1), Some(2), Some(3), None, None],
-        Some(2),
-    ),
-    ([false; 5], [None, Some(2), Some(3), None, None], Some(2)),
-    (
-        [true, true, true, true, false],
-        [Some(1), Some(2), Some(3), Some(4), Some(5)],
-        Some(5),
-    ),
-    ([false; 5], [None; 5], None),
-    ([true; 5], [Some(1); 5], None),
+    ([true, false, false, false, false], [1, 2, 3, 0, 0], Some(2)),
+    ([false; 5], [0, 2, 3, 0, 0], Some(2)),
+    ([true, true, true, true, false], [1, 2, 3, 4, 5], Some(5)),
+    ([false; 5], [0; 5], None),
+    ([true; 5], [1; 5], None),
 ];
 
 // Whether a drive is attached with the table of this serial number, or with none; its volume is valid then.
