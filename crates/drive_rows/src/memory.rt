@@ -110,8 +110,8 @@ fn stores_short(memory: &mut MainMemory) -> bool {
     let buffer = to_bus(buffer);
     let mut bytes = [0xffu8; 512];
     let mut window = memory.window(&buffer, 0);
-    let read = (window.len(), window.get(1));
     window.set(2, 9);
+    let read = (window.len(), window.get(1));
     window.copy_out(&mut bytes);
     memory.give_back(to_cpu(buffer));
     is_lowest && read == (3, 1) && is_short(&bytes)
