@@ -5,14 +5,14 @@ use mba_autoconf::*;
 use outside_traits::traits::{Packs, StoreFailed};
 use pack_geometry::{DriveKind, copy_block};
 
-// A pack that has a length and the copies of its table, by the serial number; a copy without one is all zeros, which
+// A pack that has a length and the copies of its table, by the serial number; a copy with number 0 is all zeros, which
 // is no table. It tells nothing, and counts the calls that ask for a block or its mark.
 #[derive(Drop)]
 struct Copies {
     kind: DriveKind,
     length: u64,
     marked: [bool; 5],
-    serials: [Option<u32>; 5],
+    serials: [u32; 5],
     asked: u32,
 }
 
@@ -36,8 +36,8 @@ impl Packs for Copies {
         for k in 0..5u32 {
             if block == copy_block(self.kind, k) {
                 match self.serials[k as usize] {
-                    Some(number) => write_table(&empty_table(self.kind, number), into),
-                    None => {}
+                    0 => {}
+                    number => write_table(&empty_table(self.kind, number), into),
                 }
             }
         }
@@ -63,35 +63,37 @@ impl Packs for Copies {
     }
 }
 
+type Probed = (u16, Result<DriveKind, ProbeFault>);
+
+static TYPES: [Probed; 6] = [
+    (0o020022, Ok(DriveKind::Rp06)),
+    (0o020024, Ok(DriveKind::Rm03)),
+    (0o020027, Ok(DriveKind::Rm05)),
+    (0o177022, Ok(DriveKind::Rp06)),
+    (0o020023, Err(ProbeFault::Unknown(0o023))),
+    (0o020122, Err(ProbeFault::Unknown(0o122))),
+];
+
+fn is_probed(row: &Probed) -> bool {
+    probe(row.0) == row.1
+}
+
 #[test]
 fn type_words(rt: HostRuntime) {
-    for (word, kind) in [
-        (0o020022, Ok(DriveKind::Rp06)),
-        (0o020024, Ok(DriveKind::Rm03)),
-        (0o020027, Ok(DriveKind::Rm05)),
-        (0o177022, Ok(DriveKind::Rp06)),
-        (0o020023, Err(ProbeFault::Unknown(0o023))),
-        (0o020122, Err(ProbeFault::Unknown(0o122))),
-    ] {
-        assert!(rt; probe(word) == kind, "{word:o}");
+    for row in &TYPES {
+        assert!(rt; is_probed(row), "{:o}", row.0);
     }
 }
 
-// Which copies are marked, their serial numbers, and the one that is found.
-const PACKS: [([bool; 5], [Option<u32>; 5], Option<u32>); 5] = [
-    (
-        [true, false, false, false, false],
-        [Some(1), Some(2), Some(3), None, None],
-        Some(2),
-    ),
-    ([false; 5], [None, Some(2), Some(3), None, None], Some(2)),
-    (
-        [true, true, true, true, false],
-        [Some(1), Some(2), Some(3), Some(4), Some(5)],
-        Some(5),
-    ),
-    ([false; 5], [None; 5], None),
-    ([true; 5], [Some(1); 5], None),
+// Which copies are marked, their serial numbers, or 0 where there is no table, and the one that is found.
+type Table = ([bool; 5], [u32; 5], Option<u32>);
+
+static PACKS: [Table; 5] = [
+    ([true, false, false, false, false], [1, 2, 3, 0, 0], Some(2)),
+    ([false; 5], [0, 2, 3, 0, 0], Some(2)),
+    ([true, true, true, true, false], [1, 2, 3, 4, 5], Some(5)),
+    ([false; 5], [0; 5], None),
+    ([true; 5], [1; 5], None),
 ];
 
 // Whether a drive is attached with the table of this serial number, or with none; its volume is valid then.
@@ -119,25 +121,35 @@ fn is_too_long(packs: &mut Copies, kind: DriveKind, length: u64) -> bool {
     fault == AttachFault::TooLong { length } && packs.asked == 0
 }
 
+// Whether packs as long as an image may be are attached with this table, and those that are a byte longer are refused.
+fn is_bounded(kind: DriveKind, most: u32, row: &Table) -> bool {
+    let (marked, serials, wanted) = *row;
+    let length = u64::from(most);
+    let mut packs = Copies {
+        kind,
+        length,
+        marked,
+        serials,
+        asked: 0,
+    };
+    let is_so = is_attached(&mut packs, kind, wanted);
+    packs.length = length + 1;
+    packs.asked = 0;
+    is_so && is_too_long(&mut packs, kind, length + 1)
+}
+
+// The most bytes that an image of each kind may have.
+static LENGTHS: [(DriveKind, u32); 3] = [
+    (DriveKind::Rp06, 174_423_040),
+    (DriveKind::Rm03, 67_420_160),
+    (DriveKind::Rm05, 256_196_608),
+];
+
 #[test]
 fn attached_with_the_first_copy_that_is_good(rt: HostRuntime) {
-    for (kind, length) in [
-        (DriveKind::Rp06, 174_423_040),
-        (DriveKind::Rm03, 67_420_160),
-        (DriveKind::Rm05, 256_196_608),
-    ] {
-        for (marked, serials, wanted) in PACKS {
-            let mut packs = Copies {
-                kind,
-                length,
-                marked,
-                serials,
-                asked: 0,
-            };
-            assert!(rt; is_attached(&mut packs, kind, wanted), "{wanted:?}");
-            packs.length = length + 1;
-            packs.asked = 0;
-            assert!(rt; is_too_long(&mut packs, kind, length + 1));
+    for (kind, most) in &LENGTHS {
+        for row in &PACKS {
+            assert!(rt; is_bounded(*kind, *most, row), "{:?}", row.2);
         }
     }
 }

@@ -1,16 +1,19 @@
 ghost use Rattle.std.specs.Prelude.{◌≡◌, true};
 ghost use Rattle.hardware_table.specs.Drive.{is_transferring};
 
+use FaultKind::{Dte, Hcrc, Late, Opi, Seek};
+use Function::{Centre, Nop, Read, Search, Write, WriteHeader};
+use Moved::Faulted;
+use Trial::{Fault, MarkedWrite, Noisy};
 use drive_model::{Drive, FaultKind, Moved, NoiseBook, NoiseSpan, Register};
 use drive_registers::Function;
 use fire_code::Noise;
 use main_memory::{MainMemory, Window, to_bus};
 use mass_outside::mem_packs::{FailCall, MemPacks, PackOp};
 use mass_outside::slots::Image;
+use outside_traits::traits::NoMemory;
 use pack_geometry::DriveKind;
 use std::alloc::Global;
-use std::process::Abort;
-use std::test::Fail;
 
 // What a sector meets that is tried.
 #[derive(Clone, Copy)]
@@ -18,7 +21,7 @@ enum Trial {
     Offline,
     Fault(FaultKind),
     Mark,
-    Noise(&'static [u16]),
+    Noisy(&'static [u16]),
     Write,
     MarkedWrite,
 }
@@ -30,11 +33,11 @@ fn transferring(kind: DriveKind, trial: Trial) -> Drive
 {
     let mut drive = Drive::new(kind, 3);
     match trial {
-        Trial::Fault(fault) => drive.arm_fault(fault, 1),
+        Fault(fault) => drive.arm_fault(fault, 1),
         _ => {}
     }
     match trial {
-        Trial::Write | Trial::MarkedWrite => drive.go(Function::Write),
+        Trial::Write | MarkedWrite => drive.go(Function::Write),
         _ => drive.go(Function::Read),
     }
     match trial {
@@ -44,207 +47,157 @@ fn transferring(kind: DriveKind, trial: Trial) -> Drive
     drive
 }
 
-// The verdict of a trial, the error registers that it leaves, and the calls on the packs that it makes.
-#[derive(Clone, Copy)]
-struct Row {
-    trial: Trial,
-    verdict: Moved,
-    er1: u16,
-    er2: u16,
-    calls: &'static [PackOp],
-}
+// The verdict of a trial, the error registers Er1 and Er2 that it leaves, and the calls on the packs that it makes.
+type Row = (Trial, Moved, (u16, u16), &'static [PackOp]);
 
-fn made(trial: Trial, verdict: Moved, er1: u16, er2: u16, calls: &'static [PackOp]) -> Row {
-    Row {
-        trial,
-        verdict,
-        er1,
-        er2,
-        calls,
-    }
-}
+const READS: &[PackOp] = &[PackOp::Marked, PackOp::Read];
 
-fn fault(kind: FaultKind, er1: u16, er2: u16) -> Row {
-    made(Trial::Fault(kind), Moved::Faulted(kind), er1, er2, &[])
-}
+const WRITES: &[PackOp] = &[PackOp::Marked, PackOp::Write];
 
-// A read that noise strikes.
-fn noise(places: &'static [u16], verdict: Moved, er1: u16) -> Row {
-    made(
-        Trial::Noise(places),
-        verdict,
-        er1,
-        0,
-        &[PackOp::Marked, PackOp::Read],
-    )
-}
+const SHORT: Moved = Moved::Burst {
+    at: 4091,
+    pattern: 0o2001,
+};
 
-fn rows(kind: DriveKind) -> [Row; 12] {
-    let short = Moved::Burst {
-        at: 4091,
-        pattern: 0o2001,
+// Of a mark it has what an RP06 leaves.
+static ROWS: [Row; 12] = [
+    (Trial::Offline, Moved::Offline, (0o40000, 0), &[]),
+    (Fault(Seek), Faulted(Seek), (0, 0o40000), &[]),
+    (Fault(Opi), Faulted(Opi), (0o20000, 0), &[]),
+    (Fault(Dte), Faulted(Dte), (0o10000, 0), &[]),
+    (Fault(Hcrc), Faulted(Hcrc), (0o400, 0), &[]),
+    (Fault(Late), Faulted(Late), (0, 0), &[]),
+    (Trial::Mark, Moved::Marked, (0o20, 0), &[PackOp::Marked]),
+    (MarkedWrite, Moved::Marked, (0o20, 0), &[PackOp::Marked]),
+    (Trial::Write, Moved::Clean, (0, 0), WRITES),
+    (Noisy(&[0, 9, 11, 21, 30, 32]), Moved::Clean, (0, 0), READS),
+    (Noisy(&[4090, 4100]), SHORT, (0o100000, 0), READS),
+    (Noisy(&[0, 7, 14]), Moved::Hard, (0o100100, 0), READS),
+];
+
+// An image of unit 4 with two blocks, of which the first is marked or not.
+fn images(alloc: Global, mark: u8) -> Result<Vec<Image>, NoMemory> {
+    let bytes = Vec::from_slice(alloc, &[0x5a; 1024])?;
+    let marks = Vec::from_slice(alloc, &[mark])?;
+    let image = Image {
+        unit: 4,
+        bytes,
+        marks,
+        blocks: 2,
     };
-    let (first, second) = match kind {
-        DriveKind::Rp06 => (0o20, 0),
-        DriveKind::Rm03 | DriveKind::Rm05 => (0, 0o100000),
-    };
-    [
-        made(Trial::Offline, Moved::Offline, 0o40000, 0, &[]),
-        fault(FaultKind::Seek, 0, 0o40000),
-        fault(FaultKind::Opi, 0o20000, 0),
-        fault(FaultKind::Dte, 0o10000, 0),
-        fault(FaultKind::Hcrc, 0o400, 0),
-        fault(FaultKind::Late, 0, 0),
-        made(Trial::Mark, Moved::Marked, first, second, &[PackOp::Marked]),
-        made(
-            Trial::MarkedWrite,
-            Moved::Marked,
-            first,
-            second,
-            &[PackOp::Marked],
-        ),
-        made(
-            Trial::Write,
-            Moved::Clean,
-            0,
-            0,
-            &[PackOp::Marked, PackOp::Write],
-        ),
-        noise(&[0, 9, 11, 21, 30, 32], Moved::Clean, 0),
-        noise(&[4090, 4100], short, 0o100000),
-        noise(&[0, 7, 14], Moved::Hard, 0o100100),
-    ]
+    Ok(Vec::from_array(alloc, [image])?)
 }
 
-// Packs of unit 4 with two blocks, of which the first is marked or not.
-fn packs_with(alloc: Global, trial: Trial, fail: Option<PackOp>) -> Result<MemPacks, Fail> {
+// The packs of a trial.
+fn packs_for(alloc: Global, trial: Trial, fails: &[FailCall]) -> Result<MemPacks, NoMemory> {
     let mark = match trial {
-        Trial::Mark | Trial::MarkedWrite => 1,
+        Trial::Mark | MarkedWrite => 1,
         _ => 0,
     };
-    let mut images = Vec::new(alloc);
-    images.push(Image {
-        unit: 4,
-        bytes: vec![in alloc; 0x5a; 1024]?,
-        marks: vec![in alloc; mark]?,
-        blocks: 2,
-    })?;
-    let mut calls = Vec::new(alloc);
-    if let Some(op) = fail {
-        calls.push(FailCall { op, number: 1 })?;
-    }
-    Ok(MemPacks::new(alloc, images, calls)?)
+    let calls = Vec::from_slice(alloc, fails)?;
+    MemPacks::new(alloc, images(alloc, mark)?, calls)
 }
 
-// Tries block 0. Where a call on the packs fails, nothing has changed, and the next try gives the verdict.
-fn try_row(
-    rt: &impl Abort,
-    alloc: Global,
-    kind: DriveKind,
-    row: Row,
-    fail: Option<PackOp>,
-    window: &mut Window<'_>,
-) -> Result<(), Fail> {
-    let mut packs = packs_with(alloc, row.trial, fail)?;
-    let mut book = NoiseBook::new(alloc, 1)?;
-    if let Trial::Noise(places) = row.trial {
-        let noise = Noise::new(places).ok_or("no noise")?;
-        book.arm(4, 0, noise, NoiseSpan::Times(1));
+// A book with the noise of a trial at block 0, where it has any.
+fn book_for(alloc: Global, trial: Trial) -> Option<NoiseBook> {
+    let mut book = NoiseBook::new(alloc, 1).ok()?;
+    if let Noisy(places) = trial {
+        book.arm(4, 0, Noise::new(places)?, NoiseSpan::Times(1));
     }
+    Some(book)
+}
+
+// Whether a try of block 0 comes to a row, and before it, where a call on the packs fails, one that changes nothing.
+fn tries(
+    kind: DriveKind,
+    row: &Row,
+    fails: bool,
+    packs: &mut MemPacks,
+    book: &mut NoiseBook,
+    window: &mut Window<'_>,
+) -> bool {
+    let (trial, verdict, words, _) = *row;
+    let mut drive = transferring(kind, trial);
     window.copy_in(&[0x77; 512]);
-    let mut drive = transferring(kind, row.trial);
-    let mut verdict = drive.move_sector(&mut packs, 4, 0, &mut book, window);
-    if fail.is_some() {
-        assert!(rt; verdict.is_err());
-        assert_eq!(rt; drive.read_register(Register::Er1), 0);
+    if fails {
+        let is_refused = drive.move_sector(packs, 4, 0, book, window).is_err();
         let mut left = [0; 512];
         window.copy_out(&mut left);
-        assert!(rt; left == [0x77; 512]);
-        verdict = drive.move_sector(&mut packs, 4, 0, &mut book, window);
+        if !is_refused || drive.read_register(Register::Er1) != 0 || left != [0x77; 512] {
+            return false;
+        }
     }
-    assert!(rt; verdict == Ok(row.verdict));
-    assert_eq!(rt; drive.read_register(Register::Er1), row.er1);
-    assert_eq!(rt; drive.read_register(Register::Er2), row.er2);
-    Ok(())
+    // An RM03 and an RM05 tell a mark in Er2.
+    let (er1, er2) = match (verdict, kind) {
+        (Moved::Marked, DriveKind::Rm03 | DriveKind::Rm05) => (0, 0o100000),
+        _ => words,
+    };
+    drive.move_sector(packs, 4, 0, book, window) == Ok(verdict)
+        && drive.read_register(Register::Er1) == er1
+        && drive.read_register(Register::Er2) == er2
+}
+
+// The same of new packs and a new book.
+fn tries_anew(
+    alloc: Global,
+    kind: DriveKind,
+    row: &Row,
+    fails: &[FailCall],
+    window: &mut Window<'_>,
+) -> bool {
+    let Ok(mut packs) = packs_for(alloc, row.0, fails) else {
+        return false;
+    };
+    let Some(mut book) = book_for(alloc, row.0) else {
+        return false;
+    };
+    tries(kind, row, !fails.is_empty(), &mut packs, &mut book, window)
+}
+
+// Whether a row holds where no call fails, and where each does.
+fn is_tried(alloc: Global, kind: DriveKind, row: &Row, window: &mut Window<'_>) -> bool {
+    for op in row.3 {
+        let fail = FailCall { op: *op, number: 1 };
+        if !tries_anew(alloc, kind, row, &[fail], window) {
+            return false;
+        }
+    }
+    tries_anew(alloc, kind, row, &[], window)
+}
+
+// The same with a window in new memory.
+fn is_tried_anew(alloc: Global, kind: DriveKind, row: &Row) -> bool {
+    let Ok(mut memory) = MainMemory::new(alloc) else {
+        return false;
+    };
+    let Ok(buffer) = memory.lend(1, 0, 512) else {
+        return false;
+    };
+    is_tried(alloc, kind, row, &mut memory.window(&to_bus(buffer), 0))
 }
 
 #[test]
-fn verdicts(rt: HostRuntime) -> Result<(), Fail> {
-    let mut memory = MainMemory::new(rt.alloc())?;
-    let buffer = to_bus(memory.lend(1, 0, 512)?);
-    let mut window = memory.window(&buffer, 0);
-    for kind in [DriveKind::Rp06, DriveKind::Rm03, DriveKind::Rm05] {
-        for row in rows(kind) {
-            try_row(&rt, rt.alloc(), kind, row, None, &mut window)?;
-            for call in row.calls {
-                try_row(&rt, rt.alloc(), kind, row, Some(*call), &mut window)?;
-            }
+fn verdicts(rt: HostRuntime) {
+    for (kind, _) in &KINDS {
+        for row in &ROWS {
+            assert!(rt; is_tried_anew(rt.alloc(), *kind, row), "{:?}", row.1);
         }
     }
-    Ok(())
 }
 
 // What a function leaves on a drive whose volume is valid, with 0o2007 in Da and 0o10260 in Of: the function, the word
-// in Dc, and whether the drive is locked; Er1, Ds and Of; and Ds, Cc and La after the arrival, where there is one.
-type Done = (Function, u16, bool, [u16; 3], [u16; 3]);
+// in Dc, and whether the drive is locked; Er1 and Ds; and Ds, Cc and La after the arrival, where there is one.
+type Done = (Function, u16, bool, [u16; 2], [u16; 3]);
 
-const FUNCTIONS: [Done; 8] = [
-    (
-        Function::Nop,
-        5,
-        false,
-        [0, 0o10700, 0o10260],
-        [0o10700, 0, 0],
-    ),
-    (
-        Function::Seek,
-        5,
-        false,
-        [0, 0o30500, 0o10260],
-        [0o110700, 5, 0],
-    ),
-    (
-        Function::Search,
-        5,
-        false,
-        [0, 0o30500, 0o10260],
-        [0o110700, 5, 0o700],
-    ),
-    (
-        Function::Search,
-        1000,
-        false,
-        [0o2000, 0o150700, 0o10260],
-        [0o150700, 0, 0],
-    ),
-    (
-        Function::Write,
-        5,
-        true,
-        [0o4000, 0o154700, 0o10260],
-        [0o154700, 0, 0],
-    ),
-    (
-        Function::WriteHeader,
-        5,
-        false,
-        [0o1, 0o150700, 0o10260],
-        [0o150700, 0, 0],
-    ),
-    (
-        Function::Read,
-        5,
-        true,
-        [0, 0o14500, 0o10260],
-        [0o14500, 0, 0],
-    ),
-    (
-        Function::Centre,
-        5,
-        false,
-        [0, 0o10700, 0o10000],
-        [0o10700, 0, 0],
-    ),
+static FUNCTIONS: [Done; 8] = [
+    (Nop, 5, false, [0, 0o10700], [0o10700, 0, 0]),
+    (Function::Seek, 5, false, [0, 0o30500], [0o110700, 5, 0]),
+    (Search, 5, false, [0, 0o30500], [0o110700, 5, 0o700]),
+    (Search, 1000, false, [0o2000, 0o150700], [0o150700, 0, 0]),
+    (Write, 5, true, [0o4000, 0o154700], [0o154700, 0, 0]),
+    (WriteHeader, 5, false, [0o1, 0o150700], [0o150700, 0, 0]),
+    (Read, 5, true, [0, 0o14500], [0o14500, 0, 0]),
+    (Centre, 5, false, [0, 0o10700], [0o10700, 0, 0]),
 ];
 
 // Whether three registers of a drive hold these words.
@@ -258,8 +211,8 @@ fn shows(drive: &Drive, registers: [Register; 3], words: [u16; 3]) -> bool {
 }
 
 // Whether a function leaves a drive so.
-fn does_function(kind: DriveKind, row: Done) -> bool {
-    let (function, dc, locked, left, arrived) = row;
+fn does_function(kind: DriveKind, row: &Done) -> bool {
+    let (function, dc, locked, left, arrived) = *row;
     let mut drive = Drive::new(kind, 3);
     drive.go(Function::Pack);
     drive.write_register(Register::Of, 0o10260);
@@ -267,24 +220,31 @@ fn does_function(kind: DriveKind, row: Done) -> bool {
     drive.write_register(Register::Da, 0o2007);
     drive.set_locked(locked);
     drive.go(function);
-    let is_left = shows(&drive, [Register::Er1, Register::Ds, Register::Of], left);
+    // Of stays, but that Centre clears the offset.
+    let of = if function == Centre { 0o10000 } else { 0o10260 };
+    let words = [left[0], left[1], of];
+    let is_left = shows(&drive, [Register::Er1, Register::Ds, Register::Of], words);
     drive.arrive();
     is_left && shows(&drive, [Register::Ds, Register::Cc, Register::La], arrived)
 }
 
 // The type word of each kind.
-const KINDS: [(DriveKind, u16); 3] = [
+static KINDS: [(DriveKind, u16); 3] = [
     (DriveKind::Rp06, 0o20022),
     (DriveKind::Rm03, 0o20024),
     (DriveKind::Rm05, 0o20027),
 ];
 
+fn has_type(row: &(DriveKind, u16)) -> bool {
+    Drive::new(row.0, 3).read_register(Register::Dt) == row.1
+}
+
 #[test]
 fn registers(rt: HostRuntime) {
-    for (kind, word) in KINDS {
-        assert_eq!(rt; Drive::new(kind, 3).read_register(Register::Dt), word);
-        for row in FUNCTIONS {
-            assert!(rt; does_function(kind, row));
+    for row in &KINDS {
+        assert!(rt; has_type(row));
+        for done in &FUNCTIONS {
+            assert!(rt; does_function(row.0, done), "{:?}", done.0);
         }
     }
 }

@@ -3,13 +3,15 @@ ghost use Rattle.std.specs.Prelude.{◌≡◌, false};
 ghost use Rattle.hardware_table.specs.Drive.{new_drive};
 ghost use Rattle.hp_interrupts.specs.Verdicts.{IsLeftBy};
 
+use DataCause::Drive;
+use FaultKind::{Dte, Hcrc, Late, Opi, Seek};
+use Moved::Faulted;
 use hardware_table::{FaultKind, Moved};
 use hp_interrupts::{
     DataCause, Sensed, TransferRegs, data_interrupt, lowest_attention, needs_pack, sense,
     shows_late, verdict_of,
 };
 use pack_geometry::DriveKind;
-use std::process::Abort;
 
 const CLEAR: TransferRegs = TransferRegs {
     er1: 0,
@@ -39,11 +41,14 @@ fn cause(kind: DriveKind, verdict: Moved, regs: TransferRegs) -> DataCause
     data_interrupt(regs)
 }
 
-#[test]
-fn cause_of_each_verdict(rt: HostRuntime) {
+// Whether each verdict but of a fault leaves its cause.
+fn leaves_cause() -> bool {
     let kind = DriveKind::Rp06;
-    assert_eq!(rt; cause(kind, Moved::Clean, CLEAR), DataCause::Complete);
-    let verdict = Moved::Burst {
+    let burst = Moved::Burst {
+        at: 4091,
+        pattern: 0o2001,
+    };
+    let corrected = DataCause::Corrected {
         at: 4091,
         pattern: 0o2001,
     };
@@ -54,98 +59,96 @@ fn cause_of_each_verdict(rt: HostRuntime) {
         ec2: 0o2001,
         late: false,
     };
-    let corrected = DataCause::Corrected {
-        at: 4091,
-        pattern: 0o2001,
-    };
-    assert_eq!(rt; cause(kind, verdict, regs), corrected);
-    assert_eq!(rt; cause(kind, Moved::Hard, first(0o100100)), DataCause::Hard);
-    assert_eq!(rt;
-        cause(kind, Moved::Marked, first(0o20)),
-        DataCause::BadSector
-    );
-    assert_eq!(rt;
-        cause(DriveKind::Rm03, Moved::Marked, second(0o100000)),
-        DataCause::BadSector
-    );
-    assert_eq!(rt;
-        cause(kind, Moved::Offline, first(0o40000)),
-        DataCause::Offline
-    );
-    for_each_fault(&rt, kind);
-    for_each_fault(&rt, DriveKind::Rm03);
+    cause(kind, Moved::Clean, CLEAR) == DataCause::Complete
+        && cause(kind, burst, regs) == corrected
+        && cause(kind, Moved::Hard, first(0o100100)) == DataCause::Hard
+        && cause(kind, Moved::Marked, first(0o20)) == DataCause::BadSector
+        && cause(DriveKind::Rm03, Moved::Marked, second(0o100000)) == DataCause::BadSector
+        && cause(kind, Moved::Offline, first(0o40000)) == DataCause::Offline
 }
 
-fn for_each_fault(rt: &impl Abort, kind: DriveKind) {
-    let seek = cause(kind, Moved::Faulted(FaultKind::Seek), second(0o40000));
-    assert_eq!(rt; seek, DataCause::Drive(FaultKind::Seek));
-    let opi = cause(kind, Moved::Faulted(FaultKind::Opi), first(0o20000));
-    assert_eq!(rt; opi, DataCause::Drive(FaultKind::Opi));
-    let dte = cause(kind, Moved::Faulted(FaultKind::Dte), first(0o10000));
-    assert_eq!(rt; dte, DataCause::Drive(FaultKind::Dte));
-    let hcrc = cause(kind, Moved::Faulted(FaultKind::Hcrc), first(0o400));
-    assert_eq!(rt; hcrc, DataCause::Drive(FaultKind::Hcrc));
-    let regs = TransferRegs {
+// Whether each fault does.
+fn leaves_fault(kind: DriveKind) -> bool {
+    let late = TransferRegs {
         er1: 0,
         er2: 0,
         ec1: 0,
         ec2: 0,
         late: true,
     };
-    let late = cause(kind, Moved::Faulted(FaultKind::Late), regs);
-    assert_eq!(rt; late, DataCause::Drive(FaultKind::Late));
+    cause(kind, Faulted(Seek), second(0o40000)) == Drive(Seek)
+        && cause(kind, Faulted(Opi), first(0o20000)) == Drive(Opi)
+        && cause(kind, Faulted(Dte), first(0o10000)) == Drive(Dte)
+        && cause(kind, Faulted(Hcrc), first(0o400)) == Drive(Hcrc)
+        && cause(kind, Faulted(Late), late) == Drive(Late)
+}
+
+#[test]
+fn cause_of_each_verdict(rt: HostRuntime) {
+    assert!(rt; leaves_cause() && leaves_fault(DriveKind::Rp06) && leaves_fault(DriveKind::Rm03));
+}
+
+// The verdict that each cause tells, and whether the late flag shows it.
+type Told = (DataCause, Moved, bool);
+
+static CAUSES: [Told; 7] = [
+    (DataCause::Complete, Moved::Clean, false),
+    (
+        DataCause::Corrected {
+            at: 17,
+            pattern: 0o2001,
+        },
+        Moved::Burst {
+            at: 17,
+            pattern: 0o2001,
+        },
+        false,
+    ),
+    (DataCause::Hard, Moved::Hard, false),
+    (DataCause::BadSector, Moved::Marked, false),
+    (DataCause::Offline, Moved::Offline, false),
+    (Drive(Seek), Faulted(Seek), false),
+    (Drive(Late), Faulted(Late), true),
+];
+
+fn is_told(row: &Told) -> bool {
+    let (cause, verdict, late) = *row;
+    verdict_of(cause) == verdict && shows_late(verdict) == late
 }
 
 #[test]
 fn verdict_of_each_cause(rt: HostRuntime) {
-    let burst = Moved::Burst {
-        at: 17,
-        pattern: 0o2001,
-    };
-    let corrected = DataCause::Corrected {
-        at: 17,
-        pattern: 0o2001,
-    };
-    for (cause, verdict, late) in [
-        (DataCause::Complete, Moved::Clean, false),
-        (corrected, burst, false),
-        (DataCause::Hard, Moved::Hard, false),
-        (DataCause::BadSector, Moved::Marked, false),
-        (DataCause::Offline, Moved::Offline, false),
-        (
-            DataCause::Drive(FaultKind::Seek),
-            Moved::Faulted(FaultKind::Seek),
-            false,
-        ),
-        (
-            DataCause::Drive(FaultKind::Late),
-            Moved::Faulted(FaultKind::Late),
-            true,
-        ),
-    ] {
-        assert_eq!(rt; verdict_of(cause), verdict);
-        assert_eq!(rt; shows_late(verdict), late);
+    for row in &CAUSES {
+        assert!(rt; is_told(row));
     }
+}
+
+// What is sensed of a status word for a read and for a write, and whether it needs PACK.
+type Status = (u16, Sensed, Sensed, bool);
+
+static STATUS: [Status; 4] = [
+    (0o10700, Sensed::Go, Sensed::Go, false),
+    (0o10600, Sensed::Go, Sensed::Go, true),
+    (0o14700, Sensed::Go, Sensed::Locked, false),
+    (0o4600, Sensed::Offline, Sensed::Offline, true),
+];
+
+fn is_sensed(row: &Status) -> bool {
+    let (ds, read, write, pack) = *row;
+    sense(ds, false) == read && sense(ds, true) == write && needs_pack(ds) == pack
+}
+
+fn finds_lowest() -> bool {
+    lowest_attention(0) == None
+        && lowest_attention(1) == Some(0)
+        && lowest_attention(0b1010_0100) == Some(2)
+        && lowest_attention(0x80) == Some(7)
 }
 
 #[test]
 fn status_bits(rt: HostRuntime) {
-    for (ds, read, write, pack) in [
-        (0o10700, Sensed::Go, Sensed::Go, false),
-        (0o10600, Sensed::Go, Sensed::Go, true),
-        (0o14700, Sensed::Go, Sensed::Locked, false),
-        (0o4600, Sensed::Offline, Sensed::Offline, true),
-    ] {
-        assert_eq!(rt; sense(ds, false), read);
-        assert_eq!(rt; sense(ds, true), write);
-        assert_eq!(rt; needs_pack(ds), pack);
+    for row in &STATUS {
+        assert!(rt; is_sensed(row), "{:o}", row.0);
     }
-    for (summary, drive) in [
-        (0, None),
-        (1, Some(0)),
-        (0b1010_0100, Some(2)),
-        (0x80, Some(7)),
-    ] {
-        assert_eq!(rt; lowest_attention(summary), drive);
-    }
+    assert!(rt; finds_lowest());
 }

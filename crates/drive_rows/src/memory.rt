@@ -1,5 +1,7 @@
-use main_memory::{Buffer, Bus, Cpu, MainMemory, NoFrames, frames_of, to_bus, to_cpu};
-use std::test::Fail;
+ghost use Rattle.std.specs.Prelude.{◌≤◌};
+
+use main_memory::{MainMemory, NoFrames, frames_of, to_bus, to_cpu};
+use std::alloc::Global;
 
 // Byte i of a block that no other block of these tests is like.
 fn pattern(seed: u8) -> [u8; 512] {
@@ -31,29 +33,44 @@ fn begins_with_rest(frame: &[u8; 512], block: &[u8; 512]) -> bool {
     true
 }
 
-#[test]
-fn window_in_two_frames(rt: HostRuntime) -> Result<(), Fail> {
-    let mut memory = MainMemory::new(rt.alloc())?;
-    let buffer = memory.lend(2, 300, 512)?;
-    assert_eq!(rt; frames_of(&buffer), [0u16, 1, 2].as_slice());
-    let zeros = [0u8; 512];
-    memory.store(&buffer, 0, &zeros);
-    memory.store(&buffer, 1, &zeros);
+// Fills the second window on a buffer in the lowest three frames; false where it has others.
+fn fills_window(memory: &mut MainMemory, block: &[u8; 512]) -> bool {
+    let Ok(buffer) = memory.lend(2, 300, 512) else {
+        return false;
+    };
+    let is_lowest = frames_of(&buffer) == [0u16, 1, 2].as_slice();
+    memory.store(&buffer, 0, &[0; 512]);
+    memory.store(&buffer, 1, &[0; 512]);
     let buffer = to_bus(buffer);
-    let block = pattern(0x5a);
-    let mut window = memory.window(&buffer, 1);
-    window.copy_in(&block);
+    memory.window(&buffer, 1).copy_in(block);
     memory.give_back(to_cpu(buffer));
+    is_lowest
+}
 
-    // The same frames as blocks of their own: byte 211 of window 1 is the last of frame 1, byte 212 the first of
-    // frame 2.
-    let frames = memory.lend(3, 0, 512)?;
-    let mut frame = [0u8; 512];
-    memory.fetch(&frames, 1, &mut frame);
-    let is_front = ends_with_front(&frame, &block);
-    memory.fetch(&frames, 2, &mut frame);
-    assert!(rt; is_front && begins_with_rest(&frame, &block));
-    Ok(())
+// Whether the same frames hold it as blocks of their own: byte 211 of window 1 is the last of frame 1, byte 212 the
+// first of frame 2.
+fn holds_window(memory: &mut MainMemory, block: &[u8; 512]) -> bool {
+    let Ok(frames) = memory.lend(3, 0, 512) else {
+        return false;
+    };
+    let mut second = [0u8; 512];
+    memory.fetch(&frames, 1, &mut second);
+    let mut third = [0u8; 512];
+    memory.fetch(&frames, 2, &mut third);
+    ends_with_front(&second, block) && begins_with_rest(&third, block)
+}
+
+fn is_filled(alloc: Global) -> bool {
+    let Ok(mut memory) = MainMemory::new(alloc) else {
+        return false;
+    };
+    let block = pattern(0x5a);
+    fills_window(&mut memory, &block) && holds_window(&mut memory, &block)
+}
+
+#[test]
+fn window_in_two_frames(rt: HostRuntime) {
+    assert!(rt; is_filled(rt.alloc()));
 }
 
 // Whether these are the bytes 0, 1 and 9, and then zeros.
@@ -71,52 +88,92 @@ fn is_short(bytes: &[u8; 512]) -> bool {
     true
 }
 
-#[test]
-fn short_last_block(rt: HostRuntime) -> Result<(), Fail> {
-    let mut memory = MainMemory::new(rt.alloc())?;
-    let whole = memory.lend(1, 0, 512)?;
-    assert_eq!(rt; memory.fill(&whole, 0), Some(0));
+// Fills the lowest frame; false where another byte is told before or behind.
+fn fills_frame(memory: &mut MainMemory) -> bool {
+    let Ok(whole) = memory.lend(1, 0, 512) else {
+        return false;
+    };
+    let before = memory.fill(&whole, 0);
     memory.store(&whole, 0, &[0x77; 512]);
-    assert_eq!(rt; memory.fill(&whole, 0), Some(0x77));
+    let behind = memory.fill(&whole, 0);
     memory.give_back(whole);
-    let buffer = memory.lend(1, 300, 3)?;
-    assert_eq!(rt; frames_of(&buffer), [0u16].as_slice());
+    before == Some(0) && behind == Some(0x77)
+}
+
+// Whether a block of three bytes is stored there, of which one is set and another read in its window.
+fn stores_short(memory: &mut MainMemory) -> bool {
+    let Ok(buffer) = memory.lend(1, 300, 3) else {
+        return false;
+    };
+    let is_lowest = frames_of(&buffer) == [0u16].as_slice();
     memory.store(&buffer, 0, &pattern(0));
     let buffer = to_bus(buffer);
     let mut bytes = [0xffu8; 512];
     let mut window = memory.window(&buffer, 0);
-    assert_eq!(rt; window.len(), 3);
     window.set(2, 9);
-    assert_eq!(rt; window.get(1), 1);
+    let read = (window.len(), window.get(1));
     window.copy_out(&mut bytes);
-    assert!(rt; is_short(&bytes));
     memory.give_back(to_cpu(buffer));
+    is_lowest && read == (3, 1) && is_short(&bytes)
+}
 
-    // The other bytes of the frame stay.
-    let whole = memory.lend(1, 0, 512)?;
+// Whether the other bytes of the frame stay.
+fn stays_beside(memory: &mut MainMemory) -> bool {
+    let Ok(whole) = memory.lend(1, 0, 512) else {
+        return false;
+    };
+    let mut bytes = [0u8; 512];
     memory.fetch(&whole, 0, &mut bytes);
-    assert_eq!(rt;
-        (bytes[299], bytes[300], bytes[302], bytes[303]),
-        (0x77, 0, 9, 0x77)
-    );
-    Ok(())
+    (bytes[299], bytes[300], bytes[302], bytes[303]) == (0x77, 0, 9, 0x77)
+}
+
+fn is_stored(alloc: Global) -> bool {
+    let Ok(mut memory) = MainMemory::new(alloc) else {
+        return false;
+    };
+    fills_frame(&mut memory) && stores_short(&mut memory) && stays_beside(&mut memory)
 }
 
 #[test]
-fn frames_run_out(rt: HostRuntime) -> Result<(), Fail> {
-    let mut memory = MainMemory::new(rt.alloc())?;
-    for (last, frames) in [(212, 127), (213, 128)] {
-        let buffer = memory.lend(127, 300, last)?;
-        assert_eq!(rt; frames_of(&buffer).len(), frames);
-        memory.give_back(buffer);
-    }
+fn short_last_block(rt: HostRuntime) {
+    assert!(rt; is_stored(rt.alloc()));
+}
+
+// Whether so many frames are lent for 127 blocks from byte 300 on, the last of so many bytes.
+fn has_frames(memory: &mut MainMemory, last: u32, frames: usize) -> bool
+    requires some { 1 ≤ last }
+    requires few { last ≤ 512 }
+{
+    let Ok(buffer) = memory.lend(127, 300, last) else {
+        return false;
+    };
+    let count = frames_of(&buffer).len();
+    memory.give_back(buffer);
+    count == frames
+}
+
+// Whether 129 times 127 frames are lent, then no two, and then the last one.
+fn runs_out(memory: &mut MainMemory) -> bool {
     for _ in 0..129 {
-        assert!(rt; memory.lend(127, 0, 512).is_ok());
+        if memory.lend(127, 0, 512).is_err() {
+            return false;
+        }
     }
-    match memory.lend(1, 5, 512) {
-        Ok(_) => assert!(rt; false, "one frame is not enough"),
-        Err(NoFrames { free }) => assert_eq!(rt; free, 1),
-    }
-    assert!(rt; memory.lend(1, 0, 512).is_ok());
-    Ok(())
+    let is_refused = match memory.lend(1, 5, 512) {
+        Ok(_) => false,
+        Err(NoFrames { free }) => free == 1,
+    };
+    is_refused && memory.lend(1, 0, 512).is_ok()
+}
+
+fn is_counted(alloc: Global) -> bool {
+    let Ok(mut memory) = MainMemory::new(alloc) else {
+        return false;
+    };
+    has_frames(&mut memory, 212, 127) && has_frames(&mut memory, 213, 128) && runs_out(&mut memory)
+}
+
+#[test]
+fn frames_run_out(rt: HostRuntime) {
+    assert!(rt; is_counted(rt.alloc()));
 }

@@ -1,10 +1,13 @@
+ghost use Rattle.std.specs.Prelude.{◌<◌};
+
 use disksort::*;
 use outside_traits::traits::NoMemory;
 use std::alloc::Global;
-use std::test::Fail;
 
 /// How many join, at which cylinders, as the numbers 0, 1, 2 .. in this order, and in which order they are served.
-const ORDERS: [(u32, [u32; 6], [u32; 6]); 5] = [
+type Order = (u32, [u32; 6], [u32; 6]);
+
+static ORDERS: [Order; 5] = [
     (5, [10, 50, 20, 5, 20, 0], [0, 2, 4, 1, 3, 0]),
     (6, [10, 50, 20, 5, 20, 10], [0, 5, 2, 4, 1, 3]),
     (6, [7, 7, 7, 7, 7, 7], [0, 1, 2, 3, 4, 5]),
@@ -21,50 +24,64 @@ fn queue_with_all(alloc: Global, count: u32, cylinders: &[u32; 6]) -> Result<Sor
     Ok(queue)
 }
 
-#[test]
-fn two_sweeps(rt: HostRuntime) -> Result<(), Fail> {
-    for (count, cylinders, served) in ORDERS {
-        let mut queue = queue_with_all(rt.alloc(), count, &cylinders)?;
-        assert_eq!(rt; queue.len(), count);
-        assert_eq!(rt; queue.head(), queue.nth(0));
-        for (i, number) in served.iter().enumerate() {
-            let want = if (i as u32) < count {
-                Some(*number)
-            } else {
-                None
-            };
-            assert_eq!(rt;
-                queue.nth(i as u32).map(|w| w.number),
-                want,
-                "{i} of {cylinders:?}"
-            );
-        }
-        for (i, number) in served.iter().enumerate() {
-            let want = if (i as u32) < count {
-                Some(*number)
-            } else {
-                None
-            };
-            assert_eq!(rt;
-                queue.take_head().map(|w| w.number),
-                want,
-                "{i} of {cylinders:?}"
-            );
-        }
-        assert_eq!(rt; queue.len(), 0);
+/// Whether the one that is served after `i` others has its number; none where no more joined.
+fn is_served(waiter: Option<Waiter>, row: &Order, i: u32) -> bool
+    requires { i < 6 }
+{
+    let (count, _, served) = row;
+    match waiter {
+        Some(waiter) => i < *count && waiter.number == served[i as usize],
+        None => i >= *count,
     }
-    Ok(())
+}
+
+/// Whether a queue has them in their order, and gives them so.
+fn serves(queue: &mut SortQueue, row: &Order) -> bool {
+    if queue.len() != row.0 || queue.head() != queue.nth(0) {
+        return false;
+    }
+    for i in 0..6u32 {
+        if !is_served(queue.nth(i), row, i) {
+            return false;
+        }
+    }
+    for i in 0..6u32 {
+        if !is_served(queue.take_head(), row, i) {
+            return false;
+        }
+    }
+    queue.len() == 0
+}
+
+/// The same of a new queue.
+fn is_sorted(alloc: Global, row: &Order) -> bool {
+    match queue_with_all(alloc, row.0, &row.1) {
+        Ok(mut queue) => serves(&mut queue, row),
+        Err(_) => false,
+    }
 }
 
 #[test]
-fn largest_queue(rt: HostRuntime) -> Result<(), Fail> {
-    let mut queue = SortQueue::new(rt.alloc(), 65_536, 1024)?;
+fn two_sweeps(rt: HostRuntime) {
+    for row in &ORDERS {
+        assert!(rt; is_sorted(rt.alloc(), row), "{:?}", row.1);
+    }
+}
+
+/// Whether the largest number is taken of the largest queue, and none behind it.
+fn takes_last(alloc: Global) -> bool {
+    let Ok(mut queue) = SortQueue::new(alloc, 65_536, 1024) else {
+        return false;
+    };
     queue.insert(65_535, 1023);
     let last = Waiter {
         number: 65_535,
         cylinder: 1023,
     };
-    assert_eq!(rt; queue.take_head(), Some(last));
-    assert_eq!(rt; queue.take_head(), None);
-    Ok(())
+    queue.take_head() == Some(last) && queue.take_head().is_none()
+}
+
+#[test]
+fn largest_queue(rt: HostRuntime) {
+    assert!(rt; takes_last(rt.alloc()));
 }

@@ -4,30 +4,30 @@ use retry_offsets::Step;
 use transfer_engine::*;
 
 // How a segment ends, behind so many sectors that moved.
-#[derive(Clone, Copy, Debug, PartialEq, Eq)]
+#[derive(Clone, Copy)]
 enum End {
     Done,
     Marked(u32),
     Failed(u32),
 }
 
-// What follows: a transfer, nothing, or an error behind so many blocks.
-fn ended(transfer: Transfer, end: End, table: &BadTable) -> Result<Option<Transfer>, u32> {
+// The transfer that follows; None where the read is done, or has come to an error.
+fn following(transfer: Transfer, end: End, table: &BadTable) -> Option<Transfer> {
     let count = transfer.segment().count;
     match end {
         End::Done => match transfer.on_done() {
-            Next::Finished => Ok(None),
-            Next::More(continued) => Ok(Some(Transfer::Continued(continued))),
+            Next::More(continued) => Some(Transfer::Continued(continued)),
+            Next::Finished => None,
         },
         End::Marked(clean) if clean < count => match transfer.on_bad_sector(clean, Some(table)) {
-            Ok(forwarded) => Ok(Some(Transfer::Forwarded(forwarded))),
-            Err(unforwarded) => Err(unforwarded.done),
+            Ok(forwarded) => Some(Transfer::Forwarded(forwarded)),
+            Err(_) => None,
         },
         End::Failed(clean) if clean < count => match transfer.on_fault(clean) {
-            Ok((transfer, _)) => Ok(Some(transfer)),
-            Err(exhausted) => Err(exhausted.done),
+            Ok((transfer, _)) => Some(transfer),
+            Err(_) => None,
         },
-        End::Marked(_) | End::Failed(_) => Err(u32::MAX),
+        End::Marked(_) | End::Failed(_) => None,
     }
 }
 
@@ -37,71 +37,68 @@ const REST: Segment = Segment {
     count: 2,
 };
 
-// A read of blocks 999 to 1002 of an RP06: each segment with the failures at its first sector, and how it ends. Block
-// 1000 is listed and goes to the first replacement, which fails once; block 1001 then fails to the end.
-const SEGMENTS: [(Segment, u32, End); 4] = [
-    (
-        Segment {
-            block: 999,
-            skip: 0,
-            count: 4,
-        },
-        0,
-        End::Marked(1),
-    ),
-    (
-        Segment {
-            block: 340647,
-            skip: 1,
-            count: 1,
-        },
-        0,
-        End::Failed(0),
-    ),
-    (
-        Segment {
-            block: 340647,
-            skip: 1,
-            count: 1,
-        },
-        1,
-        End::Done,
-    ),
-    (REST, 0, End::Failed(0)),
+// A read of blocks 999 to 1002 of an RP06: block, skip and count of each segment, the failures at its first sector, and
+// how it ends. Block 1000 is listed and goes to the first replacement, which fails once; block 1001 then fails to the
+// end.
+static SEGMENTS: [((u32, u32, u32), u32, End); 4] = [
+    ((999, 0, 4), 0, End::Marked(1)),
+    ((340647, 1, 1), 0, End::Failed(0)),
+    ((340647, 1, 1), 1, End::Done),
+    ((1001, 2, 2), 0, End::Failed(0)),
 ];
 
-#[test]
-fn forwarded_and_then_retried_to_the_end(rt: HostRuntime) {
-    let mut table = empty_table(DriveKind::Rp06, 1);
-    let listed = Place {
-        cylinder: 2,
-        track: 7,
-        sector: 10,
-    };
-    assert!(rt; insert(&mut table, listed) == Ok(0));
+// Whether the rest is retried 26 times more, and the next failure ends the read behind two blocks.
+fn is_used_up(begun: Transfer) -> bool {
+    let mut transfer = begun;
+    for failures in 1..27 {
+        if transfer.segment() != REST || transfer.failures() != failures {
+            return false;
+        }
+        match transfer.on_fault(0) {
+            Ok((_, Step::GiveUp)) | Err(_) => return false,
+            Ok((next, _)) => transfer = next,
+        }
+    }
+    let is_rest = transfer.segment().count > 0;
+    is_rest && matches!(transfer.on_fault(0), Err(Exhausted { done: 2 }))
+}
+
+// Whether the segments follow one another with this table, and the rest is used up.
+fn follows(table: &BadTable) -> bool {
     let mut transfer = Transfer::Direct(begin(Job {
         kind: DriveKind::Rp06,
         first: 999,
         count: 4,
         write: false,
     }));
-    for (segment, failures, end) in SEGMENTS {
-        assert_eq!(rt; transfer.segment(), segment, "{end:?}");
-        assert_eq!(rt; transfer.done(), segment.skip);
-        assert_eq!(rt; transfer.failures(), failures, "{end:?}");
-        let Ok(Some(next)) = ended(transfer, end, &table) else {
-            panic!(rt; "ended early at {end:?}")
-        };
-        transfer = next;
+    for row in &SEGMENTS {
+        let ((block, skip, count), failures, end) = *row;
+        let segment = Segment { block, skip, count };
+        if transfer.segment() != segment
+            || transfer.done() != skip
+            || transfer.failures() != failures
+        {
+            return false;
+        }
+        match following(transfer, end, table) {
+            Some(next) => transfer = next,
+            None => return false,
+        }
     }
-    for failures in 1..27 {
-        assert_eq!(rt; transfer.segment(), REST);
-        assert_eq!(rt; transfer.failures(), failures);
-        let Ok((next, step)) = transfer.on_fault(0) else {
-            panic!(rt; "gave up after {failures} failures")
-        };
-        assert!(rt; step != Step::GiveUp);
-        transfer = next;
-    }
-    assert!(rt; matches!(ended(transfer, End::Failed(0), &table), Err(2)));
+    is_used_up(transfer)
+}
+
+fn is_forwarded() -> bool {
+    let mut table = empty_table(DriveKind::Rp06, 1);
+    let listed = Place {
+        cylinder: 2,
+        track: 7,
+        sector: 10,
+    };
+    insert(&mut table, listed) == Ok(0) && follows(&table)
+}
+
+#[test]
+fn forwarded_and_then_retried_to_the_end(rt: HostRuntime) {
+    assert!(rt; is_forwarded());
 }

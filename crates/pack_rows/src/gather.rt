@@ -1,81 +1,26 @@
 use mass_gather::*;
 use mass_outside::mem_streams::MemSink;
 use outside_traits::traits::{Sink, SinkFailed};
-use std::alloc::Global;
-use std::test::Fail;
+use std::alloc::{AllocError, Global};
 
 /// Pieces of these sizes are put to a sink with so much room, whose call of a number fails: whether all went well, and how
 /// many bytes came.
-struct Row {
-    sizes: [usize; 4],
-    room: usize,
-    fail: u64,
-    well: bool,
-    came: usize,
-}
+type Row = ([usize; 4], usize, u64, bool, usize);
 
-const ROWS: [Row; 8] = [
+static ROWS: [Row; 8] = [
     // All of it is kept up to the end: one call.
-    Row {
-        sizes: [5, 0, 7, 16372],
-        room: 16384,
-        fail: 2,
-        well: true,
-        came: 16384,
-    },
+    ([5, 0, 7, 16372], 16384, 2, true, 16384),
     // One byte more, and the first three are passed on before.
-    Row {
-        sizes: [5, 0, 7, 16373],
-        room: 20000,
-        fail: 2,
-        well: false,
-        came: 12,
-    },
-    Row {
-        sizes: [5, 0, 7, 16373],
-        room: 20000,
-        fail: 3,
-        well: true,
-        came: 16385,
-    },
+    ([5, 0, 7, 16373], 20000, 2, false, 12),
+    ([5, 0, 7, 16373], 20000, 3, true, 16385),
     // What is longer than the room of the writer is passed on at once, behind what was kept.
-    Row {
-        sizes: [3, 16385, 4, 2],
-        room: 20000,
-        fail: 4,
-        well: true,
-        came: 16394,
-    },
-    Row {
-        sizes: [3, 16385, 4, 2],
-        room: 20000,
-        fail: 2,
-        well: false,
-        came: 3,
-    },
-    Row {
-        sizes: [3, 16385, 4, 2],
-        room: 20000,
-        fail: 1,
-        well: false,
-        came: 0,
-    },
+    ([3, 16385, 4, 2], 20000, 4, true, 16394),
+    ([3, 16385, 4, 2], 20000, 2, false, 3),
+    ([3, 16385, 4, 2], 20000, 1, false, 0),
     // The sink's room ends.
-    Row {
-        sizes: [3, 16385, 4, 2],
-        room: 16390,
-        fail: 0,
-        well: false,
-        came: 16388,
-    },
+    ([3, 16385, 4, 2], 16390, 0, false, 16388),
     // Nothing is put: no call.
-    Row {
-        sizes: [0, 0, 0, 0],
-        room: 0,
-        fail: 1,
-        well: true,
-        came: 0,
-    },
+    ([0, 0, 0, 0], 0, 1, true, 0),
 ];
 
 /// Puts the pieces of a text, one after another, and passes on the rest.
@@ -95,7 +40,7 @@ fn put_pieces<T: Sink>(
 }
 
 /// The text whose pieces are put.
-fn text(alloc: Global) -> Result<Vec<u8>, Fail> {
+fn text(alloc: Global) -> Result<Vec<u8>, AllocError> {
     let mut text = Vec::new(alloc);
     for i in 0..20000u32 {
         text.push((i % 251) as u8)?;
@@ -103,34 +48,44 @@ fn text(alloc: Global) -> Result<Vec<u8>, Fail> {
     Ok(text)
 }
 
-/// What comes of the pieces of a row that it does not say; "" if nothing does.
-fn otherwise(gather: &mut Gather, sink: &mut MemSink, text: &[u8], row: &Row) -> &'static str {
-    let well = put_pieces(gather, &row.sizes, text, sink).is_ok();
-    if well != row.well {
-        return "the answer";
-    }
-    if sink.taken() != &text[..row.came.min(text.len())] {
-        return "the bytes";
-    }
-    if !gather.is_empty() || gather.len() != 0 {
-        return "what is kept";
-    }
-    ""
+/// Whether the pieces of a row come to what it says, and nothing is kept.
+fn comes(gather: &mut Gather, sink: &mut MemSink, text: &[u8], row: &Row) -> bool {
+    let (sizes, _, _, well, came) = row;
+    put_pieces(gather, sizes, text, sink).is_ok() == *well
+        && sink.taken() == &text[..(*came).min(text.len())]
+        && gather.is_empty()
+        && gather.len() == 0
 }
 
 /// The same of a new sink and a new gather.
-fn row_otherwise(alloc: Global, text: &[u8], row: &Row) -> Result<&'static str, Fail> {
-    let mut gather = Gather::new(alloc, 16384)?;
-    let mut sink = MemSink::new(alloc, row.room, Vec::from_slice(alloc, &[row.fail])?)?;
-    Ok(otherwise(&mut gather, &mut sink, text, row))
+fn comes_anew(alloc: Global, text: &[u8], row: &Row) -> bool {
+    let Ok(mut gather) = Gather::new(alloc, 16384) else {
+        return false;
+    };
+    let Ok(fail) = Vec::from_slice(alloc, &[row.2]) else {
+        return false;
+    };
+    match MemSink::new(alloc, row.1, fail) {
+        Ok(mut sink) => comes(&mut gather, &mut sink, text, row),
+        Err(_) => false,
+    }
+}
+
+/// The number of the first row that does not hold, or theirs; the first where there is no memory.
+fn first_wrong(alloc: Global) -> usize {
+    let Ok(text) = text(alloc) else {
+        return 0;
+    };
+    for (i, row) in ROWS.iter().enumerate() {
+        if !comes_anew(alloc, text.as_slice(), row) {
+            return i;
+        }
+    }
+    ROWS.len()
 }
 
 #[test]
-fn pieces(rt: HostRuntime) -> Result<(), Fail> {
-    let text = text(rt.alloc())?;
-    for row in &ROWS {
-        let word = row_otherwise(rt.alloc(), text.as_slice(), row)?;
-        assert_eq!(rt; word, "", "room {}, call {}", row.room, row.fail);
-    }
-    Ok(())
+fn pieces(rt: HostRuntime) {
+    let wrong = first_wrong(rt.alloc());
+    assert!(rt; wrong == ROWS.len(), "{wrong}");
 }

@@ -1,41 +1,58 @@
 ghost use Rattle.std.specs.Prelude.{◌≤◌, length};
 
+use NumberFault::{Digit, Empty, Large};
+use Radix::{Decimal, Hex, Octal};
 use mass_text::*;
+
+const ALL: u64 = u64::MAX;
+
+// What a text is as a number of this radix, up to the largest that is wanted.
+type Number = (&'static str, Radix, u64, Result<u64, NumberFault>);
+
+static NUMBERS: [Number; 14] = [
+    ("", Decimal, 9, Err(Empty)),
+    ("1x", Decimal, 9, Err(Digit(1))),
+    ("10", Decimal, 9, Err(Large)),
+    ("9", Decimal, 9, Ok(9)),
+    ("007", Decimal, 9, Ok(7)),
+    ("-1", Decimal, 9, Err(Digit(0))),
+    ("+1", Decimal, 9, Err(Digit(0))),
+    ("18446744073709551615", Decimal, ALL, Ok(ALL)),
+    ("18446744073709551616", Decimal, ALL, Err(Large)),
+    (
+        "99999999999999999999999999999x",
+        Decimal,
+        ALL,
+        Err(Digit(29)),
+    ),
+    ("1778", Octal, ALL, Err(Digit(3))),
+    ("20024", Octal, ALL, Ok(8212)),
+    ("fF0", Hex, ALL, Ok(4080)),
+    ("g", Hex, ALL, Err(Digit(0))),
+];
+
+fn is_number(row: &Number) -> bool {
+    number(row.0.as_bytes(), row.1, row.2) == row.3
+}
+
+static FIELDS: [&str; 4] = ["read", "007", "c", "5"];
+
+fn has_fields() -> bool {
+    let mut fields = Fields::new(b"\t read 007  c\t5 ");
+    for wanted in &FIELDS {
+        if fields.next() != Some(wanted.as_bytes()) {
+            return false;
+        }
+    }
+    fields.next().is_none()
+}
 
 #[test]
 fn numbers_and_fields(rt: HostRuntime) {
-    use NumberFault::{Digit, Empty, Large};
-    use Radix::{Decimal, Hex, Octal};
-    let all = u64::MAX;
-    for (text, radix, max, wanted) in [
-        ("", Decimal, 9, Err(Empty)),
-        ("1x", Decimal, 9, Err(Digit(1))),
-        ("10", Decimal, 9, Err(Large)),
-        ("9", Decimal, 9, Ok(9)),
-        ("007", Decimal, 9, Ok(7)),
-        ("-1", Decimal, 9, Err(Digit(0))),
-        ("+1", Decimal, 9, Err(Digit(0))),
-        ("18446744073709551615", Decimal, all, Ok(all)),
-        ("18446744073709551616", Decimal, all, Err(Large)),
-        (
-            "99999999999999999999999999999x",
-            Decimal,
-            all,
-            Err(Digit(29)),
-        ),
-        ("1778", Octal, all, Err(Digit(3))),
-        ("20024", Octal, all, Ok(8212)),
-        ("fF0", Hex, all, Ok(4080)),
-        ("g", Hex, all, Err(Digit(0))),
-    ] {
-        assert!(rt; number(text.as_bytes(), radix, max) == wanted, "{text}");
+    for row in &NUMBERS {
+        assert!(rt; is_number(row), "{}", row.0);
     }
-
-    let mut fields = Fields::new(b"\t read 007  c\t5 ");
-    for wanted in ["read", "007", "c", "5"] {
-        assert!(rt; fields.next() == Some(wanted.as_bytes()), "{wanted}");
-    }
-    assert!(rt; fields.next().is_none());
+    assert!(rt; has_fields());
 }
 
 // A number and a block, as a line of an answer has them.
@@ -61,40 +78,46 @@ fn front_of(bytes: &[u8]) -> LineBuf
     line
 }
 
+static LINES: [(u64, Radix, &str); 4] = [
+    (0, Decimal, "blk 0 fill a5"),
+    (340669, Decimal, "blk 340669 fill a5"),
+    (1025, Octal, "blk 2001 fill a5"),
+    (48879, Hex, "blk beef fill a5"),
+];
+
+fn is_line(row: &(u64, Radix, &str)) -> bool {
+    line_of(row.0, row.1, &[0xa5; 512]).as_bytes() == row.2.as_bytes()
+}
+
+static FRONTS: [(&[u8], &str); 4] = [
+    (b"\x07", "fill 07"),
+    (b"\xff\xff\xff", "fill ff"),
+    (b"\x00\x0a\xff", "hex 000aff"),
+    (b"\x00\x00\x01", "hex 000001"),
+];
+
+// Whether the front of a block is told so; false of one with no byte, or too many.
+fn is_front(row: &(&[u8], &str)) -> bool {
+    let (bytes, wanted) = *row;
+    !bytes.is_empty() && bytes.len() <= 512 && front_of(bytes).as_bytes() == wanted.as_bytes()
+}
+
+// Whether all digits of a block are told.
+fn is_whole() -> bool {
+    let mut bytes = [0; 512];
+    bytes[..5].copy_from_slice(&[0x01, 0x0a, 0x20, 0x40, 0x01]);
+    let mut wanted = [b'0'; 1034];
+    wanted[..20].copy_from_slice(b"blk 0 hex 010a204001");
+    line_of(0, Decimal, &bytes).as_bytes() == wanted.as_slice()
+}
+
 #[test]
 fn lines(rt: HostRuntime) {
-    for (value, radix, wanted) in [
-        (0, Radix::Decimal, "blk 0 fill a5"),
-        (340669, Radix::Decimal, "blk 340669 fill a5"),
-        (1025, Radix::Octal, "blk 2001 fill a5"),
-        (48879, Radix::Hex, "blk beef fill a5"),
-    ] {
-        assert!(rt;
-            line_of(value, radix, &[0xa5; 512]).as_bytes() == wanted.as_bytes(),
-            "{wanted}"
-        );
+    for row in &LINES {
+        assert!(rt; is_line(row), "{}", row.2);
     }
-
-    for (bytes, wanted) in [
-        (b"\x07".as_slice(), "fill 07"),
-        (b"\xff\xff\xff".as_slice(), "fill ff"),
-        (b"\x00\x0a\xff".as_slice(), "hex 000aff"),
-        (b"\x00\x00\x01".as_slice(), "hex 000001"),
-    ] {
-        if !bytes.is_empty() && bytes.len() <= 512 {
-            assert!(rt; front_of(bytes).as_bytes() == wanted.as_bytes(), "{wanted}");
-        }
+    for row in &FRONTS {
+        assert!(rt; is_front(row), "{}", row.1);
     }
-
-    let mut bytes = [0; 512];
-    bytes[0] = 0x01;
-    bytes[1] = 0x0a;
-    bytes[2] = 0x20;
-    bytes[3] = 0x40;
-    bytes[4] = 0x01;
-    let line = line_of(0, Radix::Decimal, &bytes);
-    let text = line.as_bytes();
-    assert!(rt; text.len() == 1034);
-    assert!(rt; &text[..20] == b"blk 0 hex 010a204001".as_slice());
-    assert!(rt; text[20..].iter().all(|digit| *digit == b'0'));
+    assert!(rt; is_whole());
 }

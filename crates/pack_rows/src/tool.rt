@@ -1,11 +1,11 @@
+use crate::outside::failing;
 use bad144_tool::{AddWay, ToolFault, add, fresh, list};
 use mass_outside::mem_packs::{FailCall, MemPacks, PackOp};
 use mass_outside::mem_streams::MemSink;
 use mass_outside::slots::Image;
-use outside_traits::traits::{Packs, StoreFailed};
+use outside_traits::traits::{NoMemory, Packs, StoreFailed};
 use pack_geometry::{DriveKind, replacement};
-use std::alloc::Global;
-use std::test::Fail;
+use std::alloc::{AllocError, Global};
 
 const WAY: AddWay = AddWay {
     copy: false,
@@ -13,20 +13,19 @@ const WAY: AddWay = AddWay {
 };
 
 /// Unit 0 with an empty image, of which no copy of a table is there yet.
-fn packs(alloc: Global, fail: Vec<FailCall>) -> Result<MemPacks, Fail> {
-    let mut images = Vec::new(alloc);
-    images.push(Image {
+fn packs(alloc: Global, fail: Vec<FailCall>) -> Result<MemPacks, NoMemory> {
+    let image = Image {
         unit: 0,
         bytes: Vec::new(alloc),
         marks: Vec::new(alloc),
         blocks: 131_680,
-    })?;
-    Ok(MemPacks::new(alloc, images, fail)?)
+    };
+    MemPacks::new(alloc, Vec::from_array(alloc, [image])?, fail)
 }
 
 /// How many of replacements 1 to 10 of the RM03 hold what the one before held: 1 for replacement 0, and so on.
-fn moved(packs: &mut MemPacks) -> Result<u32, Fail> {
-    let mut count = 0u32;
+fn moved(packs: &mut MemPacks) -> Result<u64, StoreFailed> {
+    let mut count = 0u64;
     let mut bytes = [0u8; 512];
     for j in 0..10u32 {
         packs.read(0, replacement(DriveKind::Rm03, j + 1), &mut bytes)?;
@@ -38,62 +37,68 @@ fn moved(packs: &mut MemPacks) -> Result<u32, Fail> {
 }
 
 /// Makes the table, with ten entries, and fills the replacements of these and one more.
-fn is_made(packs: &mut MemPacks) -> Result<bool, Fail> {
+fn is_made(packs: &mut MemPacks) -> bool {
     if fresh(packs, 0, DriveKind::Rm03, 7).is_err() {
-        return Ok(false);
+        return false;
     }
     for block in 0..10u32 {
         if add(packs, 0, DriveKind::Rm03, 1000 + block, WAY).is_err() {
-            return Ok(false);
+            return false;
         }
     }
     for j in 0..11u32 {
-        packs.write(0, replacement(DriveKind::Rm03, j), &[j as u8 + 1; 512])?;
+        let bytes = [j as u8 + 1; 512];
+        if packs
+            .write(0, replacement(DriveKind::Rm03, j), &bytes)
+            .is_err()
+        {
+            return false;
+        }
     }
-    Ok(true)
+    true
 }
 
-/// What is otherwise where write `n` of those that add the block fails; "" where nothing is.
-fn turn(packs: &mut MemPacks, n: u64) -> Result<&'static str, Fail> {
-    if !is_made(packs)? {
-        return Ok("the table");
-    }
-    if add(packs, 0, DriveKind::Rm03, 999, WAY) != Err(ToolFault::Store) {
-        return Ok("the answer");
-    }
-    if moved(packs)? != n.saturating_sub(1).min(10) as u32 {
-        return Ok("the moves");
-    }
-    if packs.marked(0, 999)? {
-        return Ok("the mark");
-    }
-    Ok("")
+/// Whether all is so where write `n` of those that add the block fails.
+fn is_stopped(packs: &mut MemPacks, n: u64) -> bool {
+    is_made(packs)
+        && add(packs, 0, DriveKind::Rm03, 999, WAY) == Err(ToolFault::Store)
+        && moved(packs) == Ok(n.saturating_sub(1).min(10))
+        && packs.marked(0, 999) == Ok(false)
 }
 
 /// The writes that fail: each turn makes the table by 5 and 10 times 6 writes, fills 11 replacements, and then adds the block.
-fn each_write(alloc: Global) -> Result<Vec<FailCall>, Fail> {
+fn each_write(alloc: Global) -> Result<Vec<FailCall>, AllocError> {
     let mut fail = Vec::new(alloc);
     let mut number = 0u64;
     for n in 1..=16u64 {
         number = number.saturating_add(76 + n);
-        fail.push(FailCall {
-            op: PackOp::Write,
-            number,
-        })?;
+        fail.push(failing(PackOp::Write, number))?;
     }
     Ok(fail)
+}
+
+/// The first write where it is not so, or 17; 0 where there is no memory.
+fn first_wrong(alloc: Global) -> u64 {
+    let Ok(fail) = each_write(alloc) else {
+        return 0;
+    };
+    let Ok(mut packs) = packs(alloc, fail) else {
+        return 0;
+    };
+    for n in 1..=16u64 {
+        if !is_stopped(&mut packs, n) {
+            return n;
+        }
+    }
+    17
 }
 
 /// A table of ten entries, to which a block below them is added while each write fails in turn: the moves up to that
 /// write were done, from the last replacement down, and the block is not marked.
 #[test]
-fn each_write_fails_in_turn(rt: HostRuntime) -> Result<(), Fail> {
-    let mut packs = packs(rt.alloc(), each_write(rt.alloc())?)?;
-    for n in 1..=16u64 {
-        let word = turn(&mut packs, n)?;
-        assert_eq!(rt; word, "", "write {n}");
-    }
-    Ok(())
+fn each_write_fails_in_turn(rt: HostRuntime) {
+    let wrong = first_wrong(rt.alloc());
+    assert!(rt; wrong == 17, "{wrong}");
 }
 
 /// Whether the lists are printed before and behind a table with one entry.
@@ -107,14 +112,21 @@ fn is_listed(packs: &mut MemPacks, out: &mut MemSink) -> bool {
             == b"no table\nserial 7 entries 1\nentry 0 cylinder 6 track 1 sector 8 block 1000\n".as_slice()
 }
 
+/// The same of new packs and a new sink.
+fn is_listed_anew(alloc: Global) -> bool {
+    let Ok(mut packs) = packs(alloc, Vec::new(alloc)) else {
+        return false;
+    };
+    match MemSink::new(alloc, 200, Vec::new(alloc)) {
+        Ok(mut out) => is_listed(&mut packs, &mut out),
+        Err(_) => false,
+    }
+}
+
 /// The list of a pack's table, and of a pack whose image ends before its copies.
 #[test]
-fn lists(rt: HostRuntime) -> Result<(), Fail> {
-    let mut packs = packs(rt.alloc(), Vec::new(rt.alloc()))?;
-    let mut out = MemSink::new(rt.alloc(), 200, Vec::new(rt.alloc()))?;
-    let is_so = is_listed(&mut packs, &mut out);
-    assert!(rt; is_so);
-    Ok(())
+fn lists(rt: HostRuntime) {
+    assert!(rt; is_listed_anew(rt.alloc()));
 }
 
 /// Packs of which few blocks are written: these are kept with their numbers, and all others are zeros. They don't fail,
@@ -180,6 +192,26 @@ impl Packs for Sparse {
     }
 }
 
+/// Whether these bytes are the table whose entry 0 names block 1000.
+fn names_1000(bytes: &[u8; 512]) -> bool {
+    bytes[0] == 3 && bytes[8..12] == [0x01, 0x00, 0x08, 0x0c]
+}
+
+/// Whether a table is made in these packs, and the block is added to it.
+fn is_added(packs: &mut Sparse) -> bool {
+    let is_made = fresh(packs, 0, DriveKind::Rm05, 3).is_ok()
+        && packs.blocks[..5] == [500_352, 500_354, 500_356, 500_358, 500_360];
+    if !is_made || add(packs, 0, DriveKind::Rm05, 1000, WAY) != Ok(0) {
+        return false;
+    }
+    for k in 0..5usize {
+        if !names_1000(&packs.bytes[k]) {
+            return false;
+        }
+    }
+    packs.used == 6 && packs.blocks[5] == 500_351 && packs.marked == 1000
+}
+
 /// An RM05's table lies in its last track, and entry 0 names block 1000 by its cylinder, track and sector.
 #[test]
 fn rm05_table(rt: HostRuntime) {
@@ -189,12 +221,6 @@ fn rm05_table(rt: HostRuntime) {
         used: 0,
         marked: 0,
     };
-    assert!(rt; fresh(&mut packs, 0, DriveKind::Rm05, 3).is_ok());
-    assert!(rt; packs.blocks[..5] == [500_352, 500_354, 500_356, 500_358, 500_360]);
-    assert!(rt; add(&mut packs, 0, DriveKind::Rm05, 1000, WAY) == Ok(0));
-    for k in 0..5usize {
-        let bytes = &packs.bytes[k];
-        assert!(rt; bytes[0] == 3 && bytes[8..12] == [0x01, 0x00, 0x08, 0x0c]);
-    }
-    assert!(rt; packs.used == 6 && packs.blocks[5] == 500_351 && packs.marked == 1000);
+    let is_so = is_added(&mut packs);
+    assert!(rt; is_so);
 }

@@ -1,11 +1,9 @@
-use crate::outside::{Call, first_other};
-use mass_outside::mem_packs::{FailCall, MemPacks, PackOp};
-use mass_outside::slots::Image;
-use outside_traits::traits::{Packs, StoreFailed};
+use crate::outside::{Call, failing, first_other, images};
+use mass_outside::mem_packs::{MemPacks, PackOp};
+use outside_traits::traits::{NoMemory, Packs, StoreFailed};
 use outside_traits::wide_packs::WidePacks;
 use pack_windows::window_packs::WindowPacks;
 use std::alloc::Global;
-use std::test::Fail;
 
 /// Packs in memory whose wide calls read block for block, and mark for mark.
 #[derive(Drop)]
@@ -68,7 +66,7 @@ impl WidePacks for BlockForBlock {
 
 /// What calls answer on packs in memory. Unit 3 has an image of 700 bytes 255, marks on blocks 1 and 9 and room for 40
 /// blocks; the other units have nothing. The 3rd write and the 2nd mark that is set fail.
-const CALLS: [(u8, Call, Option<u64>); 33] = [
+static CALLS: [(u8, Call, Option<u64>); 33] = [
     (3, Call::Read(0), Some(0xFFFF)),
     (3, Call::Read(1), Some(0xFF00)),
     (3, Call::Read(7), Some(0)),
@@ -104,46 +102,41 @@ const CALLS: [(u8, Call, Option<u64>); 33] = [
     (4, Call::Marked(1), Some(0)),
 ];
 
-/// Packs for these calls, of which further calls fail.
-fn packs(alloc: Global, fail: &[FailCall]) -> Result<MemPacks, Fail> {
-    let mut images = Vec::new(alloc);
-    images.push(Image {
-        unit: 3,
-        bytes: Vec::from_slice(alloc, &[0xFF; 700])?,
-        marks: Vec::from_slice(alloc, &[0, 1, 0, 0, 0, 0, 0, 0, 0, 1])?,
-        blocks: 40,
-    })?;
-    let mut all = Vec::from_slice(alloc, fail)?;
-    all.push(FailCall {
-        op: PackOp::Write,
-        number: 3,
-    })?;
-    all.push(FailCall {
-        op: PackOp::SetMark,
-        number: 2,
-    })?;
-    Ok(MemPacks::new(alloc, images, all)?)
+/// Packs for these calls, of which a read fails by its number too, or none where that is 0.
+fn packs(alloc: Global, read: u64) -> Result<MemPacks, NoMemory> {
+    let fails = [
+        failing(PackOp::Write, 3),
+        failing(PackOp::SetMark, 2),
+        failing(PackOp::Read, read),
+    ];
+    let fail = Vec::from_slice(alloc, &fails)?;
+    let marks = [0, 1, 0, 0, 0, 0, 0, 0, 0, 1];
+    MemPacks::new(alloc, images(alloc, &marks, 40)?, fail)
+}
+
+/// The first call that answers something else, or how many they are; the first where there is no memory.
+fn other_alone(alloc: Global) -> usize {
+    match packs(alloc, 0) {
+        Ok(mut packs) => first_other(&mut packs, &CALLS),
+        Err(_) => 0,
+    }
+}
+
+/// The same behind windows.
+fn other_behind(alloc: Global, read: u64) -> usize {
+    let Ok(packs) = packs(alloc, read) else {
+        return 0;
+    };
+    match WindowPacks::new(alloc, BlockForBlock { packs }) {
+        Ok(mut packs) => first_other(&mut packs, &CALLS),
+        Err(_) => 0,
+    }
 }
 
 #[test]
-fn packs_behind_windows(rt: HostRuntime) -> Result<(), Fail> {
-    let alloc = rt.alloc();
-    assert_eq!(rt; first_other(&mut packs(alloc, &[])?, &CALLS), CALLS.len());
+fn packs_behind_windows(rt: HostRuntime) {
+    assert!(rt; other_alone(rt.alloc()) == CALLS.len());
     // The first and the second read ahead fail, and the block is read alone.
-    for number in [4u64, 11] {
-        let fail = FailCall {
-            op: PackOp::Read,
-            number,
-        };
-        let inner = BlockForBlock {
-            packs: packs(alloc, &[fail])?,
-        };
-        let mut packs = WindowPacks::new(alloc, inner)?;
-        assert_eq!(rt;
-            first_other(&mut packs, &CALLS),
-            CALLS.len(),
-            "read {number}"
-        );
-    }
-    Ok(())
+    assert!(rt; other_behind(rt.alloc(), 4) == CALLS.len());
+    assert!(rt; other_behind(rt.alloc(), 11) == CALLS.len());
 }
