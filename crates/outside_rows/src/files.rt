@@ -5,8 +5,8 @@ use mass_outside::files::FilePacks;
 use mass_outside::traits::{Packs, StoreFailed};
 use mass_outside::whole::write_all;
 use pack_windows::window_packs::WindowPacks;
-use std::fs;
 use std::test::Fail;
+use std::{fs, io};
 
 /// A call on packs.
 #[derive(Clone, Copy, Debug)]
@@ -124,76 +124,102 @@ fn first_other<P: Packs>(packs: &mut P, calls: &[(u8, Call, Option<u64>)]) -> us
     calls.len()
 }
 
-#[test]
-fn packs_in_files(rt: HostRuntime) -> Result<(), Fail> {
-    let alloc = rt.alloc();
-    fs::write(&rt, "hp28.dsk", &[0xFF; 700])?;
-    fs::write(&rt, "hp28.bad", &[0, 7, 1])?;
-    fs::create_dir(&rt, "hp27.dsk")?;
-    for name in ["hp25.dsk", "hp25.bad"] {
-        fs::write(&rt, name, b"")?;
+/// Writes the files of those units.
+fn make_files(rt: &HostRuntime) -> io::Result<()> {
+    fs::write(rt, "hp28.dsk", &[0xFF; 700])?;
+    fs::write(rt, "hp28.bad", &[0, 7, 1])?;
+    fs::create_dir(rt, "hp27.dsk")?;
+    fs::write(rt, "hp25.dsk", b"")?;
+    fs::write(rt, "hp25.bad", b"")
+}
+
+/// Whether a file holds these bytes.
+fn holds(rt: &HostRuntime, name: &str, bytes: &[u8]) -> io::Result<bool> {
+    Ok(fs::read(rt, name)?.as_slice() == bytes)
+}
+
+/// Whether one of these files is there.
+fn has_one_of(rt: &HostRuntime, names: &[&str]) -> io::Result<bool> {
+    for name in names {
+        if fs::exists(rt, name)? {
+            return Ok(true);
+        }
     }
-    assert_eq!(rt; first_other(&mut FilePacks::new(&rt), &FILES), FILES.len());
-    let guarded = Guarded {
-        rt: &rt,
-        reads: true,
-        device: None,
-    };
-    assert_eq!(rt;
-        first_other(&mut FilePacks::new((guarded, alloc)), &READ_ONLY),
-        READ_ONLY.len()
-    );
-    let guarded = Guarded {
-        rt: &rt,
-        reads: false,
-        device: None,
-    };
-    assert_eq!(rt;
-        first_other(&mut FilePacks::new((guarded, alloc)), &SHUT),
-        SHUT.len()
-    );
-    assert_eq!(rt;
-        fs::read(&rt, "hp28.bad")?.as_slice(),
-        [0u8, 0, 1, 0, 1].as_slice()
-    );
-    for name in ["hp29.dsk", "hp29.bad", "hp27.bad"] {
-        assert!(rt; !fs::exists(&rt, name)?, "{name} is there");
-    }
-    fs::remove_dir(&rt, "hp27.dsk")?;
-    for name in [
-        "hp28.dsk", "hp28.bad", "hp26.dsk", "hp26.bad", "hp25.dsk", "hp25.bad",
-    ] {
-        fs::remove_file(&rt, name)?;
+    Ok(false)
+}
+
+fn remove_files(rt: &HostRuntime, names: &[&str]) -> io::Result<()> {
+    for name in names {
+        fs::remove_file(rt, name)?;
     }
     Ok(())
+}
+
+/// The first call of a list that answers something else where files may be opened for reading alone, or not at all, or its length.
+fn first_guarded(rt: &HostRuntime, reads: bool, calls: &[(u8, Call, Option<u64>)]) -> usize {
+    let alloc = rt.alloc();
+    first_other(&mut FilePacks::new((Guarded { rt, reads }, alloc)), calls)
+}
+
+#[test]
+fn packs_in_files(rt: HostRuntime) -> Result<(), Fail> {
+    make_files(&rt)?;
+    let firsts = [
+        first_other(&mut FilePacks::new(&rt), &FILES),
+        first_guarded(&rt, true, &READ_ONLY),
+        first_guarded(&rt, false, &SHUT),
+    ];
+    let is_marked = holds(&rt, "hp28.bad", &[0, 0, 1, 0, 1])?;
+    let is_more = has_one_of(&rt, &["hp29.dsk", "hp29.bad", "hp27.bad"])?;
+    fs::remove_dir(&rt, "hp27.dsk")?;
+    remove_files(
+        &rt,
+        &[
+            "hp28.dsk", "hp28.bad", "hp26.dsk", "hp26.bad", "hp25.dsk", "hp25.bad",
+        ],
+    )?;
+    assert!(rt;
+        firsts == [FILES.len(), READ_ONLY.len(), SHUT.len()],
+        "{firsts:?}"
+    );
+    assert!(rt; is_marked && !is_more);
+    Ok(())
+}
+
+/// Whether packs find no file of unit 19 where it was missing before, but make one and open it where they write, which stays open.
+fn stays_missing<P: Packs>(rt: &HostRuntime, packs: &mut P) -> io::Result<bool> {
+    let before = packs.length(19) == Ok(0);
+    fs::write(rt, "hp19.dsk", &[1; 512])?;
+    let made = packs.length(19) == Ok(0) && packs.write(19, 1, &[2; 512]).is_ok();
+    let opened = packs.length(19) == Ok(1024);
+    fs::remove_file(rt, "hp19.dsk")?;
+    Ok(before && made && opened && packs.length(19) == Ok(1024))
 }
 
 /// A file that is made behind our back is out of scope; it is not found where it was missing before.
 #[test]
 fn missing_until_written(rt: HostRuntime) -> Result<(), Fail> {
-    let mut packs = FilePacks::new(&rt);
-    assert!(rt; packs.length(19) == Ok(0));
-    fs::write(&rt, "hp19.dsk", &[1; 512])?;
-    assert!(rt; packs.length(19) == Ok(0), "it was missing");
-    assert!(rt; packs.write(19, 1, &[2; 512]).is_ok());
-    assert!(rt; packs.length(19) == Ok(1024), "it is opened to be written");
-    fs::remove_file(&rt, "hp19.dsk")?;
-    assert!(rt; packs.length(19) == Ok(1024), "it stays open");
+    let answer = stays_missing(&rt, &mut FilePacks::new(&rt));
+    assert!(rt; answer?);
     Ok(())
+}
+
+/// Whether a sink takes two lines.
+fn takes_lines(rt: &HostRuntime) -> bool {
+    let mut file = FileSink::new(rt, "hp.trace");
+    write_all(&mut file, b"idle 1\n").is_ok() && write_all(&mut file, b"idle 2\n").is_ok()
 }
 
 #[test]
 fn file_sink(rt: HostRuntime) -> Result<(), Fail> {
     fs::write(&rt, "hp.trace", b"an older and longer text")?;
-    let mut file = FileSink::new(&rt, "hp.trace");
-    write_all(&mut file, b"idle 1\n")?;
-    write_all(&mut file, b"idle 2\n")?;
-    let text = fs::read_to_string(&rt, "hp.trace")?;
-    assert_eq!(rt; text.as_str(), "idle 1\nidle 2\n");
+    let is_taken = takes_lines(&rt);
+    let is_made = holds(&rt, "hp.trace", b"idle 1\nidle 2\n")?;
     fs::remove_file(&rt, "hp.trace")?;
     fs::create_dir(&rt, "hp.trace")?;
-    assert!(rt; write_all(&mut FileSink::new(&rt, "hp.trace"), b"idle 1\n").is_err());
+    let is_beside = takes_lines(&rt);
     fs::remove_dir(&rt, "hp.trace")?;
+    assert!(rt; is_taken && is_made && !is_beside);
     Ok(())
 }
 
@@ -216,20 +242,31 @@ const AHEAD: [(u8, Call, Option<u64>); 14] = [
     (23, Call::Read(3), Some(0)),
 ];
 
+/// What they answer afterwards on other packs over the same files.
+const AGAIN: [(u8, Call, Option<u64>); 3] = [
+    (24, Call::Read(9), Some(0x0505)),
+    (24, Call::Marked(3), Some(1)),
+    (23, Call::Read(70), Some(0x0606)),
+];
+
+/// The first call of each of the two lists that answers something else, or its length.
+fn first_behind(rt: &HostRuntime) -> Result<[usize; 2], Fail> {
+    let mut packs = WindowPacks::new(rt.alloc(), FilePacks::new(rt))?;
+    let first = first_other(&mut packs, &AHEAD);
+    let mut again = WindowPacks::new(rt.alloc(), FilePacks::new(rt))?;
+    Ok([first, first_other(&mut again, &AGAIN)])
+}
+
 #[test]
 fn files_behind_windows(rt: HostRuntime) -> Result<(), Fail> {
     fs::write(&rt, "hp24.dsk", &[0xFF; 700])?;
     fs::write(&rt, "hp24.bad", &[0, 7, 1])?;
-    let mut packs = WindowPacks::new(rt.alloc(), FilePacks::new(&rt))?;
-    assert_eq!(rt; first_other(&mut packs, &AHEAD), AHEAD.len());
-    // Other packs over the same files find what was written.
-    let mut again = WindowPacks::new(rt.alloc(), FilePacks::new(&rt))?;
-    assert!(rt; answer(&mut again, 24, Call::Read(9)).ok() == Some(0x0505));
-    assert!(rt; answer(&mut again, 24, Call::Marked(3)).ok() == Some(1));
-    assert!(rt; answer(&mut again, 23, Call::Read(70)).ok() == Some(0x0606));
-    assert!(rt; !fs::exists(&rt, "hp23.bad")?);
-    for name in ["hp23.dsk", "hp24.dsk", "hp24.bad"] {
-        fs::remove_file(&rt, name)?;
-    }
+    let firsts = first_behind(&rt)?;
+    let is_more = has_one_of(&rt, &["hp23.bad"])?;
+    remove_files(&rt, &["hp23.dsk", "hp24.dsk", "hp24.bad"])?;
+    assert!(rt;
+        firsts == [AHEAD.len(), AGAIN.len()] && !is_more,
+        "{firsts:?}"
+    );
     Ok(())
 }
