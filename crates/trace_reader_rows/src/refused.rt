@@ -19,10 +19,12 @@ pub(crate) fn script_of(alloc: Global, text: &str) -> Option<script_reader::Scri
     }
 }
 
-// Why a trace is refused beside a script.
-fn fault_of(alloc: Global, script: &str, trace: &str) -> Option<TraceFault> {
-    let script = script_of(alloc, script)?;
-    read_trace(alloc, trace.as_bytes(), &script).err()
+// Whether a trace is so refused beside a script.
+fn is_refused(alloc: Global, script: &str, trace: &str, line: u64, kind: TraceKind) -> bool {
+    let Some(script) = script_of(alloc, script) else {
+        return false;
+    };
+    read_trace(alloc, trace.as_bytes(), &script).err() == Some(TraceFault::Refused { line, kind })
 }
 
 // Each kind of refusal, with the first faulty line, and each two of its neighbours in the order of the checks.
@@ -87,12 +89,8 @@ static REFUSED: [(&str, &str, u64, TraceKind); 40] = [
 #[test]
 fn first_faults(rt: HostRuntime) {
     for (script, trace, line, kind) in &REFUSED {
-        let fault = TraceFault::Refused {
-            line: *line,
-            kind: *kind,
-        };
         assert!(rt;
-            fault_of(rt.alloc(), script, trace) == Some(fault),
+            is_refused(rt.alloc(), script, trace, *line, *kind),
             "{trace}"
         );
     }
