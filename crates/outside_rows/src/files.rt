@@ -47,7 +47,7 @@ fn answer<P: Packs>(packs: &mut P, unit: u8, call: Call) -> Result<u64, StoreFai
 
 /// What calls on the packs of files answer. Unit 28 has an image of 700 bytes 255 and the marks 0, 7 and 1, the image
 /// of unit 27 is a folder, those of unit 25 are empty, and the other units have no files.
-const FILES: [(u8, Call, Option<u64>); 40] = [
+static FILES: [(u8, Call, Option<u64>); 40] = [
     (29, Call::Length, Some(0)),
     (29, Call::Read(3), Some(0)),
     (29, Call::Marked(5), Some(0)),
@@ -91,7 +91,7 @@ const FILES: [(u8, Call, Option<u64>); 40] = [
 ];
 
 /// What they answer afterwards where no file may be written: unit 28 is read, and nothing is written or made.
-const READ_ONLY: [(u8, Call, Option<u64>); 10] = [
+static READ_ONLY: [(u8, Call, Option<u64>); 10] = [
     (28, Call::Write(0, 1), None),
     (28, Call::Mark(1, true), None),
     (28, Call::Length, Some(2048)),
@@ -105,7 +105,7 @@ const READ_ONLY: [(u8, Call, Option<u64>); 10] = [
 ];
 
 /// What they answer where no file may be opened: a file that is there is not taken for a missing one.
-const SHUT: [(u8, Call, Option<u64>); 6] = [
+static SHUT: [(u8, Call, Option<u64>); 6] = [
     (28, Call::Length, None),
     (28, Call::Read(0), None),
     (28, Call::Write(0, 1), None),
@@ -225,7 +225,7 @@ fn file_sink(rt: HostRuntime) -> Result<(), Fail> {
 
 /// What calls answer on packs in files. Unit 24 has an image of 700 bytes 255 and the marks 0, 7 and 1; unit 23 has no
 /// files.
-const AHEAD: [(u8, Call, Option<u64>); 14] = [
+static AHEAD: [(u8, Call, Option<u64>); 14] = [
     (23, Call::Read(3), Some(0)),
     (23, Call::Marked(3), Some(0)),
     (24, Call::Read(0), Some(0xFFFF)),
@@ -243,7 +243,7 @@ const AHEAD: [(u8, Call, Option<u64>); 14] = [
 ];
 
 /// What they answer afterwards on other packs over the same files.
-const AGAIN: [(u8, Call, Option<u64>); 3] = [
+static AGAIN: [(u8, Call, Option<u64>); 3] = [
     (24, Call::Read(9), Some(0x0505)),
     (24, Call::Marked(3), Some(1)),
     (23, Call::Read(70), Some(0x0606)),
