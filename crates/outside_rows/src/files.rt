@@ -172,17 +172,10 @@ fn packs_in_files(rt: HostRuntime) -> Result<(), Fail> {
     let is_marked = holds(&rt, "hp28.bad", &[0, 0, 1, 0, 1])?;
     let is_more = has_one_of(&rt, &["hp29.dsk", "hp29.bad", "hp27.bad"])?;
     fs::remove_dir(&rt, "hp27.dsk")?;
-    remove_files(
-        &rt,
-        &[
-            "hp28.dsk", "hp28.bad", "hp26.dsk", "hp26.bad", "hp25.dsk", "hp25.bad",
-        ],
-    )?;
-    assert!(rt;
-        firsts == [FILES.len(), READ_ONLY.len(), SHUT.len()],
-        "{firsts:?}"
-    );
-    assert!(rt; is_marked && !is_more);
+    remove_files(&rt, &["hp28.dsk", "hp28.bad", "hp26.dsk"])?;
+    remove_files(&rt, &["hp26.bad", "hp25.dsk", "hp25.bad"])?;
+    let lengths = [FILES.len(), READ_ONLY.len(), SHUT.len()];
+    assert!(rt; firsts == lengths && is_marked && !is_more, "{firsts:?}");
     Ok(())
 }
 
@@ -264,9 +257,7 @@ fn files_behind_windows(rt: HostRuntime) -> Result<(), Fail> {
     let firsts = first_behind(&rt)?;
     let is_more = has_one_of(&rt, &["hp23.bad"])?;
     remove_files(&rt, &["hp23.dsk", "hp24.dsk", "hp24.bad"])?;
-    assert!(rt;
-        firsts == [AHEAD.len(), AGAIN.len()] && !is_more,
-        "{firsts:?}"
-    );
+    let lengths = [AHEAD.len(), AGAIN.len()];
+    assert!(rt; firsts == lengths && !is_more, "{firsts:?}");
     Ok(())
 }
