@@ -86,11 +86,12 @@ fn stop_before_it(alloc: Global) -> bool {
     let mut packs = empty_pack(alloc, 3);
     let mut into = [9; 2048];
     let mut some = [9; 8];
+    let mut given = [9; 2048];
+    given[..1536].copy_from_slice(&[0; 1536]);
     get(alloc, &mut packs, 0, &mut into) == Some(1536)
         && put(alloc, &mut packs, 100, &[7; 2000]) == Some(1436)
         && get(alloc, &mut packs, 1000, &mut some) == Some(8)
-        && into[..1536] == [0; 1536]
-        && into[1536..] == [9; 512]
+        && into == given
         && some == [7; 8]
 }
 

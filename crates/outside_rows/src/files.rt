@@ -1,15 +1,16 @@
 // The packs in the files of the working folder, and a sink that makes its file.
 use crate::guarded::Guarded;
+use Deed::{Holds, IsMissing, MakeFolder, Remove, RemoveFolder, Write};
 use mass_outside::file_sink::FileSink;
 use mass_outside::files::FilePacks;
 use mass_outside::traits::{Packs, StoreFailed};
 use mass_outside::whole::write_all;
 use pack_windows::window_packs::WindowPacks;
+use std::fs;
 use std::test::Fail;
-use std::{fs, io};
 
 /// A call on packs.
-#[derive(Clone, Copy, Debug)]
+#[derive(Clone, Copy)]
 enum Call {
     Length,
     Read(u32),
@@ -18,31 +19,20 @@ enum Call {
     Mark(u32, bool),
 }
 
-/// 256 times the first byte, and the last byte.
-fn edges(block: &[u8; 512]) -> u64 {
-    256 * u64::from(block[0]) + u64::from(block[511])
-}
-
-/// What a call answers. Reading answers 256 times the first byte, and the last byte, of a buffer that held 7s before.
-fn answer<P: Packs>(packs: &mut P, unit: u8, call: Call) -> Result<u64, StoreFailed> {
+/// What a call answers. Reading answers 256 times the first byte, and the last byte, of a buffer that held 7s before; writing 0.
+fn answer<P: Packs>(packs: &mut P, unit: u8, call: Call) -> Option<u64> {
     let unit = unit.min(31);
-    let mut block = [7u8; 512];
-    match call {
-        Call::Length => packs.length(unit),
-        Call::Read(at) => {
-            packs.read(unit, at, &mut block)?;
-            Ok(edges(&block))
-        }
-        Call::Write(at, byte) => {
-            packs.write(unit, at, &[byte; 512])?;
-            Ok(0)
-        }
-        Call::Marked(at) => Ok(u64::from(packs.marked(unit, at)?)),
-        Call::Mark(at, on) => {
-            packs.set_mark(unit, at, on)?;
-            Ok(0)
-        }
-    }
+    let held = if matches!(call, Call::Read(_)) { 7 } else { 0 };
+    let mut block = [held; 512];
+    let done = match call {
+        Call::Length => return packs.length(unit).ok(),
+        Call::Marked(at) => return packs.marked(unit, at).ok().map(u64::from),
+        Call::Read(at) => packs.read(unit, at, &mut block),
+        Call::Write(at, byte) => packs.write(unit, at, &[byte; 512]),
+        Call::Mark(at, on) => packs.set_mark(unit, at, on),
+    };
+    done.ok()?;
+    Some(256 * u64::from(block[0]) + u64::from(block[511]))
 }
 
 /// What calls on the packs of files answer. Unit 28 has an image of 700 bytes 255 and the marks 0, 7 and 1, the image
@@ -117,42 +107,46 @@ static SHUT: [(u8, Call, Option<u64>); 6] = [
 /// The first call of a list that answers something else, or its length.
 fn first_other<P: Packs>(packs: &mut P, calls: &[(u8, Call, Option<u64>)]) -> usize {
     for (i, (unit, call, want)) in calls.iter().enumerate() {
-        if answer(packs, *unit, *call).ok() != *want {
+        if answer(packs, *unit, *call) != *want {
             return i;
         }
     }
     calls.len()
 }
 
-/// Writes the files of those units.
-fn make_files(rt: &HostRuntime) -> io::Result<()> {
-    fs::write(rt, "hp28.dsk", &[0xFF; 700])?;
-    fs::write(rt, "hp28.bad", &[0, 7, 1])?;
-    fs::create_dir(rt, "hp27.dsk")?;
-    fs::write(rt, "hp25.dsk", b"")?;
-    fs::write(rt, "hp25.bad", b"")
+/// What is done to a file or a folder, or asked of it.
+#[derive(Clone, Copy)]
+enum Deed {
+    Write(&'static [u8]),
+    Holds(&'static [u8]),
+    IsMissing,
+    Remove,
+    MakeFolder,
+    RemoveFolder,
 }
 
-/// Whether a file holds these bytes.
-fn holds(rt: &HostRuntime, name: &str, bytes: &[u8]) -> io::Result<bool> {
-    Ok(fs::read(rt, name)?.as_slice() == bytes)
+fn is_done(rt: &HostRuntime, deed: Deed, name: &str) -> bool {
+    match deed {
+        Write(bytes) => fs::write(rt, name, bytes).is_ok(),
+        Holds(bytes) => match fs::read(rt, name) {
+            Ok(held) => held.as_slice() == bytes,
+            Err(_) => false,
+        },
+        IsMissing => matches!(fs::exists(rt, name), Ok(false)),
+        Remove => fs::remove_file(rt, name).is_ok(),
+        MakeFolder => fs::create_dir(rt, name).is_ok(),
+        RemoveFolder => fs::remove_dir(rt, name).is_ok(),
+    }
 }
 
-/// Whether one of these files is there.
-fn has_one_of(rt: &HostRuntime, names: &[&str]) -> io::Result<bool> {
+/// Whether it is done to each of these, or is so of each.
+fn are_done(rt: &HostRuntime, deed: Deed, names: &[&str]) -> bool {
     for name in names {
-        if fs::exists(rt, name)? {
-            return Ok(true);
+        if !is_done(rt, deed, name) {
+            return false;
         }
     }
-    Ok(false)
-}
-
-fn remove_files(rt: &HostRuntime, names: &[&str]) -> io::Result<()> {
-    for name in names {
-        fs::remove_file(rt, name)?;
-    }
-    Ok(())
+    true
 }
 
 /// The first call of a list that answers something else where files may be opened for reading alone, or not at all, or its length.
@@ -162,39 +156,45 @@ fn first_guarded(rt: &HostRuntime, reads: bool, calls: &[(u8, Call, Option<u64>)
 }
 
 #[test]
-fn packs_in_files(rt: HostRuntime) -> Result<(), Fail> {
-    make_files(&rt)?;
+fn packs_in_files(rt: HostRuntime) {
+    let are_made = are_done(&rt, Write(&[0xFF; 700]), &["hp28.dsk"])
+        && are_done(&rt, Write(&[0, 7, 1]), &["hp28.bad"])
+        && are_done(&rt, MakeFolder, &["hp27.dsk"])
+        && are_done(&rt, Write(b""), &["hp25.dsk", "hp25.bad"]);
     let firsts = [
         first_other(&mut FilePacks::new(&rt), &FILES),
         first_guarded(&rt, true, &READ_ONLY),
         first_guarded(&rt, false, &SHUT),
     ];
-    let is_marked = holds(&rt, "hp28.bad", &[0, 0, 1, 0, 1])?;
-    let is_more = has_one_of(&rt, &["hp29.dsk", "hp29.bad", "hp27.bad"])?;
-    fs::remove_dir(&rt, "hp27.dsk")?;
-    remove_files(&rt, &["hp28.dsk", "hp28.bad", "hp26.dsk"])?;
-    remove_files(&rt, &["hp26.bad", "hp25.dsk", "hp25.bad"])?;
+    let are_left = are_done(&rt, Holds(&[0, 0, 1, 0, 1]), &["hp28.bad"])
+        && are_done(&rt, IsMissing, &["hp29.dsk", "hp29.bad", "hp27.bad"])
+        && are_done(&rt, RemoveFolder, &["hp27.dsk"])
+        && are_done(
+            &rt,
+            Remove,
+            &["hp28.dsk", "hp28.bad", "hp26.dsk", "hp26.bad"],
+        )
+        && are_done(&rt, Remove, &["hp25.dsk", "hp25.bad"]);
     let lengths = [FILES.len(), READ_ONLY.len(), SHUT.len()];
-    assert!(rt; firsts == lengths && is_marked && !is_more, "{firsts:?}");
-    Ok(())
+    assert!(rt; are_made && firsts == lengths && are_left, "{firsts:?}");
 }
 
 /// Whether packs find no file of unit 19 where it was missing before, but make one and open it where they write, which stays open.
-fn stays_missing<P: Packs>(rt: &HostRuntime, packs: &mut P) -> io::Result<bool> {
-    let before = packs.length(19) == Ok(0);
-    fs::write(rt, "hp19.dsk", &[1; 512])?;
-    let made = packs.length(19) == Ok(0) && packs.write(19, 1, &[2; 512]).is_ok();
-    let opened = packs.length(19) == Ok(1024);
-    fs::remove_file(rt, "hp19.dsk")?;
-    Ok(before && made && opened && packs.length(19) == Ok(1024))
+fn stays_missing<P: Packs>(rt: &HostRuntime, packs: &mut P) -> bool {
+    packs.length(19) == Ok(0)
+        && is_done(rt, Write(&[1; 512]), "hp19.dsk")
+        && packs.length(19) == Ok(0)
+        && packs.write(19, 1, &[2; 512]).is_ok()
+        && packs.length(19) == Ok(1024)
+        && is_done(rt, Remove, "hp19.dsk")
+        && packs.length(19) == Ok(1024)
 }
 
 /// A file that is made behind our back is out of scope; it is not found where it was missing before.
 #[test]
-fn missing_until_written(rt: HostRuntime) -> Result<(), Fail> {
-    let answer = stays_missing(&rt, &mut FilePacks::new(&rt));
-    assert!(rt; answer?);
-    Ok(())
+fn missing_until_written(rt: HostRuntime) {
+    let is_so = stays_missing(&rt, &mut FilePacks::new(&rt));
+    assert!(rt; is_so);
 }
 
 /// Whether a sink takes two lines.
@@ -204,16 +204,15 @@ fn takes_lines(rt: &HostRuntime) -> bool {
 }
 
 #[test]
-fn file_sink(rt: HostRuntime) -> Result<(), Fail> {
-    fs::write(&rt, "hp.trace", b"an older and longer text")?;
-    let is_taken = takes_lines(&rt);
-    let is_made = holds(&rt, "hp.trace", b"idle 1\nidle 2\n")?;
-    fs::remove_file(&rt, "hp.trace")?;
-    fs::create_dir(&rt, "hp.trace")?;
-    let is_beside = takes_lines(&rt);
-    fs::remove_dir(&rt, "hp.trace")?;
-    assert!(rt; is_taken && is_made && !is_beside);
-    Ok(())
+fn file_sink(rt: HostRuntime) {
+    let is_made = is_done(&rt, Write(b"an older and longer text"), "hp.trace")
+        && takes_lines(&rt)
+        && is_done(&rt, Holds(b"idle 1\nidle 2\n"), "hp.trace")
+        && is_done(&rt, Remove, "hp.trace");
+    let is_refused = is_done(&rt, MakeFolder, "hp.trace")
+        && !takes_lines(&rt)
+        && is_done(&rt, RemoveFolder, "hp.trace");
+    assert!(rt; is_made && is_refused);
 }
 
 /// What calls answer on packs in files. Unit 24 has an image of 700 bytes 255 and the marks 0, 7 and 1; unit 23 has no
@@ -243,7 +242,7 @@ static AGAIN: [(u8, Call, Option<u64>); 3] = [
 ];
 
 /// The first call of each of the two lists that answers something else, or its length.
-fn first_behind(rt: &HostRuntime) -> Result<[usize; 2], Fail> {
+fn firsts_behind(rt: &HostRuntime) -> Result<[usize; 2], Fail> {
     let mut packs = WindowPacks::new(rt.alloc(), FilePacks::new(rt))?;
     let first = first_other(&mut packs, &AHEAD);
     let mut again = WindowPacks::new(rt.alloc(), FilePacks::new(rt))?;
@@ -252,12 +251,12 @@ fn first_behind(rt: &HostRuntime) -> Result<[usize; 2], Fail> {
 
 #[test]
 fn files_behind_windows(rt: HostRuntime) -> Result<(), Fail> {
-    fs::write(&rt, "hp24.dsk", &[0xFF; 700])?;
-    fs::write(&rt, "hp24.bad", &[0, 7, 1])?;
-    let firsts = first_behind(&rt)?;
-    let is_more = has_one_of(&rt, &["hp23.bad"])?;
-    remove_files(&rt, &["hp23.dsk", "hp24.dsk", "hp24.bad"])?;
+    let are_made = is_done(&rt, Write(&[0xFF; 700]), "hp24.dsk")
+        && is_done(&rt, Write(&[0, 7, 1]), "hp24.bad");
+    let firsts = firsts_behind(&rt)?;
+    let are_left = is_done(&rt, IsMissing, "hp23.bad")
+        && are_done(&rt, Remove, &["hp23.dsk", "hp24.dsk", "hp24.bad"]);
     let lengths = [AHEAD.len(), AGAIN.len()];
-    assert!(rt; firsts == lengths && !is_more, "{firsts:?}");
+    assert!(rt; are_made && firsts == lengths && are_left, "{firsts:?}");
     Ok(())
 }
