@@ -19,6 +19,11 @@ enum Call {
     Mark(u32, bool),
 }
 
+/// 256 times the first byte, and the last byte.
+fn edges(block: &[u8; 512]) -> u64 {
+    256 * u64::from(block[0]) + u64::from(block[511])
+}
+
 /// What a call answers. Reading answers 256 times the first byte, and the last byte, of a buffer that held 7s before; writing 0.
 fn answer<P: Packs>(packs: &mut P, unit: u8, call: Call) -> Option<u64> {
     let unit = unit.min(31);
@@ -32,7 +37,7 @@ fn answer<P: Packs>(packs: &mut P, unit: u8, call: Call) -> Option<u64> {
         Call::Mark(at, on) => packs.set_mark(unit, at, on),
     };
     done.ok()?;
-    Some(256 * u64::from(block[0]) + u64::from(block[511]))
+    Some(edges(&block))
 }
 
 /// What calls on the packs of files answer. Unit 28 has an image of 700 bytes 255 and the marks 0, 7 and 1, the image
