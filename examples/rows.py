@@ -70,7 +70,7 @@ def pictures():
         '}',
         '',
         '/// Each script of the folder that `play` plays.',
-        f'pub(crate) const EXAMPLES: [Example; {len(names)}] = [',
+        f'pub(crate) static EXAMPLES: [Example; {len(names)}] = [',
     ]
     for name in names:
         lines += ['    Example {', f'        name: "{name}",']

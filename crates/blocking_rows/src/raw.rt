@@ -54,46 +54,66 @@ fn dumped(alloc: Global, packs: &mut FewBlocks, memory: &[u8]) -> Option<u32> {
     dump(&mut subsystem, 0, memory, packs, &mut trace).ok()
 }
 
+/// Whether four bytes go across two blocks, and come back between those around them.
+fn cross_blocks(alloc: Global) -> bool {
+    let mut packs = empty_pack(alloc, NONE);
+    let mut into = [9; 8];
+    put(alloc, &mut packs, 510, &[1, 2, 3, 4]) == Some(4)
+        && get(alloc, &mut packs, 508, &mut into) == Some(8)
+        && into == [0, 0, 1, 2, 3, 4, 0, 0]
+}
+
 #[test]
 fn bytes_across_two_blocks(rt: HostRuntime) {
-    let mut packs = empty_pack(rt.alloc(), NONE);
-    let mut into = [9; 8];
-    let wrote = put(rt.alloc(), &mut packs, 510, &[1, 2, 3, 4]);
-    let read = get(rt.alloc(), &mut packs, 508, &mut into);
-    assert!(rt; wrote == Some(4) && read == Some(8) && into == [0, 0, 1, 2, 3, 4, 0, 0]);
+    assert!(rt; cross_blocks(rt.alloc()));
+}
+
+/// Whether a read behind the end is refused, one of nothing there is not, and the last byte is read.
+fn end_with_it(alloc: Global) -> bool {
+    let mut packs = empty_pack(alloc, NONE);
+    get(alloc, &mut packs, 8_132_608, &mut [9]) == None
+        && get(alloc, &mut packs, 8_132_608, &mut []) == Some(0)
+        && get(alloc, &mut packs, 8_132_607, &mut [9]) == Some(1)
 }
 
 #[test]
 fn ranges_beyond_the_partition(rt: HostRuntime) {
-    let mut packs = empty_pack(rt.alloc(), NONE);
-    let one = get(rt.alloc(), &mut packs, 8_132_608, &mut [9]);
-    let none = get(rt.alloc(), &mut packs, 8_132_608, &mut []);
-    let last = get(rt.alloc(), &mut packs, 8_132_607, &mut [9]);
-    assert!(rt; one == None && none == Some(0) && last == Some(1));
+    assert!(rt; end_with_it(rt.alloc()));
+}
+
+/// Whether a read and a write stop before block 3, where it can't be used: what is before it is read and written, and no more.
+fn stop_before_it(alloc: Global) -> bool {
+    let mut packs = empty_pack(alloc, 3);
+    let mut into = [9; 2048];
+    let mut some = [9; 8];
+    let mut given = [9; 2048];
+    given[..1536].copy_from_slice(&[0; 1536]);
+    get(alloc, &mut packs, 0, &mut into) == Some(1536)
+        && put(alloc, &mut packs, 100, &[7; 2000]) == Some(1436)
+        && get(alloc, &mut packs, 1000, &mut some) == Some(8)
+        && into == given
+        && some == [7; 8]
 }
 
 #[test]
 fn block_that_can_not_be_used(rt: HostRuntime) {
-    let mut packs = empty_pack(rt.alloc(), 3);
-    let mut into = [9; 2048];
-    let mut some = [9; 8];
-    let read = get(rt.alloc(), &mut packs, 0, &mut into);
-    let wrote = put(rt.alloc(), &mut packs, 100, &[7; 2000]);
-    let again = get(rt.alloc(), &mut packs, 1000, &mut some);
-    let given = into.iter().take(1536).all(|byte| *byte == 0);
-    let kept = into.iter().skip(1536).all(|byte| *byte == 9);
-    assert!(rt; read == Some(1536) && wrote == Some(1436) && again == Some(8));
-    assert!(rt; given && kept && some == [7; 8]);
+    assert!(rt; stop_before_it(rt.alloc()));
+}
+
+/// Whether a dump of 513 bytes of 255 stands in the last two blocks of partition `b`, filled up by zeros.
+fn is_dumped(alloc: Global) -> bool {
+    let mut packs = empty_pack(alloc, NONE);
+    let mut first = [0; 512];
+    let mut last = [0; 512];
+    dumped(alloc, &mut packs, &[255; 513]) == Some(2)
+        && packs.read(0, 49438, &mut first).is_ok()
+        && packs.read(0, 49439, &mut last).is_ok()
+        && first == [255; 512]
+        && last[0] == 255
+        && last[1..] == [0; 511]
 }
 
 #[test]
 fn dump_to_the_end_of_partition_b(rt: HostRuntime) {
-    let mut packs = empty_pack(rt.alloc(), NONE);
-    let blocks = dumped(rt.alloc(), &mut packs, &[255; 513]);
-    let mut first = [0; 512];
-    let mut last = [0; 512];
-    let _ = packs.read(0, 49438, &mut first);
-    let _ = packs.read(0, 49439, &mut last);
-    assert!(rt; blocks == Some(2) && first == [255; 512]);
-    assert!(rt; last[0] == 255 && last[1..] == [0; 511]);
+    assert!(rt; is_dumped(rt.alloc()));
 }

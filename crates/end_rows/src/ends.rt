@@ -6,12 +6,11 @@ use mass_outside::mem_streams::SureSink;
 use mass_outside::os_folder::OsFolder;
 use std::io::ErrorKind;
 use std::os::unix::fs::FileExt;
-use std::test::Fail;
 use std::{fs, io};
 
 /// A command, its script, the status of its end and what it prints. Unit 22 has no files, and the image of unit 21 is a byte too
 /// long.
-const ENDS: [(&str, &[u8], u8, &str); 7] = [
+static ENDS: [(&str, &[u8], u8, &str); 7] = [
     (
         "play",
         b"unit 22 rp06\nread 1 22 c 0 1\n",
@@ -46,32 +45,35 @@ const ENDS: [(&str, &[u8], u8, &str); 7] = [
     ),
 ];
 
-/// The first of these commands that ends otherwise, or their number.
-fn first_other(rt: &HostRuntime) -> Result<usize, Fail> {
-    for (i, (line, script, status, text)) in ENDS.iter().enumerate() {
-        let end = end_here(rt, line, script, &mut FileSink::new(rt, TRACE_NAME))?;
-        if !end.is(*status, text) {
-            return Ok(i);
-        }
-    }
-    Ok(ENDS.len())
+/// Writes an image of unit 21 that is a byte too long.
+fn make_long(rt: &HostRuntime) -> io::Result<()> {
+    fs::create(rt, "hp21.dsk")?.write_all_at(&[1], 174_423_040)
 }
 
-/// Whether a file of the working folder begins so.
-fn starts(rt: &HostRuntime, name: &str, text: &str) -> io::Result<bool> {
-    Ok(fs::read_to_string(rt, name)?.as_str().starts_with(text))
+/// Whether a command ends so in the working folder, and prints just this.
+fn ends_so(rt: &HostRuntime, line: &str, script: &[u8], status: u8, text: &str) -> bool {
+    end_here(rt, line, script, &mut FileSink::new(rt, TRACE_NAME)).is(status, text)
+}
+
+/// Whether a file of the working folder begins and ends so.
+pub(crate) fn is_between(rt: &HostRuntime, name: &str, front: &str, end: &str) -> bool {
+    match fs::read_to_string(rt, name) {
+        Ok(text) => text.as_str().starts_with(front) && text.as_str().ends_with(end),
+        Err(_) => false,
+    }
 }
 
 #[test]
-fn each_status(rt: HostRuntime) -> Result<(), Fail> {
-    fs::create(&rt, "hp21.dsk")?.write_all_at(&[1], 174_423_040)?;
-    let other = first_other(&rt)?;
-    let traced = starts(&rt, "hp.trace", "cmd 2 22 1 search 0 19\n")?;
-    for name in ["hp21.dsk", "hp22.dsk", "hp.trace"] {
-        fs::remove_file(&rt, name)?;
+fn each_status(rt: HostRuntime) {
+    let is_made = make_long(&rt).is_ok();
+    for (line, script, status, text) in &ENDS {
+        assert!(rt; ends_so(&rt, line, script, *status, text), "{line}");
     }
-    assert_eq!(rt; (other, traced), (ENDS.len(), true));
-    Ok(())
+    let is_traced = is_between(&rt, "hp.trace", "cmd 2 22 1 search 0 19\n", "");
+    let is_removed = fs::remove_file(&rt, "hp21.dsk").is_ok()
+        && fs::remove_file(&rt, "hp22.dsk").is_ok()
+        && fs::remove_file(&rt, "hp.trace").is_ok();
+    assert!(rt; is_made && is_traced && is_removed);
 }
 
 /// The status where the words could not be had.
@@ -92,11 +94,8 @@ fn without_words(rt: &HostRuntime, kind: ErrorKind) -> (u8, usize) {
 
 /// Words that are no text are no command, which is answered by the usage; and there may be no memory for words.
 #[test]
-fn words_that_are_none(rt: HostRuntime) -> Result<(), Fail> {
-    let ends = [
-        without_words(&rt, ErrorKind::InvalidData),
-        without_words(&rt, ErrorKind::OutOfMemory),
-    ];
-    assert_eq!(rt; ends, [(2, 57), (9, 0)]);
-    Ok(())
+fn words_that_are_none(rt: HostRuntime) {
+    let no_text = without_words(&rt, ErrorKind::InvalidData);
+    let no_memory = without_words(&rt, ErrorKind::OutOfMemory);
+    assert!(rt; no_text == (2, 57) && no_memory == (9, 0));
 }

@@ -1,26 +1,23 @@
 // Texts and packs on a full disk.
-use crate::words::end_here;
+use crate::ends::is_between;
+use crate::words::{end_here, words};
 use hpsim_main::{end_status, words_of};
 use mass_outside::file_sink::FileSink;
 use mass_outside::mem_streams::SureSink;
 use mass_outside::os_folder::OsFolder;
-use std::fs;
 use std::fs::OpenOptions;
 use std::os::unix::fs::symlink;
-use std::test::Fail;
+use std::{fs, io};
 
 /// The device that takes no byte, and gives zeros.
 const FULL: &str = "/dev/full";
 
 /// The status of a read whose answer goes to a full disk.
-fn answers_on_it(rt: &HostRuntime, script: &[u8], trace: &str) -> Result<u8, Fail> {
-    let mut how = OpenOptions::new();
-    let full = how.write(true).open(rt, FULL)?;
-    let mut words = Vec::new(rt.alloc());
-    words.push(String::from_str(rt.alloc(), "play")?)?;
+fn answers_on_it(rt: &HostRuntime, script: &[u8], trace: &str) -> io::Result<u8> {
+    let full = OpenOptions::new().write(true).open(rt, FULL)?;
     Ok(end_status(
         rt.alloc(),
-        words_of(rt.alloc(), Ok(words)),
+        words_of(rt.alloc(), words(rt.alloc(), "play")),
         OsFolder::new(rt),
         script,
         full,
@@ -30,25 +27,22 @@ fn answers_on_it(rt: &HostRuntime, script: &[u8], trace: &str) -> Result<u8, Fai
 
 /// The lines stand whole where the answers have no room; nothing is answered where the lines have none.
 #[test]
-fn texts(rt: HostRuntime) -> Result<(), Fail> {
+fn texts(rt: HostRuntime) {
     let script = b"unit 20 rp06\nread 1 20 c 0 1\n".as_slice();
-    let answers = answers_on_it(&rt, script, "full.trace")?;
-    let traced = fs::read_to_string(&rt, "full.trace")?
-        .as_str()
-        .ends_with("end 3 20 1\n");
-    fs::remove_file(&rt, "full.trace")?;
-    let lines = end_here(&rt, "play", script, &mut FileSink::new(&rt, FULL))?.is(5, "");
-    assert_eq!(rt; (answers, traced, lines), (5, true, true));
-    Ok(())
+    let is_so = matches!(answers_on_it(&rt, script, "full.trace"), Ok(5))
+        && is_between(&rt, "full.trace", "", "end 3 20 1\n")
+        && fs::remove_file(&rt, "full.trace").is_ok()
+        && end_here(&rt, "play", script, &mut FileSink::new(&rt, FULL)).is(5, "");
+    assert!(rt; is_so);
 }
 
 /// The packs are there: what is read is answered, and the write fails.
 #[test]
-fn packs(rt: HostRuntime) -> Result<(), Fail> {
+fn packs(rt: HostRuntime) {
     let script = b"unit 18 rp06\nread 1 18 c 5 1\ndrain\nwrite 2 18 c 5 1 fill 77\n".as_slice();
-    symlink(&rt, FULL, "hp18.dsk")?;
-    let end = end_here(&rt, "play", script, &mut SureSink::new())?;
-    fs::remove_file(&rt, "hp18.dsk")?;
-    assert!(rt; end.is(6, "ans 1 at 3 ok\nblk 0 fill 00\n"));
-    Ok(())
+    let text = "ans 1 at 3 ok\nblk 0 fill 00\n";
+    let is_so = symlink(&rt, FULL, "hp18.dsk").is_ok()
+        && end_here(&rt, "play", script, &mut SureSink::new()).is(6, text)
+        && fs::remove_file(&rt, "hp18.dsk").is_ok();
+    assert!(rt; is_so);
 }

@@ -7,7 +7,7 @@ use std::io;
 use std::io::ErrorKind;
 
 /// How the calls of a folder go, which are counted from 1.
-#[derive(Clone, Copy, Debug)]
+#[derive(Clone, Copy)]
 pub(crate) struct Habit {
     /// By how many bytes a call is short of what is asked, if more than one byte is left of it.
     pub short: usize,
@@ -33,10 +33,11 @@ pub(crate) struct MemFolder<'a> {
     interrupts: u8,
 }
 
-/// As many empty files as a folder has.
-pub(crate) fn no_files(alloc: Global) -> Result<Vec<Vec<u8>>, AllocError> {
+/// As many files as a folder has, empty but for the first.
+pub(crate) fn files_of(alloc: Global, image: Vec<u8>) -> Result<Vec<Vec<u8>>, AllocError> {
     let mut files = Vec::new(alloc);
-    for _ in 0..64u8 {
+    files.push(image)?;
+    for _ in 1..64u8 {
         files.push(Vec::new(alloc))?;
     }
     Ok(files)

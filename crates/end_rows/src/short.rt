@@ -1,9 +1,8 @@
 // A run over a folder in memory whose calls are short, fail or are interrupted.
-use crate::memory::{Habit, MemFolder, WHOLE, no_files};
+use crate::memory::{Habit, MemFolder, WHOLE, files_of};
 use crate::words::{End, end_over};
 use mass_outside::mem_streams::SureSink;
 use std::alloc::{AllocError, Global};
-use std::test::Fail;
 
 /// Two blocks are written over what an image has, one further behind its end, and all of it is read back.
 const SCRIPT: &[u8] =
@@ -14,7 +13,7 @@ const PRINTED: &str =
     "ans 1 at 4 ok\nans 2 at 4 ok\nans 3 at 7 ok\nblk 0 fill ff\nblk 1 fill 77\nblk 2 fill 77\nans 4 at 7 ok\nblk 0 fill 66\n";
 
 /// How calls go that are short by so many bytes, and of which one is interrupted twice.
-const HABITS: [(usize, u64); 8] = [
+static HABITS: [(usize, u64); 8] = [
     (0, 0),
     (1, 0),
     (100, 0),
@@ -27,76 +26,59 @@ const HABITS: [(usize, u64); 8] = [
 
 /// What playing that script comes to, over files in memory whose calls go so.
 fn played(alloc: Global, habit: Habit) -> Result<End, AllocError> {
-    let mut files = no_files(alloc)?;
-    if let Some(image) = files.get_mut(0) {
-        image.resize(700, 255)?;
-    }
+    let mut files = files_of(alloc, vec![in alloc; 255; 700]?)?;
     let folder = MemFolder::new(&mut files, habit);
-    end_over(alloc, "play", folder, SCRIPT, &mut SureSink::new())
+    Ok(end_over(alloc, "play", folder, SCRIPT, &mut SureSink::new()))
 }
 
-/// The first of the habits by which something else is printed than by whole calls, or their number.
-fn first_other(alloc: Global) -> Result<usize, AllocError> {
-    for (i, (short, interrupted)) in HABITS.iter().enumerate() {
-        let habit = Habit {
-            short: *short,
-            interrupted: *interrupted,
-            ..WHOLE
-        };
-        if !played(alloc, habit)?.is(0, PRINTED) {
-            return Ok(i);
-        }
+/// Whether the same is printed as by whole calls where they are short, and one is interrupted.
+fn is_whole(alloc: Global, short: usize, interrupted: u64) -> bool {
+    let habit = Habit {
+        short,
+        interrupted,
+        ..WHOLE
+    };
+    match played(alloc, habit) {
+        Ok(end) => end.is(0, PRINTED),
+        Err(_) => false,
     }
-    Ok(HABITS.len())
 }
 
 #[test]
-fn short_and_interrupted_calls(rt: HostRuntime) -> Result<(), Fail> {
-    assert_eq!(rt; first_other(rt.alloc())?, HABITS.len());
-    Ok(())
+fn short_and_interrupted_calls(rt: HostRuntime) {
+    for (short, interrupted) in &HABITS {
+        assert!(rt; is_whole(rt.alloc(), *short, *interrupted), "{short}");
+    }
 }
 
-/// What it comes to where one call fails.
-#[derive(Clone, Copy, Debug, PartialEq, Eq)]
-enum Ending {
-    /// The run ends with 6, and a front of the text is printed.
-    Stops,
-    /// What was to be read ahead failed and the block was read alone, or the call was never made: all is as by whole calls.
-    Passes,
-    Other,
-}
-
-fn failing(alloc: Global, call: u64) -> Result<Ending, AllocError> {
+/// Whether this call stops the run where it fails, which then ends with 6, and a front of the text is printed. Else what was to be read
+/// ahead failed and the block was read alone, or the call was never made, and all is as by whole calls; `None` where it is not.
+fn stops(alloc: Global, call: u64) -> Option<bool> {
     let habit = Habit {
         fail: call,
         ..WHOLE
     };
-    let end = played(alloc, habit)?;
-    if end.is_front(6, PRINTED) {
-        return Ok(Ending::Stops);
+    let end = played(alloc, habit).ok()?;
+    if end.is(0, PRINTED) || end.is_front(6, PRINTED) {
+        return Some(end.status == 6);
     }
-    if end.is(0, PRINTED) {
-        return Ok(Ending::Passes);
-    }
-    Ok(Ending::Other)
+    None
 }
 
-/// How many of the first calls stop the run where they fail; `None` where one comes to something else.
-fn stops(alloc: Global) -> Result<Option<u8>, AllocError> {
+/// How many of the first calls stop the run where they fail; 0 where one comes to something else.
+fn count_of_stops(alloc: Global) -> u8 {
     let mut count = 0u8;
     for call in 1..24u64 {
-        match failing(alloc, call)? {
-            Ending::Stops => count = count.saturating_add(1),
-            Ending::Passes => {}
-            Ending::Other => return Ok(None),
+        match stops(alloc, call) {
+            Some(stops) => count = count.saturating_add(u8::from(stops)),
+            None => return 0,
         }
     }
-    Ok(Some(count))
+    count
 }
 
 #[test]
-fn each_call_fails(rt: HostRuntime) -> Result<(), Fail> {
-    let count = stops(rt.alloc())?;
-    assert!(rt; count > Some(3), "{count:?} of the calls stop the run");
-    Ok(())
+fn each_call_fails(rt: HostRuntime) {
+    let count = count_of_stops(rt.alloc());
+    assert!(rt; count > 3, "{count} of the calls stop the run");
 }

@@ -3,7 +3,8 @@ use hpsim_main::{end_status, words_of};
 use mass_outside::folder::PackFolder;
 use mass_outside::os_folder::OsFolder;
 use mass_outside::traits::Sink;
-use std::alloc::{AllocError, Global};
+use std::alloc::Global;
+use std::io;
 
 /// What a run came to: the status of its end, and what was printed.
 #[derive(Drop)]
@@ -25,7 +26,7 @@ impl End {
 }
 
 /// The words of a line, which stand between its blanks.
-fn words(alloc: Global, line: &str) -> Result<Vec<String>, AllocError> {
+pub(crate) fn words(alloc: Global, line: &str) -> io::Result<Vec<String>> {
     let mut all = Vec::new(alloc);
     for word in line.split_whitespace() {
         all.push(String::from_str(alloc, word)?)?;
@@ -40,19 +41,14 @@ pub(crate) fn end_over<F: PackFolder + Drop, T: Sink>(
     folder: F,
     script: &[u8],
     trace: &mut T,
-) -> Result<End, AllocError> {
-    let words = words_of(alloc, Ok(words(alloc, line)?));
+) -> End {
+    let words = words_of(alloc, words(alloc, line));
     let mut said = Vec::new(alloc);
     let status = end_status(alloc, words, folder, script, &mut said, trace);
-    Ok(End { status, said })
+    End { status, said }
 }
 
 /// What it comes to in the working folder.
-pub(crate) fn end_here<T: Sink>(
-    rt: &HostRuntime,
-    line: &str,
-    script: &[u8],
-    trace: &mut T,
-) -> Result<End, AllocError> {
+pub(crate) fn end_here<T: Sink>(rt: &HostRuntime, line: &str, script: &[u8], trace: &mut T) -> End {
     end_over(rt.alloc(), line, OsFolder::new(rt), script, trace)
 }

@@ -1,5 +1,6 @@
 // The packs in the files of the working folder, and a sink that makes its file.
 use crate::guarded::Guarded;
+use Deed::{Holds, IsMissing, MakeFolder, Remove, RemoveFolder, Write};
 use mass_outside::file_sink::FileSink;
 use mass_outside::files::FilePacks;
 use mass_outside::traits::{Packs, StoreFailed};
@@ -9,7 +10,7 @@ use std::fs;
 use std::test::Fail;
 
 /// A call on packs.
-#[derive(Clone, Copy, Debug)]
+#[derive(Clone, Copy)]
 enum Call {
     Length,
     Read(u32),
@@ -23,31 +24,25 @@ fn edges(block: &[u8; 512]) -> u64 {
     256 * u64::from(block[0]) + u64::from(block[511])
 }
 
-/// What a call answers. Reading answers 256 times the first byte, and the last byte, of a buffer that held 7s before.
-fn answer<P: Packs>(packs: &mut P, unit: u8, call: Call) -> Result<u64, StoreFailed> {
+/// What a call answers. Reading answers 256 times the first byte, and the last byte, of a buffer that held 7s before; writing 0.
+fn answer<P: Packs>(packs: &mut P, unit: u8, call: Call) -> Option<u64> {
     let unit = unit.min(31);
-    let mut block = [7u8; 512];
-    match call {
-        Call::Length => packs.length(unit),
-        Call::Read(at) => {
-            packs.read(unit, at, &mut block)?;
-            Ok(edges(&block))
-        }
-        Call::Write(at, byte) => {
-            packs.write(unit, at, &[byte; 512])?;
-            Ok(0)
-        }
-        Call::Marked(at) => Ok(u64::from(packs.marked(unit, at)?)),
-        Call::Mark(at, on) => {
-            packs.set_mark(unit, at, on)?;
-            Ok(0)
-        }
-    }
+    let held = if matches!(call, Call::Read(_)) { 7 } else { 0 };
+    let mut block = [held; 512];
+    let done = match call {
+        Call::Length => return packs.length(unit).ok(),
+        Call::Marked(at) => return packs.marked(unit, at).ok().map(u64::from),
+        Call::Read(at) => packs.read(unit, at, &mut block),
+        Call::Write(at, byte) => packs.write(unit, at, &[byte; 512]),
+        Call::Mark(at, on) => packs.set_mark(unit, at, on),
+    };
+    done.ok()?;
+    Some(edges(&block))
 }
 
 /// What calls on the packs of files answer. Unit 28 has an image of 700 bytes 255 and the marks 0, 7 and 1, the image
 /// of unit 27 is a folder, those of unit 25 are empty, and the other units have no files.
-const FILES: [(u8, Call, Option<u64>); 40] = [
+static FILES: [(u8, Call, Option<u64>); 40] = [
     (29, Call::Length, Some(0)),
     (29, Call::Read(3), Some(0)),
     (29, Call::Marked(5), Some(0)),
@@ -91,7 +86,7 @@ const FILES: [(u8, Call, Option<u64>); 40] = [
 ];
 
 /// What they answer afterwards where no file may be written: unit 28 is read, and nothing is written or made.
-const READ_ONLY: [(u8, Call, Option<u64>); 10] = [
+static READ_ONLY: [(u8, Call, Option<u64>); 10] = [
     (28, Call::Write(0, 1), None),
     (28, Call::Mark(1, true), None),
     (28, Call::Length, Some(2048)),
@@ -105,7 +100,7 @@ const READ_ONLY: [(u8, Call, Option<u64>); 10] = [
 ];
 
 /// What they answer where no file may be opened: a file that is there is not taken for a missing one.
-const SHUT: [(u8, Call, Option<u64>); 6] = [
+static SHUT: [(u8, Call, Option<u64>); 6] = [
     (28, Call::Length, None),
     (28, Call::Read(0), None),
     (28, Call::Write(0, 1), None),
@@ -117,89 +112,117 @@ const SHUT: [(u8, Call, Option<u64>); 6] = [
 /// The first call of a list that answers something else, or its length.
 fn first_other<P: Packs>(packs: &mut P, calls: &[(u8, Call, Option<u64>)]) -> usize {
     for (i, (unit, call, want)) in calls.iter().enumerate() {
-        if answer(packs, *unit, *call).ok() != *want {
+        if answer(packs, *unit, *call) != *want {
             return i;
         }
     }
     calls.len()
 }
 
-#[test]
-fn packs_in_files(rt: HostRuntime) -> Result<(), Fail> {
+/// What is done to a file or a folder, or asked of it.
+#[derive(Clone, Copy)]
+enum Deed {
+    Write(&'static [u8]),
+    Holds(&'static [u8]),
+    IsMissing,
+    Remove,
+    MakeFolder,
+    RemoveFolder,
+}
+
+fn is_done(rt: &HostRuntime, deed: Deed, name: &str) -> bool {
+    match deed {
+        Write(bytes) => fs::write(rt, name, bytes).is_ok(),
+        Holds(bytes) => match fs::read(rt, name) {
+            Ok(held) => held.as_slice() == bytes,
+            Err(_) => false,
+        },
+        IsMissing => matches!(fs::exists(rt, name), Ok(false)),
+        Remove => fs::remove_file(rt, name).is_ok(),
+        MakeFolder => fs::create_dir(rt, name).is_ok(),
+        RemoveFolder => fs::remove_dir(rt, name).is_ok(),
+    }
+}
+
+/// Whether it is done to each of these, or is so of each.
+fn are_done(rt: &HostRuntime, deed: Deed, names: &[&str]) -> bool {
+    for name in names {
+        if !is_done(rt, deed, name) {
+            return false;
+        }
+    }
+    true
+}
+
+/// The first call of a list that answers something else where files may be opened for reading alone, or not at all, or its length.
+fn first_guarded(rt: &HostRuntime, reads: bool, calls: &[(u8, Call, Option<u64>)]) -> usize {
     let alloc = rt.alloc();
-    fs::write(&rt, "hp28.dsk", &[0xFF; 700])?;
-    fs::write(&rt, "hp28.bad", &[0, 7, 1])?;
-    fs::create_dir(&rt, "hp27.dsk")?;
-    for name in ["hp25.dsk", "hp25.bad"] {
-        fs::write(&rt, name, b"")?;
-    }
-    assert_eq!(rt; first_other(&mut FilePacks::new(&rt), &FILES), FILES.len());
-    let guarded = Guarded {
-        rt: &rt,
-        reads: true,
-        device: None,
-    };
-    assert_eq!(rt;
-        first_other(&mut FilePacks::new((guarded, alloc)), &READ_ONLY),
-        READ_ONLY.len()
-    );
-    let guarded = Guarded {
-        rt: &rt,
-        reads: false,
-        device: None,
-    };
-    assert_eq!(rt;
-        first_other(&mut FilePacks::new((guarded, alloc)), &SHUT),
-        SHUT.len()
-    );
-    assert_eq!(rt;
-        fs::read(&rt, "hp28.bad")?.as_slice(),
-        [0u8, 0, 1, 0, 1].as_slice()
-    );
-    for name in ["hp29.dsk", "hp29.bad", "hp27.bad"] {
-        assert!(rt; !fs::exists(&rt, name)?, "{name} is there");
-    }
-    fs::remove_dir(&rt, "hp27.dsk")?;
-    for name in [
-        "hp28.dsk", "hp28.bad", "hp26.dsk", "hp26.bad", "hp25.dsk", "hp25.bad",
-    ] {
-        fs::remove_file(&rt, name)?;
-    }
-    Ok(())
+    first_other(&mut FilePacks::new((Guarded { rt, reads }, alloc)), calls)
+}
+
+#[test]
+fn packs_in_files(rt: HostRuntime) {
+    let are_made = are_done(&rt, Write(&[0xFF; 700]), &["hp28.dsk"])
+        && are_done(&rt, Write(&[0, 7, 1]), &["hp28.bad"])
+        && are_done(&rt, MakeFolder, &["hp27.dsk"])
+        && are_done(&rt, Write(b""), &["hp25.dsk", "hp25.bad"]);
+    let firsts = [
+        first_other(&mut FilePacks::new(&rt), &FILES),
+        first_guarded(&rt, true, &READ_ONLY),
+        first_guarded(&rt, false, &SHUT),
+    ];
+    let are_left = are_done(&rt, Holds(&[0, 0, 1, 0, 1]), &["hp28.bad"])
+        && are_done(&rt, IsMissing, &["hp29.dsk", "hp29.bad", "hp27.bad"])
+        && are_done(&rt, RemoveFolder, &["hp27.dsk"])
+        && are_done(
+            &rt,
+            Remove,
+            &["hp28.dsk", "hp28.bad", "hp26.dsk", "hp26.bad"],
+        )
+        && are_done(&rt, Remove, &["hp25.dsk", "hp25.bad"]);
+    let lengths = [FILES.len(), READ_ONLY.len(), SHUT.len()];
+    assert!(rt; are_made && firsts == lengths && are_left, "{firsts:?}");
+}
+
+/// Whether packs find no file of unit 19 where it was missing before, but make one and open it where they write, which stays open.
+fn stays_missing<P: Packs>(rt: &HostRuntime, packs: &mut P) -> bool {
+    packs.length(19) == Ok(0)
+        && is_done(rt, Write(&[1; 512]), "hp19.dsk")
+        && packs.length(19) == Ok(0)
+        && packs.write(19, 1, &[2; 512]).is_ok()
+        && packs.length(19) == Ok(1024)
+        && is_done(rt, Remove, "hp19.dsk")
+        && packs.length(19) == Ok(1024)
 }
 
 /// A file that is made behind our back is out of scope; it is not found where it was missing before.
 #[test]
-fn missing_until_written(rt: HostRuntime) -> Result<(), Fail> {
-    let mut packs = FilePacks::new(&rt);
-    assert!(rt; packs.length(19) == Ok(0));
-    fs::write(&rt, "hp19.dsk", &[1; 512])?;
-    assert!(rt; packs.length(19) == Ok(0), "it was missing");
-    assert!(rt; packs.write(19, 1, &[2; 512]).is_ok());
-    assert!(rt; packs.length(19) == Ok(1024), "it is opened to be written");
-    fs::remove_file(&rt, "hp19.dsk")?;
-    assert!(rt; packs.length(19) == Ok(1024), "it stays open");
-    Ok(())
+fn missing_until_written(rt: HostRuntime) {
+    let is_so = stays_missing(&rt, &mut FilePacks::new(&rt));
+    assert!(rt; is_so);
+}
+
+/// Whether a sink takes two lines.
+fn takes_lines(rt: &HostRuntime) -> bool {
+    let mut file = FileSink::new(rt, "hp.trace");
+    write_all(&mut file, b"idle 1\n").is_ok() && write_all(&mut file, b"idle 2\n").is_ok()
 }
 
 #[test]
-fn file_sink(rt: HostRuntime) -> Result<(), Fail> {
-    fs::write(&rt, "hp.trace", b"an older and longer text")?;
-    let mut file = FileSink::new(&rt, "hp.trace");
-    write_all(&mut file, b"idle 1\n")?;
-    write_all(&mut file, b"idle 2\n")?;
-    let text = fs::read_to_string(&rt, "hp.trace")?;
-    assert_eq!(rt; text.as_str(), "idle 1\nidle 2\n");
-    fs::remove_file(&rt, "hp.trace")?;
-    fs::create_dir(&rt, "hp.trace")?;
-    assert!(rt; write_all(&mut FileSink::new(&rt, "hp.trace"), b"idle 1\n").is_err());
-    fs::remove_dir(&rt, "hp.trace")?;
-    Ok(())
+fn file_sink(rt: HostRuntime) {
+    let is_made = is_done(&rt, Write(b"an older and longer text"), "hp.trace")
+        && takes_lines(&rt)
+        && is_done(&rt, Holds(b"idle 1\nidle 2\n"), "hp.trace")
+        && is_done(&rt, Remove, "hp.trace");
+    let is_refused = is_done(&rt, MakeFolder, "hp.trace")
+        && !takes_lines(&rt)
+        && is_done(&rt, RemoveFolder, "hp.trace");
+    assert!(rt; is_made && is_refused);
 }
 
 /// What calls answer on packs in files. Unit 24 has an image of 700 bytes 255 and the marks 0, 7 and 1; unit 23 has no
 /// files.
-const AHEAD: [(u8, Call, Option<u64>); 14] = [
+static AHEAD: [(u8, Call, Option<u64>); 14] = [
     (23, Call::Read(3), Some(0)),
     (23, Call::Marked(3), Some(0)),
     (24, Call::Read(0), Some(0xFFFF)),
@@ -216,20 +239,29 @@ const AHEAD: [(u8, Call, Option<u64>); 14] = [
     (23, Call::Read(3), Some(0)),
 ];
 
+/// What they answer afterwards on other packs over the same files.
+static AGAIN: [(u8, Call, Option<u64>); 3] = [
+    (24, Call::Read(9), Some(0x0505)),
+    (24, Call::Marked(3), Some(1)),
+    (23, Call::Read(70), Some(0x0606)),
+];
+
+/// The first call of each of the two lists that answers something else, or its length.
+fn firsts_behind(rt: &HostRuntime) -> Result<[usize; 2], Fail> {
+    let mut packs = WindowPacks::new(rt.alloc(), FilePacks::new(rt))?;
+    let first = first_other(&mut packs, &AHEAD);
+    let mut again = WindowPacks::new(rt.alloc(), FilePacks::new(rt))?;
+    Ok([first, first_other(&mut again, &AGAIN)])
+}
+
 #[test]
 fn files_behind_windows(rt: HostRuntime) -> Result<(), Fail> {
-    fs::write(&rt, "hp24.dsk", &[0xFF; 700])?;
-    fs::write(&rt, "hp24.bad", &[0, 7, 1])?;
-    let mut packs = WindowPacks::new(rt.alloc(), FilePacks::new(&rt))?;
-    assert_eq!(rt; first_other(&mut packs, &AHEAD), AHEAD.len());
-    // Other packs over the same files find what was written.
-    let mut again = WindowPacks::new(rt.alloc(), FilePacks::new(&rt))?;
-    assert!(rt; answer(&mut again, 24, Call::Read(9)).ok() == Some(0x0505));
-    assert!(rt; answer(&mut again, 24, Call::Marked(3)).ok() == Some(1));
-    assert!(rt; answer(&mut again, 23, Call::Read(70)).ok() == Some(0x0606));
-    assert!(rt; !fs::exists(&rt, "hp23.bad")?);
-    for name in ["hp23.dsk", "hp24.dsk", "hp24.bad"] {
-        fs::remove_file(&rt, name)?;
-    }
+    let are_made = is_done(&rt, Write(&[0xFF; 700]), "hp24.dsk")
+        && is_done(&rt, Write(&[0, 7, 1]), "hp24.bad");
+    let firsts = firsts_behind(&rt)?;
+    let are_left = is_done(&rt, IsMissing, "hp23.bad")
+        && are_done(&rt, Remove, &["hp23.dsk", "hp24.dsk", "hp24.bad"]);
+    let lengths = [AHEAD.len(), AGAIN.len()];
+    assert!(rt; are_made && firsts == lengths && are_left, "{firsts:?}");
     Ok(())
 }

@@ -11,8 +11,10 @@ pub(crate) struct Guarded<'a> {
     pub rt: &'a HostRuntime,
     /// Whether one may be opened for reading alone.
     pub reads: bool,
-    /// What is opened in the place of each of them: the file itself, or a device.
-    pub device: Option<&'static str>,
+}
+
+fn denied<T>() -> io::Result<T> {
+    Err(io::Error::from(ErrorKind::PermissionDenied))
 }
 
 impl<'a> Files for Guarded<'a> {
@@ -21,13 +23,8 @@ impl<'a> Files for Guarded<'a> {
     type Dir = <HostRuntime as Files>::Dir;
 
     fn open_file(&self, how: &OpenOptions, path: &str) -> io::Result<File> {
-        if let Some(device) = self.device {
-            let mut how = OpenOptions::new();
-            how.read(true).write(true);
-            return self.rt.open_file(&how, device);
-        }
         if how.asks_write() || !self.reads {
-            return Err(io::Error::from(ErrorKind::PermissionDenied));
+            return denied();
         }
         self.rt.open_file(how, path)
     }
@@ -45,26 +42,26 @@ impl<'a> Files for Guarded<'a> {
     }
 
     fn copy(&self, _from: &str, _to: &str) -> io::Result<u64> {
-        Err(io::Error::from(ErrorKind::PermissionDenied))
+        denied()
     }
 
     fn rename(&self, _from: &str, _to: &str) -> io::Result<()> {
-        Err(io::Error::from(ErrorKind::PermissionDenied))
+        denied()
     }
 
     fn remove_file(&self, _path: &str) -> io::Result<()> {
-        Err(io::Error::from(ErrorKind::PermissionDenied))
+        denied()
     }
 
     fn create_dir(&self, _path: &str) -> io::Result<()> {
-        Err(io::Error::from(ErrorKind::PermissionDenied))
+        denied()
     }
 
     fn remove_dir(&self, _path: &str) -> io::Result<()> {
-        Err(io::Error::from(ErrorKind::PermissionDenied))
+        denied()
     }
 
     fn remove_dir_all<B: Allocator>(&self, _alloc: B, _path: &str) -> io::Result<()> {
-        Err(io::Error::from(ErrorKind::PermissionDenied))
+        denied()
     }
 }

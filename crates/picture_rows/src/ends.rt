@@ -1,7 +1,7 @@
 // Charts, refusals, and what fails.
-use crate::views::{Faults, NONE, view_of};
-use std::alloc::Global;
-use std::test::Fail;
+use crate::views::{status_of, view_of};
+use mass_outside::mem_streams::{MemSink, MemSource};
+use std::alloc::{AllocError, Global};
 
 /// A command with its script and its trace, its status, and what it prints.
 #[derive(Clone, Copy)]
@@ -14,7 +14,7 @@ struct End {
 }
 
 /// Charts of whole runs and of a part of one, of a run of nothing, and refusals.
-const ENDS: [End; 13] = [
+static ENDS: [End; 13] = [
     End {
         line: "text 3 6",
         script: b"# Two flipped bits that lie close together are repaired in memory.\nunit 0 rp06\nwrite 1 0 c 5 1 fill 5a\ndrain\nnoise 0 5 1 4 12\nturn 0 0\nread 2 0 c 5 1\n",
@@ -108,41 +108,40 @@ const ENDS: [End; 13] = [
     },
 ];
 
-/// The first of these commands that ends otherwise, or their number.
-fn first_other(alloc: Global) -> Result<usize, Fail> {
-    for (i, end) in ENDS.iter().enumerate() {
-        if !view_of(alloc, end.line, end.script, end.trace, NONE)?.is(end.status, end.text) {
-            return Ok(i);
-        }
-    }
-    Ok(ENDS.len())
+/// Whether a command ends so, and prints just this.
+fn ends_so(alloc: Global, end: &End) -> bool {
+    let ended = view_of(alloc, end.line, end.script, end.trace);
+    ended.status == end.status && ended.out.as_slice() == end.text
 }
 
 #[test]
-fn each_end(rt: HostRuntime) -> Result<(), Fail> {
-    let other = first_other(rt.alloc())?;
-    assert_eq!(rt; other, ENDS.len());
-    Ok(())
+fn each_end(rt: HostRuntime) {
+    for end in &ENDS {
+        assert!(rt; ends_so(rt.alloc(), end), "{}", end.line);
+    }
 }
 
-/// What comes where the first call of the script's source, of the trace's, or of the sink fails: the statuses, and what is printed.
-fn failed(alloc: Global) -> Result<[(u8, usize); 3], Fail> {
-    let mut ends = [(0u8, 0usize); 3];
-    for i in 0..3usize {
-        let faults = Faults {
-            script: u64::from(i == 0),
-            trace: u64::from(i == 1),
-            out: u64::from(i == 2),
-        };
-        let ended = view_of(alloc, "svg", ENDS[0].script, ENDS[0].trace, faults)?;
-        ends[i] = (ended.status, ended.out.taken().len());
-    }
-    Ok(ends)
+/// A source whose call of this number fails.
+fn source(alloc: Global, bytes: &[u8], fault: u64) -> Result<MemSource, AllocError> {
+    let faults = Vec::from_slice(alloc, &[fault])?;
+    Ok(MemSource::new(Vec::from_slice(alloc, bytes)?, faults))
+}
+
+/// What comes where these calls of the script's source, of the trace's, and of the sink fail, of which none has the number 0: the status,
+/// and how much is printed.
+fn failed(alloc: Global, script: u64, trace: u64, out: u64) -> Option<(u8, usize)> {
+    let faults = Vec::from_slice(alloc, &[out]).ok()?;
+    let mut out = MemSink::new(alloc, 100_000, faults).ok()?;
+    let mut script = source(alloc, ENDS[0].script, script).ok()?;
+    let mut trace = source(alloc, ENDS[0].trace, trace).ok()?;
+    let status = status_of(alloc, "svg", &mut script, &mut trace, &mut out);
+    Some((status, out.taken().len()))
 }
 
 #[test]
-fn what_fails(rt: HostRuntime) -> Result<(), Fail> {
-    let ends = failed(rt.alloc())?;
-    assert_eq!(rt; ends, [(4, 0), (4, 0), (5, 0)]);
-    Ok(())
+fn what_fails(rt: HostRuntime) {
+    let script = failed(rt.alloc(), 1, 0, 0);
+    let trace = failed(rt.alloc(), 0, 1, 0);
+    let out = failed(rt.alloc(), 0, 0, 1);
+    assert!(rt; script == Some((4, 0)) && trace == Some((4, 0)) && out == Some((5, 0)));
 }

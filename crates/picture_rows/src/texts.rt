@@ -9,7 +9,7 @@ pub(crate) struct Example {
 }
 
 /// Each script of the folder that `play` plays.
-pub(crate) const EXAMPLES: [Example; 15] = [
+pub(crate) static EXAMPLES: [Example; 15] = [
     Example {
         name: "alias",
         script: b"# Noise that imitates a right sector: the read is answered ok with wrong bytes, and only the noise line warns of it.\nunit 0 rp06\nwrite 1 0 c 5 1 fill 5a\ndrain\nnoise 0 5 1 0 9 11 21 30 32\nturn 0 0\nread 2 0 c 5 1\ndrain\nread 3 0 c 5 1\n",

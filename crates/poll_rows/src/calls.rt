@@ -3,7 +3,7 @@ use crate::cut_packs::{CutPacks, SURVEYED, Written, Wrong, cut};
 use pack_format::{FormatFault, FormatReport, format};
 use pack_geometry::DriveKind;
 use std::alloc::Global;
-use std::test::Fail;
+use std::process::Abort;
 
 /// Formats these packs.
 fn run(alloc: Global, packs: &mut CutPacks) -> Result<FormatReport, FormatFault> {
@@ -55,16 +55,16 @@ fn is_whole(written: &[Written]) -> bool {
 }
 
 /// What a whole run writes, where it ends well with all its calls.
-fn whole(alloc: Global) -> Result<Option<CutPacks>, Fail> {
+fn whole(alloc: Global) -> Option<CutPacks> {
     let mut packs = cut(alloc, 0, Wrong::Fails);
     let result = run(alloc, &mut packs);
     if result == Ok(FormatReport { bad: 2 })
         && packs.calls == CALLS
         && is_whole(packs.written.as_slice())
     {
-        return Ok(Some(packs));
+        return Some(packs);
     }
-    Ok(None)
+    None
 }
 
 /// Whether a run that this call stops fails, makes no call behind it, and has written just what a whole run has by then.
@@ -78,69 +78,63 @@ fn stops(alloc: Global, whole: &CutPacks, number: u64, wrong: Wrong) -> bool {
 type Calls = (u64, u64, u64);
 
 /// The first of these calls that does not so stop a run; 0 where each does.
-fn other_stop(alloc: Global, calls: &[Calls]) -> Result<u64, Fail> {
-    let Some(whole) = whole(alloc)? else {
-        return Ok(CALLS);
+fn other_stop(alloc: Global, calls: &[Calls]) -> u64 {
+    let Some(whole) = whole(alloc) else {
+        return CALLS;
     };
     for (first, count, step) in calls {
         for k in 0..*count {
             let number = first.saturating_add(k.saturating_mul(*step));
             if !stops(alloc, &whole, number, Wrong::Fails) {
-                return Ok(number);
+                return number;
             }
         }
     }
-    Ok(0)
+    0
+}
+
+fn all_stop(rt: &impl Abort, alloc: Global, calls: &[Calls]) {
+    let other = other_stop(alloc, calls);
+    assert!(rt; other == 0, "{other}");
 }
 
 /// The length, the first reading of two cylinders, and of data blocks from there on.
 #[test]
-fn readings_of_data_fail(rt: HostRuntime) -> Result<(), Fail> {
-    assert_eq!(rt; other_stop(rt.alloc(), &[(1, 660, 1), (661, 263, 997)])?, 0);
-    Ok(())
+fn readings_of_data_fail(rt: HostRuntime) {
+    all_stop(&rt, rt.alloc(), &[(1, 660, 1), (661, 263, 997)]);
 }
 
 /// The first reading of the last data blocks, the replacements and the copies.
 #[test]
-fn readings_of_replacements_fail(rt: HostRuntime) -> Result<(), Fail> {
-    assert_eq!(rt; other_stop(rt.alloc(), &[(SURVEYED - 269, 140, 1)])?, 0);
-    Ok(())
+fn readings_of_replacements_fail(rt: HostRuntime) {
+    all_stop(&rt, rt.alloc(), &[(SURVEYED - 269, 140, 1)]);
 }
 
 #[test]
-fn readings_of_copies_fail(rt: HostRuntime) -> Result<(), Fail> {
-    assert_eq!(rt; other_stop(rt.alloc(), &[(SURVEYED - 129, 130, 1)])?, 0);
-    Ok(())
+fn readings_of_copies_fail(rt: HostRuntime) {
+    all_stop(&rt, rt.alloc(), &[(SURVEYED - 129, 130, 1)]);
 }
 
 /// The tests of the first data block, and of marked ones behind it.
 #[test]
-fn calls_at_the_first_block_fail(rt: HostRuntime) -> Result<(), Fail> {
-    assert_eq!(rt;
-        other_stop(
-            rt.alloc(),
-            &[(SURVEYED + 1, 16, 1), (SURVEYED + 17, 66, 1_999)]
-        )?,
-        0
+fn calls_at_the_first_block_fail(rt: HostRuntime) {
+    all_stop(
+        &rt,
+        rt.alloc(),
+        &[(SURVEYED + 1, 16, 1), (SURVEYED + 17, 66, 1_999)],
     );
-    Ok(())
 }
 
 /// The tests of the data block in the middle, and of marked ones behind it.
 #[test]
-fn calls_at_the_middle_block_fail(rt: HostRuntime) -> Result<(), Fail> {
-    assert_eq!(rt;
-        other_stop(rt.alloc(), &[(394_830, 16, 1), (394_847, 33, 3_985)])?,
-        0
-    );
-    Ok(())
+fn calls_at_the_middle_block_fail(rt: HostRuntime) {
+    all_stop(&rt, rt.alloc(), &[(394_830, 16, 1), (394_847, 33, 3_985)]);
 }
 
 /// The tests of the last data block and of the replacements, and the writing of the copies.
 #[test]
-fn calls_at_the_last_blocks_fail(rt: HostRuntime) -> Result<(), Fail> {
-    assert_eq!(rt; other_stop(rt.alloc(), &[(CALLS - 47, 48, 1)])?, 0);
-    Ok(())
+fn calls_at_the_last_blocks_fail(rt: HostRuntime) {
+    all_stop(&rt, rt.alloc(), &[(CALLS - 47, 48, 1)]);
 }
 
 /// Whether a run that this call leads astray ends with that fault behind so many calls, and has written just what a whole run has by then.
@@ -173,20 +167,20 @@ fn ends_at(alloc: Global, whole: &CutPacks, written: &Written) -> bool {
 }
 
 /// The first write at which runs do not so end, by its call; 0 where they do at each.
-fn other_end(alloc: Global) -> Result<u64, Fail> {
-    let Some(whole) = whole(alloc)? else {
-        return Ok(CALLS);
+fn other_end(alloc: Global) -> u64 {
+    let Some(whole) = whole(alloc) else {
+        return CALLS;
     };
     for written in &whole.written {
         if !ends_at(alloc, &whole, written) {
-            return Ok(written.call);
+            return written.call;
         }
     }
-    Ok(0)
+    0
 }
 
 #[test]
-fn each_write_comes_back_otherwise(rt: HostRuntime) -> Result<(), Fail> {
-    assert_eq!(rt; other_end(rt.alloc())?, 0);
-    Ok(())
+fn each_write_comes_back_otherwise(rt: HostRuntime) {
+    let other = other_end(rt.alloc());
+    assert!(rt; other == 0, "{other}");
 }

@@ -4,36 +4,20 @@ use script_reader::ScriptKind::{
 };
 use script_reader::{ReadFault, ScriptKind, read_script};
 use std::alloc::{AllocError, Global};
-use std::test::Fail;
 
 // What comes of a text: how many lines it has, and how many of them say something.
-fn read(alloc: Global, text: &str) -> Result<Result<(u32, usize), ReadFault>, AllocError> {
-    let bytes = text.as_bytes().to_vec(alloc)?;
-    match read_script(alloc, bytes) {
-        Ok(script) => Ok(Ok((script.count(), script.lines().len()))),
-        Err(fault) => Ok(Err(fault)),
-    }
-}
-
-// Whether this comes of a text.
-fn is_read_as(
-    alloc: Global,
-    text: &str,
-    wanted: Result<(u32, usize), ReadFault>,
-) -> Result<bool, AllocError> {
-    Ok(read(alloc, text)? == wanted)
-}
-
-// Whether a text is refused so.
-fn is_refused(alloc: Global, bytes: Vec<u8>, line: u64, kind: ScriptKind) -> bool {
-    match read_script(alloc, bytes) {
-        Ok(_) => false,
-        Err(fault) => fault == Refused { line, kind },
+fn counts(alloc: Global, text: Result<Vec<u8>, AllocError>) -> Result<(u32, usize), ReadFault> {
+    match text {
+        Ok(text) => {
+            let script = read_script(alloc, text)?;
+            Ok((script.count(), script.lines().len()))
+        }
+        Err(_) => Err(ReadFault::Memory),
     }
 }
 
 // Each kind of refusal, and each two of its neighbours in the order of the checks.
-const REFUSED: [(&str, u64, ScriptKind); 48] = [
+static REFUSED: [(&str, u64, ScriptKind); 48] = [
     ("units 0 rp06", 1, Word),
     (" #x", 1, Word),
     ("#x\n\t\n\r\nx", 4, Word),
@@ -85,16 +69,21 @@ const REFUSED: [(&str, u64, ScriptKind); 48] = [
 ];
 
 #[test]
-fn refusals_in_their_order(rt: HostRuntime) -> Result<(), Fail> {
-    for (text, line, kind) in REFUSED {
-        let is_so = is_read_as(rt.alloc(), text, Err(Refused { line, kind }))?;
-        assert!(rt; is_so, "{text}");
+fn refusals_in_their_order(rt: HostRuntime) {
+    for (text, line, kind) in &REFUSED {
+        let fault = Refused {
+            line: *line,
+            kind: *kind,
+        };
+        assert!(rt;
+            counts(rt.alloc(), text.as_bytes().to_vec(rt.alloc())) == Err(fault),
+            "{text}"
+        );
     }
-    Ok(())
 }
 
 // How many lines a text has, and how many of them say something.
-const READ: [(&str, u32, usize); 7] = [
+static READ: [(&str, u32, usize); 7] = [
     ("", 0, 0),
     ("\r", 1, 0),
     ("\n\n", 2, 0),
@@ -117,20 +106,21 @@ const READ: [(&str, u32, usize); 7] = [
 ];
 
 #[test]
-fn scripts_are_read(rt: HostRuntime) -> Result<(), Fail> {
-    for (text, count, lines) in READ {
-        let is_so = is_read_as(rt.alloc(), text, Ok((count, lines)))?;
-        assert!(rt; is_so, "{text}");
+fn scripts_are_read(rt: HostRuntime) {
+    for (text, count, lines) in &READ {
+        assert!(rt;
+            counts(rt.alloc(), text.as_bytes().to_vec(rt.alloc())) == Ok((*count, *lines)),
+            "{text}"
+        );
     }
-    Ok(())
 }
 
 // One line more than a script may have.
 #[test]
-fn too_many_lines(rt: HostRuntime) -> Result<(), Fail> {
-    let mut bytes = Vec::new(rt.alloc());
-    bytes.resize(1_000_001, b'\n')?;
-    let is_so = is_refused(rt.alloc(), bytes, 1_000_001, TooMany);
-    assert!(rt; is_so);
-    Ok(())
+fn too_many_lines(rt: HostRuntime) {
+    let fault = Refused {
+        line: 1_000_001,
+        kind: TooMany,
+    };
+    assert!(rt; counts(rt.alloc(), b"\n".repeat(rt.alloc(), 1_000_001)) == Err(fault));
 }
