@@ -39,11 +39,11 @@ pub struct Faults {
     pub trace_room: usize,
 }
 
-/// No call has the number 0, and no run has as much to say.
+/// No call has the number 0, and few runs have more to say.
 pub const NONE: Faults = Faults {
     fails: [0; 8],
-    out_room: 500_000,
-    trace_room: 2_000_000,
+    out_room: 20_000,
+    trace_room: 40_000,
 };
 
 impl Faults {

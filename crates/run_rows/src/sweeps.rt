@@ -46,8 +46,8 @@ pub fn each(stage: &mut Stage, page: &mut Vec<u8>, rest: &str) -> Result<(), NoM
     Ok(add_all(page, &[line, "\n"])?)
 }
 
-/// Runs a command with each call of an operation failing in turn, until none does, and shows how often a word stands in the traces:
-/// each number that is the next one behind those before.
+/// Runs a command with each call of an operation of the packs failing in turn, until none does, and shows how often a word stands in the
+/// traces of those that stop there: each number that is the next one behind those before.
 pub fn counts(stage: &Stage, page: &mut Vec<u8>, rest: &str) -> Result<(), NoMemory> {
     let (name, rest) = split(rest);
     let (word, line) = split(rest);
@@ -59,7 +59,7 @@ pub fn counts(stage: &Stage, page: &mut Vec<u8>, rest: &str) -> Result<(), NoMem
         if left.ran.status == 0 {
             break;
         }
-        if times(left.ran.trace.taken(), word.as_bytes()) == next {
+        if left.ran.status == 6 && times(left.ran.trace.taken(), word.as_bytes()) == next {
             add_number(page, " ", next, "")?;
             next = next.saturating_add(1);
         }

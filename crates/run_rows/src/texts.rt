@@ -135,11 +135,17 @@ pub fn show_runs(page: &mut Vec<u8>, bytes: &[u8]) -> Result<(), AllocError> {
     add_run(page, count, last)
 }
 
+/// Whether a piece stands in a text at a place.
+fn stands_at(text: &[u8], place: usize, piece: &[u8]) -> bool {
+    text.get(place..).unwrap_or(b"").starts_with(piece)
+}
+
 /// How often a piece stands in a text.
 pub fn times(text: &[u8], piece: &[u8]) -> u64 {
+    let first = piece.first().copied().unwrap_or(0);
     let mut count = 0u64;
-    for i in 0..text.len() {
-        if text.get(i..).unwrap_or(b"").starts_with(piece) {
+    for (place, byte) in text.iter().enumerate() {
+        if *byte == first && stands_at(text, place, piece) {
             count = count.saturating_add(1);
         }
     }
@@ -148,5 +154,11 @@ pub fn times(text: &[u8], piece: &[u8]) -> u64 {
 
 /// Whether a piece stands in a text.
 pub fn holds(text: &[u8], piece: &[u8]) -> bool {
-    times(text, piece) > 0
+    let first = piece.first().copied().unwrap_or(0);
+    for (place, byte) in text.iter().enumerate() {
+        if *byte == first && stands_at(text, place, piece) {
+            return true;
+        }
+    }
+    piece.is_empty()
 }
