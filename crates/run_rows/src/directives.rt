@@ -103,7 +103,13 @@ fn set_unit(stage: &mut Stage, verb: &str, rest: &str) -> Result<(), NoMemory> {
         _ => {
             for block in first..end {
                 let (rule, text, synced) = rule_of(stage.alloc, verb, behind)?;
-                stage.watches.push(Watch { rule, unit, block, text, synced })?;
+                stage.watches.push(Watch {
+                    rule,
+                    unit,
+                    block,
+                    text,
+                    synced,
+                })?;
             }
         }
     }

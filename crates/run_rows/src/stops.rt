@@ -97,7 +97,11 @@ fn packs_amiss(stage: &Stage, whole: &Left, left: &Left) -> &'static str {
             untold = untold.saturating_add(1);
         }
     }
-    if untold > 1 { "its packs are not those of its trace" } else { "" }
+    if untold > 1 {
+        "its packs are not those of its trace"
+    } else {
+        ""
+    }
 }
 
 /// What of the texts of a run that stopped is not as in the whole run; "" where all is.

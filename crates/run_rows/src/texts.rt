@@ -98,7 +98,12 @@ pub fn add_all(bytes: &mut Vec<u8>, texts: &[&str]) -> Result<(), AllocError> {
 }
 
 /// Puts a text, a number and another text behind bytes.
-pub fn add_number(bytes: &mut Vec<u8>, before: &str, number: u64, behind: &str) -> Result<(), AllocError> {
+pub fn add_number(
+    bytes: &mut Vec<u8>,
+    before: &str,
+    number: u64,
+    behind: &str,
+) -> Result<(), AllocError> {
     let mut buffer = Buffer::new();
     add_all(bytes, &[before, buffer.format(number), behind])
 }
