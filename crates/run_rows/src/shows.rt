@@ -8,7 +8,10 @@ use std::alloc::AllocError;
 /// Shows what a line asks for.
 pub fn show(stage: &Stage, page: &mut Vec<u8>, verb: &str, rest: &str) -> Result<(), AllocError> {
     match verb {
-        "@trace" => show_text(page, "trace", stage.text("trace")),
+        "@trace" => {
+            add_all(page, &["trace\n"])?;
+            show_text(page, stage.text("trace"))
+        }
         "@commands" => show_commands(page, stage.text("trace")),
         "@show" => show_blocks(stage, page, rest),
         "@size" => show_size(page, rest, stage.text(rest)),
@@ -25,9 +28,8 @@ fn is_text(bytes: &[u8]) -> bool {
     are_shown && bytes.last().copied().unwrap_or(b'\n') == b'\n'
 }
 
-/// Shows a text below its name: its lines, or where it has none its bytes as runs.
-pub fn show_text(page: &mut Vec<u8>, name: &str, text: &[u8]) -> Result<(), AllocError> {
-    add_all(page, &[name, "\n"])?;
+/// Shows the lines of a text, or where it has none its bytes as runs.
+pub fn show_text(page: &mut Vec<u8>, text: &[u8]) -> Result<(), AllocError> {
     if is_text(text) {
         return page.extend_from_slice(text);
     }

@@ -19,7 +19,7 @@ pub fn play(
     add_number(page, "status ", u64::from(stage.ran.status), " of ")?;
     add_all(page, &[line, "\n"])?;
     if is_shown {
-        show_text(page, "out", stage.ran.out.taken())?;
+        show_text(page, stage.ran.out.taken())?;
     }
     Ok(())
 }
