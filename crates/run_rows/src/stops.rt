@@ -152,6 +152,13 @@ fn amiss_again(
     Ok("it ends otherwise where it is run again")
 }
 
+/// Whether a run came to what the whole run did.
+fn is_whole(stage: &Stage, whole: &Left, left: &Left) -> bool {
+    let is_printed = left.ran.out.taken() == whole.ran.out.taken();
+    let is_traced = left.ran.trace.taken() == whole.ran.trace.taken();
+    is_printed && is_traced && are_same(stage, &whole.packs, &left.packs)
+}
+
 /// What does not hold of a run in which a call fails; "" where all does, and "done" where that call is not made.
 fn stopped_at(
     stage: &Stage,
@@ -163,7 +170,11 @@ fn stopped_at(
     let source = stage.source.as_slice();
     let mut left = run_apart(stage, line, source, operation, number)?;
     if left.ran.status == 0 {
-        return Ok("done");
+        return Ok(if is_whole(stage, whole, &left) {
+            "done"
+        } else {
+            "it goes on and ends otherwise"
+        });
     }
     match amiss(stage, whole, &left, line, wanted(operation)) {
         "" => amiss_again(stage, whole, &mut left.packs, line),
