@@ -16,8 +16,8 @@ pub fn play(
     let source = stage.source.as_slice();
     stage.ran = run_line(stage.alloc, line, source, &mut stage.packs, stage.faults)?;
     stage.source.clear();
-    add_number(page, "status ", u64::from(stage.ran.status), " of ")?;
-    add_all(page, &[line, "\n"])?;
+    add_all(page, &[line])?;
+    add_number(page, ": status ", u64::from(stage.ran.status), "\n")?;
     if is_shown {
         show_text(page, stage.ran.out.taken())?;
     }
@@ -42,8 +42,8 @@ pub fn each(stage: &mut Stage, page: &mut Vec<u8>, rest: &str) -> Result<(), NoM
             done = done.saturating_add(1);
         }
     }
-    add_number(page, "", done, " times status 0 of ")?;
-    Ok(add_all(page, &[line, "\n"])?)
+    add_all(page, &[line])?;
+    Ok(add_number(page, ": status 0 for ", done, " numbers\n")?)
 }
 
 /// Runs a command with each call of an operation of the packs failing in turn, until none does, and shows how often a word stands in the
