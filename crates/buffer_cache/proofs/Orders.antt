@@ -1,5 +1,5 @@
 -- The order of the blocks and their slots, and the entries that they are.
-use Rattle.std.proofs.Common.{◌≡◌, ◌≢◌, ◌⊎◌, inl, inr, ℕ, zero, suc, ◌+◌, ◌-◌, ◌<◌, ◌≤◌, ◌==◌, ◌&&◌, Bool, true, false, cond, List, [], ◌∷◌, ◌++◌, length, take, drop, Option, None, Some, refl, sym, ap, ◌∙◌, subst, arith, length-append}
+use Rattle.std.proofs.Common.{◌≡◌, ◌≢◌, ℕ, zero, suc, ◌+◌, ◌-◌, ◌<◌, ◌≤◌, ◌==◌, Bool, true, false, cond, List, [], ◌∷◌, ◌++◌, length, take, drop, Option, None, Some, refl, sym, ap, ◌∙◌, subst, arith, length-append}
 use Rattle.std.specs.Prelude.{map, nat_lt, is_some, is_err, Result, Ok, Err, OnOk, OnErr, slice_index_or, slice_set, slice_get, if◌then◌else◌}
 use Rattle.std.specs.Option.{option_map, option_map_or}
 use Rattle.std.specs.Map.{lookup, lookup_entry, remove_entry, keys_of}
@@ -9,9 +9,9 @@ use Rattle.std.proofs.lemmas.Bool.Decides.{nat_tests}
 use Rattle.std.proofs.lemmas.Option.{none-some, same_Some}
 use Rattle.lru.specs.LruCache.{LruCache, lru_cache, last_entry, promoted, put_entries}
 use Rattle.cached_blocks.specs.declared.Entry.{Entry}
-use Rattle.cached_blocks.specs.Entries.{is_of, entry_of, others, AreApart, in_front, rewritten, fronted, changed_in_front, if_changed, to_write_back, unchanged, last_unchanged}
+use Rattle.cached_blocks.specs.Entries.{entry_of, others, AreApart, in_front, rewritten, fronted, changed_in_front, if_changed, to_write_back, unchanged, last_unchanged}
 use Rattle.cached_blocks.proofs.Lookups.{IsKey, is_key}
-use Rattle.cached_blocks.proofs.Rooms.{Snoc, snoc, snoc_some, one_less, take_front, drop_front, get_behind, take_all}
+use Rattle.cached_blocks.proofs.Rooms.{snoc, snoc_some, one_less, take_front, drop_front, get_behind, take_all}
 use Rattle.buffer_cache.specs.declared.entry.Key.{Key}
 use Rattle.buffer_cache.specs.declared.entry.Held.{Held}
 use Rattle.buffer_cache.specs.Views.{nothing, is_at, entry_with, entry_at, entries_of, Misses, AreSlots, IsKept, state_of, slot_or, free_slot, bytes_over}

@@ -1,6 +1,6 @@
 -- What a call keeps of the driver, and of the blocks that may be asked for.
-use Rattle.std.proofs.Common.{◌≡◌, ◌⊎◌, inl, inr, ℕ, zero, suc, ◌-◌, ◌≤◌, ◌<◌, length, take, drop, Bool, true, false, IsTrue, List, [], ◌∷◌, ◌++◌, Option, None, Some, refl, sym, ap, ◌∙◌, subst, arith}
-use Rattle.std.specs.Prelude.{map, is_some, IsSome, if◌then◌else◌}
+use Rattle.std.proofs.Common.{◌≡◌, inl, inr, ℕ, zero, suc, ◌-◌, ◌<◌, length, take, drop, Bool, true, false, IsTrue, List, [], ◌∷◌, ◌++◌, Option, None, Some, refl, sym, ap, ◌∙◌, subst}
+use Rattle.std.specs.Prelude.{map, is_some, if◌then◌else◌}
 use Rattle.std.specs.List.{AllByRecursion}
 use Rattle.pack_geometry.specs.Geometry.{limit_of}
 use Rattle.driver_machine.specs.World.{World}
@@ -10,19 +10,17 @@ use Rattle.waited_requests.specs.Waited.{map_of, with_packs}
 use Rattle.single_blocks.specs.Passes.{Stage}
 use Rattle.single_blocks.specs.Passes.{setup_at}
 use Rattle.single_blocks.specs.Passes.{StillTell, SessionsJoin}
-use Rattle.single_blocks.specs.Passes.{OthersStay}
 use Rattle.single_blocks.specs.Passes.{map_at, left_map, IsUntouched}
 use Rattle.single_blocks.proofs.Passes.{others_over, left_over}
 use Rattle.single_blocks.proofs.Passes.{kind_stays}
 use Rattle.subsystem_spec.specs.Requests.{Request}
 use Rattle.cached_blocks.specs.declared.Entry.{Entry}
-use Rattle.cached_blocks.specs.Requests.{Map, reads, writes, behind_one, behind}
+use Rattle.cached_blocks.specs.Requests.{Map, reads, behind_one, behind}
 use Rattle.cached_blocks.specs.Entries.{State, is_of, entry_of, IsCache, in_front, rewritten, unchanged, last_unchanged, written_last, to_write_back, with_room, put, write_backs}
 use Rattle.cached_blocks.specs.Calls.{entry, read_done, write_done}
 use Rattle.cached_blocks.proofs.Lookups.{none_misses, misses_none, found_all, others_all}
 use Rattle.cached_blocks.specs.Contents.{AllFit, Gives, Takes, IsOne, AreOne}
 use Rattle.cached_blocks.specs.Laws.{IsFoundIn, ReadKeeps, WriteKeeps}
-use Rattle.cached_blocks.proofs.Ones.{IsFound, each_found, back_all, back_one, last_one, own_one}
 use Rattle.cached_blocks.proofs.Requested.{read_same}
 use Rattle.single_blocks.specs.Asks.{IsData, Asks, Fetches, LeftBy}
 use Rattle.single_blocks.proofs.Joins.{asks_join}

@@ -1,6 +1,6 @@
 -- One more entry of a sync.
-use Rattle.std.proofs.Common.{◌≡◌, ◌≢◌, ◌⊎◌, inl, inr, ℕ, ◌<◌, Bool, true, false, IsTrue, List, [], ◌∷◌, ◌++◌, length, Option, None, Some, refl, sym, ap, ◌∙◌, subst, append-nil, append_assoc, ◌≤◌, arith}
-use Rattle.std.specs.Prelude.{map, slice_index_or, slice_set, if◌then◌else◌}
+use Rattle.std.proofs.Common.{◌≡◌, ◌≢◌, ℕ, ◌<◌, false, IsTrue, List, [], ◌∷◌, ◌++◌, length, None, Some, refl, sym, ap, ◌∙◌, subst, append-nil, append_assoc, ◌≤◌, arith}
+use Rattle.std.specs.Prelude.{map, slice_index_or, slice_set}
 use Rattle.std.specs.List.{AllByRecursion}
 use Rattle.std.proofs.lemmas.List.{length-set, map-append}
 use Rattle.lru.specs.LruCache.{LruCache}
@@ -21,7 +21,7 @@ use Rattle.single_blocks.specs.Asks.{IsData, Asks, LeftBy}
 use Rattle.single_blocks.proofs.Joins.{asks_join}
 use Rattle.buffer_cache.specs.declared.entry.Key.{Key}
 use Rattle.buffer_cache.specs.declared.entry.Held.{Held}
-use Rattle.buffer_cache.specs.Views.{nothing, entry_with, entry_at, entries_of, state_of, Misses, AreSlots, IsKept}
+use Rattle.buffer_cache.specs.Views.{nothing, entry_at, entries_of, state_of, Misses, AreSlots, IsKept}
 use Rattle.buffer_cache.specs.Calls.{Holds, Syncs}
 use Rattle.buffer_cache.proofs.Orders.{entries_set, entry_set}
 use Rattle.buffer_cache.proofs.Stays.{holds_left}

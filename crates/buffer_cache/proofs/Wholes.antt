@@ -11,7 +11,7 @@ use Rattle.single_blocks.specs.Passes.{StillTell, SessionsJoin}
 use Rattle.single_blocks.specs.Passes.{map_at}
 use Rattle.cached_blocks.specs.declared.Entry.{Entry}
 use Rattle.cached_blocks.specs.Requests.{Map, reads, writes, behind}
-use Rattle.cached_blocks.specs.Entries.{State, IsCache, entry_of, in_front, rewritten, fronted, changed_in_front, to_write_back, with_room, put, write_backs}
+use Rattle.cached_blocks.specs.Entries.{State, IsCache, entry_of, in_front, rewritten, fronted, changed_in_front, to_write_back, put, write_backs}
 use Rattle.cached_blocks.specs.Calls.{Done, entry, read_by, read_done, write_by, write_done}
 use Rattle.cached_blocks.specs.Contents.{AreOne}
 use Rattle.cached_blocks.specs.Laws.{ReadKeeps, WriteKeeps, ReadLeavesOne, WriteLeavesOne}

@@ -1,5 +1,5 @@
 -- Laws of attaching: behind some lines of a script its units are set up, their images fit, and their tables are those of their packs.
-use Rattle.std.proofs.Common.{◌≡◌, ℕ, suc, ◌+◌, ◌*◌, ◌<◌, ◌≤◌, Bool, IsTrue, List, [], ◌∷◌, ◌++◌, length, map, drop, refl, sym, ap, subst, ◌∙◌, Option, Some, None}
+use Rattle.std.proofs.Common.{◌≡◌, ℕ, suc, ◌+◌, ◌*◌, ◌<◌, ◌≤◌, Bool, IsTrue, List, [], ◌∷◌, ◌++◌, length, map, drop, refl, sym, ap, subst, ◌∙◌}
 use Rattle.std.specs.Prelude.{slice_index_or, Result, Ok, Err, IfErr}
 use Rattle.std.specs.Result.{IsErrAnd}
 use Rattle.pack_geometry.specs.declared.DriveKind.{DriveKind}
@@ -17,7 +17,7 @@ use Rattle.cached_script.specs.Scripts as cached
 use Rattle.cached_script.specs.Formed.{IsScript}
 use Rattle.cached_run.specs.declared.fault.CachedPlayFault.{CachedPlayFault}
 use Rattle.cached_run.specs.declared.fault.CachedPlayFault.TheVariants as faults
-use Rattle.cached_run.specs.Attaching.{IsFoundLong, HasRoom, Adds, RefusesLine}
+use Rattle.cached_run.specs.Attaching.{HasRoom, Adds, RefusesLine}
 use Rattle.cached_run.specs.Faults.{IsLongFor}
 use Rattle.cached_run.specs.Lines.{lines_before}
 use Rattle.cached_run.specs.Meaning.{statement_of, line_of, meaning_of}

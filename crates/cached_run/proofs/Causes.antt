@@ -1,9 +1,8 @@
 -- Why playing stopped.
-use Rattle.std.proofs.Common.{◌≡◌, ◌⊎◌, inl, inr, ℕ, ◌≤◌, IsTrue, refl, sym, subst, arith, None, Some}
-use Rattle.std.specs.Prelude.{Result, Ok, Err, Bool, IfErr, OnOk, OnErr, IsErrOf}
+use Rattle.std.proofs.Common.{◌≡◌, inl, inr, ℕ, ◌≤◌, refl, sym, subst, arith, Some}
+use Rattle.std.specs.Prelude.{Result, Ok, Err, Bool, IfErr, OnOk, OnErr}
 use Rattle.std.specs.Result.{IsErrAnd}
-use Rattle.outside_traits.specs.Causes.{Rose, HasCause}
-use Rattle.outside_traits.specs.declared.traits.SinkFailed.{SinkFailed}
+use Rattle.outside_traits.specs.Causes.{Rose}
 use Rattle.mass_gather.proofs.GatherLaws.{rose_more}
 use Rattle.pack_model.specs.Pack.{Pack}
 use Rattle.trace_replay.specs.Script.{Script}
@@ -13,7 +12,7 @@ use Rattle.buffer_cache.specs.Passes.{HasCauses}
 use Rattle.cached_run.specs.declared.fault.CachedPlayFault.{CachedPlayFault}
 use Rattle.cached_run.specs.declared.fault.CachedPlayFault.TheVariants as fault
 use Rattle.event_player.specs.Passes.{Took}
-use Rattle.cached_run.specs.Faults.{from_stop, Rise, IsCaused, IsBefore, IsLongFor}
+use Rattle.cached_run.specs.Faults.{from_stop, IsCaused, IsBefore, IsLongFor}
 use Rattle.cached_run.specs.Theorem.{CachedStops, CachedLeaves}
 
 pub same : (n : ℕ) → n ≤ n

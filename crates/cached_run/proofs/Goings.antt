@@ -1,15 +1,14 @@
 -- What a line comes to, behind any inputs.
-use Rattle.std.proofs.Common.{◌≡◌, ◌⊎◌, inl, inr, ℕ, zero, suc, ◌+◌, ◌≤◌, Bool, true, false, IsTrue, List, [], ◌∷◌, ◌++◌, length, take, Option, None, Some, refl, sym, ap, ◌∙◌, subst, arith, append-nil, append_assoc, length-append}
+use Rattle.std.proofs.Common.{◌≡◌, inl, inr, ℕ, ◌+◌, ◌≤◌, Bool, true, false, IsTrue, List, [], ◌∷◌, ◌++◌, length, take, Option, None, Some, refl, sym, ap, ◌∙◌, subst, arith, append-nil, append_assoc, length-append}
 use Rattle.std.specs.Prelude.{map, unwrap_or, if◌then◌else◌}
 use Rattle.std.proofs.Math.Seq.{take-length, take-append_seam, take-append-add}
 use Rattle.outside_traits.specs.Causes.{Rose}
 use Rattle.outside_traits.specs.Puts.{TakesFront}
 use Rattle.mass_gather.proofs.GatherLaws.{rose_more}
-use Rattle.pack_geometry.specs.declared.DriveKind.{DriveKind}
 use Rattle.pack_geometry.specs.declared.DriveKind.TheVariants.{Rp06}
 use Rattle.subsystem_spec.specs.Requests.{Request}
 use Rattle.subsystem_spec.specs.declared.answers.AnswerKind.{AnswerKind}
-use Rattle.trace_replay.specs.Script.{Input, Submit, Drain, Numbered}
+use Rattle.trace_replay.specs.Script.{Submit, Drain, Numbered}
 use Rattle.block_machine.specs.Machine.{Blocks, kind_of}
 use Rattle.block_machine.specs.Stands.{Setup}
 use Rattle.driver_machine.specs.World.{unit_at}
@@ -20,24 +19,23 @@ use Rattle.answer_lines.specs.AnswerText.{answer_text}
 use Rattle.buffer_cache.specs.Passes.{Stage}
 use Rattle.buffer_cache.specs.Passes.{setup_at}
 use Rattle.buffer_cache.specs.Passes.{kind_if}
-use Rattle.buffer_cache.specs.Passes.{OthersStay}
 use Rattle.buffer_cache.specs.Passes.{kind_at, map_at, left_map}
 use Rattle.buffer_cache.proofs.Passes.{others_over, left_over, map_long}
 use Rattle.cached_blocks.specs.Requests.{Map}
 use Rattle.cached_blocks.specs.declared.Entry.{Entry}
-use Rattle.cached_blocks.specs.Entries.{State, is_of, entry_of, unchanged, flushed}
+use Rattle.cached_blocks.specs.Entries.{State, is_of, entry_of, unchanged}
 use Rattle.cached_blocks.specs.Contents.{bytes_or, cached, Fits, AllFit, Flushes}
 use Rattle.cached_blocks.proofs.Lookups.{IsKey, is_key, found_key, found_all}
 use Rattle.buffer_cache.specs.Calls.{IfTold, Holds, Syncs}
 use Rattle.cached_run.specs.Answers.{Replacement, answer_with, answers_of, map_of_inputs, text_of, replaced_with, replacements_of, after}
-use Rattle.cached_run.specs.Theorem.{IsAfter, EndsWithSync, HasNoSync, AreParted}
+use Rattle.cached_run.specs.Theorem.{IsAfter, EndsWithSync, HasNoSync}
 use Rattle.cached_run.specs.Leaving.{IsLeft, Leaves, Makes, KeepsSetup, Does}
 use Rattle.cached_run.specs.Saying.{said_text, IsSaid, AreLong}
-use Rattle.cached_run.specs.Going.{Scene, with_out, drives_at, blocks_at, HoldsSome, IsFar, HasHalted, GoesOn, Halts, SyncGoesOn, SyncHalts, syncs_at}
+use Rattle.cached_run.specs.Going.{Scene, with_out, drives_at, blocks_at, IsFar, HasHalted, GoesOn, Halts, SyncGoesOn, SyncHalts, syncs_at}
 use Rattle.cached_run.proofs.Replacings.{after_more, same_map, take_first, take_second}
 use Rattle.cached_run.proofs.Inputs.{map_more, map_is, replacements_more, text_more, fewer_before}
 use Rattle.cached_run.proofs.Leavings.{leaves_read}
-use Rattle.cached_run.proofs.Legal.{LongMap, long_inputs}
+use Rattle.cached_run.proofs.Legal.{long_inputs}
 
 -- ---- inputs that end with a sync, or have none
 pub ends_with : (xs : List Numbered) (n : Numbered) → n.input ≡ Drain → EndsWithSync (xs ++ n ∷ [])

@@ -1,12 +1,12 @@
 -- Inputs, one behind the other: their answers, their replacements, and the map behind them.
-use Rattle.std.proofs.Common.{◌≡◌, ◌≢◌, inl, inr, ℕ, zero, suc, ◌+◌, ◌≤◌, ◌==◌, ◌&&◌, Bool, true, false, List, [], ◌∷◌, ◌++◌, length, Option, None, Some, refl, sym, ap, ◌∙◌, subst, arith, append_assoc, length-append}
+use Rattle.std.proofs.Common.{◌≡◌, inl, inr, ℕ, zero, suc, ◌+◌, ◌≤◌, ◌==◌, Bool, true, false, List, [], ◌∷◌, ◌++◌, length, Option, None, Some, refl, sym, ap, ◌∙◌, arith, append_assoc, length-append}
 use Rattle.std.specs.Prelude.{is_some, if◌then◌else◌}
 use Rattle.std.proofs.lemmas.Bool.Decides.{eqb_tells}
 use Rattle.std.proofs.lemmas.Grind.{flat_map-append}
 use Rattle.pack_geometry.specs.declared.DriveKind.{DriveKind}
 use Rattle.partitions.specs.declared.Admission.{Admission}
 use Rattle.partitions.specs.declared.Admission.TheVariants.{Inside, Eof, Outside}
-use Rattle.subsystem_spec.specs.Requests.{Request, Answer, ReadOk, WriteOk}
+use Rattle.subsystem_spec.specs.Requests.{Request, ReadOk, WriteOk}
 use Rattle.trace_replay.specs.Script.{Input, Submit, ArriveAt, MoveAt, AttendTo, Drain, Turn, Noise, Arm, SetOnline, SetLocked, Numbered}
 use Rattle.trace_replay.specs.Moments.{Answered}
 use Rattle.trace_replay.specs.Packs.{sector_of_block}
@@ -14,7 +14,7 @@ use Rattle.block_machine.specs.Machine.{Blocks, bytes_of_first, blocks_done, blo
 use Rattle.block_machine.proofs.Blocks.{begun_blocks, read_blocks, block_done, other_blocks}
 use Rattle.answer_lines.specs.AnswerText.{answer_text}
 use Rattle.waited_requests.specs.Waited.{first_unusable, answer_by, answer_at, map_at}
-use Rattle.cached_run.specs.Answers.{Replacement, met_by, first_by, map_after, with_answer, map_by, answers_of, map_of_inputs, text_of, replaced, usable_of, replaced_at, replaced_by, replacements_of, with_replacement, after}
+use Rattle.cached_run.specs.Answers.{met_by, first_by, with_answer, map_by, answers_of, map_of_inputs, text_of, replaced, usable_of, replaced_at, replaced_by, replacements_of, with_replacement, after}
 use Rattle.cached_run.proofs.Replacings.{after_more, same_map}
 
 -- ---- more of them

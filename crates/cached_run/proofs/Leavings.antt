@@ -1,12 +1,10 @@
 -- What calls leave, one behind the other.
-use Rattle.std.proofs.Common.{◌≡◌, ◌⊎◌, inl, inr, ℕ, zero, ◌+◌, ◌≤◌, Bool, false, true, IsTrue, List, [], ◌∷◌, ◌++◌, length, take, Option, None, Some, refl, sym, ap, ◌∙◌, subst, arith, length-append}
-use Rattle.std.specs.Prelude.{IsSome, if◌then◌else◌, ◌==◌, ◌&&◌}
+use Rattle.std.proofs.Common.{◌≡◌, inl, inr, ℕ, ◌+◌, ◌≤◌, false, true, List, [], ◌∷◌, ◌++◌, length, take, Option, None, Some, refl, sym, ap, ◌∙◌, subst, arith, length-append}
+use Rattle.std.specs.Prelude.{if◌then◌else◌, ◌==◌, ◌&&◌}
 use Rattle.std.proofs.lemmas.Bool.{eq-eqb}
-use Rattle.waited_requests.specs.Rest.{HasTables}
 use Rattle.waited_requests.specs.Waited.{map_of, with_packs}
 use Rattle.buffer_cache.specs.Passes.{Stage}
 use Rattle.buffer_cache.specs.Passes.{setup_at}
-use Rattle.buffer_cache.specs.Passes.{OthersStay}
 use Rattle.buffer_cache.specs.Passes.{map_at, left_map}
 use Rattle.buffer_cache.proofs.Passes.{others_none, others_over, left_over}
 use Rattle.cached_blocks.specs.declared.Entry.{Entry}
@@ -14,8 +12,8 @@ use Rattle.cached_blocks.specs.Requests.{Map}
 use Rattle.cached_blocks.specs.Entries.{State}
 use Rattle.cached_blocks.specs.Contents.{cached, AllFit, IsOne}
 use Rattle.buffer_cache.specs.Calls.{Holds}
-use Rattle.cached_run.specs.Answers.{Replacement, with_replacement, after}
-use Rattle.cached_run.specs.Leaving.{SomeAfter, IsLeft, Leaves, Makes, KeepsSetup}
+use Rattle.cached_run.specs.Answers.{Replacement, after}
+use Rattle.cached_run.specs.Leaving.{IsLeft, Leaves, Makes, KeepsSetup}
 use Rattle.cached_run.proofs.Replacings.{after_more, same_map, take_first, take_second}
 
 -- ---- nothing is done

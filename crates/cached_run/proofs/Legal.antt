@@ -1,23 +1,22 @@
 -- THE ANSWERS ARE LEGAL: those that a map gives one by one are steps of the block machine, each at its own line.
-use Rattle.std.proofs.Common.{◌≡◌, ◌⊎◌, inl, inr, ℕ, zero, suc, ◌+◌, ◌-◌, ◌*◌, ◌/◌, ◌<◌, ◌≤◌, Bool, true, false, List, [], ◌∷◌, ◌++◌, length, take, Option, None, Some, refl, sym, ap, ◌∙◌, subst, arith, length-append, append-nil}
+use Rattle.std.proofs.Common.{◌≡◌, ℕ, zero, suc, ◌+◌, ◌-◌, ◌*◌, ◌/◌, ◌≤◌, Bool, true, false, List, [], ◌∷◌, ◌++◌, length, take, Option, None, Some, refl, sym, ap, ◌∙◌, subst, arith, length-append}
 use Rattle.std.specs.Prelude.{IsSome, is_some, if◌then◌else◌, ◌==◌, ◌&&◌, nat_le, nat_lt}
 use Rattle.std.proofs.lemmas.Bool.{eq-eqb}
 use Rattle.std.proofs.lemmas.Bool.Decides.{nat_tests}
 use Rattle.pack_geometry.specs.declared.DriveKind.{DriveKind}
 use Rattle.partitions.specs.declared.Admission.{Admission}
 use Rattle.partitions.specs.declared.Admission.TheVariants.{Inside, Eof, Outside}
-use Rattle.partitions.specs.Partitions.{admission}
-use Rattle.subsystem_spec.specs.Requests.{Request, IsRequest, first_block, Answer, ReadOk, WriteOk, Failed, Unforwarded}
+use Rattle.subsystem_spec.specs.Requests.{Request, IsRequest, Answer, ReadOk, WriteOk}
 use Rattle.trace_replay.specs.Script.{Input, Submit, ArriveAt, MoveAt, AttendTo, Drain, Turn, Noise, Arm, SetOnline, SetLocked, Numbered}
 use Rattle.trace_replay.specs.Moments.{Answered}
 use Rattle.trace_replay.specs.Service.{frames_needed}
 use Rattle.trace_replay.specs.Packs.{size_of_block, sector_of_block}
 use Rattle.trace_replay.specs.Replay.{submission_by}
-use Rattle.block_machine.specs.Machine.{Blocks, Machine, idle, kind_of, request_of, without, meets, submitted, answers_at_once, after_input, answers_of_input, AreUsable, bytes_or_none, bytes_of_first, blocks_done, blocks_after, done_in, MayAnswer, Step, Steps}
+use Rattle.block_machine.specs.Machine.{Blocks, Machine, idle, without, meets, submitted, answers_at_once, after_input, answers_of_input, AreUsable, bytes_or_none, bytes_of_first, blocks_done, blocks_after, done_in, MayAnswer, Step, Steps}
 use Rattle.block_machine.specs.LegalAnswers.{AnswersAt, AnswersTo, all_claimed}
 use Rattle.block_machine.proofs.Blocks.{sector_full}
 use Rattle.buffer_cache.proofs.Passes.{none_unusable, first_is}
-use Rattle.waited_requests.specs.Waited.{first_unusable, answer_by, answer_of, answer_at, map_at}
+use Rattle.waited_requests.specs.Waited.{first_unusable, answer_by, answer_at, map_at}
 use Rattle.cached_run.specs.Answers.{met_by, first_by, answer_to, map_after, with_answer, map_by, answers_of, map_of_inputs}
 
 -- ---- frames are there: a request has 129 at the most

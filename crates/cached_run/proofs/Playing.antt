@@ -1,5 +1,5 @@
 -- What is played at a line is what its statement says.
-use Rattle.std.proofs.Common.{◌≡◌, ℕ, ◌≤◌, List, [], ◌∷◌, ◌++◌, refl, sym, ap, ◌∙◌, subst, append-nil}
+use Rattle.std.proofs.Common.{◌≡◌, ℕ, ◌≤◌, List, [], ◌∷◌, ◌++◌, sym, ap, ◌∙◌, subst, append-nil}
 use Rattle.trace_replay.specs.Script.{Numbered, Script, with_input, inputs_of}
 use Rattle.driver_machine.specs.World.{World}
 use Rattle.cached_blocks.specs.Entries.{State}

@@ -1,5 +1,5 @@
 -- The blocks of a read, one behind the other.
-use Rattle.std.proofs.Common.{◌≡◌, ◌≢◌, inl, inr, ℕ, suc, ◌+◌, ◌<◌, ◌≤◌, IsTrue, List, [], length, Option, None, Some, refl, sym, ap, ◌∙◌, subst, arith}
+use Rattle.std.proofs.Common.{◌≡◌, ◌≢◌, inl, inr, ℕ, ◌+◌, ◌<◌, IsTrue, List, [], length, Option, None, Some, refl, sym, ap, ◌∙◌, subst, arith}
 use Rattle.std.specs.Prelude.{IsSome, slice_index_or, slice_set}
 use Rattle.std.proofs.lemmas.List.{get_or-set_same, get_or-set_other}
 use Rattle.std.proofs.lemmas.Bool.Decides.{eqb_tells}
@@ -11,7 +11,7 @@ use Rattle.cached_blocks.specs.Requests.{Map}
 use Rattle.cached_blocks.specs.Entries.{State}
 use Rattle.cached_blocks.specs.Contents.{cached, AllFit, Gives}
 use Rattle.buffer_cache.specs.Calls.{IfTold, Reads, Holds}
-use Rattle.cached_run.specs.Leaving.{Leaves, Makes, KeepsSetup, AreRead, Does, usable_in}
+use Rattle.cached_run.specs.Leaving.{Leaves, KeepsSetup, AreRead, Does}
 use Rattle.cached_run.proofs.Firsts.{all_usable, some_usable}
 use Rattle.cached_run.proofs.Leavings.{leaves_none, makes_none, leaves_then, makes_then, leaves_read}
 

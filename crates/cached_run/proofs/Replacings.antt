@@ -1,5 +1,5 @@
 -- Replacements, one behind the other.
-use Rattle.std.proofs.Common.{◌≡◌, ℕ, zero, suc, ◌+◌, ◌≤◌, List, [], ◌∷◌, ◌++◌, length, take, refl, sym, ap, ◌∙◌, arith}
+use Rattle.std.proofs.Common.{◌≡◌, ℕ, zero, suc, ◌+◌, ◌≤◌, List, [], ◌∷◌, ◌++◌, length, take, refl, ap, arith}
 use Rattle.std.proofs.Math.Seq.{take-append-add}
 use Rattle.block_machine.specs.Machine.{Blocks}
 use Rattle.cached_run.specs.Answers.{Replacement, with_replacement, after}

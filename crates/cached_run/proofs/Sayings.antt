@@ -23,7 +23,7 @@ use Rattle.answer_lines.proofs.TextLaws.{blocks_said}
 use Rattle.buffer_cache.proofs.Passes.{first_is}
 use Rattle.cached_blocks.specs.Requests.{Map}
 use Rattle.cached_script.specs.declared.statement.Asked.{Asked}
-use Rattle.cached_run.specs.Answers.{Replacement, answer_with, replaced, usable_of, replaced_at, replaced_with}
+use Rattle.cached_run.specs.Answers.{answer_with, replaced, usable_of, replaced_at, replaced_with}
 use Rattle.cached_run.specs.Leaving.{AreRead, usable_in, spread}
 use Rattle.cached_run.specs.Meaning.{filled, one_filled, request_of}
 use Rattle.cached_run.specs.Saying.{AreLong, IsSaid, kind_by, GivesAmong}

@@ -1,5 +1,5 @@
 -- The lines of a script of the cache: which units they declare, what they ask for, and their inputs.
-use Rattle.std.proofs.Common.{◌≡◌, ◌⊎◌, inl, inr, ℕ, zero, suc, ◌+◌, ◌*◌, ◌-◌, ◌<◌, ◌≤◌, ◌==◌, Bool, true, false, List, [], ◌∷◌, ◌++◌, length, map, take, drop, replicate, Option, None, Some, refl, sym, ap, ◌∙◌, subst, arith, append-nil, append_assoc}
+use Rattle.std.proofs.Common.{◌≡◌, ◌⊎◌, inl, inr, ℕ, zero, suc, ◌+◌, ◌*◌, ◌-◌, ◌<◌, ◌≤◌, ◌==◌, Bool, true, false, List, [], ◌∷◌, ◌++◌, length, map, take, drop, Option, None, Some, refl, sym, ap, ◌∙◌, subst, arith, append-nil, append_assoc}
 use Rattle.std.specs.Prelude.{if◌then◌else◌, slice_index_or}
 use Rattle.std.proofs.lemmas.Bool.{eq-eqb, ne_eqb}
 use Rattle.std.proofs.lemmas.Bool.Decides.{eqb_tells}
@@ -9,10 +9,9 @@ use Rattle.std.proofs.Math.Seq.{drop-cons}
 use Rattle.std.proofs.lemmas.List.{take-append-drop}
 use Rattle.pack_geometry.specs.declared.DriveKind.{DriveKind}
 use Rattle.pack_geometry.specs.declared.DriveKind.TheVariants.{Rp06}
-use Rattle.subsystem_spec.specs.Requests.{Request, IsRequest}
-use Rattle.trace_replay.specs.Script.{Statement, Declares, Plays, Line, Numbered, Input, Drain, declared_by, drives_in, drives_of, with_input, inputs_before, inputs_of}
+use Rattle.subsystem_spec.specs.Requests.{IsRequest}
+use Rattle.trace_replay.specs.Script.{Statement, Declares, Plays, Numbered, Input, Drain, declared_by, drives_in, with_input, inputs_before, inputs_of}
 use Rattle.driver_machine.specs.World.{World}
-use Rattle.driver_machine.specs.Guards.{IsSetUp}
 use Rattle.event_player.specs.Passes.{AreUnits}
 use Rattle.event_player.proofs.Passes.{HasDrive, drives-append, first_some}
 use Rattle.event_player.proofs.Going.{inputs_append, inputs_end}
@@ -22,7 +21,7 @@ use Rattle.cached_script.specs.declared.statement.Statement.TheVariants as says
 use Rattle.cached_script.specs.declared.statement.Line.{Line as Said}
 use Rattle.cached_script.specs.Scripts as cached
 use Rattle.cached_script.specs.Scripts.{kind_after, kind_in, known_of}
-use Rattle.cached_script.specs.Formed.{IsAsked, IsNew, IsWell, AreWell, IsScript}
+use Rattle.cached_script.specs.Formed.{IsAsked, IsWell, AreWell, IsScript}
 use Rattle.cached_run.specs.Meaning.{filled, request_of, statement_of, line_of, meaning_of}
 use Rattle.cached_run.specs.Lines.{lines_before, inputs_till, input_at, MayAsk, MayPlay, KeepsUnits}
 use Rattle.cached_run.proofs.Legal.{AreAskedWell}

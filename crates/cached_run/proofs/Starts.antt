@@ -1,5 +1,5 @@
 -- A new driver for the units of a script, and an empty cache.
-use Rattle.std.proofs.Common.{◌≡◌, ◌⊎◌, inl, inr, ℕ, ◌<◌, ◌≤◌, Bool, true, false, IsTrue, List, [], ◌∷◌, ◌++◌, length, Option, None, Some, refl, sym, ap, ◌∙◌, subst, arith, append-nil}
+use Rattle.std.proofs.Common.{◌≡◌, inl, inr, ℕ, ◌≤◌, true, false, List, [], Option, None, Some, refl, sym, ap, ◌∙◌, subst, arith, append-nil}
 use Rattle.std.specs.Prelude.{is_some, unwrap_or, min}
 use Rattle.std.proofs.Math.Path.{fun_ext}
 use Rattle.pack_geometry.specs.declared.DriveKind.{DriveKind}
@@ -8,9 +8,8 @@ use Rattle.pack_model.specs.Pack.{Pack}
 use Rattle.pack_model.specs.TableSpelling.{Table}
 use Rattle.pack_model.specs.PackTable.{IsTableAt, AreTablesOf}
 use Rattle.trace_replay.specs.Script.{Script, drives_of}
-use Rattle.block_machine.specs.Stands.{Setup}
 use Rattle.waited_requests.specs.Rest.{HasTables}
-use Rattle.driver_machine.specs.World.{World, UnitView, Setup as UnitSetup, no_unit, new_unit, new_world, unit_at}
+use Rattle.driver_machine.specs.World.{World, UnitView, Setup as UnitSetup, new_unit, new_world, unit_at}
 use Rattle.driver_machine.specs.Guards.{IsSetUp}
 use Rattle.buffer_cache.specs.Passes.{State as Driver}
 use Rattle.buffer_cache.specs.Passes.{kind_if, table_if, setup_of}

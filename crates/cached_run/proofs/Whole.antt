@@ -1,24 +1,20 @@
 -- A script that was played to its end, and one that stopped.
-use Rattle.std.proofs.Common.{◌≡◌, ◌⊎◌, inl, inr, ℕ, zero, suc, ◌+◌, ◌*◌, ◌<◌, ◌≤◌, ◌==◌, Bool, true, false, IsTrue, List, [], ◌∷◌, ◌++◌, length, take, Option, None, Some, refl, sym, ap, ◌∙◌, subst, arith, append-nil}
-use Rattle.std.specs.Prelude.{is_some, not, slice_index, unwrap_or}
-use Rattle.std.proofs.lemmas.Option.{none-some}
+use Rattle.std.proofs.Common.{◌≡◌, ℕ, ◌<◌, ◌≤◌, ◌==◌, IsTrue, List, [], ◌∷◌, ◌++◌, length, take, Option, None, Some, refl, sym, ap, ◌∙◌, subst, arith, append-nil}
+use Rattle.std.specs.Prelude.{not, slice_index}
 use Rattle.std.proofs.lemmas.List.{take_all}
-use Rattle.std.proofs.Math.Path.{fun_ext}
 use Rattle.outside_traits.specs.Causes.{Rose}
 use Rattle.outside_traits.specs.Puts.{TakesFront}
 use Rattle.pack_geometry.specs.declared.DriveKind.{DriveKind}
 use Rattle.pack_geometry.specs.declared.DriveKind.TheVariants.{Rp06, Rm03, Rm05}
-use Rattle.pack_geometry.specs.Geometry.{block_count, limit_of, copy_at}
+use Rattle.pack_geometry.specs.Geometry.{block_count, copy_at}
 use Rattle.pack_model.specs.Pack.{Pack}
-use Rattle.pack_model.specs.Pack as model
 use Rattle.pack_model.specs.TableSpelling.{Table}
 use Rattle.pack_model.specs.PackTable.{IsTableAt, AreTablesOf, places_of}
-use Rattle.pack_model.specs.Homes.{home_of, contents_of, IsHome}
 use Rattle.pack_model.proofs.HomeLaws.{home_below}
 use Rattle.pack_model.proofs.PackTableLaws.{table_room, table_same}
 use Rattle.trace_replay.specs.Script.{Script, Numbered, Drain, drives_of, inputs_of}
 use Rattle.block_machine.specs.Machine.{Blocks}
-use Rattle.block_machine.specs.Laws.{HoldMap, RestStays}
+use Rattle.block_machine.specs.Laws.{RestStays}
 use Rattle.block_machine.specs.LegalAnswers.{AreLegal, all_claimed}
 use Rattle.block_machine.specs.Stands.{Setup, home_at, home_in}
 use Rattle.waited_requests.specs.Rest.{HasTables}
@@ -29,9 +25,9 @@ use Rattle.buffer_cache.specs.Passes.{map_at, left_map}
 use Rattle.buffer_cache.proofs.Passes.{map_long}
 use Rattle.cached_blocks.specs.Entries.{State}
 use Rattle.event_player.specs.Passes.{Took}
-use Rattle.cached_run.specs.Answers.{Replacement, answers_of, map_of_inputs, text_of, replacements_of, after}
+use Rattle.cached_run.specs.Answers.{answers_of, map_of_inputs, text_of, replacements_of, after}
 use Rattle.cached_run.specs.Theorem.{contents, CachedPlays, IsAfter, EndsWithSync, HasNoSync, AreParted, CachedStops}
-use Rattle.cached_run.specs.Going.{Scene, drives_at, blocks_at, HoldsSome, IsFar, HasHalted, HaltsScript}
+use Rattle.cached_run.specs.Going.{Scene, drives_at, blocks_at, IsFar, HaltsScript}
 use Rattle.cached_run.proofs.Inputs.{map_is}
 use Rattle.cached_run.proofs.Legal.{AreAskedWell, answers_legal}
 use Rattle.cached_run.proofs.Goings.{ends_with}

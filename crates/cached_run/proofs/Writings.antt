@@ -1,7 +1,7 @@
 -- The blocks of a write, one behind the other.
-use Rattle.std.proofs.Common.{◌≡◌, ◌≢◌, ◌⊎◌, inl, inr, ℕ, zero, suc, ◌+◌, ◌-◌, ◌<◌, ◌≤◌, Bool, true, false, IsTrue, List, [], ◌∷◌, ◌++◌, length, Option, None, Some, refl, sym, ap, ◌∙◌, subst, arith, append-nil}
+use Rattle.std.proofs.Common.{◌≡◌, ◌≢◌, inl, inr, ℕ, zero, suc, ◌+◌, ◌-◌, ◌<◌, ◌≤◌, Bool, true, false, IsTrue, List, [], ◌∷◌, ◌++◌, Option, None, Some, refl, sym, ap, ◌∙◌, subst, arith, append-nil}
 use Rattle.std.specs.Prelude.{IsSome, if◌then◌else◌, ◌==◌, ◌&&◌}
-use Rattle.std.proofs.lemmas.Bool.{eq-eqb, ne_eqb}
+use Rattle.std.proofs.lemmas.Bool.{ne_eqb}
 use Rattle.std.proofs.lemmas.Bool.Decides.{eqb_tells}
 use Rattle.pack_geometry.specs.declared.DriveKind.{DriveKind}
 use Rattle.pack_model.specs.Pack as model
@@ -9,7 +9,6 @@ use Rattle.pack_model.specs.Content.{bytes_at}
 use Rattle.pack_model.specs.TableSpelling.{Table}
 use Rattle.pack_model.specs.Homes.{home_of, content_at}
 use Rattle.block_machine.proofs.Runs.{home_marks}
-use Rattle.waited_requests.specs.Rest.{HasTables}
 use Rattle.buffer_cache.specs.Passes.{Stage}
 use Rattle.buffer_cache.specs.Passes.{setup_at}
 use Rattle.buffer_cache.specs.Passes.{OthersStay}
@@ -22,9 +21,8 @@ use Rattle.cached_blocks.proofs.Lookups.{IsKey, is_key, found_key, found_all}
 use Rattle.buffer_cache.specs.Calls.{IfTold, Writes, Holds}
 use Rattle.cached_run.specs.Answers.{Replacement, with_replacement, after}
 use Rattle.cached_run.specs.Leaving.{IsLeft, Leaves, Makes, KeepsSetup, Does, usable_in, spread}
-use Rattle.cached_run.proofs.Replacings.{after_more}
 use Rattle.cached_run.proofs.Firsts.{all_usable, some_usable, at_least_usable}
-use Rattle.cached_run.proofs.Leavings.{leaves_none, makes_none, leaves_more, leaves_then, makes_then, left_read, leaves_write}
+use Rattle.cached_run.proofs.Leavings.{leaves_none, makes_none, leaves_more, leaves_then, makes_then, leaves_write}
 
 -- ---- replacements of blocks one behind the other
 pub spread_more : (n m unit first : ℕ) (from : List ℕ) → spread (n + m) unit first from ≡ spread n unit first from ++ spread m unit (first + n) from

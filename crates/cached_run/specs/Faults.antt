@@ -1,5 +1,5 @@
 -- Where a script was not played, or not to its end.
-use Rattle.std.specs.Prelude.{◌≡◌, ◌⊎◌, ℕ, ◌≤◌, Bool, IsTrue, Result, Ok, Err, IsErrOf}
+use Rattle.std.specs.Prelude.{◌⊎◌, ℕ, ◌≤◌, Bool, Result, Ok, Err, IsErrOf}
 use Rattle.outside_traits.specs.Causes.{Rose}
 use Rattle.pack_model.specs.Pack.{Pack}
 use Rattle.trace_replay.specs.Script.{Script}

@@ -1,5 +1,5 @@
 -- THE THEOREM on scripts of the cache.
-use Rattle.std.specs.Prelude.{◌≡◌, ◌⊎◌, ℕ, ◌<◌, ◌≤◌, Bool, IsTrue, List, [], ◌∷◌, ◌++◌, length, take, Option, Some}
+use Rattle.std.specs.Prelude.{◌≡◌, ◌⊎◌, ℕ, ◌<◌, ◌≤◌, IsTrue, List, [], ◌∷◌, ◌++◌, length, take, Option, Some}
 use Rattle.outside_traits.specs.Causes.{Rose}
 use Rattle.outside_traits.specs.Puts.{TakesFront}
 use Rattle.pack_geometry.specs.declared.DriveKind.{DriveKind}
@@ -8,7 +8,7 @@ use Rattle.pack_model.specs.Pack.{Pack}
 use Rattle.pack_model.specs.TableSpelling.{Table}
 use Rattle.pack_model.specs.PackTable.{AreTablesOf}
 use Rattle.pack_model.specs.Homes.{contents_of}
-use Rattle.trace_replay.specs.Script.{Input, Drain, Numbered, Script, drives_of, inputs_of}
+use Rattle.trace_replay.specs.Script.{Drain, Numbered, Script, drives_of, inputs_of}
 use Rattle.block_machine.specs.Machine.{Blocks}
 use Rattle.block_machine.specs.LegalAnswers.{AreLegal, all_claimed}
 use Rattle.block_machine.specs.Laws.{HoldMap, RestStays}

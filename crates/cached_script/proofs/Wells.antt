@@ -1,9 +1,9 @@
 -- What a script says is well formed.
-use Rattle.std.proofs.Common.{◌≡◌, ℕ, zero, suc, ◌+◌, ◌<◌, ◌≤◌, Bool, true, false, List, [], ◌∷◌, ◌++◌, length, map, refl, sym, ap, subst, ◌∙◌, arith, append_assoc, append-nil, length-append, Option, None, Some, Result, Ok, Err}
-use Rattle.std.specs.Prelude.{if◌then◌else◌, ◌&&◌, ◌==◌, nat_le, nat_lt, slice_index, codes}
+use Rattle.std.proofs.Common.{◌≡◌, ℕ, zero, suc, ◌+◌, ◌<◌, ◌≤◌, Bool, true, false, List, [], ◌∷◌, ◌++◌, length, map, refl, sym, ap, subst, ◌∙◌, arith, append_assoc, append-nil, Option, None, Some, Result, Ok, Err}
+use Rattle.std.specs.Prelude.{if◌then◌else◌, ◌==◌, nat_le, nat_lt, slice_index, codes}
 use Rattle.std.specs.Str.{bytes_eq}
 use Rattle.std.specs.Str.Parse.{digits_value}
-use Rattle.std.proofs.lemmas.Bool.{leb-true, ltb-false}
+use Rattle.std.proofs.lemmas.Bool.{leb-true}
 use Rattle.hex.specs.Hex.{decode_sized}
 use Rattle.hex.specs.declared.error.FromHexError.{FromHexError}
 use Rattle.hex.proofs.HexLemmas.{decode_of-ok, decode_sized-ok, decode_sized-twice}
@@ -26,12 +26,11 @@ use Rattle.std.proofs.lemmas.Option.{none-some, same_Some}
 use Rattle.script_reader.proofs.CarriesLaws.{if_err, Gives, gives_it}
 use Rattle.cached_script.specs.declared.forms.Verb.{Verb}
 use Rattle.cached_script.specs.declared.forms.Verb.TheVariants as verbs
-use Rattle.cached_script.specs.declared.statement.Asked.{Asked}
 use Rattle.cached_script.specs.declared.statement.Statement.{Statement}
 use Rattle.cached_script.specs.declared.statement.Statement.TheVariants as says
 use Rattle.cached_script.specs.declared.statement.Line.{Line}
-use Rattle.cached_script.specs.Scripts.{Script, Spells, IsSpelled, SayTheRest, more, known_of, declares, is_full, too_late, verb_word, all_verbs, start_form, fill_by, fill_form, form_of, said, entry, line_says}
-use Rattle.cached_script.specs.Formed.{IsAsked, IsNew, IsWell, AreWell, IsScript}
+use Rattle.cached_script.specs.Scripts.{Script, IsSpelled, SayTheRest, more, known_of, is_full, too_late, verb_word, all_verbs, start_form, fill_by, fill_form, form_of, said, entry, line_says}
+use Rattle.cached_script.specs.Formed.{IsAsked, IsWell, AreWell, IsScript}
 
 -- ---- forms whose later parts rest on what the first gives
 gives_that : {A B : Type 0} (Q : A → Type 0) (P : B → Type 0) (form : Form A) (rest : A → Form B) → Gives Q form → ((a : A) → Q a → Gives P (rest a)) → Gives P (next form rest)

@@ -1,6 +1,6 @@
 -- WHAT EVERY SCRIPT IS: its units are declared first, each once and among 32; each request speaks of one that is declared, for 1 to 127
 -- blocks; and each line has a number among those of the script.
-use Rattle.std.specs.Prelude.{◌≡◌, ℕ, ◌+◌, ◌<◌, ◌≤◌, false, List, [], ◌∷◌, ◌++◌, None, Some}
+use Rattle.std.specs.Prelude.{◌≡◌, ℕ, ◌<◌, ◌≤◌, false, List, [], ◌∷◌, ◌++◌, None, Some}
 use Rattle.pack_geometry.specs.declared.DriveKind.{DriveKind}
 use Rattle.script_lines.specs.Known.{Known}
 use Rattle.cached_script.specs.declared.statement.Asked.{Asked}

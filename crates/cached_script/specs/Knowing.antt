@@ -1,5 +1,5 @@
 -- What the reader keeps of the lines before.
-use Rattle.std.specs.Prelude.{◌≡◌, ◌+◌, ◌||◌, ℕ, Bool, true, false, Option, None, Some, slice_index_or}
+use Rattle.std.specs.Prelude.{◌≡◌, ◌+◌, ◌||◌, ℕ, false, Option, None, Some, slice_index_or}
 use Rattle.script_lines.specs.Known.{Known}
 use Rattle.script_lines.specs.Knowing.{one}
 use Rattle.cached_script.specs.declared.known.Known.{Known as Kept}

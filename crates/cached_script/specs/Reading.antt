@@ -1,6 +1,5 @@
 -- How the reader goes through a script, line by line: an inner form, which is proved to give what the grammar says.
 use Rattle.std.specs.Prelude.{◌≡◌, ℕ, ◌+◌, List, [], ◌∷◌, Result, Ok, Err}
-use Rattle.script_words.specs.declared.kinds.ScriptKind.{ScriptKind}
 use Rattle.script_reader.specs.Reading.{Refusal, on}
 use Rattle.cached_script.specs.declared.kind.CachedRefusal.{CachedRefusal}
 use Rattle.cached_script.specs.declared.kind.CachedRefusal.TheVariants.{Memory, Refused}

@@ -1,10 +1,10 @@
 -- A run of `cached`, by its status.
-use Rattle.std.proofs.Common.{◌≡◌, ◌⊎◌, ℕ, Bool, IsTrue, List, Result, Err, refl, sym, ap, subst, arith, ◌∙◌}
+use Rattle.std.proofs.Common.{◌≡◌, ◌⊎◌, ℕ, Bool, IsTrue, List, Err, refl, sym, ap, subst, arith, ◌∙◌}
 use Rattle.pack_model.specs.Pack.{Pack}
 use Rattle.outside_traits.specs.Causes.{Rose}
 use Rattle.trace_replay.specs.Script.{Script}
 use Rattle.cached_script.specs.declared.statement.Line.{Line}
-use Rattle.cached_script.specs.Scripts.{Script as Lines, IsRefused}
+use Rattle.cached_script.specs.Scripts.{IsRefused}
 use Rattle.cached_script.proofs.ReadingLaws.{one_script}
 use Rattle.cached_run.specs.Faults.{IsBefore, IsLongFor, IsPlaying}
 use Rattle.cached_run.specs.Meaning.{meaning_of}
@@ -69,11 +69,11 @@ pub cached_long : (script : Script) (tells : Bool) (packs : ℕ → Pack) (fault
     → IsLongFor script tells packs fault → NamesTooLong script tells packs unit length_is
 cached_long script tells packs fault unit length_is e is = subst (λ (f : CachedPlayFault). IsLongFor script tells packs f) e is
 
-pub cached_plays : {T : Type 0} (fault : CachedPlayFault) → fault ≡ faults.Sink → IsPlaying {T} (Err fault)
-cached_plays {T} fault e = subst (λ (f : CachedPlayFault). IsPlaying {T} (Err f)) (sym e) tt
+pub cached_plays : (T : Type 0) (fault : CachedPlayFault) → fault ≡ faults.Sink → IsPlaying {T = T} (Err fault)
+cached_plays T fault e = subst (λ (f : CachedPlayFault). IsPlaying {T = T} (Err f)) (sym e) tt
 
-pub cached_before : {T : Type 0} (fault : CachedPlayFault) (unit length_is : ℕ) → fault ≡ faults.TooLong unit length_is → IsBefore {T} (Err fault)
-cached_before {T} fault unit length_is e = subst (λ (f : CachedPlayFault). IsBefore {T} (Err f)) (sym e) tt
+pub cached_before : (T : Type 0) (fault : CachedPlayFault) (unit length_is : ℕ) → fault ≡ faults.TooLong unit length_is → IsBefore {T = T} (Err fault)
+cached_before T fault unit length_is e = subst (λ (f : CachedPlayFault). IsBefore {T = T} (Err f)) (sym e) tt
 
 pub cached_leaves : (fault other : CachedPlayFault) (script : Script) (first left : ℕ → Pack) (out trace : Took) → fault ≡ other → CachedLeaves fault script first left out trace
     → CachedLeaves other script first left out trace

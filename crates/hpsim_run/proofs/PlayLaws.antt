@@ -33,9 +33,9 @@ told_of result taken after bytes line text faults faults_after tells same is all
     (subst (λ (x : List ℕ). Told taken after x faults faults_after) same (written result taken after bytes faults faults_after tells all front cause t))
 
 -- what a refusal says
-pub refused_parts : {Means : List ℕ → Script → Type 0} {First : List ℕ → ℕ → ScriptKind → Type 0} (left : List ℕ) (fault : LoadFault) (line : ℕ) (kind : ScriptKind)
+pub refused_parts : (Means : List ℕ → Script → Type 0) (First : List ℕ → ℕ → ScriptKind → Type 0) (left : List ℕ) (fault : LoadFault) (line : ℕ) (kind : ScriptKind)
     → fault ≡ loading.Refused line kind → RefusesAll Means First fault left → MeanNone Means left × First left line kind
-refused_parts {Means} {First} left fault line kind e is = subst (λ (f : LoadFault). RefusesAll Means First f left) e is
+refused_parts Means First left fault line kind e is = subst (λ (f : LoadFault). RefusesAll Means First f left) e is
 
 -- an image that is too long
 pub long_parts : (script : Script) (tells : Bool) (packs : ℕ → Pack) (fault : PlayFault) (unit length_is : ℕ) → fault ≡ faults.TooLong unit length_is

@@ -6,7 +6,6 @@ use Rattle.script_lines.specs.Known.{Numbered}
 use Rattle.script_words.specs.Words.{all_verbs}
 use Rattle.script_reader.proofs.ReadingLaws.{one_script}
 use Rattle.script_meaning.specs.Meaning.{meaning}
-use Rattle.trace_replay.specs.Script.{Script}
 use Rattle.event_player.specs.declared.play.PlayFault.{PlayFault}
 use Rattle.event_player.specs.declared.play.PlayFault.TheVariants as faults
 use Rattle.event_player.specs.Plays.{IsTooLong}

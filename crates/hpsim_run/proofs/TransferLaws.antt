@@ -7,7 +7,6 @@ use Rattle.command_words.specs.Passes.{reads_source as transfer_reads}
 use Rattle.command_words.specs.Passes.{Transfer}
 use Rattle.command_words.specs.Passes.{Read, Write}
 use Rattle.hpsim_run.specs.Leaves.{LeavesAlone}
-use Rattle.command_words.specs.declared.words.Command.{Command}
 use Rattle.command_words.specs.declared.words.Command.TheVariants.{Exercise, TransferBytes}
 
 -- it is neither 2 nor 3

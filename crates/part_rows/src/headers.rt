@@ -1,46 +1,66 @@
 // Tests of `sector_format`.
+use DriveKind::{Rm03, Rm05, Rp06};
 use pack_geometry::DriveKind;
 use sector_format::{HeaderFault, header_fault, header_of, raw_sector};
 
-// The words by the drives' tables, worked out by hand.
-#[test]
-fn headers(rt: HostRuntime) {
-    use DriveKind::{Rm03, Rm05, Rp06};
-    for (kind, block, marked, cylinder_word, sector_word, fault) in [
-        (Rp06, 1000, false, 0o010002, 0o003412, None),
-        (
-            Rp06,
-            1000,
-            true,
-            0o000002,
-            0o003412,
-            Some(HeaderFault::Format),
-        ),
-        (Rm03, 160, false, 0o150001, 0, None),
-        (Rm03, 160, true, 0o110001, 0, Some(HeaderFault::BadSector)),
-        (Rm05, 1000, false, 0o150001, 0o006010, None),
-        (
-            Rm05,
-            1000,
-            true,
-            0o110001,
-            0o006010,
-            Some(HeaderFault::BadSector),
-        ),
-    ] {
-        if block < 131680 {
-            let header = header_of(kind, block, marked);
-            assert_eq!(rt; header.cylinder_word, cylinder_word);
-            assert_eq!(rt; header.sector_word, sector_word);
-            assert!(rt; header_fault(kind, header, block) == fault);
-        }
+// Headers by the drives' tables, worked out by hand: a block, whether it is marked, its two words, and what they are at fault for.
+const HEADERS: [(DriveKind, u32, bool, u16, u16, Option<HeaderFault>); 6] = [
+    (Rp06, 1000, false, 0o010002, 0o003412, None),
+    (
+        Rp06,
+        1000,
+        true,
+        0o000002,
+        0o003412,
+        Some(HeaderFault::Format),
+    ),
+    (Rm03, 160, false, 0o150001, 0, None),
+    (Rm03, 160, true, 0o110001, 0, Some(HeaderFault::BadSector)),
+    (Rm05, 1000, false, 0o150001, 0o006010, None),
+    (
+        Rm05,
+        1000,
+        true,
+        0o110001,
+        0o006010,
+        Some(HeaderFault::BadSector),
+    ),
+];
+
+fn has_header(
+    kind: DriveKind,
+    block: u32,
+    marked: bool,
+    words: (u16, u16),
+    fault: Option<HeaderFault>,
+) -> bool {
+    if block >= 131680 {
+        return false;
     }
+    let header = header_of(kind, block, marked);
+    (header.cylinder_word, header.sector_word) == words
+        && header_fault(kind, header, block) == fault
+}
+
+// A header under another sector, on its cylinder and beside it.
+fn tells_apart() -> bool {
     let header = header_of(Rp06, 1000, false);
-    assert!(rt; header_fault(Rp06, header, 1001) == Some(HeaderFault::Compare));
-    assert!(rt; header_fault(Rp06, header, 1418) == Some(HeaderFault::Compare));
+    header_fault(Rp06, header, 1001) == Some(HeaderFault::Compare)
+        && header_fault(Rp06, header, 1418) == Some(HeaderFault::Compare)
+}
+
+// The body of a sector, and its check.
+fn keeps_body() -> bool {
     let mut body = [0u8; 512];
     body[511] = 0x80;
     let sector = raw_sector(Rm03, 160, false, &body);
-    assert!(rt; sector.body == body);
-    assert_eq!(rt; sector.check.0, 0x00A0_0805);
+    sector.body == body && sector.check.0 == 0x00A0_0805
+}
+
+#[test]
+fn headers(rt: HostRuntime) {
+    for (kind, block, marked, cylinder_word, sector_word, fault) in HEADERS {
+        assert!(rt; has_header(kind, block, marked, (cylinder_word, sector_word), fault));
+    }
+    assert!(rt; tells_apart() && keeps_body());
 }

@@ -1,33 +1,39 @@
 // Tests of `partitions`.
+use Admission::{Eof, Inside, Outside};
+use DriveKind::{Rm03, Rm05, Rp06};
 use pack_geometry::DriveKind;
 use partitions::{Admission, Part, admit, part_of, part_range};
 
+const ENDS: [(DriveKind, Part, u32, u32, Admission); 12] = [
+    (Rp06, Part::C, 340522, 1, Eof),
+    (Rp06, Part::C, 340521, 2, Outside),
+    (Rp06, Part::H, 0, 1, Eof),
+    (Rp06, Part::C, 340521, 1, Inside { first: 340521 }),
+    (Rp06, Part::B, 0, 127, Inside { first: 15884 }),
+    (Rp06, Part::C, u32::MAX, 127, Outside),
+    (Rm03, Part::G, 82079, 1, Inside { first: 131519 }),
+    (Rm05, Part::C, 500225, 1, Inside { first: 500225 }),
+    (Rm05, Part::C, 500226, 1, Eof),
+    (Rm05, Part::D, 0, 1, Eof),
+    (Rm05, Part::G, 450369, 1, Inside { first: 500225 }),
+    (Rm05, Part::G, 450369, 2, Outside),
+];
+
+fn admits(kind: DriveKind, part: Part, block: u32, count: u32, wanted: Admission) -> bool {
+    count >= 1 && count <= 127 && admit(kind, part, block, count) == wanted
+}
+
+fn has_names() -> bool {
+    let range = part_range(Rm03, Part::F);
+    part_of(b'g') == Some(Part::G)
+        && part_of(b'i') == None
+        && (range.first, range.size) == (121440, 10080)
+}
+
 #[test]
 fn partition_ends(rt: HostRuntime) {
-    use Admission::{Eof, Inside, Outside};
-    use DriveKind::{Rm03, Rm05, Rp06};
-    for (kind, part, block, count, wanted) in [
-        (Rp06, Part::C, 340522, 1, Eof),
-        (Rp06, Part::C, 340521, 2, Outside),
-        (Rp06, Part::H, 0, 1, Eof),
-        (Rp06, Part::C, 340521, 1, Inside { first: 340521 }),
-        (Rp06, Part::B, 0, 127, Inside { first: 15884 }),
-        (Rp06, Part::C, u32::MAX, 127, Outside),
-        (Rm03, Part::G, 82079, 1, Inside { first: 131519 }),
-        (Rm05, Part::C, 500225, 1, Inside { first: 500225 }),
-        (Rm05, Part::C, 500226, 1, Eof),
-        (Rm05, Part::D, 0, 1, Eof),
-        (Rm05, Part::G, 450369, 1, Inside { first: 500225 }),
-        (Rm05, Part::G, 450369, 2, Outside),
-    ] {
-        if count >= 1 && count <= 127 {
-            assert_eq!(rt; admit(kind, part, block, count), wanted, "{block} {count}");
-        } else {
-            assert!(rt; false, "no request has {count} blocks");
-        }
+    for (kind, part, block, count, wanted) in ENDS {
+        assert!(rt; admits(kind, part, block, count, wanted), "{block} {count}");
     }
-    assert_eq!(rt; part_of(b'g'), Some(Part::G));
-    assert_eq!(rt; part_of(b'i'), None);
-    let range = part_range(Rm03, Part::F);
-    assert_eq!(rt; (range.first, range.size), (121440, 10080));
+    assert!(rt; has_names());
 }

@@ -3,38 +3,55 @@ ghost use Rattle.std.specs.Prelude.{◌≤◌, ◌<◌};
 
 use ecc_repair::repair;
 use main_memory::{MainMemory, to_bus, to_cpu};
-use std::process::Abort;
+use std::alloc::Global;
 use std::test::Fail;
 
-// Bursts at both ends of a block, whole or short. In its last byte a burst is cut, and behind it nothing is flipped.
-#[test]
-fn burst_at_the_end(rt: HostRuntime) -> Result<(), Fail> {
-    let mut memory = MainMemory::new(rt.alloc())?;
-    repaired_block(&rt, &mut memory, 1, 0o1, 512, 0, [0x01, 0, 0])?;
-    repaired_block(&rt, &mut memory, 1, 0o3777, 512, 0, [0xff, 0x07, 0])?;
-    repaired_block(&rt, &mut memory, 8, 0o3777, 512, 0, [0x80, 0xff, 0x03])?;
-    repaired_block(&rt, &mut memory, 1691, 0o401, 512, 211, [0x04, 0x04, 0])?;
-    repaired_block(&rt, &mut memory, 4091, 0o2001, 512, 509, [0, 0, 0x04])?;
-    repaired_block(&rt, &mut memory, 4096, 0o3777, 512, 509, [0, 0, 0x80])?;
-    repaired_block(&rt, &mut memory, 4097, 0o3777, 512, 509, [0, 0, 0])?;
-    repaired_block(&rt, &mut memory, 4128, 0o1, 512, 509, [0, 0, 0])?;
-    repaired_block(&rt, &mut memory, 29, 0o177, 5, 3, [0xf0, 0x07, 0])?;
-    repaired_block(&rt, &mut memory, 29, 0o177, 4, 3, [0xf0, 0, 0])?;
-    repaired_block(&rt, &mut memory, 33, 0o177, 4, 3, [0, 0, 0])?;
-    Ok(())
+// Bursts at both ends of a block, whole or short: place and pattern, how many bytes of the block are asked for, and from which byte on
+// three are flipped, and how. In its last byte a burst is cut, and behind it nothing is flipped.
+const BURSTS: [(u16, u16, u32, usize, [u8; 3]); 11] = [
+    (1, 0o1, 512, 0, [0x01, 0, 0]),
+    (1, 0o3777, 512, 0, [0xff, 0x07, 0]),
+    (8, 0o3777, 512, 0, [0x80, 0xff, 0x03]),
+    (1691, 0o401, 512, 211, [0x04, 0x04, 0]),
+    (4091, 0o2001, 512, 509, [0, 0, 0x04]),
+    (4096, 0o3777, 512, 509, [0, 0, 0x80]),
+    (4097, 0o3777, 512, 509, [0, 0, 0]),
+    (4128, 0o1, 512, 509, [0, 0, 0]),
+    (29, 0o177, 5, 3, [0xf0, 0x07, 0]),
+    (29, 0o177, 4, 3, [0xf0, 0, 0]),
+    (33, 0o177, 4, 3, [0, 0, 0]),
+];
+
+// The byte that stands in a block of `last` bytes 55 whose three bytes from `first` on are flipped so.
+fn byte_at(i: usize, last: u32, first: usize, flipped: [u8; 3]) -> u8 {
+    let flips = if first <= i && i - first < 3 {
+        flipped[i - first]
+    } else {
+        0
+    };
+    if i < last as usize {
+        0x55 ^ flips
+    } else {
+        flips
+    }
 }
 
-// Repairs a block in two frames, of `last` bytes 0x55, and looks at what is flipped: three bytes from one on, and no
-// other, nor the zeros behind the block.
+fn is_flipped(data: &[u8; 512], last: u32, first: usize, flipped: [u8; 3]) -> bool {
+    for (i, byte) in data.iter().enumerate() {
+        if *byte != byte_at(i, last, first, flipped) {
+            return false;
+        }
+    }
+    true
+}
+
+// What a block in two frames holds, of `last` bytes 55, in which a burst is repaired.
 fn repaired_block(
-    rt: &impl Abort,
     memory: &mut MainMemory,
     at: u16,
     pattern: u16,
     last: u32,
-    first: usize,
-    flipped: [u8; 3],
-) -> Result<(), Fail>
+) -> Result<[u8; 512], Fail>
     requires at { 1 ≤ at }
     requires end { at ≤ 4128 }
     requires pattern { pattern < 2048 }
@@ -48,15 +65,40 @@ fn repaired_block(
     let buffer = to_cpu(buffer);
     let mut data = [0; 512];
     memory.fetch(&buffer, 0, &mut data);
-    for (i, byte) in data.iter().enumerate() {
-        let flips = if first <= i && i - first < 3 {
-            flipped[i - first]
-        } else {
-            0
-        };
-        let stored = if i < last as usize { 0x55 } else { 0 };
-        assert_eq!(rt; *byte, stored ^ flips, "byte {i} of the burst at {at}");
-    }
     memory.give_back(buffer);
+    Ok(data)
+}
+
+// Whether a burst in such a block is repaired so; one of no place or pattern, or with no byte, is not.
+fn repairs(
+    memory: &mut MainMemory,
+    at: u16,
+    pattern: u16,
+    last: u32,
+    first: usize,
+    flipped: [u8; 3],
+) -> Result<bool, Fail> {
+    if at < 1 || at > 4128 || pattern > 2047 || last < 1 || last > 512 {
+        return Ok(false);
+    }
+    let data = repaired_block(memory, at, pattern, last)?;
+    Ok(is_flipped(&data, last, first, flipped))
+}
+
+// The number of the first of those bursts that is not repaired so, or theirs.
+fn first_wrong(alloc: Global) -> Result<usize, Fail> {
+    let mut memory = MainMemory::new(alloc)?;
+    for (i, (at, pattern, last, first, flipped)) in BURSTS.iter().enumerate() {
+        if !repairs(&mut memory, *at, *pattern, *last, *first, *flipped)? {
+            return Ok(i);
+        }
+    }
+    Ok(BURSTS.len())
+}
+
+#[test]
+fn burst_at_the_end(rt: HostRuntime) -> Result<(), Fail> {
+    let wrong = first_wrong(rt.alloc())?;
+    assert!(rt; wrong == BURSTS.len(), "{wrong}");
     Ok(())
 }

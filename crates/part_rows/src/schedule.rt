@@ -1,4 +1,6 @@
 // Tests of `retry_offsets`.
+ghost use Rattle.std.specs.Prelude.{◌≤◌};
+
 use OffsetCode::{Minus400, Minus800, Minus1200, Plus400, Plus800, Plus1200};
 use Step::{Again, GiveUp, Offset, Recalibrate};
 use drive_registers::OffsetCode;
@@ -36,19 +38,17 @@ static SCHEDULE: [(Step, Step); 28] = [
     (GiveUp, GiveUp),
 ];
 
+fn follows(failures: u32, read: Step, write: Step) -> bool
+    requires some { 1 ≤ failures }
+    requires most { failures ≤ 28 }
+{
+    next_step(failures, true) == read && next_step(failures, false) == write
+}
+
 #[test]
 fn schedule(rt: HostRuntime) {
     for failures in 1..=28 {
         let (read, write) = SCHEDULE[failures as usize - 1];
-        assert_eq!(rt;
-            next_step(failures, true),
-            read,
-            "a read, failure {failures}"
-        );
-        assert_eq!(rt;
-            next_step(failures, false),
-            write,
-            "a write, failure {failures}"
-        );
+        assert!(rt; follows(failures, read, write), "failure {failures}");
     }
 }

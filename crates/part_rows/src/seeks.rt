@@ -1,24 +1,51 @@
 // Tests of `seek_engine`.
+ghost use Rattle.std.specs.Prelude.{◌<◌};
+ghost use Rattle.pack_geometry.specs.Geometry.{sectors_of};
+
 use pack_geometry::{DriveKind, Place};
 use seek_engine::{Position, Queued, Waiting, decide};
 
-// A target at sector 2 of cylinder 7, from each distance, on the cylinder and beside it; the search is for the
-// sector 3 ahead, across the start of the track.
+// The sector of a target at sector 2 of cylinder 7 that a search is for: the sector 3 ahead, across the start of the track.
+const AHEAD: [(DriveKind, u32, u32); 3] = [
+    (DriveKind::Rp06, 22, 21),
+    (DriveKind::Rm03, 32, 31),
+    (DriveKind::Rm05, 32, 31),
+];
+
+// What is decided of that target, on its cylinder and beside it, with and without a search.
+fn is_decided(kind: DriveKind, look: u32, near: bool, search: Position) -> bool
+    requires look { look < sectors_of kind }
+{
+    let target = Place {
+        cylinder: 7,
+        track: 0,
+        sector: 2,
+    };
+    let on_cylinder = if near { Position::Ready } else { search };
+    decide(kind, 7, look, target, true) == on_cylinder
+        && decide(kind, 8, look, target, true) == search
+        && decide(kind, 7, look, target, false) == Position::Ready
+        && decide(kind, 8, look, target, false) == Position::Seek { cylinder: 7 }
+}
+
+// The states of a unit that positions: for a search, and for nothing else.
+fn positions(search: Position) -> bool {
+    match Waiting::new().position(search) {
+        Ok(positioning) => {
+            let is_goal = positioning.goal() == search;
+            let Queued { .. } = positioning.arrived();
+            is_goal && Waiting::new().position(Position::Ready).is_err()
+        }
+        Err(_) => false,
+    }
+}
+
 #[test]
 fn distances(rt: HostRuntime) {
-    for (kind, sectors, ahead) in [
-        (DriveKind::Rp06, 22, 21),
-        (DriveKind::Rm03, 32, 31),
-        (DriveKind::Rm05, 32, 31),
-    ] {
-        let target = Place {
-            cylinder: 7,
-            track: 0,
-            sector: 2,
-        };
+    for (kind, sectors, sector) in AHEAD {
         let search = Position::Search {
             cylinder: 7,
-            sector: ahead,
+            sector,
         };
         for (look, near) in [
             (2, false),
@@ -29,21 +56,8 @@ fn distances(rt: HostRuntime) {
             (sectors - 3, true),
             (sectors - 4, false),
         ] {
-            let on_cylinder = if near { Position::Ready } else { search };
-            assert_eq!(rt; decide(kind, 7, look, target, true), on_cylinder);
-            assert_eq!(rt; decide(kind, 8, look, target, true), search);
-            assert_eq!(rt; decide(kind, 7, look, target, false), Position::Ready);
-            assert_eq!(rt;
-                decide(kind, 8, look, target, false),
-                Position::Seek { cylinder: 7 }
-            );
+            assert!(rt; is_decided(kind, look, near, search), "{look}");
         }
-        assert!(rt; Waiting::new().position(Position::Ready).is_err());
-        if let Ok(positioning) = Waiting::new().position(search) {
-            assert_eq!(rt; positioning.goal(), search);
-            let Queued { .. } = positioning.arrived();
-        } else {
-            assert!(rt; false, "a search is no state of its own");
-        }
+        assert!(rt; positions(search));
     }
 }

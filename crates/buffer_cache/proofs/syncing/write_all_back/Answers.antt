@@ -8,7 +8,7 @@ use Rattle.single_blocks.specs.Passes.{site}
 use Rattle.single_blocks.proofs.Passes.{on_err, keeps_none, keeps_join}
 use Rattle.cached_blocks.specs.Requests.{writes}
 use Rattle.cached_blocks.specs.Entries.{if_changed, write_backs}
-use Rattle.single_blocks.specs.Asks.{IsData, Asks, LeftBy}
+use Rattle.single_blocks.specs.Asks.{Asks, LeftBy}
 use Rattle.single_blocks.proofs.Joins.{asks_none}
 use Rattle.buffer_cache.specs.declared.entry.Key.{Key}
 use Rattle.buffer_cache.specs.declared.entry.Held.{Held}

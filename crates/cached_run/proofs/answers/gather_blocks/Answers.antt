@@ -1,6 +1,4 @@
-use Rattle.std.proofs.Common.{◌≡◌, ◌<◌, [], List, refl, ap, subst, sym, ◌∙◌, length, slice_index_or, arith}
-use Rattle.mass_gather.specs.Gathers.{Gathers}
-use Rattle.answer_lines.specs.AnswerText.{block_text}
+use Rattle.std.proofs.Common.{◌<◌, refl, ap, ◌∙◌, length, arith}
 use Rattle.cached_run.proofs.Gatherings.{blocks_more, blocks_stop}
 use Rattle.cached_run.proofs.answers.gather_blocks.Goals as goal
 

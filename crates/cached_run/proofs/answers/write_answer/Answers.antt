@@ -1,11 +1,11 @@
-use Rattle.std.proofs.Common.{◌≡◌, [], List, ◌++◌, refl, ap, subst, sym, ◌∙◌, append-nil}
+use Rattle.std.proofs.Common.{◌≡◌, [], ◌++◌, refl, ap, subst, ◌∙◌, append-nil}
 use Rattle.outside_traits.specs.Puts.{Puts}
 use Rattle.mass_gather.specs.Gathers.{Gathers}
 use Rattle.mass_gather.proofs.GatherLaws.{gathers_join, gathers_whole}
 use Rattle.subsystem_spec.specs.Answers.{answer_of}
 use Rattle.answer_lines.specs.AnswerText.{answer_line}
 use Rattle.answer_lines.specs.Blocks.{joined}
-use Rattle.cached_run.specs.Saying.{blocks_with, rest_text, said_text}
+use Rattle.cached_run.specs.Saying.{blocks_with, rest_text}
 use Rattle.cached_run.proofs.Gatherings.{puts_err}
 use Rattle.cached_run.proofs.answers.write_answer.Goals as goal
 

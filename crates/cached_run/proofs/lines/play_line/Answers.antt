@@ -1,4 +1,3 @@
-use Rattle.std.proofs.Common.{◌≡◌, refl}
 use Rattle.cached_script.specs.declared.statement.Statement.TheVariants as says
 use Rattle.cached_run.specs.Going.{Scene, scene}
 use Rattle.cached_run.proofs.Causes.{same, caused_ok, on_ok_map, on_err_map}

@@ -1,4 +1,4 @@
-use Rattle.std.proofs.Common.{◌≡◌, [], length, refl, ap, ◌∙◌}
+use Rattle.std.proofs.Common.{[], length, refl, ap, ◌∙◌}
 use Rattle.std.specs.Prelude.{None}
 use Rattle.subsystem_spec.specs.declared.answers.AnswerKind.TheVariants as answer
 use Rattle.buffer_cache.specs.Passes.{Stage}

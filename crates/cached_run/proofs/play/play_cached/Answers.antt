@@ -1,4 +1,4 @@
-use Rattle.std.proofs.Common.{◌≡◌, ◌+◌, IsTrue, length, refl, ap}
+use Rattle.std.proofs.Common.{◌+◌, IsTrue, length, refl, ap}
 use Rattle.trace_replay.specs.Script.{Drain}
 use Rattle.hp_core.specs.Setups.{setups_of}
 use Rattle.event_player.specs.Passes.{Took, took}

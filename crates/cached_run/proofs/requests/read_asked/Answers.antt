@@ -1,4 +1,4 @@
-use Rattle.std.proofs.Common.{◌≡◌, ◌+◌, ◌≤◌, length, sym, ◌∙◌, subst, arith}
+use Rattle.std.proofs.Common.{◌+◌, ◌≤◌, length, sym, ◌∙◌, subst, arith}
 use Rattle.pack_geometry.specs.Geometry.{limit_of}
 use Rattle.subsystem_spec.specs.declared.answers.Cause.TheVariants as cause
 use Rattle.buffer_cache.specs.Passes.{Stage}

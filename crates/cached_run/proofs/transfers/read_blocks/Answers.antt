@@ -1,4 +1,4 @@
-use Rattle.std.proofs.Common.{◌≡◌, ◌<◌, ◌+◌, ℕ, [], length, refl, sym, ◌∙◌, arith}
+use Rattle.std.proofs.Common.{◌<◌, ◌+◌, length, refl, ◌∙◌, arith}
 use Rattle.std.specs.Prelude.{None, slice_set}
 use Rattle.std.proofs.lemmas.List.{length-set}
 use Rattle.buffer_cache.specs.Passes.{Stage}

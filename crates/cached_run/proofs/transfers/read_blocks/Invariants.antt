@@ -1,4 +1,4 @@
-use Rattle.std.proofs.Common.{◌≡◌, ◌≤◌, length}
+use Rattle.std.proofs.Common.{◌≡◌, length}
 use Rattle.std.specs.Prelude.{None}
 use Rattle.buffer_cache.specs.Passes.{site, Keeps}
 use Rattle.buffer_cache.specs.Calls.{MayUse}

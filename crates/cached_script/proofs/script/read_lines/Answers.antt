@@ -1,4 +1,4 @@
-use Rattle.std.proofs.Common.{◌+◌, ◌≤◌, [], length, sym, arith}
+use Rattle.std.proofs.Common.{[], sym, arith}
 use Rattle.script_reader.specs.Lines.{lines_of}
 use Rattle.cached_script.specs.Knowing.{known_in}
 use Rattle.cached_script.specs.Reading.{reading}

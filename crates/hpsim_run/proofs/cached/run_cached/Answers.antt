@@ -1,5 +1,7 @@
 use Rattle.std.proofs.Common.{refl, sym}
+use Rattle.cached_script.specs.Scripts.{IsRefused}
 use Rattle.cached_run.specs.Meaning.{meaning_of}
+use Rattle.hpsim_run.specs.Cached.{MeansCached}
 use Rattle.hpsim_run.proofs.PlayLaws.{told_of, told_from, refused_parts, refusal_is, err_is}
 use Rattle.hpsim_run.proofs.CachedRuns.{one_cached, cached_done, cached_sink, cached_store, cached_before, cached_leaves, cached_long, cached_plays, uncached}
 use Rattle.hpsim_run.proofs.ScriptRuns.{memory_apart, refused_apart, too_long_apart, unread_apart, script_memory, script_refused, script_too_long, script_unread}
@@ -9,8 +11,8 @@ pub returns-in-Err-Refused-clause-runs : goal.returns-in-Err-Refused-clause-runs
 returns-in-Err-Refused-clause-runs g c = uncached refused_apart (script_refused _ one_cached _ _ c.in-Err-Refused.ensures.taken (record {
   line = c.in-Err-Refused.line;
   kind = c.in-Err-Refused.kind;
-  none = λ t. (refused_parts _ _ _ _ c.in-Err-Refused.field-0-is (c.in-Err-Refused.ensures.refused t)).0;
-  first = λ t. (refused_parts _ _ _ _ c.in-Err-Refused.field-0-is (c.in-Err-Refused.ensures.refused t)).1;
+  none = λ t. (refused_parts MeansCached IsRefused _ _ _ _ c.in-Err-Refused.field-0-is (c.in-Err-Refused.ensures.refused t)).0;
+  first = λ t. (refused_parts MeansCached IsRefused _ _ _ _ c.in-Err-Refused.field-0-is (c.in-Err-Refused.ensures.refused t)).1;
   told = told_of c.write_all.result _ _ _ _ _ _ _ _ c.as_bytes.ensures.text (refusal_is _ _ _ _ _ (sym c.in-Err-Refused.line-is) (sym c.in-Err-Refused.kind-is) c.refusal.ensures) c.write_all.ensures.bytes c.write_all.ensures.front c.write_all.ensures.cause;
 }))
 
@@ -31,10 +33,10 @@ returns-in-Err-TooLong-clause-runs g c = uncached too_long_apart (script_too_lon
       length_is = c.in-Err-TooLong.length;
       means = λ t. record { lines = c.in-Ok.script; spelled = c.in-Ok.ensures.ok t; is = refl };
       is = cached_long _ _ _ _ _ _ c.in-Err-TooLong.field-0-is c.in-Err-TooLong.ensures.too_long;
-      told = λ t. told_from g.O.Sink.taken g.O.Sink.faults _ _ _ _ _ (c.in-Err-TooLong.ensures.untouched (cached_before _ _ _ c.in-Err-TooLong.field-0-is)).silent
+      told = λ t. told_from g.O.Sink.taken g.O.Sink.faults _ _ _ _ _ (c.in-Err-TooLong.ensures.untouched (cached_before (Unit {0}) _ _ _ c.in-Err-TooLong.field-0-is)).silent
           (told_of c.write_all-in-Err-TooLong.result _ _ _ _ _ _ _ _ c.as_bytes-in-Err-TooLong.ensures.text c.too_long.ensures c.write_all-in-Err-TooLong.ensures.bytes c.write_all-in-Err-TooLong.ensures.front c.write_all-in-Err-TooLong.ensures.cause t);
     })
-    (c.in-Err-TooLong.ensures.untouched (cached_before _ _ _ c.in-Err-TooLong.field-0-is)).same)
+    (c.in-Err-TooLong.ensures.untouched (cached_before (Unit {0}) _ _ _ c.in-Err-TooLong.field-0-is)).same)
 
 pub returns-in-Err-Sink-clause-runs : goal.returns-in-Err-Sink-clause-runs
 returns-in-Err-Sink-clause-runs g c = cached_sink _ _ c.in-Ok.ensures.taken
@@ -44,7 +46,7 @@ returns-in-Err-Sink-clause-runs g c = cached_sink _ _ c.in-Ok.ensures.taken
       spelled = λ t. c.in-Ok.ensures.ok t;
       leaves = λ t. cached_leaves _ _ _ _ _ _ _ c.in-Err-Sink.field-0-is (c.in-Err-Sink.ensures.stopped t);
     })
-    (c.in-Err-Sink.ensures.fits (cached_plays _ c.in-Err-Sink.field-0-is))
+    (c.in-Err-Sink.ensures.fits (cached_plays (Unit {0}) _ c.in-Err-Sink.field-0-is))
     (c.in-Err-Sink.ensures.causes.sink (err_is c.in-Err-Sink.field-0-is))
 
 pub returns-in-Err-Store-clause-runs : goal.returns-in-Err-Store-clause-runs

@@ -1,7 +1,10 @@
 use Rattle.std.proofs.Common.{refl, sym}
 use Rattle.event_player.specs.declared.play.PlayFault.TheVariants as faults
+use Rattle.script_words.specs.Words.{all_verbs}
+use Rattle.script_reader.specs.Grammar.{IsRefused}
 use Rattle.script_reader.specs.Stored.{lines_in}
 use Rattle.script_meaning.specs.Meaning.{meaning}
+use Rattle.hpsim_run.specs.Headline.{Means}
 use Rattle.hpsim_run.proofs.PlayLaws.{told_of, told_from, refused_parts, refusal_is, long_parts, long_before, sink_plays, left_by, err_is}
 use Rattle.hpsim_run.proofs.PlayRuns.{one_meaning, runs_done, runs_sink, runs_store, unplayed}
 use Rattle.hpsim_run.proofs.ScriptRuns.{memory_apart, refused_apart, too_long_apart, unread_apart, script_memory, script_refused, script_too_long, script_unread}
@@ -12,8 +15,8 @@ pub returns-in-Err-Refused-clause-runs : goal.returns-in-Err-Refused-clause-runs
 returns-in-Err-Refused-clause-runs g c = unplayed refused_apart (script_refused _ one_meaning _ _ c.in-Err-Refused.ensures.taken (record {
   line = c.in-Err-Refused.line;
   kind = c.in-Err-Refused.kind;
-  none = λ t. (refused_parts _ _ _ _ c.in-Err-Refused.field-0-is (c.in-Err-Refused.ensures.refused t)).0;
-  first = λ t. (refused_parts _ _ _ _ c.in-Err-Refused.field-0-is (c.in-Err-Refused.ensures.refused t)).1;
+  none = λ t. (refused_parts Means (IsRefused all_verbs) _ _ _ _ c.in-Err-Refused.field-0-is (c.in-Err-Refused.ensures.refused t)).0;
+  first = λ t. (refused_parts Means (IsRefused all_verbs) _ _ _ _ c.in-Err-Refused.field-0-is (c.in-Err-Refused.ensures.refused t)).1;
   told = told_of c.write_all.result _ _ _ _ _ _ _ _ c.as_bytes.ensures.text (refusal_is _ _ _ _ _ (sym c.in-Err-Refused.line-is) (sym c.in-Err-Refused.kind-is) c.refusal.ensures) c.write_all.ensures.bytes c.write_all.ensures.front c.write_all.ensures.cause;
 }))
 

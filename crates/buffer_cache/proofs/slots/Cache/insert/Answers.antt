@@ -4,9 +4,8 @@ use Rattle.lru.specs.LruCache.{lru_cache}
 use Rattle.cached_blocks.specs.Entries.{State, entry_of, put}
 use Rattle.cached_blocks.specs.Calls.{entry}
 use Rattle.buffer_cache.specs.declared.entry.Key.{Key}
-use Rattle.buffer_cache.specs.declared.entry.Held.{Held}
 use Rattle.buffer_cache.specs.Views.{state_of, entries_of, IsKept}
-use Rattle.buffer_cache.proofs.Orders.{Takes, takes_slot, new_entries, new_key, ok_of}
+use Rattle.buffer_cache.proofs.Orders.{takes_slot, new_entries, new_key, ok_of}
 use Rattle.buffer_cache.proofs.slots.Cache.insert.Goals as goal
 
 abbrev key : ℕ → ℕ → Key

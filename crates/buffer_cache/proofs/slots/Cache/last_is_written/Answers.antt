@@ -1,11 +1,10 @@
-use Rattle.std.proofs.Common.{◌≡◌, ◌<◌, ℕ, refl, sym, ap, ◌∙◌, subst}
-use Rattle.std.specs.Prelude.{slice_set, false, None, Some, option_map}
+use Rattle.std.proofs.Common.{◌≡◌, ◌<◌, sym, ap, ◌∙◌, subst}
+use Rattle.std.specs.Prelude.{false, option_map}
 use Rattle.std.specs.Map.Iter.{deref_pair}
 use Rattle.std.proofs.lemmas.List.{get_or_default}
 use Rattle.cached_blocks.specs.Entries.{State, last_unchanged}
-use Rattle.buffer_cache.specs.declared.entry.Key.{Key}
 use Rattle.buffer_cache.specs.declared.entry.Held.{Held}
-use Rattle.buffer_cache.specs.Views.{nothing, state_of, entries_of, IsKept}
+use Rattle.buffer_cache.specs.Views.{nothing, entries_of}
 use Rattle.buffer_cache.proofs.Orders.{last_in, last_unchanged_of, none_last}
 use Rattle.buffer_cache.proofs.slots.Cache.last_is_written.Goals as goal
 

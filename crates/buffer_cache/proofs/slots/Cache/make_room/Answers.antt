@@ -1,12 +1,12 @@
-use Rattle.std.proofs.Common.{◌≡◌, ◌≤◌, [], refl, sym, ◌∙◌, subst}
-use Rattle.std.specs.Prelude.{None, Some}
+use Rattle.std.proofs.Common.{◌≤◌, [], refl, sym, ◌∙◌, subst}
+use Rattle.std.specs.Prelude.{None}
 use Rattle.single_blocks.specs.Passes.{Stage}
 use Rattle.single_blocks.specs.Passes.{site}
 use Rattle.single_blocks.specs.Passes.{map_at}
 use Rattle.single_blocks.proofs.Passes.{on_err}
 use Rattle.cached_blocks.specs.declared.Entry.{Entry}
 use Rattle.cached_blocks.specs.Requests.{writes}
-use Rattle.cached_blocks.specs.Entries.{to_write_back, write_backs}
+use Rattle.cached_blocks.specs.Entries.{write_backs}
 use Rattle.cached_blocks.proofs.Ones.{IsFound, each_found, back_all, back_one, none_one}
 use Rattle.single_blocks.specs.Asks.{IsData, Asks}
 use Rattle.single_blocks.proofs.Joins.{asks_none}

@@ -1,5 +1,5 @@
-use Rattle.std.proofs.Common.{◌≡◌, sym, ◌∙◌, subst}
-use Rattle.std.specs.Prelude.{None, Some}
+use Rattle.std.proofs.Common.{sym, ◌∙◌, subst}
+use Rattle.std.specs.Prelude.{None}
 use Rattle.std.specs.List.{AllByRecursion}
 use Rattle.single_blocks.specs.Passes.{Stage}
 use Rattle.single_blocks.specs.Passes.{site}

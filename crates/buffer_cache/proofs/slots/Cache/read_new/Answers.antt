@@ -1,5 +1,5 @@
 use Rattle.std.proofs.Common.{◌≡◌, refl, sym, subst}
-use Rattle.std.specs.Prelude.{not, None, Some, false, true}
+use Rattle.std.specs.Prelude.{not, None, Some, false}
 use Rattle.std.specs.List.{AllByRecursion}
 use Rattle.single_blocks.specs.Passes.{Stage}
 use Rattle.single_blocks.specs.Passes.{site}

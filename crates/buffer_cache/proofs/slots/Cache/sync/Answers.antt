@@ -1,10 +1,10 @@
-use Rattle.std.proofs.Common.{◌≡◌, ◌≤◌, refl, sym, ap, ◌∙◌, subst}
-use Rattle.std.specs.Prelude.{None, map}
+use Rattle.std.proofs.Common.{◌≤◌, refl, sym, subst}
+use Rattle.std.specs.Prelude.{None}
 use Rattle.std.specs.List.{AllByRecursion}
 use Rattle.single_blocks.specs.Passes.{Stage}
 use Rattle.single_blocks.specs.Passes.{site}
 use Rattle.single_blocks.specs.Passes.{map_at}
-use Rattle.cached_blocks.specs.Entries.{State, IsCache, unchanged, written_back}
+use Rattle.cached_blocks.specs.Entries.{State, IsCache, written_back}
 use Rattle.single_blocks.specs.Asks.{IsData, Asks}
 use Rattle.buffer_cache.specs.Views.{entries_of, state_of}
 use Rattle.buffer_cache.specs.Calls.{Syncs}

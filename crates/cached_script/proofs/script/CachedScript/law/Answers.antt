@@ -1,5 +1,4 @@
 use Rattle.std.proofs.Common.{subst}
-use Rattle.cached_script.specs.Scripts.{Script}
 use Rattle.cached_script.specs.Formed.{IsScript}
 use Rattle.cached_script.proofs.Wells.{spelled_well}
 use Rattle.cached_script.proofs.script.CachedScript.law.Goals as goal
