@@ -110,9 +110,10 @@ impl RowPacks {
 
     /// Writes to a block, and extends the image to its end.
     pub fn put(&mut self, unit: u8, block: u32, bytes: &[u8; 512]) -> Result<(), AllocError> {
+        let alloc = self.alloc;
         let (track, from) = place_of(unit, block);
         for _ in self.tracks.len()..track.saturating_add(1) {
-            self.tracks.push(Vec::new(self.alloc))?;
+            self.tracks.push(Vec::new(alloc))?;
         }
         if let Some(track) = self.tracks.get_mut(track) {
             put_in(track, from, bytes)?;

@@ -13,8 +13,10 @@ pub fn play(
     is_shown: bool,
     line: &str,
 ) -> Result<(), NoMemory> {
+    let alloc = stage.alloc;
+    let faults = stage.faults;
     let source = stage.source.as_slice();
-    stage.ran = run_line(stage.alloc, line, source, &mut stage.packs, stage.faults)?;
+    stage.ran = run_line(alloc, line, source, &mut stage.packs, faults)?;
     stage.source.clear();
     add_all(page, &[line])?;
     add_number(page, ": status ", u64::from(stage.ran.status), "\n")?;
