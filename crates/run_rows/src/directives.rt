@@ -139,9 +139,8 @@ fn block_of(alloc: Global, runs: &str) -> Result<[u8; 512], AllocError> {
     let mut content = Vec::new(alloc);
     add_runs(&mut content, runs)?;
     let mut bytes = [0u8; 512];
-    for (byte, new) in bytes.iter_mut().zip(content.iter()) {
-        *byte = *new;
-    }
+    let count = content.len().min(512);
+    bytes[..count].copy_from_slice(&content.as_slice()[..count]);
     Ok(bytes)
 }
 

@@ -32,8 +32,9 @@ fn put_in(track: &mut Vec<u8>, from: usize, bytes: &[u8; 512]) -> Result<(), All
     requires { from < 2 ^ 32 }
 {
     track.resize(32 * 512, 0)?;
-    if let Some(kept) = track.as_mut_slice().get_mut(from..from + 512) {
-        kept.copy_from_slice(bytes);
+    if from + 512 <= track.len() {
+        let kept = track.as_mut_slice();
+        kept[from..from + 512].copy_from_slice(bytes);
     }
     Ok(())
 }
@@ -101,8 +102,8 @@ impl RowPacks {
         let mut bytes = [0u8; 512];
         let (track, from) = place_of(unit, block);
         if let Some(track) = self.tracks.get(track) {
-            if let Some(kept) = track.get(from..from + 512) {
-                bytes.copy_from_slice(kept);
+            if from + 512 <= track.len() {
+                bytes.copy_from_slice(&track.as_slice()[from..from + 512]);
             }
         }
         bytes
