@@ -1,4 +1,6 @@
 // The packs of a row: those blocks are kept that were written to.
+ghost use Rattle.std.specs.Prelude.{◌<◌, ◌^◌};
+
 use crate::runs::Operation;
 use outside_traits::traits::{NoMemory, Packs, StoreFailed};
 use std::alloc::{AllocError, Global};
