@@ -1,14 +1,13 @@
 #!/usr/bin/env python3
-"""Writes the texts of these examples into the tests of the crates `example_rows` and `picture_rows`, which the gate runs: run it after
-each change here.
+"""Writes the texts of these examples into the tests of the crate `picture_rows`, which the gate runs: run it after each change here,
+and then `crates/run_rows/rows.py`, which plays them.
 
-    rows.py          writes src/texts.rt of both crates anew
-    rows.py check    says whether they are as these files are
+    rows.py          writes src/texts.rt of that crate anew
+    rows.py check    says whether it is as these files are
 """
 import hashlib, os, sys
 
 HERE = os.path.dirname(os.path.abspath(__file__))
-CRATES = os.path.join(HERE, '..', 'crates')
 # The examples over the pack that make-packs.sh makes; all others are played over empty packs.
 LISTED = ('course-table', 'forward')
 # The words of the command that plays an example: `play`, but for these, which have no picture.
@@ -29,31 +28,13 @@ def literal(text):
 NAMES = sorted(it[:-4] for it in os.listdir(HERE) if it.endswith('.hps'))
 
 
-def texts():
-    names = NAMES
-    lines = [
-        '// The texts of `examples/`, as `examples/rows.py` writes them.',
-        '',
-        '/// An example: the words that play it, whether that is over the pack with a table, its script, what is printed, and the trace.',
-        'pub(crate) struct Example {',
-        "    pub(crate) name: &'static str,",
-        "    pub(crate) words: &'static [&'static str],",
-        '    pub(crate) is_listed: bool,',
-        "    pub(crate) script: &'static [u8],",
-        "    pub(crate) out: &'static [u8],",
-        "    pub(crate) trace: &'static [u8],",
-        '}',
-        '',
-        '/// Each script of the folder.',
-        f'pub(crate) const EXAMPLES: [Example; {len(names)}] = [',
-    ]
-    for name in names:
-        words = ', '.join(f'"{word}"' for word in WORDS.get(name, ['play']))
-        lines += ['    Example {', f'        name: "{name}",', f'        words: &[{words}],', f'        is_listed: {str(name in LISTED).lower()},']
-        for field, suffix in (('script', 'hps'), ('out', 'out'), ('trace', 'trace')):
-            lines.append(f'        {field}: {literal(read(f"{name}.{suffix}"))},')
-        lines.append('    },')
-    return '\n'.join([*lines, '];', ''])
+def packs_of(name):
+    """The packs of an example: for each unit its blocks that are not zeros, and its marks."""
+    if name not in LISTED:
+        return {}
+    table = bytes([1, 0, 0, 0, 0, 0, 0, 0, 2, 0, 10, 7]) + b'\xff' * 500
+    blocks = {block: table for block in (340648, 340650, 340652, 340654, 340656)}
+    return {0: ({**blocks, 340647: b'\x5a' * 512}, [1000], None)}
 
 
 def pictures():
@@ -89,15 +70,14 @@ def pictures():
     return '\n'.join([*lines, '];', ''])
 
 
-FILES = {'example_rows': texts, 'picture_rows': pictures}
-if sys.argv[1:] not in ([], ['check']):
-    sys.exit(__doc__)
-for crate, text in FILES.items():
-    path = os.path.join(CRATES, crate, 'src', 'texts.rt')
+PATH = os.path.join(HERE, '..', 'crates', 'picture_rows', 'src', 'texts.rt')
+if __name__ == '__main__':
+    if sys.argv[1:] not in ([], ['check']):
+        sys.exit(__doc__)
     if not sys.argv[1:]:
-        with open(path, 'w') as file:
-            file.write(text())
-        continue
-    with open(path) as file:
-        if file.read() != text():
-            sys.exit(f'crates/{crate}/src/texts.rt is not as the examples are: run examples/rows.py')
+        with open(PATH, 'w') as file:
+            file.write(pictures())
+    else:
+        with open(PATH) as file:
+            if file.read() != pictures():
+                sys.exit('crates/picture_rows/src/texts.rt is not as the examples are: run examples/rows.py')

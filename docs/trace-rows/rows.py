@@ -5,8 +5,10 @@
                                    and writes its answers and its trace into them; each answer is one line, with its bytes
                                    as runs `N*HH+..`, or `N*seqF` for N bytes of a sequence from F
     rows.py write [NAME..]         writes the crate `trace_rows` anew: each row as a script and as moments, the lines out of
-                                   place of `refused.txt`, and their proofs; and the texts of the tests of `hpsim_rows`, which
-                                   play the rows whole (but for examples, which `example_rows` plays)
+                                   place of `refused.txt`, and their proofs
+
+`crates/run_rows/rows.py` makes rows of them that are played whole.
+
 
 A row has a first line that says what it shows, and then sections. `[packs]` has lines `U table SERIAL BLOCK..`, `U mark BLOCK..`
 and `U block BLOCK HH`: all else on a pack is zeros. A row with an `[example]` has script, answers and trace of that script of
@@ -679,33 +681,7 @@ unfolding repair.burst_byte
 returns-clause-repaired_beyond_the_end c = search arith
 """
 
-# ---- write: the texts of the tests
-PLAYED = os.path.join(HERE, '..', '..', 'crates', 'hpsim_rows', 'src', 'texts.rt')
-# A longer text is a test of its own.
-LONGEST = 8000
-# What the tests write to the replacements of unit 0.
-REPLACEMENTS = {340647: b'\x5a' * 512, 340646: b'\x6b' * 512}
-PLAYED_HEAD = """// The rows of `docs/trace-rows`, as `rows.py` there writes them.
-
-/// A script over unit 0 with a table of these entries and these blocks marked, what is printed, and the trace.
-pub(crate) struct Text {
-    pub(crate) name: &'static str,
-    pub(crate) entries: &'static [u8],
-    pub(crate) marks: &'static [u32],
-    pub(crate) script: &'static [u8],
-    pub(crate) out: &'static [u8],
-    pub(crate) trace: &'static [u8],
-}
-
-"""
-
-
-def literal(lines):
-    """lines as a Rust literal of bytes; none has a quote, a backslash or a byte that is not printed"""
-    assert all(' ' <= c <= '~' and c not in '"\\' for line in lines for c in line)
-    return 'b"' + ''.join(line + '\\n' for line in lines) + '"'
-
-
+# ---- what is printed
 def printed(row):
     """the lines that are printed for the answers"""
     out, sizes = [], requests_of(row)
@@ -723,23 +699,6 @@ def printed(row):
     return out
 
 
-def text_of(row):
-    """a row as the tests have it"""
-    blocks, marks, table = packs_of(row).get(0, ({}, [], None))
-    assert all(blocks[int(f[2])] == REPLACEMENTS.get(int(f[2])) for f in map(str.split, row['packs']) if f[1] == 'block'), row['name']
-    entries = [f'0x{b:02X}' for c, t, s in table or [] for b in (c % 256, c // 256, s, t)]
-    fields = [('name', f'"{row["name"]}"'), ('entries', f"&[{', '.join(entries)}]"), ('marks', f"&[{', '.join(map(str, marks))}]"),
-              ('script', literal(row['script'])), ('out', literal(printed(row))), ('trace', literal(row['trace']))]
-    return '    Text {\n' + ''.join(f'        {name}: {value},\n' for name, value in fields) + '    },\n'
-
-
-def write_played(rows):
-    played = [r for r in rows if not r['start'] and not r['example'] and len(''.join(printed(r))) < LONGEST]
-    with open(PLAYED, 'w') as f:
-        f.write(PLAYED_HEAD + f'/// Each row.\npub(crate) const TEXTS: [Text; {len(played)}] = [\n' + ''.join(map(text_of, played)) + '];\n')
-    print(f'{len(played)} rows as tests')
-
-
 if __name__ == '__main__':
     args = sys.argv[1:]
     every = sorted(f[:-4] for f in os.listdir(f'{HERE}/rows'))
@@ -747,6 +706,5 @@ if __name__ == '__main__':
         run(args[1], args[2:] or every)
     elif args[:1] == ['write']:
         write(args[1:] or every)
-        write_played([read_row(name) for name in every])
     else:
         sys.exit(__doc__)

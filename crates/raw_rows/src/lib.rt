@@ -1,9 +1,0 @@
-//! Rows of `raw read`, `raw write` and `dump` through the top call; tests alone, so that what they test is proved once.
-#![tactic(auto)]
-
-#[cfg(test)]
-mod rows;
-#[cfg(test)]
-mod runs;
-#[cfg(test)]
-mod stops;

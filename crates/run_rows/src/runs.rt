@@ -1,0 +1,155 @@
+// The stage on which a row is played, and runs of the program's commands on it.
+use crate::row_packs::RowPacks;
+use crate::stops::Watch;
+use hpsim_run::run;
+use mass_outside::mem_streams::{MemSink, MemSource};
+use outside_traits::traits::NoMemory;
+use std::alloc::Global;
+
+/// What can be made to fail.
+#[derive(Clone, Copy, PartialEq, Eq)]
+pub enum Operation {
+    Source,
+    Out,
+    Trace,
+    Length,
+    Write,
+    Read,
+    Marked,
+    SetMark,
+}
+
+/// The operations with their names.
+pub const OPERATIONS: [(&str, Operation); 8] = [
+    ("source", Operation::Source),
+    ("out", Operation::Out),
+    ("trace", Operation::Trace),
+    ("length", Operation::Length),
+    ("write", Operation::Write),
+    ("read", Operation::Read),
+    ("marked", Operation::Marked),
+    ("setmark", Operation::SetMark),
+];
+
+/// The number of the call of each operation that fails, from 1, and the room of each sink.
+#[derive(Clone, Copy)]
+pub struct Faults {
+    pub fails: [u64; 8],
+    pub out_room: usize,
+    pub trace_room: usize,
+}
+
+/// No call has the number 0, and few runs have more to say.
+pub const NONE: Faults = Faults {
+    fails: [0; 8],
+    out_room: 20_000,
+    trace_room: 40_000,
+};
+
+impl Faults {
+    /// The number of the call of an operation that fails.
+    fn of(&self, operation: Operation) -> u64 {
+        self.fails.get(operation as usize).copied().unwrap_or(0)
+    }
+
+    /// These faults, with this call failing.
+    pub fn with(self, operation: Operation, number: u64) -> Faults {
+        let mut faults = self;
+        if let Some(fail) = faults.fails.get_mut(operation as usize) {
+            *fail = number;
+        }
+        faults
+    }
+}
+
+/// What a run came to.
+#[derive(Drop)]
+pub struct Ran {
+    pub status: u8,
+    pub out: MemSink,
+    pub trace: MemSink,
+}
+
+/// What stands for the next steps of a row: packs, source, faults and watched blocks, the answer behind the sync, and what the last
+/// run came to.
+#[derive(Drop)]
+pub struct Stage {
+    pub alloc: Global,
+    pub packs: RowPacks,
+    pub source: Vec<u8>,
+    pub faults: Faults,
+    pub watches: Vec<Watch>,
+    pub answer: Vec<u8>,
+    pub ran: Ran,
+}
+
+impl Stage {
+    /// A stage where nothing stands.
+    pub fn new(alloc: Global) -> Result<Stage, NoMemory> {
+        let ran = Ran {
+            status: 0,
+            out: sink_of(alloc, 0, 0)?,
+            trace: sink_of(alloc, 0, 0)?,
+        };
+        Ok(Stage {
+            alloc,
+            packs: RowPacks::new(alloc),
+            source: Vec::new(alloc),
+            faults: NONE,
+            watches: Vec::new(alloc),
+            answer: Vec::new(alloc),
+            ran,
+        })
+    }
+
+    /// The text with a name: the source, what is printed, or the trace.
+    pub fn text(&self, name: &str) -> &[u8] {
+        match name {
+            "source" => self.source.as_slice(),
+            "out" => self.ran.out.taken(),
+            _ => self.ran.trace.taken(),
+        }
+    }
+}
+
+/// The words of a line, where `""` is an empty one.
+fn words_of(alloc: Global, line: &str) -> Result<Vec<String>, NoMemory> {
+    let mut words = Vec::new(alloc);
+    if line.is_empty() {
+        return Ok(words);
+    }
+    for word in line.split(' ') {
+        let word = if word == "\"\"" { "" } else { word };
+        words.push(String::from_str(alloc, word)?)?;
+    }
+    Ok(words)
+}
+
+/// A source of bytes, of which a call fails.
+fn source_of(alloc: Global, bytes: &[u8], fail: u64) -> Result<MemSource, NoMemory> {
+    let fails = Vec::from_slice(alloc, &[fail])?;
+    Ok(MemSource::new(Vec::from_slice(alloc, bytes)?, fails))
+}
+
+/// A sink with room for so many bytes, of which a call fails.
+fn sink_of(alloc: Global, room: usize, fail: u64) -> Result<MemSink, NoMemory> {
+    let fails = Vec::from_slice(alloc, &[fail])?;
+    MemSink::new(alloc, room, fails)
+}
+
+/// Runs the words of a line over packs.
+pub fn run_line(
+    alloc: Global,
+    line: &str,
+    source: &[u8],
+    packs: &mut RowPacks,
+    faults: Faults,
+) -> Result<Ran, NoMemory> {
+    let words = words_of(alloc, line)?;
+    let mut source = source_of(alloc, source, faults.of(Operation::Source))?;
+    let mut out = sink_of(alloc, faults.out_room, faults.of(Operation::Out))?;
+    let mut trace = sink_of(alloc, faults.trace_room, faults.of(Operation::Trace))?;
+    let words = words.as_slice();
+    let status = run(alloc, words, &mut source, packs, &mut out, &mut trace);
+    Ok(Ran { status, out, trace })
+}

@@ -1,0 +1,112 @@
+// What is shown of a run, and of what it left.
+use crate::runs::Stage;
+use crate::texts::{
+    add_all, add_number, holds, piece_of, show_runs, small_number, span, split, times,
+};
+use std::alloc::AllocError;
+
+/// Shows what a line asks for.
+pub fn show(stage: &Stage, page: &mut Vec<u8>, verb: &str, rest: &str) -> Result<(), AllocError> {
+    match verb {
+        "@trace" => {
+            add_all(page, &["trace\n"])?;
+            show_text(page, stage.text("trace"))
+        }
+        "@commands" => show_commands(page, stage.text("trace")),
+        "@show" => show_blocks(stage, page, rest),
+        "@size" => show_size(page, rest, stage.text(rest)),
+        "@has" | "@times" | "@begins" | "@front" => compare(stage, page, verb, rest),
+        _ => add_all(page, &["unknown: ", verb, "\n"]),
+    }
+}
+
+/// Whether these bytes are lines of text.
+fn is_text(bytes: &[u8]) -> bool {
+    let are_shown = bytes
+        .iter()
+        .all(|byte| *byte == b'\n' || *byte >= b' ' && *byte <= b'~');
+    are_shown && bytes.last().copied().unwrap_or(b'\n') == b'\n'
+}
+
+/// Shows the lines of a text, or where it has none its bytes as runs.
+pub fn show_text(page: &mut Vec<u8>, text: &[u8]) -> Result<(), AllocError> {
+    if is_text(text) {
+        return page.extend_from_slice(text);
+    }
+    show_runs(page, text)?;
+    add_all(page, &["\n"])
+}
+
+/// Shows those lines of a trace that read or write sectors.
+fn show_commands(page: &mut Vec<u8>, trace: &[u8]) -> Result<(), AllocError> {
+    add_all(page, &["commands\n"])?;
+    let mut from = 0usize;
+    for (at, byte) in trace.iter().enumerate() {
+        if *byte == b'\n' {
+            let line = trace.get(from..at.saturating_add(1)).unwrap_or(b"");
+            if holds(line, b" rcom ") || holds(line, b" wcom ") {
+                page.extend_from_slice(line)?;
+            }
+            from = at.saturating_add(1);
+        }
+    }
+    Ok(())
+}
+
+/// Shows what the blocks of a list hold, and which of them are marked.
+fn show_blocks(stage: &Stage, page: &mut Vec<u8>, rest: &str) -> Result<(), AllocError> {
+    let (unit, list) = split(rest);
+    for blocks in list.split(' ') {
+        let (first, end) = span(blocks);
+        for block in first..end {
+            show_block(stage, page, unit, block)?;
+        }
+    }
+    Ok(())
+}
+
+/// Shows what a block of a unit holds, and whether it is marked.
+fn show_block(stage: &Stage, page: &mut Vec<u8>, unit: &str, block: u32) -> Result<(), AllocError> {
+    let number = small_number(unit);
+    add_all(page, &["block ", unit])?;
+    add_number(page, " ", u64::from(block), ":")?;
+    show_runs(page, &stage.packs.block(number, block))?;
+    let is_marked = stage.packs.is_marked(number, block);
+    add_all(page, &[if is_marked { " marked\n" } else { "\n" }])
+}
+
+/// Shows how many bytes a text has, and their sum modulo 2^32.
+fn show_size(page: &mut Vec<u8>, name: &str, text: &[u8]) -> Result<(), AllocError> {
+    let mut sum = 0u32;
+    for byte in text {
+        sum = sum.wrapping_add(u32::from(*byte));
+    }
+    add_all(page, &[name])?;
+    add_number(page, " ", text.len() as u64, " sum ")?;
+    add_number(page, "", u64::from(sum), "\n")
+}
+
+/// What a text is to a piece.
+fn relation(verb: &str, text: &[u8], piece: &[u8]) -> &'static str {
+    match verb {
+        "@has" if holds(text, piece) => " has ",
+        "@begins" if text.starts_with(piece) => " begins with ",
+        "@front" if piece.starts_with(text) => " is a front of ",
+        _ => " is other than ",
+    }
+}
+
+/// Shows what a text is to a piece, or how often it stands there.
+fn compare(stage: &Stage, page: &mut Vec<u8>, verb: &str, rest: &str) -> Result<(), AllocError> {
+    let (name, piece) = split(rest);
+    let bytes = piece_of(stage.alloc, piece)?;
+    let bytes = bytes.as_slice();
+    let text = stage.text(name);
+    add_all(page, &[name])?;
+    if verb == "@times" {
+        add_number(page, " has ", times(text, bytes), " of ")?;
+    } else {
+        add_all(page, &[relation(verb, text, bytes)])?;
+    }
+    add_all(page, &[piece, "\n"])
+}
