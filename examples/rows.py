@@ -1,6 +1,6 @@
 #!/usr/bin/env python3
 """Writes the texts of these examples into the tests of the crate `picture_rows`, which the gate runs: run it after each change here,
-and then `crates/run_rows/rows.py`, which plays them.
+and then `crates/hpsim_rows/rows.py`, which plays them.
 
     rows.py          writes src/texts.rt of that crate anew
     rows.py check    says whether it is as these files are

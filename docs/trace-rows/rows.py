@@ -7,7 +7,7 @@
     rows.py write [NAME..]         writes the crate `trace_rows` anew: each row as a script and as moments, the lines out of
                                    place of `refused.txt`, and their proofs
 
-`crates/run_rows/rows.py` makes rows of them that are played whole.
+`crates/hpsim_rows/rows.py` makes rows of them that are played whole.
 
 
 A row has a first line that says what it shows, and then sections. `[packs]` has lines `U table SERIAL BLOCK..`, `U mark BLOCK..`

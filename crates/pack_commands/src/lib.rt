@@ -3,7 +3,7 @@
 //! What is proved: of `run_list`, `run_add`, `run_fresh`, `run_mark` and `run_format` what stands in the pack and what was printed, for each
 //! status (`RunsList` and its like), and that each fault has its cause.
 //!
-//! Only tested, in `tool_rows` and `format_rows`: printed texts.
+//! Only tested, in `hpsim_rows`: printed texts.
 #![tactic(auto)]
 
 mod formats;

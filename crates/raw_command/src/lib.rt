@@ -9,7 +9,7 @@
 //! block of which a byte was read. What the trace, the packs or the sink leave where they fail is said too. `raw_in` and `dump_in` give
 //! just what words name.
 //!
-//! Only tested, in `raw_rows`: printed texts, each call failing in turn, and that memory suffices.
+//! Only tested, in `hpsim_rows`: printed texts, each call failing in turn, and that memory suffices.
 #![tactic(auto)]
 
 mod attaching;

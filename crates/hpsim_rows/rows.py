@@ -132,5 +132,5 @@ if __name__ == '__main__':
             continue
         with open(path) as file:
             if file.read() != text:
-                sys.exit(f'crates/run_rows/{name} is not as the rows are: run crates/run_rows/rows.py')
+                sys.exit(f'crates/hpsim_rows/{name} is not as the rows are: run crates/hpsim_rows/rows.py')
     print(f'{count} rows')

@@ -216,7 +216,7 @@ fn show_stop(page: &mut Vec<u8>, name: &str, count: u64, word: &str) -> Result<(
 /// hold stands behind them.
 pub fn stops(stage: &mut Stage, page: &mut Vec<u8>, line: &str) -> Result<(), NoMemory> {
     let whole = run_apart(stage, line, stage.source.as_slice(), Operation::Source, 0)?;
-    add_all(page, &["as promised where a call fails of"])?;
+    add_all(page, &["each call fails in turn:"])?;
     for (name, operation) in OPERATIONS {
         let (count, word) = each_call(stage, &whole, line, operation)?;
         show_stop(page, name, count, word)?;
