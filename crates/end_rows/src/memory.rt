@@ -45,7 +45,7 @@ pub(crate) fn files_of(alloc: Global, image: Vec<u8>) -> Result<Vec<Vec<u8>>, Al
 
 impl<'a> MemFolder<'a> {
     /// A folder of these files.
-    pub fn new(files: &'a mut Vec<Vec<u8>>, habit: Habit) -> MemFolder<'a> {
+    pub(crate) fn new(files: &'a mut Vec<Vec<u8>>, habit: Habit) -> MemFolder<'a> {
         MemFolder {
             files,
             habit,

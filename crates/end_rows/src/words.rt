@@ -15,12 +15,12 @@ pub(crate) struct End {
 
 impl End {
     /// Whether it ended so, and printed just this.
-    pub fn is(&self, status: u8, text: &str) -> bool {
+    pub(crate) fn is(&self, status: u8, text: &str) -> bool {
         self.status == status && self.said.as_slice() == text.as_bytes()
     }
 
     /// Whether it ended so, and printed a front of this.
-    pub fn is_front(&self, status: u8, text: &str) -> bool {
+    pub(crate) fn is_front(&self, status: u8, text: &str) -> bool {
         self.status == status && text.as_bytes().starts_with(self.said.as_slice())
     }
 }

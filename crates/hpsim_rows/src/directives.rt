@@ -14,7 +14,7 @@ use outside_traits::traits::NoMemory;
 use std::alloc::{AllocError, Global};
 
 /// Does what a line says.
-pub fn perform(stage: &mut Stage, page: &mut Vec<u8>, line: &str) -> Result<(), NoMemory> {
+pub(crate) fn perform(stage: &mut Stage, page: &mut Vec<u8>, line: &str) -> Result<(), NoMemory> {
     if !line.starts_with('@') {
         return Ok(add_all(&mut stage.source, &[line, "\n"])?);
     }
@@ -47,7 +47,7 @@ pub fn perform(stage: &mut Stage, page: &mut Vec<u8>, line: &str) -> Result<(), 
 }
 
 /// The operation with a name.
-pub fn operation(name: &str) -> Operation {
+pub(crate) fn operation(name: &str) -> Operation {
     let mut found = Operation::Source;
     for (word, operation) in OPERATIONS {
         if word == name {

@@ -8,7 +8,7 @@ use std::alloc::{AllocError, Global};
 /// The packs of 32 units. Of each operation the call with this number fails, from 1, and those that write or mark where there is no
 /// room. They tell nothing.
 #[derive(Drop)]
-pub struct RowPacks {
+pub(crate) struct RowPacks {
     alloc: Global,
     /// 32 blocks each where one of them was written to.
     tracks: Vec<Vec<u8>>,
@@ -52,7 +52,7 @@ fn copy_of(alloc: Global, tracks: &[Vec<u8>]) -> Result<Vec<Vec<u8>>, AllocError
 
 impl RowPacks {
     /// Packs that hold nothing, and have no room.
-    pub fn new(alloc: Global) -> RowPacks {
+    pub(crate) fn new(alloc: Global) -> RowPacks {
         RowPacks {
             alloc,
             tracks: Vec::new(alloc),
@@ -65,7 +65,7 @@ impl RowPacks {
     }
 
     /// A copy, of which these calls fail.
-    pub fn copy(&self, fails: [u64; 8]) -> Result<RowPacks, NoMemory> {
+    pub(crate) fn copy(&self, fails: [u64; 8]) -> Result<RowPacks, NoMemory> {
         let tracks = copy_of(self.alloc, self.tracks.as_slice())?;
         let marks = Vec::from_slice(self.alloc, self.marks.as_slice())?;
         Ok(RowPacks {
@@ -80,27 +80,27 @@ impl RowPacks {
     }
 
     /// From now on these calls fail.
-    pub fn fail(&mut self, fails: [u64; 8]) {
+    pub(crate) fn fail(&mut self, fails: [u64; 8]) {
         self.fails = fails;
         self.calls = [0; 8];
     }
 
     /// So many blocks of a unit can be written and marked.
-    pub fn set_room(&mut self, unit: u8, blocks: u32) {
+    pub(crate) fn set_room(&mut self, unit: u8, blocks: u32) {
         if let Some(room) = self.rooms.get_mut(unit as usize) {
             *room = blocks;
         }
     }
 
     /// The image of a unit is so long at least, or just so long.
-    pub fn set_length(&mut self, unit: u8, length: u64, is_least: bool) {
+    pub(crate) fn set_length(&mut self, unit: u8, length: u64, is_least: bool) {
         if let Some(kept) = self.lengths.get_mut(unit as usize) {
             *kept = if is_least { length.max(*kept) } else { length };
         }
     }
 
     /// What a block holds.
-    pub fn block(&self, unit: u8, block: u32) -> [u8; 512] {
+    pub(crate) fn block(&self, unit: u8, block: u32) -> [u8; 512] {
         let mut bytes = [0u8; 512];
         let (track, from) = place_of(unit, block);
         if let Some(track) = self.tracks.get(track) {
@@ -112,7 +112,12 @@ impl RowPacks {
     }
 
     /// Writes to a block, and extends the image to its end.
-    pub fn put(&mut self, unit: u8, block: u32, bytes: &[u8; 512]) -> Result<(), AllocError> {
+    pub(crate) fn put(
+        &mut self,
+        unit: u8,
+        block: u32,
+        bytes: &[u8; 512],
+    ) -> Result<(), AllocError> {
         let alloc = self.alloc;
         let (track, from) = place_of(unit, block);
         for _ in self.tracks.len()..track.saturating_add(1) {
@@ -126,12 +131,12 @@ impl RowPacks {
     }
 
     /// Whether a block is marked.
-    pub fn is_marked(&self, unit: u8, block: u32) -> bool {
+    pub(crate) fn is_marked(&self, unit: u8, block: u32) -> bool {
         self.marks.contains(&(unit, block))
     }
 
     /// Marks a block, or takes its mark.
-    pub fn mark(&mut self, unit: u8, block: u32, on: bool) -> Result<(), AllocError> {
+    pub(crate) fn mark(&mut self, unit: u8, block: u32, on: bool) -> Result<(), AllocError> {
         self.marks.retain(|marked| *marked != (unit, block));
         if on {
             self.marks.push((unit, block))?;
@@ -140,7 +145,7 @@ impl RowPacks {
     }
 
     /// Whether the same blocks are marked as on other packs.
-    pub fn has_marks_of(&self, other: &RowPacks) -> bool {
+    pub(crate) fn has_marks_of(&self, other: &RowPacks) -> bool {
         self.marks.as_slice() == other.marks.as_slice()
     }
 

@@ -8,7 +8,7 @@ use std::alloc::Global;
 
 /// What can be made to fail.
 #[derive(Clone, Copy, PartialEq, Eq)]
-pub enum Operation {
+pub(crate) enum Operation {
     Source,
     Out,
     Trace,
@@ -20,7 +20,7 @@ pub enum Operation {
 }
 
 /// The operations with their names.
-pub const OPERATIONS: [(&str, Operation); 8] = [
+pub(crate) const OPERATIONS: [(&str, Operation); 8] = [
     ("source", Operation::Source),
     ("out", Operation::Out),
     ("trace", Operation::Trace),
@@ -33,14 +33,14 @@ pub const OPERATIONS: [(&str, Operation); 8] = [
 
 /// The number of the call of each operation that fails, from 1, and the room of each sink.
 #[derive(Clone, Copy)]
-pub struct Faults {
-    pub fails: [u64; 8],
-    pub out_room: usize,
-    pub trace_room: usize,
+pub(crate) struct Faults {
+    pub(crate) fails: [u64; 8],
+    pub(crate) out_room: usize,
+    pub(crate) trace_room: usize,
 }
 
 /// No call has the number 0, and few runs have more to say.
-pub const NONE: Faults = Faults {
+pub(crate) const NONE: Faults = Faults {
     fails: [0; 8],
     out_room: 20_000,
     trace_room: 40_000,
@@ -53,7 +53,7 @@ impl Faults {
     }
 
     /// These faults, with this call failing.
-    pub fn with(self, operation: Operation, number: u64) -> Faults {
+    pub(crate) fn with(self, operation: Operation, number: u64) -> Faults {
         let mut faults = self;
         if let Some(fail) = faults.fails.get_mut(operation as usize) {
             *fail = number;
@@ -64,28 +64,28 @@ impl Faults {
 
 /// What a run came to.
 #[derive(Drop)]
-pub struct Ran {
-    pub status: u8,
-    pub out: MemSink,
-    pub trace: MemSink,
+pub(crate) struct Ran {
+    pub(crate) status: u8,
+    pub(crate) out: MemSink,
+    pub(crate) trace: MemSink,
 }
 
 /// What stands for the next steps of a row: packs, source, faults and watched blocks, the answer behind the sync, and what the last
 /// run came to.
 #[derive(Drop)]
-pub struct Stage {
-    pub alloc: Global,
-    pub packs: RowPacks,
-    pub source: Vec<u8>,
-    pub faults: Faults,
-    pub watches: Vec<Watch>,
-    pub answer: Vec<u8>,
-    pub ran: Ran,
+pub(crate) struct Stage {
+    pub(crate) alloc: Global,
+    pub(crate) packs: RowPacks,
+    pub(crate) source: Vec<u8>,
+    pub(crate) faults: Faults,
+    pub(crate) watches: Vec<Watch>,
+    pub(crate) answer: Vec<u8>,
+    pub(crate) ran: Ran,
 }
 
 impl Stage {
     /// A stage where nothing stands.
-    pub fn new(alloc: Global) -> Result<Stage, NoMemory> {
+    pub(crate) fn new(alloc: Global) -> Result<Stage, NoMemory> {
         let ran = Ran {
             status: 0,
             out: sink_of(alloc, 0, 0)?,
@@ -103,7 +103,7 @@ impl Stage {
     }
 
     /// The text with a name: the source, what is printed, or the trace.
-    pub fn text(&self, name: &str) -> &[u8] {
+    pub(crate) fn text(&self, name: &str) -> &[u8] {
         match name {
             "source" => self.source.as_slice(),
             "out" => self.ran.out.taken(),
@@ -138,7 +138,7 @@ fn sink_of(alloc: Global, room: usize, fail: u64) -> Result<MemSink, NoMemory> {
 }
 
 /// Runs the words of a line over packs.
-pub fn run_line(
+pub(crate) fn run_line(
     alloc: Global,
     line: &str,
     source: &[u8],

@@ -6,7 +6,12 @@ use crate::texts::{
 use std::alloc::AllocError;
 
 /// Shows what a line asks for.
-pub fn show(stage: &Stage, page: &mut Vec<u8>, verb: &str, rest: &str) -> Result<(), AllocError> {
+pub(crate) fn show(
+    stage: &Stage,
+    page: &mut Vec<u8>,
+    verb: &str,
+    rest: &str,
+) -> Result<(), AllocError> {
     match verb {
         "@trace" => {
             add_all(page, &["trace\n"])?;
@@ -29,7 +34,7 @@ fn is_text(bytes: &[u8]) -> bool {
 }
 
 /// Shows the lines of a text, or where it has none its bytes as runs.
-pub fn show_text(page: &mut Vec<u8>, text: &[u8]) -> Result<(), AllocError> {
+pub(crate) fn show_text(page: &mut Vec<u8>, text: &[u8]) -> Result<(), AllocError> {
     if is_text(text) {
         return page.extend_from_slice(text);
     }

@@ -7,7 +7,7 @@ use std::alloc::AllocError;
 
 /// What a watched block is to hold in a run that stops, beside a run that does not.
 #[derive(Clone, Copy, PartialEq, Eq)]
-pub enum Rule {
+pub(crate) enum Rule {
     /// What the whole run leaves there, where the trace has the text; else what it held at first, but for one block of all.
     Told,
     /// What the whole run leaves there, where the watched blocks before it do; else what it held at first. Nothing is printed.
@@ -18,23 +18,23 @@ pub enum Rule {
 
 /// A block that is watched.
 #[derive(Drop)]
-pub struct Watch {
-    pub rule: Rule,
-    pub unit: u8,
-    pub block: u32,
-    pub text: Vec<u8>,
-    pub synced: usize,
+pub(crate) struct Watch {
+    pub(crate) rule: Rule,
+    pub(crate) unit: u8,
+    pub(crate) block: u32,
+    pub(crate) text: Vec<u8>,
+    pub(crate) synced: usize,
 }
 
 /// What a run came to, and the packs that it left.
 #[derive(Drop)]
-pub struct Left {
-    pub ran: Ran,
-    pub packs: RowPacks,
+pub(crate) struct Left {
+    pub(crate) ran: Ran,
+    pub(crate) packs: RowPacks,
 }
 
 /// Runs a command over a copy of the packs of the stage, with a call failing.
-pub fn run_apart(
+pub(crate) fn run_apart(
     stage: &Stage,
     line: &str,
     source: &[u8],
@@ -214,7 +214,7 @@ fn show_stop(page: &mut Vec<u8>, name: &str, count: u64, word: &str) -> Result<(
 
 /// Runs a command with each call of each operation failing in turn, and shows the operations of which calls are made. What does not
 /// hold stands behind them.
-pub fn stops(stage: &mut Stage, page: &mut Vec<u8>, line: &str) -> Result<(), NoMemory> {
+pub(crate) fn stops(stage: &mut Stage, page: &mut Vec<u8>, line: &str) -> Result<(), NoMemory> {
     let whole = run_apart(stage, line, stage.source.as_slice(), Operation::Source, 0)?;
     add_all(page, &["each call fails in turn:"])?;
     for (name, operation) in OPERATIONS {

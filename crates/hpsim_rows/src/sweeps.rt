@@ -7,7 +7,7 @@ use crate::texts::{add_all, add_number, add_numbered, number, split, times};
 use outside_traits::traits::NoMemory;
 
 /// Runs a command over the packs of the stage with its source, which is taken, and shows its status and what it prints.
-pub fn play(
+pub(crate) fn play(
     stage: &mut Stage,
     page: &mut Vec<u8>,
     is_shown: bool,
@@ -35,7 +35,7 @@ fn numbered(stage: &mut Stage, line: &str, number: u64) -> Result<u8, NoMemory> 
 }
 
 /// Runs a command for each of so many numbers from a first one on, and shows how many of them come to status 0.
-pub fn each(stage: &mut Stage, page: &mut Vec<u8>, rest: &str) -> Result<(), NoMemory> {
+pub(crate) fn each(stage: &mut Stage, page: &mut Vec<u8>, rest: &str) -> Result<(), NoMemory> {
     let (count, rest) = split(rest);
     let (first, line) = split(rest);
     let mut done = 0u64;
@@ -50,7 +50,7 @@ pub fn each(stage: &mut Stage, page: &mut Vec<u8>, rest: &str) -> Result<(), NoM
 
 /// Runs a command with each call of an operation of the packs failing in turn, until none does, and shows how often a word stands in the
 /// traces of those that stop there: each number that is the next one behind those before.
-pub fn counts(stage: &Stage, page: &mut Vec<u8>, rest: &str) -> Result<(), NoMemory> {
+pub(crate) fn counts(stage: &Stage, page: &mut Vec<u8>, rest: &str) -> Result<(), NoMemory> {
     let (name, rest) = split(rest);
     let (word, line) = split(rest);
     add_all(page, &[word])?;
@@ -70,7 +70,7 @@ pub fn counts(stage: &Stage, page: &mut Vec<u8>, rest: &str) -> Result<(), NoMem
 }
 
 /// Runs a command with each front of the source, and shows how many come to status 0 or 3, and how many to another one.
-pub fn fronts(stage: &Stage, page: &mut Vec<u8>, line: &str) -> Result<(), NoMemory> {
+pub(crate) fn fronts(stage: &Stage, page: &mut Vec<u8>, line: &str) -> Result<(), NoMemory> {
     let mut good = 0u64;
     let mut other = 0u64;
     for end in 0..stage.source.len() {

@@ -3,22 +3,22 @@ use itoa::Buffer;
 use std::alloc::{AllocError, Global};
 
 /// The first word of a text, and what stands behind the blank after it.
-pub fn split(text: &str) -> (&str, &str) {
+pub(crate) fn split(text: &str) -> (&str, &str) {
     text.split_once(' ').unwrap_or((text, ""))
 }
 
 /// A decimal number; 0 where it is none.
-pub fn number(text: &str) -> u64 {
+pub(crate) fn number(text: &str) -> u64 {
     text.parse::<u64>().unwrap_or(0)
 }
 
 /// The number of a unit, or a byte in decimal; 0 where it is none.
-pub fn small_number(text: &str) -> u8 {
+pub(crate) fn small_number(text: &str) -> u8 {
     text.parse::<u8>().unwrap_or(0)
 }
 
 /// The blocks of `A`, or of `A-B` with B among them: the first one, and the one behind the last.
-pub fn span(text: &str) -> (u32, u32) {
+pub(crate) fn span(text: &str) -> (u32, u32) {
     let (first, last) = text.split_once('-').unwrap_or((text, text));
     let first = first.parse::<u32>().unwrap_or(0);
     let last = last.parse::<u32>().unwrap_or(0);
@@ -26,12 +26,12 @@ pub fn span(text: &str) -> (u32, u32) {
 }
 
 /// A byte in hexadecimal digits; 0 where it is none.
-pub fn hex_byte(text: &str) -> u8 {
+pub(crate) fn hex_byte(text: &str) -> u8 {
     u8::from_str_radix(text, 16).unwrap_or(0)
 }
 
 /// Puts runs `N*HH` with blanks between them behind bytes.
-pub fn add_runs(bytes: &mut Vec<u8>, runs: &str) -> Result<(), AllocError> {
+pub(crate) fn add_runs(bytes: &mut Vec<u8>, runs: &str) -> Result<(), AllocError> {
     for run in runs.split(' ') {
         let (count, byte) = run.split_once('*').unwrap_or(("0", run));
         let size = bytes.len().saturating_add(number(count) as usize);
@@ -70,7 +70,7 @@ fn add_text(bytes: &mut Vec<u8>, text: &str) -> Result<(), AllocError> {
 }
 
 /// Puts a piece of text behind bytes: besides, `{N}` stands for the digits of a block whose bytes rise from N on.
-pub fn add_piece(bytes: &mut Vec<u8>, piece: &str) -> Result<(), AllocError> {
+pub(crate) fn add_piece(bytes: &mut Vec<u8>, piece: &str) -> Result<(), AllocError> {
     for part in piece.split('{') {
         if let Some((first, rest)) = part.split_once('}') {
             add_rising(bytes, small_number(first))?;
@@ -83,14 +83,14 @@ pub fn add_piece(bytes: &mut Vec<u8>, piece: &str) -> Result<(), AllocError> {
 }
 
 /// The bytes of a piece of text.
-pub fn piece_of(alloc: Global, piece: &str) -> Result<Vec<u8>, AllocError> {
+pub(crate) fn piece_of(alloc: Global, piece: &str) -> Result<Vec<u8>, AllocError> {
     let mut bytes = Vec::new(alloc);
     add_piece(&mut bytes, piece)?;
     Ok(bytes)
 }
 
 /// Puts texts behind bytes.
-pub fn add_all(bytes: &mut Vec<u8>, texts: &[&str]) -> Result<(), AllocError> {
+pub(crate) fn add_all(bytes: &mut Vec<u8>, texts: &[&str]) -> Result<(), AllocError> {
     for text in texts {
         bytes.extend_from_slice(text.as_bytes())?;
     }
@@ -98,7 +98,7 @@ pub fn add_all(bytes: &mut Vec<u8>, texts: &[&str]) -> Result<(), AllocError> {
 }
 
 /// Puts a text, a number and another text behind bytes.
-pub fn add_number(
+pub(crate) fn add_number(
     bytes: &mut Vec<u8>,
     before: &str,
     number: u64,
@@ -109,7 +109,7 @@ pub fn add_number(
 }
 
 /// Puts a text behind bytes, in which `%` stands for a number.
-pub fn add_numbered(bytes: &mut Vec<u8>, text: &str, number: u64) -> Result<(), AllocError> {
+pub(crate) fn add_numbered(bytes: &mut Vec<u8>, text: &str, number: u64) -> Result<(), AllocError> {
     match text.split_once('%') {
         Some((before, behind)) => add_number(bytes, before, number, behind),
         None => bytes.extend_from_slice(text.as_bytes()),
@@ -126,7 +126,7 @@ fn add_run(bytes: &mut Vec<u8>, count: u64, byte: u8) -> Result<(), AllocError> 
 }
 
 /// Puts some bytes as runs behind others, each with a blank before it.
-pub fn show_runs(page: &mut Vec<u8>, bytes: &[u8]) -> Result<(), AllocError> {
+pub(crate) fn show_runs(page: &mut Vec<u8>, bytes: &[u8]) -> Result<(), AllocError> {
     let mut count = 0u64;
     let mut last = 0u8;
     for byte in bytes {
@@ -146,7 +146,7 @@ fn stands_at(text: &[u8], place: usize, piece: &[u8]) -> bool {
 }
 
 /// How often a piece stands in a text.
-pub fn times(text: &[u8], piece: &[u8]) -> u64 {
+pub(crate) fn times(text: &[u8], piece: &[u8]) -> u64 {
     let first = piece.first().copied().unwrap_or(0);
     let mut count = 0u64;
     for (place, byte) in text.iter().enumerate() {
@@ -158,7 +158,7 @@ pub fn times(text: &[u8], piece: &[u8]) -> u64 {
 }
 
 /// Whether a piece stands in a text.
-pub fn holds(text: &[u8], piece: &[u8]) -> bool {
+pub(crate) fn holds(text: &[u8], piece: &[u8]) -> bool {
     let first = piece.first().copied().unwrap_or(0);
     for (place, byte) in text.iter().enumerate() {
         if *byte == first && stands_at(text, place, piece) {
