@@ -1,5 +1,9 @@
-//! Tests of the parts on which drives, driver and tool stand; tests alone, so that these crates are proved once.
+//! Tests of the parts on which drives, driver and tool stand, and outcomes of wrong bodies of theirs that their words refuse; so these
+//! crates are proved once. The functions here do nothing: each stands for a law.
 #![tactic(auto)]
+
+ghost use Rattle.part_rows.specs.Places.{ReplacementOffByOne, Rm05LimitBy22Sectors, SectorTooMany, EndIsOutside, OneBlockPastTheEnd, Rm05GByRm03, FormatBeforeTheBadSector, MarkedHeaderKeepsItsGoodBit, Rm05MarkedAsAnRp06, BytesAsTheyAre, PlusForATextThatFits};
+ghost use Rattle.part_rows.specs.Registers.{CodesOfTwoFunctionsSwapped, UnknownCodeIsNop, StatusBitMoved, OffsetForAWrite, OffsetOneFailureLate, LaterTryWaitsForTheSector, Search4Ahead};
 
 #[cfg(test)]
 mod code;
@@ -15,3 +19,29 @@ mod repairs;
 mod schedule;
 #[cfg(test)]
 mod seeks;
+
+/// Of places, partitions, headers and charts this may not be said.
+pub fn places_law()
+    ensures replacement_off_by_one { ReplacementOffByOne }
+    ensures rm05_limit_by_22_sectors { Rm05LimitBy22Sectors }
+    ensures sector_too_many { SectorTooMany }
+    ensures end_is_outside { EndIsOutside }
+    ensures one_block_past_the_end { OneBlockPastTheEnd }
+    ensures rm05_g_by_rm03 { Rm05GByRm03 }
+    ensures format_before_the_bad_sector { FormatBeforeTheBadSector }
+    ensures marked_header_keeps_its_good_bit { MarkedHeaderKeepsItsGoodBit }
+    ensures rm05_marked_as_an_rp06 { Rm05MarkedAsAnRp06 }
+    ensures bytes_as_they_are { BytesAsTheyAre }
+    ensures plus_for_a_text_that_fits { PlusForATextThatFits }
+{}
+
+/// Nor this of registers, retries and positions.
+pub fn registers_law()
+    ensures codes_of_two_functions_swapped { CodesOfTwoFunctionsSwapped }
+    ensures unknown_code_is_nop { UnknownCodeIsNop }
+    ensures status_bit_moved { StatusBitMoved }
+    ensures offset_for_a_write { OffsetForAWrite }
+    ensures offset_one_failure_late { OffsetOneFailureLate }
+    ensures later_try_waits_for_the_sector { LaterTryWaitsForTheSector }
+    ensures search_4_ahead { Search4Ahead }
+{}
