@@ -1,0 +1,115 @@
+use Rattle.std.proofs.Common.{◌≡◌, inl, inr, ℕ, ◌+◌, ◌-◌, ◌*◌, ◌^◌, ◌<◌, ◌≤◌, ◌==◌, ◌&&◌, not, min, Bool, true, false, List, [], ◌∷◌, ◌++◌, length, get_or, refl, sym, ap, ◌∙◌, arith}
+use Rattle.std.specs.Prelude.{codes, decimal}
+use Rattle.std.proofs.lemmas.Bool.{eq-eqb, ne_eqb, false≢true}
+use Rattle.std.proofs.lemmas.Fmt.{decimal_digit, decimal_step}
+use Rattle.std.proofs.Math.ListN.{replicate}
+use Rattle.pack_geometry.specs.declared.DriveKind.{DriveKind}
+use Rattle.pack_geometry.specs.declared.DriveKind.TheVariants.{Rp06, Rm03, Rm05}
+use Rattle.pack_geometry.specs.Geometry.{block_count, copy_at}
+use Rattle.pack_model.specs.Pack.{block_at, is_marked}
+use Rattle.block_tests.specs.Stages.{if_done, is_copy}
+use Rattle.command_parts.specs.Lines.{Told, too_long_text}
+use Rattle.command_parts.specs.Statuses.{status_code}
+use Rattle.pack_commands.specs.Formats.{format_status, format_text}
+use Rattle.pack_format.specs.declared.fault.FormatFault.{FormatFault}
+use Rattle.pack_format.specs.declared.fault.FormatFault.TheVariants.{Memory, TooLong, TooMany, Spare, NoCopy, Differs, Store}
+use Rattle.pack_format.proofs.SurveyLaws.{count_more}
+use Rattle.pack_outcomes.specs.Formats.{HeadsLeftWhereTheyAre, AnotherBlockTold, CopyLeftOut, ZerosLeftOut, FailedReadingPassedOver, AnotherUnitNamedTooLong, KindTakenForAnother}
+use Rattle.pack_outcomes.proofs.formats_law.Goals as goal
+
+heads_left : HeadsLeftWhereTheyAre
+heads_left kind block drive below aimed = less drive.cc _ aimed.heads below
+  where
+    less : (a b : ℕ) → a ≡ b → a < b → ⊥
+    less a b same below = omega (arith, same, below)
+
+block_told : AnotherBlockTold
+block_told told block at wrote read bytes some stop = false≢true (sym (ne_eqb 0 block (λ none. omega (arith, none, some))) ∙ stop.2.0)
+
+-- what a sector has that was done
+both : (a b : Bool) → a ≡ true → b ≡ false → a && not b ≡ true
+both a b one other = ap (λ (x : Bool). x && not b) one ∙ ap not other
+
+first_copy : (kind : DriveKind) → is_copy kind 5 (copy_at kind 0) ≡ true
+unfolding is_copy
+first_copy Rp06 = refl
+first_copy Rm03 = refl
+first_copy Rm05 = refl
+
+copy_left : CopyLeftOut
+copy_left unit kind bytes old new unmarked differs fills =
+    let copy : ℕ = copy_at kind 0 in
+    differs (fills.sectors copy ∙ ap (λ (done : Bool). if_done done bytes (block_at (old unit).image copy))
+    (both (is_copy kind 5 copy) (is_marked (old unit) copy) (first_copy kind) unmarked))
+
+zeros_left : ZerosLeftOut
+zeros_left unit block old new unmarked pattern fills =
+    let zeros : replicate 512 165 ≡ replicate 512 0 =
+    sym pattern ∙ fills.sectors block ∙ ap (λ (done : Bool). if_done done (replicate 512 0) (block_at (old unit).image block))
+    (both (block == block) (is_marked (old unit) block) (eq-eqb block block refl) unmarked) in
+    let first : 165 ≡ 0 = ap (λ (bytes : List ℕ). get_or bytes 0 0) zeros in
+    omega (arith, first)
+
+passed_over : FailedReadingPassedOver
+passed_over kind serial block number pack table old marked new = omega (arith, old.counted, new.counted, count_more pack block marked)
+
+-- the texts of units 31 and 0 differ in their first digit
+abbrev text : List ℕ → ℕ → List ℕ
+text digits n = codes "too long unit " ++ digits ++ codes " length " ++ decimal n ++ 10 ∷ []
+
+of_31 : (n : ℕ) → get_or (too_long_text 31 n) 14 0 ≡ 51
+of_31 n = ap (λ (digits : List ℕ). get_or (text digits n) 14 0) (decimal_step 31 (omega arith) (omega arith) ∙ ap (λ (front : List ℕ). front ++ 49 ∷ []) (decimal_digit 3 (omega arith)))
+
+of_0 : (n : ℕ) → get_or (too_long_text 0 n) 14 0 ≡ 48
+of_0 n = ap (λ (digits : List ℕ). get_or (text digits n) 14 0) (decimal_digit 0 (omega arith))
+
+-- a fault that ends with 7 is an image that is too long, and the text names the unit
+other_unit : (faults n m : ℕ) (after : List ℕ) → faults < 2 ^ 64 - 1 → after ≡ too_long_text 31 m → Told [] after (too_long_text 0 n) faults faults → ⊥
+other_unit faults n m after few is (inl said) =
+    let digit : 51 ≡ 48 = sym (of_31 m) ∙ ap (λ (bytes : List ℕ). get_or bytes 14 0) (sym is ∙ said) ∙ of_0 n in omega (arith, digit)
+other_unit faults n m after few is (inr stopped) = not_next faults few stopped.0
+  where
+    not_next : (n : ℕ) → n < 2 ^ 64 - 1 → min (n + 1) (2 ^ 64 - 1) ≤ n → ⊥
+    not_next n less le = omega (arith, less, le)
+
+named : (why : FormatFault) (faults m : ℕ) (after : List ℕ) → 7 ≡ status_code (format_status why) → faults < 2 ^ 64 - 1 → after ≡ too_long_text 31 m
+    → Told [] after (format_text 0 why) faults faults → ⊥
+unfolding format_text
+named (TooMany number) faults m after status few is told = omega (arith, status)
+named (Spare index) faults m after status few is told = omega (arith, status)
+named NoCopy faults m after status few is told = omega (arith, status)
+named (Differs block at wrote read) faults m after status few is told = omega (arith, status)
+named (TooLong size) faults m after status few is told = other_unit faults size m after few is told
+named Store faults m after status few is told = omega (arith, status)
+named Memory faults m after status few is told = omega (arith, status)
+
+unit_named : AnotherUnitNamedTooLong
+unit_named kind serial faults old new after few is runs =
+    let refused = runs.refused (inl refl) in named refused.why faults (length (old 0).image) after refused.status few is (refused.told refl)
+
+kind_taken : KindTakenForAnother
+kind_taken unit serial faults faults_after old new taken after long runs = above (512 * block_count Rm03) (length (old unit).image) (runs.fits (inl refl) refl) long
+  where
+    above : (most size : ℕ) → size ≤ most → most < size → ⊥
+    above most size fits long = omega (arith, fits, long)
+
+pub returns-clause-heads_left_where_they_are : goal.returns-clause-heads_left_where_they_are
+returns-clause-heads_left_where_they_are c = heads_left
+
+pub returns-clause-another_block_told : goal.returns-clause-another_block_told
+returns-clause-another_block_told c = block_told
+
+pub returns-clause-copy_left_out : goal.returns-clause-copy_left_out
+returns-clause-copy_left_out c = copy_left
+
+pub returns-clause-zeros_left_out : goal.returns-clause-zeros_left_out
+returns-clause-zeros_left_out c = zeros_left
+
+pub returns-clause-failed_reading_passed_over : goal.returns-clause-failed_reading_passed_over
+returns-clause-failed_reading_passed_over c = passed_over
+
+pub returns-clause-another_unit_named_too_long : goal.returns-clause-another_unit_named_too_long
+returns-clause-another_unit_named_too_long c = unit_named
+
+pub returns-clause-kind_taken_for_another : goal.returns-clause-kind_taken_for_another
+returns-clause-kind_taken_for_another c = kind_taken

@@ -1,0 +1,37 @@
+//! Outcomes of wrong bodies of the crates that read and write packs, from streams to the commands `bad144` and `format`, each refused by
+//! the words of the contract that the body would have to keep. The functions here do nothing: each stands for a law.
+#![tactic(auto)]
+
+ghost use Rattle.pack_outcomes.specs.Reads.{ReadOfAnotherUnit, NextBlockRead, FirstByteLeftOut, WholePieceKept, WindowKeptAfterFailedWrite};
+ghost use Rattle.pack_outcomes.specs.Tables.{EntryAfterTheEnd, ReplacementsLeftBehind, LastCopyTaken, MarkedCopyTaken, TooLongAtTheLastByte, WiderMask};
+ghost use Rattle.pack_outcomes.specs.Formats.{HeadsLeftWhereTheyAre, AnotherBlockTold, CopyLeftOut, ZerosLeftOut, FailedReadingPassedOver, AnotherUnitNamedTooLong, KindTakenForAnother};
+
+/// Packs and streams may not be read and written so, and windows and texts may not be kept so.
+pub fn reads_law()
+    ensures read_of_another_unit { ReadOfAnotherUnit }
+    ensures next_block_read { NextBlockRead }
+    ensures first_byte_left_out { FirstByteLeftOut }
+    ensures whole_piece_kept { WholePieceKept }
+    ensures window_kept_after_failed_write { WindowKeptAfterFailedWrite }
+{}
+
+/// Tables may not be read, edited and taken so, nor a drive's kind.
+pub fn tables_law()
+    ensures entry_after_the_end { EntryAfterTheEnd }
+    ensures replacements_left_behind { ReplacementsLeftBehind }
+    ensures last_copy_taken { LastCopyTaken }
+    ensures marked_copy_taken { MarkedCopyTaken }
+    ensures too_long_at_the_last_byte { TooLongAtTheLastByte }
+    ensures wider_mask { WiderMask }
+{}
+
+/// Packs may not be polled, tested and formatted so, and commands may not say so.
+pub fn formats_law()
+    ensures heads_left_where_they_are { HeadsLeftWhereTheyAre }
+    ensures another_block_told { AnotherBlockTold }
+    ensures copy_left_out { CopyLeftOut }
+    ensures zeros_left_out { ZerosLeftOut }
+    ensures failed_reading_passed_over { FailedReadingPassedOver }
+    ensures another_unit_named_too_long { AnotherUnitNamedTooLong }
+    ensures kind_taken_for_another { KindTakenForAnother }
+{}
