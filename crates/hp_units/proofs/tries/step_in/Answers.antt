@@ -1,4 +1,4 @@
-use Rattle.std.proofs.Common.{rules, ◌≡◌, sym, subst, ◌+◌, ◌∷◌, drop, slice_get, unwrap_or, IfSome}
+use Rattle.std.proofs.Common.{rules, ◌≡◌, subst, ◌+◌, ◌∷◌, drop, slice_get, unwrap_or, IfSome}
 use Rattle.std.specs.Option.{option_map}
 use Rattle.transfer_engine.specs.Calls.{state_of}
 use Rattle.driver_machine.specs.World.{no_transfer}
