@@ -1,7 +1,7 @@
 -- What a move leaves, from what the drive, the book and the packs said.
 use Rattle.std.proofs.Common.{◌≡◌, ℕ, Bool, true, false, not, ◌&&◌, IsTrue, if◌then◌else◌, List, Option, None, Some, option_map, refl, ap, ◌∙◌, subst}
-use Rattle.pack_model.specs.Pack.{block_at, is_marked}
-use Rattle.main_memory.specs.Bytes.{front}
+use Rattle.pack_model.specs.Pack.{block_at, is_marked, with_written}
+use Rattle.main_memory.specs.Bytes.{front, filled}
 use Rattle.hardware_table.specs.declared.FaultKind.{FaultKind}
 use Rattle.hardware_table.specs.declared.Moved.{Moved}
 use Rattle.hardware_table.specs.declared.Moved.TheVariants.{Clean, Burst, Hard, Marked, Faulted, Offline}
@@ -36,6 +36,40 @@ stopped_moves unit block d size told site verdict e = record {
     nothing : (a b : Bool) → a ≡ false → IsTrue (a && b) → ⊥
     nothing false b e r = cc
     nothing true b e r = cc
+
+no : false ≡ true → ⊥
+no e = cc
+
+-- a sector that is marked
+pub marked_moves : (unit block : ℕ) → (d : DriveState) → (size : ℕ) → (told : Bool) → (old new : Site)
+    → stop_of d ≡ None → (IsTrue told → true ≡ is_marked (old.held unit) block)
+    → new.book ≡ old.book → new.window ≡ old.window → (IsTrue told → new.held ≡ old.held)
+    → MovesSector unit block d size told old new Marked
+marked_moves unit block d size told old new goes mark same_book same_window kept = record {
+  marked = true;
+  by_rules = rw goes refl;
+  by_pack = mark;
+  book = same_book;
+  read = λ r. absurd (no r);
+  unread = λ r. same_window;
+  written = kept;
+}
+
+-- a sector that was written
+pub write_moves : (unit block : ℕ) → (d : DriveState) → (size : ℕ) → (told : Bool) → (old new : Site)
+    → stop_of d ≡ None → is_writing d.work ≡ true → (IsTrue told → false ≡ is_marked (old.held unit) block)
+    → new.book ≡ old.book → new.window ≡ old.window
+    → (IsTrue told → new.held ≡ with_written old.held unit block (filled 512 old.window))
+    → MovesSector unit block d size told old new Clean
+write_moves unit block d size told old new goes writes unmarked same_book same_window wrote = record {
+  marked = false;
+  by_rules = rw (goes, writes) refl;
+  by_pack = unmarked;
+  book = rw writes same_book;
+  read = λ r. absurd (no (rw writes at r));
+  unread = λ r. same_window;
+  written = λ t. rw writes (wrote t);
+}
 
 -- the verdict of a read has bytes
 read_bytes : (places : Option (List ℕ)) → (verdict : Moved) → IsReadVerdict places verdict → has_bytes verdict ≡ true

@@ -67,29 +67,58 @@ fn free_channels(alloc: Global) -> Result<Vec<Channel>, NoMemory>
     Ok(channels)
 }
 
-/// Slots, all free, and the book of noise, which is empty.
-fn slots_and_book(
+/// What the driver has beside its units and its adapters.
+#[derive(Drop)]
+struct Tables {
+    book: NoiseBook,
+    answers: Answers,
+    gather: Gather,
+    slots: Slots,
+}
+
+/// The book of noise, which is empty, and no answer.
+fn book_and_answers(
     alloc: Global,
     outstanding: u32,
     noises: u32,
-) -> Result<(Slots, NoiseBook), NoMemory>
+) -> Result<(NoiseBook, Answers), NoMemory>
     requires noises { noises ≤ 4096 }
-    ensures slots { IfOk result (λ v. v.0 ≡ replicate (min outstanding 16384) None) }
-    ensures book { IfOk result (λ v. v.1 ≡ empty_book noises) }
+    ensures book { IfOk result (λ v. v.0 ≡ empty_book noises) }
+    ensures answers { IfOk result (λ v. v.1 ≡ record { made = []; most = min outstanding 16384 + 1 }) }
 {
-    let slots = Slots::new(alloc, outstanding)?;
     let book = NoiseBook::new(alloc, noises)?;
-    Ok((slots, book))
+    let answers = Answers::new(alloc, outstanding.min(16384) + 1)?;
+    Ok((book, answers))
 }
 
-/// No answer, and nothing gathered.
-fn answers_and_gather(alloc: Global, outstanding: u32) -> Result<(Answers, Gather), NoMemory>
-    ensures answers { IfOk result (λ v. v.0 ≡ record { made = []; most = min outstanding 16384 + 1 }) }
-    ensures gather { IfOk result (λ v. v.1 ≡ []) }
+/// Nothing gathered, and slots, all free.
+fn gather_and_slots(alloc: Global, outstanding: u32) -> Result<(Gather, Slots), NoMemory>
+    ensures gather { IfOk result (λ v. v.0 ≡ []) }
+    ensures slots { IfOk result (λ v. v.1 ≡ replicate (min outstanding 16384) None) }
 {
-    let answers = Answers::new(alloc, outstanding.min(16384) + 1)?;
     let gather = Gather::new(alloc, TRACE_ROOM)?;
-    Ok((answers, gather))
+    let slots = Slots::new(alloc, outstanding)?;
+    Ok((gather, slots))
+}
+
+impl Tables {
+    /// Slots, all free; the book of noise, which is empty; no answer, and nothing gathered.
+    fn new(alloc: Global, outstanding: u32, noises: u32) -> Result<Tables, NoMemory>
+        requires noises { noises ≤ 4096 }
+        ensures book { IfOk result (λ v. v.book ≡ empty_book noises) }
+        ensures answers { IfOk result (λ v. v.answers ≡ record { made = []; most = min outstanding 16384 + 1 }) }
+        ensures gather { IfOk result (λ v. v.gather ≡ []) }
+        ensures slots { IfOk result (λ v. v.slots ≡ replicate (min outstanding 16384) None) }
+    {
+        let (book, answers) = book_and_answers(alloc, outstanding, noises)?;
+        let (gather, slots) = gather_and_slots(alloc, outstanding)?;
+        Ok(Tables {
+            book,
+            answers,
+            gather,
+            slots,
+        })
+    }
 }
 
 impl Core {
@@ -109,16 +138,15 @@ impl Core {
     {
         let units = units_of(alloc, setups)?;
         let channels = free_channels(alloc)?;
-        let (slots, book) = slots_and_book(alloc, outstanding, noises)?;
-        let (answers, gather) = answers_and_gather(alloc, outstanding)?;
+        let tables = Tables::new(alloc, outstanding, noises)?;
         Ok(Core {
             units,
             channels,
-            slots,
+            slots: tables.slots,
             frames: 0,
-            book,
-            answers,
-            gather,
+            book: tables.book,
+            answers: tables.answers,
+            gather: tables.gather,
         })
     }
 }

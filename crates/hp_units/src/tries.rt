@@ -139,7 +139,6 @@ pub(crate) fn listed_in(
 }
 
 /// The same of a transfer. A replacement lies at or above the data limit.
-#[tactic(auto, using(crate::proofs::Listed::entry_of_own, crate::proofs::Listed::entry_of_replacement))]
 fn listed(transfer: &Transfer, table: &Option<BadTable>, kind: DriveKind, moved: u32) -> Option<u8>
     requires kind { (state_of transfer.now).job.kind ≡ kind }
     requires moved { moved < (segment_of (state_of transfer.now)).count }

@@ -1,8 +1,8 @@
 -- The row behind a change of one unit.
 use Rattle.std.proofs.Common.{◌≡◌, ◌≢◌, ℕ, replicate, zero, suc, ◌+◌, ◌<◌, Bool, true, false, List, [], ◌∷◌, length, refl, sym, ◌∙◌, ap, arith, get_or-set_same, get_or-set_other}
-use Rattle.std.proofs.lemmas.List.{length-set, length-replicate, get_or-replicate}
+use Rattle.std.proofs.lemmas.List.{length-set, length-replicate, get_or-replicate, get_or_default}
 use Rattle.std.proofs.lemmas.Nat.Bits.{bit_at-zero}
-use Rattle.std.specs.Prelude.{◌==◌, slice_set, Option, None, Some, IfSome, IfNone, if◌then◌else◌}
+use Rattle.std.specs.Prelude.{◌==◌, slice_set, slice_index_or, Option, None, Some, IfSome, IfNone, if◌then◌else◌}
 use Rattle.std.proofs.lemmas.Bool.Decides.{nat_tests}
 use Rattle.driver_machine.specs.World.{UnitView, no_unit}
 use Rattle.driver_machine.specs.Events.{can_arrive, lowest}
@@ -26,6 +26,24 @@ same_kept row u units v lt is same = record { size = length-set units u v ∙ is
     at k l false e =
         let other : k ≢ u = grind (arith, nat_tests) in
         others_kept row u units v is k l other
+
+-- a unit that was changed at its place, as it was there
+pub own_unit : (a u : ℕ) (units now : List UnitView) (old d : UnitView) → a ≡ u → units ≡ now → u < length now → old ≡ slice_index_or units a d → old ≡ unit_in units a
+own_unit a u units now old d at is lt own = own ∙ get_or_default units a _ _ (omega (arith, lt, at, ap length is))
+
+-- it positions as before
+pub still_kept : (row a u : ℕ) (units now : List UnitView) (old d v : UnitView) → a ≡ u → units ≡ now → u < length now → IsRow row units
+    → old ≡ slice_index_or units a d → can_arrive v ≡ can_arrive old → IsRow row (slice_set units a v)
+still_kept row a u units now old d v at is lt kept own same =
+    same_kept row a units v (omega (arith, lt, at, ap length is)) kept (same ∙ ap can_arrive (own_unit a u units now old d at is lt own))
+
+-- and it alone was changed
+pub alone : (a u : ℕ) (units now : List UnitView) (old d v : UnitView) (f : UnitView → UnitView) → a ≡ u → units ≡ now → u < length now
+    → old ≡ slice_index_or units a d → v ≡ f old → slice_set units a v ≡ slice_set now u (f (unit_in now u))
+alone a u units now old d v f at is lt own made =
+    let here : v ≡ f (unit_in now u) =
+    made ∙ ap f (own_unit a u units now old d at is lt own ∙ ap (λ (n : ℕ). unit_in units n) at ∙ ap (λ (vs : List UnitView). unit_in vs u) is) in
+    ap (λ (n : ℕ). slice_set units n v) at ∙ ap (λ (vs : List UnitView). slice_set vs u v) is ∙ ap (λ (w : UnitView). slice_set now u w) here
 
 -- at the start no unit positions, and no bit is on
 pub blank_row : (units : List UnitView) → units ≡ replicate 32 no_unit → IsRow 0 units

@@ -1,0 +1,7 @@
+use Rattle.std.proofs.Common.{ap}
+use Rattle.driver_machine.specs.Events.{can_arrive}
+use Rattle.unit_bank.proofs.Rows.{still_kept}
+use Rattle.unit_bank.proofs.bank.UnitBank.attend.Goals as goal
+
+pub invariant_of-self : goal.invariant_of-self
+invariant_of-self c = still_kept _ _ _ _ _ _ _ _ c.from.ensures c.self.view_is c.requires c.self.invariant c.index_mut.ensures.value (ap can_arrive c.attend.ensures)
