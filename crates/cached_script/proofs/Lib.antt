@@ -1,3 +1,4 @@
+pub mod FieldLaws
 mod Wrongs
 mod Knows
 mod Passes

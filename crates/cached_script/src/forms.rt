@@ -6,12 +6,13 @@ ghost use Rattle.cached_script.specs.Knowing.{known_in};
 ghost use Rattle.cached_script.specs.Scripts.{verb_word, all_verbs, start_form, fill_form, unit_form, read_form, write_form, form_of, too_late, said, entry};
 
 use crate::known::Known;
+use crate::parts::{byte, count, kind, new_unit, number, old_unit};
 use crate::statement::{Asked, Statement};
 use mass_text::Fields;
-use script_words::{ScriptKind, byte_field, count_field, is_word, kind_field, need, number_field};
+use script_words::{ScriptKind, is_word};
 
 /// The first words of lines.
-#[derive(Clone, Copy, Debug, PartialEq, Eq)]
+#[derive(Clone, Copy, PartialEq, Eq)]
 pub(crate) enum Verb {
     Unit,
     Read,
@@ -41,10 +42,10 @@ fn verb_in(word: &[u8]) -> Result<Verb, ScriptKind>
 fn start(known: &Known, fields: &mut Fields) -> Result<Asked, ScriptKind>
     ensures { Parses (start_form (known_in known.now)) fields.old result fields.new }
 {
-    let id = number_field(need(fields)?, 0, u32::MAX)?;
-    let (unit, _) = known.unit_field(need(fields)?)?;
-    let block = number_field(need(fields)?, 0, u32::MAX)?;
-    let count = count_field(need(fields)?)?;
+    let id = number(fields)?;
+    let (unit, _) = old_unit(known, fields)?;
+    let block = number(fields)?;
+    let count = count(fields)?;
     Ok(Asked {
         id,
         unit,
@@ -58,19 +59,17 @@ fn start(known: &Known, fields: &mut Fields) -> Result<Asked, ScriptKind>
 fn filled(fields: &mut Fields) -> Result<u8, ScriptKind>
     ensures { Parses fill_form fields.old result fields.new }
 {
-    let word = need(fields)?;
-    if is_word(word, b"fill".as_slice()) {
-        Ok(byte_field(need(fields)?)?)
-    } else {
-        Err(ScriptKind::Word)
+    match fields.next() {
+        Some(word) if is_word(word, b"fill".as_slice()) => byte(fields),
+        _ => Err(ScriptKind::Word),
     }
 }
 
 fn unit_line(known: &Known, fields: &mut Fields) -> Result<Statement, ScriptKind>
     ensures { Parses (unit_form (known_in known.now)) fields.old result fields.new }
 {
-    let unit = known.new_unit_field(need(fields)?)?;
-    let kind = kind_field(need(fields)?)?;
+    let unit = new_unit(known, fields)?;
+    let kind = kind(fields)?;
     Ok(Statement::Unit { unit, kind })
 }
 

@@ -8,6 +8,7 @@
 mod forms;
 mod kind;
 mod known;
+mod parts;
 mod pieces;
 mod script;
 mod statement;

@@ -1,7 +1,7 @@
 use pack_geometry::DriveKind;
 
 /// What a line asks of blocks: `count` of them, 1 to 127, from `block` of a unit's partition `c` on.
-#[derive(Clone, Copy, Debug, PartialEq, Eq)]
+#[derive(Clone, Copy)]
 pub struct Asked {
     pub id: u32,
     pub unit: u8,
@@ -10,7 +10,7 @@ pub struct Asked {
 }
 
 /// What a line says.
-#[derive(Clone, Copy, Debug, PartialEq, Eq)]
+#[derive(Clone, Copy)]
 pub enum Statement {
     /// A drive is declared.
     Unit { unit: u8, kind: DriveKind },
@@ -23,7 +23,7 @@ pub enum Statement {
 }
 
 /// A line that says something, with its number from 1.
-#[derive(Clone, Copy, Debug, PartialEq, Eq)]
+#[derive(Clone, Copy)]
 pub struct Line {
     pub number: u32,
     pub statement: Statement,

@@ -64,6 +64,10 @@ start_form known =
 unfoldable pub last_form : Form ℕ
 last_form = next (option (codes "last") (number_field 1 512) 512) (λ last. ends last)
 
+-- an offset, and what ends the line behind it
+abbrev pub both_form : ℕ → Form (ℕ × ℕ)
+both_form offset = next last_form (λ last. gives (offset, last))
+
 unfoldable pub tail_form : Request → Form Request
 tail_form request =
     next (option (codes "off") (number_field 0 511) 0) (λ offset.
@@ -133,6 +137,18 @@ fault_form known =
     next (unit_number_form known) (λ u.
     next (field fault_field) (λ what.
     next (field (number_field 1 1000)) (λ times. gives (says.Fault u what times))))
+
+-- what is said of a unit alone, or of an adapter alone, by the word
+abbrev pub of_unit : Verb → ℕ → Said
+of_unit verbs.Offline u = says.Offline u
+of_unit verbs.Online u = says.Online u
+of_unit verbs.Lock u = says.Lock u
+of_unit verbs.Unlock u = says.Unlock u
+of_unit verb u = says.Arrive u
+
+abbrev pub of_adapter : Verb → ℕ → Said
+of_adapter verbs.Attend a = says.Attend a
+of_adapter verb a = says.Move a
 
 abbrev pub form_of : Known → Verb → Form Said
 form_of known verbs.Unit = unit_form known

@@ -1,7 +1,7 @@
-ghost use Rattle.std.specs.Prelude.{◌≡◌, ◌≢◌, ◌∷◌, IfOk, MatchResult, ◌≤◌};
-ghost use Rattle.script_words.specs.Fields.{changed};
+ghost use Rattle.std.specs.Prelude.{◌≡◌, ◌≢◌, ◌∷◌, IfOk, MatchResult, ◌≤◌, codes};
+ghost use Rattle.script_words.specs.Fields.{changed, number_field};
 ghost use Rattle.script_lines.specs.Struck.{struck_as, Answers};
-ghost use Rattle.script_lines.specs.Forms.{ends, mapped, start_form, last_form, tail_form, content_form, span_form, unit_form, read_form, write_form, turn_form, noise_form, fault_form, form_of, unit_number_form, adapter_form, Parses, none_left, whole, too_late, said};
+ghost use Rattle.script_lines.specs.Forms.{ends, mapped, next, field, option, both_form, start_form, last_form, tail_form, content_form, span_form, unit_form, read_form, write_form, turn_form, noise_form, fault_form, form_of, unit_number_form, adapter_form, of_unit, of_adapter, Parses, none_left, whole, too_late, said};
 ghost use Rattle.script_lines.specs.Knowing.{known_in};
 ghost use Rattle.script_lines.specs.declared.statement.Span.{Span};
 ghost use Rattle.script_lines.specs.Renamed.{content_by, read_of};
@@ -9,16 +9,16 @@ ghost use Rattle.script_lines.specs.Renamed.{content_by, read_of};
 use crate::fault::LineFault;
 use crate::held::Held;
 use crate::known::Known;
+use crate::parts::{
+    byte, count, digits, fault, kind, new_id, new_unit, number, offset, old_unit, part, seq,
+};
 use crate::places::places;
 use crate::statement::{Content, Request, Span, Statement};
 use fire_code::Noise;
 use hardware_table::NoiseSpan;
 use mass_text::Fields;
 use pack_geometry::{blocks, geometry_of};
-use script_words::{
-    ScriptKind, Verb, byte_field, check_digits, count_field, fault_field, is_word, kind_field,
-    need, number_field, offset_field, part_field, seq_field,
-};
+use script_words::{ScriptKind, Verb, is_word, need, number_field};
 use std::alloc::Global;
 
 /// What a line says, as it is read: the digits of a write are those of the line at a place of the text.
@@ -39,11 +39,11 @@ fn start(known: &Known, fields: &mut Fields) -> Result<Request, ScriptKind>
     ensures form { Parses (start_form (known_in known.now)) fields.old result fields.new }
     ensures count { IfOk result (λ request. request.count ≤ 127) }
 {
-    let id = known.id_field(need(fields)?)?;
-    let (unit, _) = known.unit_field(need(fields)?)?;
-    let part = part_field(need(fields)?)?;
-    let block = number_field(need(fields)?, 0, u32::MAX)?;
-    let count = count_field(need(fields)?)?;
+    let id = new_id(known, fields)?;
+    let (unit, _) = old_unit(known, fields)?;
+    let part = part(fields)?;
+    let block = number(fields, 0, u32::MAX)?;
+    let count = count(fields)?;
     Ok(Request {
         id,
         unit,
@@ -65,6 +65,16 @@ fn end(fields: &mut Fields) -> Result<(), ScriptKind>
     }
 }
 
+/// A number, with no field behind it.
+fn alone(value: u16, fields: &mut Fields) -> Result<u16, ScriptKind>
+    ensures { Parses (ends value) fields.old result fields.new }
+{
+    match fields.next() {
+        Some(_) => Err(ScriptKind::Word),
+        None => Ok(value),
+    }
+}
+
 /// `last M`, of which the first word was read, at the end of a line.
 #[tactic(auto, unfolding(crate::specs::Forms::last_form))]
 fn last(word: &[u8], fields: &mut Fields) -> Result<u16, ScriptKind>
@@ -73,9 +83,8 @@ fn last(word: &[u8], fields: &mut Fields) -> Result<u16, ScriptKind>
     if !is_word(word, b"last".as_slice()) {
         return Err(ScriptKind::Word);
     }
-    let last = number_field(need(fields)?, 1, 512)?;
-    end(fields)?;
-    Ok(last as u16)
+    let last = number(fields, 1, 512)?;
+    alone(last as u16, fields)
 }
 
 /// `[last M]`, at the end of a line.
@@ -89,30 +98,35 @@ fn last_or_end(fields: &mut Fields) -> Result<u16, ScriptKind>
     }
 }
 
+/// `N [last M]`, at the end of a line.
+fn behind_off(fields: &mut Fields) -> Result<(u16, u16), ScriptKind>
+    ensures { Parses (next (field (number_field 0 511)) both_form) fields.old result fields.new }
+{
+    let offset = number(fields, 0, 511)?;
+    let last = last_or_end(fields)?;
+    Ok((offset as u16, last))
+}
+
+/// `[off N] [last M]`, at the end of a line, as numbers.
+#[tactic(auto, unfolding(crate::specs::Forms::last_form))]
+fn offset_and_last(fields: &mut Fields) -> Result<(u16, u16), ScriptKind>
+    ensures { Parses (next (option (codes "off") (number_field 0 511) 0) both_form) fields.old result fields.new }
+{
+    match fields.next() {
+        None => Ok((0, 512)),
+        Some(word) if is_word(word, b"off".as_slice()) => behind_off(fields),
+        Some(word) => Ok((0, last(word, fields)?)),
+    }
+}
+
 /// `[off N] [last M]`, at the end of a line.
-#[tactic(auto, unfolding(crate::specs::Forms::tail_form, crate::specs::Forms::last_form))]
+#[tactic(auto, unfolding(crate::specs::Forms::tail_form))]
 fn tail(start: &Request, fields: &mut Fields) -> Result<Request, ScriptKind>
     ensures { Parses (tail_form start.now) fields.old result fields.new }
 {
-    let Some(word) = fields.next() else {
-        return Ok(Request {
-            offset: 0,
-            last: 512,
-            ..*start
-        });
-    };
-    if is_word(word, b"off".as_slice()) {
-        let offset = number_field(need(fields)?, 0, 511)?;
-        let last = last_or_end(fields)?;
-        return Ok(Request {
-            offset: offset as u16,
-            last,
-            ..*start
-        });
-    }
-    let last = last(word, fields)?;
+    let (offset, last) = offset_and_last(fields)?;
     Ok(Request {
-        offset: 0,
+        offset,
         last,
         ..*start
     })
@@ -126,11 +140,11 @@ fn content(count: u32, span: Span, fields: &mut Fields) -> Result<Content<Span>,
 {
     let word = need(fields)?;
     if is_word(word, b"fill".as_slice()) {
-        Ok(Content::Fill(byte_field(need(fields)?)?))
+        Ok(Content::Fill(byte(fields)?))
     } else if is_word(word, b"seq".as_slice()) {
-        Ok(Content::Seq(seq_field(need(fields)?)?))
+        Ok(Content::Seq(seq(fields)?))
     } else if is_word(word, b"hex".as_slice()) {
-        check_digits(count, need(fields)?)?;
+        digits(count, fields)?;
         Ok(Content::Hex(span))
     } else {
         Err(ScriptKind::Word)
@@ -144,7 +158,7 @@ fn noise_span(fields: &mut Fields) -> Result<NoiseSpan, ScriptKind>
 {
     let word = need(fields)?;
     if is_word(word, b"until".as_slice()) {
-        return Ok(NoiseSpan::Until(offset_field(need(fields)?)?));
+        return Ok(NoiseSpan::Until(offset(fields)?));
     }
     Ok(NoiseSpan::Times(number_field(word, 1, 1000)?))
 }
@@ -153,7 +167,7 @@ fn noise_span(fields: &mut Fields) -> Result<NoiseSpan, ScriptKind>
 fn unit(known: &Known, fields: &mut Fields) -> Result<u8, ScriptKind>
     ensures { Parses (unit_number_form (known_in known.now)) fields.old result fields.new }
 {
-    let (unit, _) = known.unit_field(need(fields)?)?;
+    let (unit, _) = old_unit(known, fields)?;
     Ok(unit)
 }
 
@@ -161,15 +175,15 @@ fn unit(known: &Known, fields: &mut Fields) -> Result<u8, ScriptKind>
 fn adapter(fields: &mut Fields) -> Result<u8, ScriptKind>
     ensures { Parses adapter_form fields.old result fields.new }
 {
-    let adapter = number_field(need(fields)?, 0, 3)?;
+    let adapter = number(fields, 0, 3)?;
     Ok(adapter as u8)
 }
 
 fn unit_line(known: &Known, fields: &mut Fields) -> Result<Read, ScriptKind>
     ensures { (span : Span) → Parses (mapped (read_of span) (unit_form (known_in known.now))) fields.old result fields.new }
 {
-    let unit = known.new_unit_field(need(fields)?)?;
-    let kind = kind_field(need(fields)?)?;
+    let unit = new_unit(known, fields)?;
+    let kind = kind(fields)?;
     Ok(Statement::Unit { unit, kind })
 }
 
@@ -193,16 +207,16 @@ fn write_line(known: &Known, span: Span, fields: &mut Fields) -> Result<Read, Sc
 fn turn_line(known: &Known, fields: &mut Fields) -> Result<Read, ScriptKind>
     ensures { (span : Span) → Parses (mapped (read_of span) (turn_form (known_in known.now))) fields.old result fields.new }
 {
-    let (unit, kind) = known.unit_field(need(fields)?)?;
-    let sector = number_field(need(fields)?, 0, geometry_of(kind).sectors - 1)?;
+    let (unit, kind) = old_unit(known, fields)?;
+    let sector = number(fields, 0, geometry_of(kind).sectors - 1)?;
     Ok(Statement::Turn { unit, sector })
 }
 
 fn noise_line(known: &Known, fields: &mut Fields) -> Result<Struck, ScriptKind>
     ensures { Parses (noise_form (known_in known.now)) fields.old (changed struck_as result) fields.new }
 {
-    let (unit, kind) = known.unit_field(need(fields)?)?;
-    let block = number_field(need(fields)?, 0, blocks(kind) - 1)?;
+    let (unit, kind) = old_unit(known, fields)?;
+    let block = number(fields, 0, blocks(kind) - 1)?;
     let span = noise_span(fields)?;
     let places = places(fields)?;
     Ok(Struck {
@@ -217,9 +231,46 @@ fn fault_line(known: &Known, fields: &mut Fields) -> Result<Read, ScriptKind>
     ensures { (span : Span) → Parses (mapped (read_of span) (fault_form (known_in known.now))) fields.old result fields.new }
 {
     let unit = unit(known, fields)?;
-    let what = fault_field(need(fields)?)?;
-    let times = number_field(need(fields)?, 1, 1000)?;
+    let what = fault(fields)?;
+    let times = number(fields, 1, 1000)?;
     Ok(Statement::Fault { unit, what, times })
+}
+
+/// What a line says of a unit alone, by its word.
+fn of_unit(verb: Verb, unit: u8) -> Read
+    ensures { (span : Span) → result ≡ read_of span (of_unit verb unit) }
+{
+    match verb {
+        Verb::Offline => Statement::Offline { unit },
+        Verb::Online => Statement::Online { unit },
+        Verb::Lock => Statement::Lock { unit },
+        Verb::Unlock => Statement::Unlock { unit },
+        _ => Statement::Arrive { unit },
+    }
+}
+
+fn unit_alone(known: &Known, verb: Verb, fields: &mut Fields) -> Result<Read, ScriptKind>
+    ensures { (span : Span) → Parses (mapped (λ u. read_of span (of_unit verb u)) (unit_number_form (known_in known.now))) fields.old result fields.new }
+{
+    let unit = unit(known, fields)?;
+    Ok(of_unit(verb, unit))
+}
+
+/// What a line says of an adapter alone, by its word.
+fn of_adapter(verb: Verb, adapter: u8) -> Read
+    ensures { (span : Span) → result ≡ read_of span (of_adapter verb adapter) }
+{
+    match verb {
+        Verb::Attend => Statement::Attend { adapter },
+        _ => Statement::Move { adapter },
+    }
+}
+
+fn adapter_alone(verb: Verb, fields: &mut Fields) -> Result<Read, ScriptKind>
+    ensures { (span : Span) → Parses (mapped (λ a. read_of span (of_adapter verb a)) adapter_form) fields.old result fields.new }
+{
+    let adapter = adapter(fields)?;
+    Ok(of_adapter(verb, adapter))
 }
 
 /// What the fields behind a word say, where it is no noise.
@@ -231,30 +282,13 @@ fn form(known: &Known, verb: Verb, span: Span, fields: &mut Fields) -> Result<Re
         Verb::Unit => unit_line(known, fields),
         Verb::Read => read_line(known, fields),
         Verb::Write => write_line(known, span, fields),
-        Verb::Arrive => Ok(Statement::Arrive {
-            unit: unit(known, fields)?,
-        }),
+        Verb::Arrive | Verb::Offline | Verb::Online | Verb::Lock | Verb::Unlock => {
+            unit_alone(known, verb, fields)
+        }
         Verb::Turn => turn_line(known, fields),
-        Verb::Move => Ok(Statement::Move {
-            adapter: adapter(fields)?,
-        }),
-        Verb::Attend => Ok(Statement::Attend {
-            adapter: adapter(fields)?,
-        }),
+        Verb::Move | Verb::Attend => adapter_alone(verb, fields),
         Verb::Noise => unreachable!(),
         Verb::Fault => fault_line(known, fields),
-        Verb::Offline => Ok(Statement::Offline {
-            unit: unit(known, fields)?,
-        }),
-        Verb::Online => Ok(Statement::Online {
-            unit: unit(known, fields)?,
-        }),
-        Verb::Lock => Ok(Statement::Lock {
-            unit: unit(known, fields)?,
-        }),
-        Verb::Unlock => Ok(Statement::Unlock {
-            unit: unit(known, fields)?,
-        }),
         Verb::Drain => Ok(Statement::Drain),
     }
 }

@@ -10,6 +10,7 @@ mod fault;
 mod forms;
 mod held;
 mod known;
+mod parts;
 mod places;
 mod statement;
 

@@ -3,7 +3,7 @@ use pack_geometry::DriveKind;
 use partitions::Part;
 
 /// Where a line stands in the text of a script, in bytes: from `start` up to `end`. A text has at most 16 MiB.
-#[derive(Clone, Copy, Debug, PartialEq, Eq)]
+#[derive(Clone, Copy)]
 pub struct Span {
     pub start: u32,
     pub end: u32,
@@ -11,7 +11,7 @@ pub struct Span {
 
 /// What a line asks of blocks: `count` of them, 1 to 127, from `block` of a unit's partition on. The first byte stands
 /// `offset` bytes into its frame, 0 to 511, and `last` bytes of the last block are asked for, 1 to 512.
-#[derive(Clone, Copy, Debug, PartialEq, Eq)]
+#[derive(Clone, Copy)]
 pub struct Request {
     pub id: u32,
     pub unit: u8,

@@ -2,7 +2,7 @@ use drive_registers::OffsetCode;
 use hardware_table::Moved;
 
 /// What a line of the trace tells of: a command to a unit, or what the unit, its adapter and its request come to.
-#[derive(Clone, Copy, Debug, PartialEq, Eq)]
+#[derive(Clone, Copy)]
 pub enum Told {
     /// A search for a cylinder and a sector.
     Search { cylinder: u32, sector: u32 },

@@ -1,3 +1,4 @@
+pub mod TakenLaws
 pub mod NumberLaws
 pub mod WordLaws
 pub mod FormLaws

@@ -5,3 +5,4 @@ pub mod Lines
 pub mod Reading
 pub mod RoundTrip
 pub mod SoFar
+pub mod Taken

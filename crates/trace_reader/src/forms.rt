@@ -8,7 +8,7 @@ ghost use Rattle.trace_reader.specs.declared.line.TraceLine.TheVariants.{Idle};
 use crate::fault::TraceKind;
 use crate::line::TraceLine;
 use crate::verbs::{Command, Verb};
-use crate::words::{Words, command, decimal, offset_code, pattern, plain_verdict, verb};
+use crate::words::{Words, plain_verdict, verb};
 use script_words::is_word;
 use trace_lines::Told;
 
@@ -30,36 +30,40 @@ fn last(told: Told, words: &mut Words) -> Result<Told, TraceKind>
 }
 
 /// `C S`
+#[tactic(auto, using(crate::proofs::TakenLaws::first_taken, crate::proofs::TakenLaws::first_fault))]
 fn search(words: &mut Words) -> Result<Told, TraceKind>
     ensures { result ≡ command_form commands.Search words.old }
 {
-    let cylinder = decimal(words.need()?, 0, MOST_CYLINDER)?;
-    let sector = decimal(words.need()?, 0, MOST_SECTOR)?;
+    let cylinder = words.decimal(0, MOST_CYLINDER)?;
+    let sector = words.decimal(0, MOST_SECTOR)?;
     last(Told::Search { cylinder, sector }, words)
 }
 
 /// `C`
+#[tactic(auto, using(crate::proofs::TakenLaws::first_taken, crate::proofs::TakenLaws::first_fault))]
 fn seek(words: &mut Words) -> Result<Told, TraceKind>
     ensures { result ≡ command_form commands.Seek words.old }
 {
-    let cylinder = decimal(words.need()?, 0, MOST_CYLINDER)?;
+    let cylinder = words.decimal(0, MOST_CYLINDER)?;
     last(Told::Seek { cylinder }, words)
 }
 
 /// `CODE`
+#[tactic(auto, using(crate::proofs::TakenLaws::first_taken, crate::proofs::TakenLaws::first_fault))]
 fn offset(words: &mut Words) -> Result<Told, TraceKind>
     ensures { result ≡ command_form commands.Offset words.old }
 {
-    let code = offset_code(words.need()?)?;
+    let code = words.offset_code()?;
     last(Told::Offset { code }, words)
 }
 
 /// `B N`
+#[tactic(auto, using(crate::proofs::TakenLaws::first_taken, crate::proofs::TakenLaws::first_fault))]
 fn transfer(write: bool, words: &mut Words) -> Result<Told, TraceKind>
     ensures { result ≡ transfer_form write words.old }
 {
-    let block = decimal(words.need()?, 0, MOST_BLOCK)?;
-    let count = decimal(words.need()?, 1, 127)?;
+    let block = words.decimal(0, MOST_BLOCK)?;
+    let count = words.decimal(1, 127)?;
     last(
         Told::Transfer {
             write,
@@ -88,11 +92,12 @@ fn commanded(command: Command, words: &mut Words) -> Result<Told, TraceKind>
 }
 
 /// `AT PATTERN`
+#[tactic(auto, using(crate::proofs::TakenLaws::first_taken, crate::proofs::TakenLaws::first_fault))]
 fn burst(block: u32, words: &mut Words) -> Result<Told, TraceKind>
     ensures { result ≡ burst_form block words.old }
 {
-    let at = decimal(words.need()?, 1, 4128)?;
-    let pattern = pattern(words.need()?)?;
+    let at = words.decimal(1, 4128)?;
+    let pattern = words.pattern()?;
     let verdict = hardware_table::Moved::Burst {
         at: at as u16,
         pattern,
@@ -114,30 +119,30 @@ fn verdict(block: u32, words: &mut Words) -> Result<Told, TraceKind>
 }
 
 /// `COMMAND ..`
-#[tactic(auto, unfolding(crate::specs::Reading::told_form))]
+#[tactic(auto, unfolding(crate::specs::Reading::told_form), using(crate::proofs::TakenLaws::first_taken, crate::proofs::TakenLaws::first_fault))]
 fn cmd(words: &mut Words) -> Result<Told, TraceKind>
     ensures { result ≡ told_form verbs.Cmd words.old }
 {
-    let command = command(words.need()?)?;
+    let command = words.command()?;
     commanded(command, words)
 }
 
 /// `B VERDICT`
-#[tactic(auto, unfolding(crate::specs::Reading::told_form))]
+#[tactic(auto, unfolding(crate::specs::Reading::told_form), using(crate::proofs::TakenLaws::first_taken, crate::proofs::TakenLaws::first_fault))]
 fn sector(words: &mut Words) -> Result<Told, TraceKind>
     ensures { result ≡ told_form verbs.Sector words.old }
 {
-    let block = decimal(words.need()?, 0, MOST_BLOCK)?;
+    let block = words.decimal(0, MOST_BLOCK)?;
     verdict(block, words)
 }
 
 /// `B N`
-#[tactic(auto, unfolding(crate::specs::Reading::told_form))]
+#[tactic(auto, unfolding(crate::specs::Reading::told_form), using(crate::proofs::TakenLaws::first_taken, crate::proofs::TakenLaws::first_fault))]
 fn failed(words: &mut Words) -> Result<Told, TraceKind>
     ensures { result ≡ told_form verbs.Try words.old }
 {
-    let block = decimal(words.need()?, 0, MOST_BLOCK)?;
-    let failures = decimal(words.need()?, 1, 28)?;
+    let block = words.decimal(0, MOST_BLOCK)?;
+    let failures = words.decimal(1, 28)?;
     last(Told::Try { block, failures }, words)
 }
 
@@ -158,13 +163,13 @@ fn told(verb: Verb, words: &mut Words) -> Result<Told, TraceKind>
 }
 
 /// What stands behind the first word of a line of a unit.
-#[tactic(auto, unfolding(crate::specs::Reading::deed_form))]
+#[tactic(auto, unfolding(crate::specs::Reading::deed_form), using(crate::proofs::TakenLaws::first_taken, crate::proofs::TakenLaws::first_fault))]
 fn deed(verb: Verb, words: &mut Words) -> Result<TraceLine, TraceKind>
     ensures { result ≡ deed_form verb words.old }
 {
-    let line = decimal(words.need()?, 1, 1_000_001)?;
-    let unit = decimal(words.need()?, 0, 31)?;
-    let id = decimal(words.need()?, 0, u32::MAX)?;
+    let line = words.decimal(1, 1_000_001)?;
+    let unit = words.decimal(0, 31)?;
+    let id = words.decimal(0, u32::MAX)?;
     let told = told(verb, words)?;
     Ok(TraceLine::Deed {
         line,
@@ -175,10 +180,11 @@ fn deed(verb: Verb, words: &mut Words) -> Result<TraceLine, TraceKind>
 }
 
 /// What stands behind `idle`.
+#[tactic(auto, using(crate::proofs::TakenLaws::first_taken, crate::proofs::TakenLaws::first_fault))]
 fn idle(words: &mut Words) -> Result<TraceLine, TraceKind>
     ensures { result ≡ first line_in (λ line. none (Idle line)) words.old }
 {
-    let line = decimal(words.need()?, 1, 1_000_001)?;
+    let line = words.decimal(1, 1_000_001)?;
     match words.next() {
         None => Ok(TraceLine::Idle { line }),
         Some(_) => Err(TraceKind::Word),

@@ -1,7 +1,7 @@
 use trace_lines::Told;
 
 /// A line of a trace.
-#[derive(Clone, Copy, Debug, PartialEq, Eq)]
+#[derive(Clone, Copy)]
 pub enum TraceLine {
     /// What was done at a unit, 0 to 31, for the request of an id, as line number `line` of the script was played: 1 to
     /// 1,000,001, where the number behind the last line is that of the last drain.

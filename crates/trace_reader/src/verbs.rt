@@ -1,5 +1,5 @@
 /// The first words of lines that tell of a unit.
-#[derive(Clone, Copy, Debug, PartialEq, Eq)]
+#[derive(Clone, Copy)]
 pub(crate) enum Verb {
     Cmd,
     Arrive,
@@ -11,7 +11,7 @@ pub(crate) enum Verb {
 }
 
 /// The words of commands.
-#[derive(Clone, Copy, Debug, PartialEq, Eq)]
+#[derive(Clone, Copy)]
 pub(crate) enum Command {
     Search,
     Seek,

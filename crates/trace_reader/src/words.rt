@@ -1,6 +1,7 @@
 // The words of a line.
 ghost use Rattle.std.specs.Prelude.{◌≡◌, ◌≤◌, ◌==◌, ◌∷◌, [], ℕ, position, IfOk, MatchOption, MatchResult};
 ghost use Rattle.trace_reader.specs.declared.fault.TraceKind.{TraceKind};
+ghost use Rattle.trace_reader.specs.Taken.{Takes};
 ghost use Rattle.trace_reader.specs.Reading.{words_of, words_left, number_in, decimal_in, verb_in, command_in, code_in, plain_verdict_in};
 
 use crate::fault::TraceKind;
@@ -74,6 +75,51 @@ impl<'a> Words<'a> {
     {
         self.next().ok_or(TraceKind::Word)
     }
+
+    /// The next word as a decimal number from `low` to `high`.
+    #[tactic(auto, using(crate::proofs::TakenLaws::one_taken))]
+    pub(crate) fn decimal(&mut self, low: u32, high: u32) -> Result<u32, TraceKind>
+        ensures value { Takes (decimal_in low high) self.old result self.new }
+        ensures bound { IfOk result (λ n. n ≤ high) }
+    {
+        match self.next() {
+            Some(word) => decimal(word, low, high),
+            None => Err(TraceKind::Word),
+        }
+    }
+
+    /// The next word as the pattern of a burst.
+    #[tactic(auto, using(crate::proofs::TakenLaws::one_taken))]
+    pub(crate) fn pattern(&mut self) -> Result<u16, TraceKind>
+        ensures { Takes (number_in Radix.Octal 1 2047) self.old result self.new }
+    {
+        match self.next() {
+            Some(word) => pattern(word),
+            None => Err(TraceKind::Word),
+        }
+    }
+
+    /// The next word as an offset of the heads.
+    #[tactic(auto, using(crate::proofs::TakenLaws::one_taken))]
+    pub(crate) fn offset_code(&mut self) -> Result<OffsetCode, TraceKind>
+        ensures { Takes code_in self.old result self.new }
+    {
+        match self.next() {
+            Some(word) => offset_code(word),
+            None => Err(TraceKind::Word),
+        }
+    }
+
+    /// The next word as a command.
+    #[tactic(auto, using(crate::proofs::TakenLaws::one_taken))]
+    pub(crate) fn command(&mut self) -> Result<Command, TraceKind>
+        ensures { Takes command_in self.old result self.new }
+    {
+        match self.next() {
+            Some(word) => command(word),
+            None => Err(TraceKind::Word),
+        }
+    }
 }
 
 /// A number from `low` to `high`, without a zero too many.
@@ -90,7 +136,7 @@ fn number_in(word: &[u8], radix: Radix, low: u64, high: u64) -> Result<u64, Trac
 }
 
 /// A decimal number from `low` to `high`.
-pub(crate) fn decimal(word: &[u8], low: u32, high: u32) -> Result<u32, TraceKind>
+fn decimal(word: &[u8], low: u32, high: u32) -> Result<u32, TraceKind>
     ensures value { result ≡ decimal_in low high word.now }
     ensures bound { IfOk result (λ n. n ≤ high) }
 {
@@ -99,7 +145,7 @@ pub(crate) fn decimal(word: &[u8], low: u32, high: u32) -> Result<u32, TraceKind
 }
 
 /// The pattern of a burst, in octal.
-pub(crate) fn pattern(word: &[u8]) -> Result<u16, TraceKind>
+fn pattern(word: &[u8]) -> Result<u16, TraceKind>
     ensures { result ≡ number_in Radix.Octal 1 2047 word.now }
 {
     let n = number_in(word, Radix::Octal, 1, 2047)?;
@@ -132,7 +178,7 @@ pub(crate) fn verb(word: &[u8]) -> Result<Verb, TraceKind>
 
 /// A command's word.
 #[tactic(auto, unfolding(crate::specs::Reading::command_in))]
-pub(crate) fn command(word: &[u8]) -> Result<Command, TraceKind>
+fn command(word: &[u8]) -> Result<Command, TraceKind>
     ensures { result ≡ command_in word.now }
 {
     if is_word(word, b"search".as_slice()) {
@@ -160,7 +206,7 @@ pub(crate) fn command(word: &[u8]) -> Result<Command, TraceKind>
 
 /// An offset of the heads.
 #[tactic(auto, unfolding(crate::specs::Reading::code_in))]
-pub(crate) fn offset_code(word: &[u8]) -> Result<OffsetCode, TraceKind>
+fn offset_code(word: &[u8]) -> Result<OffsetCode, TraceKind>
     ensures { result ≡ code_in word.now }
 {
     offset_in(word).ok_or(TraceKind::Word)
