@@ -11,7 +11,7 @@ use Rattle.block_machine.specs.Machine.{Blocks}
 use Rattle.partition_bytes.specs.Laid.{laid, laid_at}
 use Rattle.partition_bytes.specs.Bytes.{blocks_for, dump_place, dumped, with_bytes, with_range}
 use Rattle.partition_bytes.proofs.Ranges.{laid_over_none}
-use Rattle.raw_io.specs.Calls.{kind_at, map_at}
+use Rattle.raw_io.specs.Passes.{kind_at, map_at}
 use Rattle.raw_io.specs.Pieces.{start_of}
 use Rattle.transfer_rows.specs.Raw.{DrainEndsEarly, ReadComesFromThePack, DoneInBlocks, DumpAtTheFront, OutsideByOne}
 

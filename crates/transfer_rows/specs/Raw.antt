@@ -11,8 +11,7 @@ use Rattle.waited_requests.specs.Waited.{answer_in}
 use Rattle.partition_bytes.specs.Bytes.{IsOutside, dumped, dump_place}
 use Rattle.raw_io.specs.declared.fault.RawFault.{RawFault}
 use Rattle.raw_io.specs.declared.fault.RawFault.TheVariants.{Outside}
-use Rattle.raw_io.specs.Passes.{Answers, IsReady, Stage, State, setup_at}
-use Rattle.raw_io.specs.Calls.{kind_at, map_at}
+use Rattle.raw_io.specs.Passes.{Answers, IsReady, Stage, State, kind_at, map_at, setup_at}
 use Rattle.raw_io.specs.Pieces.{GivesRange, PutsRange, start_of}
 
 -- A DRAIN ENDS EARLY: a request has not ended behind it.
