@@ -3,7 +3,7 @@ ghost use Rattle.std.specs.Prelude.{◌≡◌, ◌≤◌, ◌<◌, ◌^◌, IfSo
 ghost use Rattle.pack_model.specs.TableSpelling.{IsTable};
 ghost use Rattle.driver_machine.specs.Guards.{IsSetUp};
 ghost use Rattle.blocking_io.specs.Asking.{IsReady};
-ghost use Rattle.raw_io.specs.Transfers.{MayTransfer};
+ghost use Rattle.raw_io.specs.Passes.{MayTransfer};
 
 use bad144_table::{BadTable, entries};
 use blocking_io::{Reached, ask_read, ask_write};

@@ -4,3 +4,5 @@ mod Headers
 mod Others
 mod Strikes
 mod Stopping
+mod Commands
+mod Texts

@@ -4,3 +4,5 @@ pub mod Headers
 pub mod Others
 pub mod Strikes
 pub mod Stopping
+pub mod Commands
+pub mod Texts

@@ -7,6 +7,8 @@ ghost use Rattle.promise_rows.specs.Stopping.{AnswerBeforeItsLine, TextDropped, 
 ghost use Rattle.promise_rows.specs.Strikes.{FailedByFewStrikes};
 ghost use Rattle.promise_rows.specs.Headers.{HeadersAreAsTheDriveHasThem};
 ghost use Rattle.promise_rows.specs.Others.{DoneWhereTheTextWasNotTaken, FaultThatPrints, HandedInPacksPlayed, PlayedAsRefusedByTheTool};
+ghost use Rattle.promise_rows.specs.Commands.{NumberBeforeItsCommand, TwoRefusalsOfOneStatus, HalfOfTheSource, HalfTheNumberPlayed, SeedFromTheGreatestByteOn};
+ghost use Rattle.promise_rows.specs.Texts.{UnitAndIdSwapped, ErrorWithoutDone, OkCountsReadsAlone, SumThatSaturates};
 
 /// Of `play`: no fault without its cause, no answer left out, no block that no request wrote, no line of noise that is not counted,
 /// no short last block that is told as a whole one, and no request that fails by tries where the script's faults and noise strike its unit
@@ -58,4 +60,23 @@ pub fn stop_rows()
     ensures write_before_its_lines { TwoBlocksAhead }
     ensures text_dropped_at_a_stop { TextDropped }
     ensures text_sent_twice { TextSentTwice }
+{}
+
+/// Of the words of the command line, which name a command before its number; of statuses, each of one end; of a transfer, which takes its
+/// source whole; and of an exercise, which plays the script of its own number, by the number's bytes from the least one on.
+pub fn command_rows()
+    ensures number_before_its_command { NumberBeforeItsCommand }
+    ensures two_refusals_of_one_status { TwoRefusalsOfOneStatus }
+    ensures half_of_the_source { HalfOfTheSource }
+    ensures half_the_number_played { HalfTheNumberPlayed }
+    ensures seed_from_the_greatest_byte_on { SeedFromTheGreatestByteOn }
+{}
+
+/// Of the lines of a trace, with the unit before the id; of the answers, which say how much was done; and of the counts of a run: a write is
+/// ok too, and the sum goes round.
+pub fn text_rows()
+    ensures unit_and_id_swapped { UnitAndIdSwapped }
+    ensures error_without_done { ErrorWithoutDone }
+    ensures ok_counts_reads_alone { OkCountsReadsAlone }
+    ensures sum_that_saturates { SumThatSaturates }
 {}

@@ -21,13 +21,8 @@ use Rattle.driver_slots.specs.Parts.{AreSetups}
 use Rattle.driver_slots.proofs.Lists.{Contains-none, Contains-first, Contains-cases}
 use Rattle.driver_slots.proofs.Starts.{stands_new, others_new}
 use Rattle.driver_replay.specs.Acts.{AreSetUp}
-use Rattle.raw_io.specs.Passes.{IsSoFar}
-use Rattle.raw_io.proofs.Passes.{starts}
-use Rattle.raw_io.specs.Passes.{State}
-use Rattle.raw_io.specs.Passes.{kind_if, table_if, setup_of, StandsQuiet}
-use Rattle.raw_io.proofs.Passes.{new_is_quiet}
-use Rattle.raw_io.specs.Calls.{kind_at}
-use Rattle.raw_io.specs.Transfers.{MayTransfer}
+use Rattle.raw_io.specs.Passes.{IsSoFar, State, kind_if, table_if, setup_of, StandsQuiet, kind_at, MayTransfer}
+use Rattle.raw_io.proofs.Passes.{starts, new_is_quiet}
 use Rattle.raw_command.specs.Units.{at_unit, unit_setup}
 
 -- A NUMBER is the unit's, or it is not.

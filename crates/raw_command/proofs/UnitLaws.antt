@@ -9,16 +9,13 @@ use Rattle.pack_model.specs.Pack.{Pack}
 use Rattle.pack_model.specs.PackTable.{IsTableOf}
 use Rattle.driver_outcome.specs.declared.Stop.{Stop}
 use Rattle.driver_outcome.specs.declared.Stop.TheVariants.{Store, Sink}
-use Rattle.raw_io.specs.Passes.{State}
-use Rattle.raw_io.specs.Passes.{Stage}
-use Rattle.raw_io.specs.Passes.{setup_at}
+use Rattle.raw_io.specs.Passes.{State, Stage, setup_at, kind_at, IsUntouched, Keeps, MayTransfer, site}
 use Rattle.waited_requests.specs.Rest.{HasTables}
 use Rattle.partitions.specs.declared.Part.{Part}
 use Rattle.partitions.specs.Partitions.{size_of}
 use Rattle.partition_bytes.specs.Bytes.{IsOutside}
-use Rattle.raw_io.specs.Calls.{kind_at, IsUntouched, StopsAt, done_by as raw_done, stop_of as raw_stop}
+use Rattle.raw_io.specs.Calls.{StopsAt, done_by as raw_done, stop_of as raw_stop}
 use Rattle.raw_io.specs.Pieces.{GivesRange, PutsRange, start_of}
-use Rattle.raw_io.specs.Transfers.{Keeps, MayTransfer, site}
 use Rattle.raw_io.specs.declared.fault.RawFault.{RawFault}
 use Rattle.raw_io.specs.declared.fault.RawFault.TheVariants as raw
 use Rattle.mba_autoconf.specs.Attach.{Fits}

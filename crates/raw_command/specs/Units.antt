@@ -8,8 +8,7 @@ use Rattle.pack_model.specs.TableSpelling.{Table}
 use Rattle.block_machine.specs.Stands.{Setup}
 use Rattle.driver_machine.specs.World.{new_world}
 use Rattle.driver_machine.specs.Sound.{IsTableFor}
-use Rattle.raw_io.specs.Passes.{HasCauses}
-use Rattle.raw_io.specs.Passes.{State}
+use Rattle.raw_io.specs.Passes.{HasCauses, State}
 use Rattle.mba_autoconf.specs.Attach.{Fits}
 use Rattle.raw_command.specs.Faults.{IsBefore, IsOfUnit, stop_of}
 use Rattle.raw_command.specs.declared.fault.TransferFault.{TransferFault}

@@ -1,56 +1,18 @@
 -- One transfer behind the other.
-use Rattle.std.proofs.Common.{◌≡◌, ℕ, ◌+◌, Bool, List, [], ◌∷◌, ◌++◌, length, Option, None, Some, refl, sym, ap, ◌∙◌, subst, arith, append-nil, append_assoc, true, false}
+use Rattle.std.proofs.Common.{◌≡◌, ℕ, Bool, List, [], ◌∷◌, ◌++◌, refl, sym, ap, ◌∙◌, subst, arith, append-nil, append_assoc, true, false}
 use Rattle.std.specs.Prelude.{Contains}
 use Rattle.std.proofs.lemmas.List.Elements.{Contains-append_left, Contains-append_right}
 use Rattle.hardware_table.specs.declared.Moved.TheVariants.{Clean}
 use Rattle.trace_replay.specs.Moments.{Told, Sector}
-use Rattle.std.proofs.lemmas.Option.{none-some, same_Some}
-use Rattle.pack_geometry.specs.declared.DriveKind.{DriveKind}
-use Rattle.pack_model.specs.Pack as model
-use Rattle.pack_model.specs.Content.{bytes_at}
-use Rattle.pack_model.specs.TableSpelling.{Table}
-use Rattle.pack_model.specs.Homes.{home_of, content_at}
-use Rattle.pack_model.proofs.PackLaws.{length-block_at}
 use Rattle.partitions.specs.declared.Part.{Part}
-use Rattle.block_machine.specs.Stands.{Setup, home_at, home_in}
-use Rattle.block_machine.proofs.Runs.{home_marks}
+use Rattle.block_machine.specs.Stands.{Setup, home_in}
 use Rattle.waited_requests.specs.Sessions.{Part as SessionPart, told_in}
 use Rattle.waited_requests.specs.Cleans.{MovedClean}
-use Rattle.waited_requests.specs.Waited.{map_of, with_packs}
-use Rattle.request_fronts.specs.Passes.{Stage}
-use Rattle.request_fronts.specs.Passes.{setup_at}
-use Rattle.request_fronts.specs.Passes.{StillTell, SessionsJoin}
+use Rattle.waited_requests.specs.Waited.{with_packs}
+use Rattle.request_fronts.specs.Passes.{Stage, setup_at, StillTell, SessionsJoin}
 use Rattle.request_fronts.specs.Fronts.{OthersStay}
+use Rattle.request_fronts.proofs.Sites.{homes_same, others_none, others_over}
 use Rattle.raw_io.specs.Transfers.{AreWaited, Transfers}
-use Rattle.raw_io.specs.Calls.{left_map, IsUntouched}
-use Rattle.raw_io.specs.Blocks.{IsUnchanged}
-
--- ---- what is no home
-homes_same : (drive : Option DriveKind) (table : Option Table) (one other : model.Pack) (block : ℕ) → one.marks ≡ other.marks → home_at drive table one block ≡ home_at drive table other block
-homes_same None table one other block same = refl
-homes_same (Some kind) table one other block same = home_marks kind table one other block same
-
-pub others_none : (setup : Setup) → OthersStay setup setup.packs
-others_none setup = record {
-  sectors = λ unit sector kind declared below homeless. refl;
-  stay = record { beyond = λ unit kind declared. refl; marks = λ unit. refl; others = λ unit none. refl };
-}
-
-others_join : (setup : Setup) (mid new : ℕ → model.Pack) → OthersStay setup mid → OthersStay (with_packs setup mid) new → OthersStay setup new
-others_join setup mid new first next = record {
-  sectors = λ unit sector kind declared below homeless.
-      next.sectors unit sector kind declared below
-      (λ block home. homeless block (homes_same (setup.drives unit) (setup.tables unit) (setup.packs unit) (mid unit) block (sym (first.stay.marks unit)) ∙ home))
-      ∙ first.sectors unit sector kind declared below homeless;
-  stay = record {
-    beyond = λ unit kind declared. next.stay.beyond unit kind declared ∙ first.stay.beyond unit kind declared;
-    marks = λ unit. next.stay.marks unit ∙ first.stay.marks unit;
-    others = λ unit none. next.stay.others unit none ∙ first.stay.others unit none;
-  };
-}
-
-pub others_over : (old mid new : Stage) → setup_at mid ≡ with_packs (setup_at old) mid.held → OthersStay (setup_at old) mid.held → OthersStay (setup_at mid) new.held → OthersStay (setup_at old) new.held
-others_over old mid new same first next = others_join (setup_at old) mid.held new.held first (subst (λ z. OthersStay z new.held) same next)
 
 -- ---- requests
 pub waited_more : (reads : Bool) (unit : ℕ) (part : Part) (xs ys : List SessionPart) → AreWaited reads unit part xs → AreWaited reads unit part ys → AreWaited reads unit part (xs ++ ys)
@@ -141,25 +103,4 @@ clean_behind old mid unit block xs ys same others c = record {
   line = c.line;
   id = c.id;
   moved = subst (λ z. Contains z (Told c.line unit c.id (Sector c.sector Clean))) (sym (told_more xs ys)) (Contains-append_right (told_in xs) (told_in ys) (Told c.line unit c.id (Sector c.sector Clean)) c.moved);
-}
-
--- ---- what the packs hold
-bytes_long : (pack : model.Pack) (home : Option ℕ) (bytes : List ℕ) → bytes_at pack home ≡ Some bytes → length bytes ≡ 512
-bytes_long pack None bytes is = absurd (none-some bytes is)
-bytes_long pack (Some sector) bytes is = ap length (sym (same_Some (model.block_at pack.image sector) bytes is)) ∙ length-block_at pack.image sector
-
-content_long : (drive : Option DriveKind) (table : Option Table) (pack : model.Pack) (block : ℕ) (bytes : List ℕ) → content_at drive table pack block ≡ Some bytes → length bytes ≡ 512
-content_long None table pack block bytes is = absurd (none-some bytes is)
-content_long (Some kind) table pack block bytes is = bytes_long pack (home_of kind table pack block) bytes is
-
-pub map_long : (setup : Setup) (unit block : ℕ) (bytes : List ℕ) → map_of setup unit block ≡ Some bytes → length bytes ≡ 512
-map_long setup unit block bytes is = content_long (setup.drives unit) (setup.tables unit) (setup.packs unit) block bytes is
-
-pub left_over : (old mid new : Stage) → setup_at mid ≡ with_packs (setup_at old) mid.held → left_map mid new ≡ left_map old new
-left_over old mid new same = ap (λ z. map_of (with_packs z new.held)) same
-
-pub untouched_behind : (old mid new : Stage) → setup_at mid ≡ with_packs (setup_at old) mid.held → IsUnchanged old mid → OthersStay (setup_at old) mid.held → IsUntouched mid new → IsUntouched old new
-untouched_behind old mid new same first others next = record {
-  map = λ u block. ap (λ f. f u block) (sym (left_over old mid new same)) ∙ next.map u block ∙ ap (λ f. f u block) first.map;
-  others = others_over old mid new same others next.others;
 }

@@ -1,8 +1,7 @@
-pub mod Joins
-pub mod Asks
-pub mod Exits
+mod Joins
+mod Exits
 mod Loops
-pub mod ReadPieces
+mod ReadPieces
 mod ReadRanges
 mod WritePieces
 mod WriteRanges

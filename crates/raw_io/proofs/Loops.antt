@@ -3,16 +3,14 @@ use Rattle.std.proofs.Common.{◌≡◌, ℕ, ◌+◌, ◌*◌, ◌<◌, ◌≤�
 use Rattle.pack_geometry.specs.declared.DriveKind.{DriveKind}
 use Rattle.partitions.specs.declared.Part.{Part}
 use Rattle.partitions.specs.Partitions.{size_of}
-use Rattle.request_fronts.specs.Passes.{asked}
+use Rattle.request_fronts.specs.Passes.{asked, Stage, setup_at}
 use Rattle.driver_machine.specs.Guards.{IsSetUp}
 use Rattle.waited_requests.specs.Waited.{with_packs}
-use Rattle.request_fronts.specs.Passes.{Stage}
-use Rattle.request_fronts.specs.Passes.{setup_at}
 use Rattle.raw_io.specs.declared.pieces.Piece.{Piece}
-use Rattle.raw_io.specs.Transfers.{AreBlocks}
-use Rattle.raw_io.specs.Calls.{kind_at}
+use Rattle.request_fronts.specs.Blocks.{AreBlocks}
+use Rattle.request_fronts.specs.Sites.{kind_at}
 use Rattle.raw_io.specs.Pieces.{IsPiece}
-use Rattle.raw_io.proofs.ReadPieces.{kind_stays}
+use Rattle.request_fronts.proofs.Sites.{kind_stays}
 
 -- ---- its blocks lie inside the partition
 pub piece_blocks : (kind : DriveKind) (unit : ℕ) (part : Part) (write : Bool) (place left : ℕ) (p : Piece) (bytes : List ℕ) → IsPiece unit part write place left p → place + left ≤ 512 * size_of kind part

@@ -1,30 +1,27 @@
 -- Whole blocks and pieces of a range that are read.
-use Rattle.std.proofs.Common.{◌≡◌, ◌≢◌, ◌⊎◌, inl, inr, ℕ, ◌<◌, ◌≤◌, ◌+◌, ◌-◌, ◌*◌, ◌==◌, Bool, true, false, IsTrue, List, [], ◌++◌, length, take, drop, Option, None, Some, refl, sym, ap, ◌∙◌, subst, arith}
+use Rattle.std.proofs.Common.{◌≡◌, ◌≢◌, ◌⊎◌, inl, inr, ℕ, ◌<◌, ◌≤◌, ◌+◌, ◌*◌, ◌==◌, Bool, true, false, IsTrue, List, [], ◌++◌, length, take, drop, Option, None, Some, refl, sym, ap, ◌∙◌, subst, arith}
 use Rattle.std.specs.Prelude.{IsSome, if◌then◌else◌}
 use Rattle.std.proofs.lemmas.Bool.Decides.{eqb_tells}
 use Rattle.std.proofs.lemmas.Option.{none-some}
 use Rattle.partitions.specs.Partitions.{first_of}
 use Rattle.subsystem_spec.specs.Requests.{Request}
 use Rattle.trace_replay.specs.Packs.{size_of_block}
-use Rattle.block_machine.specs.Machine.{Blocks, bytes_of_first, kind_of}
+use Rattle.block_machine.specs.Machine.{Blocks, bytes_of_first}
 use Rattle.driver_machine.specs.Guards.{IsSetUp}
-use Rattle.request_fronts.specs.Passes.{asked}
+use Rattle.request_fronts.specs.Passes.{asked, Stage, setup_at, StillTell, SessionsJoin}
 use Rattle.waited_requests.specs.Rest.{HasTables}
-use Rattle.waited_requests.specs.Waited.{with_packs}
 use Rattle.partition_bytes.specs.Laid.{laid}
-use Rattle.request_fronts.specs.Passes.{Stage}
-use Rattle.request_fronts.specs.Passes.{setup_at}
-use Rattle.request_fronts.specs.Passes.{StillTell, SessionsJoin}
 use Rattle.raw_io.specs.declared.pieces.Piece.{Piece}
 use Rattle.partition_bytes.specs.Bytes.{range}
-use Rattle.raw_io.specs.Calls.{kind_at, map_at, IsUntouched}
+use Rattle.request_fronts.specs.Sites.{map_at, IsUntouched}
 use Rattle.partition_bytes.specs.Pieces.{Reaches, bytes_among}
-use Rattle.raw_io.specs.Blocks.{origin, ReadsOnce, Reads, GivesBlocks, Gives}
+use Rattle.request_fronts.specs.Blocks.{origin, ReadsOnce}
+use Rattle.raw_io.specs.Blocks.{Reads, GivesBlocks, Gives}
 use Rattle.raw_io.specs.Pieces.{start_at, ReadsPiece, GivesPiece}
 use Rattle.partition_bytes.specs.Laws.{IsBlock}
 use Rattle.partition_bytes.proofs.Ranges.{laid_short, length_range, range_laid, blocks_range}
-use Rattle.raw_io.proofs.Asks.{kind_is}
-use Rattle.raw_io.proofs.Joins.{transfers_join, clean_before, map_long, untouched_behind}
+use Rattle.request_fronts.proofs.Sites.{kind_stays, map_long, untouched_behind}
+use Rattle.raw_io.proofs.Joins.{transfers_join, clean_before}
 use Rattle.partition_bytes.proofs.Steps.{among_few, among_fits}
 
 -- ---- a block that can be used has 512 bytes
@@ -64,11 +61,6 @@ gives_first r n into into' old new either some last x = record {
   told = λ t tables. some_blocks r n into into' old new either some last (x.told t tables);
   clean = x.clean;
 }
-
--- ---- the kind stays
-pub kind_stays : (old new : Stage) (unit : ℕ) → setup_at new ≡ with_packs (setup_at old) new.held → IsSetUp old.world unit → IsSetUp new.world unit → kind_at new.world unit ≡ kind_at old.world unit
-kind_stays old new unit same was is =
-    sym (kind_is new.world new.held unit is) ∙ ap (λ z. kind_of z.drives unit) same ∙ kind_is old.world old.held unit was
 
 -- ---- AND ONCE MORE, those before the first that can't be used
 again_all : (blocks : Blocks) (first n m : ℕ) → ((k : ℕ) → k < n → IsSome (blocks (first + k))) → Reaches blocks first n m → m ≤ n → m ≡ n

@@ -1,27 +1,15 @@
 -- WHAT A RAW TRANSFER COMES TO, over what the packs hold before.
 use Rattle.std.specs.Prelude.{◌≡◌, ◌≢◌, ℕ, ◌≤◌, List, take, length, Option, None, Some, Result, Ok, Err}
-use Rattle.pack_geometry.specs.declared.DriveKind.{DriveKind}
-use Rattle.block_machine.specs.Machine.{Blocks}
-use Rattle.driver_machine.specs.World.{World, unit_at}
 use Rattle.driver_outcome.specs.declared.Stop.{Stop}
 use Rattle.driver_outcome.specs.declared.Stop.TheVariants as stopped
-use Rattle.waited_requests.specs.Waited.{map_of, with_packs}
 use Rattle.partition_bytes.specs.Laid.{laid}
-use Rattle.request_fronts.specs.Passes.{Stage}
-use Rattle.request_fronts.specs.Passes.{setup_at}
+use Rattle.request_fronts.specs.Passes.{Stage, setup_at}
 use Rattle.request_fronts.specs.Fronts.{OthersStay}
+use Rattle.request_fronts.specs.Sites.{left_map, map_at}
 use Rattle.raw_io.specs.declared.fault.RawFault.{RawFault}
 use Rattle.raw_io.specs.declared.fault.RawFault.TheVariants.{Unusable, Store, Sink}
 use Rattle.partition_bytes.specs.Pieces.{EndsBlock}
 use Rattle.partition_bytes.specs.Bytes.{range, ComesTo, with_range}
-
--- the kind of a unit
-abbrev pub kind_at : World → ℕ → DriveKind
-kind_at w unit = (unit_at w unit).drive.kind
-
--- what the packs hold
-abbrev pub map_at : Stage → ℕ → Blocks
-map_at s = map_of (setup_at s)
 
 -- A READ OF A RANGE gives its bytes, so many, over those of a buffer, and changes nothing.
 pub record ReadsRange (unit first at done : ℕ) (into into' : List ℕ) (old new : Stage) : Type 0 where
@@ -37,20 +25,12 @@ pub record WritesRange (unit first at done : ℕ) (from : List ℕ) (old new : S
 
 -- WHERE IT STOPPED a front of the bytes is there, up to the end of a block, and nothing else is changed; each block is whole. (What the
 -- packs hold is told by the units and tables of before.)
-abbrev pub left_map : (old new : Stage) → ℕ → Blocks
-left_map old new = map_of (with_packs (setup_at old) new.held)
-
 pub record StopsAt (unit first at : ℕ) (from : List ℕ) (old new : Stage) : Type 0 where
   pub done : ℕ
   pub few : done ≤ length from
   pub whole : EndsBlock at (length from) done
   pub written : (block : ℕ) → left_map old new unit block ≡ with_range (map_at old unit) first at (take done from) block
   pub map : (u block : ℕ) → u ≢ unit → left_map old new u block ≡ map_at old u block
-  pub others : OthersStay (setup_at old) new.held
-
--- or nothing is changed at all
-pub record IsUntouched (old new : Stage) : Type 0 where
-  pub map : (u block : ℕ) → left_map old new u block ≡ map_at old u block
   pub others : OthersStay (setup_at old) new.held
 
 -- THE ANSWER: what stopped it, if something did, and how many bytes were done where nothing did

@@ -2,21 +2,20 @@
 use Rattle.std.specs.Prelude.{◌≡◌, ◌≢◌, ◌⊎◌, ℕ, ◌+◌, ◌*◌, ◌<◌, ◌≤◌, Bool, true, false, IsTrue, List, take, drop, length, Some}
 use Rattle.pack_geometry.specs.declared.DriveKind.{DriveKind}
 use Rattle.partitions.specs.declared.Part.{Part}
-use Rattle.request_fronts.specs.Passes.{asked}
+use Rattle.request_fronts.specs.Passes.{asked, Stage, setup_at}
 use Rattle.partitions.specs.Partitions.{first_of}
 use Rattle.block_machine.specs.Machine.{Blocks}
 use Rattle.waited_requests.specs.Sessions.{told_in}
 use Rattle.waited_requests.specs.Rest.{HasTables}
 use Rattle.request_fronts.specs.Fronts.{OthersStay}
 use Rattle.partition_bytes.specs.Laid.{laid}
-use Rattle.request_fronts.specs.Passes.{Stage}
-use Rattle.request_fronts.specs.Passes.{setup_at}
 use Rattle.raw_io.specs.declared.pieces.Piece.{Piece}
 use Rattle.partition_bytes.specs.Bytes.{range, Touches, with_range}
-use Rattle.raw_io.specs.Transfers.{Transfers, AreClean, AreBlocks}
-use Rattle.raw_io.specs.Calls.{kind_at, map_at, left_map, ReadsRange, WritesRange}
+use Rattle.raw_io.specs.Transfers.{Transfers, AreClean}
+use Rattle.request_fronts.specs.Blocks.{AreBlocks}
+use Rattle.request_fronts.specs.Sites.{kind_at, map_at, left_map, IsUnchanged}
+use Rattle.raw_io.specs.Calls.{ReadsRange, WritesRange}
 use Rattle.partition_bytes.specs.Pieces.{Reaches, bytes_among}
-use Rattle.raw_io.specs.Blocks.{IsUnchanged}
 
 -- a piece begins in the first of its blocks, and ends in the last one
 pub record IsCut (p : Piece) : Type 0 where

@@ -1,12 +1,11 @@
 // Whole blocks of a partition, by requests that are waited for.
 ghost use Rattle.std.specs.Prelude.{◌≡◌, ◌*◌, [], true, false, IsTrue, IfOk, OnErr, length};
 ghost use Rattle.driver_outcome.specs.Outcome.{stop_in};
-ghost use Rattle.request_fronts.specs.Passes.{asked};
+ghost use Rattle.request_fronts.specs.Passes.{asked, setup_at};
 ghost use Rattle.waited_requests.specs.Rest.{HasTables};
-ghost use Rattle.request_fronts.specs.Passes.{setup_at};
-ghost use Rattle.raw_io.specs.Transfers.{site, Keeps, MayTransfer, AreBlocks};
-ghost use Rattle.raw_io.specs.Blocks.{blocks_reached, Reads, Gives, Puts, PutsFront};
-ghost use Rattle.raw_io.specs.Calls.{kind_at, IsUntouched};
+ghost use Rattle.request_fronts.specs.Sites.{site, Keeps, MayTransfer, kind_at, IsUntouched};
+ghost use Rattle.request_fronts.specs.Blocks.{AreBlocks, blocks_reached, PutsFront};
+ghost use Rattle.raw_io.specs.Blocks.{Reads, Gives, Puts};
 
 use outside_traits::traits::{Packs, Sink};
 use request_fronts::{

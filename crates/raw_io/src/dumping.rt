@@ -8,8 +8,8 @@ ghost use Rattle.waited_requests.specs.Rest.{HasTables};
 ghost use Rattle.request_fronts.specs.Passes.{setup_at};
 ghost use Rattle.raw_io.specs.declared.fault.RawFault.TheVariants.{Outside, Unusable};
 ghost use Rattle.partition_bytes.specs.Bytes.{blocks_for, dumped, dump_place};
-ghost use Rattle.raw_io.specs.Transfers.{site, Keeps, MayTransfer};
-ghost use Rattle.raw_io.specs.Calls.{kind_at, StopsAt, stop_of, done_by};
+ghost use Rattle.request_fronts.specs.Sites.{site, Keeps, MayTransfer, kind_at};
+ghost use Rattle.raw_io.specs.Calls.{StopsAt, stop_of, done_by};
 ghost use Rattle.raw_io.specs.Pieces.{IsWritten, IsWholeOrOne, start_of, PutsPiece, StopsPiece, PutsRange};
 
 use crate::fault::RawFault;

@@ -3,13 +3,13 @@ ghost use Rattle.std.specs.Prelude.{◌≡◌, ◌+◌, ◌*◌, ◌^◌, ◌<�
 ghost use Rattle.partitions.specs.Partitions.{size_of};
 ghost use Rattle.driver_outcome.specs.declared.Stop.{Stop};
 ghost use Rattle.driver_outcome.specs.Outcome.{stop_in};
-ghost use Rattle.request_fronts.specs.Passes.{asked};
+ghost use Rattle.request_fronts.specs.Passes.{asked, setup_at};
 ghost use Rattle.waited_requests.specs.Rest.{HasTables};
-ghost use Rattle.request_fronts.specs.Passes.{setup_at};
 ghost use Rattle.raw_io.specs.declared.fault.RawFault.TheVariants.{Outside, Unusable};
 ghost use Rattle.partition_bytes.specs.Bytes.{IsOutside};
-ghost use Rattle.raw_io.specs.Transfers.{site, Keeps, MayTransfer, AreBlocks};
-ghost use Rattle.raw_io.specs.Calls.{kind_at, IsUntouched, stop_of, done_by};
+ghost use Rattle.request_fronts.specs.Sites.{site, Keeps, MayTransfer, kind_at, IsUntouched};
+ghost use Rattle.request_fronts.specs.Blocks.{AreBlocks};
+ghost use Rattle.raw_io.specs.Calls.{stop_of, done_by};
 ghost use Rattle.raw_io.specs.Pieces.{IsCut, GivesPiece, GivesRange};
 
 use crate::blocks::get_blocks;

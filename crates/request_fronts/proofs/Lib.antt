@@ -1,2 +1,4 @@
+pub mod Sites
+pub mod Blocks
 mod Fronts
 pub mod Passes

@@ -1,2 +1,4 @@
 pub mod Fronts
+pub mod Sites
+pub mod Blocks
 pub mod Passes

@@ -1,6 +1,6 @@
 -- What is passed on of the crates below, so that those above stand on this one.
 pub use Rattle.blocking_io.specs.Asking.{Answers, IsMapped, IsReady, MayAsk, setup_at}
-pub use Rattle.blocking_io.specs.Calls.{Stage, stage}
+pub use Rattle.blocking_io.specs.Calls.{MoveFails, Stage, stage}
 pub use Rattle.blocking_io.specs.Given.{bytes_by, reached_by}
 pub use Rattle.blocking_io.specs.Sessions.{AnswersReach, GoesOn, Reaches, SessionsJoin, StillTell}
 pub use Rattle.blocking_io.specs.Stopping.{Stops}

@@ -1,7 +1,8 @@
 //! What a request that is waited for leaves, as `blocking_io` promises it. The functions here do nothing: each stands for a law.
 //!
 //! What is proved: `fronts_law`: where the request stopped the packs hold a front of it. `clean_law`: where it was answered each block that
-//! is done has its clean line.
+//! is done has its clean line. Here too are the words for whole blocks of a partition in one request, and for what is kept from call to
+//! call, which raw transfers and the cache share.
 #![tactic(auto)]
 
 ghost use Rattle.request_fronts.specs.Fronts.{StoppedHoldsFront, AnsweredMovesClean};

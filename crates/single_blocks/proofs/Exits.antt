@@ -8,13 +8,11 @@ use Rattle.subsystem_spec.specs.Requests.{Request}
 use Rattle.block_machine.specs.Machine.{blocks_done}
 use Rattle.waited_requests.specs.Sessions.{waited}
 use Rattle.waited_requests.specs.Rest.{HasTables}
-use Rattle.raw_io.specs.Passes.{Stage}
-use Rattle.raw_io.specs.Passes.{setup_at, Answers}
-use Rattle.raw_io.specs.Passes.{GoesOn, AnswersReach}
-use Rattle.raw_io.specs.Calls.{kind_at, map_at, left_map}
-use Rattle.raw_io.specs.Blocks.{blocks_reached, ReadsOnce, PutsBlocks, PutsFront}
-use Rattle.raw_io.proofs.Asks.{plain, few_reached, read_once_of, puts_of}
-use Rattle.raw_io.proofs.Joins.{map_long}
+use Rattle.request_fronts.specs.Passes.{Stage, setup_at, Answers, GoesOn, AnswersReach}
+use Rattle.request_fronts.specs.Sites.{kind_at, map_at, left_map}
+use Rattle.request_fronts.specs.Blocks.{blocks_reached, ReadsOnce, PutsBlocks, PutsFront}
+use Rattle.request_fronts.proofs.Blocks.{plain, few_reached, read_once_of, puts_of}
+use Rattle.request_fronts.proofs.Sites.{map_long}
 use Rattle.cached_blocks.specs.Requests.{reads, writes, behind_one}
 use Rattle.cached_blocks.proofs.Requested.{read_leaves}
 use Rattle.single_blocks.specs.Asks.{IsData, Asks, Fetches, LeftBy}

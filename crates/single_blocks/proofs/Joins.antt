@@ -2,11 +2,9 @@
 use Rattle.std.proofs.Common.{◌≡◌, ℕ, List, [], ◌∷◌, ◌++◌, refl, sym, ap, ◌∙◌, subst, append-nil, append_assoc}
 use Rattle.subsystem_spec.specs.Requests.{Request}
 use Rattle.waited_requests.specs.Sessions.{waited}
-use Rattle.raw_io.specs.Passes.{Stage}
-use Rattle.raw_io.specs.Passes.{setup_at}
-use Rattle.raw_io.specs.Passes.{GoesOn, StillTell, SessionsJoin}
-use Rattle.raw_io.specs.Calls.{map_at}
-use Rattle.raw_io.proofs.Joins.{others_none, others_over}
+use Rattle.request_fronts.specs.Passes.{Stage, setup_at, GoesOn, StillTell, SessionsJoin}
+use Rattle.request_fronts.specs.Sites.{map_at}
+use Rattle.request_fronts.proofs.Sites.{others_none, others_over}
 use Rattle.cached_blocks.specs.Requests.{behind}
 use Rattle.cached_blocks.proofs.Requested.{behind_more}
 use Rattle.single_blocks.specs.Asks.{Waited, requests_of, parts_of, Asks}

@@ -16,8 +16,8 @@ use Rattle.partition_bytes.specs.Laid.{laid}
 use Rattle.partition_bytes.proofs.Ranges.{laid_long}
 use Rattle.partition_bytes.proofs.Replaced.{sector_whole}
 use Rattle.driver_machine.specs.World.{World}
-use Rattle.raw_io.specs.Transfers.{AreBlocks}
-use Rattle.raw_io.specs.Calls.{kind_at}
+use Rattle.request_fronts.specs.Blocks.{AreBlocks}
+use Rattle.request_fronts.specs.Sites.{kind_at}
 use Rattle.cached_blocks.specs.Requests.{one_block, reads, writes, Map, written_over, behind_one}
 use Rattle.single_blocks.specs.Asks.{IsData, found_bytes}
 

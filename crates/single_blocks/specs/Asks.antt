@@ -7,11 +7,9 @@ use Rattle.driver_machine.specs.World.{World}
 use Rattle.driver_machine.specs.Guards.{IsSetUp}
 use Rattle.waited_requests.specs.Sessions.{Part, waited}
 use Rattle.waited_requests.specs.Rest.{HasTables}
-use Rattle.raw_io.specs.Passes.{Stage}
-use Rattle.raw_io.specs.Passes.{setup_at}
-use Rattle.raw_io.specs.Passes.{GoesOn}
-use Rattle.raw_io.specs.Passes.{OthersStay}
-use Rattle.raw_io.specs.Calls.{kind_at, map_at, left_map}
+use Rattle.request_fronts.specs.Passes.{Stage, setup_at, GoesOn}
+use Rattle.request_fronts.specs.Fronts.{OthersStay}
+use Rattle.request_fronts.specs.Sites.{kind_at, map_at, left_map}
 use Rattle.cached_blocks.specs.Requests.{reads, behind_one, behind}
 
 -- A DATA BLOCK of a unit that is set up

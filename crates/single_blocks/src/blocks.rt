@@ -3,16 +3,17 @@ ghost use Rattle.std.specs.Prelude.{◌≡◌, ◌≤◌, ◌∷◌, [], true, I
 ghost use Rattle.partitions.specs.declared.Part.TheVariants.{C};
 ghost use Rattle.driver_outcome.specs.Outcome.{stop_in};
 ghost use Rattle.waited_requests.specs.Rest.{HasTables};
-ghost use Rattle.raw_io.specs.Passes.{setup_at};
-ghost use Rattle.raw_io.specs.Transfers.{site, Keeps, MayTransfer};
-ghost use Rattle.raw_io.specs.Calls.{IsUntouched};
-ghost use Rattle.raw_io.specs.Blocks.{blocks_reached};
+ghost use Rattle.request_fronts.specs.Passes.{setup_at};
+ghost use Rattle.request_fronts.specs.Sites.{site, Keeps, MayTransfer, IsUntouched};
+ghost use Rattle.request_fronts.specs.Blocks.{blocks_reached};
 ghost use Rattle.cached_blocks.specs.Requests.{writes};
 ghost use Rattle.single_blocks.specs.Asks.{IsData, Asks, Fetches, LeftBy};
 
 use outside_traits::traits::{Packs, Sink};
 use partitions::Part;
-use raw_io::{Reached, Request, Stop, Subsystem, ask_read, ask_write, fronts_law, sessions_law};
+use request_fronts::{
+    Reached, Request, Stop, Subsystem, ask_read, ask_write, fronts_law, sessions_law,
+};
 
 /// A request for one data block of a unit.
 fn one_block(unit: u8, block: u32, write: bool) -> Request

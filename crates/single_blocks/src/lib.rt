@@ -8,4 +8,4 @@
 mod blocks;
 
 pub use blocks::{fetch_block, store_block};
-pub use raw_io::{Stop, Subsystem, sessions_law};
+pub use request_fronts::{Stop, Subsystem, sessions_law};

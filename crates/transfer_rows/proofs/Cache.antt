@@ -1,13 +1,14 @@
 -- What is promised of the cache refuses these outcomes.
 use Rattle.std.proofs.Common.{◌≡◌, ℕ, ◌+◌, ◌-◌, ◌^◌, ◌<◌, ◌==◌, ◌&&◌, min, Bool, true, false, List, ◌∷◌, take, Option, None, Some, refl, sym, ap, ◌∙◌, arith}
 use Rattle.std.specs.Prelude.{if◌then◌else◌}
-use Rattle.std.proofs.lemmas.Bool.{eq-eqb}
+use Rattle.std.proofs.lemmas.Bool.{eq-eqb, ne_eqb}
 use Rattle.cached_blocks.specs.declared.Entry.{Entry}
+use Rattle.cached_blocks.specs.Requests.{Map, written_over}
 use Rattle.cached_blocks.specs.Entries.{State, entry_of, with_room}
 use Rattle.cached_blocks.specs.Calls.{Done, entry, read_by, read_done, read_found}
 use Rattle.cached_blocks.specs.Contents.{bytes_or}
 use Rattle.buffer_cache.specs.Passes.{map_at}
-use Rattle.transfer_rows.specs.Cache.{ChangedEntryDropped, AnotherBlockWrittenBack, RefusedInsertionNotCounted, SyncStopsEarly}
+use Rattle.transfer_rows.specs.Cache.{ChangedEntryDropped, AnotherBlockWrittenBack, RefusedInsertionNotCounted, SyncStopsEarly, RefusedInsertionPromotes, AnotherBlockWritten, BlockAlwaysFound}
 
 pub changed_entry_dropped : ChangedEntryDropped
 changed_entry_dropped line unit block given e s s' old new reads tells tables fit held gone other =
@@ -51,3 +52,22 @@ refused_insertion_not_counted line unit block given s s' old new reads none stil
     let state : s' ≡ (read_found reads.held reads.refuses s unit block).state = reads.state ∙ ap (λ (d : Done). d.state) found in
     counted_or_there reads.held reads.refuses s unit block given (reads.gives ∙ ap (λ (d : Done). d.given) found)
     (sym (ap (λ (x : State). entry_of unit block x.entries) state) ∙ still) less (sym (ap (λ (x : State). x.refused) state) ∙ same)
+
+pub refused_insertion_promotes : RefusedInsertionPromotes
+refused_insertion_promotes e s s' is other = other (ap (λ (t : State). t.entries) is)
+
+-- a write of one block leaves another
+pub another_block_written : AnotherBlockWritten
+another_block_written line unit block other from old new asks tells tables away changed =
+    changed (ap (λ (m : Map). m unit other) (asks.map tells tables)
+    ∙ ap (λ (b : Bool). if b then written_over (Some from) (map_at old unit other) else map_at old unit other) (neither (unit == unit) (other == block) (ne_eqb other block away)))
+  where
+    neither : (a b : Bool) → b ≡ false → a && b ≡ false
+    neither true b is = is
+    neither false b is = refl
+
+pub block_always_found : BlockAlwaysFound
+block_always_found line unit block into old new tells tables none fetches = none_some (sym none ∙ fetches.told tells tables)
+  where
+    none_some : None ≡ Some into → ⊥
+    none_some is = cc is

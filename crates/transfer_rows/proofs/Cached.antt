@@ -1,11 +1,13 @@
 -- What is promised of a script of the cache refuses these outcomes.
-use Rattle.std.proofs.Common.{◌≡◌, ◌⊎◌, inl, inr, ℕ, zero, suc, ◌+◌, ◌-◌, ◌^◌, ◌<◌, ◌≤◌, min, List, Option, None, Some, refl, sym, ap, ◌∙◌, arith}
+use Rattle.std.proofs.Common.{◌≡◌, ◌⊎◌, inl, inr, ℕ, zero, suc, ◌+◌, ◌-◌, ◌^◌, ◌<◌, ◌≤◌, min, List, [], ◌∷◌, Option, None, Some, refl, sym, ap, ◌∙◌, arith}
+use Rattle.std.proofs.lemmas.Bool.{false≢true}
+use Rattle.std.proofs.lemmas.List.{append-nil, append_cancel_left}
 use Rattle.partitions.specs.declared.Admission.{Admission}
 use Rattle.subsystem_spec.specs.Requests.{Request, WriteOk}
 use Rattle.block_machine.specs.Machine.{Blocks}
 use Rattle.waited_requests.specs.Waited.{answer_at, answer_by, first_unusable, unusable_or}
 use Rattle.cached_run.specs.Answers.{first_by}
-use Rattle.transfer_rows.specs.Cached.{LastSyncForgotten, BlockOlderThanTheLastSync, LastUnusableBlockOk, FaultCalledThatOfASink}
+use Rattle.transfer_rows.specs.Cached.{LastSyncForgotten, BlockOlderThanTheLastSync, LastUnusableBlockOk, FaultCalledThatOfASink, WriteAnsweredBeforeItIsDone, UnitBehindASync}
 
 pub last_sync_forgotten : LastSyncForgotten
 last_sync_forgotten script old new out plays unit block kind there less other = other (plays.held unit block kind there less)
@@ -59,3 +61,16 @@ fault_called_that_of_a_sink packs packs' out trace less less' rise = neither (ri
     neither : (min (out + 1) (2 ^ 64 - 1) ≤ out) ⊎ (min (trace + 1) (2 ^ 64 - 1) ≤ trace) → ⊥
     neither (inl rose) = not_next out less rose
     neither (inr rose) = not_next trace less' rose
+
+pub write_answered_before_it_is_done : WriteAnsweredBeforeItIsDone
+write_answered_before_it_is_done n inputs byte text s first old new far tells tells' few same more halts =
+    some (append_cancel_left old.said (byte ∷ text) [] (sym more ∙ (halts first inputs far).whole (stays first.out_faults new.out_faults few same) tells' ∙ sym (far.said tells) ∙ sym (append-nil old.said)))
+  where
+    stays : (n m : ℕ) → n < 2 ^ 64 - 1 → m ≡ n → min (n + 1) (2 ^ 64 - 1) ≤ m → ⊥
+    stays n m few same rose = omega (arith, few, same, rose)
+
+    some : byte ∷ text ≡ [] → ⊥
+    some is = cc is
+
+pub unit_behind_a_sync : UnitBehindASync
+unit_behind_a_sync first second unit count kind lines script = false≢true (sym (script.lines.1.1.1.0.first))

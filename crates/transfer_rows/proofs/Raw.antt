@@ -1,9 +1,9 @@
 -- What is promised of requests that are waited for, and of raw transfers, refuses these outcomes.
-use Rattle.std.proofs.Common.{◌≡◌, ◌⊎◌, inl, inr, ℕ, ◌+◌, ◌-◌, ◌*◌, ◌/◌, ◌%◌, ◌<◌, ◌≤◌, nat_le, Bool, true, List, ◌∷◌, ◌++◌, length, take, drop, Some, sym, ap, ◌∙◌, arith}
+use Rattle.std.proofs.Common.{◌≡◌, ◌⊎◌, inl, inr, ℕ, ◌+◌, ◌-◌, ◌*◌, ◌/◌, ◌%◌, ◌<◌, ◌≤◌, nat_le, Bool, true, List, [], ◌∷◌, ◌++◌, length, take, drop, Some, sym, ap, ◌∙◌, arith}
 use Rattle.std.specs.Prelude.{if◌then◌else◌}
 use Rattle.std.proofs.lemmas.Bool.{false≢true}
 use Rattle.std.proofs.lemmas.Bool.Decides.{nat_tests}
-use Rattle.std.proofs.lemmas.List.{append-nil, drop_all, take_all}
+use Rattle.std.proofs.lemmas.List.{append-nil, append_cancel_left, drop_all, take_all}
 use Rattle.pack_geometry.specs.declared.DriveKind.{DriveKind}
 use Rattle.pack_geometry.specs.declared.DriveKind.TheVariants.{Rp06, Rm03, Rm05}
 use Rattle.partitions.specs.declared.Part.TheVariants.{B}
@@ -11,9 +11,9 @@ use Rattle.block_machine.specs.Machine.{Blocks}
 use Rattle.partition_bytes.specs.Laid.{laid, laid_at}
 use Rattle.partition_bytes.specs.Bytes.{blocks_for, dump_place, dumped, with_bytes, with_range}
 use Rattle.partition_bytes.proofs.Ranges.{laid_over_none}
-use Rattle.raw_io.specs.Calls.{kind_at, map_at}
+use Rattle.raw_io.specs.Passes.{kind_at, map_at}
 use Rattle.raw_io.specs.Pieces.{start_of}
-use Rattle.transfer_rows.specs.Raw.{DrainEndsEarly, ReadComesFromThePack, DoneInBlocks, DumpAtTheFront, OutsideByOne}
+use Rattle.transfer_rows.specs.Raw.{DrainEndsEarly, ReadComesFromThePack, DriveIsOffline, WriteBeforeItsLines, DoneInBlocks, DumpAtTheFront, OutsideByOne, EdgeWithoutItsBytes}
 
 pub drain_ends_early : DrainEndsEarly
 drain_ends_early s slot h at not_ended ready = false≢true (sym not_ended ∙ ready.quiet.none slot h at)
@@ -23,6 +23,15 @@ read_comes_from_the_pack line first old_first other r bytes into into' old new a
     let given = (answers.mapped tells tables).bytes in
     let laid_there : other ∷ into' ≡ first ∷ laid bytes into = rw (gives, is, had) at given in
     differs (cc laid_there)
+
+pub drive_is_offline : DriveIsOffline
+drive_is_offline s unit there offline ready = false≢true (sym offline ∙ (ready.quiet.good unit there).0)
+
+pub write_before_its_lines : WriteBeforeItsLines
+write_before_its_lines input byte sent kept told now tells all some fails = none (append_cancel_left sent (byte ∷ kept) [] (sym all ∙ sym (fails.trace tells) ∙ some ∙ sym (append-nil sent)))
+  where
+    none : byte ∷ kept ≡ [] → ⊥
+    none is = cc is
 
 pub done_in_blocks : DoneInBlocks
 done_in_blocks unit blocks part into into' old new tells tables some few less gives = no_end blocks some few ((gives.told tells tables).comes.whole less)
@@ -36,12 +45,12 @@ laid_behind : (at : ℕ) (from bytes : List ℕ) → length bytes ≤ at → lai
 laid_behind at from bytes far =
     ap (λ (xs : List ℕ). take at bytes ++ laid from xs) (drop_all at bytes far) ∙ ap (λ (xs : List ℕ). take at bytes ++ xs) (laid_over_none from) ∙ append-nil (take at bytes) ∙ take_all at bytes far
 
--- so a range that begins behind the first block leaves that
-first_stays : (blocks : Blocks) (first at : ℕ) (from bytes : List ℕ) → blocks first ≡ Some bytes → length bytes ≤ at → with_range blocks first at from first ≡ Some bytes
-first_stays blocks first at from bytes held far =
+-- bytes that are written from a place of the first block on are laid over its own
+in_block : (first at : ℕ) (from : List ℕ) (blocks : Blocks) (bytes : List ℕ) → blocks first ≡ Some bytes → with_range blocks first at from first ≡ Some (laid_at at from bytes)
+in_block first at from blocks bytes held =
     ap (λ (b : Bool). if b then with_bytes (first - first) at from (blocks first) else blocks first) (inside first)
     ∙ ap (λ (n : ℕ). with_bytes n at from (blocks first)) (none first) ∙ ap (with_bytes 0 at from) held
-    ∙ ap (λ (xs : List ℕ). Some xs) (ap (λ (n : ℕ). laid_at n (drop (0 - at) from) bytes) (whole at) ∙ laid_behind at (drop (0 - at) from) bytes far)
+    ∙ ap (λ (n : ℕ). Some (laid_at n (drop (0 - at) from) bytes)) (whole at) ∙ ap (λ (n : ℕ). Some (laid_at at (drop n from) bytes)) (front at)
   where
     inside : (n : ℕ) → nat_le n n ≡ true
     inside n = grind (arith, nat_tests)
@@ -51,6 +60,13 @@ first_stays blocks first at from bytes held far =
 
     whole : (n : ℕ) → n - 0 ≡ n
     whole n = omega arith
+
+    front : (n : ℕ) → 0 - n ≡ 0
+    front n = omega arith
+
+-- so a range that begins behind the first block leaves that
+first_stays : (blocks : Blocks) (first at : ℕ) (from bytes : List ℕ) → blocks first ≡ Some bytes → length bytes ≤ at → with_range blocks first at from first ≡ Some bytes
+first_stays blocks first at from bytes held far = in_block first at from blocks bytes held ∙ ap (λ (xs : List ℕ). Some xs) (laid_behind at from bytes far)
 
 -- a dump begins behind the first block of its partition
 fits : (size : ℕ) → size ≤ 8388608 → (size + 511) / 512 ≤ 16384
@@ -72,3 +88,11 @@ dump_at_the_front unit done memory bytes old new tells tables few puts held long
 
 pub outside_by_one : OutsideByOne
 outside_by_one kind part at size result ends iff refused = let beyond = iff.0 refused in omega (arith, ends, beyond)
+
+pub edge_without_its_bytes : EdgeWithoutItsBytes
+edge_without_its_bytes unit done first other part from bytes bytes' old new tells tables held now puts differs =
+    differs (first_same (sym now ∙ (puts.told tells tables).written (start_of old unit part)
+    ∙ in_block (start_of old unit part) 1 (take done from) (map_at old unit) (first ∷ bytes) held))
+  where
+    first_same : Some (other ∷ bytes') ≡ Some (first ∷ laid (take done from) bytes) → other ≡ first
+    first_same is = cc is

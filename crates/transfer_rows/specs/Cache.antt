@@ -1,10 +1,11 @@
 -- Wrong outcomes of the cache.
-use Rattle.std.specs.Prelude.{◌≡◌, ◌≢◌, ℕ, ◌-◌, ◌^◌, ◌<◌, IsTrue, List, Option, None, Some}
+use Rattle.std.specs.Prelude.{◌≡◌, ◌≢◌, ℕ, ◌-◌, ◌^◌, ◌<◌, true, IsTrue, List, [], ◌∷◌, Option, None, Some}
 use Rattle.waited_requests.specs.Rest.{HasTables}
 use Rattle.cached_blocks.specs.declared.Entry.{Entry}
-use Rattle.cached_blocks.specs.Entries.{State, entry_of}
+use Rattle.cached_blocks.specs.Requests.{writes}
+use Rattle.cached_blocks.specs.Entries.{State, entry_of, put}
 use Rattle.cached_blocks.specs.Contents.{AllFit}
-use Rattle.buffer_cache.specs.Passes.{Stage, map_at, setup_at}
+use Rattle.buffer_cache.specs.Passes.{Asks, Fetches, Stage, map_at, setup_at}
 use Rattle.buffer_cache.specs.Calls.{Reads, Syncs}
 
 -- A CHANGED ENTRY IS DROPPED UNWRITTEN: a read put it out, and its pack does not hold its bytes.
@@ -28,3 +29,17 @@ RefusedInsertionNotCounted = (line unit block : ℕ) (given : List ℕ) (s s' : 
 abbrev pub SyncStopsEarly : Type 0
 SyncStopsEarly = (line : ℕ) (e : Entry) (s s' : State) (old new : Stage) → Syncs line s s' old new → IsTrue new.packs_tell → HasTables (setup_at old) → AllFit (map_at old) s.entries
     → entry_of e.unit e.block s.entries ≡ Some e → ¬ (map_at new e.unit e.block ≢ Some e.bytes)
+
+-- A REFUSED INSERTION PROMOTES another entry: the order of the entries is not what it was.
+abbrev pub RefusedInsertionPromotes : Type 0
+RefusedInsertionPromotes = (e : Entry) (s s' : State) → s' ≡ put true e s → ¬ (s'.entries ≢ s.entries)
+
+-- ANOTHER BLOCK IS WRITTEN than the one that was to be.
+abbrev pub AnotherBlockWritten : Type 0
+AnotherBlockWritten = (line unit block other : ℕ) (from : List ℕ) (old new : Stage) → Asks line (writes unit block from ∷ []) old new
+    → IsTrue new.packs_tell → HasTables (setup_at old) → other ≢ block → ¬ (map_at new unit other ≢ map_at old unit other)
+
+-- A BLOCK IS ALWAYS FOUND, be it one that can't be used.
+abbrev pub BlockAlwaysFound : Type 0
+BlockAlwaysFound = (line unit block : ℕ) (into : List ℕ) (old new : Stage) → IsTrue new.packs_tell → HasTables (setup_at old)
+    → map_at old unit block ≡ None → ¬ Fetches line unit block true into old new

@@ -1,16 +1,21 @@
 -- Wrong outcomes of a script of the cache.
-use Rattle.std.specs.Prelude.{◌≡◌, ◌≢◌, ℕ, ◌+◌, ◌-◌, ◌^◌, ◌<◌, ◌≤◌, [], ◌∷◌, ◌++◌, length, take, Option, None, Some, Err}
+use Rattle.std.specs.Prelude.{◌≡◌, ◌≢◌, ℕ, ◌+◌, ◌-◌, ◌^◌, ◌<◌, ◌≤◌, IsTrue, List, [], ◌∷◌, ◌++◌, length, take, Option, None, Some, Err}
 use Rattle.pack_geometry.specs.declared.DriveKind.{DriveKind}
 use Rattle.pack_geometry.specs.Geometry.{limit_of}
 use Rattle.pack_model.specs.Pack.{Pack}
 use Rattle.partitions.specs.declared.Admission.TheVariants.{Inside}
 use Rattle.subsystem_spec.specs.Requests.{Request, WriteOk}
-use Rattle.trace_replay.specs.Script.{Script, drives_of, inputs_of}
+use Rattle.trace_replay.specs.Script.{Numbered, Script, drives_of, inputs_of}
 use Rattle.block_machine.specs.Machine.{Blocks}
+use Rattle.cached_blocks.specs.Entries.{State}
+use Rattle.cached_script.specs.declared.statement.Line.{Line}
+use Rattle.cached_script.specs.declared.statement.Statement.TheVariants as says
+use Rattle.cached_script.specs.Formed.{IsScript}
 use Rattle.run_stops.specs.Stops.{Took}
 use Rattle.cached_run.specs.declared.fault.CachedPlayFault.TheVariants.{Sink}
 use Rattle.cached_run.specs.Answers.{after, answer_to, first_by, map_of_inputs, met_by, replacements_of}
 use Rattle.cached_run.specs.Faults.{Rise}
+use Rattle.cached_run.specs.Going.{Halts, IsFar, Scene}
 use Rattle.cached_run.specs.Theorem.{CachedPlays, CachedStops, contents}
 
 -- THE LAST SYNC IS FORGOTTEN: at the end a data block does not hold what the requests left.
@@ -35,3 +40,13 @@ LastUnusableBlockOk = (drives : ℕ → Option DriveKind) (map : ℕ → Blocks)
 -- A FAULT OF THE PACKS IS CALLED THAT OF A SINK: of neither sink the count of faults rose.
 abbrev pub FaultCalledThatOfASink : Type 0
 FaultCalledThatOfASink = (packs packs' out trace : ℕ) → out < 2 ^ 64 - 1 → trace < 2 ^ 64 - 1 → ¬ Rise {T = Unit {0}} packs packs' out out trace trace (Err Sink)
+
+-- A WRITE IS ANSWERED BEFORE IT IS DONE: it was stopped, the sink for the answers did not fail, and more was said than before it.
+abbrev pub WriteAnsweredBeforeItIsDone : Type 0
+WriteAnsweredBeforeItIsDone = (n : Numbered) (inputs : List Numbered) (byte : ℕ) (text : List ℕ) (s : State) (first old new : Scene) → IsFar first inputs s old → IsTrue old.out_tells → IsTrue new.out_tells
+    → first.out_faults < 2 ^ 64 - 1 → new.out_faults ≡ first.out_faults → new.said ≡ old.said ++ byte ∷ text → ¬ Halts (n ∷ []) s old new
+
+-- A UNIT BEHIND A SYNC: a script's first line is a sync, and its second one declares a unit.
+abbrev pub UnitBehindASync : Type 0
+UnitBehindASync = (first second unit count : ℕ) (kind : DriveKind) (lines : List Line)
+    → ¬ IsScript (record { lines = record { number = first; statement = says.Sync } ∷ record { number = second; statement = says.Unit unit kind } ∷ lines; count = count })

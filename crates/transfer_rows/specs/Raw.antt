@@ -1,18 +1,19 @@
 -- Wrong outcomes of requests that are waited for, and of raw transfers.
-use Rattle.std.specs.Prelude.{◌≡◌, ◌≢◌, ◌↔◌, ℕ, ◌+◌, ◌*◌, ◌<◌, ◌≤◌, false, IsTrue, List, ◌∷◌, length, Result, Err, Some}
+use Rattle.std.specs.Prelude.{◌≡◌, ◌≢◌, ◌↔◌, ℕ, ◌+◌, ◌*◌, ◌<◌, ◌≤◌, false, IsTrue, List, ◌∷◌, ◌++◌, length, Result, Err, Some}
 use Rattle.pack_geometry.specs.declared.DriveKind.{DriveKind}
 use Rattle.partitions.specs.declared.Part.{Part}
 use Rattle.partitions.specs.declared.Part.TheVariants.{B}
 use Rattle.partitions.specs.Partitions.{size_of}
 use Rattle.subsystem_spec.specs.Requests.{Request, ReadOk}
-use Rattle.driver_machine.specs.World.{Held, slot_at}
+use Rattle.trace_replay.specs.Script.{Input}
+use Rattle.driver_machine.specs.Guards.{IsSetUp}
+use Rattle.driver_machine.specs.World.{Held, slot_at, unit_at}
 use Rattle.waited_requests.specs.Rest.{HasTables}
 use Rattle.waited_requests.specs.Waited.{answer_in}
 use Rattle.partition_bytes.specs.Bytes.{IsOutside, dumped, dump_place}
 use Rattle.raw_io.specs.declared.fault.RawFault.{RawFault}
 use Rattle.raw_io.specs.declared.fault.RawFault.TheVariants.{Outside}
-use Rattle.raw_io.specs.Passes.{Answers, IsReady, Stage, State, setup_at}
-use Rattle.raw_io.specs.Calls.{kind_at, map_at}
+use Rattle.raw_io.specs.Passes.{Answers, IsReady, MoveFails, Stage, State, kind_at, map_at, setup_at}
 use Rattle.raw_io.specs.Pieces.{GivesRange, PutsRange, start_of}
 
 -- A DRAIN ENDS EARLY: a request has not ended behind it.
@@ -23,6 +24,15 @@ DrainEndsEarly = (s : State) (slot : ℕ) (h : Held) → slot_at s.world slot �
 abbrev pub ReadComesFromThePack : Type 0
 ReadComesFromThePack = (line first old_first other : ℕ) (r : Request) (bytes into into' : List ℕ) (old new : Stage) → Answers line r old new → IsTrue new.packs_tell → HasTables (setup_at old)
     → answer_in (setup_at old) r ≡ ReadOk (first ∷ bytes) → old.given.bytes ≡ old_first ∷ into → new.given.bytes ≡ other ∷ into' → ¬ (other ≢ first)
+
+-- A DRIVE IS OFFLINE of a driver that is ready for a request.
+abbrev pub DriveIsOffline : Type 0
+DriveIsOffline = (s : State) (unit : ℕ) → IsSetUp s.world unit → (unit_at s.world unit).drive.online ≡ false → ¬ IsReady s
+
+-- A WRITE BEFORE ITS LINES: the packs failed at a block that was to be written, and of the lines before it the trace has only some.
+abbrev pub WriteBeforeItsLines : Type 0
+WriteBeforeItsLines = (input : Input) (byte : ℕ) (sent kept : List ℕ) (told now : Stage) → IsTrue now.trace_tells
+    → told.taken ≡ sent ++ byte ∷ kept → now.taken ≡ sent → ¬ MoveFails input told now
 
 -- DONE IN BLOCKS: a read stopped at a block that can't be used, and the number of blocks before that is told as the number of bytes.
 abbrev pub DoneInBlocks : Type 0
@@ -39,3 +49,9 @@ DumpAtTheFront = (unit done : ℕ) (memory bytes : List ℕ) (old new : Stage) �
 abbrev pub OutsideByOne : Type 0
 OutsideByOne = (kind : DriveKind) (part : Part) (at size : ℕ) (result : Result (Unit {0}) RawFault) → at + size ≡ 512 * size_of kind part
     → (result ≡ Err Outside) ↔ IsOutside kind part at size → ¬ (result ≡ Err Outside)
+
+-- AN EDGE WITHOUT ITS BYTES: bytes were written behind the first one of a block, and the first one is another.
+abbrev pub EdgeWithoutItsBytes : Type 0
+EdgeWithoutItsBytes = (unit done first other : ℕ) (part : Part) (from bytes bytes' : List ℕ) (old new : Stage) → IsTrue new.packs_tell → HasTables (setup_at old)
+    → map_at old unit (start_of old unit part) ≡ Some (first ∷ bytes) → map_at new unit (start_of old unit part) ≡ Some (other ∷ bytes')
+    → PutsRange unit part 1 done from old new → ¬ (other ≢ first)

@@ -2,36 +2,48 @@
 //! functions here do nothing: each stands for a law.
 #![tactic(auto)]
 
-ghost use Rattle.transfer_rows.specs.Raw.{DrainEndsEarly, ReadComesFromThePack, DoneInBlocks, DumpAtTheFront, OutsideByOne};
-ghost use Rattle.transfer_rows.specs.Cache.{ChangedEntryDropped, AnotherBlockWrittenBack, RefusedInsertionNotCounted, SyncStopsEarly};
-ghost use Rattle.transfer_rows.specs.Cached.{LastSyncForgotten, BlockOlderThanTheLastSync, LastUnusableBlockOk, FaultCalledThatOfASink};
+ghost use Rattle.transfer_rows.specs.Raw.{DrainEndsEarly, ReadComesFromThePack, DriveIsOffline, WriteBeforeItsLines, DoneInBlocks, DumpAtTheFront, OutsideByOne, EdgeWithoutItsBytes};
+ghost use Rattle.transfer_rows.specs.Cache.{ChangedEntryDropped, AnotherBlockWrittenBack, RefusedInsertionNotCounted, SyncStopsEarly, RefusedInsertionPromotes, AnotherBlockWritten, BlockAlwaysFound};
+ghost use Rattle.transfer_rows.specs.Cached.{LastSyncForgotten, BlockOlderThanTheLastSync, LastUnusableBlockOk, FaultCalledThatOfASink, WriteAnsweredBeforeItIsDone, UnitBehindASync};
 
-/// Of a request that is waited for: it has ended, and a read gives the bytes of its blocks.
+/// Of a request that is waited for: it has ended, a read gives the bytes of its blocks, nothing hinders a driver that is ready for one, and
+/// before a block is written all lines are sent.
 pub fn asked_rows()
     ensures drain_ends_early { DrainEndsEarly }
     ensures read_comes_from_the_pack { ReadComesFromThePack }
+    ensures drive_is_offline { DriveIsOffline }
+    ensures write_before_its_lines { WriteBeforeItsLines }
 {}
 
-/// Of a raw transfer: bytes are counted, a dump ends its partition, and the last byte of a partition is inside.
+/// Of a raw transfer: bytes are counted, a dump ends its partition, the last byte of a partition is inside, and a block that is written in
+/// part keeps its other bytes.
 pub fn raw_rows()
     ensures done_in_blocks { DoneInBlocks }
     ensures dump_at_the_front { DumpAtTheFront }
     ensures outside_by_one { OutsideByOne }
+    ensures edge_without_its_bytes { EdgeWithoutItsBytes }
 {}
 
-/// Of the cache: what is cached stays when its entry goes, no other block changes, each refused insertion is counted, and a sync writes all.
+/// Of the cache: what is cached stays when its entry goes, no other block changes, each refused insertion is counted and leaves the entries as
+/// they are, and a sync writes all. Of single blocks: just the one is written, and one that can't be used is not found.
 pub fn cache_rows()
     ensures changed_entry_is_dropped_unwritten { ChangedEntryDropped }
     ensures another_block_is_written_back { AnotherBlockWrittenBack }
     ensures refused_insertion_is_not_counted { RefusedInsertionNotCounted }
     ensures sync_stops_at_an_unchanged_entry { SyncStopsEarly }
+    ensures refused_insertion_promotes { RefusedInsertionPromotes }
+    ensures another_block_is_written { AnotherBlockWritten }
+    ensures block_is_always_found { BlockAlwaysFound }
 {}
 
 /// Of a script of the cache: at its end the packs hold what the requests left, and where it stopped what was there at the last sync, or
-/// later; a write is ok only where all its blocks can be used; and a sink failed only where its count rose.
+/// later; a write is ok only where all its blocks can be used, and answered only once it is done; a sink failed only where its count rose;
+/// and units are declared before anything else.
 pub fn cached_rows()
     ensures last_sync_is_forgotten { LastSyncForgotten }
     ensures block_older_than_the_last_sync { BlockOlderThanTheLastSync }
     ensures last_unusable_block_is_answered_ok { LastUnusableBlockOk }
     ensures fault_of_the_packs_is_called_that_of_a_sink { FaultCalledThatOfASink }
+    ensures write_is_answered_before_it_is_done { WriteAnsweredBeforeItIsDone }
+    ensures unit_behind_a_sync { UnitBehindASync }
 {}

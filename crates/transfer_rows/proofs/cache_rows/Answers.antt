@@ -1,4 +1,4 @@
-use Rattle.transfer_rows.proofs.Cache.{changed_entry_dropped, another_block_written_back, refused_insertion_not_counted, sync_stops_early}
+use Rattle.transfer_rows.proofs.Cache.{changed_entry_dropped, another_block_written_back, refused_insertion_not_counted, sync_stops_early, refused_insertion_promotes, another_block_written, block_always_found}
 use Rattle.transfer_rows.proofs.cache_rows.Goals as goal
 
 pub returns-clause-changed_entry_is_dropped_unwritten : goal.returns-clause-changed_entry_is_dropped_unwritten
@@ -12,3 +12,12 @@ returns-clause-refused_insertion_is_not_counted c = refused_insertion_not_counte
 
 pub returns-clause-sync_stops_at_an_unchanged_entry : goal.returns-clause-sync_stops_at_an_unchanged_entry
 returns-clause-sync_stops_at_an_unchanged_entry c = sync_stops_early
+
+pub returns-clause-refused_insertion_promotes : goal.returns-clause-refused_insertion_promotes
+returns-clause-refused_insertion_promotes c = refused_insertion_promotes
+
+pub returns-clause-another_block_is_written : goal.returns-clause-another_block_is_written
+returns-clause-another_block_is_written c = another_block_written
+
+pub returns-clause-block_is_always_found : goal.returns-clause-block_is_always_found
+returns-clause-block_is_always_found c = block_always_found

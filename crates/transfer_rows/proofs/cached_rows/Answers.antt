@@ -1,4 +1,4 @@
-use Rattle.transfer_rows.proofs.Cached.{last_sync_forgotten, block_older_than_the_last_sync, last_unusable_block_ok, fault_called_that_of_a_sink}
+use Rattle.transfer_rows.proofs.Cached.{last_sync_forgotten, block_older_than_the_last_sync, last_unusable_block_ok, fault_called_that_of_a_sink, write_answered_before_it_is_done, unit_behind_a_sync}
 use Rattle.transfer_rows.proofs.cached_rows.Goals as goal
 
 pub returns-clause-last_sync_is_forgotten : goal.returns-clause-last_sync_is_forgotten
@@ -12,3 +12,9 @@ returns-clause-last_unusable_block_is_answered_ok c = last_unusable_block_ok
 
 pub returns-clause-fault_of_the_packs_is_called_that_of_a_sink : goal.returns-clause-fault_of_the_packs_is_called_that_of_a_sink
 returns-clause-fault_of_the_packs_is_called_that_of_a_sink c = fault_called_that_of_a_sink
+
+pub returns-clause-write_is_answered_before_it_is_done : goal.returns-clause-write_is_answered_before_it_is_done
+returns-clause-write_is_answered_before_it_is_done c = write_answered_before_it_is_done
+
+pub returns-clause-unit_behind_a_sync : goal.returns-clause-unit_behind_a_sync
+returns-clause-unit_behind_a_sync c = unit_behind_a_sync

@@ -1,4 +1,4 @@
-use Rattle.transfer_rows.proofs.Raw.{done_in_blocks, dump_at_the_front, outside_by_one}
+use Rattle.transfer_rows.proofs.Raw.{done_in_blocks, dump_at_the_front, outside_by_one, edge_without_its_bytes}
 use Rattle.transfer_rows.proofs.raw_rows.Goals as goal
 
 pub returns-clause-done_in_blocks : goal.returns-clause-done_in_blocks
@@ -9,3 +9,6 @@ returns-clause-dump_at_the_front c = dump_at_the_front
 
 pub returns-clause-outside_by_one : goal.returns-clause-outside_by_one
 returns-clause-outside_by_one c = outside_by_one
+
+pub returns-clause-edge_without_its_bytes : goal.returns-clause-edge_without_its_bytes
+returns-clause-edge_without_its_bytes c = edge_without_its_bytes

@@ -2,10 +2,9 @@ use Rattle.std.proofs.Common.{◌≡◌, ℕ, ◌*◌, ◌<◌, Err, Some, ap, s
 use Rattle.pack_geometry.specs.declared.DriveKind.{DriveKind}
 use Rattle.partitions.specs.declared.Part.TheVariants.{B}
 use Rattle.partition_bytes.specs.Bytes.{blocks_for, dumped, dump_place}
-use Rattle.raw_io.specs.Passes.{Stage}
+use Rattle.raw_io.specs.Passes.{Stage, site}
 use Rattle.raw_io.specs.Calls.{StopsAt, done_by}
 use Rattle.raw_io.specs.Pieces.{PutsRange, start_of}
-use Rattle.raw_io.specs.Transfers.{site}
 use Rattle.raw_command.specs.declared.fault.TransferFault.{TransferFault}
 use Rattle.raw_command.proofs.Writings.{length_dumped, too_many}
 use Rattle.raw_command.proofs.UnitLaws.{kind_made, may, writes_by, writes_none}

@@ -3,10 +3,9 @@ use Rattle.partitions.specs.declared.Part.TheVariants.{B}
 use Rattle.partitions.specs.Partitions.{size_of}
 use Rattle.partition_bytes.specs.Bytes.{dumped}
 use Rattle.request_fronts.specs.Passes.{Stage}
-use Rattle.raw_io.specs.Transfers.{site}
-use Rattle.raw_io.specs.Calls.{kind_at}
+use Rattle.request_fronts.specs.Sites.{site, kind_at}
 use Rattle.raw_io.specs.Pieces.{IsPiece}
-use Rattle.raw_io.proofs.Exits.{on_err, keeps_none, keeps_join}
+use Rattle.request_fronts.proofs.Sites.{on_err, keeps_none, keeps_join}
 use Rattle.raw_io.proofs.Dumps.{dumped_long}
 use Rattle.raw_io.proofs.WriteRanges.{written_none, written_whole, turn_written, write_more, write_ends, write_stops}
 use Rattle.raw_io.proofs.dumping.dump_range.Goals as goal

@@ -1,7 +1,7 @@
 use Rattle.std.proofs.Common.{◌≡◌, ◌*◌, ◌-◌, None, length}
 use Rattle.partitions.specs.declared.Part.TheVariants.{B}
 use Rattle.partition_bytes.specs.Bytes.{blocks_for, dumped}
-use Rattle.raw_io.specs.Transfers.{site, Keeps}
+use Rattle.request_fronts.specs.Sites.{site, Keeps}
 use Rattle.raw_io.proofs.WriteRanges.{SoWritten}
 use Rattle.raw_io.proofs.dumping.dump_range.Given as goal
 

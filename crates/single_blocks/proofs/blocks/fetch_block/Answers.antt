@@ -1,12 +1,9 @@
 use Rattle.std.proofs.Common.{[], refl, sym, ap, subst}
 use Rattle.std.specs.Prelude.{None}
-use Rattle.raw_io.specs.Passes.{asked}
-use Rattle.raw_io.specs.Passes.{Before}
-use Rattle.raw_io.specs.Passes.{Stage, stage}
-use Rattle.raw_io.specs.Passes.{MayAsk, Answers}
-use Rattle.raw_io.specs.Passes.{Stops}
-use Rattle.raw_io.specs.Calls.{kind_at}
-use Rattle.raw_io.proofs.Exits.{is_request, none_written, read_stops_of, on_err, keeps_err}
+use Rattle.request_fronts.specs.Passes.{asked, Before, Stage, stage, MayAsk, Answers, Stops}
+use Rattle.request_fronts.specs.Sites.{kind_at}
+use Rattle.request_fronts.proofs.Blocks.{is_request, none_written, read_stops_of}
+use Rattle.request_fronts.proofs.Sites.{on_err, keeps_err}
 use Rattle.cached_blocks.specs.Requests.{reads}
 use Rattle.single_blocks.proofs.Maps.{are_blocks}
 use Rattle.single_blocks.proofs.Exits.{fetches_of}

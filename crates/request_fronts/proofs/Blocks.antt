@@ -1,61 +1,34 @@
 -- One request for whole blocks: what it is answered, and what it leaves.
-use Rattle.std.proofs.Common.{◌≡◌, ◌≢◌, inl, inr, ℕ, zero, suc, ◌<◌, ◌≤◌, ◌+◌, ◌==◌, nat_le, Bool, true, false, IsTrue, List, [], Option, None, Some, refl, sym, ap, ◌∙◌, subst, arith}
-use Rattle.std.specs.Prelude.{min, is_some, IsSome, unwrap_or, if◌then◌else◌}
+use Rattle.std.proofs.Common.{◌≡◌, ◌≢◌, inl, inr, ℕ, zero, suc, ◌<◌, ◌≤◌, ◌+◌, ◌-◌, ◌*◌, ◌==◌, nat_le, Bool, true, false, IsTrue, List, [], length, Option, None, Some, refl, sym, ap, ◌∙◌, subst, arith}
+use Rattle.std.specs.Prelude.{min, is_some, IsSome, if◌then◌else◌}
 use Rattle.std.proofs.lemmas.Option.{none-some, same_Some}
 use Rattle.std.proofs.lemmas.Bool.{eq-eqb, ne_eqb}
 use Rattle.std.proofs.lemmas.Bool.Decides.{nat_tests, eqb_tells}
 use Rattle.pack_geometry.specs.declared.DriveKind.{DriveKind}
-use Rattle.pack_geometry.specs.declared.DriveKind.TheVariants.{Rp06}
-use Rattle.pack_model.specs.Pack as model
 use Rattle.partitions.specs.declared.Part.{Part}
 use Rattle.partitions.specs.declared.Admission.TheVariants.{Inside}
 use Rattle.partitions.specs.Partitions.{first_of, size_of, admission}
-use Rattle.subsystem_spec.specs.Requests.{Request, IsRequest, Answer, ReadOk, WriteOk, OutsidePartition, EndOfPartition, NoFrames, Failed}
+use Rattle.subsystem_spec.specs.Requests.{Request, IsRequest, Answer, ReadOk, WriteOk}
 use Rattle.trace_replay.specs.Moments.{Moment}
 use Rattle.block_machine.specs.Machine.{Blocks, kind_of, bytes_of_first, blocks_done, blocks_after, done_in}
 use Rattle.block_machine.specs.Stands.{Setup}
 use Rattle.block_machine.proofs.Blocks.{read_blocks}
-use Rattle.driver_machine.specs.World.{World, unit_at}
 use Rattle.driver_machine.specs.Guards.{IsSetUp}
 use Rattle.driver_machine.specs.Sound.{Sound, AtWork}
-use Rattle.waited_requests.specs.Sessions.{waited, told_in}
+use Rattle.driver_outcome.specs.declared.Stop.{Stop}
 use Rattle.waited_requests.specs.Rest.{HasTables}
 use Rattle.waited_requests.specs.Waited.{unusable_or, first_unusable, answer_by, answer_of, answer_at, map_at as map_met, first_in, met_in, answer_in, map_behind}
-use Rattle.waited_requests.specs.Cleans.{MovedClean, done_by}
-use Rattle.request_fronts.specs.Passes.{IsQuiet, kind_if, setup_of}
-use Rattle.request_fronts.specs.Passes.{Reached}
-use Rattle.request_fronts.specs.Passes.{All, Before, Outside, AtEnd}
-use Rattle.request_fronts.specs.Passes.{reached_by, bytes_by}
 use Rattle.partition_bytes.specs.Laid.{laid}
-use Rattle.request_fronts.specs.Passes.{Stage}
-use Rattle.request_fronts.specs.Passes.{setup_at, Answers, IsMapped}
-use Rattle.request_fronts.specs.Passes.{GoesOn, AnswersReach}
-use Rattle.request_fronts.specs.Fronts.{HoldsFront, AnsweredMovesClean}
-use Rattle.raw_io.specs.Transfers.{IsAsk, Transfers, AreClean, AreBlocks}
-use Rattle.raw_io.specs.Calls.{kind_at, map_at, left_map, IsUntouched}
 use Rattle.partition_bytes.specs.Pieces.{Reaches}
-use Rattle.raw_io.specs.Blocks.{blocks_reached, origin, ReadsOnce, PutsBlocks, PutsFront}
+use Rattle.request_fronts.specs.Passes.{All, AtEnd, Before, IsMapped, IsQuiet, Outside, Reached, Stage, Stops, bytes_by, reached_by, setup_at}
+use Rattle.request_fronts.specs.Fronts.{HoldsFront, StoppedHoldsFront}
+use Rattle.request_fronts.specs.Sites.{IsUntouched, kind_at, left_map, map_at}
+use Rattle.request_fronts.specs.Blocks.{AreBlocks, PutsBlocks, PutsFront, ReadsOnce, blocks_reached, origin}
+use Rattle.request_fronts.proofs.Sites.{kind_is}
 
 -- ---- what was given to a caller is not seen
 abbrev pub plain : Stage → Stage
 plain s = record s { given = record { reached = Before 0; bytes = [] } }
-
-unfoldable pub transfers_of : AnswersReach → (reads : Bool) (r : Request) (old new : Stage) → IsAsk reads r.unit r.part r → Answers 1 r old new → Transfers reads r.unit r.part (plain old) (plain new)
-transfers_of law reads r old new ask a = record {
-  parts = waited 1 r a.asked a.drained;
-  waited = (record { request = r; ask = ask; submitted_is = refl; drained_is = refl }, tt);
-  goes = plain_goes (law 1 r old new a);
-  others = λ t tables. record { sectors = λ unit sector kind declared below homeless. (a.mapped t tables).others unit sector homeless; stay = a.stays t };
-}
-  where
-    plain_goes : GoesOn (waited 1 r a.asked a.drained) old new → GoesOn (waited 1 r a.asked a.drained) (plain old) (plain new)
-    plain_goes g = record {
-      trace = g.trace;
-      setup = g.setup;
-      stays = g.stays;
-      tables = g.tables;
-      reaches = λ t tables s q. record { session = (g.reaches t tables s q).session; stands = (g.reaches t tables s q).stands };
-    }
 
 -- ---- THE FIRST BLOCK that can't be used
 some_first : (block : Option (List ℕ)) (k : ℕ) (later : Option ℕ) → unusable_or block k later ≡ None → IsSome block × (later ≡ None)
@@ -141,17 +114,6 @@ came_by blocks first r (Some k) is =
       none = λ lt into. refl;
     }
 
-below_least : (a b k : ℕ) → k < min a b → k < a
-below_least a b k lt = grind (arith, lt)
-
-done_told : (answer : Answer) (count k : ℕ) → k < blocks_reached (reached_by answer) count → k < done_by answer count
-done_told (ReadOk bytes) count k lt = lt
-done_told WriteOk count k lt = lt
-done_told (Failed cause done) count k lt = below_least done count k lt
-done_told OutsidePartition count k lt = lt
-done_told EndOfPartition count k lt = lt
-done_told NoFrames count k lt = below_least 0 count k lt
-
 pub few_reached : (reached : Reached) (count : ℕ) → blocks_reached reached count ≤ count
 few_reached All count = omega arith
 few_reached (Before done) count = least done count
@@ -162,9 +124,6 @@ few_reached Outside count = omega arith
 few_reached AtEnd count = omega arith
 
 -- ---- INSIDE its partition
-pub kind_is : (w : World) (held : ℕ → model.Pack) (unit : ℕ) → IsSetUp w unit → kind_of (setup_of w held).drives unit ≡ kind_at w unit
-kind_is w held unit set = ap (λ b. unwrap_or (kind_if b (unit_at w unit).drive.kind) Rp06) set.declared
-
 admitted : (kind : DriveKind) (part : Part) (block count : ℕ) → 1 ≤ count → block + count ≤ size_of kind part → admission kind part block count ≡ Inside (first_of kind part + block)
 admitted kind part block count some inside = rw (other (size_of kind part) block count some inside, within (size_of kind part) block count inside) refl
   where
@@ -239,14 +198,6 @@ module _ (r : Request) (old : Stage) (unit : IsSetUp old.world r.unit) (is : Are
           map = λ u block ne. m.map u block ∙ ap (λ f. f u block) behind ∙ other_map Answer_now u block ne;
         }
 
-  -- each block that is done moved clean
-  pub clean_of : AnsweredMovesClean → Sound old.world → AtWork old.world → IsQuiet old.world → IsRequest r → (new : Stage) (n : ℕ) (a : Answers 1 r old new) → n ≡ blocks_reached new.given.reached r.count
-      → IsTrue new.packs_tell → HasTables Of → AreClean r.unit (origin old r + r.block) (λ k. k < n) (told_in (waited 1 r a.asked a.drained)) (plain old)
-  clean_of law sound work quiet good new n a e t tables k lt =
-      subst (λ z. MovedClean Of r.unit (z + k) (told_in (waited 1 r a.asked a.drained))) first_at
-      (law 1 r old new sound work quiet unit good tables t a k
-      (done_told (answer_in Of r) r.count k (subst (λ z. k < blocks_reached z r.count) (a.mapped t tables).reached (subst (λ z. k < z) e lt))))
-
   -- ---- where it stopped
   pub front_of : (new : Stage) → HoldsFront Of r new.held → PutsFront r (plain old) (plain new)
   front_of new f = record {
@@ -267,3 +218,35 @@ module _ (r : Request) (old : Stage) (unit : IsSetUp old.world r.unit) (is : Are
     ];
     others = f.others;
   }
+
+-- ---- a request for whole blocks may be asked
+pub is_request : (kind : DriveKind) (r : Request) → AreBlocks kind r → ((bytes : List ℕ) → r.written ≡ Some bytes → length bytes ≡ 512 * r.count) → IsRequest r
+is_request kind r is long = record {
+  some = is.some;
+  few = is.few;
+  ends = subst (λ n. 1 ≤ n) (sym is.last) (omega arith);
+  in_block = subst (λ n. n ≤ 512) (sym is.last) (omega arith);
+  in_frame = subst (λ n. n < 512) (sym is.offset) (omega arith);
+  exact = λ bytes written. long bytes written ∙ whole r.count r.last is.some is.last;
+}
+  where
+    whole : (count last : ℕ) → 1 ≤ count → last ≡ 512 → 512 * count ≡ 512 * (count - 1) + last
+    whole count last some is = omega (arith, some, is)
+
+pub none_written : (r : Request) → r.written ≡ None → (bytes : List ℕ) → r.written ≡ Some bytes → length bytes ≡ 512 * r.count
+none_written r none bytes written = absurd (none-some bytes (sym none ∙ written))
+
+pub all_written : (r : Request) (from : List ℕ) → r.written ≡ Some from → length from ≡ 512 * r.count → (bytes : List ℕ) → r.written ≡ Some bytes → length bytes ≡ 512 * r.count
+all_written r from is long bytes written = ap length (sym (same_Some from bytes (sym is ∙ written))) ∙ long
+
+-- ---- where it stopped
+module _ (stop : Stop) (r : Request) (old new : Stage) (unit : IsSetUp old.world r.unit) (is : AreBlocks (kind_at old.world r.unit) r) (fronts : StoppedHoldsFront) (sound : Sound old.world) (work : AtWork old.world)
+    (quiet : IsQuiet old.world) (good : IsRequest r) {line : ℕ} (s : Stops stop line r old new) where
+  front : IsTrue new.packs_tell → HasTables (setup_at old) → HoldsFront (setup_at old) r new.held
+  front t tables = fronts stop line r old new sound work quiet unit good tables t s
+
+  pub read_stops_of : r.written ≡ None → IsTrue new.packs_tell → HasTables (setup_at old) → IsUntouched (plain old) (plain new)
+  read_stops_of none t tables = untouched_of r old unit is new none (front t tables)
+
+  pub write_stops_of : IsTrue new.packs_tell → HasTables (setup_at old) → PutsFront r (plain old) (plain new)
+  write_stops_of t tables = front_of r old unit is new (front t tables)
