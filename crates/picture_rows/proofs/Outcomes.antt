@@ -1,15 +1,22 @@
--- The words of columns, windows, letters and texts refuse these outcomes.
-use Rattle.std.proofs.Common.{◌≡◌, ℕ, ◌+◌, ◌-◌, ◌^◌, ◌<◌, ◌==◌, nat_le, min, Bool, true, false, not, ◌||◌, if◌then◌else◌, List, [], ◌∷◌, ◌++◌, length, refl, sym, ap, ◌∙◌, arith}
+-- The words of columns, windows, letters, requests and texts refuse these outcomes.
+use Rattle.std.proofs.Common.{◌≡◌, ℕ, ◌+◌, ◌-◌, ◌^◌, ◌<◌, ◌≤◌, ◌==◌, nat_le, nat_lt, min, Bool, true, false, not, ◌&&◌, ◌||◌, if◌then◌else◌, List, [], ◌∷◌, ◌++◌, length, refl, sym, ap, ◌∙◌, arith}
 use Rattle.std.proofs.lemmas.Bool.{false≢true, ne_eqb}
 use Rattle.std.proofs.lemmas.Bool.Decides.{nat_tests}
+use Rattle.std.proofs.lemmas.Fmt.{decimal_injective}
+use Rattle.std.proofs.lemmas.List.{append_cancel_left, take_at}
+use Rattle.std.proofs.lemmas.List.Sums.{sum_by-append}
+use Rattle.drive_pictures.specs.declared.drives.Drive.{Drive}
 use Rattle.drive_pictures.specs.declared.letters.Letter.{Letter}
+use Rattle.run_picture.specs.Columns.{together}
+use Rattle.run_picture.specs.Positioning.{positioning, positions}
 use Rattle.picture_markup.specs.declared.pieces.Element.{Element}
 use Rattle.picture_markup.specs.declared.pieces.Element.TheVariants.{Group, Title}
 use Rattle.picture_markup.specs.Nesting.{Drawn, is_same, started, ended, ended_in}
 use Rattle.picture_sheet.specs.Letters.{count_of, oftener}
+use Rattle.picture_sheet.specs.Requests.{is_shown}
 use Rattle.picture_scene.specs.declared.scene.Stretch.{Stretch}
 use Rattle.picture_scene.specs.Stretches.{stretches_of}
-use Rattle.picture_rows.specs.Outcomes.{ColumnDropsAnEvent, IdleEventLeftOut, AmpersandAsItIs, WindowFromTheFirstEvent, LeadOfEqualsTheFirst, LineOfAnotherDrive, StretchEndedAtItsFirstColumn, GroupEndedAroundAnArm, TooltipEndedTwice}
+use Rattle.picture_rows.specs.Outcomes.{ColumnDropsAnEvent, IdleEventLeftOut, AmpersandAsItIs, CoordinateOf20000, WindowFromTheFirstEvent, LeadOfEqualsTheFirst, AllAdaptersTakenTogether, RequestBehindTheWindowShown, LineOfAnotherDrive, StretchEndedAtItsFirstColumn, GroupEndedAroundAnArm, TooltipEndedTwice}
 
 one_more : (n : ℕ) → n < 2 ^ 64 - 1 → min (n + 1) (2 ^ 64 - 1) ≡ n → ⊥
 one_more n less is = omega (arith, less, is)
@@ -25,6 +32,12 @@ ampersand_as_it_is is = longer is
   where
     longer : {x : ℕ} {xs : List ℕ} → 38 ∷ x ∷ xs ≡ 38 ∷ [] → ⊥
     longer is = cc is
+
+pub coordinate_of_20000 : CoordinateOf20000
+coordinate_of_20000 text n far is = nearer n far (decimal_injective (min n 20000) (min n 19999) (omega arith) (omega arith) (append_cancel_left text _ _ is))
+  where
+    nearer : (n : ℕ) → 20000 ≤ n → min n 20000 ≡ min n 19999 → ⊥
+    nearer n far is = omega (arith, far, is)
 
 pub window_from_the_first_event : WindowFromTheFirstEvent
 window_from_the_first_event events first last some behind end is = least first last events behind end some is
@@ -43,6 +56,32 @@ pub lead_of_equals_the_first : LeadOfEqualsTheFirst
 unfolding oftener
 lead_of_equals_the_first t events letter other same differs is =
     differs (sym is ∙ other_taken (count_of t events letter) (count_of t events other) letter other same)
+
+-- a drive more that positions
+one_more_positions : (first others : List Drive) (drive : Drive) → positions drive ≡ true → positioning first < positioning (first ++ drive ∷ others)
+one_more_positions first others drive counts =
+    omega (arith, sum_by-append (λ d. if positions d then 1 else 0) first (drive ∷ others), sum_by-append (λ d. if positions d then 1 else 0) (drive ∷ []) others, one (positions drive) counts)
+  where
+    one : (b : Bool) → b ≡ true → ◌≡◌ {A = ℕ} (if b then 1 else 0) 1
+    one b counts = rw (counts) refl
+
+pub all_adapters_taken_together : AllAdaptersTakenTogether
+all_adapters_taken_together first others drive eight counts is =
+    let here : together (first ++ drive ∷ others) 0 ≡ positioning first = ap positioning (take_at first (drive ∷ others) 8 eight) in
+    omega (arith, one_more_positions first others drive counts, is, here)
+
+-- a test in the middle fails
+fails : (a b c : Bool) → b ≡ false → not a && b && c ≡ true → ⊥
+fails true b c unlike is = false≢true is
+fails false true c unlike is = false≢true (sym unlike)
+fails false false c unlike is = false≢true is
+
+pub request_behind_the_window_shown : RequestBehindTheWindowShown
+unfolding is_shown
+request_behind_the_window_shown sheet r at is = fails _ _ _ (not_before r.asked sheet.window.last at) is
+  where
+    not_before : (asked last : ℕ) → asked ≡ last → nat_lt asked last ≡ false
+    not_before asked last at = grind (arith, nat_tests)
 
 -- of another unit nothing is told
 none_told : (here : Bool) (text : List ℕ) → here ≡ false → (if here then text ∷ [] else []) ++ [] ≡ text ∷ [] → ⊥

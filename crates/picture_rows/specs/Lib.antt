@@ -1,1 +1,4 @@
 pub mod Outcomes
+pub mod Nested
+pub mod Shown
+pub mod Runs

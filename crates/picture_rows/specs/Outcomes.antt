@@ -1,17 +1,21 @@
--- What wrong bodies would draw, refused by the words of columns, windows, letters and texts.
-use Rattle.std.specs.Prelude.{◌≡◌, ℕ, ◌-◌, ◌^◌, ◌<◌, Bool, true, false, List, [], ◌∷◌}
+-- What wrong bodies would draw, refused by the words of columns, windows, letters, requests and texts.
+use Rattle.std.specs.Prelude.{◌≡◌, ℕ, ◌-◌, ◌^◌, ◌<◌, ◌≤◌, min, Bool, true, false, List, [], ◌∷◌, ◌++◌, length, decimal}
 use Rattle.drive_pictures.specs.declared.cells.Tally.{Tally}
 use Rattle.drive_pictures.specs.declared.drives.Drive.{Drive}
 use Rattle.drive_pictures.specs.declared.letters.Letter.{Letter}
+use Rattle.drive_pictures.specs.declared.requests.Request.{Request}
 use Rattle.run_picture.specs.declared.columns.Head.{Head}
-use Rattle.run_picture.specs.Columns.{headed, window_of}
+use Rattle.run_picture.specs.Columns.{headed, together, window_of}
+use Rattle.run_picture.specs.Positioning.{positioning, positions}
 use Rattle.picture_markup.specs.declared.pieces.Element.{Element}
 use Rattle.picture_markup.specs.declared.pieces.Element.TheVariants.{Group, Title}
-use Rattle.picture_markup.specs.Elements.{escaped}
+use Rattle.picture_markup.specs.Elements.{escaped, with_place}
 use Rattle.picture_markup.specs.Nesting.{Drawn, started, ended}
 use Rattle.picture_sheet.specs.declared.sheet.Note.{Note}
+use Rattle.picture_sheet.specs.declared.sheet.Sheet.{Sheet}
 use Rattle.picture_sheet.specs.Letters.{count_of, oftener}
 use Rattle.picture_sheet.specs.Notes.{lines_of}
+use Rattle.picture_sheet.specs.Requests.{is_shown}
 use Rattle.picture_scene.specs.Stretches.{stretches_of}
 
 -- a column has one event, another one comes, and it has one
@@ -26,6 +30,10 @@ IdleEventLeftOut = (line : ℕ) (drives : List Drive) (head : Head) → head.eve
 abbrev pub AmpersandAsItIs : Type 0
 AmpersandAsItIs = ¬ (escaped 38 ≡ 38 ∷ [])
 
+-- a coordinate of 20,000 or more is written as 20,000
+abbrev pub CoordinateOf20000 : Type 0
+CoordinateOf20000 = (text : List ℕ) (n : ℕ) → 20000 ≤ n → ¬ (text ++ decimal (min n 20000) ≡ with_place n text)
+
 -- a window begins at the first event, though another was given
 abbrev pub WindowFromTheFirstEvent : Type 0
 WindowFromTheFirstEvent = (events first last : ℕ) → 0 < events → 0 < first → 0 < last → ¬ ((window_of events first last).first ≡ 0)
@@ -34,6 +42,15 @@ WindowFromTheFirstEvent = (events first last : ℕ) → 0 < events → 0 < first
 abbrev pub LeadOfEqualsTheFirst : Type 0
 LeadOfEqualsTheFirst = (t : Tally) (events : ℕ) (letter other : Letter) → count_of t events letter ≡ count_of t events other
     → ¬ (letter ≡ other) → ¬ (oftener t events letter other ≡ letter)
+
+-- a drive of another adapter positions, and is counted at the first
+abbrev pub AllAdaptersTakenTogether : Type 0
+AllAdaptersTakenTogether = (first others : List Drive) (drive : Drive) → length first ≡ 8 → positions drive ≡ true
+    → ¬ (positioning (first ++ drive ∷ others) ≡ together (first ++ drive ∷ others) 0)
+
+-- a request is shown that was asked for at the event behind the last that is shown
+abbrev pub RequestBehindTheWindowShown : Type 0
+RequestBehindTheWindowShown = (sheet : Sheet) (r : Request) → r.asked ≡ sheet.window.last → ¬ (is_shown sheet r ≡ true)
 
 -- a line that names another drive is told of a drive
 abbrev pub LineOfAnotherDrive : Type 0

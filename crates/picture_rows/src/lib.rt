@@ -1,8 +1,12 @@
 //! Worked rows of the program that draws: the picture of each run of `examples/` is byte for byte the one that stands beside its
-//! script, by its SHA-256, and charts and refusals are these texts, which `examples/rows.py` writes. And wrong outcomes: `picture_law`.
+//! script, by its SHA-256, and charts and refusals are these texts, which `examples/rows.py` writes. And outcomes of
+//! wrong bodies, each refused by a law.
 #![tactic(auto)]
 
-ghost use Rattle.picture_rows.specs.Outcomes.{ColumnDropsAnEvent, IdleEventLeftOut, AmpersandAsItIs, WindowFromTheFirstEvent, LeadOfEqualsTheFirst, LineOfAnotherDrive, StretchEndedAtItsFirstColumn, GroupEndedAroundAnArm, TooltipEndedTwice};
+ghost use Rattle.picture_rows.specs.Outcomes.{ColumnDropsAnEvent, IdleEventLeftOut, AmpersandAsItIs, CoordinateOf20000, WindowFromTheFirstEvent, LeadOfEqualsTheFirst, AllAdaptersTakenTogether, RequestBehindTheWindowShown, LineOfAnotherDrive, StretchEndedAtItsFirstColumn, GroupEndedAroundAnArm, TooltipEndedTwice};
+ghost use Rattle.picture_rows.specs.Nested.{GroupLeftOpen, LettersLeftOpen, ScriptLineLeftOpen, MarksOfAnotherUnit, LinesDropped, DriveDrawnTwice};
+ghost use Rattle.picture_rows.specs.Shown.{PositioningAtAnotherAdapter, ArmOfAnotherUnit, EventsFromZero, BarOfAnotherUnit, PanelDropsAColumn, RowOfAnotherUnit};
+ghost use Rattle.picture_rows.specs.Runs.{LastPlayNotSeen, PlayedBehindItsLines, LineInAColumnLate, TryCountedTwice, WindowOneEventEarly, NoMemoryTakenForUsage};
 
 #[cfg(test)]
 mod ends;
@@ -13,15 +17,48 @@ mod texts;
 #[cfg(test)]
 mod views;
 
-/// A picture may not be drawn so.
+/// A picture may not be drawn so: by its columns, windows, letters, requests and texts.
 pub fn picture_law()
     ensures column_drops_an_event { ColumnDropsAnEvent }
     ensures idle_event_left_out { IdleEventLeftOut }
     ensures ampersand_as_it_is { AmpersandAsItIs }
+    ensures coordinate_of_20000 { CoordinateOf20000 }
     ensures window_from_the_first_event { WindowFromTheFirstEvent }
     ensures lead_of_equals_the_first { LeadOfEqualsTheFirst }
+    ensures all_adapters_taken_together { AllAdaptersTakenTogether }
+    ensures request_behind_the_window_shown { RequestBehindTheWindowShown }
     ensures line_of_another_drive { LineOfAnotherDrive }
     ensures stretch_ended_at_its_first_column { StretchEndedAtItsFirstColumn }
     ensures group_ended_around_an_arm { GroupEndedAroundAnArm }
     ensures tooltip_ended_twice { TooltipEndedTwice }
+{}
+
+/// Elements may not be left open so, and lines not be told so.
+pub fn nested_law()
+    ensures group_left_open { GroupLeftOpen }
+    ensures letters_left_open { LettersLeftOpen }
+    ensures script_line_left_open { ScriptLineLeftOpen }
+    ensures marks_of_another_unit { MarksOfAnotherUnit }
+    ensures lines_dropped { LinesDropped }
+    ensures drive_drawn_twice { DriveDrawnTwice }
+{}
+
+/// Columns may not be shown so: by adapters, drives, axes and charts.
+pub fn shown_law()
+    ensures positioning_at_another_adapter { PositioningAtAnotherAdapter }
+    ensures arm_of_another_unit { ArmOfAnotherUnit }
+    ensures events_from_zero { EventsFromZero }
+    ensures bar_of_another_unit { BarOfAnotherUnit }
+    ensures panel_drops_a_column { PanelDropsAColumn }
+    ensures row_of_another_unit { RowOfAnotherUnit }
+{}
+
+/// A run may not be seen so, and the program not end so.
+pub fn runs_law()
+    ensures last_play_not_seen { LastPlayNotSeen }
+    ensures played_behind_its_lines { PlayedBehindItsLines }
+    ensures line_in_a_column_late { LineInAColumnLate }
+    ensures try_counted_twice { TryCountedTwice }
+    ensures window_one_event_early { WindowOneEventEarly }
+    ensures no_memory_taken_for_usage { NoMemoryTakenForUsage }
 {}
