@@ -2,25 +2,36 @@
 //! comes to. `rows.py` puts both together from `rows/`, and says how a row is written. Only tested.
 #![tactic(auto)]
 
-mod directives;
-mod row_packs;
-mod runs;
-mod shows;
-mod stops;
-mod sweeps;
-mod texts;
-
-use directives::perform;
-use runs::Stage;
+use hpsim_run::run;
+use mass_outside::mem_streams::{MemSink, MemSource};
+use row_stage::{Program, RowPacks, Stage, perform};
+use std::alloc::Global;
 use std::io;
 use std::io::Write;
+
+/// The program whose rows these are.
+struct Simulator;
+
+impl Program for Simulator {
+    fn run(
+        &self,
+        alloc: Global,
+        words: &[String],
+        source: &mut MemSource,
+        packs: &mut RowPacks,
+        out: &mut MemSink,
+        trace: &mut MemSink,
+    ) -> u8 {
+        run(alloc, words, source, packs, out, trace)
+    }
+}
 
 fn main(rt: HostRuntime) -> anyhow::Result<()> {
     let text = io::read_to_string(rt.alloc(), rt.reader())?;
     let mut stage = Stage::new(rt.alloc())?;
     let mut page = Vec::new(rt.alloc());
     for line in text.as_str().lines() {
-        perform(&mut stage, &mut page, line)?;
+        perform(&Simulator, &mut stage, &mut page, line)?;
         io::writer(&rt).write_all(page.as_slice())?;
         page.clear();
     }

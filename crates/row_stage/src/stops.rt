@@ -1,6 +1,6 @@
 // Runs in which each call of each operation fails in turn.
 use crate::row_packs::RowPacks;
-use crate::runs::{NONE, OPERATIONS, Operation, Ran, Stage, run_line};
+use crate::runs::{NONE, OPERATIONS, Operation, Program, Ran, Stage, run_line};
 use crate::texts::{add_all, add_number, holds, times};
 use outside_traits::traits::NoMemory;
 use std::alloc::AllocError;
@@ -34,7 +34,8 @@ pub(crate) struct Left {
 }
 
 /// Runs a command over a copy of the packs of the stage, with a call failing.
-pub(crate) fn run_apart(
+pub(crate) fn run_apart<P: Program>(
+    program: &P,
     stage: &Stage,
     line: &str,
     source: &[u8],
@@ -43,7 +44,7 @@ pub(crate) fn run_apart(
 ) -> Result<Left, NoMemory> {
     let faults = NONE.with(operation, number);
     let mut packs = stage.packs.copy(faults.fails)?;
-    let ran = run_line(stage.alloc, line, source, &mut packs, faults)?;
+    let ran = run_line(program, stage.alloc, line, source, &mut packs, faults)?;
     Ok(Left { ran, packs })
 }
 
@@ -138,14 +139,22 @@ fn amiss(stage: &Stage, whole: &Left, left: &Left, line: &str, wanted: u8) -> &'
 }
 
 /// What does not hold of the same command once more, over the packs that a run left that stopped; "" where all does.
-fn amiss_again(
+fn amiss_again<P: Program>(
+    program: &P,
     stage: &Stage,
     whole: &Left,
     packs: &mut RowPacks,
     line: &str,
 ) -> Result<&'static str, NoMemory> {
     packs.fail(NONE.fails);
-    let again = run_line(stage.alloc, line, stage.source.as_slice(), packs, NONE)?;
+    let again = run_line(
+        program,
+        stage.alloc,
+        line,
+        stage.source.as_slice(),
+        packs,
+        NONE,
+    )?;
     if again.status == 0 && are_same(stage, &whole.packs, packs) {
         return Ok("");
     }
@@ -160,7 +169,8 @@ fn is_whole(stage: &Stage, whole: &Left, left: &Left) -> bool {
 }
 
 /// What does not hold of a run in which a call fails; "" where all does, and "done" where that call is not made.
-fn stopped_at(
+fn stopped_at<P: Program>(
+    program: &P,
     stage: &Stage,
     whole: &Left,
     line: &str,
@@ -168,7 +178,7 @@ fn stopped_at(
     number: u64,
 ) -> Result<&'static str, NoMemory> {
     let source = stage.source.as_slice();
-    let mut left = run_apart(stage, line, source, operation, number)?;
+    let mut left = run_apart(program, stage, line, source, operation, number)?;
     if left.ran.status == 0 {
         return Ok(if is_whole(stage, whole, &left) {
             "done"
@@ -177,21 +187,22 @@ fn stopped_at(
         });
     }
     match amiss(stage, whole, &left, line, wanted(operation)) {
-        "" => amiss_again(stage, whole, &mut left.packs, line),
+        "" => amiss_again(program, stage, whole, &mut left.packs, line),
         word => Ok(word),
     }
 }
 
 /// Runs a command with each call of an operation failing in turn, until it is not made: how many are made, and the first thing that
 /// does not hold; "" where all does.
-fn each_call(
+fn each_call<P: Program>(
+    program: &P,
     stage: &Stage,
     whole: &Left,
     line: &str,
     operation: Operation,
 ) -> Result<(u64, &'static str), NoMemory> {
     for number in 1..1000u64 {
-        match stopped_at(stage, whole, line, operation, number)? {
+        match stopped_at(program, stage, whole, line, operation, number)? {
             "" => {}
             "done" => return Ok((number.saturating_sub(1), "")),
             word => return Ok((number, word)),
@@ -214,11 +225,23 @@ fn show_stop(page: &mut Vec<u8>, name: &str, count: u64, word: &str) -> Result<(
 
 /// Runs a command with each call of each operation failing in turn, and shows the operations of which calls are made. What does not
 /// hold stands behind them.
-pub(crate) fn stops(stage: &mut Stage, page: &mut Vec<u8>, line: &str) -> Result<(), NoMemory> {
-    let whole = run_apart(stage, line, stage.source.as_slice(), Operation::Source, 0)?;
+pub(crate) fn stops<P: Program>(
+    program: &P,
+    stage: &mut Stage,
+    page: &mut Vec<u8>,
+    line: &str,
+) -> Result<(), NoMemory> {
+    let whole = run_apart(
+        program,
+        stage,
+        line,
+        stage.source.as_slice(),
+        Operation::Source,
+        0,
+    )?;
     add_all(page, &["each call fails in turn:"])?;
     for (name, operation) in OPERATIONS {
-        let (count, word) = each_call(stage, &whole, line, operation)?;
+        let (count, word) = each_call(program, stage, &whole, line, operation)?;
         show_stop(page, name, count, word)?;
     }
     add_all(page, &["\n"])?;

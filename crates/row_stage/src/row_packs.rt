@@ -8,7 +8,7 @@ use std::alloc::{AllocError, Global};
 /// The packs of 32 units. Of each operation the call with this number fails, from 1, and those that write or mark where there is no
 /// room. They tell nothing.
 #[derive(Drop)]
-pub(crate) struct RowPacks {
+pub struct RowPacks {
     alloc: Global,
     /// 32 blocks each where one of them was written to.
     tracks: Vec<Vec<u8>>,

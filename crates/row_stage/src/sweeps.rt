@@ -1,13 +1,14 @@
 // A run, and runs one after another.
 use crate::directives::operation;
-use crate::runs::{NONE, Stage, run_line};
+use crate::runs::{NONE, Program, Stage, run_line};
 use crate::shows::show_text;
 use crate::stops::run_apart;
 use crate::texts::{add_all, add_number, add_numbered, number, split, times};
 use outside_traits::traits::NoMemory;
 
 /// Runs a command over the packs of the stage with its source, which is taken, and shows its status and what it prints.
-pub(crate) fn play(
+pub(crate) fn play<P: Program>(
+    program: &P,
     stage: &mut Stage,
     page: &mut Vec<u8>,
     is_shown: bool,
@@ -16,7 +17,7 @@ pub(crate) fn play(
     let alloc = stage.alloc;
     let faults = stage.faults;
     let source = stage.source.as_slice();
-    stage.ran = run_line(alloc, line, source, &mut stage.packs, faults)?;
+    stage.ran = run_line(program, alloc, line, source, &mut stage.packs, faults)?;
     stage.source.clear();
     add_all(page, &[line])?;
     add_number(page, ": status ", u64::from(stage.ran.status), "\n")?;
@@ -27,20 +28,30 @@ pub(crate) fn play(
 }
 
 /// The status of a command in which `%` stands for a number, over the packs of the stage.
-fn numbered(stage: &mut Stage, line: &str, number: u64) -> Result<u8, NoMemory> {
+fn numbered<P: Program>(
+    program: &P,
+    stage: &mut Stage,
+    line: &str,
+    number: u64,
+) -> Result<u8, NoMemory> {
     let mut bytes = Vec::new(stage.alloc);
     add_numbered(&mut bytes, line, number)?;
     let line = std::str::from_utf8(bytes.as_slice()).unwrap_or("");
-    Ok(run_line(stage.alloc, line, b"", &mut stage.packs, NONE)?.status)
+    Ok(run_line(program, stage.alloc, line, b"", &mut stage.packs, NONE)?.status)
 }
 
 /// Runs a command for each of so many numbers from a first one on, and shows how many of them come to status 0.
-pub(crate) fn each(stage: &mut Stage, page: &mut Vec<u8>, rest: &str) -> Result<(), NoMemory> {
+pub(crate) fn each<P: Program>(
+    program: &P,
+    stage: &mut Stage,
+    page: &mut Vec<u8>,
+    rest: &str,
+) -> Result<(), NoMemory> {
     let (count, rest) = split(rest);
     let (first, line) = split(rest);
     let mut done = 0u64;
     for before in 0..number(count) {
-        if numbered(stage, line, number(first).saturating_add(before))? == 0 {
+        if numbered(program, stage, line, number(first).saturating_add(before))? == 0 {
             done = done.saturating_add(1);
         }
     }
@@ -50,14 +61,19 @@ pub(crate) fn each(stage: &mut Stage, page: &mut Vec<u8>, rest: &str) -> Result<
 
 /// Runs a command with each call of an operation of the packs failing in turn, until none does, and shows how often a word stands in the
 /// traces of those that stop there: each number that is the next one behind those before.
-pub(crate) fn counts(stage: &Stage, page: &mut Vec<u8>, rest: &str) -> Result<(), NoMemory> {
+pub(crate) fn counts<P: Program>(
+    program: &P,
+    stage: &Stage,
+    page: &mut Vec<u8>,
+    rest: &str,
+) -> Result<(), NoMemory> {
     let (name, rest) = split(rest);
     let (word, line) = split(rest);
     add_all(page, &[word])?;
     let mut next = 0u64;
     for number in 1..1000u64 {
         let source = stage.source.as_slice();
-        let left = run_apart(stage, line, source, operation(name), number)?;
+        let left = run_apart(program, stage, line, source, operation(name), number)?;
         if left.ran.status == 0 {
             break;
         }
@@ -70,12 +86,17 @@ pub(crate) fn counts(stage: &Stage, page: &mut Vec<u8>, rest: &str) -> Result<()
 }
 
 /// Runs a command with each front of the source, and shows how many come to status 0 or 3, and how many to another one.
-pub(crate) fn fronts(stage: &Stage, page: &mut Vec<u8>, line: &str) -> Result<(), NoMemory> {
+pub(crate) fn fronts<P: Program>(
+    program: &P,
+    stage: &Stage,
+    page: &mut Vec<u8>,
+    line: &str,
+) -> Result<(), NoMemory> {
     let mut good = 0u64;
     let mut other = 0u64;
     for end in 0..stage.source.len() {
         let front = stage.source.get(..end).unwrap_or(b"");
-        let left = run_apart(stage, line, front, operation("source"), 0)?;
+        let left = run_apart(program, stage, line, front, operation("source"), 0)?;
         if left.ran.status == 0 || left.ran.status == 3 {
             good = good.saturating_add(1);
         } else {

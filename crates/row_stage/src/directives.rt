@@ -1,7 +1,7 @@
 // The lines of the rows: a line that begins with `@` sets the stage, adds to the source, runs a command or shows what it came to;
 // each other line is one of the source.
 use crate::row_packs::RowPacks;
-use crate::runs::{OPERATIONS, Operation, Stage};
+use crate::runs::{OPERATIONS, Operation, Program, Stage};
 use crate::shows::show;
 use crate::stops::{Rule, Watch, stops};
 use crate::sweeps::{counts, each, fronts, play};
@@ -13,8 +13,13 @@ use hp_exercise::script_of;
 use outside_traits::traits::NoMemory;
 use std::alloc::{AllocError, Global};
 
-/// Does what a line says.
-pub(crate) fn perform(stage: &mut Stage, page: &mut Vec<u8>, line: &str) -> Result<(), NoMemory> {
+/// Does what a line says with a program, and puts behind the page what is to be shown; `NoMemory` where memory runs out.
+pub fn perform<P: Program>(
+    program: &P,
+    stage: &mut Stage,
+    page: &mut Vec<u8>,
+    line: &str,
+) -> Result<(), NoMemory> {
     if !line.starts_with('@') {
         return Ok(add_all(&mut stage.source, &[line, "\n"])?);
     }
@@ -25,11 +30,11 @@ pub(crate) fn perform(stage: &mut Stage, page: &mut Vec<u8>, line: &str) -> Resu
             *stage = Stage::new(alloc)?;
             Ok(add_all(page, &["== ", rest, "\n"])?)
         }
-        "@run" | "@try" => play(stage, page, verb == "@run", rest),
-        "@each" => each(stage, page, rest),
-        "@stops" => stops(stage, page, rest),
-        "@counts" => counts(stage, page, rest),
-        "@fronts" => fronts(stage, page, rest),
+        "@run" | "@try" => play(program, stage, page, verb == "@run", rest),
+        "@each" => each(program, stage, page, rest),
+        "@stops" => stops(program, stage, page, rest),
+        "@counts" => counts(program, stage, page, rest),
+        "@fronts" => fronts(program, stage, page, rest),
         "@fail" | "@room" => {
             set_faults(stage, verb, rest);
             Ok(())

@@ -1,10 +1,22 @@
 // The stage on which a row is played, and runs of the program's commands on it.
 use crate::row_packs::RowPacks;
 use crate::stops::Watch;
-use hpsim_run::run;
 use mass_outside::mem_streams::{MemSink, MemSource};
 use outside_traits::traits::NoMemory;
 use std::alloc::Global;
+
+/// A program that runs the words of a command over packs, source and sinks, and answers its status.
+pub trait Program {
+    fn run(
+        &self,
+        alloc: Global,
+        words: &[String],
+        source: &mut MemSource,
+        packs: &mut RowPacks,
+        out: &mut MemSink,
+        trace: &mut MemSink,
+    ) -> u8;
+}
 
 /// What can be made to fail.
 #[derive(Clone, Copy, PartialEq, Eq)]
@@ -73,7 +85,7 @@ pub(crate) struct Ran {
 /// What stands for the next steps of a row: packs, source, faults and watched blocks, the answer behind the sync, and what the last
 /// run came to.
 #[derive(Drop)]
-pub(crate) struct Stage {
+pub struct Stage {
     pub(crate) alloc: Global,
     pub(crate) packs: RowPacks,
     pub(crate) source: Vec<u8>,
@@ -85,7 +97,7 @@ pub(crate) struct Stage {
 
 impl Stage {
     /// A stage where nothing stands.
-    pub(crate) fn new(alloc: Global) -> Result<Stage, NoMemory> {
+    pub fn new(alloc: Global) -> Result<Stage, NoMemory> {
         let ran = Ran {
             status: 0,
             out: sink_of(alloc, 0, 0)?,
@@ -138,7 +150,8 @@ fn sink_of(alloc: Global, room: usize, fail: u64) -> Result<MemSink, NoMemory> {
 }
 
 /// Runs the words of a line over packs.
-pub(crate) fn run_line(
+pub(crate) fn run_line<P: Program>(
+    program: &P,
     alloc: Global,
     line: &str,
     source: &[u8],
@@ -150,6 +163,6 @@ pub(crate) fn run_line(
     let mut out = sink_of(alloc, faults.out_room, faults.of(Operation::Out))?;
     let mut trace = sink_of(alloc, faults.trace_room, faults.of(Operation::Trace))?;
     let words = words.as_slice();
-    let status = run(alloc, words, &mut source, packs, &mut out, &mut trace);
+    let status = program.run(alloc, words, &mut source, packs, &mut out, &mut trace);
     Ok(Ran { status, out, trace })
 }
