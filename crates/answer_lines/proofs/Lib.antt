@@ -1,3 +1,5 @@
+pub mod CountLaws
+pub mod SumLaws
 pub mod BlockLaws
 pub mod ClassLaws
 pub mod FillLaws

@@ -1,3 +1,4 @@
+pub mod Counting
 pub mod AnswerText
 pub mod Blocks
 pub mod Classes

@@ -4,7 +4,7 @@ ghost use Rattle.mass_text.specs.BlockText.{hex_byte};
 ghost use Rattle.answer_lines.specs.AnswerText.{block_text};
 
 use crate::blocks::write_digits;
-use text_lines::FrontLine;
+use mass_text::FrontLine;
 
 /// How many bytes the line has at most, with room to spare.
 const END: usize = 32;

@@ -8,9 +8,8 @@ ghost use Rattle.subsystem_spec.specs.Answers.{answer_of};
 
 use crate::words::{class_word, put_answer};
 use fire_code::NoiseClass;
-use mass_text::{Radix, numeral_law};
+use mass_text::{Radix, ShortLine, numeral_law};
 use subsystem_spec::AnswerKind;
-use text_lines::ShortLine;
 
 /// The line of the answer to the request of an id, which came at a line of the script.
 pub fn answer_line(line: u64, id: u32, kind: AnswerKind) -> ShortLine

@@ -3,9 +3,8 @@ ghost use Rattle.subsystem_spec.specs.Answers.{answer_of, error_told};
 ghost use Rattle.answer_lines.specs.AnswerText.{answer_words, class_word, error_words};
 
 use fire_code::NoiseClass;
-use mass_text::{Radix, numeral_law};
+use mass_text::{Radix, ShortLine, numeral_law};
 use subsystem_spec::{AnswerKind, Cause};
-use text_lines::ShortLine;
 
 /// The word of a class of noise.
 pub(crate) fn class_word(class: NoiseClass) -> &'static str

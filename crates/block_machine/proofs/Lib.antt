@@ -21,3 +21,9 @@ pub mod Once
 pub mod Runs
 pub mod LastWrites
 pub mod Refusals
+mod PromisesAsked
+mod Begun
+pub mod Few
+mod Complete
+mod Fronts
+pub mod Quiet

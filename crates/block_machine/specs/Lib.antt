@@ -4,3 +4,6 @@ pub mod LastWrites
 pub mod Stands
 pub mod Laws
 pub mod Refusals
+pub mod Beginnings
+pub mod Completeness
+pub mod Promises

@@ -4,10 +4,10 @@ use Rattle.std.specs.Prelude.{OnErr, OnOk, slice_index}
 use Rattle.std.proofs.lemmas.Bool.Decides.{Decides-eqb, nat_tests}
 use Rattle.pack_model.specs.Pack.{Pack, block_at, is_marked, with_pack, with_written, written}
 use Rattle.pack_model.proofs.PackLaws.{block_at-with_block_same, block_at-with_block_other}
-use Rattle.block_polls.specs.Polls.{IsOldOrNew, Polls, Sides, answer_for}
+use Rattle.block_tests.specs.Polls.{IsOldOrNew, Polls, Sides, answer_for}
 use Rattle.block_tests.specs.Stages.{Fills, Reaches, Stops, between, if_done, one, ranged}
-use Rattle.block_polls.specs.declared.station.Polled.{Polled}
-use Rattle.block_polls.specs.declared.station.Polled.TheVariants.{Clean, Marked}
+use Rattle.block_tests.specs.declared.station.Polled.{Polled}
+use Rattle.block_tests.specs.declared.station.Polled.TheVariants.{Clean, Marked}
 
 -- a proof by the two values of a test
 pub at : {P : Type 0} → (b : Bool) → (b ≡ true → P) → (b ≡ false → P) → P

@@ -2,13 +2,13 @@
 ghost use Rattle.std.specs.Prelude.{◌≡◌, ◌==◌, ◌<◌, ◌≤◌, false, IsTrue, IfErr, OnOk, OnErr, replicate};
 ghost use Rattle.pack_geometry.specs.Geometry.{block_count};
 ghost use Rattle.pack_model.specs.Pack.{block_at, is_marked};
-ghost use Rattle.block_polls.specs.Stations.{IsAtRest};
+ghost use Rattle.block_tests.specs.Stations.{IsAtRest};
 ghost use Rattle.block_tests.specs.Stages.{Fills, IsTested, Reaches, Stops, between, copied, is_copy, one, ranged};
 ghost use Rattle.block_tests.specs.TestFaults.{IsStop, IsTestCaused, Tests, Writes};
 
 use crate::blocks::{all, first_difference};
 use crate::fault::TestFault;
-use block_polls::{Polled, Station};
+use crate::{Polled, Station};
 use outside_traits::traits::Packs;
 use pack_geometry::{DriveKind, copy_block};
 

@@ -7,7 +7,7 @@ use Rattle.trace_replay.specs.Script as script
 use Rattle.trace_replay.specs.Script.{IsThere}
 use Rattle.trace_replay.specs.Text.{trace_text, moment_text}
 use Rattle.trace_replay.specs.Replay.{Replay, IsOver}
-use Rattle.trace_calm.specs.Calm.{IsGood, IsCalm}
+use Rattle.waited_requests.specs.Calm.{IsGood, IsCalm}
 use Rattle.block_machine.specs.Stands.{Setup}
 use Rattle.driver_machine.specs.World.{World, unit_at}
 use Rattle.driver_machine.specs.Acts.{Nothing}
@@ -17,17 +17,17 @@ use Rattle.driver_machine.specs.Sound.{Sound, AtWork}
 use Rattle.driver_machine.specs.Runs.{NoneOutstanding}
 use Rattle.driver_runs.specs.Runs.{Stay}
 use Rattle.driver_trace.specs.Calls.{Stands}
-use Rattle.driver_trace.proofs.Drains.{drain_left, none_outstanding}
+use Rattle.driver_trace.proofs.DrainsLaws.{drain_left, none_outstanding}
 use Rattle.waited_requests.specs.Sessions.{IsSession, behind, behind_all, waited, told_in}
 use Rattle.waited_requests.specs.Rest.{HasTables}
 use Rattle.waited_requests.specs.Waited.{map_of, answer_in, with_packs, IsAskable, IsWaitedFor, IsAnswered, AreLeftBy}
-use Rattle.waited_requests.proofs.Waited.{waited_is_answered, all_rest_again, packs_hold_map}
-use Rattle.quiet_driver.specs.Quiet.{IsQuiet, kind_if, setup_of, rested, StandsQuiet}
-use Rattle.quiet_driver.specs.Calls.{IsOpen, GoesTo}
-use Rattle.quiet_driver.proofs.Rests.{quiet_rests}
-use Rattle.quiet_driver.proofs.Calls.{drains_are_over, drains_find_nothing}
-use Rattle.quiet_driver.proofs.Again.{quiet_again}
-use Rattle.quiet_driver.proofs.Counting.{Waits}
+use Rattle.waited_requests.proofs.WaitedLaws.{waited_is_answered, all_rest_again, packs_hold_map}
+use Rattle.hp_driver.specs.Passes.{IsQuiet, kind_if, setup_of, rested, StandsQuiet}
+use Rattle.hp_driver.specs.Passes.{IsOpen, GoesTo}
+use Rattle.hp_driver.proofs.Passes.{quiet_rests}
+use Rattle.hp_driver.proofs.Passes.{drains_are_over, drains_find_nothing}
+use Rattle.hp_driver.proofs.Passes.{quiet_again}
+use Rattle.hp_driver.proofs.Passes.{Waits}
 use Rattle.blocking_io.specs.Given.{Given, gives_all, reached_by, bytes_by}
 use Rattle.blocking_io.specs.Calls.{Stage}
 use Rattle.blocking_io.specs.Asking.{Answers}

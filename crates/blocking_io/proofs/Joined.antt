@@ -8,17 +8,17 @@ use Rattle.trace_replay.specs.Moments.{Moment}
 use Rattle.trace_replay.specs.Text.{trace_text, moment_text}
 use Rattle.trace_replay.specs.Packs.{Surface}
 use Rattle.trace_replay.specs.Replay.{Replay, AreLeft}
-use Rattle.run_promises.specs.Beginnings.{with_next}
+use Rattle.block_machine.specs.Beginnings.{with_next}
 use Rattle.block_machine.specs.Stands.{Setup}
-use Rattle.driver_outcome.specs.Outcome.{IsFront}
-use Rattle.driver_outcome.specs.declared.Stop.{Stop}
-use Rattle.driver_outcome.specs.declared.Stop.TheVariants.{Store, Sink}
-use Rattle.driver_outcome.proofs.Joined.{front_more, front_of_front}
+use Rattle.driver_answers.specs.Outcome.{IsFront}
+use Rattle.driver_answers.specs.declared.outcome.Stop.{Stop}
+use Rattle.driver_answers.specs.declared.outcome.Stop.TheVariants.{Store, Sink}
+use Rattle.driver_answers.proofs.Joined.{front_more, front_of_front}
 use Rattle.driver_runs.specs.Runs.{Stay}
 use Rattle.driver_runs.specs.NextBlock.{HasNext}
 use Rattle.waited_requests.specs.Sessions.{Part, IsSession, behind, behind_all, waited, told_in}
 use Rattle.waited_requests.specs.Waited.{with_packs}
-use Rattle.quiet_driver.specs.Quiet.{StandsQuiet}
+use Rattle.hp_driver.specs.Passes.{StandsQuiet}
 use Rattle.blocking_io.specs.Calls.{Stage}
 use Rattle.blocking_io.specs.Asking.{setup_at}
 use Rattle.blocking_io.specs.Stopping.{Took, LeftAt, IsCut, begun}

@@ -1,5 +1,5 @@
 -- What is passed on of the crates below, so that those above stand on this one.
-pub use Rattle.quiet_driver.proofs.Calls.{played_consistent}
-pub use Rattle.quiet_driver.proofs.New.{new_is_quiet}
-pub use Rattle.quiet_driver.proofs.Rests.{quiet_rests}
-pub use Rattle.run_promises.proofs.Few.{done_few}
+pub use Rattle.hp_driver.proofs.Passes.{played_consistent}
+pub use Rattle.hp_driver.proofs.Passes.{new_is_quiet}
+pub use Rattle.hp_driver.proofs.Passes.{quiet_rests}
+pub use Rattle.block_machine.proofs.Few.{done_few}

@@ -12,22 +12,22 @@ use Rattle.trace_replay.specs.Script.{Input}
 use Rattle.trace_replay.specs.Text.{trace_text, moment_text}
 use Rattle.trace_replay.specs.Events.{Event, is_no_line}
 use Rattle.trace_replay.specs.Replay.{Replay, next_wish, act_drained, drained, are_at_work, WorkMay, AreLeft, after_moment, after_moments}
-use Rattle.run_promises.specs.Beginnings.{QuietMomentsKeep}
+use Rattle.block_machine.specs.Beginnings.{QuietMomentsKeep}
 use Rattle.driver_machine.specs.World.{World}
 use Rattle.driver_machine.specs.Acts.{Act, Nothing, Tried, after_all}
 use Rattle.driver_machine.specs.Lines.{lines_of_all}
 use Rattle.driver_machine.specs.Events.{submit_acts, event_acts, next_event}
 use Rattle.driver_machine.specs.Sound.{Sound, AtWork}
 use Rattle.driver_machine.specs.Runs.{Works, MayCome}
-use Rattle.driver_work.proofs.Calls.{event_works}
+use Rattle.driver_invariant.proofs.Calls.{event_works}
 use Rattle.driver_invariant.proofs.Sound.{sound_after}
-use Rattle.driver_outcome.specs.Packs.{packs_after_all}
-use Rattle.driver_outcome.specs.Outcome.{IsFront}
-use Rattle.driver_outcome.specs.declared.Stop.{Stop}
-use Rattle.driver_outcome.specs.declared.Stop.TheVariants.{Store, Sink}
-use Rattle.driver_outcome.proofs.Joined.{front_of_front}
+use Rattle.driver_answers.specs.Packs.{packs_after_all}
+use Rattle.driver_answers.specs.Outcome.{IsFront}
+use Rattle.driver_answers.specs.declared.outcome.Stop.{Stop}
+use Rattle.driver_answers.specs.declared.outcome.Stop.TheVariants.{Store, Sink}
+use Rattle.driver_answers.proofs.Joined.{front_of_front}
 use Rattle.driver_trace.specs.Calls.{Ends, IsSurfaceOf}
-use Rattle.driver_trace.proofs.Drains.{GoesOn, drain_begins, drain_goes_on, drain_between}
+use Rattle.driver_trace.proofs.DrainsLaws.{GoesOn, drain_begins, drain_goes_on, drain_between}
 use Rattle.driver_trace.proofs.Inputted.{lines_play_nothing}
 use Rattle.hp_driver.proofs.Passes.{event_fronts}
 use Rattle.driver_runs.specs.Runs.{Stay}
@@ -35,9 +35,9 @@ use Rattle.driver_runs.specs.NextBlock.{NextBlocksShow}
 use Rattle.driver_runs.proofs.Sectors.{submission_quiet}
 use Rattle.waited_requests.specs.Sessions.{MayPlay, IsPart, behind, behind_all, told_in, waited}
 use Rattle.waited_requests.specs.Waited.{with_packs}
-use Rattle.quiet_driver.specs.Quiet.{setup_of, StandsQuiet}
-use Rattle.quiet_driver.specs.Calls.{GoesTo, DrainsFrom}
-use Rattle.quiet_driver.proofs.Calls.{quiet_opens, quiet_submits, drains_begin, drains_continue, drains_find_nothing}
+use Rattle.hp_driver.specs.Passes.{setup_of, StandsQuiet}
+use Rattle.hp_driver.specs.Passes.{GoesTo, DrainsFrom}
+use Rattle.hp_driver.proofs.Passes.{quiet_opens, quiet_submits, drains_begin, drains_continue, drains_find_nothing}
 use Rattle.blocking_io.specs.Given.{Given}
 use Rattle.blocking_io.specs.Calls.{Stage, SubmissionStops, EventStops}
 use Rattle.blocking_io.specs.Asking.{setup_at}

@@ -8,17 +8,17 @@ use Rattle.trace_replay.specs.Moments.{Moment}
 use Rattle.trace_replay.specs.Script as says
 use Rattle.trace_replay.specs.Script.{Input}
 use Rattle.trace_replay.specs.Replay.{Replay, Follows, AreLeft, after_moments}
-use Rattle.run_promises.specs.Beginnings.{QuietMomentsKeep}
+use Rattle.block_machine.specs.Beginnings.{QuietMomentsKeep}
 use Rattle.driver_machine.specs.World.{World, unit_of, adapter_at}
 use Rattle.driver_machine.specs.Acts.{Act, Nothing, Tried, Sector}
 use Rattle.driver_machine.specs.Lines.{lines_of_all}
 use Rattle.driver_machine.specs.Events.{event_acts, can_move, in_hand, or_nothing}
 use Rattle.driver_machine.specs.Sound.{Sound}
 use Rattle.driver_machine.specs.Runs.{Run, MayCome}
-use Rattle.driver_work.proofs.Deeds.{deed_at}
-use Rattle.driver_outcome.specs.Packs.{ReadAll, packs_after_all}
-use Rattle.driver_outcome.specs.Outcome.{IsNextBlock}
-use Rattle.driver_outcome.specs.declared.Stop.TheVariants.{Store}
+use Rattle.driver_invariant.proofs.Deeds.{deed_at}
+use Rattle.driver_answers.specs.Packs.{ReadAll, packs_after_all}
+use Rattle.driver_answers.specs.Outcome.{IsNextBlock}
+use Rattle.driver_answers.specs.declared.outcome.Stop.TheVariants.{Store}
 use Rattle.driver_trace.specs.Calls.{IsReadOf}
 use Rattle.driver_trace.specs.Noises.{AllFlip}
 use Rattle.driver_trace.specs.Within.{ShowsAll}

@@ -18,21 +18,21 @@ use Rattle.driver_machine.specs.Events.{submit_acts, event_acts, next_event}
 use Rattle.driver_machine.specs.Guards.{IsSetUp}
 use Rattle.driver_machine.specs.Sound.{Sound, AtWork}
 use Rattle.driver_machine.specs.Runs.{Run}
-use Rattle.driver_outcome.specs.Packs.{packs_after_all}
-use Rattle.driver_counts.proofs.Units.{setups_stay}
+use Rattle.driver_answers.specs.Packs.{packs_after_all}
+use Rattle.driver_answers.proofs.Units.{setups_stay}
 use Rattle.driver_answers.proofs.Waiting.{events_alone, submissions_alone}
 use Rattle.driver_runs.specs.Runs.{AreDeclared, Stay}
-use Rattle.driver_runs.proofs.Runs.{runs_keep}
+use Rattle.driver_runs.proofs.RunsLaws.{runs_keep}
 use Rattle.driver_trace.proofs.Inputted.{lines_play_nothing}
 use Rattle.waited_requests.specs.Sessions.{Part, MayPlay, IsPart, behind}
 use Rattle.waited_requests.specs.Waited.{with_packs}
-use Rattle.waited_requests.proofs.Waited.{answers_append}
-use Rattle.quiet_driver.specs.Quiet.{IsQuiet, kind_if, setup_of, StandsQuiet}
-use Rattle.quiet_driver.specs.Calls.{IsOpen, GoesTo, DrainsFrom}
-use Rattle.quiet_driver.proofs.Calls.{quiet_opens, quiet_submits, drains_begin, drains_continue, takings_open, takings_drain}
-use Rattle.quiet_driver.proofs.Setups.{setup_stays}
-use Rattle.quiet_driver.proofs.Counting.{Waits, Drains, Fewer, first_fewer, later_fewer, waits_taken, drains_taken}
-use Rattle.quiet_driver.proofs.Starting.{submitted_waits}
+use Rattle.waited_requests.proofs.WaitedLaws.{answers_append}
+use Rattle.hp_driver.specs.Passes.{IsQuiet, kind_if, setup_of, StandsQuiet}
+use Rattle.hp_driver.specs.Passes.{IsOpen, GoesTo, DrainsFrom}
+use Rattle.hp_driver.proofs.Passes.{quiet_opens, quiet_submits, drains_begin, drains_continue, takings_open, takings_drain}
+use Rattle.hp_driver.proofs.Passes.{setup_stays}
+use Rattle.hp_driver.proofs.Passes.{Waits, Drains, Fewer, first_fewer, later_fewer, waits_taken, drains_taken}
+use Rattle.hp_driver.proofs.Passes.{submitted_waits}
 use Rattle.blocking_io.specs.Given.{Given, gives, gives_all}
 use Rattle.driver_answers.specs.Waiting.{takings, all_taken}
 use Rattle.blocking_io.specs.Calls.{Stage, GivesSubmission, GivesEvent}

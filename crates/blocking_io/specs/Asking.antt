@@ -12,7 +12,7 @@ use Rattle.driver_runs.specs.Runs.{Stay}
 use Rattle.waited_requests.specs.Sessions.{IsSession, behind_all, waited}
 use Rattle.waited_requests.specs.Rest.{HasTables}
 use Rattle.waited_requests.specs.Waited.{map_of, answer_in, map_behind, with_packs}
-use Rattle.quiet_driver.specs.Quiet.{IsQuiet, setup_of, StandsQuiet}
+use Rattle.hp_driver.specs.Passes.{IsQuiet, setup_of, StandsQuiet}
 use Rattle.subsystem_spec.specs.declared.request.Request.{Request}
 use Rattle.hp_driver.specs.Subsystem.{State, asked}
 use Rattle.blocking_io.specs.Given.{reached_by, bytes_by}

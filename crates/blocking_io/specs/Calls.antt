@@ -12,10 +12,10 @@ use Rattle.driver_machine.specs.Lines.{lines_of_all}
 use Rattle.driver_machine.specs.Events.{refusal_of, submit_acts, event_acts}
 use Rattle.driver_machine.specs.Guards.{IsHeldFor}
 use Rattle.driver_machine.specs.Runs.{Run, MaySubmit, MayCome}
-use Rattle.driver_outcome.specs.Packs.{ReadAll, packs_after_all}
-use Rattle.driver_outcome.specs.Outcome.{IsFront, IsNextBlock}
-use Rattle.driver_outcome.specs.declared.Stop.{Stop}
-use Rattle.driver_outcome.specs.declared.Stop.TheVariants.{Store, Sink}
+use Rattle.driver_answers.specs.Packs.{ReadAll, packs_after_all}
+use Rattle.driver_answers.specs.Outcome.{IsFront, IsNextBlock}
+use Rattle.driver_answers.specs.declared.outcome.Stop.{Stop}
+use Rattle.driver_answers.specs.declared.outcome.Stop.TheVariants.{Store, Sink}
 use Rattle.driver_answers.specs.Waiting.{waiting, all_taken}
 use Rattle.driver_trace.specs.Calls.{IsReadOf}
 use Rattle.driver_trace.specs.Noises.{AllFlip}

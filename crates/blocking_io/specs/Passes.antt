@@ -2,5 +2,5 @@
 pub use Rattle.driver_runs.specs.Runs.{Stay}
 pub use Rattle.hp_driver.specs.Passes.{HasCauses}
 pub use Rattle.hp_driver.specs.Subsystem.{State, asked}
-pub use Rattle.quiet_driver.specs.Quiet.{IsQuiet, StandsQuiet, kind_if, rested, setup_of, table_if}
-pub use Rattle.run_promises.specs.Beginnings.{IsNextSector, with_next}
+pub use Rattle.hp_driver.specs.Passes.{IsQuiet, StandsQuiet, kind_if, rested, setup_of, table_if}
+pub use Rattle.block_machine.specs.Beginnings.{IsNextSector, with_next}

@@ -8,13 +8,13 @@ use Rattle.trace_replay.specs.Moments.{Moment}
 use Rattle.trace_replay.specs.Script.{Submit}
 use Rattle.trace_replay.specs.Text.{trace_text}
 use Rattle.trace_replay.specs.Replay.{Replay, AreLeft}
-use Rattle.driver_outcome.specs.Outcome.{IsFront}
-use Rattle.driver_outcome.specs.declared.Stop.{Stop}
-use Rattle.driver_outcome.specs.declared.Stop.TheVariants.{Store, Sink}
+use Rattle.driver_answers.specs.Outcome.{IsFront}
+use Rattle.driver_answers.specs.declared.outcome.Stop.{Stop}
+use Rattle.driver_answers.specs.declared.outcome.Stop.TheVariants.{Store, Sink}
 use Rattle.driver_runs.specs.NextBlock.{HasNext}
 use Rattle.waited_requests.specs.Sessions.{Part, IsSession, behind_all, waited, told_in}
 use Rattle.waited_requests.specs.Rest.{HasTables}
-use Rattle.quiet_driver.specs.Quiet.{StandsQuiet}
+use Rattle.hp_driver.specs.Passes.{StandsQuiet}
 use Rattle.blocking_io.specs.Calls.{Stage}
 use Rattle.blocking_io.specs.Asking.{setup_at}
 

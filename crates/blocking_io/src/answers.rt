@@ -5,11 +5,11 @@ ghost use Rattle.driver_machine.specs.World.{bytes_in};
 ghost use Rattle.driver_machine.specs.Lines.{answer_told};
 ghost use Rattle.driver_answers.specs.Waiting.{waiting, all_taken};
 ghost use Rattle.blocking_io.specs.Given.{bytes_by, gives_all};
-ghost use Rattle.partition_bytes.specs.Laid.{laid, laid_at};
+ghost use Rattle.waited_requests.specs.Laid.{laid, laid_at};
 ghost use Rattle.blocking_io.specs.Taking.{oldest_blocks, IsOldestKind, HasBlock};
 
 use crate::reached::{Reached, reached_by};
-use driver_answers::taken_law;
+use driver_answers::answers::taken_law;
 use hp_driver::{AnswerKind, Subsystem};
 
 /// Lays bytes over others, as far as there is room.

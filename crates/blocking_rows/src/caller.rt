@@ -13,7 +13,7 @@ use mba_autoconf::attach;
 use outside_traits::traits::{Packs, Sink};
 use pack_geometry::DriveKind;
 use partitions::Part;
-use quiet_driver::rests_law;
+use quiet_driver::quiet::rests_law;
 use raw_io::{RawFault, raw_read, raw_write};
 use std::alloc::Global;
 

@@ -1,3 +1,6 @@
+mod Maps
+pub mod Joins
+mod Exits
 mod Orders
 mod Stays
 mod Turns

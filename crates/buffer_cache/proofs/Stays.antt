@@ -7,23 +7,23 @@ use Rattle.driver_machine.specs.World.{World}
 use Rattle.driver_machine.specs.Guards.{IsSetUp}
 use Rattle.waited_requests.specs.Rest.{HasTables}
 use Rattle.waited_requests.specs.Waited.{map_of, with_packs}
-use Rattle.single_blocks.specs.Passes.{Stage}
-use Rattle.single_blocks.specs.Passes.{setup_at}
-use Rattle.single_blocks.specs.Passes.{StillTell, SessionsJoin}
-use Rattle.single_blocks.specs.Passes.{map_at, left_map, IsUntouched}
-use Rattle.single_blocks.proofs.Passes.{others_over, left_over}
-use Rattle.single_blocks.proofs.Passes.{kind_stays}
+use Rattle.buffer_cache.specs.Passes.{Stage}
+use Rattle.buffer_cache.specs.Passes.{setup_at}
+use Rattle.buffer_cache.specs.Passes.{StillTell, SessionsJoin}
+use Rattle.buffer_cache.specs.Passes.{map_at, left_map, IsUntouched}
+use Rattle.buffer_cache.proofs.Passes.{others_over, left_over}
+use Rattle.buffer_cache.proofs.Passes.{kind_stays}
 use Rattle.subsystem_spec.specs.Requests.{Request}
-use Rattle.cached_blocks.specs.declared.Entry.{Entry}
-use Rattle.cached_blocks.specs.Requests.{Map, reads, behind_one, behind}
-use Rattle.cached_blocks.specs.Entries.{State, is_of, entry_of, IsCache, in_front, rewritten, unchanged, last_unchanged, written_last, to_write_back, with_room, put, write_backs}
-use Rattle.cached_blocks.specs.Calls.{entry, read_done, write_done}
-use Rattle.cached_blocks.proofs.Lookups.{none_misses, misses_none, found_all, others_all}
-use Rattle.cached_blocks.specs.Contents.{AllFit, Gives, Takes, IsOne, AreOne}
-use Rattle.cached_blocks.specs.Laws.{IsFoundIn, ReadKeeps, WriteKeeps}
-use Rattle.cached_blocks.proofs.Requested.{read_same}
-use Rattle.single_blocks.specs.Asks.{IsData, Asks, Fetches, LeftBy}
-use Rattle.single_blocks.proofs.Joins.{asks_join}
+use Rattle.waited_requests.specs.declared.cached.Entry.{Entry}
+use Rattle.waited_requests.specs.Requests.{Map, reads, behind_one, behind}
+use Rattle.waited_requests.specs.Entries.{State, is_of, entry_of, IsCache, in_front, rewritten, unchanged, last_unchanged, written_last, to_write_back, with_room, put, write_backs}
+use Rattle.waited_requests.specs.Calls.{entry, read_done, write_done}
+use Rattle.waited_requests.proofs.Lookups.{none_misses, misses_none, found_all, others_all}
+use Rattle.waited_requests.specs.Contents.{AllFit, Gives, Takes, IsOne, AreOne}
+use Rattle.waited_requests.specs.CachedLaws.{IsFoundIn, ReadKeeps, WriteKeeps}
+use Rattle.waited_requests.proofs.Requested.{read_same}
+use Rattle.buffer_cache.specs.Asks.{IsData, Asks, Fetches, LeftBy}
+use Rattle.buffer_cache.proofs.Joins.{asks_join}
 use Rattle.buffer_cache.specs.Calls.{IfTold, Fetched, Reads, Writes, Holds}
 
 -- an entry that a block has

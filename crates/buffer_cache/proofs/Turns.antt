@@ -6,19 +6,19 @@ use Rattle.std.proofs.lemmas.List.{length-set, map-append}
 use Rattle.lru.specs.LruCache.{LruCache}
 use Rattle.driver_machine.specs.World.{World}
 use Rattle.waited_requests.specs.Rest.{HasTables}
-use Rattle.single_blocks.specs.Passes.{Stage}
-use Rattle.single_blocks.specs.Passes.{setup_at}
-use Rattle.single_blocks.specs.Passes.{StillTell, SessionsJoin}
-use Rattle.single_blocks.specs.Passes.{map_at}
-use Rattle.cached_blocks.specs.declared.Entry.{Entry}
-use Rattle.cached_blocks.specs.Requests.{writes}
-use Rattle.cached_blocks.specs.Contents.{Flushes}
-use Rattle.cached_blocks.specs.Laws.{SyncWrites}
-use Rattle.cached_blocks.specs.Entries.{State, AreApart, IsCache, if_changed, unchanged, write_backs, written_back}
-use Rattle.cached_blocks.proofs.Lookups.{all_parts}
-use Rattle.cached_blocks.proofs.Ones.{IsFound, each_found, back_one, backs_one, none_one}
-use Rattle.single_blocks.specs.Asks.{IsData, Asks, LeftBy}
-use Rattle.single_blocks.proofs.Joins.{asks_join}
+use Rattle.buffer_cache.specs.Passes.{Stage}
+use Rattle.buffer_cache.specs.Passes.{setup_at}
+use Rattle.buffer_cache.specs.Passes.{StillTell, SessionsJoin}
+use Rattle.buffer_cache.specs.Passes.{map_at}
+use Rattle.waited_requests.specs.declared.cached.Entry.{Entry}
+use Rattle.waited_requests.specs.Requests.{writes}
+use Rattle.waited_requests.specs.Contents.{Flushes}
+use Rattle.waited_requests.specs.CachedLaws.{SyncWrites}
+use Rattle.waited_requests.specs.Entries.{State, AreApart, IsCache, if_changed, unchanged, write_backs, written_back}
+use Rattle.waited_requests.proofs.Lookups.{all_parts}
+use Rattle.waited_requests.proofs.Ones.{IsFound, each_found, back_one, backs_one, none_one}
+use Rattle.buffer_cache.specs.Asks.{IsData, Asks, LeftBy}
+use Rattle.buffer_cache.proofs.Joins.{asks_join}
 use Rattle.buffer_cache.specs.declared.entry.Key.{Key}
 use Rattle.buffer_cache.specs.declared.entry.Held.{Held}
 use Rattle.buffer_cache.specs.Views.{nothing, entry_at, entries_of, state_of, Misses, AreSlots, IsKept}

@@ -1,24 +1,24 @@
 -- What a read or a write of a block comes to that is no entry, and of one that is.
 use Rattle.std.proofs.Common.{◌≡◌, ℕ, Bool, true, false, IsTrue, List, [], ◌∷◌, Option, None, Some, sym, ap, ◌∙◌, subst}
 use Rattle.std.specs.Prelude.{if◌then◌else◌, Result, Ok, Err, IsErrAnd}
-use Rattle.driver_outcome.specs.declared.Stop.{Stop}
-use Rattle.single_blocks.specs.Passes.{State as Driver}
-use Rattle.single_blocks.specs.Passes.{Keeps}
+use Rattle.driver_answers.specs.declared.outcome.Stop.{Stop}
+use Rattle.buffer_cache.specs.Passes.{State as Driver}
+use Rattle.buffer_cache.specs.Passes.{Keeps}
 use Rattle.waited_requests.specs.Rest.{HasTables}
-use Rattle.single_blocks.specs.Passes.{Stage}
-use Rattle.single_blocks.specs.Passes.{setup_at}
-use Rattle.single_blocks.specs.Passes.{StillTell, SessionsJoin}
-use Rattle.single_blocks.specs.Passes.{map_at}
-use Rattle.cached_blocks.specs.declared.Entry.{Entry}
-use Rattle.cached_blocks.specs.Requests.{Map, reads, writes, behind}
-use Rattle.cached_blocks.specs.Entries.{State, IsCache, entry_of, in_front, rewritten, fronted, changed_in_front, to_write_back, put, write_backs}
-use Rattle.cached_blocks.specs.Calls.{Done, entry, read_by, read_done, write_by, write_done}
-use Rattle.cached_blocks.specs.Contents.{AreOne}
-use Rattle.cached_blocks.specs.Laws.{ReadKeeps, WriteKeeps, ReadLeavesOne, WriteLeavesOne}
-use Rattle.cached_blocks.proofs.Ones.{each_found, none_one, last_one, own_one}
-use Rattle.cached_blocks.proofs.Requested.{read_same}
-use Rattle.single_blocks.specs.Asks.{Asks, LeftBy}
-use Rattle.single_blocks.proofs.Joins.{asks_none, asks_join}
+use Rattle.buffer_cache.specs.Passes.{Stage}
+use Rattle.buffer_cache.specs.Passes.{setup_at}
+use Rattle.buffer_cache.specs.Passes.{StillTell, SessionsJoin}
+use Rattle.buffer_cache.specs.Passes.{map_at}
+use Rattle.waited_requests.specs.declared.cached.Entry.{Entry}
+use Rattle.waited_requests.specs.Requests.{Map, reads, writes, behind}
+use Rattle.waited_requests.specs.Entries.{State, IsCache, entry_of, in_front, rewritten, fronted, changed_in_front, to_write_back, put, write_backs}
+use Rattle.waited_requests.specs.Calls.{Done, entry, read_by, read_done, write_by, write_done}
+use Rattle.waited_requests.specs.Contents.{AreOne}
+use Rattle.waited_requests.specs.CachedLaws.{ReadKeeps, WriteKeeps, ReadLeavesOne, WriteLeavesOne}
+use Rattle.waited_requests.proofs.Ones.{each_found, none_one, last_one, own_one}
+use Rattle.waited_requests.proofs.Requested.{read_same}
+use Rattle.buffer_cache.specs.Asks.{Asks, LeftBy}
+use Rattle.buffer_cache.proofs.Joins.{asks_none, asks_join}
 use Rattle.buffer_cache.specs.declared.fault.CacheFault.{CacheFault}
 use Rattle.buffer_cache.specs.declared.fault.CacheFault.TheVariants as fault
 use Rattle.buffer_cache.specs.Calls.{IfTold, Fetched, Placed, Reads, Writes, Holds, stop_of}

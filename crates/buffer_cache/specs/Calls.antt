@@ -1,19 +1,19 @@
 -- WHAT THE CALLS OF THE CACHE COME TO, over the driver and the packs.
 use Rattle.std.specs.Prelude.{◌≡◌, ℕ, ◌≤◌, Bool, true, false, if◌then◌else◌, IsTrue, List, [], ◌∷◌, Option, None, Some, Result, Ok, Err}
 use Rattle.std.specs.List.{AllByRecursion}
-use Rattle.driver_outcome.specs.declared.Stop.{Stop}
+use Rattle.driver_answers.specs.declared.outcome.Stop.{Stop}
 use Rattle.waited_requests.specs.Rest.{HasTables}
-use Rattle.single_blocks.specs.Passes.{Stage}
-use Rattle.single_blocks.specs.Passes.{setup_at, IsReady}
-use Rattle.single_blocks.specs.Passes.{State as Driver}
-use Rattle.single_blocks.specs.Passes.{OthersStay}
-use Rattle.single_blocks.specs.Passes.{map_at, left_map}
-use Rattle.cached_blocks.specs.declared.Entry.{Entry}
-use Rattle.cached_blocks.specs.Entries.{State, to_write_back, with_room, write_backs, put, flushed, written_back}
-use Rattle.cached_blocks.specs.Requests.{reads, writes}
-use Rattle.cached_blocks.specs.Calls.{entry, read_done, write_done}
-use Rattle.cached_blocks.specs.Contents.{AllFit, Gives, Takes, Flushes, IsOne}
-use Rattle.single_blocks.specs.Asks.{IsData, Asks, found_bytes}
+use Rattle.buffer_cache.specs.Passes.{Stage}
+use Rattle.buffer_cache.specs.Passes.{setup_at, IsReady}
+use Rattle.buffer_cache.specs.Passes.{State as Driver}
+use Rattle.buffer_cache.specs.Passes.{OthersStay}
+use Rattle.buffer_cache.specs.Passes.{map_at, left_map}
+use Rattle.waited_requests.specs.declared.cached.Entry.{Entry}
+use Rattle.waited_requests.specs.Entries.{State, to_write_back, with_room, write_backs, put, flushed, written_back}
+use Rattle.waited_requests.specs.Requests.{reads, writes}
+use Rattle.waited_requests.specs.Calls.{entry, read_done, write_done}
+use Rattle.waited_requests.specs.Contents.{AllFit, Gives, Takes, Flushes, IsOne}
+use Rattle.buffer_cache.specs.Asks.{IsData, Asks, found_bytes}
 use Rattle.buffer_cache.specs.declared.fault.CacheFault.{CacheFault}
 use Rattle.buffer_cache.specs.declared.fault.CacheFault.TheVariants as fault
 

@@ -1,3 +1,4 @@
+pub mod Asks
 pub mod Views
 pub mod Calls
 pub mod Passes

@@ -1,15 +1,15 @@
 // A block is read or written through the cache.
 ghost use Rattle.std.specs.Prelude.{◌≡◌, ◌≤◌, IsSome, None, Some};
-ghost use Rattle.cached_blocks.specs.Entries.{entry_of};
-ghost use Rattle.single_blocks.specs.Passes.{site, Keeps};
-ghost use Rattle.single_blocks.specs.Asks.{IsData};
+ghost use Rattle.waited_requests.specs.Entries.{entry_of};
+ghost use Rattle.buffer_cache.specs.Passes.{site, Keeps};
+ghost use Rattle.buffer_cache.specs.Asks.{IsData};
 ghost use Rattle.buffer_cache.specs.Calls.{MayUse, Holds, IfTold, Reads, Writes, stop_of, given_by, is_done};
 
+use crate::Subsystem;
 use crate::fault::CacheFault;
 use crate::slots::Cache;
-use cached_blocks::cache_law;
 use outside_traits::traits::{Packs, Sink};
-use single_blocks::Subsystem;
+use waited_requests::cached::cache_law;
 
 impl Cache {
     /// Reads a data block of a unit through the cache, at a line from 1 on. A block that is an entry comes to the front, and nothing else is

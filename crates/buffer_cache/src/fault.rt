@@ -1,5 +1,5 @@
 // Why a block was not read or written through the cache.
-use single_blocks::Stop;
+use crate::Stop;
 use thiserror::Error;
 
 /// Why a block was not read or written through the cache.

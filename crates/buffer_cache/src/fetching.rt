@@ -1,16 +1,16 @@
 // A block that is no entry is read, and room is made for it.
 ghost use Rattle.std.specs.Prelude.{◌≡◌, ◌≤◌, ◌∷◌, Some, None, IfOk, IfErr, OnOk, OnErr};
-ghost use Rattle.driver_outcome.specs.Outcome.{stop_in};
-ghost use Rattle.cached_blocks.specs.Entries.{with_room, to_write_back, write_backs, entry_of};
-ghost use Rattle.cached_blocks.specs.Requests.{reads};
-ghost use Rattle.single_blocks.specs.Passes.{site, Keeps};
-ghost use Rattle.single_blocks.specs.Asks.{IsData, Asks};
+ghost use Rattle.driver_answers.specs.Outcome.{stop_in};
+ghost use Rattle.waited_requests.specs.Entries.{with_room, to_write_back, write_backs, entry_of};
+ghost use Rattle.waited_requests.specs.Requests.{reads};
+ghost use Rattle.buffer_cache.specs.Passes.{site, Keeps};
+ghost use Rattle.buffer_cache.specs.Asks.{IsData, Asks};
 ghost use Rattle.buffer_cache.specs.Calls.{MayUse, Holds, IfTold, Fetched, stop_of};
 
 use crate::fault::CacheFault;
 use crate::slots::Cache;
+use crate::{Stop, Subsystem, fetch_block, sessions_law, store_block};
 use outside_traits::traits::{Packs, Sink};
-use single_blocks::{Stop, Subsystem, fetch_block, sessions_law, store_block};
 
 impl Cache {
     /// Writes the last entry of a full cache back, where it was changed.

@@ -6,8 +6,15 @@
 //! first. `Unusable` comes exactly where the block can't be used. After any answer the packs hold for each block what they held, what was
 //! cached, or what was to be written (`Holds`). What the packs hold is said where they tell it, and the driver's tables are
 //! theirs. Only tested: that an insertion comes into the cache where memory is there.
+//!
+//! Single data blocks of a unit, each read or written by a request of its own that is waited for.
+//!
+//! What is proved: `fetch_block` makes one read and gives the block's bytes where it can be used (`Fetches`); `store_block` makes one write
+//! (`Asks`). Where the trace or the packs fail, the packs hold what they held, or what the request leaves (`LeftBy`). What the packs
+//! hold is said where they tell it, and the driver's tables are theirs. Nothing here is only tested.
 #![tactic(auto)]
 
+mod blocks;
 mod cache;
 mod entry;
 mod fault;
@@ -16,8 +23,9 @@ mod placing;
 mod slots;
 mod syncing;
 
+pub use blocks::{fetch_block, store_block};
 #[doc(hidden)]
 pub use entry::{Held, Key};
 pub use fault::CacheFault;
-pub use single_blocks::Subsystem;
+pub use request_fronts::{Stop, Subsystem, sessions_law};
 pub use slots::Cache;

@@ -1,19 +1,19 @@
 // A block that is no entry is read or written.
 ghost use Rattle.std.specs.Prelude.{◌≡◌, ◌≤◌, IsTrue, None, Some, OnOk, OnErr};
-ghost use Rattle.driver_outcome.specs.Outcome.{stop_in};
+ghost use Rattle.driver_answers.specs.Outcome.{stop_in};
 ghost use Rattle.waited_requests.specs.Rest.{HasTables};
-ghost use Rattle.single_blocks.specs.Passes.{setup_at};
-ghost use Rattle.cached_blocks.specs.Entries.{entry_of};
-ghost use Rattle.cached_blocks.specs.Requests.{writes};
-ghost use Rattle.single_blocks.specs.Passes.{site, Keeps};
-ghost use Rattle.single_blocks.specs.Asks.{IsData, LeftBy};
+ghost use Rattle.buffer_cache.specs.Passes.{setup_at};
+ghost use Rattle.waited_requests.specs.Entries.{entry_of};
+ghost use Rattle.waited_requests.specs.Requests.{writes};
+ghost use Rattle.buffer_cache.specs.Passes.{site, Keeps};
+ghost use Rattle.buffer_cache.specs.Asks.{IsData, LeftBy};
 ghost use Rattle.buffer_cache.specs.Calls.{MayUse, Holds, IfTold, Placed, Reads, Writes, stop_of, given_by, is_done};
 
 use crate::fault::CacheFault;
 use crate::slots::Cache;
-use cached_blocks::cache_law;
+use crate::{Stop, Subsystem, sessions_law, store_block};
 use outside_traits::traits::{Packs, Sink};
-use single_blocks::{Stop, Subsystem, sessions_law, store_block};
+use waited_requests::cached::cache_law;
 
 impl Cache {
     /// Reads a block that is no entry, and puts it in front where it can be used.

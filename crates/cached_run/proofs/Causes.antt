@@ -3,11 +3,11 @@ use Rattle.std.proofs.Common.{◌≡◌, inl, inr, ℕ, ◌≤◌, refl, sym, su
 use Rattle.std.specs.Prelude.{Result, Ok, Err, Bool, IfErr, OnOk, OnErr}
 use Rattle.std.specs.Result.{IsErrAnd}
 use Rattle.outside_traits.specs.Causes.{Rose}
-use Rattle.mass_gather.proofs.GatherLaws.{rose_more}
+use Rattle.outside_traits.proofs.GatherLaws.{rose_more}
 use Rattle.pack_model.specs.Pack.{Pack}
 use Rattle.trace_replay.specs.Script.{Script}
-use Rattle.driver_outcome.specs.declared.Stop.{Stop}
-use Rattle.driver_outcome.specs.declared.Stop.TheVariants as stop
+use Rattle.driver_answers.specs.declared.outcome.Stop.{Stop}
+use Rattle.driver_answers.specs.declared.outcome.Stop.TheVariants as stop
 use Rattle.buffer_cache.specs.Passes.{HasCauses}
 use Rattle.cached_run.specs.declared.fault.CachedPlayFault.{CachedPlayFault}
 use Rattle.cached_run.specs.declared.fault.CachedPlayFault.TheVariants as fault

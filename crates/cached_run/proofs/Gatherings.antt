@@ -3,8 +3,8 @@ use Rattle.std.proofs.Common.{◌≡◌, ℕ, suc, ◌+◌, ◌<◌, ◌≤◌, 
 use Rattle.std.specs.Prelude.{Result, Ok, Err, IsOk, IsErr, OnErr, slice_index_or}
 use Rattle.std.proofs.lemmas.List.{take-append-drop, take-take}
 use Rattle.outside_traits.specs.Puts.{Puts}
-use Rattle.mass_gather.specs.Gathers.{Gathers}
-use Rattle.mass_gather.proofs.GatherLaws.{gathers_join, gathers_stop, gathers_whole}
+use Rattle.outside_traits.specs.Gathers.{Gathers}
+use Rattle.outside_traits.proofs.GatherLaws.{gathers_join, gathers_stop, gathers_whole}
 use Rattle.answer_lines.specs.AnswerText.{block_text, block_texts}
 use Rattle.answer_lines.proofs.TextLaws.{one_more}
 

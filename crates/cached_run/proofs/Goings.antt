@@ -4,7 +4,7 @@ use Rattle.std.specs.Prelude.{map, unwrap_or, if◌then◌else◌}
 use Rattle.std.proofs.Math.Seq.{take-length, take-append_seam, take-append-add}
 use Rattle.outside_traits.specs.Causes.{Rose}
 use Rattle.outside_traits.specs.Puts.{TakesFront}
-use Rattle.mass_gather.proofs.GatherLaws.{rose_more}
+use Rattle.outside_traits.proofs.GatherLaws.{rose_more}
 use Rattle.pack_geometry.specs.declared.DriveKind.TheVariants.{Rp06}
 use Rattle.subsystem_spec.specs.Requests.{Request}
 use Rattle.subsystem_spec.specs.declared.answers.AnswerKind.{AnswerKind}
@@ -21,11 +21,11 @@ use Rattle.buffer_cache.specs.Passes.{setup_at}
 use Rattle.buffer_cache.specs.Passes.{kind_if}
 use Rattle.buffer_cache.specs.Passes.{kind_at, map_at, left_map}
 use Rattle.buffer_cache.proofs.Passes.{others_over, left_over, map_long}
-use Rattle.cached_blocks.specs.Requests.{Map}
-use Rattle.cached_blocks.specs.declared.Entry.{Entry}
-use Rattle.cached_blocks.specs.Entries.{State, is_of, entry_of, unchanged}
-use Rattle.cached_blocks.specs.Contents.{bytes_or, cached, Fits, AllFit, Flushes}
-use Rattle.cached_blocks.proofs.Lookups.{IsKey, is_key, found_key, found_all}
+use Rattle.waited_requests.specs.Requests.{Map}
+use Rattle.waited_requests.specs.declared.cached.Entry.{Entry}
+use Rattle.waited_requests.specs.Entries.{State, is_of, entry_of, unchanged}
+use Rattle.waited_requests.specs.Contents.{bytes_or, cached, Fits, AllFit, Flushes}
+use Rattle.waited_requests.proofs.Lookups.{IsKey, is_key, found_key, found_all}
 use Rattle.buffer_cache.specs.Calls.{IfTold, Holds, Syncs}
 use Rattle.cached_run.specs.Answers.{Replacement, answer_with, answers_of, map_of_inputs, text_of, replaced_with, replacements_of, after}
 use Rattle.cached_run.specs.Theorem.{IsAfter, EndsWithSync, HasNoSync}

@@ -11,7 +11,7 @@ use Rattle.buffer_cache.specs.Passes.{Stage}
 use Rattle.driver_machine.specs.World.{World}
 use Rattle.driver_machine.specs.Guards.{IsSetUp}
 use Rattle.buffer_cache.specs.Passes.{kind_at}
-use Rattle.buffer_cache.specs.Passes.{IsData, Asks}
+use Rattle.buffer_cache.specs.Asks.{IsData, Asks}
 use Rattle.buffer_cache.proofs.Passes.{kind_stays}
 use Rattle.buffer_cache.specs.Calls.{stop_of}
 use Rattle.buffer_cache.specs.declared.fault.CacheFault.{CacheFault}

@@ -7,10 +7,10 @@ use Rattle.buffer_cache.specs.Passes.{Stage}
 use Rattle.buffer_cache.specs.Passes.{setup_at}
 use Rattle.buffer_cache.specs.Passes.{map_at, left_map}
 use Rattle.buffer_cache.proofs.Passes.{others_none, others_over, left_over}
-use Rattle.cached_blocks.specs.declared.Entry.{Entry}
-use Rattle.cached_blocks.specs.Requests.{Map}
-use Rattle.cached_blocks.specs.Entries.{State}
-use Rattle.cached_blocks.specs.Contents.{cached, AllFit, IsOne}
+use Rattle.waited_requests.specs.declared.cached.Entry.{Entry}
+use Rattle.waited_requests.specs.Requests.{Map}
+use Rattle.waited_requests.specs.Entries.{State}
+use Rattle.waited_requests.specs.Contents.{cached, AllFit, IsOne}
 use Rattle.buffer_cache.specs.Calls.{Holds}
 use Rattle.cached_run.specs.Answers.{Replacement, after}
 use Rattle.cached_run.specs.Leaving.{IsLeft, Leaves, Makes, KeepsSetup}

@@ -7,9 +7,9 @@ use Rattle.waited_requests.specs.Rest.{HasTables}
 use Rattle.buffer_cache.specs.Passes.{Stage}
 use Rattle.buffer_cache.specs.Passes.{setup_at}
 use Rattle.buffer_cache.specs.Passes.{map_at}
-use Rattle.cached_blocks.specs.Requests.{Map}
-use Rattle.cached_blocks.specs.Entries.{State}
-use Rattle.cached_blocks.specs.Contents.{cached, AllFit, Gives}
+use Rattle.waited_requests.specs.Requests.{Map}
+use Rattle.waited_requests.specs.Entries.{State}
+use Rattle.waited_requests.specs.Contents.{cached, AllFit, Gives}
 use Rattle.buffer_cache.specs.Calls.{IfTold, Reads, Holds}
 use Rattle.cached_run.specs.Leaving.{Leaves, KeepsSetup, AreRead, Does}
 use Rattle.cached_run.proofs.Firsts.{all_usable, some_usable}

@@ -21,7 +21,7 @@ use Rattle.answer_lines.specs.AnswerText.{answer_line, answer_text, block_texts}
 use Rattle.answer_lines.specs.Blocks.{joined, AreBlocks}
 use Rattle.answer_lines.proofs.TextLaws.{blocks_said}
 use Rattle.buffer_cache.proofs.Passes.{first_is}
-use Rattle.cached_blocks.specs.Requests.{Map}
+use Rattle.waited_requests.specs.Requests.{Map}
 use Rattle.cached_script.specs.declared.statement.Asked.{Asked}
 use Rattle.cached_run.specs.Answers.{answer_with, replaced, usable_of, replaced_at, replaced_with}
 use Rattle.cached_run.specs.Leaving.{AreRead, usable_in, spread}

@@ -18,13 +18,13 @@ use Rattle.buffer_cache.proofs.Passes.{new_is_quiet}
 use Rattle.buffer_cache.specs.Passes.{setup_at}
 use Rattle.buffer_cache.specs.Passes.{map_at}
 use Rattle.std.specs.List.{AllByRecursion}
-use Rattle.cached_blocks.specs.declared.Entry.{Entry}
-use Rattle.buffer_cache.specs.Passes.{IsData}
-use Rattle.cached_blocks.specs.Entries.{State}
-use Rattle.cached_blocks.specs.Contents.{cached, AllFit}
+use Rattle.waited_requests.specs.declared.cached.Entry.{Entry}
+use Rattle.buffer_cache.specs.Asks.{IsData}
+use Rattle.waited_requests.specs.Entries.{State}
+use Rattle.waited_requests.specs.Contents.{cached, AllFit}
 use Rattle.buffer_cache.specs.Calls.{MayUse}
-use Rattle.hp_core.specs.declared.start.UnitSetup.{UnitSetup as Made}
-use Rattle.hp_core.specs.Setups.{setups_of}
+use Rattle.event_player.specs.Passes.{UnitSetup as Made}
+use Rattle.event_player.specs.Passes.{setups_of}
 use Rattle.event_player.specs.Passes.{tables_in, AreUnits, AreSetFor}
 use Rattle.event_player.proofs.Passes.{below_or_not, unit_beyond}
 use Rattle.cached_run.specs.Going.{Scene, IsFar}

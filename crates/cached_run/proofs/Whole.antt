@@ -23,7 +23,7 @@ use Rattle.buffer_cache.specs.Passes.{setup_at}
 use Rattle.buffer_cache.specs.Passes.{OthersStay}
 use Rattle.buffer_cache.specs.Passes.{map_at, left_map}
 use Rattle.buffer_cache.proofs.Passes.{map_long}
-use Rattle.cached_blocks.specs.Entries.{State}
+use Rattle.waited_requests.specs.Entries.{State}
 use Rattle.event_player.specs.Passes.{Took}
 use Rattle.cached_run.specs.Answers.{answers_of, map_of_inputs, text_of, replacements_of, after}
 use Rattle.cached_run.specs.Theorem.{contents, CachedPlays, IsAfter, EndsWithSync, HasNoSync, AreParted, CachedStops}

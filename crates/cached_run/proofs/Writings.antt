@@ -13,11 +13,11 @@ use Rattle.buffer_cache.specs.Passes.{Stage}
 use Rattle.buffer_cache.specs.Passes.{setup_at}
 use Rattle.buffer_cache.specs.Passes.{OthersStay}
 use Rattle.buffer_cache.specs.Passes.{map_at, left_map}
-use Rattle.cached_blocks.specs.declared.Entry.{Entry}
-use Rattle.cached_blocks.specs.Requests.{Map}
-use Rattle.cached_blocks.specs.Entries.{State, entry_of}
-use Rattle.cached_blocks.specs.Contents.{bytes_or, cached, Fits, AllFit, IsOne, Takes}
-use Rattle.cached_blocks.proofs.Lookups.{IsKey, is_key, found_key, found_all}
+use Rattle.waited_requests.specs.declared.cached.Entry.{Entry}
+use Rattle.waited_requests.specs.Requests.{Map}
+use Rattle.waited_requests.specs.Entries.{State, entry_of}
+use Rattle.waited_requests.specs.Contents.{bytes_or, cached, Fits, AllFit, IsOne, Takes}
+use Rattle.waited_requests.proofs.Lookups.{IsKey, is_key, found_key, found_all}
 use Rattle.buffer_cache.specs.Calls.{IfTold, Writes, Holds}
 use Rattle.cached_run.specs.Answers.{Replacement, with_replacement, after}
 use Rattle.cached_run.specs.Leaving.{IsLeft, Leaves, Makes, KeepsSetup, Does, usable_in, spread}

@@ -3,8 +3,8 @@ use Rattle.std.specs.Prelude.{◌⊎◌, ℕ, ◌≤◌, Bool, Result, Ok, Err, 
 use Rattle.outside_traits.specs.Causes.{Rose}
 use Rattle.pack_model.specs.Pack.{Pack}
 use Rattle.trace_replay.specs.Script.{Script}
-use Rattle.driver_outcome.specs.declared.Stop.{Stop}
-use Rattle.driver_outcome.specs.declared.Stop.TheVariants as stop
+use Rattle.driver_answers.specs.declared.outcome.Stop.{Stop}
+use Rattle.driver_answers.specs.declared.outcome.Stop.TheVariants as stop
 use Rattle.event_player.specs.Plays.{NamesTooLong}
 use Rattle.cached_run.specs.declared.fault.CachedPlayFault.{CachedPlayFault}
 use Rattle.cached_run.specs.declared.fault.CachedPlayFault.TheVariants as fault

@@ -14,8 +14,8 @@ use Rattle.buffer_cache.specs.Passes.{setup_at}
 use Rattle.buffer_cache.specs.Passes.{OthersStay}
 use Rattle.buffer_cache.specs.Passes.{map_at, left_map}
 use Rattle.buffer_cache.specs.Passes.{site}
-use Rattle.cached_blocks.specs.Entries.{State}
-use Rattle.cached_blocks.specs.Contents.{cached, AllFit}
+use Rattle.waited_requests.specs.Entries.{State}
+use Rattle.waited_requests.specs.Contents.{cached, AllFit}
 use Rattle.cached_run.specs.Answers.{answers_of, map_of_inputs, text_of, replacements_of}
 use Rattle.cached_run.specs.Theorem.{IsAfter, AreParted}
 

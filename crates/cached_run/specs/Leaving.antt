@@ -9,10 +9,10 @@ use Rattle.buffer_cache.specs.Passes.{Stage}
 use Rattle.buffer_cache.specs.Passes.{setup_at}
 use Rattle.buffer_cache.specs.Passes.{OthersStay}
 use Rattle.buffer_cache.specs.Passes.{kind_at, map_at, left_map}
-use Rattle.cached_blocks.specs.declared.Entry.{Entry}
-use Rattle.cached_blocks.specs.Requests.{Map}
-use Rattle.cached_blocks.specs.Entries.{State}
-use Rattle.cached_blocks.specs.Contents.{cached, AllFit}
+use Rattle.waited_requests.specs.declared.cached.Entry.{Entry}
+use Rattle.waited_requests.specs.Requests.{Map}
+use Rattle.waited_requests.specs.Entries.{State}
+use Rattle.waited_requests.specs.Contents.{cached, AllFit}
 use Rattle.waited_requests.specs.Waited.{first_unusable}
 use Rattle.cached_run.specs.Answers.{Replacement, usable_of, after}
 

@@ -1,13 +1,13 @@
 // The answer to a request is written.
 ghost use Rattle.std.specs.Prelude.{ℕ, ◌≡◌, ◌<◌, ◌≤◌, [], OnOk, length, take, slice_index_or};
 ghost use Rattle.outside_traits.specs.Puts.{Puts};
-ghost use Rattle.mass_gather.specs.Gathers.{Gathers};
+ghost use Rattle.outside_traits.specs.Gathers.{Gathers};
 ghost use Rattle.answer_lines.specs.AnswerText.{block_text, block_texts};
 ghost use Rattle.cached_run.specs.Saying.{rest_text, said_text};
 
 use crate::desk::Desk;
 use answer_lines::answer_line;
-use mass_gather::gather_law;
+use outside_traits::gather_law;
 use outside_traits::traits::{Sink, SinkFailed};
 use subsystem_spec::AnswerKind;
 

@@ -2,7 +2,7 @@
 ghost use Rattle.std.specs.Prelude.{◌≡◌, [], IfOk, length};
 
 use answer_lines::BlockLine;
-use mass_gather::Gather;
+use outside_traits::Gather;
 use outside_traits::traits::NoMemory;
 use std::alloc::Global;
 

@@ -1,4 +1,4 @@
-use driver_outcome::Stop;
+use driver_answers::outcome::Stop;
 use outside_traits::traits::{NoMemory, SinkFailed};
 use std::alloc::AllocError;
 use thiserror::Error;

@@ -1,6 +1,6 @@
 -- One line of a script: what it leaves known, and what is left to read behind it.
 use Rattle.std.proofs.Common.{◌≡◌, ℕ, ◌+◌, List, ◌∷◌, map, sym, ap, ◌∙◌, subst, Option, None, Some, Result, Ok, Err}
-use Rattle.script_words.specs.declared.kinds.ScriptKind.{ScriptKind}
+use Rattle.script_lines.specs.declared.kinds.ScriptKind.{ScriptKind}
 use Rattle.script_lines.specs.Known.{Known}
 use Rattle.script_reader.specs.Lines.{lines_of, pieces_of, without_cr}
 use Rattle.script_reader.specs.Reading.{Refusal, on}

@@ -2,8 +2,8 @@
 use Rattle.std.proofs.Common.{◌≡◌, ◌⊎◌, inl, inr, ℕ, ◌+◌, ◌<◌, ◌≤◌, List, [], ◌∷◌, ◌++◌, length, refl, sym, ap, ◌∙◌, arith, Option, Result, Ok, Err}
 use Rattle.std.specs.Prelude.{nat_lt, if◌then◌else◌}
 use Rattle.std.proofs.lemmas.Bool.Decides.{nat_tests}
-use Rattle.script_words.specs.declared.kinds.ScriptKind.{ScriptKind}
-use Rattle.script_words.specs.declared.kinds.ScriptKind.TheVariants.{ScriptLong}
+use Rattle.script_lines.specs.declared.kinds.ScriptKind.{ScriptKind}
+use Rattle.script_lines.specs.declared.kinds.ScriptKind.TheVariants.{ScriptLong}
 use Rattle.cached_script.specs.declared.kind.CachedRefusal.{CachedRefusal}
 use Rattle.cached_script.specs.declared.kind.CachedRefusal.TheVariants.{Memory, Refused}
 use Rattle.cached_script.specs.declared.statement.Line.{Line}
@@ -13,7 +13,7 @@ use Rattle.script_reader.specs.Lines.{lines_of}
 use Rattle.cached_script.specs.Scripts.{known_of, line_says, more, SayTheRest, Spells, FirstFault, IsRefused, Refuses}
 use Rattle.script_reader.specs.Reading.{Refusal, on}
 use Rattle.cached_script.specs.Reading.{Read, reading, Finds}
-use Rattle.script_words.proofs.Results.{same_Ok, same_Err, err-ok}
+use Rattle.script_lines.proofs.Results.{same_Ok, same_Err, err-ok}
 
 -- what comes next gave a value, or a fault
 on_ok : {A B C E : Type 0} (res : Result A B) (f : A → Result C E) (g : B → E) (c : C) → on res f (λ b. Err (g b)) ≡ Ok c → (a : A) × (res ≡ Ok a) × (f a ≡ Ok c)

@@ -13,11 +13,11 @@ use Rattle.mass_text.specs.Pieces.{pieces}
 use Rattle.mass_text.specs.declared.numbers.Radix.TheVariants.{Decimal}
 use Rattle.mass_text.specs.declared.numbers.NumberFault.{NumberFault}
 use Rattle.mass_text.specs.declared.numbers.NumberFault.TheVariants.{Empty, Digit, Large}
-use Rattle.script_words.specs.declared.kinds.ScriptKind.{ScriptKind}
-use Rattle.script_words.specs.declared.kinds.ScriptKind.TheVariants.{Word, Number, UnitTwice, UnitUnknown, Count, Data, TooMany, LineLong, LateUnit}
-use Rattle.script_words.specs.Fields.{and_then, changed, or_kind, some_or, number_field, kind_field, counted, count_field, byte_field}
-use Rattle.script_words.specs.Words.{named}
-use Rattle.script_words.proofs.Results.{same_Ok, err-ok, then_ok}
+use Rattle.script_lines.specs.declared.kinds.ScriptKind.{ScriptKind}
+use Rattle.script_lines.specs.declared.kinds.ScriptKind.TheVariants.{Word, Number, UnitTwice, UnitUnknown, Count, Data, TooMany, LineLong, LateUnit}
+use Rattle.script_lines.specs.Fields.{and_then, changed, or_kind, some_or, number_field, kind_field, counted, count_field, byte_field}
+use Rattle.script_lines.specs.Words.{named}
+use Rattle.script_lines.proofs.Results.{same_Ok, err-ok, then_ok}
 use Rattle.script_lines.specs.Known.{Known, fresh, new_unit_field, old, unit_field}
 use Rattle.script_lines.specs.Forms.{Form, gives, fails, next, field, none_left, whole, unless}
 use Rattle.script_reader.specs.Grammar.{is_comment}

@@ -8,10 +8,10 @@ use Rattle.mass_text.specs.Numbers.{number_of}
 use Rattle.mass_text.specs.declared.numbers.Radix.TheVariants.{Decimal}
 use Rattle.mass_text.specs.declared.numbers.NumberFault.{NumberFault}
 use Rattle.mass_text.specs.declared.numbers.NumberFault.TheVariants.{Empty, Digit, Large}
-use Rattle.script_words.specs.declared.kinds.ScriptKind.{ScriptKind}
-use Rattle.script_words.specs.declared.kinds.ScriptKind.TheVariants as kinds
-use Rattle.script_words.specs.Fields.{and_then, changed, or_kind, some_or, number_field, kind_field, counted, count_kind, count_field, byte_field}
-use Rattle.script_words.specs.Words.{named}
+use Rattle.script_lines.specs.declared.kinds.ScriptKind.{ScriptKind}
+use Rattle.script_lines.specs.declared.kinds.ScriptKind.TheVariants as kinds
+use Rattle.script_lines.specs.Fields.{and_then, changed, or_kind, some_or, number_field, kind_field, counted, count_kind, count_field, byte_field}
+use Rattle.script_lines.specs.Words.{named}
 use Rattle.script_lines.specs.Forms.{Form, gives, fails, next, field, none_left, whole, unless}
 use Rattle.script_lines.specs.Known.{Known, fresh, old, new_unit_field, unit_field}
 use Rattle.script_reader.specs.Grammar.{is_comment}

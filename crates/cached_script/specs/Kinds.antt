@@ -1,7 +1,7 @@
 -- What is wrong with a line, among the kinds of all scripts.
 use Rattle.std.specs.Prelude.{◌≢◌}
-use Rattle.script_words.specs.declared.kinds.ScriptKind.{ScriptKind}
-use Rattle.script_words.specs.declared.kinds.ScriptKind.TheVariants as script
+use Rattle.script_lines.specs.declared.kinds.ScriptKind.{ScriptKind}
+use Rattle.script_lines.specs.declared.kinds.ScriptKind.TheVariants as script
 use Rattle.cached_script.specs.declared.kind.CachedKind.{CachedKind}
 use Rattle.cached_script.specs.declared.kind.CachedKind.TheVariants as cached
 

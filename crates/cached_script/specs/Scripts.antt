@@ -5,10 +5,10 @@ use Rattle.std.specs.List.{list_any}
 use Rattle.std.specs.Str.{bytes_eq}
 use Rattle.pack_geometry.specs.declared.DriveKind.{DriveKind}
 use Rattle.mass_text.specs.Pieces.{pieces}
-use Rattle.script_words.specs.declared.kinds.ScriptKind.{ScriptKind}
-use Rattle.script_words.specs.declared.kinds.ScriptKind.TheVariants.{Word, LateUnit, TooMany, LineLong, ScriptLong}
-use Rattle.script_words.specs.Fields.{and_then, some_or, number_field, kind_field, count_field, byte_field}
-use Rattle.script_words.specs.Words.{named}
+use Rattle.script_lines.specs.declared.kinds.ScriptKind.{ScriptKind}
+use Rattle.script_lines.specs.declared.kinds.ScriptKind.TheVariants.{Word, LateUnit, TooMany, LineLong, ScriptLong}
+use Rattle.script_lines.specs.Fields.{and_then, some_or, number_field, kind_field, count_field, byte_field}
+use Rattle.script_lines.specs.Words.{named}
 use Rattle.script_lines.specs.Forms.{Form, gives, fails, next, field, whole, unless}
 use Rattle.script_lines.specs.Known.{Known, new_unit_field, unit_field}
 use Rattle.script_reader.specs.Grammar.{is_comment}

@@ -1,6 +1,6 @@
 ghost use Rattle.std.specs.Prelude.{◌≡◌, ◌≤◌, ◌∷◌, IfOk};
-ghost use Rattle.script_words.specs.Fields.{and_then, some_or};
-ghost use Rattle.script_words.specs.Words.{named};
+ghost use Rattle.script_lines.specs.Fields.{and_then, some_or};
+ghost use Rattle.script_lines.specs.Words.{named};
 ghost use Rattle.script_lines.specs.Forms.{Parses, none_left, whole};
 ghost use Rattle.cached_script.specs.Knowing.{known_in};
 ghost use Rattle.cached_script.specs.Scripts.{verb_word, all_verbs, start_form, fill_form, unit_form, read_form, write_form, form_of, too_late, said, entry};
@@ -9,7 +9,7 @@ use crate::known::Known;
 use crate::parts::{byte, count, kind, new_unit, number, old_unit};
 use crate::statement::{Asked, Statement};
 use mass_text::Fields;
-use script_words::{ScriptKind, is_word};
+use script_lines::{ScriptKind, is_word};
 
 /// The first words of lines.
 #[derive(Clone, Copy, PartialEq, Eq)]

@@ -1,7 +1,7 @@
 ghost use Rattle.std.specs.Prelude.{◌≡◌};
 ghost use Rattle.cached_script.specs.Kinds.{kind_of, IsCachedKind};
 
-use script_words::ScriptKind;
+use script_lines::ScriptKind;
 use std::alloc::AllocFailed;
 use thiserror::Error;
 

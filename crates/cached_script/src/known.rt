@@ -1,13 +1,13 @@
 ghost use Rattle.std.specs.Prelude.{ℕ, ◌≡◌, ◌<◌, ◌≤◌, ◌+◌, ◌==◌, false, None, Some, if◌then◌else◌};
 ghost use Rattle.script_lines.specs.Known.{new_unit_field, unit_field};
-ghost use Rattle.script_words.specs.Fields.{number_field};
+ghost use Rattle.script_lines.specs.Fields.{number_field};
 ghost use Rattle.cached_script.specs.Knowing.{known_in, Learns};
 ghost use Rattle.cached_script.specs.Scripts.{is_full};
 
 use crate::forms::Verb;
 use crate::statement::Statement;
 use pack_geometry::DriveKind;
-use script_words::{ScriptKind, number_field};
+use script_lines::{ScriptKind, number_field};
 
 /// The largest number of requests in a script.
 const MOST_REQUESTS: u32 = 65_536;

@@ -1,6 +1,6 @@
 // Fields that are read off the front of a line: each is one field, and a missing one is a fault of words.
 ghost use Rattle.std.specs.Prelude.{◌≤◌, IfOk};
-ghost use Rattle.script_words.specs.Fields.{number_field, count_field, kind_field, byte_field};
+ghost use Rattle.script_lines.specs.Fields.{number_field, count_field, kind_field, byte_field};
 ghost use Rattle.script_lines.specs.Known.{new_unit_field, unit_field};
 ghost use Rattle.script_lines.specs.Forms.{field, Parses};
 ghost use Rattle.cached_script.specs.Knowing.{known_in};
@@ -8,7 +8,7 @@ ghost use Rattle.cached_script.specs.Knowing.{known_in};
 use crate::known::Known;
 use mass_text::Fields;
 use pack_geometry::DriveKind;
-use script_words::{ScriptKind, byte_field, count_field, kind_field, number_field};
+use script_lines::{ScriptKind, byte_field, count_field, kind_field, number_field};
 
 /// A number of 32 bits.
 #[tactic(auto, using(crate::proofs::FieldLaws::field_read))]

@@ -1,5 +1,5 @@
 ghost use Rattle.std.specs.Prelude.{◌≡◌, ◌⊎◌, ◌<◌, ◌≤◌, ◌+◌, ℕ, List, Ok, IfOk, IfErr, OnOk, length, []};
-ghost use Rattle.script_words.specs.declared.kinds.ScriptKind.{ScriptKind};
+ghost use Rattle.script_lines.specs.declared.kinds.ScriptKind.{ScriptKind};
 ghost use Rattle.script_reader.specs.Lines.{lines_of};
 ghost use Rattle.cached_script.specs.declared.statement.Line.{Line};
 ghost use Rattle.cached_script.specs.Formed.{IsScript};
@@ -14,7 +14,7 @@ use crate::known::Known;
 use crate::pieces::without_cr;
 use crate::statement::{Line, Statement};
 use mass_text::Fields;
-use script_words::ScriptKind;
+use script_lines::ScriptKind;
 use std::alloc::Global;
 use std::marker::Model;
 use trace_reader::first_line;

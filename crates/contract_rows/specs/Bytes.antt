@@ -17,7 +17,7 @@ use Rattle.subsystem_spec.specs.declared.answers.AnswerKind.TheVariants.{ReadOk}
 use Rattle.block_machine.specs.Machine.{Blocks}
 use Rattle.block_machine.specs.Stands.{is_sure_among}
 use Rattle.driver_machine.specs.World.{UnitView, Held, block_in}
-use Rattle.driver_bytes.specs.Bytes.{asked_of, IsSureFor, HandBears, UnitBears, IsStep}
+use Rattle.quiet_driver.specs.Bytes.{asked_of, IsSureFor, HandBears, UnitBears, IsStep}
 
 -- a block that a write has done is not at its home
 abbrev pub WriteNotAtItsHome : Type 0

@@ -1,3 +1,5 @@
+pub mod Checks
+pub mod Player
 pub mod Memory
 pub mod Drives
 pub mod Machine

@@ -12,9 +12,9 @@ use Rattle.driver_machine.specs.World.{World, Held, no_held, held_in, unit_at, s
 use Rattle.driver_machine.specs.Acts.{Act, Refuse, Submit, Of, Change, Nothing, Taken, Deed, Scene, scene_of, effect, freed, after, after_all}
 use Rattle.driver_machine.specs.Events.{submit_acts, event_acts}
 use Rattle.driver_machine.specs.Guards.{InHand, Allowed, MayChange}
-use Rattle.driver_due.proofs.Frame.{effect_same}
+use Rattle.driver_machine.proofs.Frame.{effect_same}
 use Rattle.driver_machine.specs.Runs.{Run, Works}
-use Rattle.driver_invariant.proofs.Passes.{submit_works, event_works}
+use Rattle.driver_invariant.proofs.Calls.{submit_works, event_works}
 use Rattle.driver_invariant.proofs.Passes.{Contains-first, Contains-later}
 use Rattle.driver_invariant.proofs.Passes.{slot_there}
 use Rattle.driver_invariant.proofs.Sound.{sound_after}

@@ -1,3 +1,11 @@
+pub mod Joined
+pub mod Lists
+pub mod Slots
+pub mod Drives
+pub mod Units
+pub mod Acts
+pub mod Events
+pub mod Starts
 pub mod Ids
 pub mod Parts
 pub mod Waiting

@@ -18,9 +18,9 @@ use Rattle.driver_machine.specs.Lines.{answer_told, lines_of, lines_of_all}
 use Rattle.driver_machine.specs.Events.{submit_acts, event_acts}
 use Rattle.driver_machine.specs.Guards.{InHand, MayChange}
 use Rattle.driver_machine.specs.Sound.{Among, Once, slot_made, slots_made, IsMade, Sound}
-use Rattle.driver_due.proofs.Frame.{other_slot}
+use Rattle.driver_machine.proofs.Frame.{other_slot}
 use Rattle.driver_machine.specs.Runs.{Works}
-use Rattle.driver_invariant.proofs.Passes.{submit_works, event_works}
+use Rattle.driver_invariant.proofs.Calls.{submit_works, event_works}
 use Rattle.driver_invariant.proofs.Passes.{Contains-first, Contains-later}
 use Rattle.driver_invariant.proofs.Passes.{held_is, hand_there, not_made}
 use Rattle.driver_invariant.proofs.Passes.{among_made}

@@ -1,2 +1,9 @@
+pub mod Leads
+pub mod Deeds
+pub mod Due
+pub mod Start
+pub mod Calls
+pub mod Next
+pub mod Loops
 pub mod Sound
 pub mod Passes

@@ -7,4 +7,6 @@ pub mod Lines
 pub mod Guards
 pub mod Sound
 pub mod Runs
+pub mod DueFacts
+pub mod Frame
 pub mod Passes

@@ -7,6 +7,9 @@
 
 use drive_registers::OffsetCode;
 use hardware_table::Moved;
+
+pub mod due;
+
 pub use subsystem_spec::{Answer, AnswerKind, Cause};
 
 /// An answer that waits to be taken, and the slot of its request; one that was refused at its submission has none.

@@ -10,8 +10,8 @@ use Rattle.driver_machine.specs.Acts.{Scene, effect}
 use Rattle.driver_machine.specs.Sound.{IsTask}
 use Rattle.driver_machine.specs.World.{transfer_of}
 use Rattle.driver_machine.specs.Guards.{May}
-use Rattle.driver_due.specs.DueFacts.{IsDue}
-use Rattle.driver_due.proofs.DueFacts.{none_some}
+use Rattle.driver_machine.specs.DueFacts.{IsDue}
+use Rattle.driver_machine.proofs.DueFacts.{none_some}
 use Rattle.driver_phases.proofs.Scene.{SceneOk, due_of}
 use Rattle.driver_phases.proofs.DeedFacts.{judged_is}
 use Rattle.driver_phases.proofs.AdapterLeft.{SceneAdapter, AdapterLeft, is_transferring, is_queued, due_left}

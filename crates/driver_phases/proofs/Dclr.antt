@@ -7,7 +7,7 @@ use Rattle.driver_machine.specs.Acts as deed
 use Rattle.driver_machine.specs.Acts.{Scene, effect}
 use Rattle.driver_machine.specs.Sound.{IsDrive, IsTask}
 use Rattle.driver_machine.specs.Guards.{May}
-use Rattle.driver_due.specs.DueFacts.{IsDue}
+use Rattle.driver_machine.specs.DueFacts.{IsDue}
 use Rattle.driver_phases.proofs.Drives.{drive_clear}
 use Rattle.driver_phases.proofs.Scene.{SceneOk, phase_is, due_of}
 use Rattle.driver_phases.proofs.DeedFacts.{same_begun}

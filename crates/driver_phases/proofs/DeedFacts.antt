@@ -10,8 +10,8 @@ use Rattle.driver_machine.specs.Acts.{Scene}
 use Rattle.driver_machine.specs.Sound.{IsBegun, IsTask}
 use Rattle.driver_machine.specs.World.{UnitView, transfer_of, job_of, drive_of}
 use Rattle.driver_machine.specs.Guards.{IsBusyFor}
-use Rattle.driver_due.specs.DueFacts.{IsJudged}
-use Rattle.driver_due.proofs.DueFacts.{none_some}
+use Rattle.driver_machine.specs.DueFacts.{IsJudged}
+use Rattle.driver_machine.proofs.DueFacts.{none_some}
 use Rattle.driver_phases.proofs.Drives.{place_inside}
 use Rattle.driver_phases.proofs.Scene.{same_ask, begun_as, SceneOk, phase_is, job_is, block_below, segment_some, HasTransfer}
 

@@ -19,7 +19,7 @@ use Rattle.driver_machine.specs.Sound.{IsDrive, IsBegun, IsPhase, IsTask, IsStil
 use Rattle.driver_machine.specs.World.{transfer_of}
 use Rattle.driver_machine.specs.Guards.{May}
 use Rattle.driver_machine.specs.Due.{steps_of, steps_for, offset_steps}
-use Rattle.driver_due.specs.DueFacts.{IsDue, IsStep}
+use Rattle.driver_machine.specs.DueFacts.{IsDue, IsStep}
 use Rattle.driver_phases.proofs.Drives.{some_cylinder, performed-seek, drive_seek, drive_recal, drive_offset}
 use Rattle.driver_phases.proofs.Scene.{SceneOk, phase_is, same_ask, begun_as, due_of}
 use Rattle.driver_phases.proofs.DeedFacts.{sector_inside}

@@ -16,7 +16,7 @@ use Rattle.driver_machine.specs.Acts as deed
 use Rattle.driver_machine.specs.Sound.{IsDrive, IsBegun, IsPhase, IsTask, IsStill, IsUnderWay}
 use Rattle.driver_machine.specs.World.{transfer_of, drive_of}
 use Rattle.driver_machine.specs.Guards.{May}
-use Rattle.driver_due.specs.DueFacts.{IsDue, IsAtCommand}
+use Rattle.driver_machine.specs.DueFacts.{IsDue, IsAtCommand}
 use Rattle.driver_phases.proofs.Drives.{performed-transfer, drive_transfer}
 use Rattle.driver_phases.proofs.Scene.{SceneOk, phase_is, same_ask, begun_as, due_of, segment_some}
 use Rattle.driver_phases.proofs.DeedFacts.{sector_inside}

@@ -8,7 +8,7 @@ use Rattle.driver_machine.specs.Acts as deed
 use Rattle.driver_machine.specs.Sound.{Among, IsBegun, IsPhase, IsTask, IsStill}
 use Rattle.driver_machine.specs.World.{UnitView, Held}
 use Rattle.driver_machine.specs.Guards.{May}
-use Rattle.driver_due.specs.DueFacts.{IsDue, IsReady}
+use Rattle.driver_machine.specs.DueFacts.{IsDue, IsReady}
 use Rattle.driver_phases.proofs.Scene.{SceneOk, phase_is, same_ask, begun_as, due_of}
 use Rattle.driver_phases.proofs.DeedFacts.{new_begun}
 use Rattle.driver_phases.proofs.AdapterLeft.{is_transferring, is_queued, SceneAdapter, AdapterLeft, queue_left, not_transferring, not_queued}

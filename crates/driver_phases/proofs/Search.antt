@@ -15,7 +15,7 @@ use Rattle.driver_machine.specs.Acts as deed
 use Rattle.driver_machine.specs.Sound.{IsDrive, IsPhase, IsMoving}
 use Rattle.driver_machine.specs.Guards.{May}
 use Rattle.driver_machine.specs.Due.{target_of, position_of}
-use Rattle.driver_due.specs.DueFacts.{IsDue}
+use Rattle.driver_machine.specs.DueFacts.{IsDue}
 use Rattle.driver_phases.proofs.Drives.{place_inside, below_limit, sector_below, performed-search, drive_search}
 use Rattle.driver_phases.proofs.Scene.{SceneOk, phase_is, due_of}
 use Rattle.driver_phases.proofs.DeedFacts.{new_begun}

@@ -17,8 +17,8 @@ use Rattle.driver_machine.specs.Events.{due_acts, in_hand, in_hand_by, begun}
 use Rattle.driver_machine.specs.Lines.{lines_of, lines_of_all, lines_with}
 use Rattle.driver_machine.specs.Guards.{Allowed, May, IsChosen}
 use Rattle.driver_machine.specs.Sound.{Sound}
-use Rattle.driver_due.specs.DueFacts.{IsDue}
-use Rattle.driver_due.proofs.DueFacts.{chosen_facts}
+use Rattle.driver_machine.specs.DueFacts.{IsDue}
+use Rattle.driver_machine.proofs.DueFacts.{chosen_facts}
 use Rattle.driver_replay.specs.Shows.{IsOnSurface}
 use Rattle.driver_replay.specs.Laws.{IsSaid, told_by}
 use Rattle.driver_replay.specs.Moments.{Comes}

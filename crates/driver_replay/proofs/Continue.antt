@@ -14,7 +14,7 @@ use Rattle.driver_machine.specs.Due.{done_with}
 use Rattle.driver_machine.specs.Acts.{with_transfer, Of, after}
 use Rattle.driver_machine.specs.Acts as deed
 use Rattle.driver_machine.specs.Sound.{Sound, IsPhase}
-use Rattle.driver_due.specs.DueFacts.{IsJudged}
+use Rattle.driver_machine.specs.DueFacts.{IsJudged}
 use Rattle.driver_replay.specs.Stages.{progress_judged, front_of}
 use Rattle.driver_replay.specs.Shows.{Shows}
 use Rattle.driver_replay.proofs.Core.{Core, IsHead}

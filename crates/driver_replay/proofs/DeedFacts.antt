@@ -17,7 +17,7 @@ use Rattle.driver_machine.specs.World.{World, UnitView, AdapterView, Held, slot_
 use Rattle.driver_machine.specs.Guards.{IsHeldFor, InHand}
 use Rattle.driver_machine.specs.Acts.{Deed, effect, scene_of}
 use Rattle.driver_machine.specs.Sound.{Sound, IsPhase, IsBegun}
-use Rattle.driver_due.specs.DueFacts.{IsJudged, IsAtCommand}
+use Rattle.driver_machine.specs.DueFacts.{IsJudged, IsAtCommand}
 use Rattle.driver_replay.specs.Stages.{segment_seen, progress_judged}
 use Rattle.driver_replay.specs.Shows.{Shows, MaySay}
 use Rattle.driver_replay.specs.Laws.{IsSaid}

@@ -37,7 +37,7 @@ use Rattle.driver_machine.specs.Acts.{going_to, stepping}
 use Rattle.driver_machine.specs.Acts as deed
 use Rattle.driver_machine.specs.Lines.{step_told}
 use Rattle.driver_machine.specs.Sound.{Sound, IsTask}
-use Rattle.driver_due.specs.DueFacts.{IsStep, MayGo}
+use Rattle.driver_machine.specs.DueFacts.{IsStep, MayGo}
 use Rattle.driver_replay.specs.Stages.{step_seen}
 use Rattle.driver_replay.specs.Shows.{Shows}
 use Rattle.driver_replay.proofs.Told.{seen_told}

@@ -12,8 +12,8 @@ use Rattle.driver_machine.specs.Guards.{InHand, IsNext, May}
 use Rattle.driver_machine.specs.Acts.{Deed, scene_of}
 use Rattle.driver_machine.specs.Acts as deed
 use Rattle.driver_machine.specs.Sound.{Sound}
-use Rattle.driver_due.specs.DueFacts.{IsDue, MayGo}
-use Rattle.driver_due.proofs.DueFacts.{due_facts, chosen_facts}
+use Rattle.driver_machine.specs.DueFacts.{IsDue, MayGo}
+use Rattle.driver_machine.proofs.DueFacts.{due_facts, chosen_facts}
 use Rattle.driver_replay.specs.Shows.{Shows, IsOnSurface}
 use Rattle.driver_replay.specs.Laws.{IsSaid, told_by, LinesAreSaid, SilentDeedsShow}
 use Rattle.driver_replay.proofs.Facts.{At, at_facts}

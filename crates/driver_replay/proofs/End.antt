@@ -34,7 +34,7 @@ use Rattle.driver_machine.specs.Acts as deed
 use Rattle.driver_machine.specs.Acts.{Scene, effect, scene_of, with_scene, without}
 use Rattle.driver_machine.specs.Lines.{answer_told}
 use Rattle.driver_machine.specs.Sound.{Sound, IsPhase, IsBegun}
-use Rattle.driver_due.specs.DueFacts.{Ends, Offline, Locked, Left, Unforwarded, Tried, Finished, Calls, AtStart, AtStep, AtTransfer, AtChoice, IsAtCommand}
+use Rattle.driver_machine.specs.DueFacts.{Ends, Offline, Locked, Left, Unforwarded, Tried, Finished, Calls, AtStart, AtStep, AtTransfer, AtChoice, IsAtCommand}
 use Rattle.driver_replay.specs.Stages.{segment_by, steps_left, segment_seen, progress_judged, front_of, progress_with}
 use Rattle.driver_replay.specs.Shows.{Match, IsAdapterSeen, is_coming, with_coming, counted_by, outstanding_in, Shows}
 use Rattle.driver_replay.proofs.Told.{seen_told}

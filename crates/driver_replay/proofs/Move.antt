@@ -25,7 +25,7 @@ use Rattle.driver_machine.specs.Guards.{InHand}
 use Rattle.driver_machine.specs.Acts.{going_to, transferring, commanded}
 use Rattle.driver_machine.specs.Acts as deed
 use Rattle.driver_machine.specs.Sound.{Sound, IsPhase, IsBegun, IsStill}
-use Rattle.driver_due.specs.DueFacts.{IsAtCommand, MayGo}
+use Rattle.driver_machine.specs.DueFacts.{IsAtCommand, MayGo}
 use Rattle.driver_replay.specs.Stages.{segment_seen}
 use Rattle.driver_replay.specs.Shows.{IsAdapterSeen, is_coming, Shows}
 use Rattle.driver_replay.proofs.Told.{seen_told}

@@ -28,8 +28,8 @@ use Rattle.driver_machine.specs.Due.{steps_of, target_of, next_by, start_by, ste
 use Rattle.driver_machine.specs.Acts.{with_drive, Deed, scene_of}
 use Rattle.driver_machine.specs.Acts as deed
 use Rattle.driver_machine.specs.Sound.{Sound, IsPhase, IsBegun}
-use Rattle.driver_due.specs.DueFacts.{Calls, AtStart, AtStep, AtTransfer, AtChoice, IsAtCommand, IsDue}
-use Rattle.driver_due.proofs.DueFacts.{due_facts, chosen_facts}
+use Rattle.driver_machine.specs.DueFacts.{Calls, AtStart, AtStep, AtTransfer, AtChoice, IsAtCommand, IsDue}
+use Rattle.driver_machine.proofs.DueFacts.{due_facts, chosen_facts}
 use Rattle.driver_replay.specs.Stages.{step_seen}
 use Rattle.driver_replay.specs.Shows.{is_coming, with_coming, Shows}
 use Rattle.driver_replay.proofs.Told.{seen_told}

@@ -17,7 +17,7 @@ use Rattle.driver_machine.specs.Due.{target_of, next_by, start_by, start_of, fai
 use Rattle.driver_machine.specs.Acts as deed
 use Rattle.driver_machine.specs.Acts.{Deed, Of, scene_of, after}
 use Rattle.driver_machine.specs.Sound.{Sound}
-use Rattle.driver_due.specs.DueFacts.{AllTaken, IsReady}
+use Rattle.driver_machine.specs.DueFacts.{AllTaken, IsReady}
 use Rattle.driver_replay.specs.Shows.{is_coming, Shows}
 use Rattle.driver_replay.proofs.Core.{Core, IsHead}
 use Rattle.driver_replay.proofs.Places.{no_bytes}

@@ -15,7 +15,7 @@ use Rattle.driver_machine.specs.Guards.{InHand}
 use Rattle.driver_machine.specs.Acts.{in_phase, Of, after, repaired_at}
 use Rattle.driver_machine.specs.Acts as deed
 use Rattle.driver_machine.specs.Sound.{Sound, IsPhase}
-use Rattle.driver_due.specs.DueFacts.{IsJudged}
+use Rattle.driver_machine.specs.DueFacts.{IsJudged}
 use Rattle.driver_replay.specs.Stages.{progress_judged, failures_at, front_of}
 use Rattle.driver_replay.specs.Shows.{Shows}
 use Rattle.driver_replay.proofs.Core.{Core}

@@ -25,7 +25,7 @@ use Rattle.driver_machine.specs.Due.{steps_of, position_of, target_of}
 use Rattle.driver_machine.specs.Acts.{going_to, searching}
 use Rattle.driver_machine.specs.Acts as deed
 use Rattle.driver_machine.specs.Sound.{Sound, IsPhase}
-use Rattle.driver_due.specs.DueFacts.{MayGo}
+use Rattle.driver_machine.specs.DueFacts.{MayGo}
 use Rattle.driver_replay.specs.Stages.{steps_seen}
 use Rattle.driver_replay.specs.Shows.{Shows}
 use Rattle.driver_replay.proofs.Told.{seen_told}

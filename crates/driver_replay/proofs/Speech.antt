@@ -22,8 +22,8 @@ use Rattle.driver_machine.specs.Events.{until, next_acts, due_by, in_hand_by, go
 use Rattle.driver_machine.specs.Lines.{deed_told, answer_told, step_told, lines_of, lines_with}
 use Rattle.driver_machine.specs.Guards.{Allowed, May, InHand}
 use Rattle.driver_machine.specs.Sound.{Sound, IsOutstanding}
-use Rattle.driver_due.specs.DueFacts.{IsDue, IsAtCommand}
-use Rattle.driver_due.proofs.DueFacts.{due_facts}
+use Rattle.driver_machine.specs.DueFacts.{IsDue, IsAtCommand}
+use Rattle.driver_machine.proofs.DueFacts.{due_facts}
 use Rattle.driver_replay.specs.Shows.{IsOnSurface}
 use Rattle.driver_replay.specs.Laws.{IsSaid, told_by}
 use Rattle.driver_replay.specs.Moments.{Comes}

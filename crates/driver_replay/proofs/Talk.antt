@@ -13,7 +13,7 @@ use Rattle.driver_machine.specs.declared.Phase.TheVariants.{Due}
 use Rattle.driver_machine.specs.World.{UnitView, Held, transfer_of}
 use Rattle.driver_machine.specs.Due.{steps_of}
 use Rattle.driver_machine.specs.Sound.{IsBegun}
-use Rattle.driver_due.specs.DueFacts.{IsAtCommand}
+use Rattle.driver_machine.specs.DueFacts.{IsAtCommand}
 use Rattle.driver_replay.specs.Stages.{step_seen, steps_seen, segment_seen, progress_with}
 use Rattle.driver_replay.proofs.Core.{Core, IsHead}
 use Rattle.driver_replay.proofs.Places.{segment_start, segment_length}

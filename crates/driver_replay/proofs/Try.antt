@@ -27,7 +27,7 @@ use Rattle.driver_machine.specs.Due.{steps_of, steps_for, offset_steps, task_for
 use Rattle.driver_machine.specs.Acts.{with_transfer, transfer_tried}
 use Rattle.driver_machine.specs.Acts as deed
 use Rattle.driver_machine.specs.Sound.{Sound, IsBegun, IsTask, IsEndedAt}
-use Rattle.driver_due.specs.DueFacts.{IsJudged, IsFailure}
+use Rattle.driver_machine.specs.DueFacts.{IsJudged, IsFailure}
 use Rattle.driver_replay.specs.Stages.{stage_by, IsProgress, steps_seen, segment_seen, progress_judged, front_of, progress_with}
 use Rattle.driver_replay.specs.Shows.{Shows}
 use Rattle.driver_replay.proofs.Told.{seen_told}

@@ -21,7 +21,7 @@ use Rattle.driver_machine.specs.Acts.{Deed, scene_of}
 use Rattle.driver_machine.specs.Due.{next_by, start_of}
 use Rattle.driver_machine.specs.Guards.{IsNext, IsSetUp}
 use Rattle.driver_machine.specs.Sound.{Sound, AtWork, WorkOf, IsPhase, IsGoal, Among}
-use Rattle.driver_due.specs.DueFacts.{IsReady}
+use Rattle.driver_machine.specs.DueFacts.{IsReady}
 use Rattle.driver_replay.specs.Shows.{IsUnitSeen, IsAdapterSeen}
 use Rattle.driver_replay.specs.Moments.{AllAtWork, ComingIsWished}
 use Rattle.driver_replay.proofs.Facts.{At, at_facts}

@@ -19,7 +19,7 @@ use Rattle.driver_phases.proofs.Scene.{HasTransferFor, SceneOk}
 use Rattle.driver_phases.proofs.Frame.{held_is, scene_ok}
 use Rattle.driver_phases.proofs.Sector.{moved_less, next_below}
 use Rattle.driver_phases.proofs.DeedFacts.{transfer_at}
-use Rattle.driver_outcome.specs.Packs.{packs_after}
+use Rattle.driver_trace.specs.Passes.{packs_after}
 use Rattle.driver_trace.proofs.Starting.{set_up}
 use Rattle.driver_runs.specs.Acts.{BeyondStays, OthersStay}
 use Rattle.driver_runs.proofs.Images.{block_beyond}

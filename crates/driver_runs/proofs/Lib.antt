@@ -1,7 +1,11 @@
 mod Images
 pub mod Acts
 mod Units
-pub mod Runs
+pub mod RunsLaws
 mod NextBlock
 pub mod Sectors
+pub mod Blocks
+pub mod ReachActs
+pub mod Calls
+pub mod Lengths
 pub mod Passes

@@ -29,8 +29,8 @@ use Rattle.driver_machine.specs.Guards.{InHand, IsTried, IsSetUp}
 use Rattle.driver_machine.specs.Sound.{Sound}
 use Rattle.driver_phases.proofs.Frame.{scene_ok}
 use Rattle.driver_phases.proofs.Sector.{next_below}
-use Rattle.driver_work.proofs.Calls.{IsServing, serving}
-use Rattle.driver_outcome.specs.Outcome.{IsNextBlock}
+use Rattle.driver_trace.proofs.Passes.{IsServing, serving}
+use Rattle.driver_trace.specs.Passes.{IsNextBlock}
 use Rattle.driver_replay.specs.Stages.{segment_seen, progress_with}
 use Rattle.driver_replay.specs.Shows.{Shows, is_coming}
 use Rattle.driver_replay.proofs.Busy.{Moves, moves, own_unit}
@@ -43,7 +43,7 @@ use Rattle.driver_trace.proofs.Due.{IsQuiet, rest_quiet}
 use Rattle.driver_trace.proofs.Moves.{cut_filled, written_marks}
 use Rattle.driver_trace.proofs.Resting.{shows_one}
 use Rattle.driver_trace.proofs.Starting.{set_up}
-use Rattle.run_promises.specs.Beginnings.{IsNextSector, with_next}
+use Rattle.block_machine.specs.Beginnings.{IsNextSector, with_next}
 use Rattle.driver_runs.specs.NextBlock.{HasNext, NextBlocksShow}
 use Rattle.driver_runs.specs.Runs.{AreDeclared}
 use Rattle.driver_runs.proofs.Acts.{size_few, written_beyond, other_by}

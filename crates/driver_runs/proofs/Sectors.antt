@@ -15,10 +15,10 @@ use Rattle.driver_machine.specs.Acts.{Act, Refuse, Submit, Of, Change, Nothing, 
 use Rattle.driver_machine.specs.Due.{next_of, command_of, sensed, failed}
 use Rattle.driver_machine.specs.Events.{Part, followed, and_then, when_by, each, go_on, until, in_hand, in_hand_by, due_by, next_acts, due_acts, begun, choose_by, choose_acts, adapter_start, submit_by, submit_acts, refusal_of, can_arrive, can_attend, or_nothing, data_interrupt, steps_taken, attention, drives, attended, event_acts}
 use Rattle.driver_machine.specs.Lines.{lines_of, lines_of_all}
-use Rattle.driver_due.proofs.DueFacts.{due_facts}
+use Rattle.driver_machine.proofs.DueFacts.{due_facts}
 use Rattle.driver_trace.proofs.Due.{due_own}
 use Rattle.driver_trace.proofs.Speaking.{IsUntried, own_untried}
-use Rattle.run_promises.specs.Beginnings.{AreNoSectors}
+use Rattle.block_machine.specs.Beginnings.{AreNoSectors}
 
 -- ACTS that try no sector
 abbrev TriesNone : Act → Type 0

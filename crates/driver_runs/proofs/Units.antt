@@ -10,7 +10,7 @@ use Rattle.driver_machine.specs.Acts as deed
 use Rattle.driver_machine.specs.Acts.{Act, Refuse, Submit, Of, Change, Nothing, Taken, effect, scene_of, joined, after}
 use Rattle.driver_machine.specs.Guards.{Allowed}
 use Rattle.driver_machine.specs.Sound.{Sound}
-use Rattle.driver_due.proofs.Frame.{effect_same}
+use Rattle.driver_machine.proofs.Frame.{effect_same}
 use Rattle.driver_slots.proofs.KindStays.{online_kind}
 
 pub record IsSameUnit (v x : UnitView) : Type 0 where

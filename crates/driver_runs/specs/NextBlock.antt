@@ -5,10 +5,10 @@ use Rattle.pack_model.specs.Pack.{Pack}
 use Rattle.trace_replay.specs.Replay.{Replay, AreLeft}
 use Rattle.driver_machine.specs.World.{World}
 use Rattle.driver_machine.specs.Sound.{Sound}
-use Rattle.driver_outcome.specs.Outcome.{IsNextBlock}
+use Rattle.driver_trace.specs.Passes.{IsNextBlock}
 use Rattle.driver_trace.specs.Within.{ShowsAll}
 use Rattle.driver_runs.specs.Runs.{AreDeclared}
-use Rattle.run_promises.specs.Beginnings.{IsNextSector, with_next}
+use Rattle.block_machine.specs.Beginnings.{IsNextSector, with_next}
 
 -- THE BLOCK, of a unit that is declared: the packs are left as the replay has them with this block.
 pub record HasNext (drives : ℕ → Option DriveKind) (old left : ℕ → Pack) (s : Replay) : Type 0 where

@@ -16,7 +16,7 @@ use Rattle.driver_machine.specs.Events.{submit_acts, event_acts, next_event}
 use Rattle.driver_machine.specs.Sound.{Sound, AtWork}
 use Rattle.driver_slots.specs.Parts.{AreSetups}
 use Rattle.driver_machine.specs.Runs.{Run, MaySubmit, MayCome}
-use Rattle.driver_outcome.specs.Packs.{packs_after_all}
+use Rattle.driver_trace.specs.Passes.{packs_after_all}
 use Rattle.driver_replay.specs.Acts.{AreSetUp}
 use Rattle.driver_trace.specs.Runs.{IsSoFar}
 

@@ -23,8 +23,8 @@ use Rattle.driver_machine.specs.Guards.{InHand, IsNext, IsApart}
 use Rattle.driver_machine.specs.Acts as deed
 use Rattle.driver_machine.specs.Acts.{Scene, scene_of, with_scene, effect, answer_at}
 use Rattle.driver_machine.specs.Due.{done_with}
-use Rattle.driver_due.specs.DueFacts.{Calls, AtStart, AtStep, AtTransfer, AtChoice, IsJudged, IsDue, Ends, Offline, Locked, Left, Unforwarded, Tried, Finished}
-use Rattle.driver_due.proofs.DueFacts.{due_facts, chosen_facts}
+use Rattle.driver_machine.specs.DueFacts.{Calls, AtStart, AtStep, AtTransfer, AtChoice, IsJudged, IsDue, Ends, Offline, Locked, Left, Unforwarded, Tried, Finished}
+use Rattle.driver_machine.proofs.DueFacts.{due_facts, chosen_facts}
 use Rattle.driver_slots.specs.Parts.{IsServed, AreFrames, AreAnswers}
 use Rattle.driver_slots.proofs.Lists.{Contains-first, Contains-later, put_set, cylinder_of, not_head, Once-drop, Among-behind, Among-left, Among-last, Once-push, Contains-drop}
 use Rattle.driver_slots.proofs.Frames.{frames_at, frames_put}

@@ -18,10 +18,10 @@ use Rattle.driver_machine.specs.Guards.{IsSetUp}
 use Rattle.driver_machine.specs.Sound.{Sound, Among, Once, IsPhase, IsTask, is_waiting}
 use Rattle.driver_replay.proofs.Passes.{false_true}
 use Rattle.driver_machine.specs.Runs.{Run}
-use Rattle.driver_invariant.proofs.Passes.{run_split}
-use Rattle.driver_invariant.proofs.Passes.{deed_at, own_adapter}
-use Rattle.driver_invariant.proofs.Passes.{begun_one}
-use Rattle.driver_invariant.proofs.Passes.{IsServing, serving}
+use Rattle.driver_answers.proofs.Passes.{run_split}
+use Rattle.driver_answers.proofs.Passes.{deed_at, own_adapter}
+use Rattle.driver_answers.proofs.Passes.{begun_one}
+use Rattle.driver_answers.proofs.Passes.{IsServing, serving}
 use Rattle.driver_replay.specs.Shows.{is_coming}
 use Rattle.driver_trace.specs.Within.{Rests}
 use Rattle.driver_trace.proofs.Telling.{Tells}

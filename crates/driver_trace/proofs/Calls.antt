@@ -17,16 +17,16 @@ use Rattle.driver_machine.specs.Acts.{Tried, Taken, after_all}
 use Rattle.driver_machine.specs.Lines.{lines_of_all}
 use Rattle.driver_machine.specs.Events.{submit_by, submit_acts, refusal_of, event_acts, next_event}
 use Rattle.driver_machine.specs.Runs.{Run, Works, MaySubmit, MayCome}
-use Rattle.driver_invariant.proofs.Passes.{submit_works, event_works, taken_works}
-use Rattle.driver_invariant.proofs.Sound.{sound_after}
-use Rattle.driver_outcome.specs.Packs.{packs_after_all}
+use Rattle.driver_answers.proofs.Passes.{submit_works, event_works, taken_works}
+use Rattle.driver_answers.proofs.Passes.{sound_after}
+use Rattle.driver_answers.specs.Packs.{packs_after_all}
 use Rattle.driver_trace.specs.Calls.{Stands}
 use Rattle.driver_trace.proofs.Telling.{IsTold}
 use Rattle.driver_trace.proofs.Named.{IsTriedOn}
 use Rattle.driver_trace.specs.Runs.{IsSoFar, IsDraining, IsOfUnits, with_call, EventsGo, SubmissionsGo, AnswersGo, DrainsStart, DrainsGoOn}
 use Rattle.driver_trace.proofs.Inputs.{arrive_played, attend_played}
 use Rattle.driver_trace.proofs.Submits.{MayJoin, change_played, refused_played, joined_played}
-use Rattle.driver_trace.proofs.Drains.{GoesOn, move_played, drain_begins, drain_goes_on, drain_between}
+use Rattle.driver_trace.proofs.DrainsLaws.{GoesOn, move_played, drain_begins, drain_goes_on, drain_between}
 use Rattle.driver_trace.proofs.Runs.{call_goes, drain_starts, drain_continues}
 use Rattle.driver_trace.proofs.Start.{taken_goes}
 use Rattle.driver_trace.proofs.ReadSectors.{tried_on}

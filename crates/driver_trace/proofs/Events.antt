@@ -18,7 +18,7 @@ use Rattle.driver_machine.specs.Events.{attended, drives, can_attend}
 use Rattle.driver_machine.specs.Sound.{Sound, Among}
 use Rattle.driver_replay.proofs.Passes.{false_true}
 use Rattle.driver_machine.specs.Runs.{Run}
-use Rattle.driver_outcome.specs.Packs.{packs_after_all}
+use Rattle.driver_answers.specs.Packs.{packs_after_all}
 use Rattle.driver_trace.specs.Within.{ShowsAll, Rests}
 use Rattle.driver_trace.proofs.Telling.{within_all, Tells, IsTold}
 use Rattle.driver_trace.specs.Calls.{IsSurfaceOf, IsOverWithin}

@@ -26,8 +26,8 @@ use Rattle.driver_machine.specs.Sound.{IsPhase, IsTask, is_waiting}
 use Rattle.driver_replay.proofs.Passes.{false_true}
 use Rattle.driver_replay.proofs.Passes.{own_unit, resting}
 use Rattle.driver_machine.specs.Runs.{Run}
-use Rattle.driver_invariant.proofs.Passes.{deed_at}
-use Rattle.driver_invariant.proofs.Passes.{in_hand_one}
+use Rattle.driver_answers.proofs.Passes.{deed_at}
+use Rattle.driver_answers.proofs.Passes.{in_hand_one}
 use Rattle.driver_trace.specs.Within.{Rests}
 use Rattle.driver_trace.proofs.Telling.{Speaks, IsTold}
 use Rattle.driver_trace.specs.Calls.{IsSurfaceOf, Stands, IsOverWithin}

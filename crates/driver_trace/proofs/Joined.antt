@@ -10,8 +10,8 @@ use Rattle.driver_machine.specs.World.{World}
 use Rattle.driver_machine.specs.Acts.{Act, after, after_all}
 use Rattle.driver_machine.specs.Lines.{lines_of, lines_of_all}
 use Rattle.driver_machine.specs.Events.{Part, followed}
-use Rattle.driver_outcome.specs.Packs.{packs_after, packs_after_all}
-use Rattle.driver_invariant.proofs.Passes.{after_append}
+use Rattle.driver_answers.specs.Packs.{packs_after, packs_after_all}
+use Rattle.driver_answers.proofs.Passes.{after_append}
 use Rattle.driver_trace.proofs.Telling.{told_within, within, within_all, LineFollows, LinesFollow, Tells}
 
 -- behind the last of some moments a drain goes on

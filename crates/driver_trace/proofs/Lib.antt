@@ -9,7 +9,7 @@ pub mod Inputs
 pub mod Submits
 pub mod Moves
 pub mod Lowest
-pub mod Drains
+pub mod DrainsLaws
 pub mod Runs
 pub mod Start
 pub mod Calls
@@ -19,3 +19,8 @@ pub mod LiveNoises
 pub mod Marks
 pub mod Named
 pub mod Telling
+pub mod Fronts
+pub mod Asked
+pub mod DrainsTelling
+pub mod Falls
+pub mod Passes

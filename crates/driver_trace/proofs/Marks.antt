@@ -7,7 +7,7 @@ use Rattle.hardware_table.specs.Moves.{was_written}
 use Rattle.driver_machine.specs.World.{World, unit_at}
 use Rattle.driver_machine.specs.Acts as deed
 use Rattle.driver_machine.specs.Acts.{Act, Refuse, Submit, Of, Change, Nothing, Taken, Deed, after}
-use Rattle.driver_outcome.specs.Packs.{packs_after}
+use Rattle.driver_answers.specs.Packs.{packs_after}
 use Rattle.driver_trace.specs.Left.{SectorsAreLeft, MarksStay}
 use Rattle.driver_trace.proofs.Moves.{written_marks}
 

@@ -32,10 +32,10 @@ use Rattle.driver_machine.specs.Sound.{Sound}
 use Rattle.driver_replay.proofs.Passes.{false_true}
 use Rattle.driver_replay.proofs.Passes.{own_unit}
 use Rattle.driver_machine.specs.Runs.{Run}
-use Rattle.driver_invariant.proofs.Passes.{deed_at}
-use Rattle.driver_invariant.proofs.Passes.{in_hand_one}
-use Rattle.driver_invariant.proofs.Passes.{IsServing, serving}
-use Rattle.driver_outcome.specs.Packs.{packs_after}
+use Rattle.driver_answers.proofs.Passes.{deed_at}
+use Rattle.driver_answers.proofs.Passes.{in_hand_one}
+use Rattle.driver_answers.proofs.Passes.{IsServing, serving}
+use Rattle.driver_answers.specs.Packs.{packs_after}
 use Rattle.driver_replay.specs.Shows.{Shows, is_coming, IsOnSurface}
 use Rattle.driver_replay.proofs.Writes.{writes_show}
 use Rattle.driver_replay.proofs.Facts.{At, at_facts}

@@ -20,7 +20,7 @@ use Rattle.trace_replay.specs.Replay.{Replay}
 use Rattle.trace_replay.proofs.ReadBytes.{reads_as_told}
 use Rattle.driver_machine.specs.World.{World, unit_of, unit_at, adapter_at, adapter_of, held_in, slot_in_hand}
 use Rattle.driver_machine.specs.Acts.{Tried, Of, Sector, scene_of}
-use Rattle.driver_outcome.specs.Packs.{Reads}
+use Rattle.driver_answers.specs.Packs.{Reads}
 use Rattle.driver_replay.specs.Shows.{IsOnSurface}
 use Rattle.driver_trace.specs.Within.{ShowsAll}
 use Rattle.driver_trace.specs.Calls.{IsSurfaceOf, IsReadOf}

@@ -15,8 +15,8 @@ use Rattle.driver_machine.proofs.Measure.{is_resting}
 use Rattle.driver_machine.specs.Sound.{Sound, is_waiting}
 use Rattle.driver_replay.proofs.Passes.{due_over}
 use Rattle.driver_machine.specs.Runs.{Run}
-use Rattle.driver_invariant.proofs.Passes.{deed_at}
-use Rattle.driver_invariant.proofs.Passes.{begun_one}
+use Rattle.driver_answers.proofs.Passes.{deed_at}
+use Rattle.driver_answers.proofs.Passes.{begun_one}
 use Rattle.driver_replay.specs.Shows.{Shows, with_coming, is_coming}
 use Rattle.driver_trace.specs.Within.{ShowsAll, Rests}
 use Rattle.driver_trace.proofs.Telling.{Speaks, Tells}

@@ -21,14 +21,14 @@ use Rattle.driver_machine.specs.Guards.{Allowed}
 use Rattle.driver_machine.specs.Sound.{Sound, AtWork}
 use Rattle.driver_replay.proofs.Passes.{effect_same}
 use Rattle.driver_machine.specs.Runs.{Run}
-use Rattle.driver_invariant.proofs.Passes.{next_can}
-pub use Rattle.driver_invariant.proofs.Sound.{sound_after}
-use Rattle.driver_outcome.specs.Packs.{packs_after_all}
+use Rattle.driver_answers.proofs.Passes.{next_can}
+pub use Rattle.driver_answers.proofs.Passes.{sound_after}
+use Rattle.driver_answers.specs.Packs.{packs_after_all}
 use Rattle.driver_trace.specs.Calls.{Ends, IsLeft, AreThere}
 use Rattle.driver_trace.proofs.Telling.{IsTold}
 use Rattle.driver_trace.proofs.Named.{IsTriedOn}
 use Rattle.driver_trace.specs.Runs.{IsSoFar, IsDraining}
-use Rattle.driver_trace.proofs.Drains.{GoesOn, drain_goes_on, drain_between, drain_begins, drain_idle, event_goes, call_left, drain_left, none_outstanding}
+use Rattle.driver_trace.proofs.DrainsLaws.{GoesOn, drain_goes_on, drain_between, drain_begins, drain_idle, event_goes, call_left, drain_left, none_outstanding}
 
 -- THE UNITS that are set up stay so.
 same_or : (x y : ℕ) → (x ≡ y) ⊎ (x ≢ y)

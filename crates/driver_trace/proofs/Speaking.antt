@@ -21,9 +21,9 @@ use Rattle.driver_replay.proofs.Passes.{due_facts}
 use Rattle.driver_replay.proofs.Passes.{other_unit, effect_same}
 use Rattle.driver_replay.proofs.Passes.{IsNext, next_cases, own_unit}
 use Rattle.driver_machine.specs.Runs.{Run}
-use Rattle.driver_invariant.proofs.Passes.{deed_at, own_adapter}
-use Rattle.driver_invariant.proofs.Sound.{sound_after}
-use Rattle.driver_outcome.specs.Packs.{packs_after}
+use Rattle.driver_answers.proofs.Passes.{deed_at, own_adapter}
+use Rattle.driver_answers.proofs.Passes.{sound_after}
+use Rattle.driver_answers.specs.Packs.{packs_after}
 use Rattle.driver_replay.specs.Shows.{Shows, IsOnSurface}
 use Rattle.driver_replay.specs.Laws.{IsSaid, told_by}
 use Rattle.driver_replay.proofs.EachDeed.{lines_are_said, silent_deeds_show}

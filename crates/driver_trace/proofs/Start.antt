@@ -14,8 +14,8 @@ use Rattle.driver_machine.specs.World.{World, Setup, new_world, unit_at}
 use Rattle.driver_machine.specs.Acts.{Taken, after}
 use Rattle.driver_machine.specs.Guards.{IsSetUp}
 use Rattle.driver_machine.specs.Sound.{Sound, AtWork}
-use Rattle.driver_invariant.specs.Passes.{AreSetups}
-use Rattle.driver_invariant.proofs.Passes.{sound_new, rests_new}
+use Rattle.driver_answers.specs.Passes.{AreSetups}
+use Rattle.driver_answers.proofs.Passes.{sound_new, rests_new}
 use Rattle.driver_replay.specs.Shows.{Shows, is_coming}
 use Rattle.driver_replay.specs.Acts.{AreSetUp}
 use Rattle.driver_replay.proofs.Rest.{start_is_shown, rest_shows}

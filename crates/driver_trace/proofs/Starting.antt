@@ -17,11 +17,11 @@ use Rattle.driver_machine.specs.Events.{Part, go_on, until, begun, choose_by, ch
 use Rattle.driver_machine.specs.Guards.{Allowed, IsSetUp}
 use Rattle.driver_machine.specs.Sound.{Sound, Among, is_waiting}
 use Rattle.driver_machine.specs.Runs.{Run}
-use Rattle.driver_invariant.proofs.Passes.{run_split}
-use Rattle.driver_invariant.proofs.Passes.{deed_at}
-use Rattle.driver_invariant.proofs.Passes.{begun_one}
-use Rattle.driver_invariant.proofs.Passes.{start_is, no_more}
-use Rattle.driver_invariant.proofs.Sound.{sound_after}
+use Rattle.driver_answers.proofs.Passes.{run_split}
+use Rattle.driver_answers.proofs.Passes.{deed_at}
+use Rattle.driver_answers.proofs.Passes.{begun_one}
+use Rattle.driver_answers.proofs.Passes.{start_is, no_more}
+use Rattle.driver_answers.proofs.Passes.{sound_after}
 use Rattle.driver_replay.specs.Shows.{is_coming}
 use Rattle.driver_replay.specs.Laws.{told_by}
 use Rattle.driver_trace.specs.Within.{Rests}

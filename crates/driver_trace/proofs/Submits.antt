@@ -30,10 +30,10 @@ use Rattle.driver_machine.specs.Events.{followed, and_then, choose_by, choose_ac
 use Rattle.driver_machine.specs.Guards.{Allowed, IsSetUp, IsHeldFor, MayChange}
 use Rattle.driver_machine.specs.Sound.{Sound, AtWork, WorkOf}
 use Rattle.driver_machine.specs.Runs.{Run}
-use Rattle.driver_invariant.proofs.Passes.{run_split}
-use Rattle.driver_invariant.proofs.Passes.{until_stop}
-use Rattle.driver_invariant.proofs.Sound.{sound_after}
-use Rattle.driver_outcome.specs.Packs.{packs_after_all}
+use Rattle.driver_answers.proofs.Passes.{run_split}
+use Rattle.driver_answers.proofs.Passes.{until_stop}
+use Rattle.driver_answers.proofs.Passes.{sound_after}
+use Rattle.driver_answers.specs.Packs.{packs_after_all}
 use Rattle.driver_replay.specs.Shows.{Shows}
 use Rattle.driver_replay.specs.Acts.{IsRefused, IsAtWorkFor}
 use Rattle.driver_replay.proofs.Rest.{refusals_show, joins_show, changes_show}

@@ -12,7 +12,7 @@ use Rattle.driver_machine.specs.Lines.{lines_of_all}
 use Rattle.driver_machine.specs.Guards.{IsSetUp}
 use Rattle.driver_machine.specs.Sound.{Sound}
 use Rattle.driver_replay.specs.Shows.{Shows}
-use Rattle.driver_outcome.specs.Packs.{packs_after_all}
+use Rattle.driver_answers.specs.Packs.{packs_after_all}
 use Rattle.driver_trace.specs.Within.{IsEvent}
 use Rattle.driver_trace.specs.Calls.{Ends}
 

@@ -12,7 +12,7 @@ use Rattle.driver_machine.specs.Acts.{Tried}
 use Rattle.driver_machine.specs.Events.{can_move}
 use Rattle.drive_model.specs.Move.{struck_at}
 use Rattle.trace_replay.specs.Bytes.{ArePlaces}
-use Rattle.driver_outcome.specs.Packs.{IsOfPack}
+use Rattle.driver_answers.specs.Packs.{IsOfPack}
 use Rattle.driver_machine.specs.Sound.{Sound, AtWork}
 use Rattle.trace_replay.specs.Conversation.{goes_on}
 use Rattle.driver_trace.specs.Within.{ShowsAll, Rests}

@@ -5,7 +5,7 @@ use Rattle.trace_replay.specs.Moments.{Moment}
 use Rattle.trace_replay.specs.Replay.{Replay, after_moments}
 use Rattle.driver_machine.specs.World.{World}
 use Rattle.driver_machine.specs.Acts.{Act}
-use Rattle.driver_outcome.specs.Packs.{packs_after_all}
+use Rattle.driver_answers.specs.Packs.{packs_after_all}
 use Rattle.driver_trace.specs.Runs.{IsSoFar}
 
 -- each sector is the surface's,

@@ -3,3 +3,6 @@ pub mod Calls
 pub mod Runs
 pub mod Noises
 pub mod Left
+pub mod Fronts
+pub mod Drains
+pub mod Passes

@@ -16,9 +16,9 @@ use Rattle.driver_machine.specs.Lines.{lines_of_all}
 use Rattle.driver_machine.specs.Events.{refusal_of, submit_acts, event_acts, next_event}
 use Rattle.driver_machine.specs.Guards.{IsSetUp, IsHeldFor}
 use Rattle.driver_machine.specs.Sound.{AtWork}
-use Rattle.driver_invariant.specs.Passes.{AreSetups}
+use Rattle.driver_answers.specs.Passes.{AreSetups}
 use Rattle.driver_machine.specs.Runs.{MaySubmit, MayCome}
-use Rattle.driver_outcome.specs.Packs.{packs_after_all}
+use Rattle.driver_answers.specs.Packs.{packs_after_all}
 use Rattle.driver_replay.specs.Acts.{AreSetUp}
 use Rattle.driver_trace.specs.Calls.{Ends, IsLeft, AreThere, IsReadOf}
 

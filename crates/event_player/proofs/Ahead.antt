@@ -10,8 +10,8 @@ use Rattle.trace_replay.specs.Script.{Script, Input}
 use Rattle.trace_replay.specs.Replay.{after_moments}
 use Rattle.trace_replay.specs.Runs.{start_of}
 use Rattle.trace_replay.specs.Text.{trace_text, moment_text}
-use Rattle.driver_outcome.specs.Outcome.{IsFront}
-use Rattle.driver_outcome.proofs.Joined.{front_same, front_of_front}
+use Rattle.driver_answers.specs.Outcome.{IsFront}
+use Rattle.driver_answers.proofs.Joined.{front_same, front_of_front}
 use Rattle.answer_lines.specs.AnswerText.{said_text, out_text}
 use Rattle.run_stops.specs.Writing.{WriteNothing}
 use Rattle.run_stops.specs.Ahead.{IsBetween, SaysOneSector, AreBehind, WritesAhead, TellsAhead}

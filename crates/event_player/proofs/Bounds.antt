@@ -9,11 +9,11 @@ use Rattle.subsystem_spec.specs.ServiceOrder.{Waiting}
 use Rattle.subsystem_spec.specs.Requests.{Request}
 use Rattle.trace_replay.specs.Moments.{Moment}
 use Rattle.trace_replay.specs.Replay.{Replay, UnitSeen, all_units, after_moments}
-use Rattle.trace_bounds.specs.Measure.{blocks_waiting, blocks_of_units, blocks_outstanding}
+use Rattle.trace_work.specs.Measure.{blocks_waiting, blocks_of_units, blocks_outstanding}
 use Rattle.driver_machine.specs.World.{World, Held, no_held, unit_at, slot_at, held_in, adapter_at, adapter_of}
 use Rattle.driver_machine.specs.Guards.{IsSetUp}
 use Rattle.driver_machine.specs.Sound.{Sound, slots_of, IsOutstanding, UnitOk}
-use Rattle.driver_work.proofs.Deeds.{slot_there}
+use Rattle.driver_invariant.proofs.Deeds.{slot_there}
 use Rattle.driver_slots.proofs.Lists.{Contains-first, Contains-later, contained_among}
 use Rattle.driver_replay.specs.Shows.{Match, IsUnitSeen}
 use Rattle.run_stops.specs.Passes.{ShowsAll}

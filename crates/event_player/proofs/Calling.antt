@@ -13,16 +13,16 @@ use Rattle.driver_machine.specs.Lines.{lines_of_all}
 use Rattle.driver_machine.specs.Events.{submit_acts, event_acts}
 use Rattle.driver_machine.specs.Sound.{Sound, AtWork}
 use Rattle.driver_machine.specs.Runs.{Run}
-use Rattle.driver_outcome.specs.Outcome.{Does, StopsAtTrace, IsFront, IsNextBlock}
-use Rattle.driver_outcome.specs.declared.Stop.{Stop}
-use Rattle.driver_outcome.specs.declared.Stop.TheVariants as stop
-use Rattle.driver_outcome.proofs.Joined.{front_same, front_more, front_of_front}
+use Rattle.driver_answers.specs.Outcome.{Does, StopsAtTrace, IsFront, IsNextBlock}
+use Rattle.driver_answers.specs.declared.outcome.Stop.{Stop}
+use Rattle.driver_answers.specs.declared.outcome.Stop.TheVariants as stop
+use Rattle.driver_answers.proofs.Joined.{front_same, front_more, front_of_front}
 use Rattle.run_stops.specs.Passes.{AllFlip}
 use Rattle.driver_answers.specs.Waiting.{waiting, all_taken}
 use Rattle.driver_answers.proofs.Waiting.{events_alone, submissions_alone}
 use Rattle.answer_lines.specs.AnswerText.{out_text}
-use Rattle.answer_tally.specs.declared.tally.Tally.{Tally}
-use Rattle.answer_tally.specs.Counting.{Counts}
+use Rattle.answer_lines.specs.declared.tally.Tally.{Tally}
+use Rattle.answer_lines.specs.Counting.{Counts}
 use Rattle.run_stops.specs.Passes.{Submits, Comes, seen, is_move, writes_by}
 use Rattle.event_player.specs.declared.play.PlayFault.TheVariants as playing
 use Rattle.event_player.specs.Faults.{from_stop}

@@ -11,17 +11,17 @@ use Rattle.trace_replay.specs.Packs.{surface_of}
 use Rattle.trace_replay.specs.Replay.{Replay, WorkMay, Follows, after_moment, after_moments}
 use Rattle.trace_replay.specs.Runs.{start_of}
 use Rattle.trace_replay.specs.Text.{moment_text}
-use Rattle.trace_bounds.specs.Drains.{IsOf}
+use Rattle.trace_work.specs.Drains.{IsOf}
 use Rattle.driver_machine.specs.Acts.{Act, Tried}
 use Rattle.driver_machine.specs.Lines.{lines_of_all}
 use Rattle.driver_machine.specs.Events.{submit_acts, event_acts, next_event}
 use Rattle.driver_machine.specs.Runs.{Works, MayCome}
-use Rattle.driver_work.proofs.Next.{next_can}
-use Rattle.driver_work.proofs.Calls.{event_works}
+use Rattle.driver_invariant.proofs.Next.{next_can}
+use Rattle.driver_invariant.proofs.Calls.{event_works}
 use Rattle.driver_invariant.proofs.Sound.{sound_after}
-use Rattle.driver_outcome.specs.Outcome.{IsFront}
-use Rattle.driver_outcome.specs.Packs.{packs_after_all}
-use Rattle.driver_outcome.proofs.Joined.{front_same}
+use Rattle.driver_answers.specs.Outcome.{IsFront}
+use Rattle.driver_answers.specs.Packs.{packs_after_all}
+use Rattle.driver_answers.proofs.Joined.{front_same}
 use Rattle.run_stops.specs.Passes.{ShowsAll}
 use Rattle.run_stops.specs.Passes.{with_call}
 use Rattle.run_stops.proofs.Passes.{lines_play_nothing}

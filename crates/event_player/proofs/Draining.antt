@@ -9,17 +9,17 @@ use Rattle.trace_replay.specs.Script.{Script, Input, Line}
 use Rattle.trace_replay.specs.Text.{moment_text}
 use Rattle.trace_replay.specs.Replay.{Replay, after_moments}
 use Rattle.trace_replay.specs.Runs.{start_of}
-use Rattle.trace_bounds.specs.Measure.{events_left, blocks_outstanding}
+use Rattle.trace_work.specs.Measure.{events_left, blocks_outstanding}
 use Rattle.driver_machine.specs.World.{World}
 use Rattle.driver_machine.specs.Acts.{Act, Nothing, Tried, after_all}
 use Rattle.driver_machine.specs.Lines.{lines_of_all}
 use Rattle.driver_machine.specs.Events.{event_acts, next_event}
-use Rattle.driver_outcome.specs.Packs.{packs_after_all}
+use Rattle.driver_answers.specs.Packs.{packs_after_all}
 use Rattle.run_stops.specs.Passes.{with_call}
 use Rattle.run_stops.specs.Passes.{ShowsAll}
 use Rattle.run_stops.proofs.Passes.{drained_shows}
-use Rattle.answer_tally.specs.Counting.{CountsAll}
-use Rattle.answer_tally.proofs.CountLaws.{counts_none, counts_more}
+use Rattle.answer_lines.specs.Counting.{CountsAll}
+use Rattle.answer_lines.proofs.CountLaws.{counts_none, counts_more}
 use Rattle.driver_answers.specs.Waiting.{all_taken}
 use Rattle.run_stops.specs.Passes.{writes_by}
 use Rattle.run_stops.specs.Writing.{WriteNothing}

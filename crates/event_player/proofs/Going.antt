@@ -10,8 +10,8 @@ use Rattle.trace_replay.specs.Script.{Script, Input, Statement, Declares, Plays,
 use Rattle.trace_replay.specs.Packs.{surface_of}
 use Rattle.trace_replay.specs.Replay.{Replay, after_moments}
 use Rattle.trace_replay.specs.Runs.{start_of}
-use Rattle.trace_bounds.specs.Measure.{events_left, blocks_outstanding}
-use Rattle.trace_bounds.specs.Drains.{IsOf}
+use Rattle.trace_work.specs.Measure.{events_left, blocks_outstanding}
+use Rattle.trace_work.specs.Drains.{IsOf}
 use Rattle.driver_machine.specs.World.{World, Held, unit_at}
 use Rattle.driver_machine.specs.Acts.{Act, Nothing, Tried, after_all}
 use Rattle.driver_machine.specs.Lines.{lines_of_all}
@@ -19,9 +19,9 @@ use Rattle.driver_machine.specs.Events.{refusal_of, submit_acts, event_acts, nex
 use Rattle.driver_machine.specs.Guards.{IsHeldFor}
 use Rattle.driver_machine.specs.Sound.{Sound, AtWork}
 use Rattle.driver_machine.specs.Runs.{Works, MaySubmit, MayCome}
-use Rattle.driver_work.proofs.Calls.{event_works, submit_works}
+use Rattle.driver_invariant.proofs.Calls.{event_works, submit_works}
 use Rattle.driver_invariant.proofs.Sound.{sound_after}
-use Rattle.driver_outcome.specs.Packs.{packs_after_all}
+use Rattle.driver_answers.specs.Packs.{packs_after_all}
 use Rattle.run_stops.specs.Passes.{IsReadOf}
 use Rattle.run_stops.specs.Passes.{ShowsAll}
 use Rattle.run_stops.specs.Passes.{IsOfUnits, with_call}

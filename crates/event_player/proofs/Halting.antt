@@ -8,7 +8,7 @@ use Rattle.pack_model.specs.PackTable.{AreTablesOf}
 use Rattle.pack_model.specs.TableSpelling.{Table}
 use Rattle.outside_traits.specs.Puts.{Puts}
 use Rattle.outside_traits.specs.declared.traits.SinkFailed.{SinkFailed}
-use Rattle.mass_gather.proofs.GatherLaws.{rose_more}
+use Rattle.outside_traits.proofs.GatherLaws.{rose_more}
 use Rattle.subsystem_spec.specs.Requests.{Request}
 use Rattle.trace_replay.specs.Moments.{Moment, Played, Idle, played}
 use Rattle.trace_replay.specs.Script as says
@@ -21,13 +21,13 @@ use Rattle.driver_machine.specs.World.{World, new_world}
 use Rattle.driver_machine.specs.Acts.{Act, Tried, after_all}
 use Rattle.driver_machine.specs.Events.{event_acts, next_event}
 use Rattle.driver_machine.specs.Guards.{IsSetUp}
-use Rattle.driver_outcome.specs.Outcome.{IsFront}
-use Rattle.driver_outcome.specs.Packs.{packs_after_all}
-use Rattle.driver_outcome.proofs.Joined.{front_same, front_more, front_of_front}
+use Rattle.driver_answers.specs.Outcome.{IsFront}
+use Rattle.driver_answers.specs.Packs.{packs_after_all}
+use Rattle.driver_answers.proofs.Joined.{front_same, front_more, front_of_front}
 use Rattle.run_stops.specs.Passes.{AskBelow}
 use Rattle.run_stops.specs.Passes.{with_call}
 use Rattle.answer_lines.specs.AnswerText.{said_text, out_text}
-use Rattle.answer_tally.specs.declared.tally.Tally.{Tally}
+use Rattle.answer_lines.specs.declared.tally.Tally.{Tally}
 use Rattle.hp_core.specs.declared.start.UnitSetup.{UnitSetup}
 use Rattle.hp_core.specs.Setups.{setups_of}
 use Rattle.run_stops.specs.Passes.{Event}

@@ -10,20 +10,20 @@ use Rattle.trace_replay.specs.Script as says
 use Rattle.trace_replay.specs.Script.{Script, Input, Line}
 use Rattle.trace_replay.specs.Replay.{Replay, after_moments}
 use Rattle.trace_replay.specs.Runs.{start_of}
-use Rattle.trace_bounds.specs.Drains.{IsOf}
+use Rattle.trace_work.specs.Drains.{IsOf}
 use Rattle.driver_machine.specs.World.{World}
 use Rattle.driver_machine.specs.Acts.{Act, Tried, after_all}
 use Rattle.driver_machine.specs.Lines.{lines_of_all}
 use Rattle.driver_machine.specs.Events.{submit_acts, event_acts}
-use Rattle.driver_outcome.specs.Packs.{packs_after_all}
-use Rattle.driver_outcome.specs.Outcome.{IsFront}
+use Rattle.driver_answers.specs.Packs.{packs_after_all}
+use Rattle.driver_answers.specs.Outcome.{IsFront}
 use Rattle.run_stops.specs.Passes.{with_call}
 use Rattle.run_stops.proofs.Passes.{lines_play_nothing}
 use Rattle.driver_answers.specs.Waiting.{waiting, all_taken}
 use Rattle.driver_answers.proofs.Waiting.{events_alone, submissions_alone}
 use Rattle.answer_lines.specs.AnswerText.{answer_text, said_text, out_text}
-use Rattle.answer_tally.specs.Counting.{Counts, CountsAll}
-use Rattle.answer_tally.proofs.CountLaws.{counts_none, counts_both, counts_same}
+use Rattle.answer_lines.specs.Counting.{Counts, CountsAll}
+use Rattle.answer_lines.proofs.CountLaws.{counts_none, counts_both, counts_same}
 use Rattle.run_stops.specs.Passes.{IsThere, writes_by}
 use Rattle.run_stops.specs.Writing.{WriteNothing}
 use Rattle.run_stops.specs.Ahead.{AreBehind}

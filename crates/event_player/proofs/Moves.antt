@@ -13,7 +13,7 @@ use Rattle.driver_machine.specs.Lines.{lines_of_all}
 use Rattle.driver_machine.specs.Events.{event_acts, in_hand, in_hand_by, or_nothing, can_move}
 use Rattle.driver_machine.specs.Sound.{Sound}
 use Rattle.driver_machine.specs.Runs.{Run, MayCome}
-use Rattle.driver_outcome.specs.Packs.{ReadAll}
+use Rattle.driver_answers.specs.Packs.{ReadAll}
 use Rattle.run_stops.specs.Passes.{IsReadOf}
 use Rattle.run_stops.specs.Passes.{AllFlip}
 use Rattle.run_stops.proofs.Passes.{IsNoMove}

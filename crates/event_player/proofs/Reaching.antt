@@ -9,7 +9,7 @@ use Rattle.driver_machine.specs.Acts.{Act, Taken, after}
 use Rattle.driver_machine.specs.Lines.{lines_of_all}
 use Rattle.driver_machine.specs.Sound.{Sound}
 use Rattle.driver_invariant.proofs.Sound.{sound_after}
-use Rattle.driver_outcome.specs.Outcome.{IsNextBlock}
+use Rattle.driver_answers.specs.Outcome.{IsNextBlock}
 use Rattle.run_stops.specs.Passes.{with_call}
 use Rattle.run_stops.proofs.Passes.{calls_are_played, lines_play_nothing}
 use Rattle.run_stops.specs.Passes.{AsksBelow, AskBelow, IsWithinReach, StayFrom}

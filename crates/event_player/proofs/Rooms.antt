@@ -16,10 +16,10 @@ use Rattle.driver_machine.specs.Events.{submit_by, submit_acts, event_acts, refu
 use Rattle.driver_slots.proofs.Sizes.{sizes_all}
 use Rattle.driver_slots.proofs.Lists.{Contains-later, Contains-cases}
 use Rattle.driver_machine.specs.Runs.{CanCome}
-use Rattle.driver_work.proofs.Next.{next_can}
-use Rattle.driver_counts.specs.Counts.{IsWithin, in_use, noises_of, faults_of}
-use Rattle.driver_counts.proofs.Acts.{takings_add, capacity_stays}
-use Rattle.driver_counts.proofs.Events.{events_add, submissions_add}
+use Rattle.driver_invariant.proofs.Next.{next_can}
+use Rattle.driver_answers.specs.Counts.{IsWithin, in_use, noises_of, faults_of}
+use Rattle.driver_answers.proofs.Acts.{takings_add, capacity_stays}
+use Rattle.driver_answers.proofs.Events.{events_add, submissions_add}
 use Rattle.driver_answers.specs.Ids.{AreOf}
 use Rattle.driver_answers.proofs.Ids.{events_add_none, taking_adds_none, no_others}
 use Rattle.driver_answers.proofs.Ids as ids

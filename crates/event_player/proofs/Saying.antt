@@ -5,15 +5,15 @@ use Rattle.std.proofs.lemmas.Bool.{false≢true}
 use Rattle.outside_traits.specs.Causes.{Rose}
 use Rattle.outside_traits.specs.Puts.{Puts}
 use Rattle.outside_traits.specs.declared.traits.SinkFailed.{SinkFailed}
-use Rattle.mass_gather.specs.Gathers.{Gathers}
+use Rattle.outside_traits.specs.Gathers.{Gathers}
 use Rattle.pack_model.specs.Pack.{Pack}
 use Rattle.trace_replay.specs.Moments.{Played}
 use Rattle.trace_replay.specs.Script.{Input}
 use Rattle.driver_machine.specs.World.{World}
-use Rattle.driver_outcome.specs.Outcome.{IsFront}
-use Rattle.driver_outcome.proofs.Joined.{front_same, front_more, front_of_front}
+use Rattle.driver_answers.specs.Outcome.{IsFront}
+use Rattle.driver_answers.proofs.Joined.{front_same, front_more, front_of_front}
 use Rattle.answer_lines.specs.AnswerText.{said_text}
-use Rattle.answer_tally.specs.declared.tally.Tally.{Tally}
+use Rattle.answer_lines.specs.declared.tally.Tally.{Tally}
 use Rattle.run_stops.specs.Ahead.{IsBetween}
 use Rattle.event_player.specs.Saying.{Side, side, Says, SendsAhead}
 use Rattle.event_player.specs.Steps.{Stage, Passes, PassesAhead}

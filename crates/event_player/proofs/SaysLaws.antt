@@ -4,9 +4,9 @@ use Rattle.std.specs.Prelude.{Result, Ok, Err, OnOk, OnErr, IsErr}
 use Rattle.std.proofs.lemmas.List.{append_cancel_left}
 use Rattle.outside_traits.specs.Causes.{Rose}
 use Rattle.outside_traits.specs.declared.traits.SinkFailed.{SinkFailed}
-use Rattle.mass_gather.proofs.GatherLaws.{rose_more}
-use Rattle.driver_outcome.specs.Outcome.{IsFront}
-use Rattle.driver_outcome.proofs.Joined.{front_of_front}
+use Rattle.outside_traits.proofs.GatherLaws.{rose_more}
+use Rattle.driver_answers.specs.Outcome.{IsFront}
+use Rattle.driver_answers.proofs.Joined.{front_of_front}
 use Rattle.run_stops.specs.Ahead.{IsBetween}
 use Rattle.event_player.specs.Saying.{Side, Says}
 

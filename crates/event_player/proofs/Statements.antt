@@ -19,12 +19,12 @@ use Rattle.trace_replay.specs.Moments.{Moment, Played}
 use Rattle.trace_replay.specs.Script as says
 use Rattle.trace_replay.specs.Script.{Script, Input, Statement, Plays, Line}
 use Rattle.trace_replay.specs.Runs.{start_of}
-use Rattle.trace_bounds.specs.Drains.{IsOf}
+use Rattle.trace_work.specs.Drains.{IsOf}
 use Rattle.driver_machine.specs.World.{World}
 use Rattle.driver_machine.specs.Guards.{IsSetUp}
-use Rattle.driver_outcome.specs.Outcome.{IsFront}
+use Rattle.driver_answers.specs.Outcome.{IsFront}
 use Rattle.answer_lines.specs.AnswerText.{said_text}
-use Rattle.answer_tally.specs.Counting.{Counts}
+use Rattle.answer_lines.specs.Counting.{Counts}
 use Rattle.run_stops.specs.Passes.{Event}
 use Rattle.hp_events.specs.declared.drain.Event.TheVariants as event
 use Rattle.subsystem_spec.specs.declared.request.Request as driver

@@ -14,8 +14,8 @@ use Rattle.driver_machine.specs.Lines.{lines_of_all}
 use Rattle.driver_machine.specs.Events.{event_acts}
 use Rattle.driver_machine.specs.Sound.{Sound}
 use Rattle.driver_machine.specs.Runs.{Run, MayCome}
-use Rattle.driver_outcome.specs.Outcome.{IsFront, IsNextBlock}
-use Rattle.driver_outcome.specs.Packs.{ReadAll, packs_after_all}
+use Rattle.driver_answers.specs.Outcome.{IsFront, IsNextBlock}
+use Rattle.driver_answers.specs.Packs.{ReadAll, packs_after_all}
 use Rattle.run_stops.specs.Passes.{AreDeclared}
 use Rattle.run_stops.specs.Passes.{AskBelow, TablesBelow, IsWithinReach}
 use Rattle.run_stops.specs.Passes.{IsReadOf}

@@ -9,9 +9,9 @@ use Rattle.driver_machine.specs.Sound.{Sound}
 use Rattle.driver_answers.specs.Waiting.{told_by, waiting, TakingDrops}
 use Rattle.answer_lines.specs.AnswerText.{answer_text, block_text, block_texts}
 use Rattle.answer_lines.proofs.TextLaws.{one_more}
-use Rattle.answer_tally.specs.declared.tally.Tally.{Tally}
-use Rattle.answer_tally.specs.Counting.{Counts}
-use Rattle.answer_tally.proofs.CountLaws.{counts_none, counts_both, counts_same}
+use Rattle.answer_lines.specs.declared.tally.Tally.{Tally}
+use Rattle.answer_lines.specs.Counting.{Counts}
+use Rattle.answer_lines.proofs.CountLaws.{counts_none, counts_both, counts_same}
 use Rattle.event_player.specs.Answering.{first_told, first_text, IsFirst}
 use Rattle.event_player.specs.Steps.{waiting_text}
 use Rattle.event_player.proofs.AnswerLaws.{told_taken, text_taken}

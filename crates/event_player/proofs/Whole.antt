@@ -26,10 +26,10 @@ use Rattle.run_stops.proofs.Passes.{starts}
 use Rattle.run_stops.proofs.Passes.{starts_kept, runs_are_legal}
 use Rattle.run_stops.specs.Passes.{AskBelow}
 use Rattle.run_stops.proofs.Passes.{starts_within_reach}
-use Rattle.driver_counts.proofs.Starts.{starts_with_none, starts_with_room}
+use Rattle.driver_answers.proofs.Starts.{starts_with_none, starts_with_room}
 use Rattle.driver_answers.proofs.Ids.{starts_of_none}
-use Rattle.answer_tally.specs.Counting.{CountsAll, tally_by}
-use Rattle.answer_tally.proofs.CountLaws.{counts_none, counts_more}
+use Rattle.answer_lines.specs.Counting.{CountsAll, tally_by}
+use Rattle.answer_lines.proofs.CountLaws.{counts_none, counts_more}
 use Rattle.hp_core.specs.declared.start.UnitSetup.{UnitSetup}
 use Rattle.hp_core.specs.Setups.{setups_of}
 use Rattle.run_stops.specs.Passes.{State}

@@ -10,8 +10,8 @@ use Rattle.trace_replay.specs.Runs.{IsLegalRun, start_of}
 use Rattle.trace_replay.specs.Text.{trace_text}
 use Rattle.run_stops.specs.Passes.{AreAsLong}
 use Rattle.answer_lines.specs.AnswerText.{out_text}
-use Rattle.answer_tally.specs.declared.tally.Tally.{Tally}
-use Rattle.answer_tally.specs.Counting.{tally_of}
+use Rattle.answer_lines.specs.declared.tally.Tally.{Tally}
+use Rattle.answer_lines.specs.Counting.{tally_of}
 use Rattle.run_stops.specs.Stops.{StaysBeyond}
 use Rattle.event_player.specs.Playing.{counted, one_request}
 

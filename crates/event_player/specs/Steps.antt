@@ -13,7 +13,7 @@ use Rattle.trace_replay.specs.Moments.{Moment, played}
 use Rattle.trace_replay.specs.Script.{Script, Input, Submit, Drain, Statement, Declares, Plays, Line, drives_of, inputs_before, with_id}
 use Rattle.trace_replay.specs.Replay.{after_moments}
 use Rattle.trace_replay.specs.Runs.{start_of}
-use Rattle.trace_bounds.specs.Measure.{events_left}
+use Rattle.trace_work.specs.Measure.{events_left}
 use Rattle.trace_replay.specs.Text.{trace_text}
 use Rattle.driver_machine.specs.World.{World, Held, unit_at, slot_at}
 use Rattle.driver_machine.specs.Acts.{Act, Tried, after_all}
@@ -22,19 +22,19 @@ use Rattle.driver_machine.specs.Events.{refusal_of, submit_acts, event_acts, nex
 use Rattle.driver_machine.specs.Guards.{IsSetUp, IsHeldFor}
 use Rattle.driver_machine.specs.Sound.{Sound, AtWork}
 use Rattle.driver_machine.specs.Runs.{Run, MaySubmit, MayCome}
-use Rattle.driver_outcome.specs.Packs.{packs_after_all}
+use Rattle.driver_answers.specs.Packs.{packs_after_all}
 use Rattle.run_stops.specs.Passes.{IsReadOf}
 use Rattle.run_stops.specs.Passes.{IsDraining}
 use Rattle.run_stops.specs.Passes.{IsKept}
 use Rattle.run_stops.specs.Passes.{AskBelow, TablesBelow, IsWithinReach}
 use Rattle.run_stops.specs.Passes.{AreAsLong}
 use Rattle.one_run.specs.Passes.{AreAsked}
-use Rattle.driver_counts.specs.Counts.{IsWithin, in_use}
+use Rattle.driver_answers.specs.Counts.{IsWithin, in_use}
 use Rattle.driver_answers.specs.Ids.{AreOf}
 use Rattle.driver_answers.specs.Waiting.{waiting, all_taken}
 use Rattle.answer_lines.specs.AnswerText.{answer_text, out_text}
-use Rattle.answer_tally.specs.declared.tally.Tally.{Tally}
-use Rattle.answer_tally.specs.Counting.{Counts, CountsAll}
+use Rattle.answer_lines.specs.declared.tally.Tally.{Tally}
+use Rattle.answer_lines.specs.Counting.{Counts, CountsAll}
 use Rattle.run_stops.specs.Passes.{State, IsThere, writes_by}
 use Rattle.run_stops.specs.Ahead.{IsBetween, WritesAhead, TellsAhead}
 use Rattle.event_player.specs.declared.play.PlayFault.{PlayFault}

@@ -16,8 +16,8 @@ use Rattle.driver_machine.specs.Events.{refusal_of, submit_acts, event_acts}
 use Rattle.driver_machine.specs.Guards.{IsHeldFor}
 use Rattle.driver_machine.specs.Sound.{Sound}
 use Rattle.driver_machine.specs.Runs.{Run, MaySubmit}
-use Rattle.driver_outcome.specs.Outcome.{IsFront, IsNextBlock}
-use Rattle.driver_outcome.specs.Packs.{ReadAll, packs_after_all}
+use Rattle.driver_answers.specs.Outcome.{IsFront, IsNextBlock}
+use Rattle.driver_answers.specs.Packs.{ReadAll, packs_after_all}
 use Rattle.run_stops.specs.Passes.{AreDeclared}
 use Rattle.run_stops.specs.Passes.{AllFlip}
 use Rattle.run_stops.specs.Passes.{ShowsAll}

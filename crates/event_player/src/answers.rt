@@ -1,7 +1,7 @@
 // The answers that wait are counted and said, and then they are taken.
 ghost use Rattle.std.specs.Prelude.{◌≡◌, ◌+◌, ◌==◌, ◌<◌, ◌≤◌, ℕ, [], ◌∷◌, if◌then◌else◌, OnOk, take, replicate, slice_index_or};
 ghost use Rattle.answer_lines.specs.AnswerText.{block_text};
-ghost use Rattle.answer_tally.specs.Counting.{Counts};
+ghost use Rattle.answer_lines.specs.Counting.{Counts};
 ghost use Rattle.driver_answers.specs.Waiting.{all_taken, waiting};
 ghost use Rattle.subsystem_spec.specs.declared.answers.AnswerKind.TheVariants.{ReadOk};
 ghost use Rattle.event_player.specs.Answering.{first_blocks, first_told, first_text, first_rest, IsFirst, IsFirstKind, HasBlock};
@@ -10,7 +10,7 @@ ghost use Rattle.event_player.specs.Steps.{waiting_text};
 
 use crate::desk::Desk;
 use answer_lines::{answer_line, write_fill};
-use driver_answers::taken_law;
+use driver_answers::answers::taken_law;
 use outside_traits::traits::{Sink, SinkFailed};
 use run_stops::{Answer, AnswerKind, Subsystem};
 

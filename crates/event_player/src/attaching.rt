@@ -5,7 +5,7 @@ ghost use Rattle.pack_model.specs.PackTable.{AreTablesOf};
 ghost use Rattle.pack_model.specs.TableSpelling.{IsTable};
 ghost use Rattle.script_reader.specs.Grammar.{Spells};
 ghost use Rattle.script_reader.specs.Stored.{lines_in};
-ghost use Rattle.script_words.specs.Words.{all_verbs};
+ghost use Rattle.script_lines.specs.Words.{all_verbs};
 ghost use Rattle.script_meaning.specs.Meaning.{meaning_of};
 ghost use Rattle.trace_replay.specs.Script.{drives_of};
 ghost use Rattle.hp_core.specs.Setups.{setup_of, setups_of};

@@ -1,11 +1,10 @@
 // Where answers are written: what is gathered for their sink, and what is counted of them.
 ghost use Rattle.std.specs.Prelude.{◌≡◌, [], IfOk, OnOk};
-ghost use Rattle.answer_tally.specs.Counting.{Counts, tally_by};
+ghost use Rattle.answer_lines.specs.Counting.{Counts, tally_by};
 ghost use Rattle.event_player.specs.Saying.{side, Says};
 
-use answer_lines::{BlockLine, FillLine};
-use answer_tally::Tally;
-use mass_gather::Gather;
+use answer_lines::{BlockLine, FillLine, Tally};
+use outside_traits::Gather;
 use outside_traits::traits::{NoMemory, Sink, SinkFailed};
 use run_stops::Subsystem;
 use std::alloc::Global;

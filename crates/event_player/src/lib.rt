@@ -23,5 +23,6 @@ mod drains;
 pub mod play;
 mod player;
 
+pub use hp_core::UnitSetup;
 pub use run_stops::next_block_law;
 pub use script_reader::{ReadFault, Script, ScriptKind, read_script};

@@ -11,7 +11,7 @@ ghost use Rattle.script_meaning.specs.Meaning.{statement_of, written_of};
 ghost use Rattle.trace_replay.specs.Moments.{Played};
 ghost use Rattle.trace_replay.specs.Script.{Noise as NoiseInput, Plays};
 ghost use Rattle.answer_lines.specs.AnswerText.{said_text};
-ghost use Rattle.answer_tally.specs.Counting.{Counts};
+ghost use Rattle.answer_lines.specs.Counting.{Counts};
 ghost use Rattle.run_stops.specs.Passes.{input_of};
 ghost use Rattle.event_player.specs.Saying.{side, Says};
 ghost use Rattle.event_player.specs.Calls.{MayGoOn, KeepsGoing, IsPlayed};

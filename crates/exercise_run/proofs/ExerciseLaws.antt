@@ -5,20 +5,20 @@ use Rattle.pack_model.specs.TableSpelling.{Table}
 use Rattle.script_lines.specs.declared.statement.Statement.TheVariants as says
 use Rattle.script_reader.specs.declared.fault.ReadFault.{ReadFault}
 use Rattle.script_reader.specs.declared.fault.ReadFault.TheVariants as reading
-use Rattle.script_words.specs.declared.kinds.ScriptKind.{ScriptKind}
+use Rattle.script_lines.specs.declared.kinds.ScriptKind.{ScriptKind}
 use Rattle.script_reader.specs.Grammar.{Spells, IsRefused}
 use Rattle.script_reader.specs.Reading.{Refuses}
 use Rattle.script_lines.specs.Known.{Said, Numbered as NumberedLine}
 use Rattle.script_reader.specs.Printing.{numbered}
 use Rattle.script_reader.specs.Stored.{Stored, lines_in}
-use Rattle.script_words.specs.Words.{all_verbs}
+use Rattle.script_lines.specs.Words.{all_verbs}
 use Rattle.script_meaning.specs.Meaning.{line_of, meaning, meaning_of, statement_of}
 use Rattle.trace_replay.specs.Moments.{Moment, answers_in}
 use Rattle.trace_replay.specs.Script.{Drain, Numbered, Script, IsScript, with_input, inputs_before}
 use Rattle.trace_replay.specs.Runs.{IsLegalRun}
 use Rattle.block_machine.specs.LegalAnswers.{AreNoAliases}
-use Rattle.run_promises.specs.Promises.{Promises}
-use Rattle.answer_tally.specs.declared.tally.Tally.{Tally}
+use Rattle.block_machine.specs.Promises.{Promises}
+use Rattle.answer_lines.specs.declared.tally.Tally.{Tally}
 use Rattle.event_player.proofs.Passes.{legal_runs_are_one}
 use Rattle.event_player.specs.declared.play.PlayFault.{PlayFault}
 use Rattle.event_player.specs.declared.play.PlayFault.TheVariants as faults

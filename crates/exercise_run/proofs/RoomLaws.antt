@@ -8,7 +8,7 @@ use Rattle.pack_model.specs.Pack.{Pack, grown, with_window, with_block, with_pac
 use Rattle.pack_model.proofs.PackLaws.{length-grown}
 use Rattle.outside_traits.specs.Causes.{Rose}
 use Rattle.trace_replay.specs.Script.{Script, drives_of}
-use Rattle.driver_outcome.specs.Outcome.{IsNextBlock}
+use Rattle.driver_answers.specs.Outcome.{IsNextBlock}
 use Rattle.event_player.specs.declared.play.PlayFault.{PlayFault}
 use Rattle.event_player.specs.declared.play.PlayFault.TheVariants as faults
 use Rattle.event_player.specs.Passes.{writes_next}

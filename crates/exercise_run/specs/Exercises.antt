@@ -6,18 +6,18 @@ use Rattle.outside_traits.specs.Puts.{TakesFront}
 use Rattle.script_reader.specs.Grammar.{Spells}
 use Rattle.script_lines.specs.Known.{Numbered}
 use Rattle.script_reader.specs.Printing.{numbered}
-use Rattle.script_words.specs.Words.{all_verbs}
+use Rattle.script_lines.specs.Words.{all_verbs}
 use Rattle.script_meaning.specs.Meaning.{meaning}
 use Rattle.trace_replay.specs.Script.{Script, inputs_of}
 use Rattle.block_machine.specs.LegalAnswers.{AreNoAliases}
-use Rattle.answer_tally.specs.declared.tally.Tally.{Tally}
+use Rattle.answer_lines.specs.declared.tally.Tally.{Tally}
 use Rattle.event_player.specs.declared.play.PlayFault.TheVariants as faults
 use Rattle.event_player.specs.Plays.{Tallied}
 use Rattle.event_player.specs.Passes.{Took}
 use Rattle.event_player.specs.Stops.{StopsPlaying}
 use Rattle.hp_exercise.specs.Exercise.{script_text}
 use Rattle.hp_exercise.specs.Statements.{script_statements}
-use Rattle.run_promises.specs.Promises.{Promises}
+use Rattle.block_machine.specs.Promises.{Promises}
 use Rattle.event_player.specs.Passes.{IsTheRun}
 use Rattle.exercise_run.specs.Room.{AreEmpty}
 use Rattle.exercise_run.specs.ExerciseText.{exercise_text}

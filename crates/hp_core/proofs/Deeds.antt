@@ -31,7 +31,7 @@ use Rattle.driver_machine.specs.World.{World, Held, unit_at, adapter_at, slot_at
 use Rattle.driver_machine.specs.Acts.{Of, Intr, Search, Do, Move, Pack, Dclr, Rtc, Ready, Repair, Forward, Continue, Try, scene_of}
 use Rattle.driver_machine.specs.Guards.{InHand, IsBusyFor, Allowed}
 use Rattle.driver_machine.specs.Sound.{Sound, Among, Once, IsShown, IsPhase, IsTask, IsEndedAt, IsBurstAt}
-use Rattle.driver_due.specs.DueFacts.{IsDue, IsAtCommand, IsFailure, IsStep}
+use Rattle.driver_machine.specs.DueFacts.{IsDue, IsAtCommand, IsFailure, IsStep}
 use Rattle.driver_phases.proofs.Scene.{phase_is, due_of, job_is, block_below, segment_some}
 use Rattle.driver_phases.proofs.Frame.{scene_ok, held_is, own_held, adapter_of-small}
 use Rattle.driver_phases.proofs.DeedFacts.{transfer_at}

@@ -6,3 +6,4 @@ pub mod Rooms
 pub mod Tries
 pub mod Joining
 pub mod Starting
+pub mod Passes

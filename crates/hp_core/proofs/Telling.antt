@@ -4,19 +4,19 @@ use Rattle.std.specs.Prelude.{Result, Ok, Err, IfErr}
 use Rattle.std.proofs.lemmas.List.{append_assoc, append-nil}
 use Rattle.pack_model.specs.Pack.{Pack}
 use Rattle.outside_traits.specs.Puts.{TakesFront}
-use Rattle.mass_gather.specs.Gathers.{Gathers}
+use Rattle.outside_traits.specs.Gathers.{Gathers}
 use Rattle.trace_replay.specs.Moments.{Moment}
 use Rattle.trace_replay.specs.Text.{trace_text, moment_text}
 use Rattle.driver_machine.specs.World.{World}
 use Rattle.driver_machine.specs.Acts.{Act, after}
 use Rattle.driver_machine.specs.Lines.{lines_of, lines_of_all}
 use Rattle.driver_machine.specs.Guards.{Allowed}
-use Rattle.driver_outcome.specs.Packs.{Reads, packs_after}
-use Rattle.driver_outcome.specs.Outcome.{Site, Acts, IsFront, Outcome, text_after, stop_in}
-use Rattle.driver_outcome.specs.Outcome as outcome
-use Rattle.driver_outcome.proofs.Joined.{front_same}
-use Rattle.driver_outcome.specs.declared.Stop.{Stop}
-use Rattle.driver_outcome.specs.declared.Stop.TheVariants.{Store, Sink}
+use Rattle.driver_answers.specs.Packs.{Reads, packs_after}
+use Rattle.driver_answers.specs.Outcome.{Site, Acts, IsFront, Outcome, text_after, stop_in}
+use Rattle.driver_answers.specs.Outcome as outcome
+use Rattle.driver_answers.proofs.Joined.{front_same}
+use Rattle.driver_answers.specs.declared.outcome.Stop.{Stop}
+use Rattle.driver_answers.specs.declared.outcome.Stop.TheVariants.{Store, Sink}
 use Rattle.hp_core.specs.State.{State, site}
 use Rattle.hp_core.specs.Done.{Tells, DoesAct, DoesSilently}
 

@@ -3,12 +3,12 @@ use Rattle.std.specs.Prelude.{◌≡◌, ℕ, ◌<◌, ◌≤◌, Bool, false, L
 use Rattle.pack_model.specs.Pack.{Pack}
 use Rattle.outside_traits.specs.Causes.{HasCause, Rose}
 use Rattle.hardware_table.specs.Adapter.{next_block}
-use Rattle.mass_gather.specs.Gathers.{Gathers}
+use Rattle.outside_traits.specs.Gathers.{Gathers}
 use Rattle.driver_machine.specs.World.{World, adapter_at, adapter_of}
 use Rattle.driver_machine.specs.Acts.{Act, Of, Sector, Tried, after}
-use Rattle.driver_outcome.specs.Outcome.{Does, Outcome, StopsBefore, stop_in}
-use Rattle.driver_outcome.specs.declared.Stop.{Stop}
-use Rattle.driver_outcome.specs.declared.Stop.TheVariants.{Store, Sink}
+use Rattle.driver_answers.specs.Outcome.{Does, Outcome, StopsBefore, stop_in}
+use Rattle.driver_answers.specs.declared.outcome.Stop.{Stop}
+use Rattle.driver_answers.specs.declared.outcome.Stop.TheVariants.{Store, Sink}
 use Rattle.hp_core.specs.State.{State, site}
 
 -- A line is told: its text is put behind what is kept, and the world stays as it was.

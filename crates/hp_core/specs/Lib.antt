@@ -2,3 +2,4 @@ pub mod State
 pub mod Done
 pub mod Joins
 pub mod Setups
+pub mod Passes

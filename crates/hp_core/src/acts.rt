@@ -5,8 +5,8 @@ ghost use Rattle.driver_machine.specs.Sound.{Sound};
 ghost use Rattle.hp_core.specs.Done.{DoesAct};
 
 use crate::driver::{Core, told_step};
+use driver_answers::outcome::Stop;
 use driver_machine::RetryStep;
-use driver_outcome::Stop;
 use hardware_table::Moved;
 use outside_traits::traits::Sink;
 use pack_geometry::Place;

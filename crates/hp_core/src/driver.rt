@@ -1,7 +1,7 @@
 // The whole driver.
 ghost use Rattle.std.specs.Prelude.{◌≡◌, ◌<◌, ◌≤◌, [], length, IsSome, MatchResult, Ok, Err};
 ghost use Rattle.outside_traits.specs.Puts.{Puts};
-ghost use Rattle.mass_gather.specs.Gathers.{Gathers};
+ghost use Rattle.outside_traits.specs.Gathers.{Gathers};
 ghost use Rattle.main_memory.specs.Frames.{frames_needed};
 ghost use Rattle.driver_machine.specs.World.{unit_at, slot_at, held_in, slot_in_hand, job_of};
 ghost use Rattle.driver_machine.specs.Lines.{step_told};
@@ -9,15 +9,15 @@ ghost use Rattle.trace_replay.specs.Moments as moments;
 ghost use Rattle.subsystem_spec.specs.Requests.{Answer as AnswerTold};
 ghost use Rattle.trace_replay.specs.Text.{moment_text};
 ghost use Rattle.trace_lines.specs.Deeds.{deed_of};
-ghost use Rattle.driver_outcome.specs.declared.Stop.TheVariants as stop;
+ghost use Rattle.driver_answers.specs.declared.outcome.Stop.TheVariants as stop;
 ghost use Rattle.hp_core.specs.Done.{Tells};
 
 use drive_model::NoiseBook;
+use driver_answers::outcome::Stop;
 use driver_machine::RetryStep;
-use driver_outcome::Stop;
 use hardware_table::Moved;
 use hp_units::{Answers, Channel};
-use mass_gather::Gather;
+use outside_traits::Gather;
 use outside_traits::traits::{Sink, SinkFailed};
 use request_slots::Slots;
 use std::marker::Model;

@@ -10,8 +10,8 @@ ghost use Rattle.hp_core.specs.State.{refused_in};
 ghost use Rattle.hp_core.specs.Done.{DoesAct};
 
 use crate::driver::{Core, needed};
+use driver_answers::outcome::Stop;
 use driver_machine::{Answer, AnswerKind, Made};
-use driver_outcome::Stop;
 use outside_traits::traits::Sink;
 use trace_lines::Told;
 

@@ -20,4 +20,5 @@ mod submission;
 mod views;
 
 pub use driver::Core;
+pub use driver_answers::outcome::Stop;
 pub use start::UnitSetup;

@@ -9,7 +9,7 @@ use crate::driver::Core;
 use bad144_table::BadTable;
 use drive_model::NoiseBook;
 use hp_units::{Answers, Channel, DiskUnit};
-use mass_gather::Gather;
+use outside_traits::Gather;
 use outside_traits::traits::NoMemory;
 use pack_geometry::DriveKind;
 use request_slots::Slots;

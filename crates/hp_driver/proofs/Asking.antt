@@ -11,13 +11,13 @@ use Rattle.driver_machine.specs.Acts.{Act, Refuse}
 use Rattle.driver_machine.specs.Events.{refusal_of, submit_by, submit_acts, joined_acts, followed, adapter_start}
 use Rattle.driver_machine.specs.Guards.{IsSetUp, IsFresh, IsNew, IsHeldFor}
 use Rattle.driver_machine.specs.Runs.{MaySubmit}
-use Rattle.driver_work.proofs.Calls.{submit_works}
+use Rattle.driver_invariant.proofs.Calls.{submit_works}
 use Rattle.hp_events.proofs.Passes.{sound_after}
-use Rattle.driver_outcome.specs.declared.Stop.{Stop}
-use Rattle.driver_outcome.specs.Outcome.{stop_in}
+use Rattle.quiet_driver.specs.Passes.{Stop}
+use Rattle.quiet_driver.specs.Passes.{stop_in}
 use Rattle.request_slots.specs.declared.asked.Asked.{Asked}
 use Rattle.request_slots.specs.Requests as slots
-use Rattle.hp_core.specs.State.{State}
+use Rattle.hp_events.specs.Passes.{State}
 use Rattle.hp_events.specs.Done.{DoesActs}
 use Rattle.hp_events.specs.Submissions.{MayRefuse}
 use Rattle.subsystem_spec.specs.declared.request.Request.{Request}

@@ -5,13 +5,13 @@ use Rattle.driver_machine.specs.Acts.{Act, after_all}
 use Rattle.driver_machine.specs.Sound.{Sound}
 use Rattle.driver_slots.proofs.Sizes.{sizes_all}
 use Rattle.driver_machine.specs.Runs.{Run}
-use Rattle.driver_work.proofs.Leads.{sound_along}
+use Rattle.driver_invariant.proofs.Leads.{sound_along}
 use Rattle.hp_events.proofs.Passes.{sound_after}
-use Rattle.driver_outcome.specs.Outcome.{Site, Told, Outcome}
-use Rattle.driver_outcome.specs.declared.Stop.{Stop}
-use Rattle.driver_outcome.specs.declared.Stop.TheVariants.{Store, Sink}
-use Rattle.driver_drains.specs.Passes.{AllFlip}
-use Rattle.driver_drains.proofs.Passes.{acts_keep_noise}
+use Rattle.quiet_driver.specs.Passes.{Site, Told, Outcome}
+use Rattle.quiet_driver.specs.Passes.{Stop}
+use Rattle.quiet_driver.specs.Passes.{Store, Sink}
+use Rattle.quiet_driver.specs.Passes.{AllFlip}
+use Rattle.quiet_driver.proofs.Passes.{acts_keep_noise}
 
 -- some acts ran, and left this world
 pub record Ran (w now : World) : Type 0 where

@@ -13,13 +13,13 @@ use Rattle.driver_machine.specs.World.{World, unit_at, held_in}
 use Rattle.driver_machine.specs.Acts.{Act, after_all}
 use Rattle.driver_machine.specs.Events.{submit_acts, event_acts}
 use Rattle.driver_machine.specs.Sound.{Sound}
-use Rattle.driver_outcome.specs.declared.Stop.{Stop}
-use Rattle.driver_outcome.specs.declared.Stop.TheVariants.{Store, Sink}
-use Rattle.driver_outcome.specs.Outcome.{Does, StopsAtTrace}
-use Rattle.driver_outcome.specs.Packs.{packs_after_all}
-use Rattle.driver_bytes.specs.Bytes.{IsSureFor, IsSaid, StepsFrom, AreSteps, Bears}
-use Rattle.driver_bytes.proofs.Rests.{rest_bears}
-use Rattle.driver_bytes.proofs.Calls.{submissions_bear, events_bear, takings_bear}
+use Rattle.quiet_driver.specs.Passes.{Stop}
+use Rattle.quiet_driver.specs.Passes.{Store, Sink}
+use Rattle.quiet_driver.specs.Passes.{Does, StopsAtTrace}
+use Rattle.quiet_driver.specs.Passes.{packs_after_all}
+use Rattle.quiet_driver.specs.Bytes.{IsSureFor, IsSaid, StepsFrom, AreSteps, Bears}
+use Rattle.quiet_driver.proofs.Rests.{rest_bears}
+use Rattle.quiet_driver.proofs.Calls.{submissions_bear, events_bear, takings_bear}
 use Rattle.hp_driver.specs.Subsystem.{seen, Submits, Comes}
 use Rattle.hp_driver.specs.Bytes.{KeepsMaps, KeepsMapsIn, GivesOfMaps, HoldsMaps}
 

@@ -10,14 +10,14 @@ use Rattle.driver_machine.specs.Lines.{lines_of}
 use Rattle.driver_machine.specs.Events.{event_acts}
 use Rattle.driver_machine.specs.Sound.{AtWork}
 use Rattle.driver_machine.specs.Runs.{Works, MayCome}
-use Rattle.driver_work.proofs.Calls.{event_works}
+use Rattle.driver_invariant.proofs.Calls.{event_works}
 use Rattle.hp_events.proofs.Passes.{sound_after}
-use Rattle.driver_outcome.specs.Outcome.{stop_in}
-use Rattle.driver_outcome.specs.declared.Stop.{Stop}
-use Rattle.driver_outcome.specs.declared.Stop.TheVariants.{Store, Sink}
-use Rattle.driver_drains.specs.Passes.{IsReadOf}
-use Rattle.hp_core.specs.State.{State, site}
-use Rattle.hp_core.specs.Done.{DoesSilently, HasCauses}
+use Rattle.quiet_driver.specs.Passes.{stop_in}
+use Rattle.quiet_driver.specs.Passes.{Stop}
+use Rattle.quiet_driver.specs.Passes.{Store, Sink}
+use Rattle.quiet_driver.specs.Passes.{IsReadOf}
+use Rattle.hp_events.specs.Passes.{State, site}
+use Rattle.hp_events.specs.Passes.{DoesSilently, HasCauses}
 use Rattle.hp_events.specs.Done.{DoesActs}
 use Rattle.hp_driver.specs.Subsystem.{Comes}
 use Rattle.hp_driver.specs.Calls.{Stands, Leaves, Happens}

@@ -8,10 +8,10 @@ use Rattle.trace_replay.specs.Script.{Input}
 use Rattle.driver_machine.specs.Acts.{Act, Change, Tried}
 use Rattle.driver_machine.specs.Events.{event_acts, arrive_acts, attend_acts}
 use Rattle.driver_machine.specs.Runs.{MayCome}
-use Rattle.driver_outcome.specs.declared.Stop.{Stop}
-use Rattle.driver_drains.specs.Passes.{IsReadOf}
-use Rattle.hp_core.specs.State.{State}
-use Rattle.hp_core.specs.Done.{DoesSilently}
+use Rattle.quiet_driver.specs.Passes.{Stop}
+use Rattle.quiet_driver.specs.Passes.{IsReadOf}
+use Rattle.hp_events.specs.Passes.{State}
+use Rattle.hp_events.specs.Passes.{DoesSilently}
 use Rattle.hp_events.specs.Done.{DoesActs}
 use Rattle.hp_events.specs.Moves.{DoesMove}
 use Rattle.hp_events.specs.declared.drain.Event.{Event}

@@ -6,11 +6,11 @@ use Rattle.trace_replay.specs.Script.{MoveAt}
 use Rattle.driver_machine.specs.Events.{move_acts}
 use Rattle.driver_machine.specs.Sound.{AtWork}
 use Rattle.driver_machine.specs.Runs.{MayCome}
-use Rattle.driver_work.proofs.Calls.{event_works}
+use Rattle.driver_invariant.proofs.Calls.{event_works}
 use Rattle.hp_events.proofs.Passes.{sound_after}
-use Rattle.driver_outcome.specs.Outcome.{stop_in}
-use Rattle.driver_outcome.specs.declared.Stop.{Stop}
-use Rattle.hp_core.specs.State.{State}
+use Rattle.quiet_driver.specs.Passes.{stop_in}
+use Rattle.quiet_driver.specs.Passes.{Stop}
+use Rattle.hp_events.specs.Passes.{State}
 use Rattle.hp_events.specs.Moves.{DoesMove}
 use Rattle.hp_driver.specs.Subsystem.{Comes}
 use Rattle.hp_driver.specs.Calls.{Stands, Happens}

@@ -7,15 +7,15 @@ use Rattle.driver_machine.specs.Acts.{Act, Tried, Sector, scene_of}
 use Rattle.driver_machine.specs.Events.{can_move, in_hand, move_acts, or_nothing}
 use Rattle.driver_machine.specs.Guards.{IsTried}
 use Rattle.driver_machine.specs.Sound.{Sound}
-use Rattle.driver_due.proofs.DueFacts.{false_true}
+use Rattle.driver_machine.proofs.DueFacts.{false_true}
 use Rattle.driver_machine.specs.Runs.{Run}
-use Rattle.driver_work.proofs.Deeds.{deed_at}
-use Rattle.driver_work.proofs.Due.{in_hand_one}
-use Rattle.driver_work.proofs.Calls.{IsServing, serving}
-use Rattle.driver_outcome.specs.Packs.{ReadAll}
-use Rattle.driver_drains.specs.Passes.{IsReadFrom}
-use Rattle.driver_drains.specs.Passes.{AllFlip}
-use Rattle.driver_drains.proofs.Passes.{strikes_flip}
+use Rattle.driver_invariant.proofs.Deeds.{deed_at}
+use Rattle.driver_invariant.proofs.Due.{in_hand_one}
+use Rattle.driver_invariant.proofs.Calls.{IsServing, serving}
+use Rattle.quiet_driver.specs.Passes.{ReadAll}
+use Rattle.quiet_driver.specs.Passes.{IsReadFrom}
+use Rattle.quiet_driver.specs.Passes.{AllFlip}
+use Rattle.quiet_driver.proofs.Passes.{strikes_flip}
 
 busy_too : (b c : Bool) → b && not c ≡ true → b ≡ true
 busy_too true c e = refl

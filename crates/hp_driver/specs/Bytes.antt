@@ -9,10 +9,10 @@ use Rattle.driver_machine.specs.declared.Made.{Made}
 use Rattle.driver_machine.specs.World.{World, unit_at, held_in, block_in}
 use Rattle.driver_machine.specs.Acts.{Taken, after}
 use Rattle.driver_machine.specs.Sound.{AtWork}
-use Rattle.driver_outcome.specs.declared.Stop.{Stop}
-use Rattle.driver_outcome.specs.declared.Stop.TheVariants.{Store}
-use Rattle.driver_bytes.specs.Bytes.{IsSureFor, asked_of, Bears}
-use Rattle.driver_bytes.specs.Laws.{Rests, contents_in, maps_taken}
+use Rattle.quiet_driver.specs.Passes.{Stop}
+use Rattle.quiet_driver.specs.Passes.{Store}
+use Rattle.quiet_driver.specs.Bytes.{IsSureFor, asked_of, Bears}
+use Rattle.quiet_driver.specs.Laws.{Rests, contents_in, maps_taken}
 use Rattle.hp_driver.specs.Subsystem.{IsOldest, Reads}
 
 -- WITH NOTHING OUTSTANDING the driver stands for what its packs hold, whatever led to it; so does a new one.

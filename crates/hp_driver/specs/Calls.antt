@@ -9,14 +9,14 @@ use Rattle.driver_machine.specs.World.{World}
 use Rattle.driver_machine.specs.Acts.{Act}
 use Rattle.driver_machine.specs.Guards.{IsSetUp, IsFresh}
 use Rattle.driver_machine.specs.Sound.{Sound, AtWork}
-use Rattle.driver_outcome.specs.declared.Stop.{Stop}
-use Rattle.driver_outcome.specs.declared.Stop.TheVariants.{Sink}
-use Rattle.driver_outcome.specs.Outcome.{stop_in}
+use Rattle.quiet_driver.specs.Passes.{Stop}
+use Rattle.quiet_driver.specs.Passes.{Sink}
+use Rattle.quiet_driver.specs.Passes.{stop_in}
 use Rattle.request_slots.specs.declared.asked.Asked.{Asked}
-use Rattle.driver_counts.specs.Counts.{in_use}
-use Rattle.driver_drains.specs.Passes.{AllFlip}
-use Rattle.hp_core.specs.State.{State}
-use Rattle.hp_core.specs.Done.{HasCauses}
+use Rattle.quiet_driver.specs.Passes.{in_use}
+use Rattle.quiet_driver.specs.Passes.{AllFlip}
+use Rattle.hp_events.specs.Passes.{State}
+use Rattle.hp_events.specs.Passes.{HasCauses}
 use Rattle.subsystem_spec.specs.declared.request.Request.{Request}
 use Rattle.hp_driver.specs.Subsystem.{asked, is_move, Submits, Comes}
 use Rattle.hp_driver.specs.Bytes.{KeepsMaps, KeepsMapsIn}

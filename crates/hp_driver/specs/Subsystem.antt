@@ -17,14 +17,14 @@ use Rattle.driver_machine.specs.Events.{refusal_of, submit_acts, event_acts}
 use Rattle.driver_machine.specs.Guards.{IsSetUp, IsHeldFor, MayChange}
 use Rattle.driver_machine.specs.Sound.{Sound, AtWork}
 use Rattle.driver_machine.specs.Runs.{MaySubmit, MayCome}
-use Rattle.driver_outcome.specs.declared.Stop.{Stop}
-use Rattle.driver_outcome.specs.declared.Stop.TheVariants.{Store, Sink}
-use Rattle.driver_outcome.specs.Outcome.{Site, Outcome, StopsBefore}
-use Rattle.driver_counts.specs.Counts.{in_use}
-use Rattle.driver_drains.specs.Passes.{IsReadOf}
-use Rattle.driver_drains.specs.Passes.{AllFlip}
-use Rattle.driver_drains.specs.Passes.{IsDraining}
-use Rattle.driver_drains.specs.Drains.{CanStart, AreAsked, Falls}
+use Rattle.quiet_driver.specs.Passes.{Stop}
+use Rattle.quiet_driver.specs.Passes.{Store, Sink}
+use Rattle.quiet_driver.specs.Passes.{Site, Outcome, StopsBefore}
+use Rattle.quiet_driver.specs.Passes.{in_use}
+use Rattle.quiet_driver.specs.Passes.{IsReadOf}
+use Rattle.quiet_driver.specs.Passes.{AllFlip}
+use Rattle.quiet_driver.specs.Passes.{IsDraining}
+use Rattle.quiet_driver.specs.Passes.{CanStart, AreAsked, Falls}
 use Rattle.hp_events.specs.Moves.{writes_next}
 use Rattle.subsystem_spec.specs.declared.request.Request.{Request}
 

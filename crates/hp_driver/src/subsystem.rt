@@ -2,7 +2,7 @@
 ghost use Rattle.std.specs.Prelude.{◌≡◌, ◌↔◌, ℕ, ◌<◌, ◌≤◌, [], min, true, false, None, Some, IsTrue, IfOk, IfSome, IfNone, OnOk, OnErr};
 ghost use Rattle.outside_traits.specs.Causes.{HasCause};
 ghost use Rattle.outside_traits.specs.Puts.{Puts};
-ghost use Rattle.mass_gather.specs.Gathers.{Gathers};
+ghost use Rattle.outside_traits.specs.Gathers.{Gathers};
 ghost use Rattle.trace_replay.specs.Moments.{Idle};
 ghost use Rattle.trace_replay.specs.Text.{moment_text};
 ghost use Rattle.main_memory.specs.Bytes.{filled, IsFill};
@@ -14,28 +14,26 @@ ghost use Rattle.driver_machine.specs.Events.{next_event};
 ghost use Rattle.driver_machine.specs.Sound.{Sound, AtWork};
 ghost use Rattle.driver_slots.specs.Parts.{AreSetups};
 ghost use Rattle.driver_machine.specs.Runs.{NoneOutstanding};
-ghost use Rattle.driver_drains.specs.Passes.{AllFlip};
-ghost use Rattle.driver_outcome.specs.Outcome.{stop_in};
-ghost use Rattle.hp_core.specs.Done.{HasCauses};
-ghost use Rattle.hp_core.specs.Setups.{setups_of};
-ghost use Rattle.trace_bounds.specs.Commands.{CommandsAreBounded};
+ghost use Rattle.quiet_driver.specs.Passes.{AllFlip};
+ghost use Rattle.quiet_driver.specs.Passes.{stop_in};
+ghost use Rattle.hp_events.specs.Passes.{HasCauses};
+ghost use Rattle.hp_events.specs.Passes.{setups_of};
+ghost use Rattle.trace_work.specs.Commands.{CommandsAreBounded};
 ghost use Rattle.hp_events.specs.Inputs.{input_of};
 ghost use Rattle.hp_events.specs.Moves.{writes_next};
 ghost use Rattle.hp_driver.specs.Bytes.{HoldsMaps, KeepsMaps, KeepsMapsIn};
 ghost use Rattle.hp_driver.specs.Subsystem.{asked, IsAsked, Submits, IsThere, is_move, Comes, LeavesFewer, IsOldest, Reads, sink_in};
 
 use crate::{events, submission};
-use driver_drains::falls_law;
 use driver_machine::Answer;
-use driver_outcome::Stop;
-use hp_core::{Core, UnitSetup};
-use hp_events::Event;
+use hp_events::{Core, Event, UnitSetup};
 use outside_traits::traits::{NoMemory, Packs, Sink, SinkFailed};
 use pack_geometry::DriveKind;
+use quiet_driver::{Stop, falls_law};
 use std::alloc::Global;
 use std::marker::Model;
 use subsystem_spec::Request;
-use trace_bounds::commands_law;
+use trace_work::bounds::commands_law;
 
 /// The disks, their adapters, the requests that are outstanding, and the text of the trace that is kept, at most 64 KiB. Nothing is
 /// allocated once it is made.

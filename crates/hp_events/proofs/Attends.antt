@@ -5,7 +5,7 @@ use Rattle.driver_machine.specs.World.{adapter_at}
 use Rattle.driver_machine.specs.Acts.{Act}
 use Rattle.driver_machine.specs.Events.{and_then, each, drives, data_interrupt, attention, adapter_start, can_attend, attend_acts}
 use Rattle.driver_machine.specs.Sound.{Sound}
-use Rattle.driver_outcome.specs.declared.Stop.{Stop}
+use Rattle.hp_core.specs.Passes.{Stop}
 use Rattle.hp_core.specs.State.{State}
 use Rattle.hp_events.specs.Done.{DoesActs}
 use Rattle.hp_events.proofs.Joined.{then_part, stopped_part, all_done}

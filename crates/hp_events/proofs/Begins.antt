@@ -7,9 +7,9 @@ use Rattle.driver_machine.specs.declared.Phase.TheVariants.{Waiting, Positioning
 use Rattle.driver_machine.specs.World.{World, UnitView, AdapterView, Held, no_unit, unit_at, slot_in_hand}
 use Rattle.driver_machine.specs.Acts.{Of, Submit, Intr, Attn, effect, joined, scene_of, after}
 use Rattle.driver_machine.specs.Sound.{Sound, AtWork, WorkOf}
-use Rattle.driver_due.proofs.DueFacts.{false_true}
-use Rattle.driver_due.proofs.Until.{own_unit}
-use Rattle.driver_work.proofs.Deeds.{own_adapter}
+use Rattle.driver_machine.proofs.DueFacts.{false_true}
+use Rattle.driver_machine.proofs.Until.{own_unit}
+use Rattle.driver_invariant.proofs.Deeds.{own_adapter}
 use Rattle.hp_events.specs.Free.{needs_free, IsFree}
 
 module _ (w : World) (line u id : ℕ) (sound : Sound w) (lt : u < 32) where

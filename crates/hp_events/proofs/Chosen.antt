@@ -9,10 +9,10 @@ use Rattle.driver_machine.specs.Acts.{Of, Deed, Scene, effect, scene_of, after}
 use Rattle.driver_machine.specs.Due.{command_of}
 use Rattle.driver_machine.specs.Guards.{May, IsChosen, Allowed}
 use Rattle.driver_machine.specs.Sound.{Sound, is_waiting}
-use Rattle.driver_due.specs.DueFacts.{IsDue}
-use Rattle.driver_due.proofs.DueFacts.{chosen_facts, false_true}
-use Rattle.driver_due.proofs.Until.{own_unit}
-use Rattle.driver_work.proofs.Deeds.{in_hand_is}
+use Rattle.driver_machine.specs.DueFacts.{IsDue}
+use Rattle.driver_machine.proofs.DueFacts.{chosen_facts, false_true}
+use Rattle.driver_machine.proofs.Until.{own_unit}
+use Rattle.driver_invariant.proofs.Deeds.{in_hand_is}
 use Rattle.hp_events.specs.Free.{needs_free, IsFree}
 use Rattle.hp_events.specs.Hand.{hand_at}
 

@@ -8,7 +8,7 @@ use Rattle.driver_machine.specs.Acts.{Act}
 use Rattle.driver_machine.specs.Due.{command_of}
 use Rattle.driver_machine.specs.Events.{in_hand, due_acts, choose_acts}
 use Rattle.driver_machine.specs.Sound.{Sound, Among}
-use Rattle.driver_outcome.specs.declared.Stop.{Stop}
+use Rattle.hp_core.specs.Passes.{Stop}
 use Rattle.hp_core.specs.State.{State}
 use Rattle.hp_events.specs.Done.{DoesActs}
 use Rattle.hp_events.proofs.Joined.{said, failed, then_part, stopped_part}

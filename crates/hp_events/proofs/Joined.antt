@@ -7,11 +7,11 @@ use Rattle.driver_machine.specs.World.{World}
 use Rattle.driver_machine.specs.Acts.{Act, after_all}
 use Rattle.driver_machine.specs.Events.{Part, followed}
 use Rattle.driver_machine.specs.Sound.{Sound}
-use Rattle.driver_work.proofs.Leads.{sound_along}
+use Rattle.driver_invariant.proofs.Leads.{sound_along}
 use Rattle.driver_invariant.proofs.Sound.{sound_after}
-use Rattle.driver_outcome.specs.Outcome.{Site, Acts, Does, stop_in}
-use Rattle.driver_outcome.specs.declared.Stop.{Stop}
-use Rattle.driver_outcome.proofs.Joined.{does_then, stopped_before, nothing_done}
+use Rattle.hp_core.specs.Passes.{Site, Acts, Does, stop_in}
+use Rattle.hp_core.specs.Passes.{Stop}
+use Rattle.hp_core.proofs.Passes.{does_then, stopped_before, nothing_done}
 use Rattle.hp_core.specs.State.{State, site}
 use Rattle.hp_core.specs.Done.{DoesAct, DoesSilently}
 use Rattle.hp_events.specs.Done.{DoesActs}

@@ -8,9 +8,9 @@ use Rattle.driver_machine.specs.World.{unit_of, unit_at, adapter_at, held_in, sl
 use Rattle.driver_machine.specs.Acts.{Act, Nothing, Tried}
 use Rattle.driver_machine.specs.Events.{can_move}
 use Rattle.driver_machine.specs.Sound.{Sound}
-use Rattle.driver_outcome.specs.Outcome.{Outcome, stop_in}
-use Rattle.driver_outcome.specs.declared.Stop.{Stop}
-use Rattle.driver_outcome.specs.declared.Stop.TheVariants.{Store, Sink}
+use Rattle.hp_core.specs.Passes.{Outcome, stop_in}
+use Rattle.hp_core.specs.Passes.{Stop}
+use Rattle.hp_core.specs.Passes.{Store, Sink}
 use Rattle.hp_core.specs.State.{State, site}
 use Rattle.hp_core.specs.Done.{DoesAct, HasCauses, TriesSector}
 use Rattle.hp_events.specs.Moves.{DoesMove}

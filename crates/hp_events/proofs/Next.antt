@@ -11,9 +11,9 @@ use Rattle.driver_machine.specs.Events.{in_hand, in_hand_by, due_by, next_acts}
 use Rattle.driver_machine.specs.Guards.{Allowed}
 use Rattle.driver_machine.specs.Sound.{Sound}
 use Rattle.driver_invariant.proofs.Sound.{sound_after}
-use Rattle.driver_work.proofs.Deeds as work
-use Rattle.driver_work.proofs.Deeds.{Doing, Done, deed_at, outstanding, in_hand_is, may_come, due_done}
-use Rattle.driver_work.proofs.Due.{in_hand_one}
+use Rattle.driver_invariant.proofs.Deeds as work
+use Rattle.driver_invariant.proofs.Deeds.{Doing, Done, deed_at, outstanding, in_hand_is, may_come, due_done}
+use Rattle.driver_invariant.proofs.Due.{in_hand_one}
 use Rattle.hp_events.specs.Free.{needs_free, IsFree}
 use Rattle.hp_events.specs.Hand.{hand_at}
 

@@ -15,7 +15,7 @@ use Rattle.driver_machine.specs.World.{World, UnitView, Held, transfer_of}
 use Rattle.driver_machine.specs.Acts.{Of, Deed, Move, Continue, End}
 use Rattle.driver_machine.specs.Due.{failed, sensed, command_of, target_of, start_by, start_of, ready_for, finished, done_with}
 use Rattle.driver_machine.specs.Guards.{Allowed}
-use Rattle.driver_outcome.specs.declared.Stop.{Stop}
+use Rattle.hp_core.specs.Passes.{Stop}
 use Rattle.hp_core.specs.State.{State}
 use Rattle.hp_core.specs.Done.{DoesAct, DoesSilently}
 use Rattle.hp_events.specs.Done.{DoesActs}

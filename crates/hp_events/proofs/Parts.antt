@@ -13,12 +13,12 @@ use Rattle.driver_machine.specs.Events.{when_by, in_hand, due_acts, begun, choos
 use Rattle.driver_machine.specs.Due.{command_of}
 use Rattle.driver_machine.specs.Guards.{Allowed, InHand, IsBusyFor}
 use Rattle.driver_machine.specs.Sound.{Sound, IsPhase, IsTask, is_waiting}
-use Rattle.driver_due.proofs.DueFacts.{false_true}
-use Rattle.driver_work.proofs.Deeds.{in_hand_is}
-use Rattle.driver_work.proofs.Due.{in_hand_one}
-use Rattle.driver_work.proofs.Calls.{IsServing, serving}
+use Rattle.driver_machine.proofs.DueFacts.{false_true}
+use Rattle.driver_invariant.proofs.Deeds.{in_hand_is}
+use Rattle.driver_invariant.proofs.Due.{in_hand_one}
+use Rattle.driver_invariant.proofs.Calls.{IsServing, serving}
 use Rattle.driver_invariant.proofs.Sound.{sound_after}
-use Rattle.driver_outcome.specs.declared.Stop.{Stop}
+use Rattle.hp_core.specs.Passes.{Stop}
 use Rattle.hp_core.specs.State.{State}
 use Rattle.hp_core.specs.Done.{DoesAct}
 use Rattle.hp_events.specs.Done.{DoesActs}

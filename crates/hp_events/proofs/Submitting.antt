@@ -9,10 +9,10 @@ use Rattle.driver_machine.specs.World.{World, UnitView, Held, adapter_of, unit_a
 use Rattle.driver_machine.specs.Acts.{Submit, joined, after}
 use Rattle.driver_machine.specs.Events.{and_then, due_acts, adapter_start}
 use Rattle.driver_machine.specs.Sound.{Sound, AtWork, WorkOf}
-use Rattle.driver_due.proofs.DueFacts.{false_true}
+use Rattle.driver_machine.proofs.DueFacts.{false_true}
 use Rattle.request_slots.specs.declared.asked.Asked.{Asked}
 use Rattle.driver_invariant.proofs.Sound.{sound_after}
-use Rattle.driver_outcome.specs.declared.Stop.{Stop}
+use Rattle.hp_core.specs.Passes.{Stop}
 use Rattle.hp_core.specs.State.{State}
 use Rattle.hp_core.specs.Joins.{Joins}
 use Rattle.hp_events.specs.Done.{DoesActs}

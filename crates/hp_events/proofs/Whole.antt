@@ -12,7 +12,7 @@ use Rattle.driver_machine.specs.Due.{next_of, next_by, start_of, deed_for}
 use Rattle.driver_machine.specs.Events.{next_acts}
 use Rattle.driver_machine.specs.Guards.{Allowed}
 use Rattle.driver_machine.specs.Sound.{Sound}
-use Rattle.driver_outcome.specs.declared.Stop.{Stop}
+use Rattle.hp_core.specs.Passes.{Stop}
 use Rattle.hp_core.specs.State.{State}
 use Rattle.hp_events.specs.Done.{DoesActs}
 use Rattle.hp_events.specs.Free.{IsFree}

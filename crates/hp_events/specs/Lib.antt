@@ -5,3 +5,4 @@ pub mod Before
 pub mod Moves
 pub mod Submissions
 pub mod Inputs
+pub mod Passes

@@ -4,9 +4,9 @@ use Rattle.pack_model.specs.Pack.{Pack}
 use Rattle.driver_machine.specs.World.{World, adapter_at}
 use Rattle.driver_machine.specs.Acts.{Tried}
 use Rattle.driver_machine.specs.Events.{can_move, move_acts}
-use Rattle.driver_outcome.specs.Outcome.{Outcome, StopsBefore, stop_in}
-use Rattle.driver_outcome.specs.declared.Stop.{Stop}
-use Rattle.driver_outcome.specs.declared.Stop.TheVariants.{Store}
+use Rattle.hp_core.specs.Passes.{Outcome, StopsBefore, stop_in}
+use Rattle.hp_core.specs.Passes.{Stop}
+use Rattle.hp_core.specs.Passes.{Store}
 use Rattle.hp_core.specs.State.{State, site}
 use Rattle.hp_core.specs.Done.{HasCauses}
 

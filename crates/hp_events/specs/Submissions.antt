@@ -8,7 +8,7 @@ use Rattle.driver_machine.specs.Events.{joined_acts}
 use Rattle.driver_machine.specs.Guards.{Allowed, IsNew}
 use Rattle.request_slots.specs.declared.asked.Asked.{Asked}
 use Rattle.request_slots.specs.Requests.{IsHeldFor}
-use Rattle.driver_outcome.specs.declared.Stop.{Stop}
+use Rattle.hp_core.specs.Passes.{Stop}
 use Rattle.hp_core.specs.State.{State}
 use Rattle.hp_events.specs.Done.{DoesActs}
 

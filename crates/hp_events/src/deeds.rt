@@ -15,8 +15,7 @@ ghost use Rattle.hp_events.specs.Hand.{hand_at};
 use crate::starts::{command, go_steps, start};
 use crate::verdicts::judge;
 use driver_machine::{AnswerKind, Cause, Phase, Task};
-use driver_outcome::Stop;
-use hp_core::Core;
+use hp_core::{Core, Stop};
 use outside_traits::traits::Sink;
 use request_slots::Asked;
 

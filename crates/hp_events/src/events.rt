@@ -10,8 +10,7 @@ ghost use Rattle.hp_events.specs.Moves.{DoesMove, writes_next};
 use crate::hand::id_in_hand;
 use crate::turns::{due, start_adapter};
 use driver_machine::Phase;
-use driver_outcome::Stop;
-use hp_core::Core;
+use hp_core::{Core, Stop};
 use outside_traits::traits::{Packs, Sink};
 
 /// The positioning of a unit's drive ends, where one is under way. Stops where the trace fails.

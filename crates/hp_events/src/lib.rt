@@ -19,5 +19,6 @@ mod verdicts;
 
 pub use drain::{Event, next_event};
 pub use events::{arrive, attend, move_sector, writes};
+pub use hp_core::{Core, UnitSetup};
 pub use submission::{join, refuse};
 pub use turns::due;

@@ -14,8 +14,7 @@ ghost use Rattle.hp_events.specs.Hand.{hand_at};
 
 use crate::guards::{Before, due_before};
 use driver_machine::{AnswerKind, RetryStep};
-use driver_outcome::Stop;
-use hp_core::Core;
+use hp_core::{Core, Stop};
 use outside_traits::traits::Sink;
 use pack_geometry::{Place, place_of};
 use request_slots::Asked;

@@ -12,8 +12,7 @@ ghost use Rattle.hp_events.specs.Submissions.{MayRefuse, Submits};
 
 use crate::turns::{due, start_adapter};
 use driver_machine::AnswerKind;
-use driver_outcome::Stop;
-use hp_core::Core;
+use hp_core::{Core, Stop};
 use outside_traits::traits::Sink;
 use request_slots::Asked;
 

@@ -6,8 +6,7 @@ ghost use Rattle.hp_events.specs.Done.{DoesActs};
 ghost use Rattle.hp_events.specs.Free.{IsFree};
 
 use crate::deeds::{choose, next_deed};
-use driver_outcome::Stop;
-use hp_core::Core;
+use hp_core::{Core, Stop};
 use outside_traits::traits::Sink;
 
 /// How many deeds come at most behind an interrupt: of the phase, for the volume, and for the offset.

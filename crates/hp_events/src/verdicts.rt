@@ -13,9 +13,8 @@ ghost use Rattle.hp_events.specs.Done.{DoesActs};
 ghost use Rattle.hp_events.specs.Hand.{hand_at};
 
 use driver_machine::{AnswerKind, Cause};
-use driver_outcome::Stop;
 use hardware_table::Moved;
-use hp_core::Core;
+use hp_core::{Core, Stop};
 use outside_traits::traits::Sink;
 use request_slots::Asked;
 

@@ -11,7 +11,7 @@ use Rattle.rand_core.specs.Stream.{Stream, next_u64}
 use Rattle.script_reader.specs.Grammar.{Spells}
 use Rattle.script_lines.specs.Known.{Said, verb_of}
 use Rattle.script_reader.specs.Printing.{number, fields_of, spaced, line_text, text_of, numbered}
-use Rattle.script_words.specs.Words.{verb_word, all_verbs}
+use Rattle.script_lines.specs.Words.{verb_word, all_verbs}
 use Rattle.script_lines.specs.declared.statement.Content.TheVariants.{Seq}
 use Rattle.script_lines.specs.declared.statement.Statement.TheVariants as says
 use Rattle.script_reader.proofs.BackLaws.{read_back}

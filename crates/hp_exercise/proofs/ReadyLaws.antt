@@ -9,7 +9,7 @@ use Rattle.pack_geometry.specs.declared.DriveKind.{DriveKind}
 use Rattle.pack_geometry.specs.declared.DriveKind.TheVariants.{Rp06, Rm03, Rm05}
 use Rattle.pack_geometry.specs.Geometry.{block_count}
 use Rattle.rand_core.specs.Stream.{Stream, next_u64}
-use Rattle.script_words.specs.declared.kinds.ScriptKind.TheVariants.{TooMany}
+use Rattle.script_lines.specs.declared.kinds.ScriptKind.TheVariants.{TooMany}
 use Rattle.script_lines.specs.declared.statement.Content.TheVariants.{Seq}
 use Rattle.script_lines.specs.declared.statement.Statement.TheVariants as says
 use Rattle.script_reader.specs.Formed.{IsDeclared, IsAsked, IsWell, AreWell, learned}

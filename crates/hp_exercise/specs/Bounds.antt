@@ -4,8 +4,8 @@ use Rattle.fire_code.specs.Burst.{IsShortBurst}
 use Rattle.script_lines.specs.Known.{Said, verb_of, requests}
 use Rattle.script_lines.specs.declared.statement.Request.{Request}
 use Rattle.script_lines.specs.declared.statement.Statement.TheVariants as says
-use Rattle.script_words.specs.declared.verbs.Verb.{Verb}
-use Rattle.script_words.specs.declared.verbs.Verb.TheVariants as verbs
+use Rattle.script_lines.specs.declared.verbs.Verb.{Verb}
+use Rattle.script_lines.specs.declared.verbs.Verb.TheVariants as verbs
 
 -- how many frames of 512 bytes a request takes whose first byte stands at an offset
 abbrev pub frames_of : Request → ℕ

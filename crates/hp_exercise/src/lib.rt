@@ -16,7 +16,7 @@ ghost use Rattle.hp_exercise.specs.Exercise.{head_text, script_text};
 ghost use Rattle.hp_exercise.specs.Statements.{script_statements};
 ghost use Rattle.script_reader.specs.Grammar.{Spells};
 ghost use Rattle.script_reader.specs.Printing.{numbered};
-ghost use Rattle.script_words.specs.Words.{all_verbs};
+ghost use Rattle.script_lines.specs.Words.{all_verbs};
 
 use outside_traits::traits::NoMemory;
 use rand_core::{Rng, SeedableRng};

@@ -1,9 +1,9 @@
 -- A script that is too long is refused by its front.
 use Rattle.std.proofs.Common.{◌≡◌, ◌⊎◌, inl, inr, ℕ, ◌+◌, ◌<◌, ◌≤◌, List, [], ◌++◌, length, subst, sym, ap, ◌∙◌, arith, append-nil, length-append, Result, Ok, Err, IfErr, IsErrAnd}
 use Rattle.trace_replay.specs.Script.{Script}
-use Rattle.script_words.specs.declared.kinds.ScriptKind.{ScriptKind}
-use Rattle.script_words.specs.declared.kinds.ScriptKind.TheVariants.{ScriptLong}
-use Rattle.script_words.specs.Words.{all_verbs}
+use Rattle.script_lines.specs.declared.kinds.ScriptKind.{ScriptKind}
+use Rattle.script_lines.specs.declared.kinds.ScriptKind.TheVariants.{ScriptLong}
+use Rattle.script_lines.specs.Words.{all_verbs}
 use Rattle.script_lines.specs.Known.{Numbered}
 use Rattle.script_reader.specs.declared.fault.ReadFault.{ReadFault}
 use Rattle.script_reader.specs.declared.fault.ReadFault.TheVariants as reading

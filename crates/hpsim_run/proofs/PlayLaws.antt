@@ -3,7 +3,7 @@ use Rattle.std.proofs.Common.{◌≡◌, inl, inr, ℕ, ◌++◌, List, Bool, Is
 use Rattle.outside_traits.specs.Causes.{HasCause}
 use Rattle.outside_traits.specs.Puts.{TakesFront}
 use Rattle.pack_model.specs.Pack.{Pack}
-use Rattle.script_words.specs.declared.kinds.ScriptKind.{ScriptKind}
+use Rattle.script_lines.specs.declared.kinds.ScriptKind.{ScriptKind}
 use Rattle.trace_replay.specs.Script.{Script}
 use Rattle.event_player.specs.declared.play.PlayFault.{PlayFault}
 use Rattle.event_player.specs.declared.play.PlayFault.TheVariants as faults
@@ -13,7 +13,7 @@ use Rattle.hpsim_run.specs.declared.load.LoadFault.TheVariants as loading
 use Rattle.hpsim_run.specs.Scripts.{MeanNone}
 use Rattle.hpsim_run.specs.Loading.{RefusesAll}
 use Rattle.command_parts.specs.Lines.{Told}
-use Rattle.script_words.specs.Refusals.{refusal_text}
+use Rattle.script_lines.specs.Refusals.{refusal_text}
 use Rattle.event_player.specs.Plays.{NamesTooLong}
 use Rattle.event_player.specs.Passes.{Took}
 use Rattle.event_player.specs.Stops.{Leaves}

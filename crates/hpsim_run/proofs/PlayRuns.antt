@@ -3,7 +3,7 @@ use Rattle.std.proofs.Common.{◌≡◌, ◌⊎◌, ℕ, IsTrue, List, refl, sym
 use Rattle.outside_traits.specs.Causes.{Rose}
 use Rattle.script_reader.specs.Grammar.{IsRefused}
 use Rattle.script_lines.specs.Known.{Numbered}
-use Rattle.script_words.specs.Words.{all_verbs}
+use Rattle.script_lines.specs.Words.{all_verbs}
 use Rattle.script_reader.proofs.ReadingLaws.{one_script}
 use Rattle.script_meaning.specs.Meaning.{meaning}
 use Rattle.event_player.specs.declared.play.PlayFault.{PlayFault}

@@ -3,7 +3,7 @@ use Rattle.std.proofs.Common.{◌≡◌, ◌⊎◌, inl, inr, ℕ, ◌+◌, ◌�
 use Rattle.pack_model.specs.Pack.{Pack}
 use Rattle.outside_traits.specs.Causes.{Rose}
 use Rattle.trace_replay.specs.Script.{Script}
-use Rattle.script_words.specs.declared.kinds.ScriptKind.{ScriptKind}
+use Rattle.script_lines.specs.declared.kinds.ScriptKind.{ScriptKind}
 use Rattle.event_player.specs.Plays.{IsTooLong}
 use Rattle.command_parts.specs.Outside.{Outside}
 use Rattle.hpsim_run.specs.Scripts.{RunsScript, TellsRefusal, TellsTooLong, longest}

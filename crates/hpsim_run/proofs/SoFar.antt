@@ -15,13 +15,13 @@ use Rattle.trace_replay.specs.Causes.{AsksSome, AskSome}
 use Rattle.trace_replay.specs.Runs.{start_of}
 use Rattle.trace_replay.proofs.Following.{follow_on}
 use Rattle.trace_replay.proofs.Explained.{are_explained}
-use Rattle.trace_bounds.proofs.Commands.{ends_are_bounded}
+use Rattle.trace_work.proofs.Commands.{ends_are_bounded}
 use Rattle.block_machine.specs.LegalAnswers.{ids_asked, with_asked}
 use Rattle.block_machine.specs.Stands.{AreGiven}
 use Rattle.block_machine.proofs.Runs.{each_beginning, script_ids}
 use Rattle.event_player.specs.declared.play.PlayFault.{PlayFault}
 use Rattle.event_player.specs.declared.play.PlayFault.TheVariants as faults
-use Rattle.driver_outcome.specs.Outcome.{IsNextBlock}
+use Rattle.driver_answers.specs.Outcome.{IsNextBlock}
 use Rattle.event_player.specs.Passes.{HasNext, NextBlocksShow}
 use Rattle.event_player.specs.Passes.{ShowsAll}
 use Rattle.event_player.specs.Passes.{writes_next}
@@ -29,7 +29,7 @@ use Rattle.event_player.specs.Passes.{AreBehind, WritesAhead}
 use Rattle.event_player.specs.Passes.{CameTo, Took}
 use Rattle.event_player.proofs.Passes.{rules_hold, behind_more}
 use Rattle.event_player.specs.Stops.{StopsPlaying}
-use Rattle.run_promises.specs.Beginnings.{IsBegun, BeginningsKeep, NextBlocksKeep, PromisesSoFar}
+use Rattle.block_machine.specs.Beginnings.{IsBegun, BeginningsKeep, NextBlocksKeep, PromisesSoFar}
 use Rattle.hpsim_run.specs.SoFar.{KeepsSoFar, HoldSoFar, Holds, Keeps}
 use Rattle.hpsim_run.proofs.Standing.{FoundBehind, found_behind}
 

@@ -1,13 +1,13 @@
 -- What a transfer leaves as it was, by its status.
 use Rattle.std.proofs.Common.{◌≡◌, ◌⊎◌, inl, inr, ℕ, true, false, Some, refl, sym, subst, arith}
 use Rattle.command_parts.specs.Outside.{HasItsCause, Outside}
-use Rattle.command_words.specs.Passes.{Stays}
-use Rattle.command_words.specs.Passes.{IsReadCode, IsTransferCode}
-use Rattle.command_words.specs.Passes.{reads_source as transfer_reads}
-use Rattle.command_words.specs.Passes.{Transfer}
-use Rattle.command_words.specs.Passes.{Read, Write}
+use Rattle.pack_commands.specs.Passes.{Stays}
+use Rattle.pack_commands.specs.Passes.{IsReadCode, IsTransferCode}
+use Rattle.pack_commands.specs.Passes.{reads_source as transfer_reads}
+use Rattle.pack_commands.specs.Passes.{Transfer}
+use Rattle.pack_commands.specs.Passes.{Read, Write}
 use Rattle.hpsim_run.specs.Leaves.{LeavesAlone}
-use Rattle.command_words.specs.declared.words.Command.TheVariants.{Exercise, TransferBytes}
+use Rattle.pack_commands.specs.declared.words.Command.TheVariants.{Exercise, TransferBytes}
 
 -- it is neither 2 nor 3
 read_code : (code n : ℕ) → code ≡ n → (2 ≡ n) ⊎ (3 ≡ n) → IsReadCode code → ⊥

@@ -3,10 +3,10 @@ use Rattle.std.specs.Prelude.{◌≡◌, ℕ, List, [], Bool, IsTrue}
 use Rattle.pack_model.specs.Pack.{Pack}
 use Rattle.script_reader.specs.Grammar.{Spells}
 use Rattle.script_lines.specs.Known.{Numbered}
-use Rattle.script_words.specs.Words.{all_verbs}
+use Rattle.script_lines.specs.Words.{all_verbs}
 use Rattle.trace_replay.specs.Script.{Script}
 use Rattle.script_meaning.specs.Meaning.{meaning}
-use Rattle.run_promises.specs.Promises.{Promises}
+use Rattle.block_machine.specs.Promises.{Promises}
 use Rattle.event_player.specs.declared.play.PlayFault.{PlayFault}
 use Rattle.event_player.specs.Plays.{Plays, IsTooLong}
 use Rattle.event_player.specs.Passes.{Took}

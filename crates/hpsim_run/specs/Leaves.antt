@@ -1,11 +1,11 @@
 -- What each command leaves as it was, and the usage.
 use Rattle.std.specs.Prelude.{◌≡◌, ◌⊎◌, ◌↔◌, ℕ, Bool, true, false, IsTrue, List, Option, None, Some}
 use Rattle.command_parts.specs.Lines.{Told}
-use Rattle.command_words.specs.Passes.{reads_source as transfer_reads}
+use Rattle.pack_commands.specs.Passes.{reads_source as transfer_reads}
 use Rattle.command_parts.specs.Statuses.{status_code}
-use Rattle.command_words.specs.Words.{usage_text}
-use Rattle.command_words.specs.declared.words.Command.{Command}
-use Rattle.command_words.specs.declared.words.Command.TheVariants.{Play, Exercise, Cached, TransferBytes}
+use Rattle.pack_commands.specs.Words.{usage_text}
+use Rattle.pack_commands.specs.declared.words.Command.{Command}
+use Rattle.pack_commands.specs.declared.words.Command.TheVariants.{Play, Exercise, Cached, TransferBytes}
 use Rattle.command_parts.specs.declared.status.Status.TheVariants.{Usage, Refused, SourceFailed, TooLong, OutOfMemory}
 
 -- THE USAGE is told exactly where the words are no command.

@@ -7,7 +7,7 @@ use Rattle.script_reader.specs.declared.fault.ReadFault.TheVariants.{Memory as R
 use Rattle.cached_script.specs.declared.kind.CachedRefusal.{CachedRefusal}
 use Rattle.cached_script.specs.declared.kind.CachedRefusal.TheVariants.{Memory as CachedMemory, Refused as CachedRefused}
 use Rattle.cached_script.specs.Kinds.{kind_of}
-use Rattle.script_words.specs.declared.kinds.ScriptKind.{ScriptKind}
+use Rattle.script_lines.specs.declared.kinds.ScriptKind.{ScriptKind}
 use Rattle.trace_replay.specs.Script.{Script}
 use Rattle.hpsim_run.specs.Scripts.{MeanNone}
 use Rattle.hpsim_run.specs.declared.load.LoadFault.{LoadFault}

@@ -2,7 +2,7 @@
 use Rattle.std.specs.Prelude.{◌≡◌, ℕ, IsTrue, List}
 use Rattle.script_reader.specs.Grammar.{Spells, IsRefused}
 use Rattle.script_lines.specs.Known.{Numbered}
-use Rattle.script_words.specs.Words.{all_verbs}
+use Rattle.script_lines.specs.Words.{all_verbs}
 use Rattle.event_player.specs.declared.play.PlayFault.TheVariants as faults
 use Rattle.command_parts.specs.Outside.{Outside}
 use Rattle.hpsim_run.specs.Sinks.{out_took, trace_took}

@@ -10,8 +10,8 @@ use Rattle.trace_replay.specs.Replay.{after_moments}
 use Rattle.trace_replay.specs.History.{is_refusal, lines_of}
 use Rattle.trace_replay.specs.Causes.{IsExplained}
 use Rattle.trace_replay.specs.Runs.{start_of}
-use Rattle.trace_bounds.specs.Commands.{commands_in}
-use Rattle.driver_outcome.specs.Outcome.{IsFront}
+use Rattle.trace_work.specs.Commands.{commands_in}
+use Rattle.driver_answers.specs.Outcome.{IsFront}
 use Rattle.answer_lines.specs.AnswerText.{out_text, answer_line}
 use Rattle.block_machine.specs.Laws.{HasBegun}
 use Rattle.event_player.specs.declared.play.PlayFault.{PlayFault}
@@ -19,7 +19,7 @@ use Rattle.event_player.specs.declared.play.PlayFault.TheVariants as faults
 use Rattle.event_player.specs.Passes.{SaysOneSector}
 use Rattle.event_player.specs.Passes.{Took}
 use Rattle.event_player.specs.Stops.{StopsPlaying}
-use Rattle.run_promises.specs.Beginnings.{PromisesSoFar}
+use Rattle.block_machine.specs.Beginnings.{PromisesSoFar}
 
 -- OF THE MOMENTS SO FAR: their answers are those of the block machine to the lines that were played, and the replay behind them stands
 -- for its map; each answer has its cause; and a request took at most 300 commands for each of its blocks.

@@ -4,11 +4,11 @@ use Rattle.pack_geometry.specs.declared.DriveKind.{DriveKind}
 use Rattle.bad144_tool.specs.declared.edit.AddWay.{AddWay}
 use Rattle.command_parts.specs.Statuses.{status_code}
 use Rattle.command_parts.specs.declared.status.Status.TheVariants.{Done, Usage, Refused, SourceFailed, SinkFailed, PacksFailed, TooLong, ToolRefused, OutOfMemory}
-use Rattle.command_words.specs.Passes.{IsTransferCode}
-use Rattle.command_words.specs.Passes.{Transfer}
+use Rattle.pack_commands.specs.Passes.{IsTransferCode}
+use Rattle.pack_commands.specs.Passes.{Transfer}
 use Rattle.pack_commands.specs.Formats.{IsFormatCode}
-use Rattle.command_words.specs.declared.words.Command.{Command}
-use Rattle.command_words.specs.declared.words.Command.TheVariants.{Play, ListTable, AddBlock, FreshTable, MarkBlocks, Exercise, Cached, FormatPack, TransferBytes}
+use Rattle.pack_commands.specs.declared.words.Command.{Command}
+use Rattle.pack_commands.specs.declared.words.Command.TheVariants.{Play, ListTable, AddBlock, FreshTable, MarkBlocks, Exercise, Cached, FormatPack, TransferBytes}
 
 -- the statuses of `play` and `cached`, of the commands of `bad144` without and with refusals of their own, and of `exercise`
 abbrev pub IsPlayCode : ℕ → Type 0

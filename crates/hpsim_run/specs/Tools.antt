@@ -5,8 +5,8 @@ use Rattle.pack_model.specs.Pack.{Pack}
 use Rattle.bad144_tool.specs.declared.edit.AddWay.{AddWay}
 use Rattle.pack_commands.specs.Formats.{RunsFormat}
 use Rattle.pack_commands.specs.Tools.{RunsAdd, RunsFresh, RunsList, RunsMark}
-use Rattle.command_words.specs.declared.words.Command.{Command}
-use Rattle.command_words.specs.declared.words.Command.TheVariants.{ListTable, AddBlock, FreshTable, MarkBlocks, FormatPack}
+use Rattle.pack_commands.specs.declared.words.Command.{Command}
+use Rattle.pack_commands.specs.declared.words.Command.TheVariants.{ListTable, AddBlock, FreshTable, MarkBlocks, FormatPack}
 
 -- EACH COMMAND of a tool has done its own.
 pub record RunsTool (command : Option Command) (code : ℕ) (tells : Bool) (old new : ℕ → Pack) (out_tells : Bool) (taken after : List ℕ) (faults faults_after : ℕ) : Type 0 where

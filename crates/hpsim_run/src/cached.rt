@@ -2,7 +2,7 @@
 ghost use Rattle.std.specs.Prelude.{◌≡◌, ◌≤◌, Some};
 ghost use Rattle.command_parts.specs.Outside.{HasItsCause, outside};
 ghost use Rattle.command_parts.specs.Statuses.{status_code};
-ghost use Rattle.command_words.specs.declared.words.Command.TheVariants.{Cached};
+ghost use Rattle.pack_commands.specs.declared.words.Command.TheVariants.{Cached};
 ghost use Rattle.hpsim_run.specs.Cached.{RunsCached};
 ghost use Rattle.hpsim_run.specs.Leaves.{LeavesAlone};
 
@@ -11,7 +11,7 @@ use cached_run::{CachedPlayFault, play_cached};
 use command_parts::{Status, too_long};
 use outside_traits::traits::{Packs, Sink, Source};
 use outside_traits::whole::write_all;
-use script_words::refusal;
+use script_lines::refusal;
 use std::alloc::Global;
 
 /// Reads a script from the source and plays it over the packs through a cache of so many blocks.

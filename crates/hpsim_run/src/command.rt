@@ -1,7 +1,7 @@
 ghost use Rattle.std.specs.Prelude.{◌≡◌, ℕ, Some};
 ghost use Rattle.command_parts.specs.Outside.{HasItsCause, outside};
-ghost use Rattle.command_words.specs.Passes.{RunsTransfer};
-ghost use Rattle.command_words.specs.Passes.{Transfer};
+ghost use Rattle.pack_commands.specs.Passes.{RunsTransfer};
+ghost use Rattle.pack_commands.specs.Passes.{Transfer};
 ghost use Rattle.hpsim_run.specs.Cached.{RunsCached};
 ghost use Rattle.hpsim_run.specs.Exercises.{RunsExercise};
 ghost use Rattle.hpsim_run.specs.Leaves.{LeavesAlone, TellsUsage};
@@ -9,24 +9,25 @@ ghost use Rattle.hpsim_run.specs.Plays.{RunsPlay};
 ghost use Rattle.command_parts.specs.Statuses.{status_code};
 ghost use Rattle.hpsim_run.specs.Statuses.{IsStatusOf};
 ghost use Rattle.hpsim_run.specs.Tools.{RunsTool};
-ghost use Rattle.command_words.specs.Words.{command_of as the_command};
-ghost use Rattle.command_words.specs.declared.words.Command.TheVariants.{Play, Cached, Exercise, TransferBytes};
+ghost use Rattle.pack_commands.specs.Words.{command_of as the_command};
+ghost use Rattle.pack_commands.specs.declared.words.Command.TheVariants.{Play, Cached, Exercise, TransferBytes};
 
 use crate::cached::run_cached;
 use crate::exercise::run_exercise;
 use crate::load::{LoadFault, load};
 use crate::transfers::run_bytes;
+use block_machine::promises::{beginnings_law, promises_law};
 use command_parts::{Status, too_long};
-use command_words::{Command, command_of, usage};
 use event_player::next_block_law;
 use event_player::play::{PlayFault, play};
 use outside_traits::traits::{Packs, Sink, Source};
 use outside_traits::whole::write_all;
-use pack_commands::{run_add, run_format, run_fresh, run_list, run_mark};
-use run_promises::{beginnings_law, promises_law};
+use pack_commands::{
+    Command, command_of, run_add, run_format, run_fresh, run_list, run_mark, usage,
+};
+use script_lines::refusal;
 use script_meaning::meaning_law;
 use script_reader::grammar_law;
-use script_words::refusal;
 use std::alloc::Global;
 
 /// Reads a script from the source and plays it over the packs.

@@ -2,7 +2,7 @@ ghost use Rattle.std.specs.Prelude.{◌≡◌, ◌+◌, ◌≤◌, IsTrue, [], l
 ghost use Rattle.outside_traits.specs.Causes.{Rose};
 ghost use Rattle.script_reader.specs.Grammar.{Spells, IsRefused};
 ghost use Rattle.script_reader.specs.Stored.{lines_in};
-ghost use Rattle.script_words.specs.Words.{all_verbs};
+ghost use Rattle.script_lines.specs.Words.{all_verbs};
 ghost use Rattle.cached_script.specs.Scripts.{Spells as CachedSpells, IsRefused as CachedRefused};
 ghost use Rattle.hpsim_run.specs.Cached.{MeansCached};
 ghost use Rattle.hpsim_run.specs.Headline.{Means};

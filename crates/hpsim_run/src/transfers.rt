@@ -1,16 +1,16 @@
 // The commands `raw read`, `raw write` and `dump`.
 ghost use Rattle.std.specs.Prelude.{◌≡◌, Some};
 ghost use Rattle.command_parts.specs.Outside.{HasItsCause, outside};
-ghost use Rattle.command_words.specs.Passes.{RunsTransfer};
-ghost use Rattle.command_words.specs.Passes.{IsTransferCode, code_of};
-ghost use Rattle.command_words.specs.Passes.{IsInRange};
+ghost use Rattle.pack_commands.specs.Passes.{RunsTransfer};
+ghost use Rattle.pack_commands.specs.Passes.{IsTransferCode, code_of};
+ghost use Rattle.pack_commands.specs.Passes.{IsInRange};
 ghost use Rattle.hpsim_run.specs.Leaves.{LeavesAlone};
 ghost use Rattle.command_parts.specs.Statuses.{status_code};
-ghost use Rattle.command_words.specs.declared.words.Command.TheVariants.{TransferBytes};
+ghost use Rattle.pack_commands.specs.declared.words.Command.TheVariants.{TransferBytes};
 
 use command_parts::Status;
-use command_words::{Transfer, TransferFault, run_transfer};
 use outside_traits::traits::{Packs, Sink, Source};
+use pack_commands::{Transfer, TransferFault, run_transfer};
 use std::alloc::Global;
 
 /// The status that a transfer ends with.

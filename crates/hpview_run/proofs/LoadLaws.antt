@@ -1,9 +1,9 @@
 -- What was read of a source, and what its bytes spell.
 use Rattle.std.proofs.Common.{◌≡◌, ◌⊎◌, inl, inr, ℕ, ◌+◌, ◌<◌, ◌≤◌, List, [], ◌∷◌, ◌++◌, length, Result, Ok, Err, IfErr, refl, sym, ap, ◌∙◌, subst, append-nil, arith, length-append}
-use Rattle.script_words.specs.declared.kinds.ScriptKind.{ScriptKind}
+use Rattle.script_lines.specs.declared.kinds.ScriptKind.{ScriptKind}
 use Rattle.script_reader.specs.Grammar as scripts
 use Rattle.script_reader.specs.Stored.{Stored}
-use Rattle.script_words.specs.Words.{all_verbs}
+use Rattle.script_lines.specs.Words.{all_verbs}
 use Rattle.trace_reader.specs.declared.fault.TraceKind.{TraceKind}
 use Rattle.trace_reader.specs.Grammar as traces
 use Rattle.run_view.specs.declared.view.View.{View}

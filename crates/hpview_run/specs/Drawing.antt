@@ -7,11 +7,11 @@ use Rattle.picture_sheet.specs.declared.sheet.Sheet.{Sheet}
 use Rattle.picture_svg.specs.Pictures.{IsPicture}
 use Rattle.run_view.specs.declared.view.View.{View}
 use Rattle.run_view.specs.Views.{Views}
-use Rattle.script_words.specs.declared.kinds.ScriptKind.{ScriptKind}
+use Rattle.script_lines.specs.declared.kinds.ScriptKind.{ScriptKind}
 use Rattle.script_reader.specs.Grammar as scripts
 use Rattle.script_reader.specs.Stored.{Stored}
-use Rattle.script_words.specs.Refusals.{refusal_text}
-use Rattle.script_words.specs.Words.{all_verbs}
+use Rattle.script_lines.specs.Refusals.{refusal_text}
+use Rattle.script_lines.specs.Words.{all_verbs}
 use Rattle.trace_reader.specs.declared.fault.TraceKind.{TraceKind}
 use Rattle.hpview_run.specs.declared.load.ViewFault.{ViewFault}
 use Rattle.hpview_run.specs.declared.load.ViewFault.TheVariants as faults

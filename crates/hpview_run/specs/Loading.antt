@@ -7,7 +7,7 @@ use Rattle.script_reader.specs.declared.fault.ReadFault.TheVariants as read
 use Rattle.script_reader.specs.Grammar.{Spells}
 use Rattle.script_reader.specs.Grammar as scripts
 use Rattle.script_reader.specs.Stored.{Stored, lines_in}
-use Rattle.script_words.specs.Words.{all_verbs}
+use Rattle.script_lines.specs.Words.{all_verbs}
 use Rattle.trace_reader.specs.declared.fault.TraceFault.{TraceFault}
 use Rattle.trace_reader.specs.declared.fault.TraceFault.TheVariants as traces
 use Rattle.trace_reader.specs.declared.fault.TraceKind.{TraceKind}

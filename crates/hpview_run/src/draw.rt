@@ -8,8 +8,7 @@ use crate::words::{Command, Form};
 use picture_chart::chart;
 use picture_sheet::Sheet;
 use picture_svg::svg;
-use run_lines::script_law;
-use run_view::{View, caption_of, view_run};
+use run_view::{View, caption_of, script_law, view_run};
 use std::alloc::{AllocError, Global};
 
 /// The picture of a sheet in a form.

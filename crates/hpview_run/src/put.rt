@@ -13,7 +13,7 @@ use crate::text::{trace_refusal, usage};
 use mass_text::LineBuf;
 use outside_traits::traits::Sink;
 use outside_traits::whole::write_all;
-use script_words::refusal;
+use script_lines::refusal;
 
 /// A picture is printed.
 pub(crate) fn put_picture<O: Sink>(picture: &[u8], out: &mut O) -> Status

@@ -1,3 +1,4 @@
+pub mod FrontLaws
 pub mod BlockLaws
 pub mod DigitLaws
 pub mod NumberLaws

@@ -8,7 +8,7 @@ use Rattle.trace_replay.specs.Script.{Script, Input, Numbered, drives_of}
 use Rattle.trace_replay.specs.Packs.{surface_of}
 use Rattle.trace_replay.specs.Replay.{Replay, are_at_work, after_moment, after_moments}
 use Rattle.trace_replay.specs.Runs.{start_of}
-use Rattle.trace_bounds.specs.Measure.{events_left}
+use Rattle.trace_work.specs.Measure.{events_left}
 use Rattle.trace_work.proofs.Conserved.{is_conserved}
 use Rattle.driver_machine.specs.World.{World}
 use Rattle.driver_machine.specs.Acts.{Act, Nothing, after_all}
@@ -16,23 +16,23 @@ use Rattle.driver_machine.specs.Lines.{lines_of_all}
 use Rattle.driver_machine.specs.Events.{event_acts, next_event}
 use Rattle.driver_machine.specs.Sound.{Sound}
 use Rattle.driver_machine.specs.Runs.{Works, CanCome}
-use Rattle.driver_work.proofs.Calls.{event_works}
-use Rattle.driver_work.proofs.Next.{next_can}
+use Rattle.driver_invariant.proofs.Calls.{event_works}
+use Rattle.driver_invariant.proofs.Next.{next_can}
 use Rattle.driver_invariant.proofs.Sound.{sound_after}
-use Rattle.driver_outcome.specs.Packs.{packs_after_all}
+use Rattle.driver_answers.specs.Packs.{packs_after_all}
 use Rattle.driver_trace.specs.Calls.{Stands}
 use Rattle.driver_trace.specs.Runs.{with_call, IsDraining}
-use Rattle.driver_trace.proofs.Drains.{GoesOn, drain_begins, drain_goes_on, drain_between}
+use Rattle.driver_trace.proofs.DrainsLaws.{GoesOn, drain_begins, drain_goes_on, drain_between}
 use Rattle.driver_trace.proofs.Runs.{drain_finds_nothing, drain_ends}
 use Rattle.driver_trace.proofs.Inputted.{calls_are_played, lines_play_nothing}
 use Rattle.driver_runs.specs.Runs.{IsKept}
-use Rattle.driver_runs.proofs.Runs.{events_keep}
-use Rattle.driver_drains.specs.Drains.{AreAsked}
-use Rattle.driver_drains.proofs.Asked.{calls_ask, lines_ask_nothing}
+use Rattle.driver_runs.proofs.RunsLaws.{events_keep}
+use Rattle.driver_trace.specs.Drains.{AreAsked}
+use Rattle.driver_trace.proofs.Asked.{calls_ask, lines_ask_nothing}
 use Rattle.driver_trace.proofs.Calls.{drain_starts_on, drain_goes_further}
-use Rattle.driver_drains.proofs.Falls.{scripts_can_start, falls_on}
-use Rattle.driver_counts.specs.Counts.{noises_of, faults_of}
-use Rattle.driver_counts.proofs.Events.{events_add}
+use Rattle.driver_trace.proofs.Falls.{scripts_can_start, falls_on}
+use Rattle.driver_answers.specs.Counts.{noises_of, faults_of}
+use Rattle.driver_answers.proofs.Events.{events_add}
 use Rattle.driver_answers.proofs.Ids.{events_add_none}
 use Rattle.driver_answers.specs.Waiting.{all_taken}
 use Rattle.one_run.specs.Steps.{Behind, Drained, HasRoom, DrainsEnd}

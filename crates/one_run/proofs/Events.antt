@@ -7,22 +7,22 @@ use Rattle.trace_replay.specs.Script.{Script, Input, Numbered, drives_of}
 use Rattle.trace_replay.specs.Packs.{surface_of}
 use Rattle.trace_replay.specs.Replay.{Replay, after_moments}
 use Rattle.trace_replay.specs.Runs.{start_of}
-use Rattle.trace_bounds.specs.Drains.{IsOf}
+use Rattle.trace_work.specs.Drains.{IsOf}
 use Rattle.driver_machine.specs.World.{World}
 use Rattle.driver_machine.specs.Acts.{Act, after_all}
 use Rattle.driver_machine.specs.Events.{event_acts}
 use Rattle.driver_machine.specs.Runs.{Works}
-use Rattle.driver_work.proofs.Calls.{event_works}
+use Rattle.driver_invariant.proofs.Calls.{event_works}
 use Rattle.driver_invariant.proofs.Sound.{sound_after}
-use Rattle.driver_outcome.specs.Packs.{packs_after_all}
+use Rattle.driver_answers.specs.Packs.{packs_after_all}
 use Rattle.driver_trace.specs.Calls.{Stands}
 use Rattle.driver_trace.specs.Runs.{IsOfUnits, with_call}
 use Rattle.driver_trace.proofs.Inputted.{calls_are_played}
 use Rattle.driver_trace.proofs.Calls.{event_goes_on}
-use Rattle.driver_runs.proofs.Runs.{events_keep}
-use Rattle.driver_drains.proofs.Asked.{calls_ask}
-use Rattle.driver_counts.specs.Counts.{noises_of, faults_of}
-use Rattle.driver_counts.proofs.Events.{events_add}
+use Rattle.driver_runs.proofs.RunsLaws.{events_keep}
+use Rattle.driver_trace.proofs.Asked.{calls_ask}
+use Rattle.driver_answers.specs.Counts.{noises_of, faults_of}
+use Rattle.driver_answers.proofs.Events.{events_add}
 use Rattle.driver_answers.proofs.Ids.{events_add_none}
 use Rattle.driver_answers.specs.Waiting.{all_taken}
 use Rattle.one_run.specs.Steps.{Behind}

@@ -11,8 +11,8 @@ use Rattle.trace_replay.specs.Script.{Script, Line, AreNumbered, drives_of}
 use Rattle.driver_machine.specs.World.{World, unit_at}
 use Rattle.driver_machine.specs.Acts.{Act, after_all}
 use Rattle.driver_machine.specs.Guards.{IsSetUp, MayChange}
-use Rattle.driver_counts.specs.Counts.{IsWithin}
-use Rattle.driver_counts.proofs.Units.{setups_stay}
+use Rattle.driver_answers.specs.Counts.{IsWithin}
+use Rattle.driver_answers.proofs.Units.{setups_stay}
 use Rattle.one_run.specs.Steps.{AreUnits}
 
 -- MORE ROOM is enough.

@@ -3,13 +3,13 @@ use Rattle.std.proofs.Common.{◌≡◌, ℕ, ◌^◌, ◌<◌, ◌≤◌, List,
 use Rattle.trace_replay.specs.Script as script
 use Rattle.trace_replay.specs.Script.{Script, Input, IsInput, drives_of}
 use Rattle.trace_replay.specs.Causes.{AsksSome}
-use Rattle.trace_bounds.specs.Drains.{IsOf}
+use Rattle.trace_work.specs.Drains.{IsOf}
 use Rattle.driver_machine.specs.World.{World}
 use Rattle.driver_machine.specs.Acts.{Act, after_all}
 use Rattle.driver_slots.proofs.Sizes.{sizes_all}
 use Rattle.driver_machine.specs.Runs.{CanCome}
-use Rattle.driver_counts.specs.Counts.{IsWithin, noises_of, faults_of}
-use Rattle.driver_counts.proofs.Acts.{takings_add, capacity_stays}
+use Rattle.driver_answers.specs.Counts.{IsWithin, noises_of, faults_of}
+use Rattle.driver_answers.proofs.Acts.{takings_add, capacity_stays}
 use Rattle.driver_answers.specs.Ids.{AreOf}
 use Rattle.driver_answers.proofs.Ids.{taking_adds_none}
 use Rattle.driver_trace.specs.Runs.{IsOfUnits}

@@ -13,7 +13,7 @@ use Rattle.trace_replay.specs.Script.{Script, Numbered, drives_of}
 use Rattle.trace_replay.specs.Packs.{surface_of}
 use Rattle.trace_replay.specs.Replay.{Replay, all_units, after_moments}
 use Rattle.trace_replay.specs.Runs.{start_of}
-use Rattle.trace_bounds.specs.Drains.{IsOf}
+use Rattle.trace_work.specs.Drains.{IsOf}
 use Rattle.subsystem_spec.specs.declared.answers.AnswerKind.{AnswerKind}
 use Rattle.driver_machine.specs.World.{World, Held, unit_at}
 use Rattle.driver_machine.specs.Acts.{Act, after_all}
@@ -22,17 +22,17 @@ use Rattle.driver_machine.specs.Guards.{IsSetUp}
 use Rattle.driver_machine.specs.Sound.{Sound, AtWork}
 use Rattle.driver_runs.specs.Runs.{IsKept}
 use Rattle.driver_machine.specs.Runs.{Works}
-use Rattle.driver_work.proofs.Calls.{submit_works}
+use Rattle.driver_invariant.proofs.Calls.{submit_works}
 use Rattle.driver_invariant.proofs.Sound.{sound_after}
-use Rattle.driver_outcome.specs.Packs.{packs_after_all}
+use Rattle.driver_answers.specs.Packs.{packs_after_all}
 use Rattle.driver_trace.specs.Calls.{Stands}
 use Rattle.driver_trace.specs.Runs.{with_call}
 use Rattle.driver_trace.proofs.Calls.{submissions_go}
 use Rattle.driver_trace.proofs.Inputted.{calls_are_played}
-use Rattle.driver_runs.proofs.Runs.{submissions_keep}
-use Rattle.driver_drains.proofs.Asked.{calls_ask}
-use Rattle.driver_counts.specs.Counts.{in_use}
-use Rattle.driver_counts.proofs.Events.{submissions_add}
+use Rattle.driver_runs.proofs.RunsLaws.{submissions_keep}
+use Rattle.driver_trace.proofs.Asked.{calls_ask}
+use Rattle.driver_answers.specs.Counts.{in_use}
+use Rattle.driver_answers.proofs.Events.{submissions_add}
 use Rattle.driver_answers.specs.Ids.{AreOf}
 use Rattle.driver_answers.proofs.Ids as ids
 use Rattle.driver_answers.specs.Waiting.{all_taken}

@@ -13,7 +13,7 @@ use Rattle.driver_machine.specs.Acts.{Act, Refuse, Submit, Of, Change, Nothing, 
 use Rattle.driver_machine.specs.Guards.{Allowed, InHand, IsSetUp}
 use Rattle.driver_machine.specs.Sound.{Sound, UnitOk}
 use Rattle.driver_machine.specs.Runs.{Run, Works}
-use Rattle.driver_work.proofs.Calls.{taken_works}
+use Rattle.driver_invariant.proofs.Calls.{taken_works}
 use Rattle.driver_invariant.proofs.Sound.{sound_after}
 use Rattle.driver_replay.specs.Shows.{Shows}
 use Rattle.driver_replay.proofs.Rest.{rest_shows}
@@ -23,8 +23,8 @@ use Rattle.driver_trace.proofs.Resting.{shows_one, shows_all}
 use Rattle.driver_trace.proofs.Submits.{calm}
 use Rattle.driver_trace.proofs.Calls.{answers_go}
 use Rattle.driver_runs.specs.Runs.{IsKept}
-use Rattle.driver_runs.proofs.Runs.{answers_keep}
-use Rattle.driver_counts.proofs.Units.{setups_stay}
+use Rattle.driver_runs.proofs.RunsLaws.{answers_keep}
+use Rattle.driver_answers.proofs.Units.{setups_stay}
 use Rattle.driver_answers.specs.Waiting.{all_taken}
 use Rattle.driver_answers.proofs.Taking.{taken_by, nothing_taken}
 

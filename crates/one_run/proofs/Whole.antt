@@ -12,7 +12,7 @@ use Rattle.trace_replay.specs.Script as says
 use Rattle.trace_replay.specs.Script.{Script, Statement, Declares, Plays, Line, Numbered, IsStatement, AreNumbered, AreApart, drives_of, ids_of, with_id, with_input, inputs_before}
 use Rattle.trace_replay.specs.Runs.{IsLegalRun}
 use Rattle.trace_replay.proofs.OneTrace.{one_run, one_packs}
-use Rattle.driver_runs.proofs.Runs.{runs_are_legal}
+use Rattle.driver_runs.proofs.RunsLaws.{runs_are_legal}
 use Rattle.driver_slots.proofs.Lists.{Contains-none, Contains-first, Contains-later, Contains-cases}
 use Rattle.one_run.specs.OneRun.{LegalRunsAreOne, OneRunExists}
 use Rattle.one_run.specs.Steps.{Behind, Drained, Went, HasSetups}

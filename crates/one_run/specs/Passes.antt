@@ -1,2 +1,2 @@
 -- What is passed on of the crates below, so that those above stand on this one.
-pub use Rattle.driver_drains.specs.Drains.{AreAsked, Falls}
+pub use Rattle.driver_trace.specs.Drains.{AreAsked, Falls}

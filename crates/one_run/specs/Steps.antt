@@ -18,8 +18,8 @@ use Rattle.driver_machine.specs.Runs.{MaySubmit}
 use Rattle.driver_replay.specs.Acts.{AreSetUp}
 use Rattle.driver_trace.specs.Runs.{IsSoFar}
 use Rattle.driver_runs.specs.Runs.{IsKept}
-use Rattle.driver_drains.specs.Drains.{AreAsked}
-use Rattle.driver_counts.specs.Counts.{IsWithin, in_use}
+use Rattle.driver_trace.specs.Drains.{AreAsked}
+use Rattle.driver_answers.specs.Counts.{IsWithin, in_use}
 use Rattle.driver_answers.specs.Ids.{AreOf}
 
 -- THE UNITS are set up as the script declares them.

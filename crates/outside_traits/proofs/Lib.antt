@@ -1,1 +1,2 @@
 pub mod TakenLaws
+pub mod GatherLaws

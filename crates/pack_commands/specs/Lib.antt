@@ -1,2 +1,5 @@
+pub mod Commands
+pub mod Words
 pub mod Formats
 pub mod Tools
+pub mod Passes

@@ -4,11 +4,21 @@
 //! status (`RunsList` and its like), and that each fault has its cause.
 //!
 //! Only tested, in `hpsim_rows`: printed texts.
+//!
+//! The commands that the words of the command line name, and the usage.
+//!
+//! What is proved: `command_of` gives a command exactly where the words are one of the shapes, with the numbers that they spell, in their
+//! ranges.
 #![tactic(auto)]
 
 mod formats;
 mod text;
 mod tools;
+mod usage;
+mod words;
 
 pub use formats::run_format;
+pub use raw_command::{Transfer, TransferFault, run_transfer};
 pub use tools::{run_add, run_fresh, run_list, run_mark};
+pub use usage::usage;
+pub use words::{Command, command_of};

@@ -6,7 +6,7 @@ use Rattle.pack_geometry.specs.Geometry.{block_count, copy_at, place_at}
 use Rattle.pack_model.specs.Pack.{Pack, block_at, is_marked}
 use Rattle.pack_model.specs.TableSpelling.{Table}
 use Rattle.hardware_table.specs.Drive.{DriveState}
-use Rattle.block_polls.specs.Stations.{IsAimed}
+use Rattle.block_tests.specs.Stations.{IsAimed}
 use Rattle.block_tests.specs.Stages.{Fills, copied, one}
 use Rattle.block_tests.specs.TestFaults.{IsStop, Writes}
 use Rattle.block_tests.specs.declared.fault.TestFault.TheVariants.{Differs}

@@ -3,7 +3,7 @@ use Rattle.std.specs.Prelude.{◌≡◌, ◌≢◌, ℕ, ◌+◌, ◌*◌, ◌/�
 use Rattle.pack_model.specs.Pack.{Pack, block_at, window, with_written}
 use Rattle.outside_traits.specs.Puts.{Puts}
 use Rattle.outside_traits.specs.declared.traits.SinkFailed.{SinkFailed}
-use Rattle.mass_gather.specs.Gathers.{Gathers}
+use Rattle.outside_traits.specs.Gathers.{Gathers}
 use Rattle.pack_windows.specs.Parts.{Part, AreCurrent, IsPart}
 
 -- marks are read of another unit, the one with half the number

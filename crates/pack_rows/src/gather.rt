@@ -1,6 +1,6 @@
-use mass_gather::*;
 use mass_outside::mem_streams::MemSink;
 use outside_traits::traits::{Sink, SinkFailed};
+use outside_traits::*;
 use std::alloc::{AllocError, Global};
 
 /// Pieces of these sizes are put to a sink with so much room, whose call of a number fails: whether all went well, and how

@@ -10,7 +10,7 @@ use Rattle.partitions.specs.declared.Admission.TheVariants.{Inside, Outside}
 use Rattle.partitions.specs.Partitions.{admission, first_of, size_of}
 use Rattle.sector_format.specs.declared.HeaderFault.TheVariants.{Format}
 use Rattle.sector_format.specs.Headers.{cylinder_bits, fault_of}
-use Rattle.chart_lines.specs.Charts.{fitted, is_plain, plain_of}
+use Rattle.picture_chart.specs.Charts.{fitted, is_plain, plain_of}
 
 -- replacement 0 is the first block of the last track, and each other one stands a block too high
 abbrev pub ReplacementOffByOne : Type 0

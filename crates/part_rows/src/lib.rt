@@ -1,18 +1,26 @@
 //! Tests of the parts on which drives, driver and tool stand, and outcomes of wrong bodies of theirs that their words refuse; so these
 //! crates are proved once. The functions here do nothing: each stands for a law.
+//!
+//! Rows of the formatter's single calls, each of which goes wrong once; tests alone, so that what they test is proved once.
 #![tactic(auto)]
 
 ghost use Rattle.part_rows.specs.Places.{ReplacementOffByOne, Rm05LimitBy22Sectors, SectorTooMany, EndIsOutside, OneBlockPastTheEnd, Rm05GByRm03, FormatBeforeTheBadSector, MarkedHeaderKeepsItsGoodBit, Rm05MarkedAsAnRp06, BytesAsTheyAre, PlusForATextThatFits};
 ghost use Rattle.part_rows.specs.Registers.{CodesOfTwoFunctionsSwapped, UnknownCodeIsNop, StatusBitMoved, OffsetForAWrite, OffsetOneFailureLate, LaterTryWaitsForTheSector, Search4Ahead};
 
 #[cfg(test)]
+mod calls;
+#[cfg(test)]
 mod code;
+#[cfg(test)]
+mod cut_packs;
 #[cfg(test)]
 mod geometry;
 #[cfg(test)]
 mod headers;
 #[cfg(test)]
 mod parts;
+#[cfg(test)]
+mod polls;
 #[cfg(test)]
 mod repairs;
 #[cfg(test)]

@@ -1,1 +1,3 @@
+mod Charting
+mod Putting
 mod PageLaws

@@ -1,6 +1,6 @@
 -- WHAT THE SIGNS OF A CHART SAY.
 use Rattle.std.specs.Prelude.{ℕ, List, [], ◌∷◌, fold, codes}
-use Rattle.chart_lines.specs.Rows.{line_of, with_line}
+use Rattle.picture_chart.specs.Rows.{line_of, with_line}
 
 abbrev pub with_words : List (List ℕ) → List ℕ → List (List ℕ)
 with_words page words = with_line (line_of (words ∷ [])) page

@@ -1,9 +1,9 @@
 -- THE CHART OF A SHEET: its title, what is seen at a glance, the panels of 72 columns each, the requests, and what the signs say.
 use Rattle.std.specs.Prelude.{◌≡◌, ℕ, zero, suc, ◌+◌, ◌*◌, ◌/◌, List, [], ◌∷◌, Option, Some, None, length, fold, decimal, slice_range}
-use Rattle.chart_lines.specs.Charts.{with_text, text_of, IsChart}
+use Rattle.picture_chart.specs.Charts.{with_text, text_of, IsChart}
 use Rattle.picture_chart.specs.Legends.{with_legend}
-use Rattle.chart_panels.specs.Panels.{with_panel}
-use Rattle.chart_lines.specs.Rows.{line_of, with_line}
+use Rattle.picture_chart.specs.Panels.{with_panel}
+use Rattle.picture_chart.specs.Rows.{line_of, with_line}
 use Rattle.picture_chart.specs.Tables.{with_table}
 use Rattle.picture_sheet.specs.declared.sheet.Sheet.{Sheet}
 use Rattle.picture_sheet.specs.declared.summary.Phrase.{Phrase}

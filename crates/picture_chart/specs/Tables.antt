@@ -1,10 +1,10 @@
 -- THE REQUESTS OF A CHART: a line each.
 use Rattle.std.specs.Prelude.{ℕ, Bool, if◌then◌else◌, List, [], ◌∷◌, Option, Some, None, fold, codes, decimal}
-use Rattle.chart_lines.specs.Charts.{with_text, at_left, at_right}
+use Rattle.picture_chart.specs.Charts.{with_text, at_left, at_right}
 use Rattle.drive_pictures.specs.declared.requests.Request.{Request}
 use Rattle.drive_pictures.specs.Requests.{queued, is_out_of_order}
 use Rattle.picture_sheet.specs.Words.{outcome_word}
-use Rattle.chart_lines.specs.Rows.{line_of, with_line}
+use Rattle.picture_chart.specs.Rows.{line_of, with_line}
 
 unfoldable pub names : List ℕ
 names = codes "   request op    unit cylinder   asked answered answer       done queued on way  ready  trans  turn"

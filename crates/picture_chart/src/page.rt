@@ -6,8 +6,7 @@ ghost use Rattle.picture_chart.specs.Pages.{with_phrase, with_third, with_senten
 ghost use Rattle.picture_chart.specs.Legends.{with_words, of_drives, of_marks, with_legend};
 
 use crate::table::put_table;
-use chart_lines::{ChartLine, line_of, put_line, text_of};
-use chart_panels::put_panel;
+use crate::{ChartLine, line_of, put_line, put_panel, text_of};
 use picture_sheet::{Phrase, Sentence, Sheet, Shown, sentences};
 use run_picture::Column;
 use std::alloc::{AllocError, Global};

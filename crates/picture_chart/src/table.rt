@@ -1,11 +1,11 @@
 //! The requests of a chart.
 
 ghost use Rattle.std.specs.Prelude.{◌≡◌, ◌∷◌, [], OnOk};
-ghost use Rattle.chart_lines.specs.Charts.{with_text};
-ghost use Rattle.chart_lines.specs.Rows.{line_of, with_line};
+ghost use Rattle.picture_chart.specs.Charts.{with_text};
+ghost use Rattle.picture_chart.specs.Rows.{line_of, with_line};
 ghost use Rattle.picture_chart.specs.Tables.{names, cylinder_text, star, with_times, request_line, with_request, with_count, with_table};
 
-use chart_lines::{ChartLine, line_of, line_with, put_line};
+use crate::{ChartLine, line_of, line_with, put_line};
 use drive_pictures::Request;
 use itoa::Buffer;
 use picture_sheet::{Shown, outcome_word};

@@ -6,11 +6,11 @@ use Rattle.run_picture.specs.declared.columns.Column.{Column}
 use Rattle.picture_sheet.specs.declared.sheet.Sheet.{Sheet}
 use Rattle.picture_sheet.specs.Window.{kind_of}
 use Rattle.picture_sheet.specs.Words.{letter_sign}
-use Rattle.chart_lines.specs.Charts.{front, is_blank, with_text}
-use Rattle.chart_lines.specs.Rows.{filled, with_row}
-use Rattle.chart_panels.specs.Panels.{unit_label, with_unit}
-use Rattle.chart_panels.specs.Signs.{first_of, sign_of}
-use Rattle.chart_panels.specs.Strips.{strip_of}
+use Rattle.picture_chart.specs.Charts.{front, is_blank, with_text}
+use Rattle.picture_chart.specs.Rows.{filled, with_row}
+use Rattle.picture_chart.specs.Panels.{unit_label, with_unit}
+use Rattle.picture_chart.specs.Signs.{first_of, sign_of}
+use Rattle.picture_chart.specs.Strips.{strip_of}
 use Rattle.picture_rows.specs.Shown.{RowOfAnotherUnit}
 
 -- a row is put behind the others, be it left out

@@ -5,8 +5,8 @@ use Rattle.drive_pictures.specs.declared.drives.Drive.{Drive}
 use Rattle.drive_pictures.specs.Drives as drives
 use Rattle.drive_pictures.specs.Events.{line_of}
 use Rattle.run_picture.specs.declared.columns.Window.{Window}
-use Rattle.run_lines.specs.Saids.{Said}
-use Rattle.run_lines.specs.Runs.{up_to, run_of}
+use Rattle.run_view.specs.Saids.{Said}
+use Rattle.run_view.specs.Runs.{up_to, run_of}
 use Rattle.run_view.specs.Notes.{note_at}
 use Rattle.hpview_run.specs.declared.status.Status.TheVariants.{Usage, OutOfMemory}
 use Rattle.hpview_run.specs.declared.words.Command.{Command}

@@ -14,13 +14,13 @@ use Rattle.picture_scene.specs.declared.scene.Stretch.{Stretch}
 use Rattle.picture_scene.specs.Frames.{point, add, x_of}
 use Rattle.picture_scene.specs.Groups.{Row}
 use Rattle.picture_scene.specs.Scenes.{cell_in, size_of}
-use Rattle.picture_adapters.specs.Adapters.{together_in, together_at}
+use Rattle.picture_axes.specs.Adapters.{together_in, together_at}
 use Rattle.picture_arms.specs.Arms.{points_of, column_points}
 use Rattle.picture_axes.specs.Axes.{with_event}
 use Rattle.picture_motion.specs.Ribbons.{is_busy, with_motion}
-use Rattle.chart_lines.specs.Rows.{with_row}
-use Rattle.chart_panels.specs.Panels.{unit_label, with_unit}
-use Rattle.chart_panels.specs.Signs.{cell_of}
+use Rattle.picture_chart.specs.Rows.{with_row}
+use Rattle.picture_chart.specs.Panels.{unit_label, with_unit}
+use Rattle.picture_chart.specs.Signs.{cell_of}
 use Rattle.picture_chart.specs.Pages.{panel_columns}
 
 -- at the first adapter stands how many drives of the second position

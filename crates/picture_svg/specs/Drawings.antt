@@ -12,7 +12,7 @@ use Rattle.picture_scene.specs.declared.scene.Scene.{Scene}
 use Rattle.picture_scene.specs.Frames.{point, add, times, small}
 use Rattle.picture_scene.specs.Groups.{drawn, with_sentences, with_sentence_line}
 use Rattle.picture_scene.specs.Scenes.{height_of}
-use Rattle.picture_adapters.specs.Adapters.{with_adapter}
+use Rattle.picture_axes.specs.Adapters.{with_adapter}
 use Rattle.picture_axes.specs.Axes.{with_lines, with_events}
 use Rattle.picture_lanes.specs.Lanes.{with_unit}
 use Rattle.picture_svg.specs.Tables.{with_table}

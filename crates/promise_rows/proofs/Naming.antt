@@ -13,8 +13,8 @@ use Rattle.trace_replay.specs.Replay.{after_moments}
 use Rattle.trace_replay.specs.Runs.{start_of}
 use Rattle.trace_replay.specs.Script as says
 use Rattle.trace_replay.specs.Script.{Input, Numbered, drives_of, inputs_of}
-use Rattle.trace_bounds.specs.Drains.{event_by}
-use Rattle.driver_reach.specs.Reach.{AsksBelow, AskBelow, TablesBelow}
+use Rattle.trace_work.specs.Drains.{event_by}
+use Rattle.driver_runs.specs.Reach.{AsksBelow, AskBelow, TablesBelow}
 use Rattle.run_stops.specs.Stops.{AreOfOneEvent}
 use Rattle.event_player.proofs.OneEvent.{over_at_last}
 use Rattle.promise_rows.specs.Naming.{LaterUnitNamed, FittingLengthNamed, FirstEventUntold, OtherRunByOtherTables, NoneWrites, WritesTo, ReadsLengthen, TwoLinesUnderWay, TwoEventsUnderWay, MarkGoneBehindAFailure, NotAsLongAsWritten}

@@ -14,10 +14,10 @@ use Rattle.driver_slots.proofs.Lists.{Contains-none}
 use Rattle.block_machine.specs.Laws.{HoldMap}
 use Rattle.block_machine.specs.LastWrites.{left_behind}
 use Rattle.block_machine.specs.LegalAnswers.{times_answered}
-use Rattle.run_promises.specs.Promises.{Promises}
+use Rattle.block_machine.specs.Promises.{Promises}
 use Rattle.answer_lines.specs.AnswerText.{out_text, said_text}
 use Rattle.answer_lines.specs.Blocks as blocks
-use Rattle.answer_tally.specs.declared.tally.Tally.{Tally}
+use Rattle.answer_lines.specs.declared.tally.Tally.{Tally}
 use Rattle.event_player.specs.Plays.{Plays}
 use Rattle.promise_rows.specs.Playing.{AlwaysAFault, AnswersKeptBack, BlockBeforeItsEvent, BlockBehindAStop, BlockOfNoUnit, NoiseLineUncounted, ShortLastBlockWhole}
 

@@ -7,8 +7,8 @@ use Rattle.trace_replay.specs.Replay.{Replay, after_moments}
 use Rattle.trace_replay.specs.Runs.{start_of}
 use Rattle.trace_replay.specs.Text.{trace_text, moment_text}
 use Rattle.answer_lines.specs.AnswerText.{out_text}
-use Rattle.driver_outcome.specs.Outcome.{IsFront}
-use Rattle.driver_outcome.proofs.Joined.{text_append}
+use Rattle.driver_answers.specs.Outcome.{IsFront}
+use Rattle.driver_answers.proofs.Joined.{text_append}
 use Rattle.run_stops.specs.Ahead.{IsBetween, lines_told}
 use Rattle.run_stops.specs.Writing.{WriteNothing, was_written_at}
 use Rattle.promise_rows.specs.Stopping.{AnswerBeforeItsLine, TwoBlocksAhead, TextDropped, TextSentTwice}

@@ -8,9 +8,9 @@ use Rattle.trace_replay.specs.Moments.{Moment, Played, Told, Deed, played}
 use Rattle.trace_replay.specs.Replay.{after_moments}
 use Rattle.trace_replay.specs.Runs.{IsLegalRun, start_of}
 use Rattle.trace_replay.specs.Script.{Script, Input, Numbered, Submit, Drain, drives_in, drives_of, inputs_of}
-use Rattle.trace_bounds.specs.Drains.{event_by}
-use Rattle.run_promises.specs.Promises.{Promises}
-use Rattle.driver_reach.specs.Lengths.{length_behind}
+use Rattle.trace_work.specs.Drains.{event_by}
+use Rattle.block_machine.specs.Promises.{Promises}
+use Rattle.driver_runs.specs.Lengths.{length_behind}
 use Rattle.event_player.specs.declared.play.PlayFault.TheVariants as faults
 use Rattle.event_player.specs.Plays.{NamesTooLong, Plays}
 use Rattle.run_stops.specs.Stops.{IsEventOver, Took, StopsAtSink}

@@ -12,7 +12,7 @@ use Rattle.script_meaning.specs.Meaning.{meaning}
 use Rattle.trace_replay.specs.Moments.{Moment, Played}
 use Rattle.trace_replay.specs.Script.{Script, Noise, drives_of, ids_of}
 use Rattle.answer_lines.specs.AnswerText.{answer_text}
-use Rattle.answer_tally.specs.declared.tally.Tally.{Tally}
+use Rattle.answer_lines.specs.declared.tally.Tally.{Tally}
 use Rattle.event_player.specs.Plays.{Tallied}
 use Rattle.run_stops.specs.Stops.{StopsAtSink}
 use Rattle.hpsim_run.specs.Headline.{Headline}

@@ -5,8 +5,8 @@ use Rattle.subsystem_spec.specs.Requests.{WriteOk}
 use Rattle.trace_replay.specs.Moments.{Answered, Sector, Told}
 use Rattle.trace_replay.specs.Text.{moment_text}
 use Rattle.answer_lines.specs.AnswerText.{error_words}
-use Rattle.answer_tally.specs.declared.tally.Tally.{Tally}
-use Rattle.answer_tally.specs.Counting.{Counts, tally_by}
+use Rattle.answer_lines.specs.declared.tally.Tally.{Tally}
+use Rattle.answer_lines.specs.Counting.{Counts, tally_by}
 
 -- UNIT AND ID SWAPPED in the line of a sector that moved clean.
 abbrev pub UnitAndIdSwapped : Type 0

@@ -4,7 +4,7 @@ use Rattle.trace_replay.specs.Replay.{Replay}
 use Rattle.block_machine.specs.Stands.{Setup}
 use Rattle.waited_requests.specs.Sessions.{behind_all, waited}
 use Rattle.waited_requests.specs.Rest.{IsAtRest}
-use Rattle.waited_requests.proofs.Waited.{all_rest_again}
+use Rattle.waited_requests.proofs.WaitedLaws.{all_rest_again}
 use Rattle.quiet_driver.specs.Quiet.{setup_of}
 use Rattle.quiet_driver.specs.Calls.{QuietAgain}
 

@@ -9,15 +9,15 @@ use Rattle.trace_replay.specs.History.{lines_behind}
 use Rattle.trace_replay.specs.Causes.{AskSome}
 use Rattle.trace_replay.specs.Replay.{Replay, MayCome, WorkMay, after_moment, after_moments}
 use Rattle.trace_replay.proofs.Kept.{AllFit, moments_all}
-use Rattle.trace_bounds.specs.Measure.{events_left}
-use Rattle.trace_bounds.specs.Drains.{AreOf, events_in}
-use Rattle.trace_bounds.proofs.Drain.{IsThere, IsAt, moments_at, drained_falls}
-use Rattle.trace_bounds.proofs.Tells.{HasBegun, Between, begun_tells, moments_between, some_counted}
+use Rattle.trace_work.specs.Measure.{events_left}
+use Rattle.trace_work.specs.Drains.{AreOf, events_in}
+use Rattle.trace_work.proofs.Drain.{IsThere, IsAt, moments_at, drained_falls}
+use Rattle.trace_work.proofs.Tells.{HasBegun, Between, begun_tells, moments_between, some_counted}
 use Rattle.trace_work.specs.Consistent.{IsConsistent}
 use Rattle.trace_work.proofs.Consistency.{moments_consistent}
-use Rattle.trace_calm.specs.Calm.{IsCalm}
-use Rattle.trace_calm.proofs.Calm.{runs_stay_calm, other_event}
-use Rattle.waited_requests.proofs.Waited.{lines_calm}
+use Rattle.waited_requests.specs.Calm.{IsCalm}
+use Rattle.waited_requests.proofs.CalmLaws.{runs_stay_calm, other_event}
+use Rattle.waited_requests.proofs.WaitedLaws.{lines_calm}
 use Rattle.driver_machine.specs.World.{World}
 use Rattle.driver_machine.specs.Acts.{Act, Taken, Tried, after, after_all}
 use Rattle.driver_machine.specs.Lines.{lines_of_all}
@@ -26,21 +26,21 @@ use Rattle.driver_machine.specs.Guards.{IsSetUp}
 use Rattle.driver_machine.specs.Sound.{Sound, AtWork}
 use Rattle.driver_machine.specs.Runs.{Works}
 use Rattle.driver_machine.specs.Runs as machine
-use Rattle.driver_work.proofs.Calls.{event_works, taken_works}
-use Rattle.driver_work.proofs.Next.{next_can}
+use Rattle.driver_invariant.proofs.Calls.{event_works, taken_works}
+use Rattle.driver_invariant.proofs.Next.{next_can}
 use Rattle.driver_invariant.proofs.Sound.{sound_after}
-use Rattle.driver_outcome.specs.Packs.{packs_after_all}
+use Rattle.driver_trace.specs.Passes.{packs_after_all}
 use Rattle.driver_trace.specs.Calls.{Stands, Ends, AreThere, IsReadOf}
 use Rattle.driver_trace.proofs.Telling.{IsTold}
 use Rattle.driver_trace.proofs.Named.{IsTriedOn}
 use Rattle.driver_trace.proofs.ReadSectors.{tried_on}
 use Rattle.driver_trace.proofs.Inputted.{lines_play_nothing}
-use Rattle.driver_trace.proofs.Drains.{GoesOn, drain_goes_on, drain_between, drain_begins, event_goes}
+use Rattle.driver_trace.proofs.DrainsLaws.{GoesOn, drain_goes_on, drain_between, drain_begins, event_goes}
 use Rattle.driver_trace.proofs.Runs.{there_after}
-use Rattle.driver_drains.proofs.Falls.{some_told}
-use Rattle.driver_drains.proofs.Telling.{something_told, some_outstanding}
+use Rattle.driver_trace.proofs.Falls.{some_told}
+use Rattle.driver_trace.proofs.DrainsTelling.{something_told, some_outstanding}
 use Rattle.quiet_driver.specs.Calls.{IsOpen}
-use Rattle.quiet_driver.proofs.Calls.{played_consistent, ends_taken, takings_open}
+use Rattle.quiet_driver.proofs.QuietCalls.{played_consistent, ends_taken, takings_open}
 use Rattle.quiet_driver.proofs.Fitting.{fitting, fits, over, over_stands, over_ends, over_consistent, over_calm, over_at, over_between}
 
 -- WHAT HOLDS of a replay in which few event lines are left, whatever the packs hold

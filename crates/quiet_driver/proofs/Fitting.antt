@@ -17,9 +17,9 @@ use Rattle.trace_replay.specs.Script.{Input}
 use Rattle.trace_replay.specs.Events.{is_no_line}
 use Rattle.trace_replay.specs.Replay.{Replay, WorkMay, next_wish, act_drained, drained}
 use Rattle.trace_work.specs.Consistent.{IsConsistent}
-use Rattle.trace_calm.specs.Calm.{IsCalm}
-use Rattle.trace_bounds.proofs.Drain.{IsAt}
-use Rattle.trace_bounds.proofs.Tells.{Between}
+use Rattle.waited_requests.specs.Calm.{IsCalm}
+use Rattle.trace_work.proofs.Drain.{IsAt}
+use Rattle.trace_work.proofs.Tells.{Between}
 use Rattle.driver_machine.specs.World.{World, Held, no_held, unit_at, adapter_at, adapter_of, unit_of, slot_at, held_in, slot_in_hand}
 use Rattle.driver_machine.specs.Acts.{Tried}
 use Rattle.driver_machine.specs.Sound.{Sound}

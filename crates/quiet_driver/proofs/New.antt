@@ -3,7 +3,7 @@ use Rattle.std.proofs.Common.{◌≡◌, ◌≢◌, ◌⊎◌, inl, inr, ℕ, ze
 use Rattle.std.specs.Prelude.{slice_index_or, slice_set}
 use Rattle.std.proofs.lemmas.List.{get_or_past}
 use Rattle.std.proofs.lemmas.Option.{none-some}
-use Rattle.trace_calm.specs.Calm.{IsGood}
+use Rattle.waited_requests.specs.Calm.{IsGood}
 use Rattle.driver_machine.specs.World.{UnitView, Held, Setup, new_unit, no_unit, set_up}
 use Rattle.quiet_driver.specs.Quiet.{NewIsQuiet}
 

@@ -5,8 +5,8 @@ use Rattle.pack_geometry.specs.declared.DriveKind.{DriveKind}
 use Rattle.pack_model.specs.TableSpelling.{Table}
 use Rattle.driver_machine.specs.World.{UnitView, unit_at}
 use Rattle.driver_machine.specs.Acts.{after_all}
-use Rattle.driver_counts.specs.Counts.{IsSetAs}
-use Rattle.driver_counts.proofs.Units.{setups_stay}
+use Rattle.driver_trace.specs.Passes.{IsSetAs}
+use Rattle.driver_trace.proofs.Passes.{setups_stay}
 use Rattle.quiet_driver.specs.Quiet.{kind_if, table_if, setup_of}
 use Rattle.quiet_driver.specs.Calls.{SetupStays}
 

@@ -12,13 +12,13 @@ use Rattle.trace_replay.specs.Service.{service_joined}
 use Rattle.trace_replay.specs.History.{lines_behind}
 use Rattle.trace_replay.specs.Replay.{Replay, UnitSeen, Submission, Refused, Joined, all_units, this_or, unit_joined, submission, submitted, after_moment, after_moments}
 use Rattle.trace_replay.proofs.Kept.{AllFit, moments_all, played_all}
-use Rattle.trace_bounds.specs.Measure.{events_left, blocks_waiting, blocks_of_units}
-use Rattle.trace_bounds.specs.Drains.{IsOf, events_in}
-use Rattle.trace_bounds.proofs.Idle.{idle_fits, idle_within}
-use Rattle.trace_bounds.proofs.Drain.{IsThere, IsAt, idle_at, played_at, moments_at, drained_falls, AllWithin, played_within, units_few}
-use Rattle.trace_bounds.proofs.Runs.{all_from, from_any, filter_any}
-use Rattle.trace_calm.proofs.Calm.{runs_stay_calm}
-use Rattle.waited_requests.proofs.Waited.{lines_calm, begun_calm}
+use Rattle.trace_work.specs.Measure.{events_left, blocks_waiting, blocks_of_units}
+use Rattle.trace_work.specs.Drains.{IsOf, events_in}
+use Rattle.trace_work.proofs.Idle.{idle_fits, idle_within}
+use Rattle.trace_work.proofs.Drain.{IsThere, IsAt, idle_at, played_at, moments_at, drained_falls, AllWithin, played_within, units_few}
+use Rattle.trace_work.proofs.Runs.{all_from, from_any, filter_any}
+use Rattle.waited_requests.proofs.CalmLaws.{runs_stay_calm}
+use Rattle.waited_requests.proofs.WaitedLaws.{lines_calm, begun_calm}
 use Rattle.driver_machine.specs.World.{World, Held, unit_at}
 use Rattle.driver_machine.specs.Acts.{Act, after_all}
 use Rattle.driver_machine.specs.Lines.{lines_of_all}
@@ -26,12 +26,12 @@ use Rattle.driver_machine.specs.Events.{refusal_of, submit_acts}
 use Rattle.driver_machine.specs.Guards.{IsSetUp, IsHeldFor}
 use Rattle.driver_machine.specs.Sound.{Sound, AtWork}
 use Rattle.driver_machine.specs.Runs.{MaySubmit}
-use Rattle.driver_outcome.specs.Packs.{packs_after_all}
+use Rattle.driver_trace.specs.Passes.{packs_after_all}
 use Rattle.driver_trace.proofs.Inputted.{lines_play_nothing}
 use Rattle.quiet_driver.specs.Quiet.{IsQuiet, rested, StandsQuiet}
 use Rattle.quiet_driver.specs.Calls.{GoesTo}
-use Rattle.quiet_driver.proofs.Rests.{quiet_rests}
-use Rattle.quiet_driver.proofs.Calls.{quiet_submits}
+use Rattle.quiet_driver.proofs.QuietRests.{quiet_rests}
+use Rattle.quiet_driver.proofs.QuietCalls.{quiet_submits}
 use Rattle.quiet_driver.proofs.Counting.{Waits, lines_ask, lines_of_units}
 
 -- ---- THE BLOCKS of one request are few

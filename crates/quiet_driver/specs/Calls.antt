@@ -14,7 +14,7 @@ use Rattle.driver_machine.specs.Lines.{lines_of_all}
 use Rattle.driver_machine.specs.Events.{refusal_of, submit_acts, event_acts, next_event}
 use Rattle.driver_machine.specs.Guards.{IsSetUp, IsHeldFor}
 use Rattle.driver_machine.specs.Runs.{MaySubmit, MayCome}
-use Rattle.driver_outcome.specs.Packs.{packs_after_all}
+use Rattle.driver_trace.specs.Passes.{packs_after_all}
 use Rattle.driver_trace.specs.Calls.{Stands, AreThere, IsReadOf}
 use Rattle.driver_trace.specs.Runs.{IsDraining}
 use Rattle.waited_requests.specs.Sessions.{MayPlay, behind_all, waited}

@@ -12,7 +12,7 @@ use Rattle.trace_replay.specs.Packs.{surface_of}
 use Rattle.trace_replay.specs.Conversation.{Waiting, not_begun}
 use Rattle.trace_replay.specs.Replay.{Replay, UnitSeen, all_units, no_event}
 use Rattle.trace_work.specs.Consistent.{IsConsistent}
-use Rattle.trace_calm.specs.Calm.{IsGood}
+use Rattle.waited_requests.specs.Calm.{IsGood}
 use Rattle.block_machine.specs.Stands.{Setup}
 use Rattle.waited_requests.specs.Rest.{IsAtRest}
 use Rattle.driver_machine.specs.World.{World, UnitView, Setup as UnitSetup, new_world, unit_at, adapter_at}

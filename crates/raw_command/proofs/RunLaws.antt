@@ -8,8 +8,8 @@ use Rattle.partitions.specs.Partitions.{size_of}
 use Rattle.outside_traits.specs.Causes.{HasCause, Rose}
 use Rattle.outside_traits.specs.Puts.{TakesFront}
 use Rattle.pack_geometry.specs.declared.DriveKind.{DriveKind}
-use Rattle.partition_bytes.specs.Bytes.{IsOutside}
-use Rattle.driver_outcome.specs.declared.Stop.TheVariants as stopped
+use Rattle.waited_requests.specs.Bytes.{IsOutside}
+use Rattle.driver_answers.specs.declared.outcome.Stop.TheVariants as stopped
 use Rattle.command_parts.specs.Lines.{Told}
 use Rattle.command_parts.specs.Outside.{HasItsCause, Outside}
 use Rattle.raw_command.specs.Endings.{GivesAll, GivesCut, GivesFront, IsBeyond, IsTooLong, IsUntouched, ReadEnds, Stays, Took, WriteEnds, bytes_for, fault_text, kind_of, limit_of, target_for, unit_of}

@@ -16,9 +16,9 @@ use Rattle.waited_requests.specs.Waited.{map_of, with_packs}
 use Rattle.driver_machine.specs.World.{World}
 use Rattle.driver_machine.specs.Sound.{IsTableFor}
 use Rattle.raw_io.specs.Passes.{setup_of, StandsQuiet, Stage, setup_at, Reaches, OthersStay, kind_at, map_at, left_map, IsUntouched}
-use Rattle.partition_bytes.specs.Bytes.{range, ComesTo, with_range}
-use Rattle.partition_bytes.specs.Laid.{laid}
-use Rattle.partition_bytes.proofs.Ranges.{laid_short, length_range}
+use Rattle.waited_requests.specs.Bytes.{range, ComesTo, with_range}
+use Rattle.waited_requests.specs.Laid.{laid}
+use Rattle.waited_requests.proofs.Ranges.{laid_short, length_range}
 use Rattle.raw_io.specs.Calls.{ReadsRange, StopsAt, WritesRange}
 use Rattle.raw_io.specs.Pieces.{GivesRange, PutsRange, start_of}
 use Rattle.raw_io.specs.Transfers.{Transfers}

@@ -5,7 +5,7 @@ use Rattle.pack_geometry.specs.declared.DriveKind.{DriveKind}
 use Rattle.pack_model.specs.Pack.{Pack}
 use Rattle.partitions.specs.declared.Part.TheVariants.{B}
 use Rattle.partitions.specs.Partitions.{size_of}
-use Rattle.partition_bytes.specs.Bytes.{blocks_for, dumped, dump_place}
+use Rattle.waited_requests.specs.Bytes.{blocks_for, dumped, dump_place}
 use Rattle.raw_command.specs.Endings.{IsBeyond, bytes_for, target_for}
 use Rattle.raw_command.specs.Transfers.{WritesUnit}
 use Rattle.raw_command.specs.Words.{IsPlaced, IsTarget}

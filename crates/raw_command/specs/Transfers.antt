@@ -13,8 +13,8 @@ use Rattle.block_machine.specs.Stands.{start_over}
 use Rattle.raw_io.specs.Passes.{Stay}
 use Rattle.waited_requests.specs.Sessions.{Part, IsSession, behind_all, told_in}
 use Rattle.waited_requests.specs.Cleans.{MovedClean}
-use Rattle.partition_bytes.specs.Bytes.{range, Touches, ComesTo, with_range}
-use Rattle.partition_bytes.specs.Pieces.{EndsBlock}
+use Rattle.waited_requests.specs.Bytes.{range, Touches, ComesTo, with_range}
+use Rattle.waited_requests.specs.Pieces.{EndsBlock}
 use Rattle.raw_io.specs.Transfers.{AreWaited}
 use Rattle.mba_autoconf.specs.Attach.{Fits}
 use Rattle.raw_command.specs.Faults.{done_by}

@@ -6,7 +6,7 @@ use Rattle.pack_geometry.specs.declared.DriveKind.{DriveKind}
 use Rattle.partitions.specs.declared.Part.{Part}
 use Rattle.mass_text.specs.Numbers.{number_of}
 use Rattle.mass_text.specs.declared.numbers.Radix.TheVariants.{Decimal}
-use Rattle.script_words.specs.Fields.{part_field}
+use Rattle.script_lines.specs.Fields.{part_field}
 use Rattle.command_parts.specs.Fields.{kind_named, unit_named}
 use Rattle.raw_command.specs.declared.words.Target.{Target}
 use Rattle.raw_command.specs.declared.words.Transfer.{Transfer}

@@ -8,7 +8,7 @@ use command_parts::{kind_in, unit_in};
 use mass_text::{Radix, number};
 use pack_geometry::DriveKind;
 use partitions::Part;
-use script_words::part_field;
+use script_lines::part_field;
 
 /// Where a transfer begins: a unit with a drive of this kind, a partition, and a place in it, counted in bytes.
 #[derive(Clone, Copy, Debug, PartialEq, Eq)]

@@ -10,19 +10,19 @@ use Rattle.block_machine.specs.Machine.{Blocks, bytes_of_first}
 use Rattle.driver_machine.specs.Guards.{IsSetUp}
 use Rattle.request_fronts.specs.Passes.{asked, Stage, setup_at, StillTell, SessionsJoin}
 use Rattle.waited_requests.specs.Rest.{HasTables}
-use Rattle.partition_bytes.specs.Laid.{laid}
+use Rattle.waited_requests.specs.Laid.{laid}
 use Rattle.raw_io.specs.declared.pieces.Piece.{Piece}
-use Rattle.partition_bytes.specs.Bytes.{range}
+use Rattle.waited_requests.specs.Bytes.{range}
 use Rattle.request_fronts.specs.Sites.{map_at, IsUntouched}
-use Rattle.partition_bytes.specs.Pieces.{Reaches, bytes_among}
+use Rattle.waited_requests.specs.Pieces.{Reaches, bytes_among}
 use Rattle.request_fronts.specs.Blocks.{origin, ReadsOnce}
 use Rattle.raw_io.specs.Blocks.{Reads, GivesBlocks, Gives}
 use Rattle.raw_io.specs.Pieces.{start_at, ReadsPiece, GivesPiece}
-use Rattle.partition_bytes.specs.Laws.{IsBlock}
-use Rattle.partition_bytes.proofs.Ranges.{laid_short, length_range, range_laid, blocks_range}
+use Rattle.waited_requests.specs.BytesLaws.{IsBlock}
+use Rattle.waited_requests.proofs.Ranges.{laid_short, length_range, range_laid, blocks_range}
 use Rattle.request_fronts.proofs.Sites.{kind_stays, map_long, untouched_behind}
 use Rattle.raw_io.proofs.Joins.{transfers_join, clean_before}
-use Rattle.partition_bytes.proofs.Steps.{among_few, among_fits}
+use Rattle.waited_requests.proofs.Steps.{among_few, among_fits}
 
 -- ---- a block that can be used has 512 bytes
 pub some_block : (block : Option (List ℕ)) → IsSome block → ((bytes : List ℕ) → block ≡ Some bytes → length bytes ≡ 512) → IsBlock block

@@ -7,19 +7,19 @@ use Rattle.driver_machine.specs.Guards.{IsSetUp}
 use Rattle.waited_requests.specs.Sessions.{told_in}
 use Rattle.waited_requests.specs.Rest.{HasTables}
 use Rattle.waited_requests.specs.Cleans.{MovedClean}
-use Rattle.partition_bytes.specs.Laid.{laid, laid_at}
+use Rattle.waited_requests.specs.Laid.{laid, laid_at}
 use Rattle.request_fronts.specs.Passes.{Stage, setup_at, StillTell, SessionsJoin}
 use Rattle.raw_io.specs.declared.pieces.Piece.{Piece}
-use Rattle.partition_bytes.specs.Bytes.{range, Touches, ComesTo}
+use Rattle.waited_requests.specs.Bytes.{range, Touches, ComesTo}
 use Rattle.raw_io.specs.Transfers.{Transfers, AreClean}
 use Rattle.request_fronts.specs.Sites.{kind_at, map_at, IsUntouched, IsUnchanged}
 use Rattle.raw_io.specs.Calls.{ReadsRange}
-use Rattle.partition_bytes.specs.Pieces.{Reaches, bytes_among}
+use Rattle.waited_requests.specs.Pieces.{Reaches, bytes_among}
 use Rattle.raw_io.specs.Pieces.{IsCut, IsPiece, start_at, start_of, ReadsPiece, GivesPiece, GivesRange}
-use Rattle.partition_bytes.proofs.Ranges.{laid_more, length_range, range_more}
+use Rattle.waited_requests.proofs.Ranges.{laid_more, length_range, range_more}
 use Rattle.raw_io.proofs.Joins.{transfers_none, transfers_for, transfers_join, clean_before, clean_behind}
 use Rattle.request_fronts.proofs.Sites.{untouched_behind, kind_stays}
-use Rattle.partition_bytes.proofs.Steps.{all_among, among_less, among_few, SoFar, starts_so, comes_whole, IsNext, touched_among, so_more, comes_to}
+use Rattle.waited_requests.proofs.Steps.{all_among, among_less, among_few, SoFar, starts_so, comes_whole, IsNext, touched_among, so_more, comes_to}
 
 -- ---- the next piece of a range
 pub next_of : (unit : ℕ) (part : Part) (write : _) (at size done : ℕ) (p : Piece) → IsPiece unit part write (at + done) (size - done) p → done ≤ size

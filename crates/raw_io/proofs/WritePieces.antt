@@ -11,21 +11,21 @@ use Rattle.driver_machine.specs.Guards.{IsSetUp}
 use Rattle.request_fronts.specs.Passes.{asked, Stage, setup_at, StillTell, SessionsJoin}
 use Rattle.subsystem_spec.specs.declared.request.Request.{Request}
 use Rattle.waited_requests.specs.Rest.{HasTables}
-use Rattle.partition_bytes.specs.Laid.{laid_at}
+use Rattle.waited_requests.specs.Laid.{laid_at}
 use Rattle.raw_io.specs.declared.pieces.Piece.{Piece}
-use Rattle.partition_bytes.specs.Bytes.{range, with_range}
+use Rattle.waited_requests.specs.Bytes.{range, with_range}
 use Rattle.raw_io.specs.Transfers.{Transfers}
 use Rattle.request_fronts.specs.Blocks.{AreBlocks, PutsBlocks, PutsFront}
 use Rattle.request_fronts.specs.Sites.{map_at, left_map, IsUntouched}
-use Rattle.partition_bytes.specs.Pieces.{Reaches, bytes_among}
+use Rattle.waited_requests.specs.Pieces.{Reaches, bytes_among}
 use Rattle.raw_io.specs.Blocks.{GivesBlocks, Gives, Puts}
 use Rattle.raw_io.specs.Pieces.{IsCut, IsWhole, IsWholeOrOne, start_at, Continues, WritesPiece, PutsPiece, StopsPiece}
-use Rattle.partition_bytes.specs.Laws.{IsBlock}
-use Rattle.partition_bytes.proofs.Ranges.{laid_long, length_range, block_range}
-use Rattle.partition_bytes.proofs.Replaced.{whole_written, edge_written}
+use Rattle.waited_requests.specs.BytesLaws.{IsBlock}
+use Rattle.waited_requests.proofs.Ranges.{laid_long, length_range, block_range}
+use Rattle.waited_requests.proofs.Replaced.{whole_written, edge_written}
 use Rattle.raw_io.proofs.Joins.{transfers_join, transfers_wider}
 use Rattle.request_fronts.proofs.Sites.{map_long, left_over, others_over, kind_stays}
-use Rattle.partition_bytes.proofs.Steps.{some_among}
+use Rattle.waited_requests.proofs.Steps.{some_among}
 use Rattle.raw_io.proofs.ReadPieces.{some_block, whole_size}
 
 written_is : (r : Request) (bytes : List ℕ) → r.write ≡ true → (asked r bytes).written ≡ Some bytes

@@ -4,9 +4,9 @@ use Rattle.subsystem_spec.specs.Requests.{Request}
 use Rattle.waited_requests.specs.Sessions.{told_in}
 use Rattle.waited_requests.specs.Rest.{HasTables}
 use Rattle.request_fronts.specs.Passes.{Stage, setup_at}
-use Rattle.partition_bytes.specs.Laid.{laid}
-use Rattle.partition_bytes.specs.Pieces.{Reaches}
-use Rattle.partition_bytes.specs.Bytes.{range}
+use Rattle.waited_requests.specs.Laid.{laid}
+use Rattle.waited_requests.specs.Pieces.{Reaches}
+use Rattle.waited_requests.specs.Bytes.{range}
 use Rattle.raw_io.specs.Transfers.{Transfers, AreClean}
 use Rattle.request_fronts.specs.Sites.{IsUnchanged, map_at}
 use Rattle.request_fronts.specs.Blocks.{PutsBlocks, ReadsOnce, origin}

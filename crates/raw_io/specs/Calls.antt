@@ -1,15 +1,15 @@
 -- WHAT A RAW TRANSFER COMES TO, over what the packs hold before.
 use Rattle.std.specs.Prelude.{◌≡◌, ◌≢◌, ℕ, ◌≤◌, List, take, length, Option, None, Some, Result, Ok, Err}
-use Rattle.driver_outcome.specs.declared.Stop.{Stop}
-use Rattle.driver_outcome.specs.declared.Stop.TheVariants as stopped
-use Rattle.partition_bytes.specs.Laid.{laid}
+use Rattle.driver_answers.specs.declared.outcome.Stop.{Stop}
+use Rattle.driver_answers.specs.declared.outcome.Stop.TheVariants as stopped
+use Rattle.waited_requests.specs.Laid.{laid}
 use Rattle.request_fronts.specs.Passes.{Stage, setup_at}
 use Rattle.request_fronts.specs.Fronts.{OthersStay}
 use Rattle.request_fronts.specs.Sites.{left_map, map_at}
 use Rattle.raw_io.specs.declared.fault.RawFault.{RawFault}
 use Rattle.raw_io.specs.declared.fault.RawFault.TheVariants.{Unusable, Store, Sink}
-use Rattle.partition_bytes.specs.Pieces.{EndsBlock}
-use Rattle.partition_bytes.specs.Bytes.{range, ComesTo, with_range}
+use Rattle.waited_requests.specs.Pieces.{EndsBlock}
+use Rattle.waited_requests.specs.Bytes.{range, ComesTo, with_range}
 
 -- A READ OF A RANGE gives its bytes, so many, over those of a buffer, and changes nothing.
 pub record ReadsRange (unit first at done : ℕ) (into into' : List ℕ) (old new : Stage) : Type 0 where

@@ -8,14 +8,14 @@ use Rattle.block_machine.specs.Machine.{Blocks}
 use Rattle.waited_requests.specs.Sessions.{told_in}
 use Rattle.waited_requests.specs.Rest.{HasTables}
 use Rattle.request_fronts.specs.Fronts.{OthersStay}
-use Rattle.partition_bytes.specs.Laid.{laid}
+use Rattle.waited_requests.specs.Laid.{laid}
 use Rattle.raw_io.specs.declared.pieces.Piece.{Piece}
-use Rattle.partition_bytes.specs.Bytes.{range, Touches, with_range}
+use Rattle.waited_requests.specs.Bytes.{range, Touches, with_range}
 use Rattle.raw_io.specs.Transfers.{Transfers, AreClean}
 use Rattle.request_fronts.specs.Blocks.{AreBlocks}
 use Rattle.request_fronts.specs.Sites.{kind_at, map_at, left_map, IsUnchanged}
 use Rattle.raw_io.specs.Calls.{ReadsRange, WritesRange}
-use Rattle.partition_bytes.specs.Pieces.{Reaches, bytes_among}
+use Rattle.waited_requests.specs.Pieces.{Reaches, bytes_among}
 
 -- a piece begins in the first of its blocks, and ends in the last one
 pub record IsCut (p : Piece) : Type 0 where

@@ -1,6 +1,6 @@
 // Whole blocks of a partition, by requests that are waited for.
 ghost use Rattle.std.specs.Prelude.{◌≡◌, ◌*◌, [], true, false, IsTrue, IfOk, OnErr, length};
-ghost use Rattle.driver_outcome.specs.Outcome.{stop_in};
+ghost use Rattle.driver_answers.specs.Outcome.{stop_in};
 ghost use Rattle.request_fronts.specs.Passes.{asked, setup_at};
 ghost use Rattle.waited_requests.specs.Rest.{HasTables};
 ghost use Rattle.request_fronts.specs.Sites.{site, Keeps, MayTransfer, kind_at, IsUntouched};

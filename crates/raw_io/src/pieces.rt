@@ -1,7 +1,7 @@
 // Pieces of a range, each of as many blocks as one request has.
 ghost use Rattle.std.specs.Prelude.{◌≡◌, ◌≤◌, ◌<◌, ◌+◌, ◌^◌, ◌↔◌, true, false, IsTrue};
-ghost use Rattle.partition_bytes.specs.Bytes.{IsOutside};
-ghost use Rattle.partition_bytes.specs.Pieces.{bytes_among};
+ghost use Rattle.waited_requests.specs.Bytes.{IsOutside};
+ghost use Rattle.waited_requests.specs.Pieces.{bytes_among};
 ghost use Rattle.raw_io.specs.Pieces.{IsPiece, IsWholeOrOne};
 
 use pack_geometry::DriveKind;

@@ -1,12 +1,12 @@
 // A range of a partition is read.
 ghost use Rattle.std.specs.Prelude.{◌≡◌, ◌+◌, ◌*◌, ◌^◌, ◌<◌, ◌≤◌, ◌↔◌, ℕ, [], false, IsTrue, IfOk, OnErr, length, Some, Err};
 ghost use Rattle.partitions.specs.Partitions.{size_of};
-ghost use Rattle.driver_outcome.specs.declared.Stop.{Stop};
-ghost use Rattle.driver_outcome.specs.Outcome.{stop_in};
+ghost use Rattle.driver_answers.specs.declared.outcome.Stop.{Stop};
+ghost use Rattle.driver_answers.specs.Outcome.{stop_in};
 ghost use Rattle.request_fronts.specs.Passes.{asked, setup_at};
 ghost use Rattle.waited_requests.specs.Rest.{HasTables};
 ghost use Rattle.raw_io.specs.declared.fault.RawFault.TheVariants.{Outside, Unusable};
-ghost use Rattle.partition_bytes.specs.Bytes.{IsOutside};
+ghost use Rattle.waited_requests.specs.Bytes.{IsOutside};
 ghost use Rattle.request_fronts.specs.Sites.{site, Keeps, MayTransfer, kind_at, IsUntouched};
 ghost use Rattle.request_fronts.specs.Blocks.{AreBlocks};
 ghost use Rattle.raw_io.specs.Calls.{stop_of, done_by};

@@ -15,11 +15,11 @@ use Rattle.block_machine.specs.Stands.{Setup}
 use Rattle.block_machine.proofs.Blocks.{read_blocks}
 use Rattle.driver_machine.specs.Guards.{IsSetUp}
 use Rattle.driver_machine.specs.Sound.{Sound, AtWork}
-use Rattle.driver_outcome.specs.declared.Stop.{Stop}
+use Rattle.driver_answers.specs.declared.outcome.Stop.{Stop}
 use Rattle.waited_requests.specs.Rest.{HasTables}
 use Rattle.waited_requests.specs.Waited.{unusable_or, first_unusable, answer_by, answer_of, answer_at, map_at as map_met, first_in, met_in, answer_in, map_behind}
-use Rattle.partition_bytes.specs.Laid.{laid}
-use Rattle.partition_bytes.specs.Pieces.{Reaches}
+use Rattle.waited_requests.specs.Laid.{laid}
+use Rattle.waited_requests.specs.Pieces.{Reaches}
 use Rattle.request_fronts.specs.Passes.{All, AtEnd, Before, IsMapped, IsQuiet, Outside, Reached, Stage, Stops, bytes_by, reached_by, setup_at}
 use Rattle.request_fronts.specs.Fronts.{HoldsFront, StoppedHoldsFront}
 use Rattle.request_fronts.specs.Sites.{IsUntouched, kind_at, left_map, map_at}

@@ -35,8 +35,8 @@ use Rattle.block_machine.proofs.Units.{Keeps}
 use Rattle.block_machine.proofs.Runs.{home_marks, left_at, room_at, below_count}
 use Rattle.driver_machine.specs.World.{World, unit_at}
 use Rattle.driver_machine.specs.Guards.{IsSetUp}
-use Rattle.driver_outcome.specs.declared.Stop.{Stop}
-use Rattle.driver_outcome.specs.declared.Stop.TheVariants.{Store, Sink}
+use Rattle.driver_answers.specs.declared.outcome.Stop.{Stop}
+use Rattle.driver_answers.specs.declared.outcome.Stop.TheVariants.{Store, Sink}
 use Rattle.waited_requests.specs.Sessions.{Part, IsPart, IsSession, behind, behind_all}
 use Rattle.waited_requests.specs.Rest.{HasTables}
 use Rattle.waited_requests.specs.Waited.{map_of, first_in, with_packs, IsAskable}

@@ -14,9 +14,9 @@ use Rattle.block_machine.specs.Stands.{Setup, home_at}
 use Rattle.block_machine.proofs.Runs.{home_marks}
 use Rattle.driver_machine.specs.World.{World, unit_at}
 use Rattle.driver_machine.specs.Guards.{IsSetUp}
-use Rattle.driver_outcome.specs.declared.Stop.{Stop}
-use Rattle.driver_outcome.specs.declared.Stop.TheVariants.{Store, Sink}
-use Rattle.driver_outcome.specs.Outcome.{stop_in}
+use Rattle.driver_answers.specs.declared.outcome.Stop.{Stop}
+use Rattle.driver_answers.specs.declared.outcome.Stop.TheVariants.{Store, Sink}
+use Rattle.driver_answers.specs.Outcome.{stop_in}
 use Rattle.waited_requests.specs.Waited.{map_of, with_packs}
 use Rattle.request_fronts.specs.Passes.{HasCauses, IsReady, Stage, State, kind_if, setup_at, setup_of}
 use Rattle.request_fronts.specs.Fronts.{OthersStay}

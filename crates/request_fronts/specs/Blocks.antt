@@ -4,8 +4,8 @@ use Rattle.pack_geometry.specs.declared.DriveKind.{DriveKind}
 use Rattle.partitions.specs.Partitions.{first_of, size_of}
 use Rattle.subsystem_spec.specs.Requests.{Request}
 use Rattle.block_machine.specs.Machine.{blocks_done, bytes_of_first}
-use Rattle.partition_bytes.specs.Laid.{laid}
-use Rattle.partition_bytes.specs.Pieces.{Reaches}
+use Rattle.waited_requests.specs.Laid.{laid}
+use Rattle.waited_requests.specs.Pieces.{Reaches}
 use Rattle.request_fronts.specs.Passes.{All, AtEnd, Before, Outside, Reached, Stage, setup_at}
 use Rattle.request_fronts.specs.Fronts.{OthersStay}
 use Rattle.request_fronts.specs.Sites.{IsUnchanged, kind_at, left_map, map_at}

@@ -9,7 +9,7 @@ use Rattle.block_machine.specs.Machine.{blocks_done}
 use Rattle.block_machine.specs.Stands.{Setup, home_in}
 use Rattle.driver_machine.specs.Guards.{IsSetUp}
 use Rattle.driver_machine.specs.Sound.{Sound, AtWork}
-use Rattle.driver_outcome.specs.declared.Stop.{Stop}
+use Rattle.driver_answers.specs.declared.outcome.Stop.{Stop}
 use Rattle.blocking_io.specs.Passes.{Stay}
 use Rattle.waited_requests.specs.Rest.{HasTables}
 use Rattle.waited_requests.specs.Sessions.{waited, told_in}

@@ -5,7 +5,7 @@ use Rattle.pack_model.specs.Pack.{Pack}
 use Rattle.block_machine.specs.Machine.{Blocks}
 use Rattle.driver_machine.specs.World.{World, unit_at}
 use Rattle.driver_machine.specs.Guards.{IsSetUp}
-use Rattle.driver_outcome.specs.declared.Stop.{Stop}
+use Rattle.driver_answers.specs.declared.outcome.Stop.{Stop}
 use Rattle.waited_requests.specs.Waited.{map_of, with_packs}
 use Rattle.request_fronts.specs.Passes.{Before, HasCauses, IsReady, Stage, State, setup_at, stage}
 use Rattle.request_fronts.specs.Fronts.{OthersStay}

@@ -5,3 +5,15 @@ pub mod Following
 pub mod OnAdapters
 pub mod Turns
 pub mod OnColumns
+pub mod Joining
+pub mod Firsts
+pub mod Requests
+pub mod Blocks
+pub mod Served
+pub mod Drives
+pub mod Since
+pub mod Waiting
+pub mod Events
+pub mod Knowing
+pub mod Holding
+pub mod Queueing

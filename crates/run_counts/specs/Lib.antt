@@ -4,3 +4,10 @@ pub mod Doings
 pub mod Ends
 pub mod Travels
 pub mod Shown
+pub mod Joins
+pub mod Firsts
+pub mod Blocks
+pub mod Served
+pub mod Since
+pub mod Waiting
+pub mod Queued

@@ -1,143 +1,239 @@
--- The moments of a legal run, as its script is played and its trace is read.
-use Rattle.std.proofs.Common.{◌≡◌, ℕ, ◌<◌, ◌≤◌, Bool, true, false, cond, List, [], ◌∷◌, ◌++◌, map, refl, sym, ap, ◌∙◌, subst, arith}
-use Rattle.std.specs.Prelude.{nat_le, nat_lt, ◌&&◌}
+-- What a drive and a request hold behind the lines of that request.
+use Rattle.std.proofs.Common.{◌≡◌, ◌⊎◌, inl, inr, ℕ, suc, ◌+◌, ◌^◌, ◌<◌, ◌≤◌, ◌==◌, Bool, true, false, cond, List, [], ◌∷◌, length, Option, None, Some, refl, sym, ap, ◌∙◌, arith}
 use Rattle.std.proofs.lemmas.Bool.Decides.{nat_tests}
-use Rattle.drive_pictures.specs.declared.moments.Moment.{Moment as Seen}
-use Rattle.drive_pictures.specs.Events as events
-use Rattle.run_conditions.specs.Hears.{seen_of}
-use Rattle.run_lines.specs.Plays.{plays_of}
-use Rattle.run_lines.specs.Runs.{told_of, up_to, beyond, run_of}
-use Rattle.run_lines.specs.Saids.{Said}
-use Rattle.script_meaning.specs.Meaning.{meaning_of}
-use Rattle.trace_reader.specs.declared.line.TraceLine.{TraceLine}
-use Rattle.trace_reader.specs.declared.line.TraceLine.TheVariants as lines
-use Rattle.trace_reader.specs.Lines.{line_number}
-use Rattle.trace_reader.specs.RoundTrip.{lines_told}
-use Rattle.trace_reader.specs.RoundTrip as trip
-use Rattle.trace_replay.specs.Events.{Act, Wish, is_no_line, NoLine, DueLine, Arrival, SectorLine, Interrupt, Attention, Refusal, IdleLine}
-use Rattle.trace_replay.specs.Moments.{Deed, Moment, Played, Told, Idle, played}
-use Rattle.trace_replay.specs.Replay.{Replay, ToldMay, Follows, after_moment, told_after, replay_told, unit_after, act_drained, next_wish}
-use Rattle.trace_replay.specs.Runs.{start_of}
-use Rattle.trace_replay.specs.Script.{Numbered}
-use Rattle.run_meanings.specs.Meanings.{seen_input, moment_of, AreHeardWhole}
-use Rattle.run_meanings.proofs.Meanings.{meant}
+use Rattle.drive_pictures.specs.declared.trials.Trial.{Trial}
+use Rattle.drive_pictures.specs.Counts.{plus}
+use Rattle.drive_pictures.specs.Trials.{is_at, in_hand}
+use Rattle.hardware_table.specs.declared.Moved.{Moved}
+use Rattle.hardware_table.specs.declared.Moved.TheVariants as verdict
+use Rattle.trace_replay.specs.History.{done_in, Tried, Untried, TriedAt, last_tried, marks_in, last_try, fails, AreFailures}
+use Rattle.trace_replay.specs.Moments.{Deed, Search, Seek, Recal, Offset, Centre, Clear, Pack, Transfer, Arrive, Sector, Intr, Try, Attn, End}
+use Rattle.run_meanings.specs.Hearings.{Hearing, IsFresh, told_one, told_all}
+use Rattle.run_meanings.proofs.Wanting.{want_in, wrote_in}
 
--- A LINE OF THE TRACE is of the event at hand, and leaves its number
-drained_line : (s : Replay) (b : Bool) (act : Act) → (cond b (record s { event = record s.event { between = true; act = act } }) s).event.line ≡ s.event.line
-drained_line s true act = refl
-drained_line s false act = refl
+-- the verdict of the last sector
+abbrev pub verdict_in : Tried → Option Moved
+verdict_in Untried = None
+verdict_in (TriedAt block v) = Some v
 
-told_line : (wish : Wish) (s : Replay) (u : ℕ) (d : Deed) → (told_after wish s u d).event.line ≡ s.event.line
-told_line (Refusal v i why) s u d = refl
-told_line NoLine s u d = due_line s u d
-  where
-    due_line : (s : Replay) (u : ℕ) (d : Deed) → (told_after NoLine s u d).event.line ≡ s.event.line
-    due_line s u d = let t : Replay = replay_told s u d (unit_after s u d) in drained_line t (t.event.drains && (is_no_line (next_wish t) && nat_lt 0 t.outstanding)) (act_drained t)
-told_line (DueLine v) s u d = let t : Replay = replay_told s u d (unit_after s u d) in drained_line t (t.event.drains && (is_no_line (next_wish t) && nat_lt 0 t.outstanding)) (act_drained t)
-told_line (Arrival v) s u d = let t : Replay = replay_told s u d (unit_after s u d) in drained_line t (t.event.drains && (is_no_line (next_wish t) && nat_lt 0 t.outstanding)) (act_drained t)
-told_line (SectorLine v) s u d = let t : Replay = replay_told s u d (unit_after s u d) in drained_line t (t.event.drains && (is_no_line (next_wish t) && nat_lt 0 t.outstanding)) (act_drained t)
-told_line (Interrupt v) s u d = let t : Replay = replay_told s u d (unit_after s u d) in drained_line t (t.event.drains && (is_no_line (next_wish t) && nat_lt 0 t.outstanding)) (act_drained t)
-told_line (Attention v) s u d = let t : Replay = replay_told s u d (unit_after s u d) in drained_line t (t.event.drains && (is_no_line (next_wish t) && nat_lt 0 t.outstanding)) (act_drained t)
-told_line IdleLine s u d = let t : Replay = replay_told s u d (unit_after s u d) in drained_line t (t.event.drains && (is_no_line (next_wish t) && nat_lt 0 t.outstanding)) (act_drained t)
+abbrev pub wrote_or : Option Bool → Bool → Bool
+wrote_or None start = start
+wrote_or (Some write) start = write
 
-told_number : (wish : Wish) (s : Replay) (line u id : ℕ) (d : Deed) → ToldMay wish s line u id d → line ≡ s.event.line
-told_number (Refusal v i why) s line u id d may = may.number
-told_number wish s line u id d may = may.number
+-- the tries that failed at the block at hand
+abbrev pub fails_at : Moved → ℕ → ℕ
+fails_at verdict.Clean before = 0
+fails_at (verdict.Burst at pattern) before = 0
+fails_at verdict.Marked before = 0
+fails_at v before = before
 
--- WHAT COMES FIRST of the lines that are told is of no line before; and what is played is of one behind
-IsFrom : ℕ → List TraceLine → Type 0
-IsFrom n [] = Unit {0}
-IsFrom n (l ∷ ls) = n ≤ line_number l
+abbrev pub fails_in : List Deed → ℕ
+fails_in [] = 0
+fails_in (Sector block v ∷ lines) = fails_at v (fails_in lines)
+fails_in (Try block failures ∷ lines) = failures
+fails_in (deed ∷ lines) = fails_in lines
 
-IsBeyond : ℕ → List Numbered → Type 0
-IsBeyond n [] = Unit {0}
-IsBeyond n (i ∷ rest) = n < i.line
+-- a request at a place is in hand, or none is and none wants anything
+abbrev pub Holds : ℕ → Trial → Type 0
+Holds place t = ((t.hand ≡ None) × (t.want ≡ 0)) ⊎ (t.hand ≡ Some place)
 
-less_is : (n line : ℕ) → nat_lt n line ≡ true → n < line
-less_is n line e = grind (arith, nat_tests, e)
+same_place : (n : ℕ) → (n == n) ≡ true
+same_place n = grind (arith, nat_tests)
 
-same_least : (n line : ℕ) → line ≡ n → n ≤ line
-same_least n line e = omega (arith, e)
+taken_want : (place : ℕ) (t : Trial) → Holds place t → (in_hand place t).want ≡ t.want
+taken_want place t (inl none) = ap (λ (o : Option ℕ). cond (is_at o place) t.want 0) none.0 ∙ sym none.1
+taken_want place t (inr some) = ap (λ (o : Option ℕ). cond (is_at o place) t.want 0) some ∙ ap (λ (b : Bool). cond b t.want 0) (same_place place)
 
-lower : (n line m : ℕ) → n < line → line ≤ m → n ≤ m
-lower n line m e f = omega (arith, e, f)
+-- BEHIND THE LINES
+pub record Facts (place : ℕ) (lines : List Deed) (start h : Hearing) : Type 0 where
+  pub holds : Holds place h.drive.trial
+  pub want : h.drive.trial.want ≡ want_in lines
+  pub fails : h.drive.trial.fails ≡ fails_in lines
+  pub marks : h.drive.trial.marks ≡ marks_in lines
+  pub done : h.request.done ≡ done_in lines
+  pub verdict : h.request.verdict ≡ verdict_in (last_tried lines)
+  pub write : h.request.write ≡ wrote_or (wrote_in lines) start.request.write
+  pub few_done : done_in lines ≤ length lines
+  pub few_marks : marks_in lines ≤ length lines
 
-lower_from : (n line : ℕ) (ls : List TraceLine) → n < line → IsFrom line ls → IsFrom n ls
-unfolding IsFrom
-lower_from n line [] e is = tt
-lower_from n line (l ∷ ls) e is = lower n line (line_number l) e is
+none_more : (n : ℕ) → n ≡ 0 + n
+none_more n = omega arith
 
-told_from : (s : Replay) (ms : List Moment) → Follows s ms → IsFrom s.event.line (lines_told ms)
-unfolding IsFrom
-told_from s [] follows = tt
-told_from s (Played line input ∷ ms) follows =
-    lower_from s.event.line line (lines_told ms) (less_is s.event.line line follows.0.later) (told_from (after_moment s (Played line input)) ms follows.1)
-told_from s (Told line u id d ∷ ms) follows = same_least s.event.line line (told_number (next_wish s) s line u id d follows.0)
-told_from s (Idle line ∷ ms) follows = same_least s.event.line line follows.0.number
+few_more : (n l : ℕ) → n ≤ l → 0 + n ≤ suc l
+few_more n l h = omega (arith, h)
 
-played_beyond : (s : Replay) (ms : List Moment) → Follows s ms → IsBeyond s.event.line (played ms)
-unfolding IsBeyond
-played_beyond s [] follows = tt
-played_beyond s (Played line input ∷ ms) follows = less_is s.event.line line follows.0.later
-played_beyond s (Told line u id d ∷ ms) follows =
-    subst (λ (n : ℕ). IsBeyond n (played ms)) (told_line (next_wish s) s u d) (played_beyond (after_moment s (Told line u id d)) ms follows.1)
-played_beyond s (Idle line ∷ ms) follows = played_beyond (after_moment s (Idle line)) ms follows.1
+same_few : (n l : ℕ) → n ≤ l → n ≤ suc l
+same_few n l h = omega (arith, h)
 
--- A PLAY AND A LINE in their order
-up_to_is : (line n : ℕ) → line ≤ n → nat_le line n ≡ true
-up_to_is line n e = grind (arith, nat_tests, e)
+one_few : (n l : ℕ) → n ≤ l → 1 + n ≤ suc l
+one_few n l h = omega (arith, h)
 
-not_up_to : (n line : ℕ) → n < line → nat_le line n ≡ false
-not_up_to n line e = grind (arith, nat_tests, e)
+next_few : (n l : ℕ) → n ≤ l → n + 1 ≤ suc l
+next_few n l h = omega (arith, h)
 
-first_play : (p : Said) (plays : List Said) (ls : List TraceLine) (line : ℕ) → events.line_of p.moment ≡ line → IsFrom line ls → run_of (p ∷ plays) ls ≡ p ∷ run_of plays ls
-unfolding IsFrom
-first_play p plays [] line e is = refl
-first_play p plays (l ∷ ls) line e is =
-    ap (λ (b : Bool). cond b (p ∷ up_to (line_number l) plays) [] ++ told_of l ∷ run_of (cond b (beyond (line_number l) plays) (p ∷ plays)) ls)
-    (ap (λ (n : ℕ). nat_le n (line_number l)) e ∙ up_to_is line (line_number l) is)
+none_few : (l : ℕ) → 0 ≤ suc l
+none_few l = omega arith
 
-first_told : (l : TraceLine) (ls : List TraceLine) (p : Said) (plays : List Said) (line : ℕ) → events.line_of p.moment ≡ line → line_number l < line → run_of (p ∷ plays) (l ∷ ls) ≡ told_of l ∷ run_of (p ∷ plays) ls
-first_told l ls p plays line e later =
-    ap (λ (b : Bool). cond b (p ∷ up_to (line_number l) plays) [] ++ told_of l ∷ run_of (cond b (beyond (line_number l) plays) (p ∷ plays)) ls)
-    (ap (λ (n : ℕ). nat_le n (line_number l)) e ∙ not_up_to (line_number l) line later)
+one_done : (d n l : ℕ) → d ≡ n → n ≤ l → suc l < 2 ^ 64 → plus d 1 ≡ 1 + n
+one_done d n l e few short = omega (arith, e, few, short)
 
-some_told : (l : TraceLine) (ls : List TraceLine) (plays : List Said) (inputs : List Numbered) → map moment_of plays ≡ map seen_input inputs → IsBeyond (line_number l) inputs
-    → run_of plays (l ∷ ls) ≡ told_of l ∷ run_of plays ls
-unfolding IsBeyond
-some_told l ls [] inputs e is = refl
-some_told l ls (p ∷ plays) [] e is = cc
-some_told l ls (p ∷ plays) (i ∷ inputs) e is = first_told l ls p plays i.line (ap events.line_of (head_same e)) is
-  where
-    head_same : moment_of p ∷ map moment_of plays ≡ seen_input i ∷ map seen_input inputs → moment_of p ≡ seen_input i
-    head_same e = cc
+one_mark : (d n l : ℕ) → d ≡ n → n ≤ l → suc l < 2 ^ 64 → plus d 1 ≡ n + 1
+one_mark d n l e few short = omega (arith, e, few, short)
 
--- ALL MOMENTS
-all_heard : (s : Replay) (ms : List Moment) (plays : List Said) → Follows s ms → map moment_of plays ≡ map seen_input (played ms) → map moment_of (run_of plays (lines_told ms)) ≡ map seen_of ms
-all_heard s [] plays follows e = e
-all_heard s (Played line input ∷ ms) [] follows e = cc
-all_heard s (Played line input ∷ ms) (p ∷ plays) follows e =
-    ap (map moment_of) (first_play p plays (lines_told ms) line (ap events.line_of (head_same e)) (told_from (after_moment s (Played line input)) ms follows.1))
-    ∙ ap (λ (x : Seen). x ∷ map moment_of (run_of plays (lines_told ms))) (head_same e)
-    ∙ ap (λ (l : List Seen). seen_of (Played line input) ∷ l) (all_heard (after_moment s (Played line input)) ms plays follows.1 (tail_same e))
-  where
-    head_same : moment_of p ∷ map moment_of plays ≡ seen_of (Played line input) ∷ map seen_input (played ms) → moment_of p ≡ seen_of (Played line input)
-    head_same e = cc
+shorter : (l : ℕ) → suc l < 2 ^ 64 → l < 2 ^ 64
+shorter l h = omega (arith, h)
 
-    tail_same : moment_of p ∷ map moment_of plays ≡ seen_of (Played line input) ∷ map seen_input (played ms) → map moment_of plays ≡ map seen_input (played ms)
-    tail_same e = cc
-all_heard s (Told line u id d ∷ ms) plays follows e =
-    let is : IsBeyond line (played ms) =
-    subst (λ (n : ℕ). IsBeyond n (played ms)) (told_line (next_wish s) s u d ∙ sym (told_number (next_wish s) s line u id d follows.0)) (played_beyond (after_moment s (Told line u id d)) ms follows.1) in
-    ap (map moment_of) (some_told (lines.Deed line u id (trip.told_of d)) (lines_told ms) plays (played ms) e is)
-    ∙ ap (λ (l : List Seen). seen_of (Told line u id d) ∷ l) (all_heard (after_moment s (Told line u id d)) ms plays follows.1 e)
-all_heard s (Idle line ∷ ms) plays follows e =
-    let is : IsBeyond line (played ms) = subst (λ (n : ℕ). IsBeyond n (played ms)) (sym follows.0.number) (played_beyond (after_moment s (Idle line)) ms follows.1) in
-    ap (map moment_of) (some_told (lines.Idle line) (lines_told ms) plays (played ms) e is)
-    ∙ ap (λ (l : List Seen). seen_of (Idle line) ∷ l) (all_heard (after_moment s (Idle line)) ms plays follows.1 e)
+first_want : (t : Trial) (place count n : ℕ) → Holds place t → t.want ≡ n → cond ((in_hand place t).want == 0) count (in_hand place t).want ≡ cond (n == 0) count n
+first_want t place count n holds e = ap (λ (w : ℕ). cond (w == 0) count w) (taken_want place t holds ∙ e)
 
-pub are_heard : AreHeardWhole
-are_heard script tables old new ms run some = record {
-  run = all_heard (start_of (meaning_of script) tables old) ms (plays_of script) run.trace.follows
-      ((meant script (record { first = 0; last = 0; per = 1 })).plays some ∙ ap (map seen_input) (sym run.inputs));
-}
+-- a line that tells of no transfer, sector or try
+abbrev IsOther : Deed → Type 0
+IsOther (Transfer write block count) = ⊥
+IsOther (Sector block v) = ⊥
+IsOther (Try block failures) = ⊥
+IsOther deed = Unit {0}
+
+other_facts : (place : ℕ) (deed : Deed) (lines : List Deed) (start h : Hearing) → IsOther deed → Facts place lines start h → Facts place (deed ∷ lines) start (told_one place deed h)
+other_facts place (Search c y) lines start h other f =
+    record { holds = inr refl; want = taken_want place h.drive.trial f.holds ∙ f.want; fails = f.fails; marks = f.marks; done = f.done ∙ none_more (done_in lines); verdict = f.verdict; write = f.write; few_done = few_more (done_in lines) (length lines) f.few_done; few_marks = same_few (marks_in lines) (length lines) f.few_marks }
+other_facts place (Seek c) lines start h other f =
+    record { holds = inr refl; want = taken_want place h.drive.trial f.holds ∙ f.want; fails = f.fails; marks = f.marks; done = f.done ∙ none_more (done_in lines); verdict = f.verdict; write = f.write; few_done = few_more (done_in lines) (length lines) f.few_done; few_marks = same_few (marks_in lines) (length lines) f.few_marks }
+other_facts place Recal lines start h other f =
+    record { holds = inr refl; want = taken_want place h.drive.trial f.holds ∙ f.want; fails = f.fails; marks = f.marks; done = f.done ∙ none_more (done_in lines); verdict = f.verdict; write = f.write; few_done = few_more (done_in lines) (length lines) f.few_done; few_marks = same_few (marks_in lines) (length lines) f.few_marks }
+other_facts place (Offset o) lines start h other f =
+    record { holds = inr refl; want = taken_want place h.drive.trial f.holds ∙ f.want; fails = f.fails; marks = f.marks; done = f.done ∙ none_more (done_in lines); verdict = f.verdict; write = f.write; few_done = few_more (done_in lines) (length lines) f.few_done; few_marks = same_few (marks_in lines) (length lines) f.few_marks }
+other_facts place Centre lines start h other f =
+    record { holds = inr refl; want = taken_want place h.drive.trial f.holds ∙ f.want; fails = f.fails; marks = f.marks; done = f.done ∙ none_more (done_in lines); verdict = f.verdict; write = f.write; few_done = few_more (done_in lines) (length lines) f.few_done; few_marks = same_few (marks_in lines) (length lines) f.few_marks }
+other_facts place Clear lines start h other f =
+    record { holds = inr refl; want = taken_want place h.drive.trial f.holds ∙ f.want; fails = f.fails; marks = f.marks; done = f.done ∙ none_more (done_in lines); verdict = f.verdict; write = f.write; few_done = few_more (done_in lines) (length lines) f.few_done; few_marks = same_few (marks_in lines) (length lines) f.few_marks }
+other_facts place Pack lines start h other f =
+    record { holds = inr refl; want = taken_want place h.drive.trial f.holds ∙ f.want; fails = f.fails; marks = f.marks; done = f.done ∙ none_more (done_in lines); verdict = f.verdict; write = f.write; few_done = few_more (done_in lines) (length lines) f.few_done; few_marks = same_few (marks_in lines) (length lines) f.few_marks }
+other_facts place Arrive lines start h other f =
+    record { holds = inr refl; want = taken_want place h.drive.trial f.holds ∙ f.want; fails = f.fails; marks = f.marks; done = f.done ∙ none_more (done_in lines); verdict = f.verdict; write = f.write; few_done = few_more (done_in lines) (length lines) f.few_done; few_marks = same_few (marks_in lines) (length lines) f.few_marks }
+other_facts place Intr lines start h other f =
+    record { holds = inr refl; want = taken_want place h.drive.trial f.holds ∙ f.want; fails = f.fails; marks = f.marks; done = f.done ∙ none_more (done_in lines); verdict = f.verdict; write = f.write; few_done = few_more (done_in lines) (length lines) f.few_done; few_marks = same_few (marks_in lines) (length lines) f.few_marks }
+other_facts place Attn lines start h other f =
+    record { holds = inr refl; want = taken_want place h.drive.trial f.holds ∙ f.want; fails = f.fails; marks = f.marks; done = f.done ∙ none_more (done_in lines); verdict = f.verdict; write = f.write; few_done = few_more (done_in lines) (length lines) f.few_done; few_marks = same_few (marks_in lines) (length lines) f.few_marks }
+other_facts place (End a) lines start h other f =
+    record { holds = inr refl; want = taken_want place h.drive.trial f.holds ∙ f.want; fails = f.fails; marks = f.marks; done = f.done ∙ none_more (done_in lines); verdict = f.verdict; write = f.write; few_done = few_more (done_in lines) (length lines) f.few_done; few_marks = same_few (marks_in lines) (length lines) f.few_marks }
+other_facts place (Transfer w b n) lines start h other f = absurd other
+other_facts place (Sector b v) lines start h other f = absurd other
+other_facts place (Try b n) lines start h other f = absurd other
+
+transfer_facts : (place : ℕ) (w : Bool) (b n : ℕ) (lines : List Deed) (start h : Hearing) → Facts place lines start h → Facts place (Transfer w b n ∷ lines) start (told_one place (Transfer w b n) h)
+transfer_facts place w b n lines start h f =
+    record { holds = inr refl; want = first_want h.drive.trial place n (want_in lines) f.holds f.want; fails = f.fails; marks = f.marks; done = f.done ∙ none_more (done_in lines); verdict = f.verdict; write = refl; few_done = few_more (done_in lines) (length lines) f.few_done; few_marks = same_few (marks_in lines) (length lines) f.few_marks }
+
+try_facts : (place b n : ℕ) (lines : List Deed) (start h : Hearing) → Facts place lines start h → Facts place (Try b n ∷ lines) start (told_one place (Try b n) h)
+try_facts place b n lines start h f =
+    record { holds = inr refl; want = taken_want place h.drive.trial f.holds ∙ f.want; fails = refl; marks = f.marks; done = f.done ∙ none_more (done_in lines); verdict = f.verdict; write = f.write; few_done = few_more (done_in lines) (length lines) f.few_done; few_marks = same_few (marks_in lines) (length lines) f.few_marks }
+
+sector_facts : (place b : ℕ) (v : Moved) (lines : List Deed) (start h : Hearing) → suc (length lines) < 2 ^ 64 → Facts place lines start h → Facts place (Sector b v ∷ lines) start (told_one place (Sector b v) h)
+sector_facts place b verdict.Clean lines start h short f =
+    record { holds = inr refl; want = taken_want place h.drive.trial f.holds ∙ f.want; fails = refl; marks = refl; done = one_done h.request.done (done_in lines) (length lines) f.done f.few_done short; verdict = refl; write = f.write; few_done = one_few (done_in lines) (length lines) f.few_done; few_marks = none_few (length lines) }
+sector_facts place b (verdict.Burst at pattern) lines start h short f =
+    record { holds = inr refl; want = taken_want place h.drive.trial f.holds ∙ f.want; fails = refl; marks = refl; done = one_done h.request.done (done_in lines) (length lines) f.done f.few_done short; verdict = refl; write = f.write; few_done = one_few (done_in lines) (length lines) f.few_done; few_marks = none_few (length lines) }
+sector_facts place b verdict.Marked lines start h short f =
+    record { holds = inr refl; want = taken_want place h.drive.trial f.holds ∙ f.want; fails = refl; marks = one_mark h.drive.trial.marks (marks_in lines) (length lines) f.marks f.few_marks short; done = f.done ∙ none_more (done_in lines); verdict = refl; write = f.write; few_done = few_more (done_in lines) (length lines) f.few_done; few_marks = next_few (marks_in lines) (length lines) f.few_marks }
+sector_facts place b verdict.Hard lines start h short f =
+    record { holds = inr refl; want = taken_want place h.drive.trial f.holds ∙ f.want; fails = f.fails; marks = f.marks; done = f.done ∙ none_more (done_in lines); verdict = refl; write = f.write; few_done = few_more (done_in lines) (length lines) f.few_done; few_marks = same_few (marks_in lines) (length lines) f.few_marks }
+sector_facts place b (verdict.Faulted fault) lines start h short f =
+    record { holds = inr refl; want = taken_want place h.drive.trial f.holds ∙ f.want; fails = f.fails; marks = f.marks; done = f.done ∙ none_more (done_in lines); verdict = refl; write = f.write; few_done = few_more (done_in lines) (length lines) f.few_done; few_marks = same_few (marks_in lines) (length lines) f.few_marks }
+sector_facts place b verdict.Offline lines start h short f =
+    record { holds = inr refl; want = taken_want place h.drive.trial f.holds ∙ f.want; fails = f.fails; marks = f.marks; done = f.done ∙ none_more (done_in lines); verdict = refl; write = f.write; few_done = few_more (done_in lines) (length lines) f.few_done; few_marks = same_few (marks_in lines) (length lines) f.few_marks }
+
+pub behind : (place : ℕ) (start : Hearing) (lines : List Deed) → IsFresh start → length lines < 2 ^ 64 → Facts place lines start (told_all place start lines)
+behind place start [] fresh short =
+    record { holds = inl (fresh.hand, fresh.want); want = fresh.want; fails = fresh.fails; marks = fresh.marks; done = fresh.done; verdict = fresh.verdict; write = refl; few_done = omega arith; few_marks = omega arith }
+behind place start (Transfer w b n ∷ lines) fresh short = transfer_facts place w b n lines start (told_all place start lines) (behind place start lines fresh (shorter (length lines) short))
+behind place start (Sector b v ∷ lines) fresh short = sector_facts place b v lines start (told_all place start lines) short (behind place start lines fresh (shorter (length lines) short))
+behind place start (Try b n ∷ lines) fresh short = try_facts place b n lines start (told_all place start lines) (behind place start lines fresh (shorter (length lines) short))
+behind place start (Search c y ∷ lines) fresh short = other_facts place (Search c y) lines start (told_all place start lines) tt (behind place start lines fresh (shorter (length lines) short))
+behind place start (Seek c ∷ lines) fresh short = other_facts place (Seek c) lines start (told_all place start lines) tt (behind place start lines fresh (shorter (length lines) short))
+behind place start (Recal ∷ lines) fresh short = other_facts place Recal lines start (told_all place start lines) tt (behind place start lines fresh (shorter (length lines) short))
+behind place start (Offset o ∷ lines) fresh short = other_facts place (Offset o) lines start (told_all place start lines) tt (behind place start lines fresh (shorter (length lines) short))
+behind place start (Centre ∷ lines) fresh short = other_facts place Centre lines start (told_all place start lines) tt (behind place start lines fresh (shorter (length lines) short))
+behind place start (Clear ∷ lines) fresh short = other_facts place Clear lines start (told_all place start lines) tt (behind place start lines fresh (shorter (length lines) short))
+behind place start (Pack ∷ lines) fresh short = other_facts place Pack lines start (told_all place start lines) tt (behind place start lines fresh (shorter (length lines) short))
+behind place start (Arrive ∷ lines) fresh short = other_facts place Arrive lines start (told_all place start lines) tt (behind place start lines fresh (shorter (length lines) short))
+behind place start (Intr ∷ lines) fresh short = other_facts place Intr lines start (told_all place start lines) tt (behind place start lines fresh (shorter (length lines) short))
+behind place start (Attn ∷ lines) fresh short = other_facts place Attn lines start (told_all place start lines) tt (behind place start lines fresh (shorter (length lines) short))
+behind place start (End a ∷ lines) fresh short = other_facts place (End a) lines start (told_all place start lines) tt (behind place start lines fresh (shorter (length lines) short))
+
+-- ALL 28 TRIES: the last sector failed, and so often the block at hand did
+abbrev pub IsFailure : Tried → Type 0
+IsFailure Untried = ⊥
+IsFailure (TriedAt block v) = fails v ≡ true
+
+owed_last : (n block : ℕ) (lines : List Deed) → AreFailures true n block lines → IsFailure (last_tried lines)
+owed_last n block [] a = absurd a
+owed_last n block (Sector b v ∷ lines) a = a.1
+owed_last n block (Intr ∷ lines) a = owed_last n block lines a
+owed_last n block (Clear ∷ lines) a = owed_last n block lines a
+owed_last n block (Centre ∷ lines) a = owed_last n block lines a
+owed_last n block (deed ∷ lines) a = absurd a
+
+pub failed_last : (n block : ℕ) (lines : List Deed) → AreFailures false (suc n) block lines → IsFailure (last_tried lines)
+failed_last n block [] a = absurd a
+failed_last n block (Try b t ∷ lines) a = owed_last n block lines a.2
+failed_last n block (Sector b v ∷ lines) a = absurd a
+failed_last n block (Search c y ∷ lines) a = failed_last n block lines a
+failed_last n block (Seek c ∷ lines) a = failed_last n block lines a
+failed_last n block (Recal ∷ lines) a = failed_last n block lines a
+failed_last n block (Offset o ∷ lines) a = failed_last n block lines a
+failed_last n block (Centre ∷ lines) a = failed_last n block lines a
+failed_last n block (Clear ∷ lines) a = failed_last n block lines a
+failed_last n block (Pack ∷ lines) a = failed_last n block lines a
+failed_last n block (Transfer w b k ∷ lines) a = failed_last n block lines a
+failed_last n block (Arrive ∷ lines) a = failed_last n block lines a
+failed_last n block (Intr ∷ lines) a = failed_last n block lines a
+failed_last n block (Attn ∷ lines) a = failed_last n block lines a
+failed_last n block (End x ∷ lines) a = failed_last n block lines a
+
+pub failed_fails : (n block : ℕ) (lines : List Deed) → AreFailures false (suc n) block lines → fails_in lines ≡ suc n
+failed_fails n block [] a = absurd a
+failed_fails n block (Try b t ∷ lines) a = a.1
+failed_fails n block (Sector b v ∷ lines) a = absurd a
+failed_fails n block (Search c y ∷ lines) a = failed_fails n block lines a
+failed_fails n block (Seek c ∷ lines) a = failed_fails n block lines a
+failed_fails n block (Recal ∷ lines) a = failed_fails n block lines a
+failed_fails n block (Offset o ∷ lines) a = failed_fails n block lines a
+failed_fails n block (Centre ∷ lines) a = failed_fails n block lines a
+failed_fails n block (Clear ∷ lines) a = failed_fails n block lines a
+failed_fails n block (Pack ∷ lines) a = failed_fails n block lines a
+failed_fails n block (Transfer w b k ∷ lines) a = failed_fails n block lines a
+failed_fails n block (Arrive ∷ lines) a = failed_fails n block lines a
+failed_fails n block (Intr ∷ lines) a = failed_fails n block lines a
+failed_fails n block (Attn ∷ lines) a = failed_fails n block lines a
+failed_fails n block (End x ∷ lines) a = failed_fails n block lines a
+
+-- so many tries that failed at the block at hand are those of the last try line
+fails_zero : (v : Moved) (n : ℕ) → (fails_at v n ≡ 0) ⊎ (fails_at v n ≡ n)
+fails_zero verdict.Clean n = inl refl
+fails_zero (verdict.Burst at pattern) n = inl refl
+fails_zero verdict.Hard n = inr refl
+fails_zero verdict.Marked n = inl refl
+fails_zero (verdict.Faulted fault) n = inr refl
+fails_zero verdict.Offline n = inr refl
+
+after_sector : (v : Moved) (n last : ℕ) → (n ≡ 0) ⊎ (n ≡ last) → (fails_at v n ≡ 0) ⊎ (fails_at v n ≡ n) → (fails_at v n ≡ 0) ⊎ (fails_at v n ≡ last)
+after_sector v n last before (inl none) = inl none
+after_sector v n last (inl none) (inr same) = inl (same ∙ none)
+after_sector v n last (inr is) (inr same) = inr (same ∙ is)
+
+pub fails_last : (lines : List Deed) → (fails_in lines ≡ 0) ⊎ (fails_in lines ≡ last_try lines)
+fails_last [] = inl refl
+fails_last (Try b t ∷ lines) = inr refl
+fails_last (Sector b v ∷ lines) = after_sector v (fails_in lines) (last_try lines) (fails_last lines) (fails_zero v (fails_in lines))
+fails_last (Search c y ∷ lines) = fails_last lines
+fails_last (Seek c ∷ lines) = fails_last lines
+fails_last (Recal ∷ lines) = fails_last lines
+fails_last (Offset o ∷ lines) = fails_last lines
+fails_last (Centre ∷ lines) = fails_last lines
+fails_last (Clear ∷ lines) = fails_last lines
+fails_last (Pack ∷ lines) = fails_last lines
+fails_last (Transfer w b k ∷ lines) = fails_last lines
+fails_last (Arrive ∷ lines) = fails_last lines
+fails_last (Intr ∷ lines) = fails_last lines
+fails_last (Attn ∷ lines) = fails_last lines
+fails_last (End x ∷ lines) = fails_last lines

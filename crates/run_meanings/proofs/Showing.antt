@@ -2,11 +2,11 @@
 use Rattle.std.proofs.Common.{◌≡◌, ℕ, ◌==◌, false, List, ◌∷◌, ◌++◌, map, Option, sym, ap, ◌∙◌, subst}
 use Rattle.pack_model.specs.Pack as model
 use Rattle.pack_model.specs.TableSpelling.{Table}
-use Rattle.run_answers.specs.Answers.{IsDrawn}
-use Rattle.run_answers.proofs.Answered.{are_answers_drawn}
-use Rattle.run_conditions.specs.Hears.{seen_of, known_of}
-use Rattle.run_lines.specs.Plays.{plays_of}
-use Rattle.run_lines.specs.Runs.{run_of}
+use Rattle.run_meanings.specs.Answers.{IsDrawn}
+use Rattle.run_meanings.proofs.Answered.{are_answers_drawn}
+use Rattle.run_meanings.specs.Hears.{seen_of, known_of}
+use Rattle.run_view.specs.Plays.{plays_of}
+use Rattle.run_view.specs.Runs.{run_of}
 use Rattle.run_picture.specs.Fold.{Known, run_from}
 use Rattle.run_view.specs.declared.view.View.{View}
 use Rattle.run_view.specs.Views.{Views}
@@ -19,8 +19,8 @@ use Rattle.trace_reader.specs.RoundTrip.{lines_told}
 use Rattle.trace_replay.specs.Moments.{Moment, Told, End}
 use Rattle.trace_replay.specs.Runs.{IsLegalRun}
 use Rattle.run_meanings.specs.Meanings.{moment_of, AreAnswersShown}
-use Rattle.run_meanings.proofs.Hearing.{are_heard}
-use Rattle.run_meanings.proofs.Meanings.{meant}
+use Rattle.run_meanings.proofs.MeaningsHearing.{are_heard}
+use Rattle.run_meanings.proofs.MeaningsLaws.{meant}
 
 -- what is shown is the fold over the moments of the run
 shown : (script : Stored) (tables : ℕ → Option Table) (old new : ℕ → model.Pack) (ms : List Moment) → IsLegalRun (meaning_of script) tables old new ms → (script.count == 0) ≡ false

@@ -3,11 +3,11 @@ use Rattle.std.specs.Prelude.{◌≡◌, ℕ, ◌<◌, ◌^◌, ◌==◌, false,
 use Rattle.drive_pictures.specs.declared.moments.Moment.{Moment as Seen}
 use Rattle.pack_model.specs.Pack as model
 use Rattle.pack_model.specs.TableSpelling.{Table}
-use Rattle.run_answers.specs.Answers.{IsDrawn}
-use Rattle.run_conditions.specs.Hears.{seen_of, known_of}
-use Rattle.run_lines.specs.Plays.{plays_of}
-use Rattle.run_lines.specs.Runs.{run_of}
-use Rattle.run_lines.specs.Saids.{Said}
+use Rattle.run_meanings.specs.Answers.{IsDrawn}
+use Rattle.run_meanings.specs.Hears.{seen_of, known_of}
+use Rattle.run_view.specs.Plays.{plays_of}
+use Rattle.run_view.specs.Runs.{run_of}
+use Rattle.run_view.specs.Saids.{Said}
 use Rattle.run_picture.specs.declared.columns.Window.{Window}
 use Rattle.run_view.specs.declared.view.View.{View}
 use Rattle.run_view.specs.Views.{known_before, Views}

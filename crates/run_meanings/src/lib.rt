@@ -1,25 +1,9 @@
-//! What a picture reads of a script is what the script means.
-//!
-//! What is proved: `meant_law`: the drives before a run, and the lines that are played, are those of the script's meaning as the laws
-//! of a legal run hear it. `heard_law`: of a legal run a picture hears just the moments. `shown_law`: so what is shown of its trace
-//! has each answer.
+//! What a picture says of a legal run: how each request was answered (`outcomes`, `drawings`), the conditions of drives (`conditions`),
+//! the answers (`answers`), and that it reads of a script what the script means (`meanings`).
 #![tactic(auto)]
 
-ghost use Rattle.run_meanings.specs.Meanings.{IsReadAsMeant, AreHeardWhole, AreAnswersShown};
-ghost use Rattle.run_picture.specs.declared.columns.Window.{Window};
-ghost use Rattle.script_reader.specs.Stored.{Stored};
-
-/// The law of meanings: a picture starts with the drives that the script's meaning declares, and plays its inputs.
-pub fn meant_law()
-    ensures { (script : Stored) (window : Window) → IsReadAsMeant script window }
-{}
-
-/// The law of hearing: of a legal run a picture hears, of its script and of the lines of its trace, just the moments of that run.
-pub fn heard_law()
-    ensures { AreHeardWhole }
-{}
-
-/// The law of showing: what is shown of bytes that spell the lines of a legal run has the answer of each request, or `stopped`.
-pub fn shown_law()
-    ensures { AreAnswersShown }
-{}
+pub mod answers;
+pub mod conditions;
+pub mod drawings;
+pub mod meanings;
+pub mod outcomes;

@@ -7,10 +7,10 @@ use Rattle.trace_replay.specs.Moments.{Moment, Played, Told, Idle, played}
 use Rattle.trace_replay.specs.Replay.{Replay, after_moments}
 use Rattle.trace_replay.specs.Runs.{start_of}
 use Rattle.trace_replay.proofs.Following.{follow_on}
-use Rattle.run_promises.specs.Beginnings.{IsBegun, BeginningsKeep, PromisesSoFar}
+use Rattle.block_machine.specs.Beginnings.{IsBegun, BeginningsKeep, PromisesSoFar}
 use Rattle.run_stops.specs.Writing.{WriteNothing}
 use Rattle.run_stops.specs.Ahead.{AreBehind, RulesStart, AllSent, NothingKeepsRule, WritesKeepRule, RulesHold}
-use Rattle.run_promises.proofs.Quiet.{after_parts}
+use Rattle.block_machine.proofs.Quiet.{after_parts}
 use Rattle.run_stops.proofs.Writing.{nothing_leaves_packs, nothing_leaves_lengths, nothing_joined, nothing_front}
 
 -- BEHIND MOMENTS THAT WRITE NOTHING the packs are as before.

@@ -18,9 +18,9 @@ use Rattle.driver_machine.specs.Acts.{Act, Nothing, Tried, Sector}
 use Rattle.driver_machine.specs.Lines.{lines_of_all}
 use Rattle.driver_machine.specs.Events.{event_acts, move_acts, in_hand, or_nothing, can_move}
 use Rattle.driver_machine.specs.Sound.{Sound, IsPhase}
-use Rattle.driver_work.proofs.Deeds.{deed_at}
-use Rattle.driver_work.proofs.Due.{in_hand_one}
-use Rattle.driver_work.proofs.Calls.{IsServing, serving}
+use Rattle.driver_invariant.proofs.Deeds.{deed_at}
+use Rattle.driver_invariant.proofs.Due.{in_hand_one}
+use Rattle.driver_invariant.proofs.Calls.{IsServing, serving}
 use Rattle.driver_trace.specs.Within.{ShowsAll}
 use Rattle.driver_trace.proofs.Starting.{set_up}
 use Rattle.driver_runs.proofs.Sectors.{IsNoMove, event_quiet, submission_quiet}

@@ -10,10 +10,10 @@ use Rattle.trace_replay.specs.Service.{in_hand}
 use Rattle.trace_replay.specs.Packs.{Surface, surface_read, surface_written}
 use Rattle.trace_replay.specs.Replay.{Replay, surface_after, next_wish, after_moment, after_moments}
 use Rattle.trace_replay.proofs.Unchanged.{told_keeps}
-use Rattle.driver_reach.specs.Lengths.{length_told, length_behind, reaching}
-use Rattle.driver_reach.proofs.Lengths.{long_append}
-use Rattle.run_promises.specs.Beginnings.{IsNoSector}
-use Rattle.run_promises.proofs.Quiet.{Same, played_same, after_parts, same_left}
+use Rattle.driver_runs.specs.Lengths.{length_told, length_behind, reaching}
+use Rattle.driver_runs.proofs.Lengths.{long_append}
+use Rattle.block_machine.specs.Beginnings.{IsNoSector}
+use Rattle.block_machine.proofs.Quiet.{Same, played_same, after_parts, same_left}
 use Rattle.run_stops.specs.Writing.{was_written_at, WriteNothing, QuietWriteNothing, NothingLeavesPacks, NothingLeavesLengths}
 
 -- WITHOUT A SECTOR nothing is written.

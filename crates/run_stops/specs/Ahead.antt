@@ -7,10 +7,10 @@ use Rattle.trace_replay.specs.Moments.{Moment, Played, answers_in}
 use Rattle.trace_replay.specs.Replay.{AreLeft, after_moments}
 use Rattle.trace_replay.specs.Runs.{start_of}
 use Rattle.trace_replay.specs.Text.{trace_text}
-use Rattle.driver_outcome.specs.Outcome.{IsFront}
-use Rattle.driver_reach.specs.Lengths.{AreAsLong}
+use Rattle.driver_answers.specs.Outcome.{IsFront}
+use Rattle.driver_runs.specs.Lengths.{AreAsLong}
 use Rattle.answer_lines.specs.AnswerText.{out_text}
-use Rattle.run_promises.specs.Beginnings.{IsBegun, PromisesSoFar}
+use Rattle.block_machine.specs.Beginnings.{IsBegun, PromisesSoFar}
 use Rattle.run_stops.specs.Writing.{WriteNothing}
 
 -- a text lies between two others: the first is a front of it, and it is a front of the second

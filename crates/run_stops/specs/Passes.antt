@@ -1,6 +1,6 @@
 -- What is passed on of the crates below, so that those above stand on this one.
-pub use Rattle.driver_reach.specs.Lengths.{AreAsLong}
-pub use Rattle.driver_reach.specs.Reach.{AskBelow, AsksBelow, IsWithinReach, StayFrom, TablesBelow}
+pub use Rattle.driver_runs.specs.Lengths.{AreAsLong}
+pub use Rattle.driver_runs.specs.Reach.{AskBelow, AsksBelow, IsWithinReach, StayFrom, TablesBelow}
 pub use Rattle.driver_runs.specs.NextBlock.{HasNext, NextBlocksShow}
 pub use Rattle.driver_runs.specs.Runs.{AreDeclared, IsKept}
 pub use Rattle.driver_trace.specs.Calls.{IsReadOf}

@@ -12,9 +12,9 @@ use Rattle.trace_replay.specs.Text.{trace_text}
 use Rattle.driver_machine.specs.World.{World}
 use Rattle.driver_machine.specs.Events.{next_event}
 use Rattle.driver_machine.specs.Sound.{Sound}
-use Rattle.driver_outcome.specs.Outcome.{IsNextBlock}
+use Rattle.driver_answers.specs.Outcome.{IsNextBlock}
 use Rattle.driver_runs.specs.Runs.{AreDeclared}
-use Rattle.driver_reach.specs.Reach.{AskBelow, TablesBelow, StayFrom}
+use Rattle.driver_runs.specs.Reach.{AskBelow, TablesBelow, StayFrom}
 use Rattle.driver_trace.specs.Within.{ShowsAll}
 use Rattle.answer_lines.specs.AnswerText.{out_text}
 use Rattle.hp_driver.specs.Passes.{writes_next}

@@ -13,9 +13,9 @@ use Rattle.driver_machine.specs.Acts.{Act, Nothing, Tried}
 use Rattle.driver_machine.specs.Lines.{lines_of_all}
 use Rattle.driver_machine.specs.Events.{submit_acts, event_acts}
 use Rattle.driver_machine.specs.Sound.{Sound}
-use Rattle.driver_reach.specs.Lengths.{AreAsLong}
+use Rattle.driver_runs.specs.Lengths.{AreAsLong}
 use Rattle.driver_trace.specs.Within.{ShowsAll}
-use Rattle.run_promises.specs.Beginnings.{AreNoSectors}
+use Rattle.block_machine.specs.Beginnings.{AreNoSectors}
 use Rattle.hp_driver.specs.Subsystem.{writes_by}
 
 -- a moment tells of a sector that was written

@@ -12,7 +12,7 @@
 ghost use Rattle.run_stops.specs.Writing.{QuietWriteNothing, NothingLeavesPacks, NothingLeavesLengths, EventsWriteNothing, FirstEventsWriteNothing, LaterEventsWriteNothing, SubmissionsWriteNothing, EmptyDrainsWriteNothing};
 ghost use Rattle.run_stops.specs.Ahead.{RulesStart, AllSent, NothingKeepsRule, WritesKeepRule, RulesHold};
 
-use run_promises::beginnings_law;
+use block_machine::promises::beginnings_law;
 
 /// Moments that write nothing leave the packs, and how long their images are.
 pub fn nothing_law()
@@ -42,5 +42,5 @@ pub fn rule_law()
     beginnings_law();
 }
 
-pub use driver_runs::next_block_law;
+pub use driver_runs::runs::next_block_law;
 pub use hp_driver::{Answer, AnswerKind, Event, Request, Subsystem, UnitSetup};

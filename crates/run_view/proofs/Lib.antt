@@ -1,3 +1,6 @@
+pub mod SeeLaws
+pub mod LinesTextLaws
+pub mod UnitLaws
 pub mod TextLaws
 pub mod WatchLaws
 pub mod ViewLaws

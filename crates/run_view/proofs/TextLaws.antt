@@ -1,8 +1,8 @@
 -- The text of what is played of a line.
 use Rattle.std.proofs.Common.{◌≡◌, ℕ, ◌+◌, ◌<◌, ◌==◌, Bool, true, false, cond, List, ◌∷◌, length, drop, get_or, ap, ◌∙◌}
 use Rattle.drive_pictures.specs.Events.{line_of}
-use Rattle.run_lines.specs.Saids.{Said}
-use Rattle.run_lines.proofs.SeeLaws.{front}
+use Rattle.run_view.specs.Saids.{Said}
+use Rattle.run_view.proofs.SeeLaws.{front}
 use Rattle.run_view.specs.Views.{played_text}
 
 split : (plays : List Said) (i : ℕ) (x : Said) → i < length plays → get_or plays i x ≡ x → drop i plays ≡ x ∷ drop (i + 1) plays

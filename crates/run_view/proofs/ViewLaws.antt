@@ -3,10 +3,10 @@ use Rattle.std.proofs.Common.{◌≡◌, ℕ, List, ◌++◌, map, fold, ap, ◌
 use Rattle.script_reader.specs.Stored.{Stored}
 use Rattle.trace_reader.specs.declared.line.TraceLine.{TraceLine}
 use Rattle.trace_reader.specs.Grammar.{Spells}
-use Rattle.run_lines.specs.Plays.{plays_of}
-use Rattle.run_lines.specs.Runs.{run_of}
-use Rattle.run_lines.specs.Runs as runs
-use Rattle.run_lines.specs.Saids.{Said}
+use Rattle.run_view.specs.Plays.{plays_of}
+use Rattle.run_view.specs.Runs.{run_of}
+use Rattle.run_view.specs.Runs as runs
+use Rattle.run_view.specs.Saids.{Said}
 use Rattle.run_picture.specs.Columns.{window_of}
 use Rattle.run_picture.specs.Fold.{step, finished, events_in}
 use Rattle.run_view.specs.declared.counter.Counter.{Counter}

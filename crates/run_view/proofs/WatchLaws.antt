@@ -1,6 +1,6 @@
 -- A run as it is watched, and what is counted and noted of it.
 use Rattle.std.proofs.Common.{◌≡◌, List, [], ◌∷◌, ◌++◌, map, fold, refl, sym, ◌∙◌, append_assoc, append-nil}
-use Rattle.run_lines.specs.Saids.{Said}
+use Rattle.run_view.specs.Saids.{Said}
 use Rattle.run_picture.specs.Fold.{step}
 use Rattle.run_view.specs.Events.{counted}
 use Rattle.run_view.specs.Notes.{note_at, notes_from}

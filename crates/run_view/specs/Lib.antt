@@ -1,3 +1,6 @@
+pub mod Saids
+pub mod Plays
+pub mod Runs
 pub mod Events
 pub mod Notes
 pub mod Watched

@@ -1,7 +1,7 @@
 -- THE LINES THAT NAME A DRIVE, in the columns of the events that are shown, where a column is one event.
 use Rattle.std.specs.Prelude.{ℕ, ◌-◌, ◌==◌, Bool, true, false, ◌&&◌, List, [], ◌∷◌, ◌++◌, Option, Some, None}
 use Rattle.drive_pictures.specs.declared.moments.Moment.{Moment}
-use Rattle.run_lines.specs.Saids.{Said}
+use Rattle.run_view.specs.Saids.{Said}
 use Rattle.run_picture.specs.declared.columns.Window.{Window}
 use Rattle.run_picture.specs.Columns.{is_inside}
 use Rattle.picture_sheet.specs.declared.sheet.Note.{Note}

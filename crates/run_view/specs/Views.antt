@@ -1,9 +1,9 @@
 -- WHAT A PICTURE SHOWS OF A RUN.
 use Rattle.std.specs.Prelude.{◌≡◌, ℕ, ◌==◌, if◌then◌else◌, List, [], ◌∷◌, map, fold}
 use Rattle.drive_pictures.specs.Events.{line_of}
-use Rattle.run_lines.specs.Plays.{plays_of}
-use Rattle.run_lines.specs.Runs.{run_of}
-use Rattle.run_lines.specs.Saids.{Said}
+use Rattle.run_view.specs.Plays.{plays_of}
+use Rattle.run_view.specs.Runs.{run_of}
+use Rattle.run_view.specs.Saids.{Said}
 use Rattle.run_picture.specs.declared.columns.Window.{Window}
 use Rattle.run_picture.specs.Columns.{window_of}
 use Rattle.run_picture.specs.Fold.{Known, new_known, declared, run_from, events_in}

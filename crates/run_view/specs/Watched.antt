@@ -1,6 +1,6 @@
 -- A RUN AS IT IS WATCHED: what is known of it, the event of its last moment, and the lines that name a drive.
 use Rattle.std.specs.Prelude.{List, [], ◌++◌}
-use Rattle.run_lines.specs.Saids.{Said}
+use Rattle.run_view.specs.Saids.{Said}
 use Rattle.run_picture.specs.declared.columns.Window.{Window}
 use Rattle.run_picture.specs.Fold.{Known, new_known, step}
 use Rattle.run_view.specs.declared.counter.Counter.{Counter}

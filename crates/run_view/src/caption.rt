@@ -1,7 +1,7 @@
 ghost use Rattle.std.specs.Prelude.{◌≡◌};
 ghost use Rattle.run_view.specs.Captions.{without_front, without_back, caption_in, caption_of};
 
-use run_lines::first_text;
+use crate::first_text;
 
 /// A text without the blanks before it.
 fn without_front(text: &[u8]) -> &[u8]

@@ -1,6 +1,6 @@
 // The events of a run are counted.
+use crate::{Seen, Watcher};
 use drive_pictures::{Moment, begins, plus};
-use run_lines::{Seen, Watcher};
 use std::alloc::AllocError;
 
 /// The last moment so far, and how many events began behind the first.

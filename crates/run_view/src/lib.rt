@@ -5,12 +5,24 @@
 //! run's own events, the notes are the lines that name a drive, each in the column of its event, and the texts are those of the
 //! columns' lines; or a refusal says the first fault of the trace. `caption_of`: what stands behind `#` on the script's first line,
 //! without the blanks around it.
+//!
+//! The lines of a run, one after another: those of its script as they are played, each before the lines of its trace, each with
+//! its text and the drive that it names.
+//!
+//! What is proved: `watch_run`: whoever watches a run sees just its lines, in order, or a refusal says the first fault of the
+//! trace. `plays_of` gives the script as it is played.
 #![tactic(auto)]
 
 mod caption;
 mod counter;
+mod plays;
+mod seen;
 mod view;
 mod watch;
+mod watching;
 
 pub use caption::caption_of;
+pub use plays::{first_text, plays_of, script_law};
+pub use seen::{Seen, Watcher};
 pub use view::{View, view_run};
+pub use watching::watch_run;

@@ -1,15 +1,15 @@
 // What a picture shows of a run.
 ghost use Rattle.std.specs.Prelude.{◌≡◌, ◌<◌, ◌^◌, ◌-◌, length, slice_index_or, map, fold, IfOk, IfErr};
-ghost use Rattle.run_lines.specs.Plays.{HasUnitAt, HaveUnits};
+ghost use Rattle.run_view.specs.Plays.{HasUnitAt, HaveUnits};
 ghost use Rattle.run_view.specs.Views.{declared_line, played_text, Views};
-ghost use Rattle.run_lines.specs.Saids.{said_of};
+ghost use Rattle.run_view.specs.Saids.{said_of};
 ghost use Rattle.trace_reader.specs.Grammar.{Refuses};
 
 use crate::counter::Counter;
 use crate::watch::Watch;
+use crate::{Seen, plays_of, watch_run};
 use drive_pictures::line_of;
 use picture_sheet::Note;
-use run_lines::{Seen, plays_of, watch_run};
 use run_picture::{Column, Run, Window};
 use script_reader::{Script, Statement, Stored};
 use std::alloc::{AllocError, Global};

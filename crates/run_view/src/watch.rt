@@ -1,9 +1,9 @@
 // A run is seen, and the lines that name a drive are noted.
 
 use crate::counter::Counter;
+use crate::{Seen, Watcher};
 use pack_geometry::DriveKind;
 use picture_sheet::Note;
-use run_lines::{Seen, Watcher};
 use run_picture::{Run, Window};
 use std::alloc::{AllocError, Global};
 use std::marker::Model;
@@ -29,7 +29,7 @@ impl<'a> Model for Watch<'a> {
 
 impl<'a> Watch<'a> {
     ghost use Rattle.std.specs.Prelude.{◌≡◌, ◌<◌, ◌++◌, map, OnOk, IfOk};
-    ghost use Rattle.run_lines.specs.Saids.{said_of};
+    ghost use Rattle.run_view.specs.Saids.{said_of};
     ghost use Rattle.run_picture.specs.Fold.{declared, finished};
     ghost use Rattle.run_view.specs.Notes.{noted_of, note_at};
     ghost use Rattle.run_view.specs.Watched.{new_watched};

@@ -1,9 +1,9 @@
 -- Lines of a unit or an adapter alone.
 use Rattle.std.proofs.Common.{◌≡◌, ◌⊎◌, inl, inr, ℕ, List, refl, sym, subst, Result, Ok, Err}
-use Rattle.script_words.specs.declared.kinds.ScriptKind.{ScriptKind}
-use Rattle.script_words.specs.declared.verbs.Verb.{Verb}
-use Rattle.script_words.specs.declared.verbs.Verb.TheVariants as verbs
-use Rattle.script_words.specs.Fields.{and_then}
+use Rattle.script_lines.specs.declared.kinds.ScriptKind.{ScriptKind}
+use Rattle.script_lines.specs.declared.verbs.Verb.{Verb}
+use Rattle.script_lines.specs.declared.verbs.Verb.TheVariants as verbs
+use Rattle.script_lines.specs.Fields.{and_then}
 use Rattle.script_lines.specs.declared.statement.Span.{Span}
 use Rattle.script_lines.specs.declared.statement.Statement.{Statement}
 use Rattle.script_lines.specs.declared.statement.Statement.TheVariants as says

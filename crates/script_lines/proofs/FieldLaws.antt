@@ -1,7 +1,7 @@
 -- One field of a line.
 use Rattle.std.proofs.Common.{◌≡◌, ℕ, List, ◌∷◌, sym, ap, ◌∙◌, Result, Ok, Err}
-use Rattle.script_words.specs.declared.kinds.ScriptKind.{ScriptKind}
-use Rattle.script_words.specs.Fields.{and_then}
+use Rattle.script_lines.specs.declared.kinds.ScriptKind.{ScriptKind}
+use Rattle.script_lines.specs.Fields.{and_then}
 use Rattle.script_lines.specs.Forms.{field, Parses}
 
 -- what a reader says of the first field is what the form of one field says

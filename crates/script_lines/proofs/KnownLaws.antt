@@ -7,7 +7,7 @@ use Rattle.std.proofs.lemmas.List.Sums.{sum_by-append}
 use Rattle.pack_geometry.specs.declared.DriveKind.{DriveKind}
 use Rattle.script_lines.specs.declared.statement.Span.{Span}
 use Rattle.script_lines.specs.declared.statement.Statement.TheVariants as says
-use Rattle.script_words.specs.declared.verbs.Verb.{Verb}
+use Rattle.script_lines.specs.declared.verbs.Verb.{Verb}
 use Rattle.script_lines.specs.Known.{Known, Said, Numbered, known_of, kind_in, kind_after, has_id, verb_of, declares, requests, strikes}
 use Rattle.script_lines.specs.Knowing.{Learns, one}
 use Rattle.script_lines.specs.Renamed.{read_of}

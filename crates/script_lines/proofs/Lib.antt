@@ -1,3 +1,5 @@
+pub mod Results
+pub mod WordLaws
 pub mod AloneLaws
 pub mod FieldLaws
 pub mod KnownLaws

@@ -8,12 +8,12 @@ use Rattle.fire_code.specs.Noise.{IsNoise}
 use Rattle.mass_text.specs.Numbers.{number_of}
 use Rattle.mass_text.specs.declared.numbers.Radix.TheVariants.{Decimal}
 use Rattle.mass_text.specs.declared.numbers.NumberFault.{NumberFault}
-use Rattle.script_words.specs.declared.kinds.ScriptKind.{ScriptKind}
-use Rattle.script_words.specs.declared.kinds.ScriptKind.TheVariants.{Bits}
-use Rattle.script_words.specs.Fields.{and_then, or_kind, place_field}
+use Rattle.script_lines.specs.declared.kinds.ScriptKind.{ScriptKind}
+use Rattle.script_lines.specs.declared.kinds.ScriptKind.TheVariants.{Bits}
+use Rattle.script_lines.specs.Fields.{and_then, or_kind, place_field}
 use Rattle.script_lines.specs.Places.{numbers_of, ahead, is_rising, are_noise}
 use Rattle.script_lines.specs.Forms.{noise_or, places_form}
-use Rattle.script_words.proofs.Results.{same_Err}
+use Rattle.script_lines.proofs.Results.{same_Err}
 
 -- RISING places are strictly increasing, and the other way round.
 rising_first : (low p : ℕ) (ps : List ℕ) → is_rising low (p ∷ ps) ≡ true → (low ≤ p) × (is_rising (p + 1) ps ≡ true)

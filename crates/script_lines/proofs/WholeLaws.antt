@@ -3,11 +3,11 @@ use Rattle.std.proofs.Common.{◌≡◌, ℕ, List, [], ◌∷◌, refl, sym, ap
 use Rattle.std.specs.Prelude.{MatchResult}
 use Rattle.script_lines.specs.declared.fault.LineFault.{LineFault}
 use Rattle.script_lines.specs.declared.fault.LineFault.TheVariants.{Memory, Kind}
-use Rattle.script_words.specs.declared.kinds.ScriptKind.{ScriptKind}
-use Rattle.script_words.specs.Fields.{and_then, changed}
+use Rattle.script_lines.specs.declared.kinds.ScriptKind.{ScriptKind}
+use Rattle.script_lines.specs.Fields.{and_then, changed}
 use Rattle.script_lines.specs.Forms.{Form, mapped, none_left, whole, Parses, said}
 use Rattle.script_lines.specs.Struck.{Answers}
-use Rattle.script_words.proofs.Results.{same_Ok, same_Err, err-ok}
+use Rattle.script_lines.proofs.Results.{same_Ok, same_Err, err-ok}
 
 left_named : {A B : Type 0} (name : A → B) (a : A) (rest : List (List ℕ)) → changed name (none_left (a, rest)) ≡ none_left (name a, rest)
 left_named name a [] = refl

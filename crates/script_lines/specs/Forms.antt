@@ -4,15 +4,15 @@ use Rattle.std.specs.Str.{bytes_eq}
 use Rattle.pack_geometry.specs.Geometry.{block_count, sectors_of}
 use Rattle.hardware_table.specs.declared.NoiseSpan.{NoiseSpan}
 use Rattle.hardware_table.specs.declared.NoiseSpan.TheVariants.{Times, Until}
-use Rattle.script_words.specs.declared.kinds.ScriptKind.{ScriptKind}
-use Rattle.script_words.specs.declared.kinds.ScriptKind.TheVariants.{Word, Bits, LateUnit, TooMany}
+use Rattle.script_lines.specs.declared.kinds.ScriptKind.{ScriptKind}
+use Rattle.script_lines.specs.declared.kinds.ScriptKind.TheVariants.{Word, Bits, LateUnit, TooMany}
 use Rattle.script_lines.specs.declared.statement.Content.{Content}
 use Rattle.script_lines.specs.declared.statement.Content.TheVariants as contents
 use Rattle.script_lines.specs.declared.statement.Request.{Request}
 use Rattle.script_lines.specs.declared.statement.Statement.TheVariants as says
-use Rattle.script_words.specs.declared.verbs.Verb.{Verb}
-use Rattle.script_words.specs.declared.verbs.Verb.TheVariants as verbs
-use Rattle.script_words.specs.Fields.{and_then, number_field, kind_field, part_field, offset_field, fault_field, count_field, byte_field, seq_field, digits_field}
+use Rattle.script_lines.specs.declared.verbs.Verb.{Verb}
+use Rattle.script_lines.specs.declared.verbs.Verb.TheVariants as verbs
+use Rattle.script_lines.specs.Fields.{and_then, number_field, kind_field, part_field, offset_field, fault_field, count_field, byte_field, seq_field, digits_field}
 use Rattle.script_lines.specs.Known.{Known, Said, declares, is_full, new_unit_field, unit_field, id_field}
 use Rattle.script_lines.specs.Places.{numbers_of, are_noise}
 

@@ -5,11 +5,11 @@ use Rattle.pack_geometry.specs.declared.DriveKind.{DriveKind}
 use Rattle.script_lines.specs.declared.statement.Line.{Line}
 use Rattle.script_lines.specs.declared.statement.Statement.{Statement}
 use Rattle.script_lines.specs.declared.statement.Statement.TheVariants as says
-use Rattle.script_words.specs.declared.verbs.Verb.{Verb}
-use Rattle.script_words.specs.declared.verbs.Verb.TheVariants as verbs
-use Rattle.script_words.specs.declared.kinds.ScriptKind.{ScriptKind}
-use Rattle.script_words.specs.declared.kinds.ScriptKind.TheVariants.{UnitUnknown, UnitTwice, IdTwice}
-use Rattle.script_words.specs.Fields.{and_then, number_field}
+use Rattle.script_lines.specs.declared.verbs.Verb.{Verb}
+use Rattle.script_lines.specs.declared.verbs.Verb.TheVariants as verbs
+use Rattle.script_lines.specs.declared.kinds.ScriptKind.{ScriptKind}
+use Rattle.script_lines.specs.declared.kinds.ScriptKind.TheVariants.{UnitUnknown, UnitTwice, IdTwice}
+use Rattle.script_lines.specs.Fields.{and_then, number_field}
 
 -- what a line says, with the digits of a write and the places of a noise themselves
 abbrev pub Said : Type 0

@@ -1,3 +1,6 @@
+pub mod Fields
+pub mod Refusals
+pub mod Words
 pub mod Forms
 pub mod Knowing
 pub mod Known

@@ -1,7 +1,7 @@
 -- The places of a noise.
 use Rattle.std.specs.Prelude.{ℕ, ◌+◌, ◌&&◌, nat_le, Bool, true, List, [], ◌∷◌, ◌++◌, length, Result, Ok}
-use Rattle.script_words.specs.declared.kinds.ScriptKind.{ScriptKind}
-use Rattle.script_words.specs.Fields.{and_then, place_field}
+use Rattle.script_lines.specs.declared.kinds.ScriptKind.{ScriptKind}
+use Rattle.script_lines.specs.Fields.{and_then, place_field}
 
 abbrev pub numbers_of : List (List ℕ) → Result (List ℕ) ScriptKind
 numbers_of [] = Ok []

@@ -2,7 +2,7 @@
 use Rattle.std.specs.Prelude.{◌≡◌, Result, Ok, Err}
 use Rattle.script_lines.specs.declared.fault.LineFault.TheVariants.{Memory, Kind}
 use Rattle.script_lines.specs.declared.fault.LineFault.{LineFault}
-use Rattle.script_words.specs.declared.kinds.ScriptKind.{ScriptKind}
+use Rattle.script_lines.specs.declared.kinds.ScriptKind.{ScriptKind}
 use Rattle.script_lines.specs.declared.forms.Struck.{Struck}
 use Rattle.script_lines.specs.declared.statement.Statement.TheVariants as says
 use Rattle.script_lines.specs.Known.{Said}

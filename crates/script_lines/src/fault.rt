@@ -1,4 +1,4 @@
-use script_words::ScriptKind;
+use crate::ScriptKind;
 
 /// Why a line was not read.
 #[derive(Clone, Copy, Debug, PartialEq, Eq)]

@@ -1,5 +1,5 @@
 ghost use Rattle.std.specs.Prelude.{◌≡◌, ◌≢◌, ◌∷◌, IfOk, MatchResult, ◌≤◌, codes};
-ghost use Rattle.script_words.specs.Fields.{changed, number_field};
+ghost use Rattle.script_lines.specs.Fields.{changed, number_field};
 ghost use Rattle.script_lines.specs.Struck.{struck_as, Answers};
 ghost use Rattle.script_lines.specs.Forms.{ends, mapped, next, field, option, both_form, start_form, last_form, tail_form, content_form, span_form, unit_form, read_form, write_form, turn_form, noise_form, fault_form, form_of, unit_number_form, adapter_form, of_unit, of_adapter, Parses, none_left, whole, too_late, said};
 ghost use Rattle.script_lines.specs.Knowing.{known_in};
@@ -14,11 +14,11 @@ use crate::parts::{
 };
 use crate::places::places;
 use crate::statement::{Content, Request, Span, Statement};
+use crate::{ScriptKind, Verb, is_word, need, number_field};
 use fire_code::Noise;
 use hardware_table::NoiseSpan;
 use mass_text::Fields;
 use pack_geometry::{blocks, geometry_of};
-use script_words::{ScriptKind, Verb, is_word, need, number_field};
 use std::alloc::Global;
 
 /// What a line says, as it is read: the digits of a write are those of the line at a place of the text.

@@ -1,11 +1,11 @@
 ghost use Rattle.std.specs.Prelude.{◌≡◌, ◌<◌, ◌≤◌, ◌+◌, ◌==◌, ◌||◌, ℕ, true, false, if◌then◌else◌, OnOk};
 ghost use Rattle.script_lines.specs.Known.{new_unit_field, unit_field, id_field, is_full};
-ghost use Rattle.script_words.specs.Fields.{number_field};
+ghost use Rattle.script_lines.specs.Fields.{number_field};
 ghost use Rattle.script_lines.specs.Knowing.{known_in, Learns};
 
 use crate::statement::Statement;
+use crate::{ScriptKind, Verb, number_field};
 use pack_geometry::DriveKind;
-use script_words::{ScriptKind, Verb, number_field};
 use std::alloc::{AllocFailed, Global};
 use std::collections::BTreeSet;
 

@@ -1,20 +1,20 @@
 // Fields that are read off the front of a line: each is one field, and a missing one is a fault of words.
 ghost use Rattle.std.specs.Prelude.{◌≤◌, IfOk};
-ghost use Rattle.script_words.specs.Fields.{number_field, count_field, kind_field, part_field, offset_field, fault_field, byte_field, seq_field, digits_field, changed};
+ghost use Rattle.script_lines.specs.Fields.{number_field, count_field, kind_field, part_field, offset_field, fault_field, byte_field, seq_field, digits_field, changed};
 ghost use Rattle.script_lines.specs.Known.{new_unit_field, unit_field, id_field};
 ghost use Rattle.script_lines.specs.Knowing.{known_in};
 ghost use Rattle.script_lines.specs.Forms.{field, mapped, Parses};
 
 use crate::known::Known;
+use crate::{
+    ScriptKind, byte_field, check_digits, count_field, fault_field, kind_field, number_field,
+    offset_field, part_field, seq_field,
+};
 use drive_registers::OffsetCode;
 use hardware_table::FaultKind;
 use mass_text::Fields;
 use pack_geometry::DriveKind;
 use partitions::Part;
-use script_words::{
-    ScriptKind, byte_field, check_digits, count_field, fault_field, kind_field, number_field,
-    offset_field, part_field, seq_field,
-};
 
 /// A decimal number from `low` to `high`.
 #[tactic(auto, using(crate::proofs::FieldLaws::field_read))]

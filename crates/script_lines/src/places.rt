@@ -1,12 +1,12 @@
 ghost use Rattle.std.specs.Prelude.{◌∷◌, [], ◌≤◌};
-ghost use Rattle.script_words.specs.Fields.{and_then};
+ghost use Rattle.script_lines.specs.Fields.{and_then};
 ghost use Rattle.script_lines.specs.Places.{ahead};
 ghost use Rattle.script_lines.specs.Forms.{noise_or, places_form, Parses};
 
+use crate::{ScriptKind, need, place_field};
 use arrayvec::ArrayVec;
 use fire_code::Noise;
 use mass_text::Fields;
-use script_words::{ScriptKind, need, place_field};
 
 /// The places of a noise from its first one on.
 fn places_from(first: u16, fields: &mut Fields) -> Result<Noise, ScriptKind>

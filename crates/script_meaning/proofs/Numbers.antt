@@ -1,6 +1,6 @@
 -- The lines that bytes spell are numbered upwards.
 use Rattle.std.proofs.Common.{◌≡◌, ℕ, ◌+◌, ◌≤◌, List, [], ◌∷◌, ◌++◌, length, map, sym, subst, ◌∙◌, arith, append_assoc, append-nil, Option, None, Some}
-use Rattle.script_words.specs.declared.verbs.Verb.{Verb}
+use Rattle.script_lines.specs.declared.verbs.Verb.{Verb}
 use Rattle.script_reader.specs.Grammar.{more, SayTheRest, Spells}
 use Rattle.script_lines.specs.Known.{Said, Numbered}
 use Rattle.script_reader.specs.Lines.{lines_of}

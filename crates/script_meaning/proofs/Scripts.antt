@@ -8,16 +8,16 @@ use Rattle.std.proofs.lemmas.List.Elements.{All-nil, All-cons}
 use Rattle.pack_geometry.specs.declared.DriveKind.{DriveKind}
 use Rattle.hardware_table.specs.declared.NoiseSpan.{NoiseSpan}
 use Rattle.hardware_table.specs.declared.NoiseSpan.TheVariants.{Times, Until}
-use Rattle.script_words.specs.declared.kinds.ScriptKind.TheVariants.{LateUnit}
+use Rattle.script_lines.specs.declared.kinds.ScriptKind.TheVariants.{LateUnit}
 use Rattle.script_lines.specs.declared.statement.Content.{Content}
 use Rattle.script_lines.specs.declared.statement.Request.{Request as Asked}
 use Rattle.script_lines.specs.declared.statement.Statement.TheVariants as says
-use Rattle.script_words.specs.declared.verbs.Verb.TheVariants as verbs
+use Rattle.script_lines.specs.declared.verbs.Verb.TheVariants as verbs
 use Rattle.script_reader.specs.Formed.{IsAsked, IsWritten, IsSpan as IsSpanSaid, IsInRange, IsWell, AreWell, learned}
 use Rattle.script_lines.specs.Forms.{too_late}
 use Rattle.script_lines.specs.Known.{Known, Said, Numbered, verb_of, kind_after, has_id, known_of, is_full, declares as is_unit}
 use Rattle.script_reader.specs.Stored.{lines_in}
-use Rattle.script_words.specs.Words.{all_verbs}
+use Rattle.script_lines.specs.Words.{all_verbs}
 use Rattle.script_reader.proofs.WellLaws.{spelled_well}
 use Rattle.subsystem_spec.specs.Requests.{IsRequest}
 use Rattle.trace_replay.specs.Script.{Line, declares, IsPlayed, ArePlays, IsFirst, AreUnitsFirst, with_id, ids_of, AreApart, IsThere, IsSpan, IsStatement, drives_in, drives_of, declared_by}

@@ -3,13 +3,13 @@ use Rattle.std.specs.Prelude.{◌≡◌, ◌↔◌, ℕ, ◌*◌, Bool, true, Li
 use Rattle.pack_geometry.specs.declared.DriveKind.{DriveKind}
 use Rattle.script_lines.specs.declared.statement.Content.{Content}
 use Rattle.script_lines.specs.declared.statement.Statement.TheVariants as says
-use Rattle.script_words.specs.declared.verbs.Verb.{Verb}
+use Rattle.script_lines.specs.declared.verbs.Verb.{Verb}
 use Rattle.script_reader.specs.Data.{IsData}
 use Rattle.script_reader.specs.Formed.{IsWritten}
 use Rattle.script_reader.specs.Grammar.{Spells}
 use Rattle.script_lines.specs.Known.{Said, Numbered}
 use Rattle.script_reader.specs.Stored.{Stored, lines_in}
-use Rattle.script_words.specs.Words.{all_verbs}
+use Rattle.script_lines.specs.Words.{all_verbs}
 use Rattle.trace_replay.specs.Script.{Statement, Line, Script, IsScript, drives_of}
 use Rattle.trace_rows.specs.Rows1.{first_read_script}
 use Rattle.script_meaning.specs.Meaning.{bytes_of, meaning, meaning_of}

@@ -22,22 +22,22 @@ use Rattle.mass_text.specs.BlockText.{hex_digit, hex_byte}
 use Rattle.mass_text.specs.Pieces.{pieces}
 use Rattle.mass_text.specs.declared.numbers.Radix.TheVariants.{Decimal}
 use Rattle.mass_text.proofs.NumberLaws.{length-numeral-le}
-use Rattle.script_words.specs.declared.kinds.ScriptKind.{ScriptKind}
-use Rattle.script_words.specs.declared.kinds.ScriptKind.TheVariants.{Word, TooMany, LineLong}
+use Rattle.script_lines.specs.declared.kinds.ScriptKind.{ScriptKind}
+use Rattle.script_lines.specs.declared.kinds.ScriptKind.TheVariants.{Word, TooMany, LineLong}
 use Rattle.script_lines.specs.declared.statement.Content.{Content}
 use Rattle.script_lines.specs.declared.statement.Content.TheVariants as contents
 use Rattle.script_lines.specs.declared.statement.Request.{Request}
 use Rattle.script_lines.specs.declared.statement.Statement.TheVariants as says
-use Rattle.script_words.specs.declared.verbs.Verb.{Verb}
-use Rattle.script_words.specs.declared.verbs.Verb.TheVariants as verbs
-use Rattle.script_words.specs.Fields.{and_then, some_or}
+use Rattle.script_lines.specs.declared.verbs.Verb.{Verb}
+use Rattle.script_lines.specs.declared.verbs.Verb.TheVariants as verbs
+use Rattle.script_lines.specs.Fields.{and_then, some_or}
 use Rattle.script_reader.specs.Formed.{IsDeclared, IsAsked, IsWritten, IsSpan, IsInRange, IsWell, AreWell, learned}
 use Rattle.script_lines.specs.Forms.{none_left, whole, form_of, unless, said}
 use Rattle.script_reader.specs.Grammar.{entry, is_comment, line_says, SayTheRest, Spells}
 use Rattle.script_lines.specs.Known.{Known, Said, Numbered, verb_of, known_of}
 use Rattle.script_reader.specs.Lines.{lines_of, without_cr}
 use Rattle.script_reader.specs.Printing.{number, start_fields, tail_fields, content_fields, span_fields, fields_of, spaced, line_text, text_of, numbered}
-use Rattle.script_words.specs.Words.{named, verb_word, all_verbs, part_word}
+use Rattle.script_lines.specs.Words.{named, verb_word, all_verbs, part_word}
 use Rattle.trace_replay.specs.Text.{offset_word, fault_word}
 use Rattle.script_reader.proofs.FormLaws.{form_back, last_fields}
 use Rattle.script_lines.proofs.KnownLaws.{known_more}

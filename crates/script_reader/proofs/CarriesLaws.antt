@@ -7,20 +7,20 @@ use Rattle.hex.specs.Hex.{is_hex_digit}
 use Rattle.mass_text.specs.Pieces.{pieces}
 use Rattle.pack_geometry.specs.declared.DriveKind.{DriveKind}
 use Rattle.pack_geometry.specs.Geometry.{block_count, sectors_of}
-use Rattle.script_words.specs.declared.kinds.ScriptKind.{ScriptKind}
-use Rattle.script_words.specs.declared.kinds.ScriptKind.TheVariants.{Word, Data, TooMany, LineLong}
+use Rattle.script_lines.specs.declared.kinds.ScriptKind.{ScriptKind}
+use Rattle.script_lines.specs.declared.kinds.ScriptKind.TheVariants.{Word, Data, TooMany, LineLong}
 use Rattle.script_lines.specs.declared.statement.Content.{Content}
 use Rattle.script_lines.specs.declared.statement.Content.TheVariants as contents
 use Rattle.script_lines.specs.declared.statement.Request.{Request}
 use Rattle.script_lines.specs.declared.statement.Statement.TheVariants as says
-use Rattle.script_words.specs.declared.verbs.Verb.{Verb}
-use Rattle.script_words.specs.declared.verbs.Verb.TheVariants as verbs
-use Rattle.script_words.specs.Fields.{some_or, number_field, kind_field, part_field, fault_field, count_field, byte_field, seq_field, digits_field}
+use Rattle.script_lines.specs.declared.verbs.Verb.{Verb}
+use Rattle.script_lines.specs.declared.verbs.Verb.TheVariants as verbs
+use Rattle.script_lines.specs.Fields.{some_or, number_field, kind_field, part_field, fault_field, count_field, byte_field, seq_field, digits_field}
 use Rattle.script_lines.specs.Known.{new_unit_field, unit_field, id_field, Known, Said}
 use Rattle.script_lines.specs.Forms.{Form, gives, next, field, whole, none_left, content_by, content_form, start_form, tail_form, span_form, places_form, write_form, form_of, unit_number_form, adapter_form, unless, too_late, said}
 use Rattle.script_reader.specs.Grammar.{entry, is_comment, line_says}
-use Rattle.script_words.specs.Words.{named, verb_word}
-use Rattle.script_words.proofs.Results.{same_Ok, err-ok, then_ok}
+use Rattle.script_lines.specs.Words.{named, verb_word}
+use Rattle.script_lines.proofs.Results.{same_Ok, err-ok, then_ok}
 
 -- a fault that is not there
 pub if_err : {A : Type 0} (test : Bool) (kind : ScriptKind) (x : Result A ScriptKind) (a : A) → (if test then Err kind else x) ≡ Ok a → x ≡ Ok a

@@ -3,17 +3,17 @@ use Rattle.std.proofs.Common.{◌≡◌, ℕ, List, ◌∷◌, refl, ap, ◌∙�
 use Rattle.std.specs.Option.{option_map}
 use Rattle.script_lines.specs.declared.fault.LineFault.{LineFault}
 use Rattle.script_lines.specs.declared.fault.LineFault.TheVariants.{Memory, Kind}
-use Rattle.script_words.specs.declared.kinds.ScriptKind.{ScriptKind}
-use Rattle.script_words.specs.declared.kinds.ScriptKind.TheVariants.{Word}
+use Rattle.script_lines.specs.declared.kinds.ScriptKind.{ScriptKind}
+use Rattle.script_lines.specs.declared.kinds.ScriptKind.TheVariants.{Word}
 use Rattle.script_lines.specs.declared.statement.Span.{Span}
-use Rattle.script_words.specs.declared.verbs.Verb.{Verb}
-use Rattle.script_words.specs.Fields.{and_then, changed, some_or}
+use Rattle.script_lines.specs.declared.verbs.Verb.{Verb}
+use Rattle.script_lines.specs.Fields.{and_then, changed, some_or}
 use Rattle.script_lines.specs.Forms.{said}
 use Rattle.script_reader.specs.Grammar.{entry}
 use Rattle.script_lines.specs.Known.{Known, Said}
 use Rattle.script_lines.specs.Renamed.{read_of}
 use Rattle.script_lines.specs.Struck.{Answers}
-use Rattle.script_words.specs.Words.{named, verb_word}
+use Rattle.script_lines.specs.Words.{named, verb_word}
 
 some_named : (span : Span) (res : Result Said ScriptKind) → changed (option_map (read_of span)) (and_then res (λ s. Ok (Some s))) ≡ and_then (changed (read_of span) res) (λ r. Ok (Some r))
 some_named span (Ok s) = refl

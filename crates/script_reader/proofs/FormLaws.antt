@@ -24,23 +24,23 @@ use Rattle.mass_text.specs.declared.numbers.Radix.TheVariants.{Decimal}
 use Rattle.mass_text.specs.declared.numbers.NumberFault.{NumberFault}
 use Rattle.mass_text.specs.declared.numbers.NumberFault.TheVariants.{Digit}
 use Rattle.mass_text.proofs.NumberLaws.{number_of-numeral}
-use Rattle.script_words.specs.declared.kinds.ScriptKind.{ScriptKind}
-use Rattle.script_words.specs.declared.kinds.ScriptKind.TheVariants.{Number, IdTwice, Count, Data, Bits}
+use Rattle.script_lines.specs.declared.kinds.ScriptKind.{ScriptKind}
+use Rattle.script_lines.specs.declared.kinds.ScriptKind.TheVariants.{Number, IdTwice, Count, Data, Bits}
 use Rattle.script_lines.specs.declared.statement.Content.{Content}
 use Rattle.script_lines.specs.declared.statement.Content.TheVariants as contents
 use Rattle.script_lines.specs.declared.statement.Request.{Request}
 use Rattle.script_lines.specs.declared.statement.Statement.TheVariants as says
-use Rattle.script_words.specs.Fields.{and_then, or_kind, number_field, kind_field, part_field, offset_field, fault_field, counted, count_field, byte_field, seq_field, digits_field, place_field}
+use Rattle.script_lines.specs.Fields.{and_then, or_kind, number_field, kind_field, part_field, offset_field, fault_field, counted, count_field, byte_field, seq_field, digits_field, place_field}
 use Rattle.script_lines.specs.Known.{fresh, new_unit_field, old, unit_field, id_field, Known, Said, verb_of}
 use Rattle.script_lines.specs.Places.{numbers_of}
 use Rattle.script_reader.specs.Formed.{IsDrive, IsDeclared, IsAsked, IsWritten, IsSpan, IsInRange}
 use Rattle.script_lines.specs.Forms.{Form, gives, ends, next, field, option, last_form, tail_form, start_form, content_form, span_form, noise_or, places_form, unit_number_form, adapter_form, form_of}
 use Rattle.script_reader.specs.Printing.{number, start_fields, tail_fields, content_fields, span_fields, fields_of}
-use Rattle.script_words.specs.Words.{part_word}
+use Rattle.script_lines.specs.Words.{part_word}
 use Rattle.trace_replay.specs.Text.{offset_word, fault_word}
-use Rattle.script_words.proofs.Results.{err-ok}
+use Rattle.script_lines.proofs.Results.{err-ok}
 use Rattle.script_lines.proofs.PlacesLaws.{noise_read}
-use Rattle.script_words.proofs.WordLaws.{kind_of_word, part_of_word}
+use Rattle.script_lines.proofs.WordLaws.{kind_of_word, part_of_word}
 
 -- ONE FIELD and then a form
 pub stepped : {A B : Type 0} (reads : List ℕ → Result A ScriptKind) (rest : A → Form B) (text : List ℕ) (fields : List (List ℕ)) (a : A) → reads text ≡ Ok a → next (field reads) rest (text ∷ fields) ≡ rest a fields

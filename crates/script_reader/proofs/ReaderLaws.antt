@@ -4,11 +4,11 @@ use Rattle.std.specs.Prelude.{slice_range}
 use Rattle.std.specs.Option.{option_map}
 use Rattle.std.proofs.lemmas.List.{take-take, drop-drop, length-take}
 use Rattle.mass_text.specs.Pieces.{pieces}
-use Rattle.script_words.specs.declared.kinds.ScriptKind.{ScriptKind}
+use Rattle.script_lines.specs.declared.kinds.ScriptKind.{ScriptKind}
 use Rattle.script_lines.specs.declared.statement.Span.{Span}
 use Rattle.script_lines.specs.declared.statement.Statement.{Statement}
-use Rattle.script_words.specs.declared.verbs.Verb.{Verb}
-use Rattle.script_words.specs.Fields.{changed}
+use Rattle.script_lines.specs.declared.verbs.Verb.{Verb}
+use Rattle.script_lines.specs.Fields.{changed}
 use Rattle.script_reader.specs.Grammar.{line_says, more}
 use Rattle.script_lines.specs.Known.{Known, Said, Numbered, known_of}
 use Rattle.script_lines.specs.Knowing.{Learns, LearnsFrom}

@@ -2,16 +2,16 @@
 use Rattle.std.proofs.Common.{◌≡◌, ◌⊎◌, inl, inr, ℕ, ◌+◌, ◌<◌, ◌≤◌, List, [], ◌∷◌, ◌++◌, length, refl, sym, ap, ◌∙◌, arith, Option, Result, Ok, Err}
 use Rattle.std.specs.Prelude.{nat_lt, if◌then◌else◌}
 use Rattle.std.proofs.lemmas.Bool.Decides.{nat_tests}
-use Rattle.script_words.specs.declared.kinds.ScriptKind.{ScriptKind}
-use Rattle.script_words.specs.declared.kinds.ScriptKind.TheVariants.{ScriptLong}
+use Rattle.script_lines.specs.declared.kinds.ScriptKind.{ScriptKind}
+use Rattle.script_lines.specs.declared.kinds.ScriptKind.TheVariants.{ScriptLong}
 use Rattle.script_reader.specs.declared.fault.ReadFault.{ReadFault}
 use Rattle.script_reader.specs.declared.fault.ReadFault.TheVariants.{Memory, Refused}
-use Rattle.script_words.specs.declared.verbs.Verb.{Verb}
+use Rattle.script_lines.specs.declared.verbs.Verb.{Verb}
 use Rattle.script_lines.specs.Known.{Said, Numbered, known_of}
 use Rattle.script_reader.specs.Lines.{lines_of}
 use Rattle.script_reader.specs.Grammar.{line_says, more, SayTheRest, Spells, FirstFault, IsRefused}
 use Rattle.script_reader.specs.Reading.{Refusal, Read, on, reading, Finds, Refuses}
-use Rattle.script_words.proofs.Results.{same_Ok, same_Err, err-ok}
+use Rattle.script_lines.proofs.Results.{same_Ok, same_Err, err-ok}
 
 -- what comes next gave a value, or a fault
 on_ok : {A B C E : Type 0} (res : Result A B) (f : A → Result C E) (g : B → E) (c : C) → on res f (λ b. Err (g b)) ≡ Ok c → (a : A) × (res ≡ Ok a) × (f a ≡ Ok c)

@@ -19,23 +19,23 @@ use Rattle.mass_text.specs.declared.numbers.Radix.{Radix}
 use Rattle.mass_text.specs.declared.numbers.Radix.TheVariants.{Decimal}
 use Rattle.mass_text.specs.declared.numbers.NumberFault.{NumberFault}
 use Rattle.mass_text.specs.declared.numbers.NumberFault.TheVariants.{Empty, Digit, Large}
-use Rattle.script_words.specs.declared.kinds.ScriptKind.{ScriptKind}
-use Rattle.script_words.specs.declared.kinds.ScriptKind.TheVariants.{Word, Number, IdTwice, UnitTwice, UnitUnknown, Count, Data, Bits, TooMany, LineLong}
+use Rattle.script_lines.specs.declared.kinds.ScriptKind.{ScriptKind}
+use Rattle.script_lines.specs.declared.kinds.ScriptKind.TheVariants.{Word, Number, IdTwice, UnitTwice, UnitUnknown, Count, Data, Bits, TooMany, LineLong}
 use Rattle.script_lines.specs.declared.statement.Content.TheVariants as contents
 use Rattle.script_lines.specs.declared.statement.Request.{Request}
 use Rattle.script_lines.specs.declared.statement.Statement.TheVariants as says
-use Rattle.script_words.specs.declared.verbs.Verb.{Verb}
-use Rattle.script_words.specs.declared.verbs.Verb.TheVariants as verbs
-use Rattle.script_words.specs.Fields.{and_then, changed, or_kind, some_or, number_field, kind_field, part_field, offset_field, fault_field, counted, count_field, byte_field, seq_field, digits_field, place_field}
+use Rattle.script_lines.specs.declared.verbs.Verb.{Verb}
+use Rattle.script_lines.specs.declared.verbs.Verb.TheVariants as verbs
+use Rattle.script_lines.specs.Fields.{and_then, changed, or_kind, some_or, number_field, kind_field, part_field, offset_field, fault_field, counted, count_field, byte_field, seq_field, digits_field, place_field}
 use Rattle.script_lines.specs.Known.{fresh, new_unit_field, old, unit_field, id_field, Known, Said, Numbered, verb_of, known_of}
 use Rattle.script_lines.specs.Places.{numbers_of, are_noise}
 use Rattle.script_reader.specs.Formed.{IsDrive, IsDeclared, AreTimes, IsAsked, IsWritten, IsSpan, IsInRange, IsWell, AreWell}
 use Rattle.script_lines.specs.Forms.{Form, gives, ends, fails, next, field, option, mapped, last_form, tail_form, start_form, content_by, content_form, span_form, noise_or, places_form, unit_number_form, adapter_form, form_of, none_left, whole, unless, too_late, said}
 use Rattle.script_reader.specs.Grammar.{entry, is_comment, line_says, more, SayTheRest, Spells}
 use Rattle.script_reader.specs.Lines.{lines_of}
-use Rattle.script_words.specs.Words.{named, verb_word}
+use Rattle.script_lines.specs.Words.{named, verb_word}
 use Rattle.script_reader.proofs.BackLaws.{learned_more}
-use Rattle.script_words.proofs.Results.{same_Ok, err-ok, then_ok}
+use Rattle.script_lines.proofs.Results.{same_Ok, err-ok, then_ok}
 use Rattle.script_reader.proofs.CarriesLaws.{if_err, Gives, gives_it, whole_ok, same_Some, none-some, comment}
 use Rattle.script_lines.proofs.PlacesLaws.{AreSmall, is_noise}
 

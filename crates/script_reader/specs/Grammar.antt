@@ -2,14 +2,14 @@
 -- the words that lines may have.
 use Rattle.std.specs.Prelude.{◌≡◌, ◌⊎◌, ℕ, ◌+◌, ◌<◌, ◌≤◌, ◌==◌, nat_lt, Bool, if◌then◌else◌, List, [], ◌∷◌, ◌++◌, length, slice_index, Option, None, Some, Result, Ok, Err}
 use Rattle.mass_text.specs.Pieces.{pieces}
-use Rattle.script_words.specs.declared.kinds.ScriptKind.{ScriptKind}
-use Rattle.script_words.specs.declared.kinds.ScriptKind.TheVariants.{Word, TooMany, LineLong, ScriptLong}
-use Rattle.script_words.specs.declared.verbs.Verb.{Verb}
-use Rattle.script_words.specs.Fields.{and_then, some_or}
+use Rattle.script_lines.specs.declared.kinds.ScriptKind.{ScriptKind}
+use Rattle.script_lines.specs.declared.kinds.ScriptKind.TheVariants.{Word, TooMany, LineLong, ScriptLong}
+use Rattle.script_lines.specs.declared.verbs.Verb.{Verb}
+use Rattle.script_lines.specs.Fields.{and_then, some_or}
 use Rattle.script_lines.specs.Forms.{said}
 use Rattle.script_lines.specs.Known.{Known, Said, Numbered, known_of}
 use Rattle.script_reader.specs.Lines.{lines_of}
-use Rattle.script_words.specs.Words.{named, verb_word}
+use Rattle.script_lines.specs.Words.{named, verb_word}
 
 -- ONE LINE. What fields say; a line with none is passed over
 abbrev pub entry : List Verb → Known → List (List ℕ) → Result (Option Said) ScriptKind

@@ -1,4 +1,4 @@
-use script_words::ScriptKind;
+use script_lines::ScriptKind;
 use std::alloc::AllocFailed;
 use thiserror::Error;
 

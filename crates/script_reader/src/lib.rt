@@ -15,5 +15,4 @@ mod script;
 
 pub use fault::ReadFault;
 pub use script::{Script, Stored, grammar_law, read_back_law, read_script};
-pub use script_lines::{Content, Line, Request, Span, Statement};
-pub use script_words::{ScriptKind, Verb};
+pub use script_lines::{Content, Line, Request, ScriptKind, Span, Statement, Verb};

@@ -1,9 +1,9 @@
 ghost use Rattle.std.specs.Prelude.{◌≡◌, ◌⊎◌, ◌<◌, ◌≤◌, ◌+◌, ℕ, List, Ok, Some, IfOk, IfErr, OnOk, length, map, []};
 ghost use Rattle.std.specs.Option.{option_map};
-ghost use Rattle.script_words.specs.declared.kinds.ScriptKind.{ScriptKind};
-ghost use Rattle.script_words.specs.declared.verbs.Verb.{Verb};
+ghost use Rattle.script_lines.specs.declared.kinds.ScriptKind.{ScriptKind};
+ghost use Rattle.script_lines.specs.declared.verbs.Verb.{Verb};
 ghost use Rattle.script_reader.specs.Data.{IsData};
-ghost use Rattle.script_words.specs.Fields.{and_then, changed};
+ghost use Rattle.script_lines.specs.Fields.{and_then, changed};
 ghost use Rattle.script_reader.specs.Grammar.{entry, line_says, Spells, IsRefused};
 ghost use Rattle.script_reader.specs.Formed.{AreWell};
 ghost use Rattle.script_lines.specs.Known.{Said, Numbered, known_of};
@@ -14,7 +14,7 @@ ghost use Rattle.script_reader.specs.Reading.{reading, Finds, Refuses};
 ghost use Rattle.script_lines.specs.Struck.{Answers};
 ghost use Rattle.script_lines.specs.Renamed.{content_by, renamed, read_of};
 ghost use Rattle.script_reader.specs.Stored.{digits_at, seen, lines_in, StoresRead, Stores};
-ghost use Rattle.script_words.specs.Words.{all_verbs};
+ghost use Rattle.script_lines.specs.Words.{all_verbs};
 ghost use Rattle.std.specs.Box.{box_value};
 
 use crate::data::{decode, fill, sequence};
@@ -22,8 +22,9 @@ use crate::fault::ReadFault;
 use crate::lines::{first_piece, without_cr};
 use fire_code::Noise;
 use mass_text::Fields;
-use script_lines::{Content, Known, Line, LineFault, Read, Span, Statement, said};
-use script_words::{ScriptKind, verb};
+use script_lines::{
+    Content, Known, Line, LineFault, Read, ScriptKind, Span, Statement, said, verb,
+};
 use std::alloc::Global;
 use std::marker::Model;
 

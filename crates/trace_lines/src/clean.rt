@@ -5,7 +5,7 @@ ghost use Rattle.trace_replay.specs.Moments.{Sector};
 ghost use Rattle.trace_replay.specs.Text.{moment_text};
 ghost use Rattle.trace_lines.specs.Deeds.{in_front};
 
-use text_lines::FrontLine;
+use mass_text::FrontLine;
 
 /// How many bytes a line has at most.
 const END: usize = 64;

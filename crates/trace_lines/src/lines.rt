@@ -7,8 +7,8 @@ ghost use Rattle.trace_lines.specs.Deeds.{deed_of};
 use crate::pieces::ROOM;
 use crate::telling::Told;
 use crate::words::{put_first, put_last, put_number};
+use mass_text::put_piece;
 use std::marker::Model;
-use text_lines::put_piece;
 
 /// The text of a line of a trace.
 #[derive(Drop)]

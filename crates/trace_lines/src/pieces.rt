@@ -2,7 +2,7 @@
 ghost use Rattle.std.specs.Prelude.{◌≡◌, ◌<◌, ◌≤◌, ◌+◌, ◌∷◌, [], length, drop, decimal};
 ghost use Rattle.trace_lines.specs.Deeds.{in_front};
 
-use text_lines::{put_byte, put_digits};
+use mass_text::{put_byte, put_digits};
 
 /// How long a line is at most.
 pub(crate) const ROOM: usize = 160;

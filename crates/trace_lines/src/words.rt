@@ -11,8 +11,7 @@ use crate::pieces::{ROOM, put_spaced};
 use crate::telling::Told;
 use drive_registers::OffsetCode;
 use hardware_table::{FaultKind, Moved};
-use mass_text::{LineBuf, Radix, numeral_law};
-use text_lines::{put_byte, put_piece};
+use mass_text::{LineBuf, Radix, numeral_law, put_byte, put_piece};
 
 /// The word of an offset.
 fn offset_word(code: OffsetCode) -> &'static str

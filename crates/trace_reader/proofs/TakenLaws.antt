@@ -1,6 +1,6 @@
 -- One word that was taken, in front of those behind it.
 use Rattle.std.proofs.Common.{◌≡◌, ℕ, List, [], ◌∷◌, refl, sym, ap, ◌∙◌, Result, Ok, Err}
-use Rattle.script_words.specs.Fields.{and_then}
+use Rattle.script_lines.specs.Fields.{and_then}
 use Rattle.trace_reader.specs.declared.fault.TraceKind.{TraceKind}
 use Rattle.trace_reader.specs.Reading.{Form, first}
 use Rattle.trace_reader.specs.Taken.{one, Takes}

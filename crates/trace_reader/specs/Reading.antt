@@ -9,10 +9,10 @@ use Rattle.hardware_table.specs.declared.Moved.TheVariants as verdict
 use Rattle.mass_text.specs.Numbers.{number_of}
 use Rattle.mass_text.specs.declared.numbers.Radix.{Radix}
 use Rattle.mass_text.specs.declared.numbers.Radix.TheVariants.{Octal, Decimal}
-use Rattle.script_words.specs.Fields.{and_then, changed}
+use Rattle.script_lines.specs.Fields.{and_then, changed}
 use Rattle.script_reader.specs.Reading.{on}
 use Rattle.script_reader.specs.Stored.{Stored}
-use Rattle.script_words.specs.Words.{named, offsets}
+use Rattle.script_lines.specs.Words.{named, offsets}
 use Rattle.trace_lines.specs.declared.telling.Told.{Told}
 use Rattle.trace_lines.specs.declared.telling.Told.TheVariants as told
 use Rattle.trace_reader.specs.declared.fault.TraceKind.{TraceKind}

@@ -9,7 +9,7 @@ use crate::fault::TraceKind;
 use crate::line::TraceLine;
 use crate::verbs::{Command, Verb};
 use crate::words::{Words, plain_verdict, verb};
-use script_words::is_word;
+use script_lines::is_word;
 use trace_lines::Told;
 
 /// The largest cylinder, sector, and block of any drive.

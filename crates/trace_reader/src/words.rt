@@ -9,7 +9,7 @@ use crate::verbs::{Command, Verb};
 use drive_registers::OffsetCode;
 use hardware_table::Moved;
 use mass_text::{Radix, number};
-use script_words::{fault_in, is_word, offset_in};
+use script_lines::{fault_in, is_word, offset_in};
 use std::marker::Model;
 
 /// The words of a line, one after another: what stands between single blanks.

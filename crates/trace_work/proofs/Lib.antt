@@ -13,3 +13,16 @@ pub mod KnownLines
 pub mod KnownScript
 pub mod Answered
 pub mod Going
+pub mod Totals
+pub mod Lives
+pub mod Failing
+pub mod Numbers
+pub mod Costs
+pub mod Units
+pub mod Idle
+pub mod Drain
+pub mod Packs
+pub mod Commands
+pub mod Words
+pub mod Runs
+pub mod Tells

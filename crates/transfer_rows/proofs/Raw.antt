@@ -8,9 +8,9 @@ use Rattle.pack_geometry.specs.declared.DriveKind.{DriveKind}
 use Rattle.pack_geometry.specs.declared.DriveKind.TheVariants.{Rp06, Rm03, Rm05}
 use Rattle.partitions.specs.declared.Part.TheVariants.{B}
 use Rattle.block_machine.specs.Machine.{Blocks}
-use Rattle.partition_bytes.specs.Laid.{laid, laid_at}
-use Rattle.partition_bytes.specs.Bytes.{blocks_for, dump_place, dumped, with_bytes, with_range}
-use Rattle.partition_bytes.proofs.Ranges.{laid_over_none}
+use Rattle.waited_requests.specs.Laid.{laid, laid_at}
+use Rattle.waited_requests.specs.Bytes.{blocks_for, dump_place, dumped, with_bytes, with_range}
+use Rattle.waited_requests.proofs.Ranges.{laid_over_none}
 use Rattle.raw_io.specs.Passes.{kind_at, map_at}
 use Rattle.raw_io.specs.Pieces.{start_of}
 use Rattle.transfer_rows.specs.Raw.{DrainEndsEarly, ReadComesFromThePack, DriveIsOffline, WriteBeforeItsLines, DoneInBlocks, DumpAtTheFront, OutsideByOne, EdgeWithoutItsBytes}

@@ -1,11 +1,12 @@
 -- Wrong outcomes of the cache.
 use Rattle.std.specs.Prelude.{◌≡◌, ◌≢◌, ℕ, ◌-◌, ◌^◌, ◌<◌, true, IsTrue, List, [], ◌∷◌, Option, None, Some}
 use Rattle.waited_requests.specs.Rest.{HasTables}
-use Rattle.cached_blocks.specs.declared.Entry.{Entry}
-use Rattle.cached_blocks.specs.Requests.{writes}
-use Rattle.cached_blocks.specs.Entries.{State, entry_of, put}
-use Rattle.cached_blocks.specs.Contents.{AllFit}
-use Rattle.buffer_cache.specs.Passes.{Asks, Fetches, Stage, map_at, setup_at}
+use Rattle.waited_requests.specs.declared.cached.Entry.{Entry}
+use Rattle.waited_requests.specs.Requests.{writes}
+use Rattle.waited_requests.specs.Entries.{State, entry_of, put}
+use Rattle.waited_requests.specs.Contents.{AllFit}
+use Rattle.buffer_cache.specs.Asks.{Asks, Fetches}
+use Rattle.buffer_cache.specs.Passes.{Stage, map_at, setup_at}
 use Rattle.buffer_cache.specs.Calls.{Reads, Syncs}
 
 -- A CHANGED ENTRY IS DROPPED UNWRITTEN: a read put it out, and its pack does not hold its bytes.

@@ -7,7 +7,7 @@ use Rattle.partitions.specs.declared.Admission.TheVariants.{Inside}
 use Rattle.subsystem_spec.specs.Requests.{Request, WriteOk}
 use Rattle.trace_replay.specs.Script.{Numbered, Script, drives_of, inputs_of}
 use Rattle.block_machine.specs.Machine.{Blocks}
-use Rattle.cached_blocks.specs.Entries.{State}
+use Rattle.waited_requests.specs.Entries.{State}
 use Rattle.cached_script.specs.declared.statement.Line.{Line}
 use Rattle.cached_script.specs.declared.statement.Statement.TheVariants as says
 use Rattle.cached_script.specs.Formed.{IsScript}

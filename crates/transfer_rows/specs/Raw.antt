@@ -10,7 +10,7 @@ use Rattle.driver_machine.specs.Guards.{IsSetUp}
 use Rattle.driver_machine.specs.World.{Held, slot_at, unit_at}
 use Rattle.waited_requests.specs.Rest.{HasTables}
 use Rattle.waited_requests.specs.Waited.{answer_in}
-use Rattle.partition_bytes.specs.Bytes.{IsOutside, dumped, dump_place}
+use Rattle.waited_requests.specs.Bytes.{IsOutside, dumped, dump_place}
 use Rattle.raw_io.specs.declared.fault.RawFault.{RawFault}
 use Rattle.raw_io.specs.declared.fault.RawFault.TheVariants.{Outside}
 use Rattle.raw_io.specs.Passes.{Answers, IsReady, MoveFails, Stage, State, kind_at, map_at, setup_at}

@@ -32,14 +32,14 @@ use Rattle.block_machine.proofs.Homes.{home_is, there_is}
 use Rattle.block_machine.proofs.Ends.{EndsAs, due_ends}
 use Rattle.block_machine.proofs.Kept.{moment_kept}
 use Rattle.block_machine.proofs.Steps.{moment_step}
-use Rattle.trace_calm.specs.Calm.{IsGood, IsCalm, is_calm_verdict, is_calm_stage}
-use Rattle.trace_calm.proofs.Calm.{stays_calm, runs_stay_calm}
+use Rattle.waited_requests.specs.Calm.{IsGood, IsCalm, is_calm_verdict, is_calm_stage}
+use Rattle.waited_requests.proofs.CalmLaws.{stays_calm, runs_stay_calm}
 use Rattle.waited_requests.specs.Sessions.{Part, behind, waited, told_in}
 use Rattle.waited_requests.specs.Waited.{map_of, first_in, answer_in, IsWaitedFor}
 use Rattle.waited_requests.specs.Cleans.{MovedClean, done_by, DoneMovesClean}
 use Rattle.waited_requests.proofs.Restful.{no, rest_keeps, rest_stands}
 use Rattle.waited_requests.proofs.Parts.{numbered, PartStep, part_step, step, first_keeps, first_stands}
-use Rattle.waited_requests.proofs.Waited.{answers_append, lines_calm, begun_calm, is_answered}
+use Rattle.waited_requests.proofs.WaitedLaws.{answers_append, lines_calm, begun_calm, is_answered}
 
 -- ---- lists
 head_there : {A : Type 0} (x : A) (xs : List A) → Contains (x ∷ xs) x

@@ -16,7 +16,7 @@ use Rattle.trace_replay.specs.Packs.{surface_of}
 use Rattle.trace_replay.specs.Conversation.{Waiting, not_begun, goes_on}
 use Rattle.trace_replay.specs.Events.{Act, Done, Refusing, Arriving, Trying, Serving, NothingToDo}
 use Rattle.trace_replay.specs.Replay.{Replay}
-use Rattle.trace_bounds.proofs.Idle.{unit_is, idle_fits, starts_idle}
+use Rattle.trace_work.proofs.Idle.{unit_is, idle_fits, starts_idle}
 use Rattle.block_machine.specs.Machine.{Blocks, idle}
 use Rattle.block_machine.specs.Stands.{Setup, home_at, home_in, held_at, IsLive, is_sure_among, UnitStands, QueueStands, StandsFor}
 use Rattle.block_machine.proofs.Hands.{begins}

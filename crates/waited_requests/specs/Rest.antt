@@ -6,10 +6,10 @@ use Rattle.pack_model.specs.Pack as model
 use Rattle.pack_model.specs.PackTable.{AreTablesOf}
 use Rattle.trace_replay.specs.Events.{NoLine}
 use Rattle.trace_replay.specs.Replay.{Replay, next_wish}
-use Rattle.trace_bounds.specs.Drains.{IsIdle}
+use Rattle.trace_work.specs.Drains.{IsIdle}
 use Rattle.block_machine.specs.Machine.{kind_of}
 use Rattle.block_machine.specs.Stands.{Setup, start_over}
-use Rattle.trace_calm.specs.Calm.{IsCalm}
+use Rattle.waited_requests.specs.Calm.{IsCalm}
 
 pub record IsAtRest (setup : Setup) (s : Replay) : Type 0 where
   pub kinds : (unit : ℕ) → (s.units unit).drive.kind ≡ kind_of setup.drives unit

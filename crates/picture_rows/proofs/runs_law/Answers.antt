@@ -2,7 +2,7 @@ use Rattle.std.proofs.Common.{◌≡◌, ℕ, ◌+◌, ◌-◌, ◌==◌, ◌<�
 use Rattle.std.proofs.lemmas.Bool.Decides.{nat_tests}
 use Rattle.drive_pictures.specs.Events.{line_of}
 use Rattle.run_picture.specs.declared.columns.Window.{Window}
-use Rattle.run_lines.specs.Runs.{up_to}
+use Rattle.run_view.specs.Runs.{up_to}
 use Rattle.run_view.specs.Notes.{Noted, note_at}
 use Rattle.picture_rows.proofs.runs_law.Goals as goal
 

@@ -1,5 +1,5 @@
 use Rattle.std.proofs.Common.{rules, arith, replicate}
-use Rattle.block_polls.proofs.PollLaws.{on_err}
+use Rattle.block_tests.proofs.PollLaws.{on_err}
 use Rattle.block_tests.specs.Stages.{IsTested}
 use Rattle.block_tests.proofs.StageLaws.{range_reached, ranged_more, ranged_none}
 use Rattle.block_tests.proofs.StopLaws.{at_error, stop_range}

@@ -1,6 +1,6 @@
 use Rattle.std.proofs.Common.{◌≤◌, IsTrue, replicate}
 use Rattle.block_tests.specs.Stages.{Fills, ranged}
-use Rattle.block_polls.specs.Stations.{IsAtRest}
+use Rattle.block_tests.specs.Stations.{IsAtRest}
 use Rattle.block_tests.proofs.testing.test_blocks.Given as goal
 
 -- the blocks so far were tested

@@ -1,5 +1,5 @@
 use Rattle.std.proofs.Common.{◌≡◌, ℕ, List, refl}
-use Rattle.block_polls.proofs.PollLaws.{on_err}
+use Rattle.block_tests.proofs.PollLaws.{on_err}
 use Rattle.block_tests.proofs.StageLaws.{on_err_any, on_ok_any, fills_then_same, holds_clean, stops_done, stops_write}
 use Rattle.block_tests.proofs.testing.write_and_read.Goals as goal
 

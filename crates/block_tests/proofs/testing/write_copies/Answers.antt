@@ -1,5 +1,5 @@
 use Rattle.std.proofs.Common.{rules, arith}
-use Rattle.block_polls.proofs.PollLaws.{on_err}
+use Rattle.block_tests.proofs.PollLaws.{on_err}
 use Rattle.block_tests.proofs.CopyLaws.{copies_more, copies_none, copies_reached}
 use Rattle.block_tests.proofs.StopLaws.{at_error, stop_copies}
 use Rattle.block_tests.proofs.testing.write_copies.Goals as goal

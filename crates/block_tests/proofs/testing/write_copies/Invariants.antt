@@ -1,6 +1,6 @@
 use Rattle.std.proofs.Common.{◌≤◌, IsTrue}
 use Rattle.block_tests.specs.Stages.{Fills, copied}
-use Rattle.block_polls.specs.Stations.{IsAtRest}
+use Rattle.block_tests.specs.Stations.{IsAtRest}
 use Rattle.block_tests.proofs.testing.write_copies.Given as goal
 
 -- the copies so far have the bytes

@@ -1,4 +1,4 @@
-use Rattle.driver_outcome.specs.declared.Stop.{Stop}
+use Rattle.driver_answers.specs.declared.outcome.Stop.{Stop}
 use Rattle.hp_driver.specs.Passes.{input_of}
 use Rattle.blocking_io.specs.Calls.{stage, telling, EventStops}
 use Rattle.blocking_io.proofs.Calling.{event_given, event_sent, event_halts, event_fails, event_unsent}

@@ -2,14 +2,14 @@ use Rattle.std.proofs.Common.{◌≡◌, ◌≤◌, ◌<◌, ℕ, IsTrue, [], re
 use Rattle.std.specs.Prelude.{None, Some, false, slice_set, slice_index_or}
 use Rattle.std.proofs.lemmas.List.{get_or_default}
 use Rattle.waited_requests.specs.Rest.{HasTables}
-use Rattle.single_blocks.specs.Passes.{Stage}
-use Rattle.single_blocks.specs.Passes.{setup_at}
-use Rattle.single_blocks.specs.Passes.{site}
-use Rattle.single_blocks.proofs.Passes.{on_err, keeps_none, keeps_join}
-use Rattle.cached_blocks.specs.Requests.{writes}
-use Rattle.cached_blocks.specs.Entries.{if_changed, write_backs}
-use Rattle.single_blocks.specs.Asks.{Asks, LeftBy}
-use Rattle.single_blocks.proofs.Joins.{asks_none}
+use Rattle.buffer_cache.specs.Passes.{Stage}
+use Rattle.buffer_cache.specs.Passes.{setup_at}
+use Rattle.buffer_cache.specs.Passes.{site}
+use Rattle.buffer_cache.proofs.Passes.{on_err, keeps_none, keeps_join}
+use Rattle.waited_requests.specs.Requests.{writes}
+use Rattle.waited_requests.specs.Entries.{if_changed, write_backs}
+use Rattle.buffer_cache.specs.Asks.{Asks, LeftBy}
+use Rattle.buffer_cache.proofs.Joins.{asks_none}
 use Rattle.buffer_cache.specs.declared.entry.Key.{Key}
 use Rattle.buffer_cache.specs.declared.entry.Held.{Held}
 use Rattle.buffer_cache.specs.Views.{nothing, entry_with, state_of}

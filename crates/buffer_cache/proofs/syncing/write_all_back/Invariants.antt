@@ -1,5 +1,5 @@
 use Rattle.std.specs.Prelude.{None}
-use Rattle.single_blocks.specs.Passes.{site, Keeps}
+use Rattle.buffer_cache.specs.Passes.{site, Keeps}
 use Rattle.buffer_cache.proofs.Turns.{Flushing}
 use Rattle.buffer_cache.proofs.syncing.write_all_back.Given as goal
 

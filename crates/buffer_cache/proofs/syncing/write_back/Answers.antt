@@ -1,10 +1,10 @@
 use Rattle.std.proofs.Common.{sym, subst}
 use Rattle.std.specs.Prelude.{None, Some, if◌then◌else◌}
-use Rattle.single_blocks.specs.Passes.{Stage}
-use Rattle.single_blocks.specs.Passes.{site}
-use Rattle.cached_blocks.specs.Entries.{write_backs}
-use Rattle.single_blocks.specs.Asks.{Asks}
-use Rattle.single_blocks.proofs.Joins.{asks_none}
+use Rattle.buffer_cache.specs.Passes.{Stage}
+use Rattle.buffer_cache.specs.Passes.{site}
+use Rattle.waited_requests.specs.Entries.{write_backs}
+use Rattle.buffer_cache.specs.Asks.{Asks}
+use Rattle.buffer_cache.proofs.Joins.{asks_none}
 use Rattle.buffer_cache.specs.Views.{entry_with}
 use Rattle.buffer_cache.proofs.syncing.write_back.Goals as goal
 

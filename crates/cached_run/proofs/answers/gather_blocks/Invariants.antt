@@ -1,7 +1,7 @@
 use Rattle.std.proofs.Common.{◌≡◌, take}
 use Rattle.std.specs.Prelude.{Ok}
 use Rattle.outside_traits.specs.declared.traits.SinkFailed.{SinkFailed}
-use Rattle.mass_gather.specs.Gathers.{Gathers}
+use Rattle.outside_traits.specs.Gathers.{Gathers}
 use Rattle.answer_lines.specs.AnswerText.{block_texts}
 use Rattle.cached_run.proofs.answers.gather_blocks.Given as goal
 

@@ -1,7 +1,7 @@
 use Rattle.std.proofs.Common.{◌≡◌, [], ◌++◌, refl, ap, subst, ◌∙◌, append-nil}
 use Rattle.outside_traits.specs.Puts.{Puts}
-use Rattle.mass_gather.specs.Gathers.{Gathers}
-use Rattle.mass_gather.proofs.GatherLaws.{gathers_join, gathers_whole}
+use Rattle.outside_traits.specs.Gathers.{Gathers}
+use Rattle.outside_traits.proofs.GatherLaws.{gathers_join, gathers_whole}
 use Rattle.subsystem_spec.specs.Answers.{answer_of}
 use Rattle.answer_lines.specs.AnswerText.{answer_line}
 use Rattle.answer_lines.specs.Blocks.{joined}

@@ -1,5 +1,5 @@
 use Rattle.std.proofs.Common.{◌≡◌, ◌≤◌, IsTrue}
-use Rattle.hp_core.specs.Setups.{setups_of}
+use Rattle.event_player.specs.Passes.{setups_of}
 use Rattle.event_player.proofs.Passes.{AreAttached}
 use Rattle.event_player.proofs.AttachLaws.{AreTold}
 use Rattle.cached_run.specs.Lines.{lines_before}

@@ -5,8 +5,8 @@ use Rattle.subsystem_spec.specs.declared.answers.AnswerKind.TheVariants.{ReadOk}
 use Rattle.driver_machine.specs.World.{World}
 use Rattle.run_stops.specs.Passes.{State}
 use Rattle.answer_lines.specs.AnswerText.{block_text, block_texts}
-use Rattle.answer_tally.specs.Counting.{Counts}
-use Rattle.answer_tally.proofs.CountLaws.{counts_none, counts_same}
+use Rattle.answer_lines.specs.Counting.{Counts}
+use Rattle.answer_lines.proofs.CountLaws.{counts_none, counts_same}
 use Rattle.event_player.specs.Answering.{HasBlock, first_blocks, first_rest}
 use Rattle.event_player.specs.Saying.{side}
 use Rattle.event_player.proofs.AnswerLaws.{has_block, read_is, rest_is, blocks_more, blocks_stop}

@@ -3,8 +3,8 @@ use Rattle.driver_machine.specs.World.{World}
 use Rattle.run_stops.specs.Passes.{input_of}
 use Rattle.run_stops.specs.Passes.{State, Comes}
 use Rattle.driver_answers.specs.Waiting.{waiting}
-use Rattle.answer_tally.specs.declared.tally.Tally.{Tally}
-use Rattle.answer_tally.specs.Counting.{Counts}
+use Rattle.answer_lines.specs.declared.tally.Tally.{Tally}
+use Rattle.answer_lines.specs.Counting.{Counts}
 use Rattle.event_player.specs.declared.play.PlayFault.TheVariants as faults
 use Rattle.event_player.specs.Faults.{from_stop}
 use Rattle.event_player.specs.Saying.{side}

@@ -3,7 +3,7 @@ use Rattle.fire_code.specs.Noise.{IsNoise, Classes}
 use Rattle.trace_replay.specs.Moments.{Played}
 use Rattle.trace_replay.specs.Script.{Noise as NoiseInput}
 use Rattle.answer_lines.specs.AnswerText.{said_text}
-use Rattle.answer_tally.proofs.CountLaws.{counts_same}
+use Rattle.answer_lines.proofs.CountLaws.{counts_same}
 use Rattle.event_player.specs.Saying.{side, Says}
 use Rattle.event_player.proofs.player.say_noise.Goals as goal
 

@@ -1,11 +1,11 @@
 use Rattle.std.proofs.Common.{rules, ◌≡◌, Result, Err, ap, refl, subst}
 use Rattle.script_reader.specs.Grammar.{Spells}
 use Rattle.script_reader.specs.Stored.{lines_in}
-use Rattle.script_words.specs.Words.{all_verbs}
+use Rattle.script_lines.specs.Words.{all_verbs}
 use Rattle.script_meaning.specs.Meaning.{meaning_of}
 use Rattle.hp_exercise.specs.Exercise.{script_text}
 use Rattle.outside_traits.specs.Causes.{Rose}
-use Rattle.answer_tally.specs.declared.tally.Tally.{Tally}
+use Rattle.answer_lines.specs.declared.tally.Tally.{Tally}
 use Rattle.event_player.specs.declared.play.PlayFault.{PlayFault}
 use Rattle.exercise_run.specs.Room.{faults_of}
 use Rattle.exercise_run.specs.Exercises.{exercise_script}

@@ -2,7 +2,7 @@ use Rattle.std.proofs.Common.{sym, subst}
 use Rattle.request_slots.specs.declared.asked.Asked.{Asked}
 use Rattle.request_slots.specs.Requests.{IsHeldFor}
 use Rattle.hp_driver.specs.Subsystem.{asked}
-use Rattle.hp_core.specs.Joins.{MayJoin}
+use Rattle.hp_events.specs.Passes.{MayJoin}
 use Rattle.hp_driver.proofs.Room.{may_join}
 use Rattle.hp_driver.proofs.Asking.{held_there, asks_joined}
 use Rattle.hp_driver.proofs.submission.join.Goals as goal

@@ -1,7 +1,7 @@
 use Rattle.std.proofs.Common.{sym, subst}
 use Rattle.std.specs.Prelude.{IsSome}
 use Rattle.driver_machine.specs.World.{slot_at}
-use Rattle.driver_work.proofs.Deeds.{in_hand_is}
+use Rattle.driver_invariant.proofs.Deeds.{in_hand_is}
 use Rattle.hp_events.proofs.Facts.{hand_there}
 use Rattle.hp_events.proofs.deeds.asked_in_hand.Goals as goal
 

@@ -1,7 +1,7 @@
 use Rattle.std.proofs.Common.{ap, sym, subst, refl, ◌∙◌, Option}
 use Rattle.std.specs.Prelude.{IsSome}
 use Rattle.driver_machine.specs.World.{Held, slot_at}
-use Rattle.driver_work.proofs.Deeds.{head_of}
+use Rattle.driver_invariant.proofs.Deeds.{head_of}
 use Rattle.hp_events.proofs.hand.id_in_hand.Goals as goal
 
 pub asked-requires : goal.asked-requires

@@ -3,7 +3,7 @@ use Rattle.pack_geometry.specs.declared.DriveKind.{DriveKind}
 use Rattle.pack_geometry.specs.Geometry.{block_count}
 use Rattle.request_slots.specs.declared.asked.Asked.{Asked}
 use Rattle.driver_machine.specs.World.{unit_at}
-use Rattle.driver_work.proofs.Deeds.{in_hand_is}
+use Rattle.driver_invariant.proofs.Deeds.{in_hand_is}
 use Rattle.hp_events.proofs.Facts.{first_below}
 use Rattle.hp_events.proofs.starts.target.Goals as goal
 

@@ -1,6 +1,6 @@
 use Rattle.std.proofs.Common.{refl, sym}
 use Rattle.event_player.specs.declared.play.PlayFault.TheVariants as faults
-use Rattle.script_words.specs.Words.{all_verbs}
+use Rattle.script_lines.specs.Words.{all_verbs}
 use Rattle.script_reader.specs.Grammar.{IsRefused}
 use Rattle.script_reader.specs.Stored.{lines_in}
 use Rattle.script_meaning.specs.Meaning.{meaning}

@@ -1,4 +1,4 @@
-use Rattle.script_words.specs.Words.{all_verbs}
+use Rattle.script_lines.specs.Words.{all_verbs}
 use Rattle.hpsim_run.proofs.LoadLaws.{play_by_front, play_found, play_no_fault, refused_all}
 use Rattle.hpsim_run.proofs.load.load.Goals as goal
 

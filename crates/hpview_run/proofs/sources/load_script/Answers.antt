@@ -1,6 +1,6 @@
 use Rattle.std.proofs.Common.{List, ℕ, subst, ◌∙◌}
 use Rattle.script_reader.specs.Reading.{Refuses}
-use Rattle.script_words.specs.Words.{all_verbs}
+use Rattle.script_lines.specs.Words.{all_verbs}
 use Rattle.hpview_run.proofs.LoadLaws.{read_refuses}
 use Rattle.hpview_run.proofs.sources.load_script.Goals as goal
 

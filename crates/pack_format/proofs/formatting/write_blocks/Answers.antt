@@ -1,5 +1,5 @@
 use Rattle.std.proofs.Common.{◌≡◌, IsTrue, length, arith}
-use Rattle.block_polls.proofs.PollLaws.{on_err}
+use Rattle.block_tests.proofs.PollLaws.{on_err}
 use Rattle.block_tests.proofs.StageLaws.{on_err_then, on_ok_then}
 use Rattle.pack_format.specs.Formatted.{IsFormatted, IsPartly}
 use Rattle.block_tests.proofs.StopLaws.{at_error}

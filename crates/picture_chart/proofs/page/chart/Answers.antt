@@ -1,5 +1,5 @@
 use Rattle.std.proofs.Common.{◌∙◌, ap}
-use Rattle.chart_lines.specs.Charts.{text_of}
+use Rattle.picture_chart.specs.Charts.{text_of}
 use Rattle.picture_chart.proofs.PageLaws.{both_ok, page_is}
 use Rattle.picture_chart.proofs.page.chart.Goals as goal
 

@@ -1,7 +1,7 @@
 use Rattle.std.proofs.Common.{◌≤◌, ◌+◌, ◌-◌, ◌*◌, ◌∙◌, take, drop, true, None, refl, sym, subst, arith, rules}
 use Rattle.partitions.specs.declared.Part.TheVariants.{B}
 use Rattle.partitions.specs.Partitions.{size_of}
-use Rattle.partition_bytes.specs.Bytes.{dumped}
+use Rattle.waited_requests.specs.Bytes.{dumped}
 use Rattle.request_fronts.specs.Passes.{Stage}
 use Rattle.request_fronts.specs.Sites.{site, kind_at}
 use Rattle.raw_io.specs.Pieces.{IsPiece}

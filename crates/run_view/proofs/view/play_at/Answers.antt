@@ -1,4 +1,4 @@
-use Rattle.run_lines.proofs.SeeLaws.{said_here}
+use Rattle.run_view.proofs.SeeLaws.{said_here}
 use Rattle.run_view.proofs.view.play_at.Goals as goal
 
 pub returns : goal.returns

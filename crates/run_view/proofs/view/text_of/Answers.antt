@@ -1,8 +1,8 @@
 use Rattle.std.proofs.Common.{◌≡◌, ◌<◌, ◌==◌, true, false, List, map, length, arith, sym, ◌∙◌}
 use Rattle.std.proofs.lemmas.Bool.Decides.{nat_tests}
 use Rattle.drive_pictures.specs.Events.{line_of}
-use Rattle.run_lines.specs.Saids.{Said, said_of}
-use Rattle.run_lines.proofs.SeeLaws.{inside_all}
+use Rattle.run_view.specs.Saids.{Said, said_of}
+use Rattle.run_view.proofs.SeeLaws.{inside_all}
 use Rattle.run_view.proofs.TextLaws.{text_found, text_more}
 use Rattle.run_view.proofs.view.text_of.Goals as goal
 

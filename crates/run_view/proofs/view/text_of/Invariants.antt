@@ -1,5 +1,5 @@
 use Rattle.std.proofs.Common.{◌≡◌, ◌-◌, length, map, drop}
-use Rattle.run_lines.specs.Saids.{said_of}
+use Rattle.run_view.specs.Saids.{said_of}
 use Rattle.run_view.specs.Views.{played_text}
 use Rattle.run_view.proofs.view.text_of.Given as goal
 

@@ -1,7 +1,7 @@
 use Rattle.std.proofs.Common.{List, map, fold, ap, ◌∙◌, subst}
-use Rattle.run_lines.specs.declared.seen.Seen.{Seen}
-use Rattle.run_lines.specs.Runs as runs
-use Rattle.run_lines.specs.Saids.{said_of}
+use Rattle.run_view.specs.declared.seen.Seen.{Seen}
+use Rattle.run_view.specs.Runs as runs
+use Rattle.run_view.specs.Saids.{said_of}
 use Rattle.run_picture.specs.declared.columns.Column.{Column}
 use Rattle.run_picture.specs.Columns.{window_of}
 use Rattle.run_view.specs.declared.counter.Counter.{Counter}

@@ -1,6 +1,6 @@
 use Rattle.std.proofs.Common.{sym, ap, ◌∙◌, Result}
-use Rattle.script_words.specs.declared.kinds.ScriptKind.{ScriptKind}
-use Rattle.script_words.specs.Fields.{changed}
+use Rattle.script_lines.specs.declared.kinds.ScriptKind.{ScriptKind}
+use Rattle.script_lines.specs.Fields.{changed}
 use Rattle.script_lines.specs.Forms.{noise_form, whole}
 use Rattle.script_lines.specs.Knowing.{known_in}
 use Rattle.script_lines.specs.Known.{Said}
@@ -8,7 +8,7 @@ use Rattle.script_lines.specs.Renamed.{read_of}
 use Rattle.script_lines.specs.declared.forms.Struck.{Struck}
 use Rattle.script_lines.specs.declared.fault.LineFault.{LineFault}
 use Rattle.script_lines.specs.Struck.{struck_as}
-use Rattle.script_words.proofs.Results.{ok_before}
+use Rattle.script_lines.proofs.Results.{ok_before}
 use Rattle.script_lines.proofs.WholeLaws.{held_answers}
 use Rattle.script_lines.proofs.forms.noise.Goals as goal
 

@@ -1,6 +1,6 @@
 use Rattle.std.proofs.Common.{[], ◌∷◌, refl, sym, ap}
 use Rattle.std.proofs.lemmas.Result.{err_from_is_err_and}
-use Rattle.script_words.specs.Fields.{and_then}
+use Rattle.script_lines.specs.Fields.{and_then}
 use Rattle.script_lines.specs.Places.{ahead}
 use Rattle.script_lines.specs.Forms.{noise_or, places_form}
 use Rattle.script_lines.proofs.PlacesLaws.{ahead_start, start_fault}

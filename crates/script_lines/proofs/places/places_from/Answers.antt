@@ -1,7 +1,7 @@
 use Rattle.std.proofs.Common.{◌≡◌, ℕ, List, [], sym, ap, subst, ◌∙◌, arith, Result, Ok}
 use Rattle.fire_code.specs.Noise.{IsNoise}
-use Rattle.script_words.specs.declared.kinds.ScriptKind.{ScriptKind}
-use Rattle.script_words.specs.Fields.{and_then}
+use Rattle.script_lines.specs.declared.kinds.ScriptKind.{ScriptKind}
+use Rattle.script_lines.specs.Fields.{and_then}
 use Rattle.script_lines.specs.Places.{ahead}
 use Rattle.script_lines.specs.Forms.{noise_or}
 use Rattle.script_lines.proofs.PlacesLaws.{AreSmall, small_more, ahead_more, ahead_full, ahead_end, noise_read, noise_refused, is_full}

@@ -1,5 +1,5 @@
 use Rattle.std.proofs.Common.{◌≡◌, ◌<◌, ◌∷◌, [], length}
-use Rattle.script_words.specs.Fields.{and_then}
+use Rattle.script_lines.specs.Fields.{and_then}
 use Rattle.script_lines.specs.Places.{ahead}
 use Rattle.script_lines.specs.Forms.{noise_or}
 use Rattle.script_lines.proofs.PlacesLaws.{AreSmall}

@@ -1,17 +1,17 @@
 use Rattle.std.proofs.Common.{List, ℕ, sym, subst, ◌∙◌, Option, Result, Ok, Some}
 use Rattle.std.specs.Option.{option_map}
 use Rattle.script_lines.specs.declared.fault.LineFault.{LineFault}
-use Rattle.script_words.specs.declared.kinds.ScriptKind.{ScriptKind}
+use Rattle.script_lines.specs.declared.kinds.ScriptKind.{ScriptKind}
 use Rattle.script_lines.specs.declared.statement.Span.{Span}
 use Rattle.script_lines.specs.declared.statement.Statement.{Statement}
-use Rattle.script_words.specs.Fields.{and_then, changed}
+use Rattle.script_lines.specs.Fields.{and_then, changed}
 use Rattle.script_lines.specs.Forms.{said}
 use Rattle.script_reader.specs.Grammar.{entry}
 use Rattle.script_lines.specs.Renamed.{read_of}
 use Rattle.script_lines.specs.Struck.{Answers}
 use Rattle.script_lines.specs.Knowing.{known_in}
-use Rattle.script_words.specs.Words.{all_verbs}
-use Rattle.script_words.proofs.Results.{ok_before}
+use Rattle.script_lines.specs.Words.{all_verbs}
+use Rattle.script_lines.proofs.Results.{ok_before}
 use Rattle.script_reader.proofs.EntryLaws.{entry_of, some_answers}
 use Rattle.script_reader.proofs.script.entry.Goals as goal
 

@@ -3,7 +3,7 @@ use Rattle.script_lines.specs.declared.statement.Span.{Span}
 use Rattle.script_lines.specs.Knowing.{known_in}
 use Rattle.script_reader.specs.Lines.{lines_of}
 use Rattle.script_reader.specs.Reading.{reading}
-use Rattle.script_words.specs.Words.{all_verbs}
+use Rattle.script_lines.specs.Words.{all_verbs}
 use Rattle.script_reader.proofs.ReaderLaws.{gone, behind, there, front_short}
 use Rattle.script_reader.proofs.script.read_lines.Goals as goal
 

@@ -1,9 +1,9 @@
 use Rattle.std.proofs.Common.{◌≤◌, refl, sym, subst}
 use Rattle.std.specs.Prelude.{None, Some}
-use Rattle.single_blocks.specs.Passes.{Stage}
-use Rattle.single_blocks.specs.Passes.{site}
-use Rattle.single_blocks.proofs.Passes.{on_err, keeps_err, keeps_join}
-use Rattle.single_blocks.specs.Asks.{Fetches}
+use Rattle.buffer_cache.specs.Passes.{Stage}
+use Rattle.buffer_cache.specs.Passes.{site}
+use Rattle.buffer_cache.proofs.Passes.{on_err, keeps_err, keeps_join}
+use Rattle.buffer_cache.specs.Asks.{Fetches}
 use Rattle.buffer_cache.specs.Calls.{IfTold, Holds}
 use Rattle.buffer_cache.proofs.Stays.{all_data, holds_untouched, holds_behind_read, fetched_true}
 use Rattle.buffer_cache.proofs.slots.Cache.fetch.Goals as goal

@@ -1,15 +1,15 @@
 use Rattle.std.proofs.Common.{◌≤◌, [], refl, sym, ◌∙◌, subst}
 use Rattle.std.specs.Prelude.{None}
-use Rattle.single_blocks.specs.Passes.{Stage}
-use Rattle.single_blocks.specs.Passes.{site}
-use Rattle.single_blocks.specs.Passes.{map_at}
-use Rattle.single_blocks.proofs.Passes.{on_err}
-use Rattle.cached_blocks.specs.declared.Entry.{Entry}
-use Rattle.cached_blocks.specs.Requests.{writes}
-use Rattle.cached_blocks.specs.Entries.{write_backs}
-use Rattle.cached_blocks.proofs.Ones.{IsFound, each_found, back_all, back_one, none_one}
-use Rattle.single_blocks.specs.Asks.{IsData, Asks}
-use Rattle.single_blocks.proofs.Joins.{asks_none}
+use Rattle.buffer_cache.specs.Passes.{Stage}
+use Rattle.buffer_cache.specs.Passes.{site}
+use Rattle.buffer_cache.specs.Passes.{map_at}
+use Rattle.buffer_cache.proofs.Passes.{on_err}
+use Rattle.waited_requests.specs.declared.cached.Entry.{Entry}
+use Rattle.waited_requests.specs.Requests.{writes}
+use Rattle.waited_requests.specs.Entries.{write_backs}
+use Rattle.waited_requests.proofs.Ones.{IsFound, each_found, back_all, back_one, none_one}
+use Rattle.buffer_cache.specs.Asks.{IsData, Asks}
+use Rattle.buffer_cache.proofs.Joins.{asks_none}
 use Rattle.buffer_cache.proofs.Stays.{all_data, holds_left, unchanged_data}
 use Rattle.buffer_cache.proofs.slots.Cache.make_room.Goals as goal
 

@@ -1,12 +1,12 @@
 use Rattle.std.proofs.Common.{◌≤◌, false, true, refl, sym, ap, ◌∙◌, subst}
 use Rattle.std.specs.Prelude.{not}
 use Rattle.std.specs.List.{AllByRecursion}
-use Rattle.single_blocks.specs.Passes.{Stage}
-use Rattle.single_blocks.specs.Passes.{site}
-use Rattle.cached_blocks.specs.Entries.{State, put}
-use Rattle.cached_blocks.specs.Calls.{entry}
-use Rattle.single_blocks.specs.Asks.{IsData}
-use Rattle.single_blocks.proofs.Joins.{asks_none}
+use Rattle.buffer_cache.specs.Passes.{Stage}
+use Rattle.buffer_cache.specs.Passes.{site}
+use Rattle.waited_requests.specs.Entries.{State, put}
+use Rattle.waited_requests.specs.Calls.{entry}
+use Rattle.buffer_cache.specs.Asks.{IsData}
+use Rattle.buffer_cache.proofs.Joins.{asks_none}
 use Rattle.buffer_cache.proofs.Stays.{data_stays, all_data, put_data}
 use Rattle.buffer_cache.proofs.slots.Cache.place.Goals as goal
 

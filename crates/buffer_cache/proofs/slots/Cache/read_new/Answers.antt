@@ -1,10 +1,10 @@
 use Rattle.std.proofs.Common.{◌≡◌, refl, sym, subst}
 use Rattle.std.specs.Prelude.{not, None, Some, false}
 use Rattle.std.specs.List.{AllByRecursion}
-use Rattle.single_blocks.specs.Passes.{Stage}
-use Rattle.single_blocks.specs.Passes.{site}
-use Rattle.cached_blocks.specs.Entries.{State, entry_of}
-use Rattle.single_blocks.specs.Asks.{IsData}
+use Rattle.buffer_cache.specs.Passes.{Stage}
+use Rattle.buffer_cache.specs.Passes.{site}
+use Rattle.waited_requests.specs.Entries.{State, entry_of}
+use Rattle.buffer_cache.specs.Asks.{IsData}
 use Rattle.buffer_cache.specs.Calls.{Fetched}
 use Rattle.buffer_cache.proofs.Stays.{data_stays, room_none, put_data}
 use Rattle.buffer_cache.proofs.Wholes.{read_unusable, read_usable, holds_read}

@@ -1,11 +1,11 @@
 use Rattle.std.proofs.Common.{◌≤◌, refl, sym, subst}
 use Rattle.std.specs.Prelude.{None}
 use Rattle.std.specs.List.{AllByRecursion}
-use Rattle.single_blocks.specs.Passes.{Stage}
-use Rattle.single_blocks.specs.Passes.{site}
-use Rattle.single_blocks.specs.Passes.{map_at}
-use Rattle.cached_blocks.specs.Entries.{State, IsCache, written_back}
-use Rattle.single_blocks.specs.Asks.{IsData, Asks}
+use Rattle.buffer_cache.specs.Passes.{Stage}
+use Rattle.buffer_cache.specs.Passes.{site}
+use Rattle.buffer_cache.specs.Passes.{map_at}
+use Rattle.waited_requests.specs.Entries.{State, IsCache, written_back}
+use Rattle.buffer_cache.specs.Asks.{IsData, Asks}
 use Rattle.buffer_cache.specs.Views.{entries_of, state_of}
 use Rattle.buffer_cache.specs.Calls.{Syncs}
 use Rattle.buffer_cache.proofs.Stays.{all_data, holds_asked}

@@ -1,10 +1,10 @@
 use Rattle.std.proofs.Common.{sym, ◌∙◌, subst}
 use Rattle.std.specs.Prelude.{Some}
 use Rattle.std.specs.List.{AllByRecursion}
-use Rattle.single_blocks.specs.Passes.{Stage}
-use Rattle.single_blocks.specs.Passes.{site}
-use Rattle.cached_blocks.specs.Entries.{State}
-use Rattle.single_blocks.specs.Asks.{IsData}
+use Rattle.buffer_cache.specs.Passes.{Stage}
+use Rattle.buffer_cache.specs.Passes.{site}
+use Rattle.waited_requests.specs.Entries.{State}
+use Rattle.buffer_cache.specs.Asks.{IsData}
 use Rattle.buffer_cache.specs.Calls.{IfTold, Holds}
 use Rattle.buffer_cache.proofs.Stays.{no_entry, some_entry, change_data}
 use Rattle.buffer_cache.proofs.Wholes.{write_entry, not_changed}

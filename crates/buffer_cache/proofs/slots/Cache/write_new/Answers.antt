@@ -1,9 +1,9 @@
 use Rattle.std.proofs.Common.{◌≡◌, refl, sym, subst}
 use Rattle.std.specs.Prelude.{None, Some, false, true}
-use Rattle.single_blocks.specs.Passes.{Stage}
-use Rattle.single_blocks.specs.Passes.{site}
-use Rattle.single_blocks.proofs.Passes.{keeps_join}
-use Rattle.cached_blocks.specs.Entries.{State, entry_of}
+use Rattle.buffer_cache.specs.Passes.{Stage}
+use Rattle.buffer_cache.specs.Passes.{site}
+use Rattle.buffer_cache.proofs.Passes.{keeps_join}
+use Rattle.waited_requests.specs.Entries.{State, entry_of}
 use Rattle.buffer_cache.specs.Calls.{Fetched}
 use Rattle.buffer_cache.proofs.Stays.{data_stays, room_none}
 use Rattle.buffer_cache.proofs.Wholes.{write_unusable, write_usable, holds_write, holds_stored, keeps_stopped}

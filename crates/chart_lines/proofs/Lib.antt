@@ -1,2 +1,0 @@
-mod Charting
-mod Putting

@@ -1,6 +1,0 @@
-use Rattle.std.proofs.Common.{◌≡◌}
-use Rattle.chart_lines.specs.Charts.{with_text, blanks}
-use Rattle.chart_lines.proofs.line.ChartLine.put_blanks.Given as goal
-
-abbrev pub invariant-loop : goal.invariant-loop
-invariant-loop l = l.self ≡ with_text l.initial.self (blanks l.counter)

@@ -1,4 +1,0 @@
--- What is passed on of the crates below, so that those above stand on this one.
-pub use Rattle.driver_trace.specs.Calls.{IsReadFrom, IsReadOf}
-pub use Rattle.driver_trace.specs.Noises.{AllFlip}
-pub use Rattle.driver_trace.specs.Runs.{IsDraining}

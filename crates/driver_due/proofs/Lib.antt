@@ -1,4 +1,0 @@
-pub mod DueFacts
-pub mod Falls
-pub mod Frame
-pub mod Until

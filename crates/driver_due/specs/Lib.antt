@@ -1,2 +1,0 @@
-pub mod DueFacts
-pub mod Frame

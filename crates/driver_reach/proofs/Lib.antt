@@ -1,4 +1,0 @@
-pub mod Blocks
-pub mod Acts
-pub mod Calls
-pub mod Lengths

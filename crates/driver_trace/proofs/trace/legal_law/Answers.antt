@@ -1,0 +1,5 @@
+use Rattle.driver_trace.proofs.Runs.{is_legal}
+use Rattle.driver_trace.proofs.trace.legal_law.Goals as goal
+
+pub returns : goal.returns
+returns c = record { legal = is_legal }

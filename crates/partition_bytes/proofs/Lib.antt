@@ -1,4 +1,0 @@
-pub mod Ranges
-pub mod Steps
-pub mod Replaced
-pub mod Dumped

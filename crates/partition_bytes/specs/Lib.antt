@@ -1,4 +1,0 @@
-pub mod Laid
-pub mod Bytes
-pub mod Pieces
-pub mod Laws

@@ -1,0 +1,183 @@
+//! A line of a chart.
+
+ghost use Rattle.std.specs.Prelude.{◌≡◌, ◌-◌, ◌∷◌, [], ◌++◌, true, length, decimal, IfOk, OnOk};
+ghost use Rattle.picture_chart.specs.Charts.{is_plain, plain_of, ended, with_text, fitted, blanks, at_left, at_right, is_blank, text_of, IsChartLine, IsChart};
+
+use arrayvec::ArrayVec;
+use itoa::Buffer;
+use std::alloc::{AllocError, Global};
+use std::marker::Model;
+
+/// How many characters a line has at most.
+pub const WIDEST: usize = 100;
+
+/// A line of a chart: at most 100 printing characters.
+#[derive(Drop)]
+pub struct ChartLine {
+    text: ArrayVec<u8, WIDEST>,
+}
+
+impl Model for ChartLine {
+    ghost use Rattle.std.specs.Prelude.{ℕ, List};
+    ghost use Rattle.picture_chart.specs.Charts.{IsChartLine};
+
+    ghost Value = { List ℕ };
+
+    ghost view = { λ line. line.text.items };
+
+    ghost invariant = { λ line. IsChartLine line.text.items };
+}
+
+/// A byte as it is printed; one that is not printing is a question mark.
+fn plain(byte: u8) -> u8
+    ensures value { result ≡ plain_of byte }
+    ensures plain { is_plain result ≡ true }
+{
+    match byte {
+        b' '..=b'~' => byte,
+        _ => b'?',
+    }
+}
+
+/// A text where it fits into so many characters, else a plus.
+fn fitting(text: &[u8], width: usize) -> &[u8]
+    ensures { result.now ≡ fitted width text.now }
+{
+    if text.len() <= width { text } else { b"+" }
+}
+
+impl ChartLine {
+    /// An empty line.
+    pub fn new() -> ChartLine
+        ensures { result ≡ [] }
+    {
+        ChartLine {
+            text: ArrayVec::new(),
+        }
+    }
+
+    /// Puts a byte, where there is room.
+    pub fn put_byte(&mut self, byte: u8)
+        ensures { self.new ≡ with_text self.old (byte ∷ []) }
+    {
+        if self.text.len() < WIDEST {
+            self.text.push(plain(byte));
+        }
+    }
+
+    /// Puts the front of some bytes for which there is room.
+    pub fn put(&mut self, bytes: &[u8])
+        ensures { self.new ≡ with_text self.old bytes.now }
+    {
+        let _ = &self.text;
+        for byte in bytes.iter() {
+            self.put_byte(*byte);
+        }
+    }
+
+    /// Puts a number.
+    pub fn put_number(&mut self, number: u64)
+        ensures { self.new ≡ with_text self.old (decimal number) }
+    {
+        let mut buffer = Buffer::new();
+        self.put(buffer.format(number).as_bytes());
+    }
+
+    /// Puts blanks.
+    fn put_blanks(&mut self, count: usize)
+        ensures { self.new ≡ with_text self.old (blanks count) }
+    {
+        let _ = &self.text;
+        for _ in 0..count {
+            self.put_byte(b' ');
+        }
+    }
+
+    /// Puts blanks up to a place.
+    pub fn fill_to(&mut self, place: usize)
+        ensures { self.new ≡ with_text self.old (blanks (place - length self.old)) }
+    {
+        let count = place.saturating_sub(self.text.len());
+        self.put_blanks(count);
+    }
+
+    /// Puts a text at the left of so many characters; a plus where it does not fit.
+    pub fn put_left(&mut self, text: &[u8], width: usize)
+        ensures { self.new ≡ with_text self.old (at_left width text.now) }
+    {
+        let text = fitting(text, width);
+        self.put(text);
+        self.put_blanks(width.saturating_sub(text.len()));
+    }
+
+    /// Puts a text at the right of so many characters; a plus where it does not fit.
+    pub fn put_right(&mut self, text: &[u8], width: usize)
+        ensures { self.new ≡ with_text self.old (at_right width text.now) }
+    {
+        let text = fitting(text, width);
+        self.put_blanks(width.saturating_sub(text.len()));
+        self.put(text);
+    }
+
+    /// Puts a number at the right of so many characters.
+    fn put_number_right(&mut self, number: u64, width: usize)
+        ensures { self.new ≡ with_text self.old (at_right width (decimal number)) }
+    {
+        let mut buffer = Buffer::new();
+        self.put_right(buffer.format(number).as_bytes(), width);
+    }
+
+    /// Puts a number at the right of so many characters, behind a blank.
+    pub fn put_count(&mut self, number: u64, width: usize)
+        ensures { self.new ≡ with_text self.old (32 ∷ at_right width (decimal number)) }
+    {
+        self.put_byte(b' ');
+        self.put_number_right(number, width);
+    }
+
+    /// Puts a number at the left of so many characters.
+    pub fn put_event(&mut self, number: u64, width: usize)
+        ensures { self.new ≡ with_text self.old (at_left width (decimal number)) }
+    {
+        let mut buffer = Buffer::new();
+        self.put_left(buffer.format(number).as_bytes(), width);
+    }
+
+    /// Nothing stands on it but blanks.
+    pub fn is_blank(&self) -> bool
+        ensures { result ≡ is_blank self.now }
+    {
+        self.text.iter().all(|byte| *byte == b' ')
+    }
+
+    /// Its characters.
+    pub fn as_bytes(&self) -> &[u8]
+        ensures text { result.now ≡ self.now }
+        ensures line { IsChartLine self.now }
+    {
+        self.text.as_slice()
+    }
+}
+
+/// Puts a line, and its end.
+fn put_ended(text: &mut Vec<u8>, line: &ChartLine) -> Result<(), AllocError>
+    ensures text { OnOk result (text.new.items ≡ text.old.items ++ ended line.now) }
+    ensures line { IsChartLine line.now }
+{
+    let bytes = line.as_bytes();
+    text.extend_from_slice(bytes)?;
+    text.push(b'\n')?;
+    Ok(())
+}
+
+/// The text of lines, each ended.
+pub fn text_of(alloc: Global, lines: &[ChartLine]) -> Result<Vec<u8>, AllocError>
+    ensures text { IfOk result (λ text. text.items ≡ text_of lines.now) }
+    ensures chart { IfOk result (λ text. IsChart text.items) }
+{
+    let mut text = Vec::new(alloc);
+    for line in lines.iter() {
+        put_ended(&mut text, line)?;
+    }
+    Ok(text)
+}

@@ -1,2 +1,0 @@
-pub mod Hears
-pub mod Conditions

@@ -1,3 +1,0 @@
-pub mod SeeLaws
-pub mod TextLaws
-pub mod UnitLaws

@@ -1,3 +1,0 @@
-pub mod Saids
-pub mod Plays
-pub mod Runs

@@ -1,6 +1,0 @@
-mod Asked
-mod Begun
-pub mod Few
-mod Complete
-mod Fronts
-pub mod Quiet

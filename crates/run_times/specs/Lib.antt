@@ -1,4 +1,0 @@
-pub mod Firsts
-pub mod Blocks
-pub mod Served
-pub mod Since

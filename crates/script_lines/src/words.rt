@@ -1,0 +1,127 @@
+ghost use Rattle.std.specs.Prelude.{◌≡◌};
+ghost use Rattle.std.specs.Str.{bytes_eq};
+ghost use Rattle.script_lines.specs.Fields.{some_or, kind_field, part_field, offset_field, fault_field};
+ghost use Rattle.script_lines.specs.Words.{named, verb_word, all_verbs, offsets, faults};
+ghost use Rattle.trace_replay.specs.Text.{offset_word, fault_word};
+
+use crate::kinds::ScriptKind;
+use crate::verbs::Verb;
+use drive_registers::OffsetCode;
+use hardware_table::FaultKind;
+use pack_geometry::{DriveKind, kind_of};
+use partitions::{Part, part_of};
+
+/// Whether a field is this word.
+pub fn is_word(field: &[u8], word: &[u8]) -> bool
+    ensures { result ≡ bytes_eq field.now word.now }
+{
+    field == word
+}
+
+/// The word at the front of a line.
+pub fn verb(word: &[u8]) -> Result<Verb, ScriptKind>
+    ensures { result ≡ some_or ScriptKind.Word (named verb_word all_verbs word.now) }
+{
+    if is_word(word, b"unit".as_slice()) {
+        Ok(Verb::Unit)
+    } else if is_word(word, b"read".as_slice()) {
+        Ok(Verb::Read)
+    } else if is_word(word, b"write".as_slice()) {
+        Ok(Verb::Write)
+    } else if is_word(word, b"arrive".as_slice()) {
+        Ok(Verb::Arrive)
+    } else if is_word(word, b"turn".as_slice()) {
+        Ok(Verb::Turn)
+    } else if is_word(word, b"move".as_slice()) {
+        Ok(Verb::Move)
+    } else if is_word(word, b"attend".as_slice()) {
+        Ok(Verb::Attend)
+    } else if is_word(word, b"noise".as_slice()) {
+        Ok(Verb::Noise)
+    } else if is_word(word, b"fault".as_slice()) {
+        Ok(Verb::Fault)
+    } else if is_word(word, b"offline".as_slice()) {
+        Ok(Verb::Offline)
+    } else if is_word(word, b"online".as_slice()) {
+        Ok(Verb::Online)
+    } else if is_word(word, b"lock".as_slice()) {
+        Ok(Verb::Lock)
+    } else if is_word(word, b"unlock".as_slice()) {
+        Ok(Verb::Unlock)
+    } else if is_word(word, b"drain".as_slice()) {
+        Ok(Verb::Drain)
+    } else {
+        Err(ScriptKind::Word)
+    }
+}
+
+/// A kind of drive.
+pub fn kind_field(word: &[u8]) -> Result<DriveKind, ScriptKind>
+    ensures { result ≡ kind_field word.now }
+{
+    kind_of(word).ok_or(ScriptKind::Word)
+}
+
+/// A partition's letter.
+pub fn part_field(word: &[u8]) -> Result<Part, ScriptKind>
+    ensures { result ≡ part_field word.now }
+{
+    if word.len() != 1 {
+        return Err(ScriptKind::Word);
+    }
+    part_of(word[0]).ok_or(ScriptKind::Word)
+}
+
+/// The offset of the heads that a word names.
+pub fn offset_in(word: &[u8]) -> Option<OffsetCode>
+    ensures { result ≡ named offset_word offsets word.now }
+{
+    if is_word(word, b"+400".as_slice()) {
+        Some(OffsetCode::Plus400)
+    } else if is_word(word, b"-400".as_slice()) {
+        Some(OffsetCode::Minus400)
+    } else if is_word(word, b"+800".as_slice()) {
+        Some(OffsetCode::Plus800)
+    } else if is_word(word, b"-800".as_slice()) {
+        Some(OffsetCode::Minus800)
+    } else if is_word(word, b"+1200".as_slice()) {
+        Some(OffsetCode::Plus1200)
+    } else if is_word(word, b"-1200".as_slice()) {
+        Some(OffsetCode::Minus1200)
+    } else {
+        None
+    }
+}
+
+/// The kind of fault that a word names.
+pub fn fault_in(word: &[u8]) -> Option<FaultKind>
+    ensures { result ≡ named fault_word faults word.now }
+{
+    if is_word(word, b"seek".as_slice()) {
+        Some(FaultKind::Seek)
+    } else if is_word(word, b"opi".as_slice()) {
+        Some(FaultKind::Opi)
+    } else if is_word(word, b"dte".as_slice()) {
+        Some(FaultKind::Dte)
+    } else if is_word(word, b"hcrc".as_slice()) {
+        Some(FaultKind::Hcrc)
+    } else if is_word(word, b"late".as_slice()) {
+        Some(FaultKind::Late)
+    } else {
+        None
+    }
+}
+
+/// An offset of the heads.
+pub fn offset_field(word: &[u8]) -> Result<OffsetCode, ScriptKind>
+    ensures { result ≡ offset_field word.now }
+{
+    offset_in(word).ok_or(ScriptKind::Word)
+}
+
+/// A kind of fault.
+pub fn fault_field(word: &[u8]) -> Result<FaultKind, ScriptKind>
+    ensures { result ≡ fault_field word.now }
+{
+    fault_in(word).ok_or(ScriptKind::Word)
+}

@@ -1,4 +1,0 @@
-mod Maps
-pub mod Joins
-mod Exits
-pub mod Passes

@@ -1,4 +1,0 @@
-pub mod Commands
-pub mod Measure
-pub mod Drains
-pub mod Runs
