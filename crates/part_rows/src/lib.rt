@@ -1,7 +1,5 @@
-//! Tests of the parts on which drives, driver and tool stand, and outcomes of wrong bodies of theirs that their words refuse; so these
-//! crates are proved once. The functions here do nothing: each stands for a law.
-//!
-//! Rows of the formatter's single calls, each of which goes wrong once; tests alone, so that what they test is proved once.
+//! Tests of the parts on which drives, driver and tool stand, and of the formatter's single calls, each of which goes wrong once; and
+//! outcomes of wrong bodies of the parts, each refused by a law. So these crates are proved once.
 #![tactic(auto)]
 
 ghost use Rattle.part_rows.specs.Places.{ReplacementOffByOne, Rm05LimitBy22Sectors, SectorTooMany, EndIsOutside, OneBlockPastTheEnd, Rm05GByRm03, FormatBeforeTheBadSector, MarkedHeaderKeepsItsGoodBit, Rm05MarkedAsAnRp06, BytesAsTheyAre, PlusForATextThatFits};

@@ -2,10 +2,8 @@
 pub use Rattle.blocking_io.specs.Asking.{Answers, IsMapped, IsReady, MayAsk, setup_at}
 pub use Rattle.blocking_io.specs.Calls.{MoveFails, Stage, stage}
 pub use Rattle.blocking_io.specs.Given.{bytes_by, reached_by}
+pub use Rattle.blocking_io.specs.Passes.{HasCauses, IsQuiet, StandsQuiet, State, asked, kind_if, setup_of, table_if}
 pub use Rattle.blocking_io.specs.Sessions.{AnswersReach, GoesOn, Reaches, SessionsJoin, StillTell}
 pub use Rattle.blocking_io.specs.Stopping.{Stops}
 pub use Rattle.blocking_io.specs.declared.reached.Reached.{Reached}
 pub use Rattle.blocking_io.specs.declared.reached.Reached.TheVariants.{All, AtEnd, Before, Outside}
-pub use Rattle.blocking_io.specs.Passes.{HasCauses}
-pub use Rattle.blocking_io.specs.Passes.{State, asked}
-pub use Rattle.blocking_io.specs.Passes.{IsQuiet, StandsQuiet, kind_if, setup_of, table_if}

@@ -1,7 +1,5 @@
-//! Scripts that are read, and scripts that are refused; tests alone, so that the reader is proved once.
-//!
-//! Worked rows of the reader of a trace: traces that are read and written again, and refused ones, which are tests; and a wrong outcome,
-//! which is refused by what is promised of the reader. The function here does nothing: it stands for a law.
+//! Worked rows of the readers of scripts and traces: those that are read, also written again, and refused ones, which are tests, so that
+//! the readers are proved once; and an outcome of a wrong body, which a law refuses.
 #![tactic(auto)]
 
 ghost use Rattle.script_rows.specs.Reading.{SecondFaultRefused};
