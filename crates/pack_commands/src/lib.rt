@@ -14,11 +14,11 @@
 mod formats;
 mod text;
 mod tools;
-mod usage;
+mod usage_text;
 mod words;
 
 pub use formats::run_format;
 pub use raw_command::{Transfer, TransferFault, run_transfer};
 pub use tools::{run_add, run_fresh, run_list, run_mark};
-pub use usage::usage;
+pub use usage_text::usage;
 pub use words::{Command, command_of};
