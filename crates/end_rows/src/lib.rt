@@ -1,15 +1,11 @@
 //! The program by the status of its end, over files of the working folder, a folder in memory whose calls are short, fail and are
-//! interrupted, and a full disk; and packs in such files, and a sink that makes its file. There are tests alone here.
+//! interrupted, and a full disk. There are tests alone here.
 #![tactic(auto)]
 
 #[cfg(test)]
 mod ends;
 #[cfg(test)]
-mod files;
-#[cfg(test)]
 mod full;
-#[cfg(test)]
-mod guarded;
 #[cfg(test)]
 mod memory;
 #[cfg(test)]
