@@ -2,3 +2,4 @@ pub mod Fields
 pub mod Lines
 pub mod Outside
 pub mod Statuses
+pub mod Words

@@ -1,14 +1,17 @@
-//! What the commands of the program share: the units and kinds that their words name, the lines that they print, and the numbers that they end with.
+//! What the commands of the program share: the units, kinds and transfers that their words name, the lines that they print, and the
+//! numbers that they end with.
 //!
 //! Defined in `specs/`: what a command meets outside (`Outside`), and a text that was taken whole or in part (`Told`).
 //!
-//! What is proved: `unit_in` and `kind_in` give just what their words name; `numbered`, `plain` and `too_long` are just their texts.
+//! What is proved: `unit_in`, `kind_in`, `raw_in` and `dump_in` give just what their words name; `numbered`, `plain` and `too_long` are just their texts.
 #![tactic(auto)]
 
 mod fields;
 mod lines;
 mod status;
+mod words;
 
 pub use fields::{kind_in, unit_in};
 pub use lines::{numbered, plain, too_long};
 pub use status::Status;
+pub use words::{Target, Transfer, Writing, dump_in, raw_in};

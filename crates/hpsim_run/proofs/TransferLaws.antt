@@ -1,11 +1,11 @@
 -- What a transfer leaves as it was, by its status.
 use Rattle.std.proofs.Common.{◌≡◌, ◌⊎◌, inl, inr, ℕ, true, false, Some, refl, sym, subst, arith}
 use Rattle.command_parts.specs.Outside.{HasItsCause, Outside}
-use Rattle.pack_commands.specs.Passes.{Stays}
-use Rattle.pack_commands.specs.Passes.{IsReadCode, IsTransferCode}
-use Rattle.pack_commands.specs.Passes.{reads_source as transfer_reads}
-use Rattle.pack_commands.specs.Passes.{Transfer}
-use Rattle.pack_commands.specs.Passes.{Read, Write}
+use Rattle.raw_command.specs.Endings.{Stays}
+use Rattle.raw_command.specs.Faults.{IsReadCode, IsTransferCode}
+use Rattle.command_parts.specs.Words.{reads_source as transfer_reads}
+use Rattle.command_parts.specs.declared.words.Transfer.{Transfer}
+use Rattle.command_parts.specs.declared.words.Transfer.TheVariants.{Read, Write}
 use Rattle.hpsim_run.specs.Leaves.{LeavesAlone}
 use Rattle.pack_commands.specs.declared.words.Command.TheVariants.{Exercise, TransferBytes}
 

@@ -1,7 +1,7 @@
 -- What each command leaves as it was, and the usage.
 use Rattle.std.specs.Prelude.{◌≡◌, ◌⊎◌, ◌↔◌, ℕ, Bool, true, false, IsTrue, List, Option, None, Some}
 use Rattle.command_parts.specs.Lines.{Told}
-use Rattle.pack_commands.specs.Passes.{reads_source as transfer_reads}
+use Rattle.command_parts.specs.Words.{reads_source as transfer_reads}
 use Rattle.command_parts.specs.Statuses.{status_code}
 use Rattle.pack_commands.specs.Words.{usage_text}
 use Rattle.pack_commands.specs.declared.words.Command.{Command}

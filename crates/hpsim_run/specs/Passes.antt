@@ -1,5 +1,6 @@
 -- What is passed on of the crates below, so that those above stand on this one.
 pub use Rattle.pack_commands.specs.Commands.{command_named}
-pub use Rattle.pack_commands.specs.Passes.{WritesAll, Writing}
+pub use Rattle.raw_command.specs.Endings.{WritesAll}
+pub use Rattle.command_parts.specs.declared.words.Writing.{Writing}
 pub use Rattle.pack_commands.specs.Words.{command_of}
 pub use Rattle.pack_commands.specs.declared.words.Command.TheVariants.{Play}

@@ -4,8 +4,8 @@ use Rattle.pack_geometry.specs.declared.DriveKind.{DriveKind}
 use Rattle.bad144_tool.specs.declared.edit.AddWay.{AddWay}
 use Rattle.command_parts.specs.Statuses.{status_code}
 use Rattle.command_parts.specs.declared.status.Status.TheVariants.{Done, Usage, Refused, SourceFailed, SinkFailed, PacksFailed, TooLong, ToolRefused, OutOfMemory}
-use Rattle.pack_commands.specs.Passes.{IsTransferCode}
-use Rattle.pack_commands.specs.Passes.{Transfer}
+use Rattle.raw_command.specs.Faults.{IsTransferCode}
+use Rattle.command_parts.specs.declared.words.Transfer.{Transfer}
 use Rattle.pack_commands.specs.Formats.{IsFormatCode}
 use Rattle.pack_commands.specs.declared.words.Command.{Command}
 use Rattle.pack_commands.specs.declared.words.Command.TheVariants.{Play, ListTable, AddBlock, FreshTable, MarkBlocks, Exercise, Cached, FormatPack, TransferBytes}

@@ -1,7 +1,7 @@
 ghost use Rattle.std.specs.Prelude.{◌≡◌, ℕ, Some};
 ghost use Rattle.command_parts.specs.Outside.{HasItsCause, outside};
-ghost use Rattle.pack_commands.specs.Passes.{RunsTransfer};
-ghost use Rattle.pack_commands.specs.Passes.{Transfer};
+ghost use Rattle.raw_command.specs.Endings.{RunsTransfer};
+ghost use Rattle.command_parts.specs.declared.words.Transfer.{Transfer};
 ghost use Rattle.hpsim_run.specs.Cached.{RunsCached};
 ghost use Rattle.hpsim_run.specs.Exercises.{RunsExercise};
 ghost use Rattle.hpsim_run.specs.Leaves.{LeavesAlone, TellsUsage};

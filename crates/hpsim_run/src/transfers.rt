@@ -1,16 +1,16 @@
 // The commands `raw read`, `raw write` and `dump`.
 ghost use Rattle.std.specs.Prelude.{◌≡◌, Some};
 ghost use Rattle.command_parts.specs.Outside.{HasItsCause, outside};
-ghost use Rattle.pack_commands.specs.Passes.{RunsTransfer};
-ghost use Rattle.pack_commands.specs.Passes.{IsTransferCode, code_of};
-ghost use Rattle.pack_commands.specs.Passes.{IsInRange};
+ghost use Rattle.raw_command.specs.Endings.{RunsTransfer};
+ghost use Rattle.raw_command.specs.Faults.{IsTransferCode, code_of};
+ghost use Rattle.command_parts.specs.Words.{IsInRange};
 ghost use Rattle.hpsim_run.specs.Leaves.{LeavesAlone};
 ghost use Rattle.command_parts.specs.Statuses.{status_code};
 ghost use Rattle.pack_commands.specs.declared.words.Command.TheVariants.{TransferBytes};
 
-use command_parts::Status;
+use command_parts::{Status, Transfer};
 use outside_traits::traits::{Packs, Sink, Source};
-use pack_commands::{Transfer, TransferFault, run_transfer};
+use raw_command::{TransferFault, run_transfer};
 use std::alloc::Global;
 
 /// The status that a transfer ends with.

@@ -8,8 +8,8 @@ use Rattle.mass_text.specs.Numbers.{number_of}
 use Rattle.mass_text.specs.declared.numbers.Radix.TheVariants.{Decimal}
 use Rattle.bad144_tool.specs.declared.edit.AddWay.{AddWay}
 use Rattle.command_parts.specs.Fields.{kind_named, unit_named}
-use Rattle.raw_command.specs.Words.{IsInRange, dump_named, raw_named}
-use Rattle.raw_command.specs.declared.words.Transfer.{Transfer}
+use Rattle.command_parts.specs.Words.{IsInRange, dump_named, raw_named}
+use Rattle.command_parts.specs.declared.words.Transfer.{Transfer}
 use Rattle.pack_commands.specs.declared.words.Command.{Command}
 use Rattle.pack_commands.specs.declared.words.Command.TheVariants.{Play, ListTable, AddBlock, FreshTable, MarkBlocks, Exercise, Cached, FormatPack, TransferBytes}
 

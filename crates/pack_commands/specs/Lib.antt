@@ -2,4 +2,3 @@ pub mod Commands
 pub mod Words
 pub mod Formats
 pub mod Tools
-pub mod Passes

@@ -18,7 +18,6 @@ mod usage_text;
 mod words;
 
 pub use formats::run_format;
-pub use raw_command::{Transfer, TransferFault, run_transfer};
 pub use tools::{run_add, run_fresh, run_list, run_mark};
 pub use usage_text::usage;
 pub use words::{Command, command_of};

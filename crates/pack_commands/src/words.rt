@@ -2,14 +2,13 @@ ghost use Rattle.std.specs.Prelude.{◌≡◌, ◌<◌, ◌≤◌, ◌-◌, ◌^
 ghost use Rattle.std.specs.String.{string_bytes};
 ghost use Rattle.pack_geometry.specs.Geometry.{block_count};
 ghost use Rattle.command_parts.specs.Fields.{kind_named, unit_named};
-ghost use Rattle.raw_command.specs.Words.{IsInRange};
+ghost use Rattle.command_parts.specs.Words.{IsInRange};
 ghost use Rattle.pack_commands.specs.Commands.{IsValid, add_named, block_named, both_named, one_named, cached_named, capacity_named, command_named, exercise_named, format_named, fresh_named, list_named, mark_named, number_named, numbered_named, pack_named, serial_named, tool_named, transfer_named, way_named};
 
 use bad144_tool::AddWay;
-use command_parts::{kind_in, unit_in};
+use command_parts::{Transfer, dump_in, kind_in, raw_in, unit_in};
 use mass_text::{Radix, number};
 use pack_geometry::{DriveKind, blocks};
-use raw_command::{Transfer, dump_in, raw_in};
 
 /// What the words of the command line ask for.
 #[derive(Clone, Copy, Debug, PartialEq, Eq)]

@@ -3,4 +3,3 @@ pub mod Stages
 pub mod UnitLaws
 pub mod RunLaws
 pub mod Writings
-pub mod WordLaws

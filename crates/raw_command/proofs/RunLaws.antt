@@ -18,9 +18,9 @@ use Rattle.raw_command.specs.Transfers.{HasRead, LeftRead, LeftWritten}
 use Rattle.raw_command.specs.Units.{IsFoundLong}
 use Rattle.raw_command.specs.declared.fault.TransferFault.{TransferFault}
 use Rattle.raw_command.specs.declared.fault.TransferFault.TheVariants as fault
-use Rattle.raw_command.specs.declared.words.Target.{Target}
-use Rattle.raw_command.specs.declared.words.Writing.{Writing}
-use Rattle.raw_command.specs.declared.words.Writing.TheVariants.{Raw, Dump}
+use Rattle.command_parts.specs.declared.words.Target.{Target}
+use Rattle.command_parts.specs.declared.words.Writing.{Writing}
+use Rattle.command_parts.specs.declared.words.Writing.TheVariants.{Raw, Dump}
 
 -- WHERE A UNIT answered a fault, and that was told
 pub record Faulted (unit : ℕ) (kind : DriveKind) (f : TransferFault) (old new : Outside) : Type 0 where

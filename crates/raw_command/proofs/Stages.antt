@@ -25,7 +25,7 @@ use Rattle.raw_io.specs.Transfers.{Transfers}
 use Rattle.mba_autoconf.specs.Attach.{Fits}
 use Rattle.raw_command.specs.Units.{at_unit, unit_setup}
 use Rattle.raw_command.specs.Transfers.{blocks_in, first_in, start_at, StaysElse, Transferred, HasRead, HasWritten, LeavesAll, LeavesFront}
-use Rattle.raw_command.specs.declared.words.Target.{Target}
+use Rattle.command_parts.specs.declared.words.Target.{Target}
 use Rattle.raw_command.proofs.Setups.{at_self, one_world, setup_is, stands_quiet, has_tables, kind_is}
 
 -- a buffer's first bytes are those that were laid over it

@@ -24,7 +24,7 @@ use Rattle.raw_command.specs.Transfers.{HasRead, HasWritten, LeavesAll, LeavesFr
 use Rattle.raw_command.specs.Units.{IsAttached, IsFoundLong, KeepsUnit}
 use Rattle.raw_command.specs.declared.fault.TransferFault.{TransferFault}
 use Rattle.raw_command.specs.declared.fault.TransferFault.TheVariants as fault
-use Rattle.raw_command.specs.declared.words.Target.{Target}
+use Rattle.command_parts.specs.declared.words.Target.{Target}
 use Rattle.raw_command.proofs.Setups.{kind_is, may_transfer, one_world}
 use Rattle.raw_command.proofs.Stages.{has_read, has_written, leaves_all, leaves_front, tables}
 

@@ -8,11 +8,11 @@ use Rattle.partitions.specs.Partitions.{size_of}
 use Rattle.waited_requests.specs.Bytes.{blocks_for, dumped, dump_place}
 use Rattle.raw_command.specs.Endings.{IsBeyond, bytes_for, target_for}
 use Rattle.raw_command.specs.Transfers.{WritesUnit}
-use Rattle.raw_command.specs.Words.{IsPlaced, IsTarget}
+use Rattle.command_parts.specs.Words.{IsPlaced, IsTarget}
 use Rattle.raw_command.specs.declared.fault.TransferFault.{TransferFault}
-use Rattle.raw_command.specs.declared.words.Target.{Target}
-use Rattle.raw_command.specs.declared.words.Writing.{Writing}
-use Rattle.raw_command.specs.declared.words.Writing.TheVariants.{Raw, Dump}
+use Rattle.command_parts.specs.declared.words.Target.{Target}
+use Rattle.command_parts.specs.declared.words.Writing.{Writing}
+use Rattle.command_parts.specs.declared.words.Writing.TheVariants.{Raw, Dump}
 
 pub too_many : (n : ℕ) → n ≤ 8388608 → 8388608 < n → ⊥
 too_many n few more = omega (arith, few, more)

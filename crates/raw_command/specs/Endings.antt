@@ -12,11 +12,11 @@ use Rattle.raw_command.specs.Faults.{Answer, code_of}
 use Rattle.raw_command.specs.Transfers.{HasRead, HasWritten, LeftRead, LeftWritten}
 use Rattle.raw_command.specs.declared.fault.TransferFault.{TransferFault}
 use Rattle.raw_command.specs.declared.fault.TransferFault.TheVariants as fault
-use Rattle.raw_command.specs.declared.words.Target.{Target}
-use Rattle.raw_command.specs.declared.words.Transfer.{Transfer}
-use Rattle.raw_command.specs.declared.words.Transfer.TheVariants.{Read, Write}
-use Rattle.raw_command.specs.declared.words.Writing.{Writing}
-use Rattle.raw_command.specs.declared.words.Writing.TheVariants.{Raw, Dump}
+use Rattle.command_parts.specs.declared.words.Target.{Target}
+use Rattle.command_parts.specs.declared.words.Transfer.{Transfer}
+use Rattle.command_parts.specs.declared.words.Transfer.TheVariants.{Read, Write}
+use Rattle.command_parts.specs.declared.words.Writing.{Writing}
+use Rattle.command_parts.specs.declared.words.Writing.TheVariants.{Raw, Dump}
 
 -- what is printed of a fault; nothing more where the packs, the source or a sink failed, or there was no memory
 unfoldable pub fault_text : ℕ → TransferFault → List ℕ

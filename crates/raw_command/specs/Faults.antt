@@ -10,8 +10,8 @@ use Rattle.driver_answers.specs.declared.outcome.Stop.{Stop}
 use Rattle.driver_answers.specs.declared.outcome.Stop.TheVariants as stopped
 use Rattle.raw_command.specs.declared.fault.TransferFault.{TransferFault}
 use Rattle.raw_command.specs.declared.fault.TransferFault.TheVariants as fault
-use Rattle.raw_command.specs.declared.words.Transfer.{Transfer}
-use Rattle.raw_command.specs.declared.words.Transfer.TheVariants.{Read, Write}
+use Rattle.command_parts.specs.declared.words.Transfer.{Transfer}
+use Rattle.command_parts.specs.declared.words.Transfer.TheVariants.{Read, Write}
 
 abbrev pub from_read_all : ReadAllFault → TransferFault
 from_read_all all.Memory = fault.Memory

@@ -1,4 +1,3 @@
-pub mod Words
 pub mod Faults
 pub mod Units
 pub mod Transfers

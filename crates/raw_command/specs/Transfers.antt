@@ -21,7 +21,7 @@ use Rattle.raw_command.specs.Faults.{done_by}
 use Rattle.raw_command.specs.Units.{at_unit, unit_setup, KeepsUnit}
 use Rattle.raw_command.specs.declared.fault.TransferFault.{TransferFault}
 use Rattle.raw_command.specs.declared.fault.TransferFault.TheVariants as fault
-use Rattle.raw_command.specs.declared.words.Target.{Target}
+use Rattle.command_parts.specs.declared.words.Target.{Target}
 
 -- the contents of the unit's data blocks, and where its partition begins
 abbrev pub blocks_in : Target → Option Table → (ℕ → Pack) → Blocks

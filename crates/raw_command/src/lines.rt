@@ -3,8 +3,7 @@ ghost use Rattle.std.specs.Prelude.{◌≡◌, ◌≤◌};
 ghost use Rattle.raw_command.specs.Endings.{done_text, fault_text, number_for};
 
 use crate::fault::TransferFault;
-use crate::words::Writing;
-use command_parts::{numbered, plain, too_long};
+use command_parts::{Writing, numbered, plain, too_long};
 use mass_text::LineBuf;
 
 /// What is printed of a fault; nothing where the packs, the source or a sink failed, or there was no memory.

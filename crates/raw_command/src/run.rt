@@ -5,12 +5,12 @@ ghost use Rattle.command_parts.specs.Lines.{Told};
 ghost use Rattle.command_parts.specs.Outside.{HasItsCause, outside};
 ghost use Rattle.raw_command.specs.Endings.{Ends, IsBeyond, ReadEnds, Stays, WriteEnds, fault_text, limit_of, unit_of};
 ghost use Rattle.raw_command.specs.Faults.{IsSilent, IsTransferCode, code_of};
-ghost use Rattle.raw_command.specs.Words.{IsInRange, IsPlaced, IsTarget, reads_source};
+ghost use Rattle.command_parts.specs.Words.{IsInRange, IsPlaced, IsTarget, reads_source};
 
 use crate::fault::TransferFault;
 use crate::lines::{done_line, fault_line};
 use crate::units::{put, read_unit};
-use crate::words::{Target, Transfer, Writing};
+use command_parts::{Target, Transfer, Writing};
 use outside_traits::traits::{Packs, Sink, Source};
 use outside_traits::whole::{read_all, write_all};
 use raw_io::is_outside;

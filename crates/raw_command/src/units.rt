@@ -6,11 +6,11 @@ ghost use Rattle.waited_requests.specs.Bytes.{dumped, dump_place};
 ghost use Rattle.raw_command.specs.Endings.{IsBeyond, bytes_for, target_for};
 ghost use Rattle.raw_command.specs.Faults.{fault_in, raw_fault};
 ghost use Rattle.raw_command.specs.Transfers.{ReadsUnit, WritesUnit};
-ghost use Rattle.raw_command.specs.Words.{IsPlaced, IsTarget};
+ghost use Rattle.command_parts.specs.Words.{IsPlaced, IsTarget};
 
 use crate::attaching::attached;
 use crate::fault::TransferFault;
-use crate::words::{Target, Writing};
+use command_parts::{Target, Writing};
 use outside_traits::traits::{Packs, Sink};
 use pack_geometry::DriveKind;
 use raw_io::{RawFault, dump, raw_read, raw_write};

@@ -1,5 +1,5 @@
 use Rattle.std.proofs.Common.{ℕ, subst, sym}
-use Rattle.pack_commands.specs.Passes.{IsTransferCode}
+use Rattle.raw_command.specs.Faults.{IsTransferCode}
 use Rattle.hpsim_run.proofs.TransferLaws.{causes_by, leaves_by}
 use Rattle.hpsim_run.proofs.transfers.run_bytes.Goals as goal
 

@@ -1,7 +1,7 @@
 use Rattle.std.proofs.Common.{subst, sym}
 use Rattle.command_parts.specs.Outside.{outside}
 use Rattle.raw_command.specs.Faults.{IsTransferCode, code_of}
-use Rattle.raw_command.specs.declared.words.Transfer.{Transfer}
+use Rattle.command_parts.specs.declared.words.Transfer.{Transfer}
 use Rattle.raw_command.proofs.RunLaws.{read_causes, read_status}
 use Rattle.raw_command.proofs.run.run_transfer.Goals as goal
 

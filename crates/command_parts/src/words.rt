@@ -2,9 +2,9 @@
 ghost use Rattle.std.specs.Prelude.{◌≡◌, ◌<◌, ◌≤◌, ◌^◌, map, IfSome};
 ghost use Rattle.std.specs.String.{string_bytes};
 ghost use Rattle.command_parts.specs.Fields.{kind_named, unit_named};
-ghost use Rattle.raw_command.specs.Words.{IsInRange, IsTarget, dump_named, part_named, place_named, raw_named, read_of, size_named, target_of, write_of};
+ghost use Rattle.command_parts.specs.Words.{IsInRange, IsTarget, dump_named, part_named, place_named, raw_named, read_of, size_named, target_of, write_of};
 
-use command_parts::{kind_in, unit_in};
+use crate::fields::{kind_in, unit_in};
 use mass_text::{Radix, number};
 use pack_geometry::DriveKind;
 use partitions::Part;

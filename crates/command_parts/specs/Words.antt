@@ -8,11 +8,11 @@ use Rattle.mass_text.specs.Numbers.{number_of}
 use Rattle.mass_text.specs.declared.numbers.Radix.TheVariants.{Decimal}
 use Rattle.script_lines.specs.Fields.{part_field}
 use Rattle.command_parts.specs.Fields.{kind_named, unit_named}
-use Rattle.raw_command.specs.declared.words.Target.{Target}
-use Rattle.raw_command.specs.declared.words.Transfer.{Transfer}
-use Rattle.raw_command.specs.declared.words.Transfer.TheVariants.{Read, Write}
-use Rattle.raw_command.specs.declared.words.Writing.{Writing}
-use Rattle.raw_command.specs.declared.words.Writing.TheVariants.{Raw, Dump}
+use Rattle.command_parts.specs.declared.words.Target.{Target}
+use Rattle.command_parts.specs.declared.words.Transfer.{Transfer}
+use Rattle.command_parts.specs.declared.words.Transfer.TheVariants.{Read, Write}
+use Rattle.command_parts.specs.declared.words.Writing.{Writing}
+use Rattle.command_parts.specs.declared.words.Writing.TheVariants.{Raw, Dump}
 
 -- a partition is `a` to `h`; a place is below 2^40, and a number of bytes 16,777,216 at the most, in decimal
 abbrev pub part_named : List ℕ → Option Part

@@ -1,7 +1,7 @@
 use Rattle.std.proofs.Common.{arith}
 use Rattle.std.specs.String.{string_bytes}
-use Rattle.raw_command.proofs.WordLaws.{one_word, many_words}
-use Rattle.raw_command.proofs.words.raw_in.Goals as goal
+use Rattle.command_parts.proofs.WordLaws.{one_word, many_words}
+use Rattle.command_parts.proofs.words.raw_in.Goals as goal
 
 pub returns-in-len1-clause-named : goal.returns-in-len1-clause-named
 returns-in-len1-clause-named c =

@@ -1,7 +1,7 @@
 -- WORDS that name no transfer: they are too few, or too many.
 use Rattle.std.proofs.Common.{◌≡◌, ℕ, ◌<◌, ◌≤◌, List, [], ◌∷◌, map, length, refl, arith}
 use Rattle.std.specs.Prelude.{None}
-use Rattle.raw_command.specs.Words.{raw_named}
+use Rattle.command_parts.specs.Words.{raw_named}
 
 pub one_word : {A : Type 0} (f : A → List ℕ) (verb unit kind : List ℕ) (words : List A) → 1 ≤ length words → length words < 2
     → None ≡ raw_named verb unit kind (map f words)
