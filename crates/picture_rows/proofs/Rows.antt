@@ -51,7 +51,7 @@ label_of sheet kind = rw (kind, decimal_digit 0 (omega arith)) refl
 
 other_letter : with_text (filled (codes "unit 0 rp06")) (83 ∷ []) ≡ with_text (filled (codes "unit 0 rp06")) (46 ∷ []) → ⊥
 unfolding front
-other_letter is = let letter : 83 ≡ 46 = ap (λ (row : List ℕ). get_or row 18 0) is in omega (arith, letter)
+other_letter is = let letter : 83 ≡ 46 = ap (λ (text : List ℕ). get_or text 18 0) is in omega (arith, letter)
 
 pub other_row : RowOfAnotherUnit
 unfolding with_unit sign_of
