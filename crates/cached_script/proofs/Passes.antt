@@ -1,9 +1,10 @@
 -- One line of a script: what it leaves known, and what is left to read behind it.
-use Rattle.std.proofs.Common.{◌≡◌, ℕ, ◌+◌, List, ◌∷◌, map, sym, ap, ◌∙◌, subst, Option, None, Some, Result, Ok, Err}
+use Rattle.std.proofs.Common.{◌≡◌, ℕ, ◌+◌, List, ◌∷◌, sym, ap, ◌∙◌, subst, Option, None, Some, Result, Ok, Err}
 use Rattle.script_lines.specs.declared.kinds.ScriptKind.{ScriptKind}
 use Rattle.script_lines.specs.Known.{Known}
 use Rattle.script_reader.specs.Lines.{lines_of, pieces_of, without_cr}
 use Rattle.script_reader.specs.Reading.{Refusal, on}
+use Rattle.script_reader.proofs.ReaderLaws.{first_line}
 use Rattle.cached_script.specs.declared.known.Known.{Known as Kept}
 use Rattle.cached_script.specs.declared.statement.Statement.{Statement}
 use Rattle.cached_script.specs.declared.statement.Line.{Line}
@@ -16,9 +17,6 @@ use Rattle.cached_script.proofs.Knows.{known_more}
 pub record Goes (new : Known) (lines : List Line) (n : ℕ) (after : List ℕ) (all : Result Read Refusal) : Type 0 where
   pub same : reading lines n (lines_of after) ≡ all
   pub known : new ≡ known_of lines
-
-first_line : (rest piece after line : List ℕ) → pieces_of rest ≡ piece ∷ pieces_of after → line ≡ without_cr piece → lines_of rest ≡ line ∷ lines_of after
-first_line rest piece after line p l = ap (λ (ps : List (List ℕ)). map without_cr ps) p ∙ ap (λ (x : List ℕ). x ∷ lines_of after) (sym l)
 
 abbrev step : List Line → ℕ → List (List ℕ) → Result (Option Statement) ScriptKind → Result Read Refusal
 step lines n texts res = on res (λ entry. reading (more lines n entry) (n + 1) texts) (λ kind. Err (record { line = n; kind = kind }))

@@ -1,15 +1,16 @@
 ghost use Rattle.std.specs.Prelude.{◌≡◌, ◌≤◌, ◌∷◌, IfOk};
 ghost use Rattle.script_lines.specs.Fields.{and_then, some_or};
+ghost use Rattle.script_lines.specs.Known.{new_unit_field, unit_field};
 ghost use Rattle.script_lines.specs.Words.{named};
-ghost use Rattle.script_lines.specs.Forms.{Parses, none_left, whole};
+ghost use Rattle.script_lines.specs.Forms.{field, Parses, none_left, whole};
 ghost use Rattle.cached_script.specs.Knowing.{known_in};
 ghost use Rattle.cached_script.specs.Scripts.{verb_word, all_verbs, start_form, fill_form, unit_form, read_form, write_form, form_of, too_late, said, entry};
 
 use crate::known::Known;
-use crate::parts::{byte, count, kind, new_unit, number, old_unit};
 use crate::statement::{Asked, Statement};
 use mass_text::Fields;
-use script_lines::{ScriptKind, is_word};
+use pack_geometry::DriveKind;
+use script_lines::{ScriptKind, is_word, next_byte, next_count, next_kind, next_number};
 
 /// The first words of lines.
 #[derive(Clone, Copy, PartialEq, Eq)]
@@ -37,15 +38,37 @@ fn verb_in(word: &[u8]) -> Result<Verb, ScriptKind>
     }
 }
 
+/// The number of a unit that was not declared.
+#[tactic(auto, using(crate::proofs::FieldLaws::field_read))]
+fn new_unit(known: &Known, fields: &mut Fields) -> Result<u8, ScriptKind>
+    ensures { Parses (field (new_unit_field (known_in known.now))) fields.old result fields.new }
+{
+    match fields.next() {
+        Some(text) => known.new_unit_field(text),
+        None => Err(ScriptKind::Word),
+    }
+}
+
+/// The number of a unit that was declared, and its kind.
+#[tactic(auto, using(crate::proofs::FieldLaws::field_read))]
+fn old_unit(known: &Known, fields: &mut Fields) -> Result<(u8, DriveKind), ScriptKind>
+    ensures { Parses (field (unit_field (known_in known.now))) fields.old result fields.new }
+{
+    match fields.next() {
+        Some(text) => known.unit_field(text),
+        None => Err(ScriptKind::Word),
+    }
+}
+
 /// `ID U BLOCK COUNT`
 #[tactic(auto, unfolding(crate::specs::Scripts::start_form))]
 fn start(known: &Known, fields: &mut Fields) -> Result<Asked, ScriptKind>
     ensures { Parses (start_form (known_in known.now)) fields.old result fields.new }
 {
-    let id = number(fields)?;
+    let id = next_number(fields, 0, u32::MAX)?;
     let (unit, _) = old_unit(known, fields)?;
-    let block = number(fields)?;
-    let count = count(fields)?;
+    let block = next_number(fields, 0, u32::MAX)?;
+    let count = next_count(fields)?;
     Ok(Asked {
         id,
         unit,
@@ -60,7 +83,7 @@ fn filled(fields: &mut Fields) -> Result<u8, ScriptKind>
     ensures { Parses fill_form fields.old result fields.new }
 {
     match fields.next() {
-        Some(word) if is_word(word, b"fill".as_slice()) => byte(fields),
+        Some(word) if is_word(word, b"fill".as_slice()) => next_byte(fields),
         _ => Err(ScriptKind::Word),
     }
 }
@@ -69,7 +92,7 @@ fn unit_line(known: &Known, fields: &mut Fields) -> Result<Statement, ScriptKind
     ensures { Parses (unit_form (known_in known.now)) fields.old result fields.new }
 {
     let unit = new_unit(known, fields)?;
-    let kind = kind(fields)?;
+    let kind = next_kind(fields)?;
     Ok(Statement::Unit { unit, kind })
 }
 

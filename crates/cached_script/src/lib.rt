@@ -8,8 +8,6 @@
 mod forms;
 mod kind;
 mod known;
-mod parts;
-mod pieces;
 mod script;
 mod statement;
 

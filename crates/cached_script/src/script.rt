@@ -11,13 +11,12 @@ ghost use Rattle.cached_script.specs.Reading.{reading, Finds};
 use crate::forms::entry;
 use crate::kind::{CachedKind, CachedRefusal};
 use crate::known::Known;
-use crate::pieces::without_cr;
 use crate::statement::{Line, Statement};
 use mass_text::Fields;
 use script_lines::ScriptKind;
+use script_reader::{first_piece, without_cr};
 use std::alloc::Global;
 use std::marker::Model;
-use trace_reader::first_line;
 
 /// The longest script, in bytes: 16 MiB.
 const LONGEST: usize = 16_777_216;
@@ -87,7 +86,7 @@ fn read_lines(alloc: Global, text: &[u8]) -> Result<Lines, CachedRefusal>
     let mut number = 1;
     let mut rest = text;
     'lines: while !rest.is_empty() {
-        let (piece, after) = first_line(rest);
+        let (piece, after) = first_piece(rest);
         match line_says(&known, number, without_cr(piece)) {
             Ok(read) => store(number, read, &mut known, &mut lines)?,
             Err(kind) => {

@@ -1,6 +1,7 @@
-//! Wrong outcomes, each refused by the words that contracts are made of (`contracts`), and worked rows of the driver's machine
-//! (`machine`).
+//! Wrong outcomes, each refused by the words that contracts are made of (`contracts`), worked rows of the driver's machine
+//! (`machine`), and a worked script beside its text (`scripts`).
 #![tactic(auto)]
 
 pub mod contracts;
 pub mod machine;
+pub mod scripts;

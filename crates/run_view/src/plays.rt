@@ -4,15 +4,14 @@ ghost use Rattle.std.specs.List.{All};
 ghost use Rattle.script_reader.specs.Grammar.{Spells};
 ghost use Rattle.script_lines.specs.Words.{all_verbs};
 ghost use Rattle.script_reader.specs.Stored.{Kept, seen};
-ghost use Rattle.script_reader.specs.Lines.{pieces_of, lines_of, without_cr};
+ghost use Rattle.script_reader.specs.Lines.{pieces_of, lines_of};
 ghost use Rattle.run_view.specs.Plays.{play_of, names_of, played_as, last_drain, plays_of, HasUnitAt, HaveUnits};
 ghost use Rattle.run_view.specs.Saids.{said_of, IsHeardAt};
 
 use crate::seen::Seen;
 use drive_pictures::{Change, Moment, Play};
-use script_reader::{Script, Statement, Stored, read_back_law};
+use script_reader::{Script, Statement, Stored, first_piece, read_back_law, without_cr};
 use std::alloc::{AllocError, Global};
-use trace_reader::first_line;
 
 /// What a line of a script does that can be seen; None where it declares a drive.
 fn play_of(line: &Stored) -> Option<Play>
@@ -89,7 +88,7 @@ fn skip(text: &[u8], count: u32) -> &[u8]
     let mut rest = text;
     let mut left = count;
     'lines: while left > 0 && !rest.is_empty() {
-        let (_, after) = first_line(rest);
+        let (_, after) = first_piece(rest);
         rest = after;
         left -= 1;
     }
@@ -108,16 +107,6 @@ fn line_at<'a>(text: &'a [u8], rest: &'a [u8], next: u32, number: u32) -> &'a [u
     }
 }
 
-/// A line without the CR at its very end.
-fn without_cr(line: &[u8]) -> &[u8]
-    ensures { result.now ≡ without_cr line.now }
-{
-    if line.is_empty() || line[line.len() - 1] != b'\r' {
-        return line;
-    }
-    &line[..line.len() - 1]
-}
-
 /// The first line of a text, without CR at its end; empty where there is none.
 pub fn first_text(text: &[u8]) -> &[u8]
     ensures { result.now ≡ slice_index_or (lines_of text.now) 0 [] }
@@ -125,7 +114,7 @@ pub fn first_text(text: &[u8]) -> &[u8]
     if text.is_empty() {
         return &[];
     }
-    let (line, _) = first_line(text);
+    let (line, _) = first_piece(text);
     without_cr(line)
 }
 

@@ -10,7 +10,8 @@ use crate::fault::LineFault;
 use crate::held::Held;
 use crate::known::Known;
 use crate::parts::{
-    byte, count, digits, fault, kind, new_id, new_unit, number, offset, old_unit, part, seq,
+    digits, fault, new_id, new_unit, next_byte, next_count, next_kind, next_number, offset,
+    old_unit, part, seq,
 };
 use crate::places::places;
 use crate::statement::{Content, Request, Span, Statement};
@@ -42,8 +43,8 @@ fn start(known: &Known, fields: &mut Fields) -> Result<Request, ScriptKind>
     let id = new_id(known, fields)?;
     let (unit, _) = old_unit(known, fields)?;
     let part = part(fields)?;
-    let block = number(fields, 0, u32::MAX)?;
-    let count = count(fields)?;
+    let block = next_number(fields, 0, u32::MAX)?;
+    let count = next_count(fields)?;
     Ok(Request {
         id,
         unit,
@@ -83,7 +84,7 @@ fn last(word: &[u8], fields: &mut Fields) -> Result<u16, ScriptKind>
     if !is_word(word, b"last".as_slice()) {
         return Err(ScriptKind::Word);
     }
-    let last = number(fields, 1, 512)?;
+    let last = next_number(fields, 1, 512)?;
     alone(last as u16, fields)
 }
 
@@ -102,7 +103,7 @@ fn last_or_end(fields: &mut Fields) -> Result<u16, ScriptKind>
 fn behind_off(fields: &mut Fields) -> Result<(u16, u16), ScriptKind>
     ensures { Parses (next (field (number_field 0 511)) both_form) fields.old result fields.new }
 {
-    let offset = number(fields, 0, 511)?;
+    let offset = next_number(fields, 0, 511)?;
     let last = last_or_end(fields)?;
     Ok((offset as u16, last))
 }
@@ -140,7 +141,7 @@ fn content(count: u32, span: Span, fields: &mut Fields) -> Result<Content<Span>,
 {
     let word = need(fields)?;
     if is_word(word, b"fill".as_slice()) {
-        Ok(Content::Fill(byte(fields)?))
+        Ok(Content::Fill(next_byte(fields)?))
     } else if is_word(word, b"seq".as_slice()) {
         Ok(Content::Seq(seq(fields)?))
     } else if is_word(word, b"hex".as_slice()) {
@@ -175,7 +176,7 @@ fn unit(known: &Known, fields: &mut Fields) -> Result<u8, ScriptKind>
 fn adapter(fields: &mut Fields) -> Result<u8, ScriptKind>
     ensures { Parses adapter_form fields.old result fields.new }
 {
-    let adapter = number(fields, 0, 3)?;
+    let adapter = next_number(fields, 0, 3)?;
     Ok(adapter as u8)
 }
 
@@ -183,7 +184,7 @@ fn unit_line(known: &Known, fields: &mut Fields) -> Result<Read, ScriptKind>
     ensures { (span : Span) → Parses (mapped (read_of span) (unit_form (known_in known.now))) fields.old result fields.new }
 {
     let unit = new_unit(known, fields)?;
-    let kind = kind(fields)?;
+    let kind = next_kind(fields)?;
     Ok(Statement::Unit { unit, kind })
 }
 
@@ -208,7 +209,7 @@ fn turn_line(known: &Known, fields: &mut Fields) -> Result<Read, ScriptKind>
     ensures { (span : Span) → Parses (mapped (read_of span) (turn_form (known_in known.now))) fields.old result fields.new }
 {
     let (unit, kind) = old_unit(known, fields)?;
-    let sector = number(fields, 0, geometry_of(kind).sectors - 1)?;
+    let sector = next_number(fields, 0, geometry_of(kind).sectors - 1)?;
     Ok(Statement::Turn { unit, sector })
 }
 
@@ -216,7 +217,7 @@ fn noise_line(known: &Known, fields: &mut Fields) -> Result<Struck, ScriptKind>
     ensures { Parses (noise_form (known_in known.now)) fields.old (changed struck_as result) fields.new }
 {
     let (unit, kind) = old_unit(known, fields)?;
-    let block = number(fields, 0, blocks(kind) - 1)?;
+    let block = next_number(fields, 0, blocks(kind) - 1)?;
     let span = noise_span(fields)?;
     let places = places(fields)?;
     Ok(Struck {
@@ -232,7 +233,7 @@ fn fault_line(known: &Known, fields: &mut Fields) -> Result<Read, ScriptKind>
 {
     let unit = unit(known, fields)?;
     let what = fault(fields)?;
-    let times = number(fields, 1, 1000)?;
+    let times = next_number(fields, 1, 1000)?;
     Ok(Statement::Fault { unit, what, times })
 }
 

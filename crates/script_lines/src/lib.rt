@@ -34,6 +34,7 @@ pub use forms::{Read, said};
 pub use held::Held;
 pub use kinds::ScriptKind;
 pub use known::Known;
+pub use parts::{next_byte, next_count, next_kind, next_number};
 pub use refusals::refusal;
 pub use statement::{Content, Line, Request, Span, Statement};
 pub use verbs::Verb;

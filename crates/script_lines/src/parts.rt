@@ -16,9 +16,9 @@ use mass_text::Fields;
 use pack_geometry::DriveKind;
 use partitions::Part;
 
-/// A decimal number from `low` to `high`.
+/// The next field: a decimal number from `low` to `high`. `Word` where there is none.
 #[tactic(auto, using(crate::proofs::FieldLaws::field_read))]
-pub(crate) fn number(fields: &mut Fields, low: u32, high: u32) -> Result<u32, ScriptKind>
+pub fn next_number(fields: &mut Fields, low: u32, high: u32) -> Result<u32, ScriptKind>
     ensures value { Parses (field (number_field low high)) fields.old result fields.new }
     ensures bound { IfOk result (λ n. n ≤ high) }
 {
@@ -28,9 +28,9 @@ pub(crate) fn number(fields: &mut Fields, low: u32, high: u32) -> Result<u32, Sc
     }
 }
 
-/// How many blocks, 1 to 127.
+/// The next field: how many blocks, 1 to 127. `Word` where there is none.
 #[tactic(auto, using(crate::proofs::FieldLaws::field_read))]
-pub(crate) fn count(fields: &mut Fields) -> Result<u32, ScriptKind>
+pub fn next_count(fields: &mut Fields) -> Result<u32, ScriptKind>
     ensures value { Parses (field count_field) fields.old result fields.new }
     ensures bound { IfOk result (λ n. n ≤ 127) }
 {
@@ -51,9 +51,9 @@ pub(crate) fn part(fields: &mut Fields) -> Result<Part, ScriptKind>
     }
 }
 
-/// A kind of drive.
+/// The next field: a kind of drive. `Word` where there is none.
 #[tactic(auto, using(crate::proofs::FieldLaws::field_read))]
-pub(crate) fn kind(fields: &mut Fields) -> Result<DriveKind, ScriptKind>
+pub fn next_kind(fields: &mut Fields) -> Result<DriveKind, ScriptKind>
     ensures { Parses (field kind_field) fields.old result fields.new }
 {
     match fields.next() {
@@ -84,9 +84,9 @@ pub(crate) fn fault(fields: &mut Fields) -> Result<FaultKind, ScriptKind>
     }
 }
 
-/// Two hexadecimal digits.
+/// The next field: a byte, as two hexadecimal digits. `Word` where there is none.
 #[tactic(auto, using(crate::proofs::FieldLaws::field_read))]
-pub(crate) fn byte(fields: &mut Fields) -> Result<u8, ScriptKind>
+pub fn next_byte(fields: &mut Fields) -> Result<u8, ScriptKind>
     ensures { Parses (field byte_field) fields.old result fields.new }
 {
     match fields.next() {

@@ -2,4 +2,3 @@ pub mod Numbers
 pub mod Bytes
 pub mod Scripts
 pub mod Drives
-pub mod Rows

@@ -1,5 +1,5 @@
 -- What is promised of the meaning of scripts.
-use Rattle.std.specs.Prelude.{◌≡◌, ◌↔◌, ℕ, ◌*◌, Bool, true, List, [], ◌∷◌, ◌++◌, length, map, codes, Some, Contains}
+use Rattle.std.specs.Prelude.{◌≡◌, ◌↔◌, ℕ, ◌*◌, Bool, true, List, length, map, Some, Contains}
 use Rattle.pack_geometry.specs.declared.DriveKind.{DriveKind}
 use Rattle.script_lines.specs.declared.statement.Content.{Content}
 use Rattle.script_lines.specs.declared.statement.Statement.TheVariants as says
@@ -11,7 +11,6 @@ use Rattle.script_lines.specs.Known.{Said, Numbered}
 use Rattle.script_reader.specs.Stored.{Stored, lines_in}
 use Rattle.script_lines.specs.Words.{all_verbs}
 use Rattle.trace_replay.specs.Script.{Statement, Line, Script, IsScript, drives_of}
-use Rattle.trace_rows.specs.Rows1.{first_read_script}
 use Rattle.script_meaning.specs.Meaning.{bytes_of, meaning, meaning_of}
 
 -- what some lines say, without their numbers
@@ -44,12 +43,3 @@ MeansTheSame = (lines others : List Numbered) (count other : ℕ) → said_in li
 abbrev pub MeansItsBytes : Type 0
 MeansItsBytes = (content : Content (List ℕ)) (count : ℕ) (told : Bool) (bytes : List ℕ) → IsWritten count content → length bytes ≡ 512 * count
     → IsData content (512 * count) told bytes → (told ≡ true) × (bytes ≡ bytes_of content (512 * count))
-
--- a script of one read of one block
-abbrev pub one_read_text : List ℕ
-one_read_text = codes "unit 0 rp06" ++ 10 ∷ codes "read 1 0 c 0 1" ++ 10 ∷ []
-
--- It spells lines, and all that it spells means the row of one read.
-abbrev pub MeansOneRead : Type 0
-MeansOneRead = ((lines : List Numbered) × (count : ℕ) × Spells all_verbs one_read_text lines count)
-    × ((lines : List Numbered) (count : ℕ) → Spells all_verbs one_read_text lines count → meaning lines count ≡ first_read_script)

@@ -57,7 +57,7 @@ behind text rest after r a short shorter =
     ∙ ap (λ (k : ℕ). drop k text) size
 
 -- ONE LINE of those that are left
-first_line : (rest piece after line : List ℕ) → pieces_of rest ≡ piece ∷ pieces_of after → line ≡ without_cr piece → lines_of rest ≡ line ∷ lines_of after
+pub first_line : (rest piece after line : List ℕ) → pieces_of rest ≡ piece ∷ pieces_of after → line ≡ without_cr piece → lines_of rest ≡ line ∷ lines_of after
 first_line rest piece after line p l = ap (λ (ps : List (List ℕ)). map without_cr ps) p ∙ ap (λ (x : List ℕ). x ∷ lines_of after) (sym l)
 
 abbrev step : List Verb → List Numbered → ℕ → List (List ℕ) → Result (Option Said) ScriptKind → Result Read Refusal

@@ -14,5 +14,6 @@ mod lines;
 mod script;
 
 pub use fault::ReadFault;
+pub use lines::{first_piece, without_cr};
 pub use script::{Script, Stored, grammar_law, read_back_law, read_script};
 pub use script_lines::{Content, Line, Request, ScriptKind, Span, Statement, Verb};

@@ -6,6 +6,5 @@ pub mod BackLaws
 pub mod LineLaws
 pub mod ReadingLaws
 pub mod RoundLaws
-pub mod FeedLaws
 pub mod GrammarLaws
 pub mod SoFarLaws

@@ -1,6 +1,5 @@
 // A trace that is read a line at a time.
-ghost use Rattle.std.specs.Prelude.{◌≡◌, ◌<◌, ◌≤◌, ◌==◌, ◌∷◌, ◌+◌, length, [], position, IfOk, IfErr, List};
-ghost use Rattle.script_reader.specs.Lines.{pieces_of};
+ghost use Rattle.std.specs.Prelude.{◌≡◌, [], IfOk, IfErr, List};
 ghost use Rattle.trace_reader.specs.declared.line.TraceLine.{TraceLine};
 ghost use Rattle.trace_reader.specs.Grammar.{Refuses};
 ghost use Rattle.trace_reader.specs.Knowing.{Knows};
@@ -11,31 +10,12 @@ use crate::asked::Asked;
 use crate::fault::{TraceFault, TraceKind};
 use crate::forms::line_of;
 use crate::line::{ReadLine, TraceLine};
-use script_reader::Script;
+use script_reader::{Script, first_piece};
 use std::alloc::Global;
 use std::marker::Model;
 
 /// The longest trace, in bytes: 256 MiB.
 const LONGEST: usize = 268_435_456;
-
-/// Where LF stands first.
-fn first_feed(bytes: &[u8]) -> Option<usize>
-    ensures { result ≡ position (λ b. b == 10) bytes.now }
-{
-    bytes.iter().position(|byte| *byte == b'\n')
-}
-
-/// The first line of a text that is not empty, without LF, and what comes behind it.
-pub fn first_line(bytes: &[u8]) -> (&[u8], &[u8])
-    requires { 0 < length bytes.now }
-    ensures line { pieces_of bytes.now ≡ result.0.now ∷ pieces_of result.1.now }
-    ensures shorter { length result.1.now < length bytes.now }
-{
-    match first_feed(bytes) {
-        Some(at) => (&bytes[..at], &bytes[at + 1..]),
-        None => (bytes, &[]),
-    }
-}
 
 /// A line that was read, behind one of number `before`.
 fn standing(
@@ -138,7 +118,7 @@ impl<'a> TraceLines<'a> {
         if self.rest.is_empty() {
             return Ok(None);
         }
-        let (text, after) = first_line(self.rest);
+        let (text, after) = first_piece(self.rest);
         match judged(self.script, &self.asked, self.before, text) {
             Ok(line) => {
                 self.rest = after;

@@ -16,6 +16,6 @@ mod verbs;
 mod words;
 
 pub use fault::{TraceFault, TraceKind};
-pub use left::{TraceLines, first_line};
+pub use left::TraceLines;
 pub use line::{ReadLine, TraceLine};
 pub use reader::{grammar_law, read_trace, round_trip_law};

@@ -10,9 +10,9 @@ pub lines-preserved : goal.lines-preserved
 lines-preserved c =
     let so_far = c.lines.invariant in
     let stored = c.in_ok-store-in-Ok.ensures in
-    let split = c.first_line.ensures in
-    let goes = gone c.lines.lines.items c.store.new.lines.items c.lines.number c.lines.rest.now c.first_line.result.0.now c.first_line.result.1.now c.without_cr.result.now c.in-Ok.read
-    c.lines.known c.store.new.known (reading [] 1 (lines_of c.args.text.now)) so_far.same so_far.known split.line c.without_cr.ensures c.in-Ok.ensures.value stored.learns stored.stores in
+    let split = c.first_piece.ensures in
+    let goes = gone c.lines.lines.items c.store.new.lines.items c.lines.number c.lines.rest.now c.first_piece.result.0.now c.first_piece.result.1.now c.without_cr.result.now c.in-Ok.read
+    c.lines.known c.store.new.known (reading [] 1 (lines_of c.args.text.now)) so_far.same so_far.known split.line c.without_cr.ensures.value c.in-Ok.ensures.value stored.learns stored.stores in
     record {
       same = goes.same;
       known = goes.known;

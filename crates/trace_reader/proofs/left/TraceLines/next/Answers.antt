@@ -11,13 +11,13 @@ returns-then-is_empty-clause-ok c =
 pub returns-in-Ok-clause-ok : goal.returns-in-Ok-clause-ok
 returns-in-Ok-clause-ok c =
     rw (← c.self.view_is) (
-    goes_left c.self.inside.script.now c.self.inside.bytes.now c.self.inside.rest.now c.first_line.result.0.now c.first_line.result.1.now c.self.inside.before c.self.inside.number
-    c.line-self-inside.result c.in-Ok.line c.first_line.ensures.line (sym c.in-Ok.ensures) c.line-self-inside.ensures
+    goes_left c.self.inside.script.now c.self.inside.bytes.now c.self.inside.rest.now c.first_piece.result.0.now c.first_piece.result.1.now c.self.inside.before c.self.inside.number
+    c.line-self-inside.result c.in-Ok.line c.first_piece.ensures.line (sym c.in-Ok.ensures) c.line-self-inside.ensures
     )
 
 pub returns-in-Err-clause-err : goal.returns-in-Err-clause-err
 returns-in-Err-clause-err c =
     rw (← c.self.view_is) (
-    stops_left c.self.inside.script.now c.self.inside.bytes.now c.self.inside.rest.now c.first_line.result.0.now c.first_line.result.1.now c.self.inside.before c.self.inside.number
-    c.in-Err.kind c.first_line.ensures.line (sym c.in-Err.ensures)
+    stops_left c.self.inside.script.now c.self.inside.bytes.now c.self.inside.rest.now c.first_piece.result.0.now c.first_piece.result.1.now c.self.inside.before c.self.inside.number
+    c.in-Err.kind c.first_piece.ensures.line (sym c.in-Err.ensures)
     )
