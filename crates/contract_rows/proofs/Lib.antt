@@ -1,3 +1,3 @@
 pub mod Written
 pub mod Bytes
-mod Scripts
+mod OneRead

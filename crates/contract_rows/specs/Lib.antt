@@ -5,4 +5,4 @@ pub mod Drives
 pub mod Machine
 pub mod Slots
 pub mod Bytes
-pub mod Scripts
+pub mod OneRead

@@ -2,7 +2,7 @@
 
 ghost use Rattle.trace_replay.specs.Script.{IsScript};
 ghost use Rattle.trace_rows.specs.Rows1.{first_read_script};
-ghost use Rattle.contract_rows.specs.Scripts.{MeansOneRead};
+ghost use Rattle.contract_rows.specs.OneRead.{MeansOneRead};
 
 /// A text of one read means the row of that read, which is so a script.
 pub fn script_law()

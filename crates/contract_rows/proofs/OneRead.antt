@@ -10,7 +10,7 @@ use Rattle.script_lines.specs.Words.{all_verbs}
 use Rattle.script_reader.proofs.ReadingLaws.{one_script}
 use Rattle.script_meaning.specs.Meaning.{meaning}
 use Rattle.trace_rows.specs.Rows1.{first_read_script}
-use Rattle.contract_rows.specs.Scripts.{one_read_text, MeansOneRead}
+use Rattle.contract_rows.specs.OneRead.{one_read_text, MeansOneRead}
 
 -- its lines
 abbrev pub one_read : List Numbered
