@@ -5,19 +5,19 @@ ghost use Rattle.drive_registers.specs.Bits.{status_names, first_error_names, se
 use bitflags::{Flag, Flags, bitflag_items};
 
 /// The drive status register.
-#[derive(Clone, Copy, Debug, PartialEq, Eq)]
+#[derive(Clone, Copy, PartialEq, Eq)]
 pub struct Ds(u16);
 
 /// The first error register.
-#[derive(Clone, Copy, Debug, PartialEq, Eq)]
+#[derive(Clone, Copy, PartialEq, Eq)]
 pub struct Er1(u16);
 
 /// The second error register.
-#[derive(Clone, Copy, Debug, PartialEq, Eq)]
+#[derive(Clone, Copy, PartialEq, Eq)]
 pub struct Er2(u16);
 
 /// The offset register. Its low eight bits, which have no names, are the offset code.
-#[derive(Clone, Copy, Debug, PartialEq, Eq)]
+#[derive(Clone, Copy, PartialEq, Eq)]
 pub struct Of(u16);
 
 bitflag_items! {

@@ -15,7 +15,7 @@ mod bits;
 pub use bits::{Ds, Er1, Er2, Of};
 
 /// What a drive can be told to do.
-#[derive(Clone, Copy, Debug, PartialEq, Eq)]
+#[derive(Clone, Copy, PartialEq, Eq)]
 pub enum Function {
     /// Nothing.
     Nop,
@@ -44,7 +44,7 @@ pub enum Function {
 }
 
 /// How far the heads are moved off the centre of a cylinder, in microinches.
-#[derive(Clone, Copy, Debug, PartialEq, Eq)]
+#[derive(Clone, Copy, PartialEq, Eq)]
 pub enum OffsetCode {
     Plus400,
     Minus400,

@@ -34,11 +34,11 @@ use crate::tables::{eight_steps, power};
 use std::marker::Model;
 
 /// A sector's 32 check bits: bit e is the coefficient of x^e.
-#[derive(Clone, Copy, PartialEq, Eq, Debug)]
+#[derive(Clone, Copy, PartialEq, Eq)]
 pub struct Check(pub u32);
 
 /// What a word's remainder tells.
-#[derive(Clone, Copy, PartialEq, Eq, Debug)]
+#[derive(Clone, Copy, PartialEq, Eq)]
 pub enum Verdict {
     /// The word is right.
     Clean,
@@ -51,7 +51,7 @@ pub enum Verdict {
 }
 
 /// What becomes of noise when it strikes a right word.
-#[derive(Clone, Copy, PartialEq, Eq, Debug)]
+#[derive(Clone, Copy, PartialEq, Eq)]
 pub enum NoiseClass {
     /// Its places lie within 11 successive ones: it is told by its remainder, and can be repaired.
     Short,

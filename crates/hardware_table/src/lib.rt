@@ -18,7 +18,7 @@ ghost use Rattle.hardware_table.specs.Adapter.{AdapterState, IsAdapter, IsLoaded
 use drive_registers::OffsetCode;
 
 /// The registers of a drive.
-#[derive(Clone, Copy, Debug, PartialEq, Eq)]
+#[derive(Clone, Copy, PartialEq, Eq)]
 pub enum Register {
     /// Control: the code of the last function, without GO.
     Cs1,
@@ -49,7 +49,7 @@ pub enum Register {
 }
 
 /// The faults that can be armed on a drive.
-#[derive(Clone, Copy, Debug, PartialEq, Eq)]
+#[derive(Clone, Copy, PartialEq, Eq)]
 pub enum FaultKind {
     /// Seek incomplete.
     Seek,
@@ -64,7 +64,7 @@ pub enum FaultKind {
 }
 
 /// The verdict of one sector's move.
-#[derive(Clone, Copy, Debug, PartialEq, Eq)]
+#[derive(Clone, Copy, PartialEq, Eq)]
 pub enum Moved {
     /// The sector was written, or was read and found right.
     Clean,
@@ -82,7 +82,7 @@ pub enum Moved {
 }
 
 /// What a drive is doing.
-#[derive(Clone, Copy, Debug, PartialEq, Eq)]
+#[derive(Clone, Copy, PartialEq, Eq)]
 pub enum Work {
     /// Nothing: the drive is ready.
     Ready,
@@ -93,7 +93,7 @@ pub enum Work {
 }
 
 /// How often each fault is still to strike.
-#[derive(Clone, Copy, Debug, PartialEq, Eq)]
+#[derive(Clone, Copy, PartialEq, Eq)]
 pub struct Armed {
     pub seek: u64,
     pub opi: u64,
@@ -103,7 +103,7 @@ pub struct Armed {
 }
 
 /// How long noise lives.
-#[derive(Clone, Copy, Debug, PartialEq, Eq)]
+#[derive(Clone, Copy, PartialEq, Eq)]
 pub enum NoiseSpan {
     /// For so many strikes.
     Times(u32),

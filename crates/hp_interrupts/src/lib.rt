@@ -22,7 +22,7 @@ use hardware_table::{FaultKind, Moved};
 
 /// The registers that are read at a data interrupt: the drive's error registers and its two ECC registers, and
 /// whether the adapter shows data late.
-#[derive(Clone, Copy, Debug, PartialEq, Eq)]
+#[derive(Clone, Copy, PartialEq, Eq)]
 pub struct TransferRegs {
     pub er1: u16,
     pub er2: u16,
@@ -32,7 +32,7 @@ pub struct TransferRegs {
 }
 
 /// Why a transfer ended.
-#[derive(Clone, Copy, Debug, PartialEq, Eq)]
+#[derive(Clone, Copy, PartialEq, Eq)]
 pub enum DataCause {
     /// Every sector moved clean.
     Complete,
@@ -50,7 +50,7 @@ pub enum DataCause {
 }
 
 /// What the drive status says before a command.
-#[derive(Clone, Copy, Debug, PartialEq, Eq)]
+#[derive(Clone, Copy, PartialEq, Eq)]
 pub enum Sensed {
     /// The command can be issued.
     Go,

@@ -5,7 +5,7 @@ ghost use Rattle.hpview_run.specs.Words.{form_named, event_named, span_of, comma
 use mass_text::{Radix, number};
 
 /// How a run is drawn.
-#[derive(Clone, Copy, Debug, PartialEq, Eq)]
+#[derive(Clone, Copy, PartialEq, Eq)]
 pub enum Form {
     /// For a browser.
     Svg,
@@ -14,7 +14,7 @@ pub enum Form {
 }
 
 /// What the words of the command line ask for: a form, and the events from one to another, counted from 1.
-#[derive(Clone, Copy, Debug, PartialEq, Eq)]
+#[derive(Clone, Copy, PartialEq, Eq)]
 pub struct Command {
     pub form: Form,
     pub from: u64,

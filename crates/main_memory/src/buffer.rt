@@ -7,11 +7,11 @@ use arrayvec::ArrayVec;
 use std::marker::{Model, PhantomData};
 
 /// A buffer in this state is the driver's, which stores and fetches its blocks.
-#[derive(Clone, Copy, Debug)]
+#[derive(Clone, Copy)]
 pub struct Cpu;
 
 /// A buffer in this state is an adapter's, which opens windows on its blocks.
-#[derive(Clone, Copy, Debug)]
+#[derive(Clone, Copy)]
 pub struct Bus;
 
 /// Blocks of 512 bytes in frames of main memory: the frames in order, the place in the first frame where

@@ -9,7 +9,7 @@ use std::alloc::{AllocError, Global};
 use std::marker::Model;
 
 /// The operations on packs.
-#[derive(Clone, Copy, Debug, PartialEq, Eq)]
+#[derive(Clone, Copy, PartialEq, Eq)]
 pub enum PackOp {
     Length,
     Read,
@@ -19,7 +19,7 @@ pub enum PackOp {
 }
 
 /// A call that is to fail.
-#[derive(Clone, Copy, Debug, PartialEq, Eq)]
+#[derive(Clone, Copy, PartialEq, Eq)]
 pub struct FailCall {
     pub op: PackOp,
     /// The number of the call among those of its operation, counted from 1.

@@ -6,7 +6,7 @@ use std::alloc::{AllocError, Global};
 use std::io;
 
 /// The two files of a unit.
-#[derive(Clone, Copy, Debug, PartialEq, Eq)]
+#[derive(Clone, Copy, PartialEq, Eq)]
 pub enum Part {
     /// The bytes of its blocks.
     Image,

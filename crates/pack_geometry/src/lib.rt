@@ -13,7 +13,7 @@ ghost use Rattle.pack_geometry.specs.declared.Place.{Place};
 ghost use Rattle.pack_geometry.specs.Geometry.{cylinders_of, tracks_of, sectors_of, block_count, limit_of, IsInside, block_number, place_at, copy_at, replacement_at, kind_word, track_and_sector};
 
 /// The kinds of drive.
-#[derive(Clone, Copy, Debug, PartialEq, Eq)]
+#[derive(Clone, Copy, PartialEq, Eq)]
 pub enum DriveKind {
     Rp06,
     Rm03,
@@ -21,7 +21,7 @@ pub enum DriveKind {
 }
 
 /// How many cylinders a drive has, tracks a cylinder, and sectors of 512 bytes a track.
-#[derive(Clone, Copy, Debug, PartialEq, Eq)]
+#[derive(Clone, Copy, PartialEq, Eq)]
 pub struct Geometry {
     pub cylinders: u32,
     pub tracks: u32,
@@ -29,7 +29,7 @@ pub struct Geometry {
 }
 
 /// Where a sector lies; each number counts from 0.
-#[derive(Clone, Copy, Debug, Default, PartialEq, Eq)]
+#[derive(Clone, Copy, Default, PartialEq, Eq)]
 pub struct Place {
     pub cylinder: u32,
     pub track: u32,

@@ -13,7 +13,7 @@ ghost use Rattle.partitions.specs.Partitions.{letter_of, size_of, cylinder_of, f
 use pack_geometry::{DriveKind, data_limit, geometry_of};
 
 /// A drive's partitions.
-#[derive(Clone, Copy, Debug, PartialEq, Eq)]
+#[derive(Clone, Copy, PartialEq, Eq)]
 pub enum Part {
     A,
     B,
@@ -26,7 +26,7 @@ pub enum Part {
 }
 
 /// The blocks of a partition: its first, counted on the pack, and how many it has.
-#[derive(Clone, Copy, Debug, PartialEq, Eq)]
+#[derive(Clone, Copy, PartialEq, Eq)]
 pub struct PartRange {
     pub first: u32,
     pub size: u32,
@@ -34,7 +34,7 @@ pub struct PartRange {
 
 /// What a request meets: blocks inside its partition, the first of them counted on the pack; the partition's very
 /// end; or blocks outside.
-#[derive(Clone, Copy, Debug, PartialEq, Eq)]
+#[derive(Clone, Copy, PartialEq, Eq)]
 pub enum Admission {
     Inside { first: u32 },
     Eof,

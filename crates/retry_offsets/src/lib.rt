@@ -13,7 +13,7 @@ ghost use Rattle.retry_offsets.specs.Schedule.{offset_after, step_after};
 use drive_registers::OffsetCode;
 
 /// What follows a failure.
-#[derive(Clone, Copy, Debug, PartialEq, Eq)]
+#[derive(Clone, Copy, PartialEq, Eq)]
 pub enum Step {
     /// The transfer at once.
     Again,

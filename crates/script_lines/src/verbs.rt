@@ -1,5 +1,5 @@
 /// The first words of lines.
-#[derive(Clone, Copy, Debug, PartialEq, Eq)]
+#[derive(Clone, Copy, PartialEq, Eq)]
 pub enum Verb {
     Unit,
     Read,

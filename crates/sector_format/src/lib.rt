@@ -15,14 +15,14 @@ use pack_geometry::{DriveKind, place_of, sector_word};
 
 /// A sector's header: the cylinder and the bits above it that say whether the sector is good, and
 /// `track * 256 + sector`.
-#[derive(Clone, Copy, Debug, PartialEq, Eq)]
+#[derive(Clone, Copy, PartialEq, Eq)]
 pub struct Header {
     pub cylinder_word: u16,
     pub sector_word: u16,
 }
 
 /// A sector as it lies on the pack.
-#[derive(Debug, Drop)]
+#[derive(Drop)]
 pub struct RawSector {
     pub header: Header,
     pub body: [u8; 512],
@@ -30,7 +30,7 @@ pub struct RawSector {
 }
 
 /// What is wrong with a header where a block is wanted.
-#[derive(Clone, Copy, Debug, PartialEq, Eq)]
+#[derive(Clone, Copy, PartialEq, Eq)]
 pub enum HeaderFault {
     /// The format bit is off; so a marked sector of an RP06 is shown.
     Format,

@@ -16,7 +16,7 @@ use std::marker::Model;
 const SEARCH_AHEAD: u32 = 3;
 
 /// What a unit does before its transfer: nothing, a SEARCH for a sector of a cylinder, or a SEEK to a cylinder.
-#[derive(Clone, Copy, Debug, PartialEq, Eq)]
+#[derive(Clone, Copy, PartialEq, Eq)]
 pub enum Position {
     Ready,
     Search { cylinder: u32, sector: u32 },
@@ -56,18 +56,18 @@ pub fn decide(kind: DriveKind, here: u32, look: u32, target: Place, first: bool)
 }
 
 /// A unit that does nothing for its request.
-#[derive(Debug, Drop)]
+#[derive(Drop)]
 #[non_exhaustive]
 pub struct Waiting;
 
 /// A unit whose positioning has begun and has not ended. It is seen as its goal.
-#[derive(Debug, Drop)]
+#[derive(Drop)]
 pub struct Positioning {
     goal: Position,
 }
 
 /// A unit that waits for its adapter.
-#[derive(Debug, Drop)]
+#[derive(Drop)]
 #[non_exhaustive]
 pub struct Queued;
 

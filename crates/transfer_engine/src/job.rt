@@ -4,7 +4,7 @@ use pack_geometry::DriveKind;
 
 /// A request's blocks: the kind of the drive, the first block on the pack, how many blocks, and whether they are
 /// written.
-#[derive(Clone, Copy, Debug, PartialEq, Eq)]
+#[derive(Clone, Copy, PartialEq, Eq)]
 pub struct Job {
     pub kind: DriveKind,
     pub first: u32,
@@ -14,7 +14,7 @@ pub struct Job {
 
 /// What one transfer command moves: the first sector on the pack, the first block in the request's buffer, and how
 /// many of each.
-#[derive(Clone, Copy, Debug, PartialEq, Eq)]
+#[derive(Clone, Copy, PartialEq, Eq)]
 pub struct Segment {
     pub block: u32,
     pub skip: u32,
