@@ -5,7 +5,7 @@ ghost use Rattle.answer_lines.specs.Counting.{Counts, is_done, tally_by};
 use subsystem_spec::AnswerKind;
 
 /// The counts of a run. A count of 64 bits stands still at its last value.
-#[derive(Clone, Copy, PartialEq, Eq)]
+#[derive(Clone, Copy)]
 pub struct Tally {
     /// How many requests the script has.
     pub requests: u64,

@@ -24,7 +24,7 @@ use pack_geometry::{DriveKind, Place, place_law, place_of, sector_word};
 use std::alloc::Global;
 
 /// What one poll of a sector came to.
-#[derive(Clone, Copy, PartialEq, Eq)]
+#[derive(Clone, Copy)]
 pub enum Polled {
     /// The sector moved.
     Clean,

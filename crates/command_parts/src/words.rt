@@ -11,7 +11,7 @@ use partitions::Part;
 use script_lines::part_field;
 
 /// Where a transfer begins: a unit with a drive of this kind, a partition, and a place in it, counted in bytes.
-#[derive(Clone, Copy, PartialEq, Eq)]
+#[derive(Clone, Copy)]
 pub struct Target {
     pub unit: u8,
     pub kind: DriveKind,
@@ -20,7 +20,7 @@ pub struct Target {
 }
 
 /// Where the bytes of the source are written.
-#[derive(Clone, Copy, PartialEq, Eq)]
+#[derive(Clone, Copy)]
 pub enum Writing {
     /// From a place of a partition on.
     Raw { target: Target },
@@ -29,7 +29,7 @@ pub enum Writing {
 }
 
 /// What is transferred.
-#[derive(Clone, Copy, PartialEq, Eq)]
+#[derive(Clone, Copy)]
 pub enum Transfer {
     /// So many bytes of a partition are read.
     Read { target: Target, size: u32 },

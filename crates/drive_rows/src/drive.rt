@@ -179,8 +179,8 @@ fn is_tried_anew(alloc: Global, kind: DriveKind, row: &Row) -> bool {
 #[test]
 fn verdicts(rt: HostRuntime) {
     for (kind, _) in &KINDS {
-        for row in &ROWS {
-            assert!(rt; is_tried_anew(rt.alloc(), *kind, row), "{:?}", row.1);
+        for (at, row) in ROWS.iter().enumerate() {
+            assert!(rt; is_tried_anew(rt.alloc(), *kind, row), "{at}");
         }
     }
 }
@@ -243,8 +243,8 @@ fn has_type(row: &(DriveKind, u16)) -> bool {
 fn registers(rt: HostRuntime) {
     for row in &KINDS {
         assert!(rt; has_type(row));
-        for done in &FUNCTIONS {
-            assert!(rt; does_function(row.0, done), "{:?}", done.0);
+        for (at, done) in FUNCTIONS.iter().enumerate() {
+            assert!(rt; does_function(row.0, done), "{at}");
         }
     }
 }

@@ -13,14 +13,14 @@ pub mod due;
 pub use subsystem_spec::{Answer, AnswerKind, Cause};
 
 /// An answer that waits to be taken, and the slot of its request; one that was refused at its submission has none.
-#[derive(Clone, Copy, PartialEq, Eq)]
+#[derive(Clone, Copy)]
 pub struct Made {
     pub slot: Option<u32>,
     pub answer: Answer,
 }
 
 /// A step of a retry, which comes before its transfer.
-#[derive(Clone, Copy, PartialEq, Eq)]
+#[derive(Clone, Copy)]
 pub enum RetryStep {
     /// Back to cylinder 0.
     Recalibrate,
@@ -31,7 +31,7 @@ pub enum RetryStep {
 }
 
 /// What comes next for the request in hand, inside an event.
-#[derive(Clone, Copy, PartialEq, Eq)]
+#[derive(Clone, Copy)]
 pub enum Task {
     /// DCLR, behind an interrupt whose verdict was not clean; `moved` sectors moved clean before it.
     Clear { moved: u32, verdict: Moved },
@@ -46,7 +46,7 @@ pub enum Task {
 }
 
 /// Where a unit is with the head of its queue.
-#[derive(Clone, Copy, PartialEq, Eq)]
+#[derive(Clone, Copy)]
 pub enum Phase {
     /// Nothing was begun for the head, or there is none.
     Waiting,

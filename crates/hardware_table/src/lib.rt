@@ -82,7 +82,7 @@ pub enum Moved {
 }
 
 /// What a drive is doing.
-#[derive(Clone, Copy, PartialEq, Eq)]
+#[derive(Clone, Copy)]
 pub enum Work {
     /// Nothing: the drive is ready.
     Ready,
@@ -93,7 +93,7 @@ pub enum Work {
 }
 
 /// How often each fault is still to strike.
-#[derive(Clone, Copy, PartialEq, Eq)]
+#[derive(Clone, Copy)]
 pub struct Armed {
     pub seek: u64,
     pub opi: u64,

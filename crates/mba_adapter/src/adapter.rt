@@ -13,7 +13,7 @@ use main_memory::{Buffer, Bus, Cpu, frames_of, to_bus, to_cpu};
 use std::marker::Model;
 
 /// How a transfer ended.
-#[derive(Clone, Copy, PartialEq, Eq)]
+#[derive(Clone, Copy)]
 pub struct Ended {
     /// How many sectors moved clean.
     pub moved: u32,

@@ -11,7 +11,7 @@ use mass_text::{Radix, number};
 use pack_geometry::{DriveKind, blocks};
 
 /// What the words of the command line ask for.
-#[derive(Clone, Copy, PartialEq, Eq)]
+#[derive(Clone, Copy)]
 pub enum Command {
     /// A script is played.
     Play,

@@ -26,7 +26,7 @@ pub enum Part {
 }
 
 /// The blocks of a partition: its first, counted on the pack, and how many it has.
-#[derive(Clone, Copy, PartialEq, Eq)]
+#[derive(Clone, Copy)]
 pub struct PartRange {
     pub first: u32,
     pub size: u32,

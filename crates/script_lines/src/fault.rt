@@ -1,7 +1,7 @@
 use crate::ScriptKind;
 
 /// Why a line was not read.
-#[derive(Clone, Copy, PartialEq, Eq)]
+#[derive(Clone, Copy)]
 pub enum LineFault {
     /// There was no memory.
     Memory,

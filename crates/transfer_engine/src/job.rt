@@ -4,7 +4,7 @@ use pack_geometry::DriveKind;
 
 /// A request's blocks: the kind of the drive, the first block on the pack, how many blocks, and whether they are
 /// written.
-#[derive(Clone, Copy, PartialEq, Eq)]
+#[derive(Clone, Copy)]
 pub struct Job {
     pub kind: DriveKind,
     pub first: u32,

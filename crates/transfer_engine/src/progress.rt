@@ -3,7 +3,7 @@
 use crate::job::Job;
 
 /// A job, its blocks that are done, and the failures at the sector with which its segment begins.
-#[derive(Clone, Copy, PartialEq, Eq)]
+#[derive(Clone, Copy)]
 pub(crate) struct Progress {
     pub(crate) job: Job,
     pub(crate) done: u32,
