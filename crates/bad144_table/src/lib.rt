@@ -1,7 +1,7 @@
 //! The bad-sector table of a pack, after DEC STD 144: its bytes, its list of places, and what may be added to it.
 //!
 //! What is proved: `read_table` is Ok exactly where the bytes spell a table by DEC STD 144 (a relation on whole texts, in
-//! `pack_model`), and then that one, and else names the first fault in its order; `write_table` gives the one spelling;
+//! `pack_geometry`), and then that one, and else names the first fault in its order; `write_table` gives the one spelling;
 //! `position`, `insert`, `entries`, `entry`, `serial`, `empty_table` and `copy` speak of the list of places; a position is the
 //! only one, and a refused `insert` changes nothing. `table_of` gives the table of a unit's pack by its five copies.
 //!

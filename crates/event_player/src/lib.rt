@@ -5,7 +5,7 @@
 //! handed in and as they are; where `out` tells it took just the answer text of that run, and where `trace` tells just its
 //! lines (`Plays`); and the tally is that of the same run (`Tallied`), whether or not `out` tells. TooLong comes only for an
 //! image that is too long, and before anything is played; so does Memory; Store and Sink have their causes, and `Leaves` says
-//! what they leave by the write-ahead rule of `run_stops`: how far the script came, where text was last sent, what each sink took
+//! what they leave by the write-ahead rule of `run_laws`: how far the script came, where text was last sent, what each sink took
 //! of it, and the packs after it. Of a run, and of one that
 //! stopped at the packs, what images have beyond all writes stayed (`reach`), and each is as long as the blocks that were written
 //! make it (`long`). Inside: what each line does is said for any run so far (`GoesOn`), with what is counted of it and how it keeps
