@@ -1,7 +1,8 @@
 -- Places in ascending order.
-use Rattle.std.proofs.Common.{◌≡◌, ◌⊎◌, inl, inr, ℕ, ◌+◌, ◌-◌, ◌<◌, ◌≤◌, Bool, false, List, length, get_or, ap, ◌∙◌, arith, [], ◌∷◌, ◌++◌, length-append}
+use Rattle.std.proofs.Common.{◌≡◌, ◌⊎◌, inl, inr, ℕ, ◌+◌, ◌-◌, ◌<◌, ◌≤◌, Bool, true, false, nat_lt, refl, List, length, get_or, ap, ◌∙◌, arith, [], ◌∷◌, ◌++◌, length-append}
 use Rattle.std.specs.Prelude.{AllPairs, IsTrue, Some, slice_get, Contains, insert}
-use Rattle.std.proofs.lemmas.Bool.{cases_lt}
+use Rattle.std.proofs.lemmas.Bool.{cases_lt, ltb-false}
+use Rattle.std.specs.Bool.{OnFalse}
 use Rattle.std.proofs.lemmas.List.{get_or_default}
 use Rattle.std.proofs.lemmas.List.Edits.{get_or-insert_above, get_or-insert_at, get_or-insert_below, length-insert}
 use Rattle.std.proofs.lemmas.List.Elements.{All-push}
@@ -14,6 +15,7 @@ use Rattle.pack_geometry.specs.Geometry.{IsInside, block_number, limit_of}
 use Rattle.pack_model.specs.TableSpelling.{Table, IsTable}
 use Rattle.pack_model.specs.TableEdit.{with_place}
 use Rattle.bad144_table.specs.Inserts.{IsNew}
+use Rattle.bad144_table.specs.Last.{IsAtOrBelowLast}
 
 -- from a place on, all lie at or above a block
 pub above_from : (kind : DriveKind) (places : List Place) (i block : ℕ) (e : Place) → AllPairs (λ p q. block_number kind p < block_number kind q) places
@@ -211,3 +213,20 @@ valid_push t place valid inside room below = record {
   inside = All-push (IsInside t.kind) t.places place valid.inside inside;
   ascending = all_pairs_push (λ p q. block_number t.kind p < block_number t.kind q) t.places place valid.ascending below;
 }
+
+on_false : {P : Type 0} (b : Bool) → (b ≡ false → P) → OnFalse b P
+on_false true f = tt
+on_false false f = f refl
+
+-- a place that does not lie above the last
+pub at_or_below_last : (t : Table) (place blank : Place) (last number : ℕ) → (length t.places ≡ 0 → ⊥) → last ≡ block_number t.kind (get_or t.places (length t.places - 1) blank)
+    → number ≡ block_number t.kind place → OnFalse (nat_lt last number) (IsAtOrBelowLast t place)
+at_or_below_last t place blank last number some l n = on_false (nat_lt last number) (λ e.
+    let less : number ≤ last = ltb-false last number e in
+    let there : 0 < length t.places = omega (arith, some) in
+    record {
+      some = there;
+      last = λ d.
+          let same = ap (block_number t.kind) (get_or_default t.places (length t.places - 1) blank d (omega (arith, there))) in
+          omega (arith, less, l, n, same);
+    })

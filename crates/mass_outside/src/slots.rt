@@ -79,16 +79,16 @@ fn write_block(bytes: &mut Vec<u8>, block: u32, from: &[u8; 512])
     write_window(bytes, 512 * block as usize, from);
 }
 
-/// Makes room for a size.
-fn make_room(bytes: &mut Vec<u8>, size: usize) -> Result<(), AllocError>
-    ensures same { bytes.new.items ≡ bytes.old.items }
-    ensures room { OnOk result (size ≤ vec_capacity bytes.new) }
+/// These bytes with room for a size.
+fn with_room(mut bytes: Vec<u8>, size: usize) -> Result<Vec<u8>, AllocError>
+    ensures same { IfOk result (λ made. made.items ≡ bytes.items) }
+    ensures room { IfOk result (λ made. size ≤ vec_capacity made) }
 {
     let len = bytes.len();
     if size > len {
         bytes.reserve(size - len)?;
     }
-    Ok(())
+    Ok(bytes)
 }
 
 /// What a unit of the packs in memory has. Its room is reserved when it is made.
@@ -131,14 +131,13 @@ impl Slot {
     pub fn of(image: Image) -> Result<Slot, AllocError>
         ensures { IfOk result (λ slot. slot ≡ image_slot image) }
     {
-        let mut bytes = image.bytes;
-        let mut marks = image.marks;
-        make_room(&mut bytes, 512 * image.blocks as usize)?;
-        make_room(&mut marks, image.blocks as usize)?;
+        let blocks = image.blocks;
+        let bytes = with_room(image.bytes, 512 * blocks as usize)?;
+        let marks = with_room(image.marks, blocks as usize)?;
         Ok(Slot {
             bytes,
             marks,
-            blocks: image.blocks,
+            blocks,
         })
     }
 

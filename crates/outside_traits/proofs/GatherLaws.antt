@@ -1,7 +1,8 @@
 -- Laws of gathering.
-use Rattle.std.proofs.Common.{◌≡◌, ℕ, ◌+◌, ◌≤◌, ◌<◌, ◌⊎◌, inl, inr, List, [], ◌++◌, take, drop, length, Bool, sym, ap, ◌∙◌, subst, arith, refl, append_assoc, append-nil}
+use Rattle.std.proofs.Common.{◌≡◌, ℕ, ◌+◌, ◌≤◌, ◌<◌, ◌⊎◌, inl, inr, List, [], ◌++◌, take, drop, length, Bool, sym, ap, ◌∙◌, subst, arith, refl, append_assoc, append-nil, length-take}
 use Rattle.std.specs.Prelude.{Result, Ok, Err, IsOk, IsErr}
 use Rattle.std.proofs.lemmas.List.{take_all, take-append-le}
+use Rattle.std.proofs.lemmas.Grind.{common_steps}
 use Rattle.std.proofs.lemmas.Bool.{cases_lt}
 use Rattle.std.proofs.Math.Seq.{take-add, take-append_seam, drop-append_seam}
 use Rattle.outside_traits.specs.Causes.{Rose}
@@ -25,6 +26,23 @@ front_whole : (xs ys : List ℕ) (k : ℕ) → take (length xs + k) (xs ++ ys) �
 front_whole xs ys k =
     take-add (length xs) k (xs ++ ys) ∙ ap (λ (l : List ℕ). l ++ take k (drop (length xs) (xs ++ ys))) (take-append_seam xs ys)
     ∙ ap (λ (l : List ℕ). xs ++ take k l) (drop-append_seam xs ys)
+
+shorter : (size n : ℕ) (xs : List ℕ) → n ≤ size → take n (take size xs) ≡ take n xs
+shorter size n xs h = grind (arith, common_steps)
+
+-- a front of a text that was put into a room at a place, with what stands before it there
+pub short_front : (items seen new rest behind from : List ℕ) (at len size : ℕ) → seen ≡ items → new ≡ from → at + len ≤ size → at ≤ length items → len ≤ length from
+    → take (at + len) (take size ((take at seen ++ (new ++ rest)) ++ behind)) ≡ take at items ++ take len from
+short_front items seen new rest behind from at len size s n inside there short =
+    let front : List ℕ = take at items in
+    let long : length front ≡ at = omega (arith, there, length-take at items) in
+    shorter size (at + len) ((take at seen ++ (new ++ rest)) ++ behind) inside
+    ∙ ap (λ (xs : List ℕ). take (at + len) ((take at xs ++ (new ++ rest)) ++ behind)) s
+    ∙ ap (λ (xs : List ℕ). take (at + len) ((front ++ (xs ++ rest)) ++ behind)) n
+    ∙ ap (λ (xs : List ℕ). take (at + len) xs) (append_assoc front (from ++ rest) behind ∙ ap (λ (xs : List ℕ). front ++ xs) (append_assoc from rest behind))
+    ∙ ap (λ (k : ℕ). take (k + len) (front ++ (from ++ (rest ++ behind)))) (sym long)
+    ∙ front_whole front (from ++ (rest ++ behind)) len
+    ∙ ap (λ (xs : List ℕ). front ++ xs) (take-append-le len from (rest ++ behind) short)
 
 -- a front of a text, and then a front of its rest with more behind it
 fronts_join : (before middle after text held more : List ℕ) → middle ++ held ≡ before ++ text → TakesFront before middle text → TakesFront middle after (held ++ more) → TakesFront before after (text ++ more)

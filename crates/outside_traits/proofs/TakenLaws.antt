@@ -1,6 +1,6 @@
 -- What a sink took so far.
-use Rattle.std.proofs.Common.{◌≡◌, ℕ, ◌+◌, ◌-◌, ◌≤◌, List, ◌++◌, take, drop, length, ◌∙◌, ap, sym, arith, append_assoc, length-append, length-drop}
-use Rattle.std.proofs.lemmas.List.{take_all}
+use Rattle.std.proofs.Common.{◌≡◌, ℕ, ◌+◌, ◌-◌, ◌≤◌, min, List, ◌++◌, take, drop, length, ◌∙◌, ap, sym, arith, append_assoc, length-append, length-drop, length-take}
+use Rattle.std.proofs.lemmas.List.{take_all, take-append-le}
 use Rattle.std.proofs.Math.Seq.{take-add}
 
 -- the whole rest of a text is what is behind its front
@@ -22,3 +22,24 @@ count_inside text done count d h =
 -- what was taken of a source is as long as what came of it
 pub taken_bound : (old came new : List ℕ) (limit : ℕ) → old ≡ came ++ new → length came ≤ limit + 1 → length old ≤ length new + limit + 1
 taken_bound old came new limit e h = omega (arith, h, ap length e, length-append came new)
+
+-- what came of a source so far, and a piece more of it that lies at the front of a buffer
+pub told_more : (old came left piece rest new all : List ℕ) (count : ℕ) → old ≡ came ++ left → left ≡ take count piece ++ new → all ≡ came ++ take count (piece ++ rest) → count ≤ length piece → old ≡ all ++ new
+told_more old came left piece rest new all count e f a h =
+    e ∙ ap (λ (xs : List ℕ). came ++ xs) f ∙ sym (append_assoc came (take count piece) new)
+    ∙ ap (λ (xs : List ℕ). xs ++ new) (sym (a ∙ ap (λ (xs : List ℕ). came ++ xs) (take-append-le count piece rest h)))
+
+-- a piece that has no more bytes than there was room for stays inside the limit
+pub came_inside : (came buffer : List ℕ) (count room most limit len : ℕ) → count ≤ length (take room buffer) → room ≡ min most (limit + 1 - len) → len ≡ length came → length came ≤ limit + 1
+    → length came + count ≤ limit + 1
+came_inside came buffer count room most limit len h r l b = omega (arith, h, r, l, b, length-take room buffer)
+
+pub all_inside : (came piece rest all : List ℕ) (count limit : ℕ) → all ≡ came ++ take count (piece ++ rest) → length came + count ≤ limit + 1 → length all ≤ limit + 1
+all_inside came piece rest all count limit a h = omega (arith, h, ap length a, length-append came (take count (piece ++ rest)), length-take count (piece ++ rest))
+
+-- what was taken of a source with a piece that is not kept
+pub taken_with : (old came left piece new : List ℕ) (count limit : ℕ) → old ≡ came ++ left → left ≡ take count piece ++ new → length came + count ≤ limit + 1 → length old ≤ length new + limit + 1
+taken_with old came left piece new count limit e f h = omega (arith, h, ap length e, ap length f, length-append came left, length-append (take count piece) new, length-take count piece)
+
+pub taken_at_end : (old came left piece new : List ℕ) (count limit : ℕ) → old ≡ came ++ left → left ≡ take count piece ++ new → count ≡ 0 → length came ≤ limit + 1 → length old ≤ length new + limit + 1
+taken_at_end old came left piece new count limit e f none h = taken_with old came left piece new count limit e f (omega (arith, none, h))

@@ -1,13 +1,14 @@
 -- Laws of windows.
-use Rattle.std.proofs.Common.{◌≡◌, ◌⊎◌, inl, inr, ℕ, ◌+◌, ◌-◌, ◌<◌, ◌≤◌, List, [], ◌∷◌, ◌++◌, take, drop, length, get_or, sym, ap, ◌∙◌, subst, arith}
+use Rattle.std.proofs.Common.{◌≡◌, ◌⊎◌, inl, inr, ℕ, ◌+◌, ◌-◌, ◌<◌, ◌≤◌, List, [], ◌∷◌, ◌++◌, take, drop, length, get_or, set, refl, Bool, true, false, IsTrue, length-set, get_or-set_same, get_or-set_other, sym, ap, ◌∙◌, subst, arith}
 use Rattle.std.proofs.lemmas.Grind.{common_steps, same_number_lists}
 use Rattle.std.proofs.lemmas.Bool.{cases_lt}
 use Rattle.std.proofs.lemmas.List.{get_or-take, get_or-drop, get_or_default, get_or_push, length_push, length-take}
-use Rattle.std.specs.Prelude.{Some}
-use Rattle.std.proofs.lemmas.Option.{slice_get_within, get_or_from_slice_get, slice_get-get_or}
-use Rattle.pack_model.specs.Pack.{window, with_window}
+use Rattle.std.specs.Prelude.{Some, if◌then◌else◌, ◌==◌, slice_get}
+use Rattle.std.proofs.lemmas.Bool.Decides.{nat_tests}
+use Rattle.std.proofs.lemmas.Option.{slice_get_within, get_or_from_slice_get, slice_get-get_or, slice_get_past}
+use Rattle.pack_model.specs.Pack.{Pack, window, with_window, with_block, with_written, with_mark}
 use Rattle.pack_model.proofs.PackLaws.{length-window, get_or-window, get_or-with_window_here, get_or-with_window_before, get_or-with_window_after, window-with_window_other}
-use Rattle.pack_windows.specs.Parts.{Part, IsPart, AreParts}
+use Rattle.pack_windows.specs.Parts.{Part, IsPart, AreParts, AreCurrent, images_of, marks_of}
 
 -- nothing is a part of any whole
 pub empty_part : (part : Part) (whole : List ℕ) → length part.bytes ≡ 0 → IsPart part whole
@@ -160,6 +161,18 @@ put_in_room part whole room from new seen size i at s e place h n is =
     subst P (sym s) (put_part part whole from (take size new) i at place h
     (ap (take size) n ∙ put_front room from size i fits ∙ ap (λ (xs : List ℕ). take i xs ++ from ++ drop (i + length from) xs) e) is)
 
+front_taken : (xs rest : List ℕ) (size len : ℕ) → size ≤ len → size ≤ length xs → take size (take len (xs ++ rest)) ≡ take size xs
+front_taken xs rest size len a b = grind (arith, common_steps)
+
+-- the front of a room that was read from a whole
+pub filled_part : (at size len place : ℕ) (xs rest whole : List ℕ) → size ≤ len → size ≤ length xs → at ≡ place → take size xs ≡ window size place whole
+    → IsPart (record { at = at; bytes = take size (take len (xs ++ rest)) }) whole
+filled_part at size len place xs rest whole fits inside here e =
+    let bytes : List ℕ = take size (take len (xs ++ rest)) in
+    let read : bytes ≡ window size place whole = front_taken xs rest size len fits inside ∙ e in
+    let long : length bytes ≡ size = ap length read ∙ length-window size place whole in
+    record { bytes = read ∙ ap (λ (n : ℕ). window n place whole) (sym long) ∙ ap (λ (a : ℕ). window (length bytes) a whole) (sym here) }
+
 -- ---- parts of all units
 
 -- one part more
@@ -179,3 +192,112 @@ part_more parts part whole is are = record {
             subst (λ p. IsPart p (whole unit)) same (is unit)
       ];
 }
+
+slice_get-set : (xs : List Part) (i k : ℕ) (y : Part) → i < length xs → slice_get (set xs i y) k ≡ (if k == i then Some y else slice_get xs k)
+slice_get-set xs i k y l = grind (arith, nat_tests, common_steps, slice_get-get_or (set xs i y) k y, slice_get-get_or xs k y, slice_get_past (set xs i y) k, slice_get_past xs k, get_or-set_same xs i y y l, get_or-set_other, length-set)
+
+-- another part of one unit, where that unit's whole is another
+pub parts_set : (parts : List Part) (unit : ℕ) (old new : Part) (whole other : ℕ → List ℕ) (changed : List ℕ) → AreParts parts whole → unit < length parts → old ≡ get_or parts unit old
+    → (IsPart old (whole unit) → IsPart new changed) → ((u : ℕ) → other u ≡ (if u == unit then changed else whole u)) → AreParts (set parts unit new) other
+parts_set parts unit old new whole other changed are inside e step is = record {
+  each = λ u part got.
+      subst (λ (xs : List ℕ). IsPart part xs) (sym (is u)) (at u part (u == unit) (sym (slice_get-set parts unit u new inside) ∙ got));
+}
+  where
+    at : (u : ℕ) (part : Part) (b : Bool) → (if b then Some new else slice_get parts u) ≡ Some part → IsPart part (if b then changed else whole u)
+    at u part true got = let same : new ≡ part = cc in subst (λ (p : Part). IsPart p changed) same (step (are.each unit old (slice_get-get_or parts unit old inside ∙ ap Some (sym e))))
+    at u part false got = are.each u part got
+
+-- the same parts, where the wholes are the same
+pub parts_same : (parts : List Part) (whole other : ℕ → List ℕ) → AreParts parts whole → ((u : ℕ) → other u ≡ whole u) → AreParts parts other
+parts_same parts whole other are is = record { each = λ u part got. subst (λ (xs : List ℕ). IsPart part xs) (sym (is u)) (are.each u part got) }
+
+pick_marks : (b : Bool) (p q : Pack) → (if b then p else q).marks ≡ (if b then p.marks else q.marks)
+pick_marks true p q = refl
+pick_marks false p q = refl
+
+pick_image : (b : Bool) (p q : Pack) → (if b then p else q).image ≡ (if b then p.image else q.image)
+pick_image true p q = refl
+pick_image false p q = refl
+
+-- what is chosen at one unit is that unit's own
+own : (f : ℕ → List ℕ) (unit u : ℕ) → (if u == unit then f unit else f u) ≡ f u
+own f unit u = at (u == unit) refl
+  where
+    at : (b : Bool) → (u == unit) ≡ b → (if b then f unit else f u) ≡ f u
+    at true e = let same : unit ≡ u = grind (arith, nat_tests) in ap f same
+    at false e = refl
+
+-- windows stay current where a mark of the packs is written and the unit's window follows
+pub current_marked : (told tells : Bool) (held now : ℕ → Pack) (images marks : List Part) (unit block : ℕ) (on : Bool) (old new : Part) → AreCurrent told held images marks → unit < 32
+    → old ≡ get_or marks unit old → ((whole : List ℕ) → IsPart old whole → IsPart new (with_window block ((if on then 1 else 0) ∷ []) whole))
+    → (IsTrue tells → IsTrue told) → (IsTrue tells → now ≡ with_mark held unit block on) → AreCurrent tells now images (set marks unit new)
+current_marked told tells held now images marks unit block on old new are h e follows never is = record {
+  image_count = are.image_count;
+  marks_count = length-set marks unit new ∙ are.marks_count;
+  image_parts = λ t. parts_same images (images_of held) (images_of now) (are.image_parts (never t)) (λ u.
+      ap (λ (packs : ℕ → Pack). (packs u).image) (is t) ∙ pick_image (u == unit) (record { image = (held unit).image; marks = with_window block ((if on then 1 else 0) ∷ []) (held unit).marks }) (held u)
+      ∙ own (images_of held) unit u);
+  mark_parts = λ t. parts_set marks unit old new (marks_of held) (marks_of now) (with_window block ((if on then 1 else 0) ∷ []) (held unit).marks) (are.mark_parts (never t))
+      (omega (arith, are.marks_count, h)) e (follows (held unit).marks) (λ u.
+      ap (λ (packs : ℕ → Pack). (packs u).marks) (is t) ∙ pick_marks (u == unit) (record { image = (held unit).image; marks = with_window block ((if on then 1 else 0) ∷ []) (held unit).marks }) (held u));
+}
+
+-- they stay so where a block is written
+pub current_written : (told tells : Bool) (held now : ℕ → Pack) (images marks : List Part) (unit block : ℕ) (bytes : List ℕ) (old new : Part) → AreCurrent told held images marks → unit < 32
+    → old ≡ get_or images unit old → ((image : List ℕ) → IsPart old image → IsPart new (with_block image block bytes))
+    → (IsTrue tells → IsTrue told) → (IsTrue tells → now ≡ with_written held unit block bytes) → AreCurrent tells now (set images unit new) marks
+current_written told tells held now images marks unit block bytes old new are h e follows never is = record {
+  image_count = length-set images unit new ∙ are.image_count;
+  marks_count = are.marks_count;
+  image_parts = λ t. parts_set images unit old new (images_of held) (images_of now) (with_block (held unit).image block bytes) (are.image_parts (never t))
+      (omega (arith, are.image_count, h)) e (follows (held unit).image) (λ u.
+      ap (λ (packs : ℕ → Pack). (packs u).image) (is t) ∙ pick_image (u == unit) (record { image = with_block (held unit).image block bytes; marks = (held unit).marks }) (held u));
+  mark_parts = λ t. parts_same marks (marks_of held) (marks_of now) (are.mark_parts (never t)) (λ u.
+      ap (λ (packs : ℕ → Pack). (packs u).marks) (is t) ∙ pick_marks (u == unit) (record { image = with_block (held unit).image block bytes; marks = (held unit).marks }) (held u)
+      ∙ own (marks_of held) unit u);
+}
+
+-- a window of one unit that is a part of any whole
+parts_cleared : (parts : List Part) (unit : ℕ) (old new : Part) (whole : ℕ → List ℕ) → AreParts parts whole → unit < length parts → old ≡ get_or parts unit old → ((any : List ℕ) → IsPart new any)
+    → AreParts (set parts unit new) whole
+parts_cleared parts unit old new whole are inside e empty = parts_set parts unit old new whole whole (whole unit) are inside e (λ is. empty (whole unit)) (λ u. sym (own whole unit u))
+
+-- they stay so where it is not known whether the mark was written, and the unit's window has nothing
+pub current_unmarked : (told tells : Bool) (held now : ℕ → Pack) (images marks : List Part) (unit block : ℕ) (on : Bool) (old new : Part) → AreCurrent told held images marks → unit < 32
+    → old ≡ get_or marks unit old → ((any : List ℕ) → IsPart new any)
+    → (IsTrue tells → IsTrue told) → (IsTrue tells → (now ≡ held) ⊎ (now ≡ with_mark held unit block on)) → AreCurrent tells now images (set marks unit new)
+current_unmarked told tells held now images marks unit block on old new are h e empty never is =
+    let written : now ≡ with_mark held unit block on → AreCurrent tells now images (set marks unit new) = λ w. current_marked told tells held now images marks unit block on old new are h e (λ whole part. empty _) never (λ t. w) in record {
+      image_count = are.image_count;
+      marks_count = length-set marks unit new ∙ are.marks_count;
+      image_parts = λ t. elim (is t) [
+        | inl same ↦ subst (λ (packs : ℕ → Pack). AreParts images (images_of packs)) (sym same) (are.image_parts (never t))
+        | inr w ↦ (written w).image_parts t
+      ];
+      mark_parts = λ t. elim (is t) [
+        | inl same ↦
+            subst (λ (packs : ℕ → Pack). AreParts (set marks unit new) (marks_of packs)) (sym same)
+            (parts_cleared marks unit old new (marks_of held) (are.mark_parts (never t)) (omega (arith, are.marks_count, h)) e empty)
+        | inr w ↦ (written w).mark_parts t
+      ];
+    }
+
+pub current_unwritten : (told tells : Bool) (held now : ℕ → Pack) (images marks : List Part) (unit block : ℕ) (bytes : List ℕ) (old new : Part) → AreCurrent told held images marks → unit < 32
+    → old ≡ get_or images unit old → ((any : List ℕ) → IsPart new any)
+    → (IsTrue tells → IsTrue told) → (IsTrue tells → (now ≡ held) ⊎ (now ≡ with_written held unit block bytes)) → AreCurrent tells now (set images unit new) marks
+current_unwritten told tells held now images marks unit block bytes old new are h e empty never is =
+    let written : now ≡ with_written held unit block bytes → AreCurrent tells now (set images unit new) marks = λ w. current_written told tells held now images marks unit block bytes old new are h e (λ image part. empty _) never (λ t. w) in record {
+      image_count = length-set images unit new ∙ are.image_count;
+      marks_count = are.marks_count;
+      image_parts = λ t. elim (is t) [
+        | inl same ↦
+            subst (λ (packs : ℕ → Pack). AreParts (set images unit new) (images_of packs)) (sym same)
+            (parts_cleared images unit old new (images_of held) (are.image_parts (never t)) (omega (arith, are.image_count, h)) e empty)
+        | inr w ↦ (written w).image_parts t
+      ];
+      mark_parts = λ t. elim (is t) [
+        | inl same ↦ subst (λ (packs : ℕ → Pack). AreParts marks (marks_of packs)) (sym same) (are.mark_parts (never t))
+        | inr w ↦ (written w).mark_parts t
+      ];
+    }

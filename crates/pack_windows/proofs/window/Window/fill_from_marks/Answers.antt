@@ -1,5 +1,6 @@
-use Rattle.std.proofs.Common.{refl}
-use Rattle.pack_windows.proofs.PartLaws.{empty_part}
+use Rattle.std.proofs.Common.{ℕ, ◌≤◌, length, subst, sym, ap, ◌∙◌, refl}
+use Rattle.pack_windows.proofs.PartLaws.{empty_part, filled_part}
+use Rattle.pack_windows.proofs.AheadLaws.{told_ok}
 use Rattle.pack_windows.proofs.window.Window.fill_from_marks.Goals as goal
 
 pub returns-then-not-make_room-clause-part : goal.returns-then-not-make_room-clause-part
@@ -7,3 +8,10 @@ returns-then-not-make_room-clause-part g c = λ t. empty_part _ _ refl
 
 pub returns-else-is_ok-clause-part : goal.returns-else-is_ok-clause-part
 returns-else-is_ok-clause-part g c = λ t. empty_part _ _ refl
+
+pub returns-then-is_ok-clause-part : goal.returns-then-is_ok-clause-part
+returns-then-is_ok-clause-part g c = λ t.
+    let inside : c.args.size ≤ length c.make_room.new.room.items = c.if-not-make_room.ensures refl in
+    filled_part c.from-at.result c.args.size c.make_room.new.room.len c.args.block c.read_marks.new.room _ (g.W.Packs.held c.args.packs.now c.args.unit).marks (subst (λ (n : ℕ). c.args.size ≤ n) (sym c.make_room.new.room.ok.0) inside)
+    (subst (λ (n : ℕ). c.args.size ≤ n) (sym (c.read_marks.auto.room ∙ ap length c.as_mut_slice.ensures.value)) inside) c.from-at.ensures
+    (told_ok c.read_marks.result c.if-is_ok.ensures.value c.read_marks.ensures.bytes t)

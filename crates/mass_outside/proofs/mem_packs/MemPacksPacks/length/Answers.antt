@@ -1,0 +1,16 @@
+use Rattle.std.proofs.Common.{false, ap, ◌∙◌, length}
+use Rattle.mass_outside.specs.Memory.{MemView}
+use Rattle.outside_traits.specs.Causes.{next}
+use Rattle.pack_model.specs.Pack.{Pack}
+use Rattle.mass_outside.specs.declared.mem_packs.PackOp.TheVariants.{Length}
+use Rattle.mass_outside.proofs.MemoryLaws.{slot_at, held_at, listed_of}
+use Rattle.mass_outside.proofs.mem_packs.MemPacksPacks.length.Goals as goal
+
+pub returns-clause-length : goal.returns-clause-length
+returns-clause-length c =
+    c.length.ensures
+    ∙ ap (λ (p : Pack). length p.image) (held_at c.args.self.now.slots c.args.unit c.index.result.now (slot_at c.self.inside.slots.items c.args.self.now.slots c.args.unit c.index.result.now (ap (λ (m : MemView). m.slots) c.self.view_is) c.self.invariant c.requires c.index.ensures))
+
+pub returns-clause-exact : goal.returns-clause-exact
+returns-clause-exact c = listed_of c.as_slice.result.now c.args.self.now.fail Length c.saturating_add-self-inside.result (next c.args.self.now.lengths) false (c.as_slice.ensures.value ∙ ap (λ (m : MemView). m.fail) c.self.view_is)
+    (c.saturating_add-self-inside.ensures ∙ ap (λ (m : MemView). next m.lengths) c.self.view_is) c.if-is_listed.ensures

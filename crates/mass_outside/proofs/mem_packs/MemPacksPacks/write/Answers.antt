@@ -1,0 +1,31 @@
+use Rattle.std.proofs.Common.{◌≡◌, ℕ, Some, false, refl, ap, ◌∙◌, subst, set}
+use Rattle.std.specs.Prelude.{slice_get}
+use Rattle.mass_outside.specs.Slots.{SlotView, slot_written}
+use Rattle.mass_outside.specs.Memory.{MemView, AfterWrite}
+use Rattle.outside_traits.specs.Causes.{next}
+use Rattle.mass_outside.specs.declared.mem_packs.PackOp.TheVariants.{Write}
+use Rattle.mass_outside.proofs.MemoryLaws.{slot_at, room_at, held_written, listed_of, none_of}
+use Rattle.mass_outside.proofs.mem_packs.MemPacksPacks.write.Goals as goal
+
+pub returns-clause-ok : goal.returns-clause-ok
+returns-clause-ok c =
+    held_written c.self.inside.slots.items c.args.self.now.slots c.args.unit c.args.block c.args.from.now c.index_mut.result.now c.write.new.self (ap (λ (m : MemView). m.slots) c.self.view_is)
+    (slot_at c.self.inside.slots.items c.args.self.now.slots c.args.unit c.index_mut.result.now (ap (λ (m : MemView). m.slots) c.self.view_is) c.self.invariant c.requires c.index_mut.ensures.value) c.write.ensures
+
+pub returns-clause-exact : goal.returns-clause-exact
+returns-clause-exact c =
+    none_of _ _ (listed_of c.as_slice.result.now c.args.self.now.fail Write c.saturating_add-self-inside.result (next c.args.self.now.writes) false (c.as_slice.ensures.value ∙ ap (λ (m : MemView). m.fail) c.self.view_is)
+    (c.saturating_add-self-inside.ensures ∙ ap (λ (m : MemView). next m.writes) c.self.view_is) c.if-is_listed.ensures)
+    (room_at c.args.self.now.slots c.args.unit c.args.block c.index.result.now (slot_at c.self.inside.slots.items c.args.self.now.slots c.args.unit c.index.result.now (ap (λ (m : MemView). m.slots) c.self.view_is) c.self.invariant c.requires c.index.ensures) c.if-not-has.ensures)
+
+pub returns-clause-done : goal.returns-clause-done
+returns-clause-done c =
+    let slots = c.self.inside.slots.items in
+    let seen : MemView = record { slots = c.self.inside.slots.items; fail = c.self.inside.fail.items; lengths = c.self.inside.lengths; reads = c.self.inside.reads; writes = c.self.inside.writes; markeds = c.self.inside.markeds; set_marks = c.self.inside.set_marks; faults = c.self.inside.faults } in
+    let there : slice_get slots c.args.unit ≡ Some c.index_mut.result.now = slot_at slots slots c.args.unit c.index_mut.result.now refl c.self.invariant c.requires c.index_mut.ensures.value in
+    subst (λ (old : MemView). AfterWrite old c.args.unit c.args.block c.args.from.now (record seen { slots = set slots c.args.unit c.write.new.self; writes = c.saturating_add-self-inside.result })) c.self.view_is (
+      c.index_mut.result.now,
+      there,
+      ap (λ (slot : SlotView). record seen { slots = set slots c.args.unit slot; writes = c.saturating_add-self-inside.result }) c.write.ensures
+          ∙ ap (λ (n : ℕ). record seen { slots = set slots c.args.unit (slot_written c.index_mut.result.now c.args.block c.args.from.now); writes = n }) c.saturating_add-self-inside.ensures,
+    )

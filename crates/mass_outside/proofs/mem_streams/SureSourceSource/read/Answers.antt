@@ -1,0 +1,15 @@
+use Rattle.std.proofs.Common.{length}
+use Rattle.mass_outside.proofs.SourceLaws.{left_split, count_left, none_left}
+use Rattle.mass_outside.proofs.mem_streams.SureSourceSource.read.Goals as goal
+
+pub returns-clause-bytes : goal.returns-clause-bytes
+returns-clause-bytes c =
+    left_split c.deref.result.now c.args.self.now.bytes.items c.copy_front-count.new.into c.args.self.now.at c.copy_front-count.result c.deref.ensures.value c.copy_front-count.ensures.front
+
+pub returns-clause-full : goal.returns-clause-full
+returns-clause-full c =
+    count_left c.deref.result.now c.args.self.now.bytes.items c.args.self.now.at c.copy_front-count.result (length c.args.into.now) c.deref.ensures.value c.copy_front-count.ensures.count
+
+pub returns-clause-end : goal.returns-clause-end
+returns-clause-end c = λ none room.
+    none_left c.args.self.now.bytes.items c.args.self.now.at c.copy_front-count.result (length c.args.into.now) (returns-clause-full c) none room

@@ -1,0 +1,25 @@
+use Rattle.std.proofs.Common.{◌≡◌, ℕ, Some, refl, ap, ◌∙◌, subst, set}
+use Rattle.std.specs.Prelude.{slice_get}
+use Rattle.mass_outside.specs.Slots.{SlotView, slot_marked}
+use Rattle.mass_outside.specs.Sure.{SureView, SureMarked}
+use Rattle.mass_outside.proofs.MemoryLaws.{slot_at, room_at, held_marked, mark_byte}
+use Rattle.mass_outside.proofs.sure_packs.SurePacksPacks.set_mark.Goals as goal
+
+pub returns-then-has-clause-ok : goal.returns-then-has-clause-ok
+returns-then-has-clause-ok c = λ t.
+    let same = ap (λ (p : SureView). p.slots) c.self.view_is in
+    held_marked c.self.inside.slots.items c.args.self.now.slots c.args.unit c.args.block c.args.on c.index_mut.result.now c.set_mark.new.self same
+    (slot_at c.self.inside.slots.items _ c.args.unit c.index_mut.result.now same c.self.invariant c.requires c.index_mut.ensures.value) (c.set_mark.ensures ∙ ap (λ (n : ℕ). slot_marked c.index_mut.result.now c.args.block n) (c.from.ensures ∙ mark_byte c.args.on))
+
+pub returns-then-has-clause-inside : goal.returns-then-has-clause-inside
+returns-then-has-clause-inside c = λ e.
+    let slots = c.self.inside.slots.items in
+    let there : slice_get slots c.args.unit ≡ Some c.index_mut.result.now = slot_at slots slots c.args.unit c.index_mut.result.now refl c.self.invariant c.requires c.index_mut.ensures.value in
+    subst (λ (old : SureView). SureMarked old c.args.unit c.args.block c.args.on (record { slots = set slots c.args.unit c.set_mark.new.self; tells = c.self.inside.tells })) c.self.view_is
+    (c.index_mut.result.now, there, ap (λ (slot : SlotView). record { slots = set slots c.args.unit slot; tells = c.self.inside.tells }) (c.set_mark.ensures ∙ ap (λ (n : ℕ). slot_marked c.index_mut.result.now c.args.block n) (c.from.ensures ∙ mark_byte c.args.on)))
+
+pub returns-then-has-clause-outside : goal.returns-then-has-clause-outside
+returns-then-has-clause-outside c = λ e.
+    let same = ap (λ (p : SureView). p.slots) c.self.view_is in
+    let room = room_at c.args.self.now.slots c.args.unit c.args.block c.index.result.now (slot_at c.self.inside.slots.items _ c.args.unit c.index.result.now same c.self.invariant c.requires c.index.ensures) c.if-has.ensures in
+    absurd (cc (room ∙ e))
