@@ -15,7 +15,7 @@ use crate::parts::{
 };
 use crate::places::places;
 use crate::statement::{Content, Request, Span, Statement};
-use crate::{ScriptKind, Verb, is_word, need, number_field};
+use crate::{ScriptKind, Verb, is_word, number_field};
 use fire_code::Noise;
 use hardware_table::NoiseSpan;
 use mass_text::Fields;
