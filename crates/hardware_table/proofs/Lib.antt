@@ -1,1 +1,2 @@
 pub mod NoiseLaws
+pub mod StatusLaws

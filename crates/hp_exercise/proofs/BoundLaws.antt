@@ -17,14 +17,38 @@ use Rattle.hp_exercise.specs.Bounds.{frames_of, IsNarrow, HasShortNoise, most_as
 use Rattle.hp_exercise.specs.Statements.{request_of, chosen_statement, step_statement, steps_statements, script_statements}
 use Rattle.hp_exercise.proofs.CaseLaws.{chosen_by, step_by, steps_all}
 
--- REQUESTS by the numbers of steps alone
+-- a function of two numbers that are computed before it is applied, so that a long count doesn't grow as a sum
+unfoldable computed : (ℕ → ℕ → ℕ) → ℕ → ℕ → ℕ
+computed f zero zero = f 0 0
+computed f zero (suc b) = f 0 (suc b)
+computed f (suc a) zero = f (suc a) 0
+computed f (suc a) (suc b) = f (suc a) (suc b)
+
+computed_is : (f : ℕ → ℕ → ℕ) (a b : ℕ) → computed f a b ≡ f a b
+unfolding computed
+computed_is f zero zero = refl
+computed_is f zero (suc b) = refl
+computed_is f (suc a) zero = refl
+computed_is f (suc a) (suc b) = refl
+
+-- REQUESTS by the numbers of steps alone: a step and what the rest gives by how many came since a drain
+abbrev planned_step : (ℕ → ℕ) → ℕ → ℕ → ℕ → ℕ
+planned_step rest s since more =
+    if s % 256 == 254 then rest since
+    else if s % 128 == 125 then max since (rest 0)
+    else if s % 64 == 63 then rest since
+    else rest more
+
 unfoldable planned : ℕ → ℕ → ℕ → ℕ
 planned zero s since = since
-planned (suc n) s since =
-    if s % 256 == 254 then planned n (s + 1) since
-    else if s % 128 == 125 then max since (planned n (s + 1) 0)
-    else if s % 64 == 63 then planned n (s + 1) since
-    else planned n (s + 1) (since + 1)
+planned (suc n) s since = computed (λ next more. planned_step (planned n next) s since more) (s + 1) (since + 1)
+
+planned_is : (n s since : ℕ) → planned (suc n) s since ≡ planned_step (planned n (s + 1)) s since (since + 1)
+unfolding planned
+planned_is n s since = computed_is (λ next more. planned_step (planned n next) s since more) (s + 1) (since + 1)
+
+same_le : (a b c : ℕ) → b ≡ c → a ≤ c → a ≤ b
+same_le a b c same le = omega (arith, same, le)
 
 max_le : (a b c d : ℕ) → a ≤ b → c ≤ d → max a c ≤ max b d
 max_le a b c d le le' = omega (arith, le, le')
@@ -51,10 +75,11 @@ most_planned : (n s : ℕ) (words : Stream) (since high : ℕ) → since ≤ hig
 unfolding steps_statements planned
 most_planned zero s words since high le = le
 most_planned (suc n) s words since high le =
-    step_asked s (next_u64 words).0 n since high (steps_statements n (s + 1) (next_u64 words).1) le (λ low top under. most_planned n (s + 1) (next_u64 words).1 low top under) (s % 256 == 254) (s % 128 == 125) (s % 64 == 63)
+    same_le (most_asked since (steps_statements (suc n) s words)) (planned (suc n) s high) (planned_step (planned n (s + 1)) s high (high + 1)) (planned_is n s high)
+    (step_asked s (next_u64 words).0 n since high (steps_statements n (s + 1) (next_u64 words).1) le (λ low top under. most_planned n (s + 1) (next_u64 words).1 low top under) (s % 256 == 254) (s % 128 == 125) (s % 64 == 63))
 
 planned_all : planned 2048 0 0 ≡ 125
-unfolding planned
+unfolding planned computed
 planned_all = refl
 
 pub most_asked_bound : (number : ℕ) → most_asked 0 (script_statements number) ≤ 125

@@ -1,5 +1,5 @@
 ghost use Rattle.std.specs.Prelude.{◌≡◌, ◌<◌, ◌≤◌, ◌+◌, ◌/◌, ◌++◌, length, codes};
-ghost use Rattle.hp_exercise.specs.Exercise.{field, fault_text, noise_text, write_text, read_text, arrive_text, move_text, attend_text, chosen_text, step_text};
+ghost use Rattle.hp_exercise.specs.Exercise.{unit_of, block_of, count_of, field, fault_text, noise_text, write_text, read_text, arrive_text, move_text, attend_text, chosen_text, step_text};
 
 use crate::draw::{block, choice, count, offset, place, seq, times, unit};
 use mass_text::{LineBuf, Radix, numeral_law};
@@ -56,6 +56,19 @@ fn noise_line(word: u64) -> LineBuf
     text
 }
 
+/// Puts what requests begin with: ` S U a B C`
+fn put_request(text: &mut LineBuf, step: u32, word: u64)
+    requires { length text.old ≤ 800 }
+    ensures text { text.new ≡ text.old ++ field step ++ field (unit_of word) ++ codes " a" ++ field (block_of word) ++ field (count_of word) }
+    ensures room { length text.new ≤ length text.old + 94 }
+{
+    put_field(text, u64::from(step));
+    put_field(text, unit(word));
+    text.put(" a");
+    put_field(text, block(word));
+    put_field(text, count(word));
+}
+
 /// `write S U a B C seq V off O`
 #[tactic(auto, unfolding(crate::specs::Exercise::write_text))]
 fn write_line(step: u32, word: u64) -> LineBuf
@@ -63,11 +76,7 @@ fn write_line(step: u32, word: u64) -> LineBuf
 {
     let mut text = LineBuf::new();
     text.put("write");
-    put_field(&mut text, u64::from(step));
-    put_field(&mut text, unit(word));
-    text.put(" a");
-    put_field(&mut text, block(word));
-    put_field(&mut text, count(word));
+    put_request(&mut text, step, word);
     text.put(" seq");
     put_field(&mut text, seq(word));
     text.put(" off");
@@ -83,11 +92,7 @@ fn read_line(step: u32, word: u64) -> LineBuf
 {
     let mut text = LineBuf::new();
     text.put("read");
-    put_field(&mut text, u64::from(step));
-    put_field(&mut text, unit(word));
-    text.put(" a");
-    put_field(&mut text, block(word));
-    put_field(&mut text, count(word));
+    put_request(&mut text, step, word);
     text.put(" off");
     put_field(&mut text, offset(word));
     text.put("\n");

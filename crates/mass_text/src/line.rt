@@ -1,4 +1,4 @@
-ghost use Rattle.std.specs.Prelude.{◌≡◌, ◌<◌, ◌≤◌, ◌+◌, ◌*◌, ◌==◌, ◌⊎◌, ℕ, false, List, [], ◌∷◌, ◌++◌, length, slice_index};
+ghost use Rattle.std.specs.Prelude.{◌≡◌, ◌<◌, ◌≤◌, ◌+◌, ◌*◌, ◌==◌, ◌⊎◌, ℕ, false, List, [], ◌∷◌, ◌++◌, length, codes, slice_index};
 ghost use Rattle.std.specs.Fmt.{digit_glyph, digits};
 ghost use Rattle.std.specs.List.{flat_map, list_all};
 ghost use Rattle.mass_text.specs.BlockText.{hex_byte, content_text};
@@ -119,13 +119,30 @@ impl LineBuf {
         ensures { self.new ≡ self.old ++ content_text bytes.now }
     {
         if is_one_byte(bytes) {
-            self.put("fill ");
-            self.put_hex(&[bytes[0]], &mut [0; 2]);
+            self.put_fill(bytes[0]);
         } else {
-            let mut digits = [0; 1024];
-            self.put("hex ");
-            self.put_hex(bytes, &mut digits[..2 * bytes.len()]);
+            self.put_each(bytes);
         }
+    }
+
+    /// Puts `fill` and a byte by its two digits.
+    fn put_fill(&mut self, byte: u8)
+        requires { length self.old + 7 ≤ 1100 }
+        ensures { self.new ≡ self.old ++ (codes "fill " ++ hex_byte byte) }
+    {
+        self.put("fill ");
+        self.put_hex(&[byte], &mut [0; 2]);
+    }
+
+    /// Puts `hex` and each byte by its two digits.
+    fn put_each(&mut self, bytes: &[u8])
+        requires few { length bytes.now ≤ 512 }
+        requires room { length self.old + 4 + 2 * length bytes.now ≤ 1100 }
+        ensures { self.new ≡ self.old ++ (codes "hex " ++ flat_map hex_byte bytes.now) }
+    {
+        let mut digits = [0; 1024];
+        self.put("hex ");
+        self.put_hex(bytes, &mut digits[..2 * bytes.len()]);
     }
 
     /// Puts bytes by two digits each; `digits` is room for these.

@@ -1,7 +1,7 @@
-ghost use Rattle.std.specs.Prelude.{◌≡◌, ◌≢◌, ◌∷◌, IfOk, MatchResult, ◌≤◌, codes};
-ghost use Rattle.script_lines.specs.Fields.{changed, number_field};
+ghost use Rattle.std.specs.Prelude.{◌≡◌, ◌≢◌, ◌∷◌, ℕ, List, IfOk, MatchResult, ◌≤◌, codes};
+ghost use Rattle.script_lines.specs.Fields.{changed, number_field, digits_field};
 ghost use Rattle.script_lines.specs.Struck.{struck_as, Answers};
-ghost use Rattle.script_lines.specs.Forms.{ends, mapped, next, field, option, both_form, start_form, last_form, tail_form, content_form, span_form, unit_form, read_form, write_form, turn_form, noise_form, fault_form, form_of, unit_number_form, adapter_form, of_unit, of_adapter, Parses, none_left, whole, too_late, said};
+ghost use Rattle.script_lines.specs.Forms.{gives, ends, mapped, next, field, option, both_form, start_form, last_form, tail_form, content_form, span_form, unit_form, read_form, write_form, turn_form, noise_form, fault_form, form_of, unit_number_form, adapter_form, of_unit, of_adapter, Parses, none_left, whole, too_late, said};
 ghost use Rattle.script_lines.specs.Knowing.{known_in};
 ghost use Rattle.script_lines.specs.declared.statement.Span.{Span};
 ghost use Rattle.script_lines.specs.Renamed.{content_by, read_of};
@@ -15,7 +15,7 @@ use crate::parts::{
 };
 use crate::places::places;
 use crate::statement::{Content, Request, Span, Statement};
-use crate::{ScriptKind, Verb, is_word, need, number_field};
+use crate::{ScriptKind, Verb, is_word, number_field};
 use fire_code::Noise;
 use hardware_table::NoiseSpan;
 use mass_text::Fields;
@@ -133,22 +133,26 @@ fn tail(start: &Request, fields: &mut Fields) -> Result<Request, ScriptKind>
     })
 }
 
+/// `DIGITS`, behind `hex`, on the line that stands at `span`.
+fn spelled(count: u32, span: Span, fields: &mut Fields) -> Result<Content<Span>, ScriptKind>
+    requires { count ≤ 127 }
+    ensures { Parses (mapped (content_by {C = List ℕ} (λ _. span)) (next (field (digits_field count)) (λ digits. gives (Content.Hex digits)))) fields.old result fields.new }
+{
+    digits(count, fields)?;
+    Ok(Content::Hex(span))
+}
+
 /// `fill HH`, `seq N` or `hex DIGITS`, on the line that stands at `span`.
 #[tactic(auto, unfolding(crate::specs::Forms::content_form))]
 fn content(count: u32, span: Span, fields: &mut Fields) -> Result<Content<Span>, ScriptKind>
     requires { count ≤ 127 }
     ensures { Parses (mapped (content_by (λ _. span)) (content_form count)) fields.old result fields.new }
 {
-    let word = need(fields)?;
-    if is_word(word, b"fill".as_slice()) {
-        Ok(Content::Fill(next_byte(fields)?))
-    } else if is_word(word, b"seq".as_slice()) {
-        Ok(Content::Seq(seq(fields)?))
-    } else if is_word(word, b"hex".as_slice()) {
-        digits(count, fields)?;
-        Ok(Content::Hex(span))
-    } else {
-        Err(ScriptKind::Word)
+    match fields.next() {
+        Some(word) if is_word(word, b"fill".as_slice()) => next_byte(fields).map(Content::Fill),
+        Some(word) if is_word(word, b"seq".as_slice()) => seq(fields).map(Content::Seq),
+        Some(word) if is_word(word, b"hex".as_slice()) => spelled(count, span, fields),
+        _ => Err(ScriptKind::Word),
     }
 }
 
@@ -157,11 +161,11 @@ fn content(count: u32, span: Span, fields: &mut Fields) -> Result<Content<Span>,
 fn noise_span(fields: &mut Fields) -> Result<NoiseSpan, ScriptKind>
     ensures { Parses span_form fields.old result fields.new }
 {
-    let word = need(fields)?;
-    if is_word(word, b"until".as_slice()) {
-        return Ok(NoiseSpan::Until(offset(fields)?));
+    match fields.next() {
+        None => Err(ScriptKind::Word),
+        Some(word) if is_word(word, b"until".as_slice()) => offset(fields).map(NoiseSpan::Until),
+        Some(word) => number_field(word, 1, 1000).map(NoiseSpan::Times),
     }
-    Ok(NoiseSpan::Times(number_field(word, 1, 1000)?))
 }
 
 /// A unit that was declared.

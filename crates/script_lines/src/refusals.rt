@@ -1,29 +1,28 @@
-ghost use Rattle.std.specs.Prelude.{◌≡◌, ◌≤◌, ◌+◌, ◌++◌, length};
+ghost use Rattle.std.specs.Prelude.{◌≡◌, ◌≤◌, ◌++◌, length};
 ghost use Rattle.script_lines.specs.Refusals.{kind_word, refused_line, refusal_text};
 
 use crate::kinds::ScriptKind;
 use mass_text::{LineBuf, Radix, numeral_law};
 
-/// Puts the word of a fault.
+/// The word of a fault.
 #[tactic(auto, unfolding(crate::specs::Refusals::kind_word))]
-fn put_kind(text: &mut LineBuf, kind: ScriptKind)
-    requires { length text.old ≤ 100 }
-    ensures text { text.new ≡ text.old ++ kind_word kind }
-    ensures room { length text.new ≤ length text.old + 11 }
+fn kind_word(kind: ScriptKind) -> &'static str
+    ensures word { result.now ≡ kind_word kind }
+    ensures short { length result.now ≤ 11 }
 {
     match kind {
-        ScriptKind::Word => text.put("word"),
-        ScriptKind::Number => text.put("number"),
-        ScriptKind::UnitUnknown => text.put("unitunknown"),
-        ScriptKind::UnitTwice => text.put("unittwice"),
-        ScriptKind::IdTwice => text.put("idtwice"),
-        ScriptKind::Count => text.put("count"),
-        ScriptKind::Data => text.put("data"),
-        ScriptKind::Bits => text.put("bits"),
-        ScriptKind::LateUnit => text.put("lateunit"),
-        ScriptKind::TooMany => text.put("toomany"),
-        ScriptKind::LineLong => text.put("linelong"),
-        ScriptKind::ScriptLong => text.put("scriptlong"),
+        ScriptKind::Word => "word",
+        ScriptKind::Number => "number",
+        ScriptKind::UnitUnknown => "unitunknown",
+        ScriptKind::UnitTwice => "unittwice",
+        ScriptKind::IdTwice => "idtwice",
+        ScriptKind::Count => "count",
+        ScriptKind::Data => "data",
+        ScriptKind::Bits => "bits",
+        ScriptKind::LateUnit => "lateunit",
+        ScriptKind::TooMany => "toomany",
+        ScriptKind::LineLong => "linelong",
+        ScriptKind::ScriptLong => "scriptlong",
     }
 }
 
@@ -46,7 +45,7 @@ pub fn refusal(line: u64, kind: ScriptKind) -> LineBuf
     let mut text = refused();
     text.put_number(line, Radix::Decimal);
     text.put(" ");
-    put_kind(&mut text, kind);
+    text.put(kind_word(kind));
     text.put("\n");
     text
 }

@@ -112,3 +112,9 @@ gone played known new text lines stored n span rest piece after line None all sa
 }
 gone played known new text lines stored n span rest piece after line (Some read) all same k p l e here learns stores =
     spoken played known new text lines stored n span rest piece after line read all same k p l e here learns stores
+
+-- what is left of a text is read, where none is
+pub none_left : (played : List Verb) (lines : List Numbered) (number : ℕ) (rest : List ℕ) (found : Result Read Refusal) → length rest ≡ 0
+    → reading played lines number (lines_of rest) ≡ found → found ≡ Ok (record { lines = lines; next = number })
+none_left played lines number [] found none is = sym is
+none_left played lines number (b ∷ bs) found none is = absurd (omega (arith, none))

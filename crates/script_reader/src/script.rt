@@ -44,8 +44,10 @@ pub type Stored = Line<Span, Box<Noise>>;
 fn some_read(read: Result<Read, LineFault>) -> Result<Option<Read>, LineFault>
     ensures { result ≡ and_then read (λ r. Ok (Some r)) }
 {
-    let read = read?;
-    Ok(Some(read))
+    match read {
+        Ok(read) => Ok(Some(read)),
+        Err(fault) => Err(fault),
+    }
 }
 
 /// What fields say, on the line at `span` of the text; None where there is none.

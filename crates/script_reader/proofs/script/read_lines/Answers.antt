@@ -1,10 +1,12 @@
-use Rattle.std.proofs.Common.{◌+◌, ◌-◌, ◌≤◌, [], length, arith}
+use Rattle.std.proofs.Common.{◌+◌, ◌-◌, ◌≤◌, [], length, map, sym, ◌∙◌, arith}
+use Rattle.std.proofs.lemmas.Bool.{eqb-true}
 use Rattle.script_lines.specs.declared.statement.Span.{Span}
 use Rattle.script_lines.specs.Knowing.{known_in}
 use Rattle.script_reader.specs.Lines.{lines_of}
 use Rattle.script_reader.specs.Reading.{reading}
+use Rattle.script_reader.specs.Stored.{seen}
 use Rattle.script_lines.specs.Words.{all_verbs}
-use Rattle.script_reader.proofs.ReaderLaws.{gone, behind, there, front_short}
+use Rattle.script_reader.proofs.ReaderLaws.{gone, behind, there, front_short, none_left}
 use Rattle.script_reader.proofs.script.read_lines.Goals as goal
 
 pub lines-preserved : goal.lines-preserved
@@ -33,4 +35,15 @@ lines-preserved c =
       last = omega (arith, c.in-Ok.ensures.number);
       requests = omega (arith, stored.requests, so_far.requests);
       noises = omega (arith, stored.noises, so_far.noises);
+    }
+
+pub returns : goal.returns
+returns c =
+    let text = c.args.text.now in
+    let rest = c.lines.rest.now in
+    record {
+      ok = none_left all_verbs (map (seen text) c.lines.lines.items) c.lines.number rest (reading all_verbs [] 1 (lines_of text))
+          (eqb-true (length rest) 0 (sym c.is_empty.ensures ∙ c.lines-test.false)) c.lines.invariant.same;
+      some = c.lines.invariant.first;
+      err = tt;
     }
