@@ -87,3 +87,7 @@ module _ {P : Type 0} {tells : P → Bool} {held : P → ℕ → Pack} {faults :
     cut_short = λ t. let cut = does.cut_short t in (cut.0, cut.1 ∙ ap (λ (cs : List Change). with_changes (held old) unit (take cut.0 cs)) (same t));
     cause = record { later = does.cause.later; failed = does.cause.failed };
   }
+
+-- where nothing changed, no write was done
+pub cut_at_once : (old new : ℕ → Pack) (unit : ℕ) (changes : List Change) → new ≡ old → IsCutShort old new unit changes
+cut_at_once old new unit changes same = (0, same)
