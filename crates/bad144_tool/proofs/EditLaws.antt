@@ -7,8 +7,8 @@ use Rattle.pack_geometry.specs.Geometry.{replacement_at, limit_of}
 use Rattle.pack_model.specs.Pack.{Pack, block_at, with_block, with_written}
 use Rattle.pack_model.proofs.PackLaws.{length-block_at, block_at-with_block_other}
 use Rattle.pack_model.specs.TableSpelling.{Table, table_text}
-use Rattle.bad144_tool.specs.Changes.{Change, Block, with_changes, DoesAll, IsCutShort}
-use Rattle.bad144_tool.specs.Edit.{copies, moves, first_content}
+use Rattle.bad144_tool.specs.Changes.{Change, Block, Mark, with_changes, DoesAll, IsCutShort}
+use Rattle.bad144_tool.specs.Edit.{copies, marking, moves, first_content}
 use Rattle.bad144_tool.proofs.ChangeLaws.{does_then, does_same}
 
 -- different replacements are different blocks, and none holds data
@@ -137,3 +137,10 @@ pub fresh_cut : (kind : DriveKind) (unit serial : ℕ) (old mid new : ℕ → Pa
 fresh_cut kind unit serial old mid new table same is cut =
     subst (λ (t : Table). IsCutShort old new unit (copies kind (table_text t.serial t.places))) is
     (subst (λ (p : ℕ → Pack). IsCutShort p new unit (copies kind (table_text table.serial table.places))) same cut)
+
+pub marking_on : (mark : Bool) (block : ℕ) → mark ≡ true → Mark block ∷ [] ≡ marking mark block
+marking_on true block is = refl
+marking_on false block is = absurd (other is)
+  where
+    other : false ≡ true → ⊥
+    other is = cc
