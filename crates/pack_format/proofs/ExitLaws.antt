@@ -124,3 +124,8 @@ others_stay unit other set done bytes Such told old new (Err e) fills stops ne t
 -- an image whose length was read is not longer than its pack
 pub fits_length : (n long blocks count all : ℕ) → n ≤ 512 * blocks → blocks ≡ count → count ≡ all → n ≡ long → ¬ (512 * all < long)
 fits_length n long blocks count all within same is told = λ above. omega (arith, within, same, is, told, above)
+
+-- a cause of a failure, where the count had not fallen before
+pub cause_then : {T E : Type 0} {before mid now : ℕ} {result : Result T E} → before ≤ mid → HasCause mid now result → HasCause before now result
+cause_then {result = Ok v} earlier cause = record { later = omega (arith, earlier, cause.later); failed = tt }
+cause_then {result = Err e} earlier cause = record { later = omega (arith, earlier, cause.later); failed = omega (arith, earlier, cause.failed) }
