@@ -132,3 +132,8 @@ done_is_not_cut is = cc
 
 pub cut_is_not_done : SinkFailed ≡ Done → ⊥
 cut_is_not_done is = cc
+
+-- what a run comes to, by the end of its text
+pub by_end : (P : ℕ → Type 0) (status : Status) → IsToldEnd status → (status ≡ Done → P 0) → (status ≡ SinkFailed → P 5) → P (status_code status)
+by_end P status (inl is) one two = subst (λ (s : Status). P (status_code s)) (sym is) (one is)
+by_end P status (inr is) one two = subst (λ (s : Status). P (status_code s)) (sym is) (two is)

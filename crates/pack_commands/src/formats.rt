@@ -1,11 +1,11 @@
 //! The command `format`.
-ghost use Rattle.std.specs.Prelude.{◌≡◌, ◌<◌, ◌≤◌, ◌++◌, IsTrue};
+ghost use Rattle.std.specs.Prelude.{◌≡◌, ◌<◌, ◌≤◌, IsTrue};
 ghost use Rattle.outside_traits.specs.Causes.{Rose};
-ghost use Rattle.outside_traits.specs.Puts.{TakesFront};
-ghost use Rattle.pack_commands.specs.Formats.{IsToldEnd, RunsFormat, format_status, format_text, formatted_text};
+ghost use Rattle.pack_commands.specs.Formats.{RunsFormat, format_status, format_text, formatted_text};
 ghost use Rattle.command_parts.specs.Statuses.{status_code};
 ghost use Rattle.command_parts.specs.Lines.{Told};
 
+use crate::text::tell;
 use command_parts::{Status, numbered, plain, too_long};
 use mass_text::LineBuf;
 use outside_traits::traits::{Packs, Sink};
@@ -68,20 +68,6 @@ fn refuse<O: Sink>(out: &mut O, unit: u8, fault: &FormatFault) -> Status
     }
 }
 
-/// Prints how many data blocks of a pack that was formatted are bad.
-fn tell<O: Sink>(out: &mut O, bad: u8) -> Status
-    ensures never_again { IsTrue (O.tells out.new) → IsTrue (O.tells out.old) }
-    ensures ends { IsToldEnd result }
-    ensures done { result ≡ Status.Done → IsTrue (O.tells out.new) → O.taken out.new ≡ O.taken out.old ++ formatted_text bad }
-    ensures cut { result ≡ Status.SinkFailed → IsTrue (O.tells out.new) → TakesFront (O.taken out.old) (O.taken out.new) (formatted_text bad) }
-    ensures rose { result ≡ Status.SinkFailed → Rose (O.faults out.old) (O.faults out.new) }
-{
-    match write_all(out, formatted_line(bad).as_bytes()) {
-        Ok(()) => Status::Done,
-        Err(_) => Status::SinkFailed,
-    }
-}
-
 /// Formats a unit's pack, and prints how many of its data blocks are bad.
 pub fn run_format<P: Packs, O: Sink>(
     alloc: Global,
@@ -100,7 +86,7 @@ pub fn run_format<P: Packs, O: Sink>(
     ensures silent { result ≡ Status.OutOfMemory → out.new ≡ out.old }
 {
     match format(alloc, packs, unit, kind, serial) {
-        Ok(report) => tell(out, report.bad),
+        Ok(report) => tell(out, formatted_line(report.bad)),
         Err(fault) => refuse(out, unit, &fault),
     }
 }

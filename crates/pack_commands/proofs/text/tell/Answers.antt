@@ -1,14 +1,14 @@
-use Rattle.std.proofs.Common.{inl, inr, refl}
+use Rattle.std.proofs.Common.{ap, inl, inr, refl, subst, List, ℕ, ◌++◌, ◌∙◌}
+use Rattle.outside_traits.specs.Puts.{TakesFront}
 use Rattle.pack_commands.proofs.FormatLaws.{cut_is_not_done, done_is_not_cut}
-use Rattle.pack_commands.proofs.ToolLaws.{told_all, told_front}
-use Rattle.pack_commands.proofs.formats.tell.Goals as goal
+use Rattle.pack_commands.proofs.text.tell.Goals as goal
 
 pub returns-in-Ok : goal.returns-in-Ok
 returns-in-Ok g c =
     let written = c.in-Ok.ensures in record {
       never_again = written.never_again;
       ends = inl refl;
-      done = λ _ t. told_all _ _ _ _ _ c.as_bytes.ensures.text c.formatted_line.ensures (written.bytes t);
+      done = λ _ t. written.bytes t ∙ ap (λ (text : List ℕ). g.O.Sink.taken c.args.out.now ++ text) c.as_bytes.ensures.text;
       cut = λ is. absurd (done_is_not_cut is);
       rose = λ is. absurd (done_is_not_cut is);
     }
@@ -19,6 +19,6 @@ returns-in-Err g c =
       never_again = written.never_again;
       ends = inr refl;
       done = λ is. absurd (cut_is_not_done is);
-      cut = λ _ t. told_front _ _ _ _ _ c.as_bytes.ensures.text c.formatted_line.ensures (written.front t);
+      cut = λ _ t. subst (λ (text : List ℕ). TakesFront (g.O.Sink.taken c.args.out.now) (g.O.Sink.taken c.write_all.new.out) text) c.as_bytes.ensures.text (written.front t);
       rose = λ _. written.cause.failed;
     }
