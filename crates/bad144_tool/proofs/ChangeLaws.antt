@@ -1,8 +1,9 @@
 -- Laws of writes that are done one after another.
-use Rattle.std.proofs.Common.{◌≡◌, ℕ, ◌+◌, Bool, true, false, IsTrue, List, [], ◌∷◌, ◌++◌, take, length, Result, Ok, Err, IsErr, refl, sym, ap, ◌∙◌, arith}
+use Rattle.std.proofs.Common.{◌≡◌, inl, inr, ℕ, ◌+◌, Bool, true, false, IsTrue, List, [], ◌∷◌, ◌++◌, take, length, Result, Ok, Err, IsErr, refl, sym, ap, ◌∙◌, arith}
 use Rattle.std.proofs.Math.Seq.{take-append-add}
 use Rattle.std.proofs.lemmas.List.{take-append-le, take_min}
-use Rattle.std.specs.Prelude.{min}
+use Rattle.std.specs.Prelude.{◌⊎◌, min, OnErr, OnOk}
+use Rattle.outside_traits.specs.Causes.{HasCause}
 use Rattle.pack_model.specs.Pack.{Pack}
 use Rattle.bad144_tool.specs.Changes.{Change, with_change, with_changes, IsCutShort, DoesAll}
 
@@ -87,3 +88,20 @@ module _ {P : Type 0} {tells : P → Bool} {held : P → ℕ → Pack} {faults :
     cut_short = λ t. let cut = does.cut_short t in (cut.0, cut.1 ∙ ap (λ (cs : List Change). with_changes (held old) unit (take cut.0 cs)) (same t));
     cause = record { later = does.cause.later; failed = does.cause.failed };
   }
+
+  -- one write: at a failure it was done or not
+  pub does_one : {T E : Type 0} {old new : P} (result : Result T E) (change : Change) → (IsTrue (tells new) → IsTrue (tells old))
+      → OnOk result (IsTrue (tells new) → held new ≡ with_change (held old) unit change)
+      → OnErr result (IsTrue (tells new) → (held new ≡ held old) ⊎ (held new ≡ with_change (held old) unit change))
+      → HasCause (faults old) (faults new) result
+      → DoesAll {P = P} {T = T} {E = E} tells held faults unit old new result (change ∷ [])
+  does_one (Ok v) change again done cut cause = record { never_again = again; done = done; cut_short = tt; cause = cause }
+  does_one {old = old} {new = new} (Err e) change again done cut cause = record { never_again = again; done = tt; cut_short = λ t. by (cut t); cause = cause }
+    where
+      by : ((held new ≡ held old) ⊎ (held new ≡ with_change (held old) unit change)) → IsCutShort (held old) (held new) unit (change ∷ [])
+      by (inl same) = (0, same)
+      by (inr did) = (1, did)
+
+-- where nothing changed, no write was done
+pub cut_at_once : (old new : ℕ → Pack) (unit : ℕ) (changes : List Change) → new ≡ old → IsCutShort old new unit changes
+cut_at_once old new unit changes same = (0, same)

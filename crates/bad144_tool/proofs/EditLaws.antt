@@ -1,13 +1,14 @@
 -- The writes of an edit leave what later ones read.
-use Rattle.std.proofs.Common.{◌≡◌, ◌≢◌, ℕ, zero, suc, ◌+◌, ◌-◌, ◌<◌, Bool, true, false, List, [], ◌∷◌, ◌++◌, length, refl, sym, ap, ◌∙◌, arith, Result, Ok}
+use Rattle.std.proofs.Common.{◌≡◌, ◌≢◌, ℕ, zero, suc, ◌+◌, ◌-◌, ◌<◌, Bool, true, false, List, [], ◌∷◌, ◌++◌, length, replicate, refl, subst, sym, ap, ◌∙◌, arith, Result, Ok}
 use Rattle.std.proofs.lemmas.Bool.Decides.{nat_tests}
 use Rattle.pack_geometry.specs.declared.DriveKind.{DriveKind}
 use Rattle.pack_geometry.specs.declared.DriveKind.TheVariants.{Rp06, Rm03, Rm05}
 use Rattle.pack_geometry.specs.Geometry.{replacement_at, limit_of}
 use Rattle.pack_model.specs.Pack.{Pack, block_at, with_block, with_written}
 use Rattle.pack_model.proofs.PackLaws.{length-block_at, block_at-with_block_other}
-use Rattle.bad144_tool.specs.Changes.{Change, Block, with_changes, DoesAll}
-use Rattle.bad144_tool.specs.Edit.{moves, first_content}
+use Rattle.pack_model.specs.TableSpelling.{Table, table_text}
+use Rattle.bad144_tool.specs.Changes.{Change, Block, Mark, with_changes, DoesAll, IsCutShort}
+use Rattle.bad144_tool.specs.Edit.{copies, marking, moves, first_content}
 use Rattle.bad144_tool.proofs.ChangeLaws.{does_then, does_same}
 
 -- different replacements are different blocks, and none holds data
@@ -102,3 +103,44 @@ first_then {held = held} {old = old} kind unit i count block copy low small firs
     does_then first (does_same (λ t. ap (λ (bytes : List ℕ). Block (replacement_at kind i) bytes ∷ [])
     (ap (λ (packs : ℕ → Pack). first_content copy (packs unit).image block) (first.done (second.never_again t))
     ∙ first_after_moves kind (held old) unit i count block copy low small)) second)
+
+-- what a replacement gets first, by whether it is copied
+pub first_copied : {P T E : Type 0} {tells : P → Bool} {held : P → ℕ → Pack} {faults : P → ℕ} {old new : P} {result : Result T E} (unit to place block : ℕ) (copy : Bool) → to ≡ place → copy ≡ true
+    → DoesAll {P = P} {T = T} {E = E} tells held faults unit old new result (Block to (block_at (held old unit).image block) ∷ [])
+    → DoesAll {P = P} {T = T} {E = E} tells held faults unit old new result (Block place (first_content copy (held old unit).image block) ∷ [])
+first_copied {tells = tells} {held = held} {faults = faults} {old = old} {new = new} {result = result} unit to place block true at is does =
+    subst (λ (n : ℕ). DoesAll tells held faults unit old new result (Block n (first_content true (held old unit).image block) ∷ [])) at does
+first_copied unit to place block false at is does = absurd (other is)
+  where
+    other : false ≡ true → ⊥
+    other is = cc
+
+pub first_zeros : {P T E : Type 0} {tells : P → Bool} {held : P → ℕ → Pack} {faults : P → ℕ} {old new : P} {result : Result T E} (unit to place block : ℕ) (copy : Bool) → to ≡ place → copy ≡ false
+    → DoesAll {P = P} {T = T} {E = E} tells held faults unit old new result (Block to (replicate 512 0) ∷ [])
+    → DoesAll {P = P} {T = T} {E = E} tells held faults unit old new result (Block place (first_content copy (held old unit).image block) ∷ [])
+first_zeros {tells = tells} {held = held} {faults = faults} {old = old} {new = new} {result = result} unit to place block false at is does =
+    subst (λ (n : ℕ). DoesAll tells held faults unit old new result (Block n (first_content false (held old unit).image block) ∷ [])) at does
+first_zeros unit to place block true at is does = absurd (other is)
+  where
+    other : true ≡ false → ⊥
+    other is = cc
+
+-- the copies of an empty table, as they were written to packs that were as before
+pub fresh_done : (kind : DriveKind) (unit serial : ℕ) (old mid new : ℕ → Pack) (table : Table) → mid ≡ old → table ≡ record { kind = kind; serial = serial; places = [] }
+    → new ≡ with_changes mid unit (copies kind (table_text table.serial table.places)) → new ≡ with_changes old unit (copies kind (table_text serial []))
+fresh_done kind unit serial old mid new table same is done =
+    subst (λ (t : Table). new ≡ with_changes old unit (copies kind (table_text t.serial t.places))) is
+    (subst (λ (p : ℕ → Pack). new ≡ with_changes p unit (copies kind (table_text table.serial table.places))) same done)
+
+pub fresh_cut : (kind : DriveKind) (unit serial : ℕ) (old mid new : ℕ → Pack) (table : Table) → mid ≡ old → table ≡ record { kind = kind; serial = serial; places = [] }
+    → IsCutShort mid new unit (copies kind (table_text table.serial table.places)) → IsCutShort old new unit (copies kind (table_text serial []))
+fresh_cut kind unit serial old mid new table same is cut =
+    subst (λ (t : Table). IsCutShort old new unit (copies kind (table_text t.serial t.places))) is
+    (subst (λ (p : ℕ → Pack). IsCutShort p new unit (copies kind (table_text table.serial table.places))) same cut)
+
+pub marking_on : (mark : Bool) (block : ℕ) → mark ≡ true → Mark block ∷ [] ≡ marking mark block
+marking_on true block is = refl
+marking_on false block is = absurd (other is)
+  where
+    other : false ≡ true → ⊥
+    other is = cc

@@ -4,7 +4,7 @@ use Rattle.std.specs.Prelude.{slice_get}
 use Rattle.std.specs.List.{list_any, position, position_or_len}
 use Rattle.std.proofs.Math.Seq.{take-suc}
 use Rattle.std.proofs.lemmas.Bool.Decides.{Decides-eqb, Decides-ltb, nat_tests}
-use Rattle.std.proofs.lemmas.List.{map-append, take-append-drop, length-take-le}
+use Rattle.std.proofs.lemmas.List.{map-append, take-append-drop, take_all, length-take-le}
 use Rattle.std.proofs.lemmas.List.Elements.{filter-append}
 use Rattle.std.proofs.lemmas.List.Quantifiers.{position-Some}
 use Rattle.std.proofs.lemmas.Option.{get_or_from_slice_get, none-some, slice_get_within}
@@ -22,6 +22,7 @@ use Rattle.pack_model.proofs.HomeLaws.{replacement_above, same_place}
 use Rattle.pack_model.proofs.PackTableLaws.{table_once, table_same}
 use Rattle.pack_model.proofs.TableEditBlocks.{marked_itself, marked_other}
 use Rattle.bad144_tool.specs.Adding.{HasTable}
+use Rattle.outside_traits.specs.Causes.{HasCause}
 use Rattle.bad144_tool.specs.Changes.{Change, Mark, DoesAll, IsCutShort, with_changes}
 use Rattle.bad144_tool.specs.Edit.{marking}
 use Rattle.bad144_tool.specs.Marking.{IsMarkedUp, IsMarkingStopped, Within, Marks, is_at, is_listed, markings, to_mark, wants_mark}
@@ -318,6 +319,17 @@ module _ {P : Type 0} {tells : P → Bool} {held : P → ℕ → Pack} {faults :
   does_err {result = Err x} is does =
       record { never_again = does.never_again; done = tt; cut_short = does.cut_short; cause = record { later = does.cause.later; failed = does.cause.failed } }
 
+  -- a call that failed before any write
+  pub does_nothing : {T U E F : Type 0} {old new : P} {e : F} (result : Result T E) {xs : List Change} → IsErr result → (IsTrue (tells new) → IsTrue (tells old))
+      → (IsTrue (tells new) → held new ≡ held old) → HasCause {T = U} {E = F} (faults old) (faults new) (Err e)
+      → DoesAll {P = P} {T = T} {E = E} tells held faults unit old new result xs
+  does_nothing (Ok v) is again same cause = absurd (no_err is)
+    where
+      no_err : false ≡ true → ⊥
+      no_err f = cc
+  does_nothing (Err x) is again same cause =
+      record { never_again = again; done = tt; cut_short = λ t. (0, same t); cause = record { later = cause.later; failed = cause.failed } }
+
 marking_is : (kind : DriveKind) (pack : Pack) (place : Place) (on : Bool) → on ≡ wants_mark kind pack (block_number kind place)
     → marking on (block_number kind place) ≡ markings kind pack (place ∷ [])
 marking_is kind pack place on is = by on (wants_mark kind pack (block_number kind place)) is
@@ -378,6 +390,9 @@ get_or_take [] (suc i) k d lt = refl
 get_or_take (x ∷ xs) zero k d lt = absurd (omega (arith, lt))
 get_or_take (x ∷ xs) (suc i) zero d lt = refl
 get_or_take (x ∷ xs) (suc i) (suc k) d lt = get_or_take xs i k d (omega (arith, lt))
+
+pub all_taken : (places : List Place) (i n : ℕ) → n ≡ length places → n ≤ i → take i places ≡ places
+all_taken places i n all past = take_all i places (omega arith)
 
 module _ (kind : DriveKind) (table : Table) (drive : table.kind ≡ kind) (valid : IsTable table) (i : ℕ) (place : Place) (is : slice_get table.places i ≡ Some place) where
   none_before : has kind (block_number kind place) (take i table.places) ≡ false

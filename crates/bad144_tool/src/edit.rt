@@ -30,6 +30,16 @@ fn write_block<P: Packs>(
     packs.write(unit, block, bytes)
 }
 
+/// Copies a block to another one.
+fn write_copied<P: Packs>(packs: &mut P, unit: u8, from: u32, to: u32) -> Result<(), StoreFailed>
+    requires { unit < 32 }
+    ensures { DoesAll P.tells P.held P.faults unit packs.old packs.new result (Block to (block_at (P.held packs.old unit).image from) ∷ []) }
+{
+    let mut bytes = [0u8; 512];
+    packs.read(unit, from, &mut bytes)?;
+    write_block(packs, unit, to, &bytes)
+}
+
 /// Copies replacement `j` to replacement `j + 1`.
 fn move_up<P: Packs>(packs: &mut P, unit: u8, kind: DriveKind, j: u32) -> Result<(), StoreFailed>
     requires unit { unit < 32 }
@@ -37,9 +47,7 @@ fn move_up<P: Packs>(packs: &mut P, unit: u8, kind: DriveKind, j: u32) -> Result
     ensures { DoesAll P.tells P.held P.faults unit packs.old packs.new result
         (Block (replacement_at kind (j + 1)) (block_at (P.held packs.old unit).image (replacement_at kind j)) ∷ []) }
 {
-    let mut bytes = [0u8; 512];
-    packs.read(unit, replacement(kind, j), &mut bytes)?;
-    write_block(packs, unit, replacement(kind, j + 1), &bytes)
+    write_copied(packs, unit, replacement(kind, j), replacement(kind, j + 1))
 }
 
 /// Moves replacements `i` to `end - 1` up by one, the last of them first.
@@ -77,11 +85,11 @@ fn write_first<P: Packs>(
     ensures { DoesAll P.tells P.held P.faults unit packs.old packs.new result
         (Block (replacement_at kind i) (first_content copy (P.held packs.old unit).image block) ∷ []) }
 {
-    let mut bytes = [0u8; 512];
     if copy {
-        packs.read(unit, block, &mut bytes)?;
+        write_copied(packs, unit, block, replacement(kind, i))
+    } else {
+        write_block(packs, unit, replacement(kind, i), &[0u8; 512])
     }
-    write_block(packs, unit, replacement(kind, i), &bytes)
 }
 
 /// Writes a text to copy `k` of the table.

@@ -2,3 +2,5 @@ pub mod PollLaws
 pub mod CopyLaws
 pub mod StageLaws
 pub mod StopLaws
+pub mod ExitLaws
+pub mod MoveLaws

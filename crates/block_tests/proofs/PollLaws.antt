@@ -51,7 +51,7 @@ by_marks true write v is = is
 by_marks false true v is = is
 by_marks false false v is = is
 
-same_sides : (h i : ℕ → Pack) (b c : List ℕ) → h ≡ i → b ≡ c → ◌≡◌ {A = Sides} (record { held = h; bytes = b }) (record { held = i; bytes = c })
+pub same_sides : (h i : ℕ → Pack) (b c : List ℕ) → h ≡ i → b ≡ c → ◌≡◌ {A = Sides} (record { held = h; bytes = b }) (record { held = i; bytes = c })
 same_sides h i b c one two = rw (one, two) refl
 
 module _ (kind : DriveKind) (unit block size : ℕ) (write told : Bool) (d : DriveState) (old new : Site) (v : Moved) (does : Does kind (Transfer write) d)

@@ -167,6 +167,12 @@ pub write_marked : (unit block : ℕ) (told : Bool) (old new : ℕ → Pack) (by
 write_marked unit block told old new bytes polls t =
     fills_marked unit block bytes old new (answered_marked (is_marked (old unit) block) Marked (polls.answer t) refl) (ap (λ (s : Sides). s.held) (polls.sides t))
 
+pub fills_unmoved : (unit block : ℕ) (told : Bool) (polled : Polled) (old new : ℕ → Pack) (bytes : List ℕ)
+    → Polls unit block true told (record { held = old; bytes = bytes }) (record { held = new; bytes = bytes }) polled → polled ≡ Marked → IsTrue told
+    → Fills unit (one (old unit) block) bytes old new
+fills_unmoved unit block told polled old new bytes polls is t =
+    write_marked unit block told old new bytes (subst (λ (p : Polled). Polls unit block true told (record { held = old; bytes = bytes }) (record { held = new; bytes = bytes }) p) is polls) t
+
 -- the block that was written is unmarked and has the bytes
 pub holds_written : (unit block : ℕ) (bytes : List ℕ) (old new : ℕ → Pack) → length bytes ≡ 512
     → (is_marked (old unit) block ≡ false) × (new ≡ with_written old unit block bytes)
@@ -256,6 +262,25 @@ fills_over unit block before bytes old mid new first then_ = record {
     over : (b : Bool) (x y w : List ℕ) → w ≡ if_done b bytes y → y ≡ if_done b before x → w ≡ if_done b bytes x
     over true x y w e f = e
     over false x y w e f = e ∙ f
+
+-- and where the second writing stopped
+pub stops_over : (unit block : ℕ) (Such One : List ℕ → Type 0) (before : List ℕ) (old mid new : ℕ → Pack) → Such before → ((x : List ℕ) → One x → Such x)
+    → Fills unit (one (old unit) block) before old mid → Stops unit (one (mid unit) block) One mid new → Stops unit (one (old unit) block) Such old new
+stops_over unit block Such One before old mid new such also first stop = record {
+  sectors =
+      λ sector.
+      over (one (old unit) block sector) (block_at (old unit).image sector) (block_at (mid unit).image sector) (block_at (new unit).image sector) (first.sectors sector)
+      (subst (λ (m : Bool). (block_at (new unit).image sector ≡ block_at (mid unit).image sector)
+      ⊎ ((((sector == block) && not m) ≡ true) × One (block_at (new unit).image sector))) (same_marks (mid unit) (old unit) sector first.marks) (stop.sectors sector));
+  marks = stop.marks ∙ first.marks;
+  others = λ other ne. stop.others other ne ∙ first.others other ne;
+}
+  where
+    over : (b : Bool) (x y w : List ℕ) → y ≡ if_done b before x → (w ≡ y) ⊎ ((b ≡ true) × One w) → (w ≡ x) ⊎ ((b ≡ true) × Such w)
+    over true x y w e (inl same) = inr (refl, subst Such (sym (same ∙ e)) such)
+    over false x y w e (inl same) = inl (same ∙ e)
+    over true x y w e (inr struck) = inr (refl, also w struck.1)
+    over false x y w e (inr struck) = absurd (false_true struck.0)
 
 -- what a stage gave a sector, or left it
 on : (d m : Bool) → d ≡ true → m ≡ false → (d && not m) ≡ true

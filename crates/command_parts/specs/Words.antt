@@ -49,12 +49,19 @@ dump_of None kind = None
 dump_of (Some unit) None = None
 dump_of (Some unit) (Some kind) = Some (Write (Dump unit kind))
 
+-- by the verb `write`, and by the verb `read`
+abbrev pub written_named : (verb unit kind part at : List ℕ) → Option Transfer
+written_named verb unit kind part at = if bytes_eq verb (codes "write") then write_of (target_named unit kind part at) else None
+
+abbrev pub sized_named : (verb unit kind part at size : List ℕ) → Option Transfer
+sized_named verb unit kind part at size = if bytes_eq verb (codes "read") then read_of (target_named unit kind part at) (size_named size) else None
+
 -- WHAT IS TRANSFERRED by `raw read U KIND PART AT LEN`, by `raw write U KIND PART AT`,
 abbrev pub raw_named : (verb unit kind : List ℕ) → List (List ℕ) → Option Transfer
 raw_named verb unit kind [] = None
 raw_named verb unit kind (part ∷ []) = None
-raw_named verb unit kind (part ∷ at ∷ []) = if bytes_eq verb (codes "write") then write_of (target_named unit kind part at) else None
-raw_named verb unit kind (part ∷ at ∷ size ∷ []) = if bytes_eq verb (codes "read") then read_of (target_named unit kind part at) (size_named size) else None
+raw_named verb unit kind (part ∷ at ∷ []) = written_named verb unit kind part at
+raw_named verb unit kind (part ∷ at ∷ size ∷ []) = sized_named verb unit kind part at size
 raw_named verb unit kind (part ∷ at ∷ size ∷ more ∷ words) = None
 
 -- and by `dump U KIND`

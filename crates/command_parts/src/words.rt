@@ -2,7 +2,7 @@
 ghost use Rattle.std.specs.Prelude.{◌≡◌, ◌<◌, ◌≤◌, ◌^◌, map, IfSome};
 ghost use Rattle.std.specs.String.{string_bytes};
 ghost use Rattle.command_parts.specs.Fields.{kind_named, unit_named};
-ghost use Rattle.command_parts.specs.Words.{IsInRange, IsTarget, dump_named, part_named, place_named, raw_named, read_of, size_named, target_of, write_of};
+ghost use Rattle.command_parts.specs.Words.{IsInRange, IsTarget, dump_named, part_named, place_named, raw_named, read_of, size_named, sized_named, target_of, write_of, written_named};
 
 use crate::fields::{kind_in, unit_in};
 use mass_text::{Radix, number};
@@ -99,6 +99,35 @@ fn write_in(target: Option<Target>) -> Option<Transfer>
     })
 }
 
+/// What `raw write` transfers, by a unit, a kind, a partition and a place; None for another verb.
+fn written_in(verb: &str, unit: &str, kind: &str, part: &str, at: &str) -> Option<Transfer>
+    ensures named { result ≡ written_named verb.now unit.now kind.now part.now at.now }
+    ensures valid { IfSome result IsInRange }
+{
+    if verb == "write" {
+        return write_in(target_in(unit, kind, part, at));
+    }
+    None
+}
+
+/// What `raw read` transfers, by a unit, a kind, a partition, a place and a number of bytes; None for another verb.
+fn sized_in(
+    verb: &str,
+    unit: &str,
+    kind: &str,
+    part: &str,
+    at: &str,
+    size: &str,
+) -> Option<Transfer>
+    ensures named { result ≡ sized_named verb.now unit.now kind.now part.now at.now size.now }
+    ensures valid { IfSome result IsInRange }
+{
+    if verb == "read" {
+        return read_in(target_in(unit, kind, part, at), size);
+    }
+    None
+}
+
 /// What `raw` transfers, by its verb, a unit, a kind, and the words behind them: `read`, a partition, a place in it below 2^40, and a
 /// number of bytes of 16,777,216 at the most; or `write`, a partition and a place. None where they are none of these.
 pub fn raw_in(verb: &str, unit: &str, kind: &str, rest: &[String]) -> Option<Transfer>
@@ -106,21 +135,8 @@ pub fn raw_in(verb: &str, unit: &str, kind: &str, rest: &[String]) -> Option<Tra
     ensures valid { IfSome result IsInRange }
 {
     match rest {
-        [part, at] => {
-            if verb == "write" {
-                return write_in(target_in(unit, kind, part.as_str(), at.as_str()));
-            }
-            None
-        }
-        [part, at, size] => {
-            if verb == "read" {
-                return read_in(
-                    target_in(unit, kind, part.as_str(), at.as_str()),
-                    size.as_str(),
-                );
-            }
-            None
-        }
+        [part, at] => written_in(verb, unit, kind, part.as_str(), at.as_str()),
+        [part, at, size] => sized_in(verb, unit, kind, part.as_str(), at.as_str(), size.as_str()),
         [] => None,
         [_] => None,
         [_, _, _, _, ..] => None,

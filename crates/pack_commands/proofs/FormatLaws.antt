@@ -8,10 +8,11 @@ use Rattle.pack_format.specs.Faults.{IsWhy, Leaves}
 use Rattle.pack_format.specs.Formatted.{IsFormatted, found}
 use Rattle.pack_format.specs.declared.fault.FormatFault.{FormatFault}
 use Rattle.pack_format.specs.declared.fault.FormatFault.TheVariants as fault
-use Rattle.pack_commands.specs.Formats.{RunsFormat, format_status, format_text, formatted_text}
+use Rattle.pack_commands.specs.Formats.{IsToldEnd, RunsFormat, format_status, format_text, formatted_text}
 use Rattle.command_parts.specs.Statuses.{status_code}
 use Rattle.command_parts.specs.Lines.{Told}
 use Rattle.command_parts.specs.declared.status.Status.{Status}
+use Rattle.command_parts.specs.declared.status.Status.TheVariants.{Done, SinkFailed, PacksFailed, OutOfMemory}
 use Rattle.pack_commands.proofs.ToolLaws.{nothing_more}
 
 -- where there was no memory nothing is printed
@@ -107,3 +108,32 @@ module _ {kind : DriveKind} {unit serial : ℕ} {tells : Bool} {old new : ℕ �
     fits = λ e. absurd (omega (arith, e));
     elsewhere = elsewhere;
   }
+
+  -- the two ends of the text
+  pub format_told : {status : Status} (count : ℕ) → (IsTrue tells → IsFormatted kind serial (old unit) (new unit) × (count ≡ found kind (old unit))) → IsToldEnd status
+      → (status ≡ Done → IsTrue out_tells → after ≡ taken ++ formatted_text count) → (status ≡ SinkFailed → IsTrue out_tells → TakesFront taken after (formatted_text count))
+      → (status ≡ SinkFailed → Rose faults faults_after) → RunsFormat kind unit serial (status_code status) tells old new out_tells taken after faults faults_after
+  format_told count done (inl is) told cut rose =
+      subst (λ (s : Status). RunsFormat kind unit serial (status_code s) tells old new out_tells taken after faults faults_after) (sym is) (format_done count done (told is))
+  format_told count done (inr is) told cut rose =
+      subst (λ (s : Status). RunsFormat kind unit serial (status_code s) tells old new out_tells taken after faults faults_after) (sym is) (format_cut count done (rose is) (cut is))
+
+-- and no other end
+pub never_failed : (status : Status) → IsToldEnd status → status ≡ PacksFailed → ⊥
+never_failed status (inl is) other = cc
+never_failed status (inr is) other = cc
+
+pub never_full : (status : Status) → IsToldEnd status → status ≡ OutOfMemory → ⊥
+never_full status (inl is) other = cc
+never_full status (inr is) other = cc
+
+pub done_is_not_cut : Done ≡ SinkFailed → ⊥
+done_is_not_cut is = cc
+
+pub cut_is_not_done : SinkFailed ≡ Done → ⊥
+cut_is_not_done is = cc
+
+-- what a run comes to, by the end of its text
+pub by_end : (P : ℕ → Type 0) (status : Status) → IsToldEnd status → (status ≡ Done → P 0) → (status ≡ SinkFailed → P 5) → P (status_code status)
+by_end P status (inl is) one two = subst (λ (s : Status). P (status_code s)) (sym is) (one is)
+by_end P status (inr is) one two = subst (λ (s : Status). P (status_code s)) (sym is) (two is)

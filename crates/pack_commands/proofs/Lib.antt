@@ -1,2 +1,3 @@
 mod ToolLaws
 mod FormatLaws
+mod WordLaws

@@ -67,21 +67,26 @@ fresh_named (Some unit) None serial = None
 fresh_named (Some unit) (Some kind) None = None
 fresh_named (Some unit) (Some kind) (Some serial) = Some (FreshTable unit kind serial)
 
+abbrev pub worded_named : List ℕ → List ℕ → List ℕ → List ℕ → Option Command
+worded_named verb unit kind word = if bytes_eq verb (codes "fresh") then fresh_named (unit_named unit) (kind_named kind) (serial_named word) else None
+
+abbrev pub bare_named : List ℕ → List ℕ → List ℕ → Option Command
+bare_named verb unit kind =
+    if bytes_eq verb (codes "list") then list_named (unit_named unit) (kind_named kind)
+    else if bytes_eq verb (codes "mark") then mark_named (unit_named unit) (kind_named kind)
+    else None
+
 -- no word more, or one and perhaps others: `bad144 list U KIND` and `bad144 mark U KIND`; `bad144 add U KIND BLOCK` and how; `bad144 fresh U KIND
 -- SERIAL`
 abbrev pub one_more_named : List ℕ → List ℕ → List ℕ → List ℕ → List (List ℕ) → Option Command
 one_more_named verb unit kind word [] =
     if bytes_eq verb (codes "add") then add_named (unit_named unit) (kind_named kind) word (way_named [])
-    else if bytes_eq verb (codes "fresh") then fresh_named (unit_named unit) (kind_named kind) (serial_named word)
-    else None
+    else worded_named verb unit kind word
 one_more_named verb unit kind word (more ∷ words) =
     if bytes_eq verb (codes "add") then add_named (unit_named unit) (kind_named kind) word (way_named (more ∷ words)) else None
 
 abbrev pub tool_named : List ℕ → List ℕ → List ℕ → List (List ℕ) → Option Command
-tool_named verb unit kind [] =
-    if bytes_eq verb (codes "list") then list_named (unit_named unit) (kind_named kind)
-    else if bytes_eq verb (codes "mark") then mark_named (unit_named unit) (kind_named kind)
-    else None
+tool_named verb unit kind [] = bare_named verb unit kind
 tool_named verb unit kind (word ∷ words) = one_more_named verb unit kind word words
 
 -- `exercise N`
@@ -124,17 +129,27 @@ abbrev pub transfer_named : Option Transfer → Option Command
 transfer_named None = None
 transfer_named (Some transfer) = Some (TransferBytes transfer)
 
--- THE COMMAND of the words: `play`, one of `bad144`, `exercise`, `cached`, `format`, or one that transfers bytes
-abbrev pub command_named : List (List ℕ) → Option Command
-command_named [] = None
-command_named (word ∷ []) = if bytes_eq word (codes "play") then Some Play else None
-command_named (word ∷ number ∷ []) = numbered_named word number
-command_named (word ∷ unit ∷ kind ∷ []) = if bytes_eq word (codes "dump") then transfer_named (dump_named unit kind) else None
-command_named (tool ∷ verb ∷ unit ∷ kind ∷ words) =
+-- `play`; and `dump`; and those of more words
+abbrev pub lone_named : List ℕ → Option Command
+lone_named word = if bytes_eq word (codes "play") then Some Play else None
+
+abbrev pub dumped_named : List ℕ → List ℕ → List ℕ → Option Command
+dumped_named word unit kind = if bytes_eq word (codes "dump") then transfer_named (dump_named unit kind) else None
+
+abbrev pub long_named : List ℕ → List ℕ → List ℕ → List ℕ → List (List ℕ) → Option Command
+long_named tool verb unit kind words =
     if bytes_eq tool (codes "bad144") then tool_named verb unit kind words
     else if bytes_eq tool (codes "format") then pack_named verb unit kind words
     else if bytes_eq tool (codes "raw") then transfer_named (raw_named verb unit kind words)
     else None
+
+-- THE COMMAND of the words: `play`, one of `bad144`, `exercise`, `cached`, `format`, or one that transfers bytes
+abbrev pub command_named : List (List ℕ) → Option Command
+command_named [] = None
+command_named (word ∷ []) = lone_named word
+command_named (word ∷ number ∷ []) = numbered_named word number
+command_named (word ∷ unit ∷ kind ∷ []) = dumped_named word unit kind
+command_named (tool ∷ verb ∷ unit ∷ kind ∷ words) = long_named tool verb unit kind words
 
 -- the numbers of a command are in their ranges
 abbrev pub IsValid : Command → Type 0

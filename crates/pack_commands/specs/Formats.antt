@@ -42,6 +42,10 @@ format_text unit fault.Memory = []
 abbrev pub formatted_text : ℕ → List ℕ
 formatted_text count = codes "formatted bad " ++ decimal count ++ 10 ∷ []
 
+-- the text was printed, or the sink failed
+abbrev pub IsToldEnd : Status → Type 0
+IsToldEnd status = (status ≡ Done) ⊎ (status ≡ SinkFailed)
+
 -- the pack is formatted, and how many blocks are bad was printed; or a front of that, where the sink failed
 pub record RunsFormatted (kind : DriveKind) (unit serial code : ℕ) (tells : Bool) (old new : ℕ → Pack) (out_tells : Bool) (taken after : List ℕ) (faults faults_after : ℕ) : Type 0 where
   pub count : ℕ

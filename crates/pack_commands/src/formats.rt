@@ -5,6 +5,7 @@ ghost use Rattle.pack_commands.specs.Formats.{RunsFormat, format_status, format_
 ghost use Rattle.command_parts.specs.Statuses.{status_code};
 ghost use Rattle.command_parts.specs.Lines.{Told};
 
+use crate::text::tell;
 use command_parts::{Status, numbered, plain, too_long};
 use mass_text::LineBuf;
 use outside_traits::traits::{Packs, Sink};
@@ -85,10 +86,7 @@ pub fn run_format<P: Packs, O: Sink>(
     ensures silent { result ≡ Status.OutOfMemory → out.new ≡ out.old }
 {
     match format(alloc, packs, unit, kind, serial) {
-        Ok(report) => match write_all(out, formatted_line(report.bad).as_bytes()) {
-            Ok(()) => Status::Done,
-            Err(_) => Status::SinkFailed,
-        },
+        Ok(report) => tell(out, formatted_line(report.bad)),
         Err(fault) => refuse(out, unit, &fault),
     }
 }

@@ -1,9 +1,14 @@
-ghost use Rattle.std.specs.Prelude.{◌≡◌};
+ghost use Rattle.std.specs.Prelude.{◌≡◌, ◌++◌, IsTrue};
+ghost use Rattle.outside_traits.specs.Causes.{Rose};
+ghost use Rattle.outside_traits.specs.Puts.{TakesFront};
+ghost use Rattle.pack_commands.specs.Formats.{IsToldEnd};
 ghost use Rattle.pack_commands.specs.Tools.{entry_text, fault_text, marked_text, serial_text};
 
 use bad144_tool::ToolFault;
-use command_parts::{numbered, plain, too_long};
+use command_parts::{Status, numbered, plain, too_long};
 use mass_text::LineBuf;
+use outside_traits::traits::Sink;
+use outside_traits::whole::write_all;
 
 /// What is printed of a fault of the tool; nothing where the packs or the sink failed.
 #[tactic(auto, unfolding(crate::specs::Tools::fault_text))]
@@ -40,4 +45,18 @@ pub(crate) fn marked_line(count: u8) -> LineBuf
     ensures { result ≡ marked_text count }
 {
     numbered("marked ", u64::from(count))
+}
+
+/// Prints a line that a call ends with.
+pub(crate) fn tell<O: Sink>(out: &mut O, line: LineBuf) -> Status
+    ensures never_again { IsTrue (O.tells out.new) → IsTrue (O.tells out.old) }
+    ensures ends { IsToldEnd result }
+    ensures done { result ≡ Status.Done → IsTrue (O.tells out.new) → O.taken out.new ≡ O.taken out.old ++ line }
+    ensures cut { result ≡ Status.SinkFailed → IsTrue (O.tells out.new) → TakesFront (O.taken out.old) (O.taken out.new) line }
+    ensures rose { result ≡ Status.SinkFailed → Rose (O.faults out.old) (O.faults out.new) }
+{
+    match write_all(out, line.as_bytes()) {
+        Ok(()) => Status::Done,
+        Err(_) => Status::SinkFailed,
+    }
 }

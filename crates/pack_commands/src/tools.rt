@@ -5,7 +5,7 @@ ghost use Rattle.command_parts.specs.Statuses.{status_code};
 ghost use Rattle.pack_commands.specs.Tools.{RunsAdd, RunsFresh, RunsList, RunsMark, fault_status, fault_text};
 ghost use Rattle.command_parts.specs.Lines.{Told};
 
-use crate::text::{entry_line, fault_line, marked_line, serial_line};
+use crate::text::{entry_line, fault_line, marked_line, serial_line, tell};
 use bad144_tool::{AddWay, ToolFault, add, fresh, list, mark};
 use command_parts::Status;
 use outside_traits::traits::{Packs, Sink};
@@ -72,10 +72,7 @@ pub fn run_add<P: Packs, O: Sink>(
     ensures store { result ≡ Status.PacksFailed → Rose (P.faults packs.old) (P.faults packs.new) }
 {
     match add(packs, unit, kind, block, way) {
-        Ok(i) => match write_all(out, entry_line(i).as_bytes()) {
-            Ok(()) => Status::Done,
-            Err(_) => Status::SinkFailed,
-        },
+        Ok(i) => tell(out, entry_line(i)),
         Err(fault) => refuse(out, unit, &fault),
     }
 }
@@ -96,10 +93,7 @@ pub fn run_fresh<P: Packs, O: Sink>(
     ensures store { result ≡ Status.PacksFailed → Rose (P.faults packs.old) (P.faults packs.new) }
 {
     match fresh(packs, unit, kind, serial) {
-        Ok(()) => match write_all(out, serial_line(serial).as_bytes()) {
-            Ok(()) => Status::Done,
-            Err(_) => Status::SinkFailed,
-        },
+        Ok(()) => tell(out, serial_line(serial)),
         Err(fault) => refuse(out, unit, &fault),
     }
 }
@@ -114,10 +108,7 @@ pub fn run_mark<P: Packs, O: Sink>(packs: &mut P, out: &mut O, unit: u8, kind: D
     ensures store { result ≡ Status.PacksFailed → Rose (P.faults packs.old) (P.faults packs.new) }
 {
     match mark(packs, unit, kind) {
-        Ok(count) => match write_all(out, marked_line(count).as_bytes()) {
-            Ok(()) => Status::Done,
-            Err(_) => Status::SinkFailed,
-        },
+        Ok(count) => tell(out, marked_line(count)),
         Err(fault) => refuse(out, unit, &fault),
     }
 }

@@ -3,7 +3,7 @@ ghost use Rattle.std.specs.String.{string_bytes};
 ghost use Rattle.pack_geometry.specs.Geometry.{block_count};
 ghost use Rattle.command_parts.specs.Fields.{kind_named, unit_named};
 ghost use Rattle.command_parts.specs.Words.{IsInRange};
-ghost use Rattle.pack_commands.specs.Commands.{IsValid, add_named, block_named, both_named, one_named, cached_named, capacity_named, command_named, exercise_named, format_named, fresh_named, list_named, mark_named, number_named, numbered_named, pack_named, serial_named, tool_named, transfer_named, way_named};
+ghost use Rattle.pack_commands.specs.Commands.{IsValid, add_named, bare_named, block_named, both_named, one_named, cached_named, capacity_named, command_named, dumped_named, exercise_named, format_named, fresh_named, list_named, lone_named, long_named, mark_named, number_named, numbered_named, one_more_named, pack_named, serial_named, tool_named, transfer_named, way_named, worded_named};
 
 use bad144_tool::AddWay;
 use command_parts::{Transfer, dump_in, kind_in, raw_in, unit_in};
@@ -216,30 +216,59 @@ fn numbered_command(word: &str, number: &str) -> Option<Command>
     None
 }
 
+/// A command of `bad144` that no word follows: `list` or `mark`.
+fn bare_command(verb: &str, unit: &str, kind: &str) -> Option<Command>
+    ensures named { result ≡ bare_named verb.now unit.now kind.now }
+    ensures valid { IfSome result IsValid }
+{
+    if verb == "list" {
+        return list_command(unit, kind);
+    }
+    if verb == "mark" {
+        return mark_command(unit, kind);
+    }
+    None
+}
+
+/// A command of `bad144` that one word follows, and is not `add`: `fresh`.
+fn serial_command(verb: &str, unit: &str, kind: &str, serial: &str) -> Option<Command>
+    ensures named { result ≡ worded_named verb.now unit.now kind.now serial.now }
+    ensures valid { IfSome result IsValid }
+{
+    if verb == "fresh" {
+        return fresh_command(unit, kind, serial);
+    }
+    None
+}
+
+/// A command of `bad144` that words follow: `add`, or `fresh` with one word.
+fn worded_command(
+    verb: &str,
+    unit: &str,
+    kind: &str,
+    word: &str,
+    more: &[String],
+) -> Option<Command>
+    ensures named { result ≡ one_more_named verb.now unit.now kind.now word.now (map string_bytes more.now) }
+    ensures valid { IfSome result IsValid }
+{
+    if verb == "add" {
+        return add_command(unit, kind, word, more);
+    }
+    match more {
+        [] => serial_command(verb, unit, kind, word),
+        [_, ..] => None,
+    }
+}
+
 /// A command of `bad144`, by its verb, a unit, a kind, and the words behind them.
 fn tool_command(verb: &str, unit: &str, kind: &str, rest: &[String]) -> Option<Command>
     ensures named { result ≡ tool_named verb.now unit.now kind.now (map string_bytes rest.now) }
     ensures valid { IfSome result IsValid }
 {
     match rest {
-        [] => {
-            if verb == "list" {
-                return list_command(unit, kind);
-            }
-            if verb == "mark" {
-                return mark_command(unit, kind);
-            }
-            None
-        }
-        [word, more @ ..] => {
-            if verb == "add" {
-                return add_command(unit, kind, word.as_str(), more);
-            }
-            if verb == "fresh" && more.is_empty() {
-                return fresh_command(unit, kind, word.as_str());
-            }
-            None
-        }
+        [] => bare_command(verb, unit, kind),
+        [word, more @ ..] => worded_command(verb, unit, kind, word.as_str(), more),
     }
 }
 
@@ -274,37 +303,61 @@ fn transfer_command(transfer: Option<Transfer>) -> Option<Command>
     Some(Command::TransferBytes { transfer })
 }
 
+/// The command of one word: `play`.
+fn lone_command(word: &str) -> Option<Command>
+    ensures named { result ≡ lone_named word.now }
+    ensures valid { IfSome result IsValid }
+{
+    if word == "play" {
+        return Some(Command::Play);
+    }
+    None
+}
+
+/// The command of three words: `dump`, a unit and a kind.
+fn dump_command(word: &str, unit: &str, kind: &str) -> Option<Command>
+    ensures named { result ≡ dumped_named word.now unit.now kind.now }
+    ensures valid { IfSome result IsValid }
+{
+    if word == "dump" {
+        return transfer_command(dump_in(unit, kind));
+    }
+    None
+}
+
+/// The command of four words or more: one of `bad144`, `format`, or `raw`.
+fn long_command(tool: &str, verb: &str, unit: &str, kind: &str, rest: &[String]) -> Option<Command>
+    ensures named { result ≡ long_named tool.now verb.now unit.now kind.now (map string_bytes rest.now) }
+    ensures valid { IfSome result IsValid }
+{
+    if tool == "bad144" {
+        return tool_command(verb, unit, kind, rest);
+    }
+    if tool == "format" {
+        return pack_command(verb, unit, kind, rest);
+    }
+    if tool == "raw" {
+        return transfer_command(raw_in(verb, unit, kind, rest));
+    }
+    None
+}
+
 /// The command that the words name; None where they name none.
 pub fn command_of(words: &[String]) -> Option<Command>
     ensures named { result ≡ command_named (map string_bytes words.now) }
     ensures valid { IfSome result IsValid }
 {
     match words {
-        [word] => {
-            if word.as_str() == "play" {
-                return Some(Command::Play);
-            }
-            None
-        }
-        [tool, verb, unit, kind, rest @ ..] => {
-            if tool.as_str() == "bad144" {
-                return tool_command(verb.as_str(), unit.as_str(), kind.as_str(), rest);
-            }
-            if tool.as_str() == "format" {
-                return pack_command(verb.as_str(), unit.as_str(), kind.as_str(), rest);
-            }
-            if tool.as_str() == "raw" {
-                return transfer_command(raw_in(verb.as_str(), unit.as_str(), kind.as_str(), rest));
-            }
-            None
-        }
+        [word] => lone_command(word.as_str()),
+        [tool, verb, unit, kind, rest @ ..] => long_command(
+            tool.as_str(),
+            verb.as_str(),
+            unit.as_str(),
+            kind.as_str(),
+            rest,
+        ),
         [word, number] => numbered_command(word.as_str(), number.as_str()),
-        [word, unit, kind] => {
-            if word.as_str() == "dump" {
-                return transfer_command(dump_in(unit.as_str(), kind.as_str()));
-            }
-            None
-        }
+        [word, unit, kind] => dump_command(word.as_str(), unit.as_str(), kind.as_str()),
         [] => None,
     }
 }

@@ -1,3 +1,4 @@
+pub mod ExitLaws
 pub mod AloneLaws
 pub mod EndLaws
 pub mod FormatLaws

@@ -1,6 +1,9 @@
-use Rattle.std.proofs.Common.{ℕ, ◌≡◌, ◌≤◌, ◌+◌, ◌∙◌, Bool, true, false, arith}
+use Rattle.std.proofs.Common.{ℕ, List, ap, length, ◌≡◌, ◌≤◌, ◌+◌, ◌∙◌, Bool, true, false, arith}
 use Rattle.std.specs.Prelude.{if◌then◌else◌}
-use Rattle.bad144_tool.proofs.MarkLaws.{count_then, does_err, does_front, does_ok, place_then, wanted_first}
+use Rattle.pack_geometry.specs.declared.Place.{Place}
+use Rattle.bad144_tool.specs.Marking.{markings, to_mark}
+use Rattle.bad144_tool.proofs.ChangeLaws.{does_same}
+use Rattle.bad144_tool.proofs.MarkLaws.{all_taken, count_then, does_err, does_front, does_ok, place_then, wanted_first}
 use Rattle.bad144_tool.proofs.marking.mark_all.Goals as goal
 
 small_then : (count i n : ℕ) (on : Bool) → n ≡ count + (if on then 1 else 0) → count ≤ i → n ≤ i + 1
@@ -27,4 +30,13 @@ loop-i-preserved g c =
           ∙ wanted_first c.args.kind c.args.table.now c.requires.kind c.entries-i-end.ensures.valid c.loop-i.i c.entry.result c.entry.ensures
           (g.P.Packs.held c.args.packs.now) (g.P.Packs.held c.loop-i.packs) c.args.unit (c.loop-i.invariant.does.done told));
       small = small_then c.loop-i.count c.loop-i.i c.more-count.result c.in_ok-on.on c.more-count.ensures c.loop-i.invariant.small;
+    }
+
+pub returns : goal.returns
+returns g c =
+    let so_far = c.loop-i.invariant in
+    let pack = g.P.Packs.held c.args.packs.now c.args.unit in
+    let whole = all_taken c.args.table.now.places c.loop-i.i c.entries-i-end.result c.entries-i-end.ensures.count c.loop-i-test.false in record {
+      does = does_same (λ _. ap (λ (ps : List Place). markings c.args.kind pack ps) whole) so_far.does;
+      counted = λ t. so_far.counted t ∙ ap (λ (ps : List Place). length (to_mark c.args.kind pack ps)) whole;
     }

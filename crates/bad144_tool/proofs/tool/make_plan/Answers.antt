@@ -1,27 +1,63 @@
-use Rattle.std.proofs.Common.{ℕ, subst, ap, Err}
+use Rattle.std.proofs.Common.{ℕ, subst, ap, Err, ◌∙◌}
 use Rattle.pack_model.specs.Pack.{Pack}
 use Rattle.bad144_tool.specs.Adding.{AreFree, IsFirstMarked}
 use Rattle.bad144_tool.proofs.AddLaws.{at_error, goes_to, may_list, why_refused, why_spare}
+use Rattle.bad144_tool.proofs.ExitLaws.{counted_on, counted_other, counted_then, insert_is_add_fault, insert_is_no_failure, no_value, not_done, spare_is_add_fault}
 use Rattle.bad144_tool.proofs.tool.make_plan.Goals as goal
 
-pub returns-in_err-table-clause-why : goal.returns-in_err-table-clause-why
-returns-in_err-table-clause-why g c = at_error _ _ c.from_residual.ensures.1 (c.in_err-table.ensures.why c.args.block)
+pub returns-in_err-table : goal.returns-in_err-table
+returns-in_err-table g c =
+    let is = c.from_residual.ensures.0 in
+    let error = c.from_residual.ensures.1 in
+    let refused = c.in_err-table.ensures in record {
+      never_again = refused.never_again;
+      same = refused.same;
+      index = no_value _ _ is;
+      low = not_done _ _ is;
+      may = no_value _ _ is;
+      faults = at_error _ _ error refused.faults;
+      why = at_error _ _ error (refused.why c.args.block);
+      store = counted_on _ error refused.store;
+    }
 
-pub returns-in_err-index-clause-why : goal.returns-in_err-index-clause-why
-returns-in_err-index-clause-why g c =
-    at_error _ _ c.from_residual-in_err-index.ensures.1 (λ t.
-    why_refused c.args.kind _ c.args.block c.in_ok-table.table c.place_of.result _ (c.in_ok-table.ensures.table t) c.in_ok-table.ensures.drive
-    c.place_of.ensures.place (c.place_law.ensures.back c.args.block c.requires.block) c.in_err-index.ensures.refused)
+pub returns-in_err-index : goal.returns-in_err-index
+returns-in_err-index g c =
+    let is = c.from_residual-in_err-index.ensures.0 in
+    let error = c.from_residual-in_err-index.ensures.1 in
+    let table = c.in_ok-table.ensures in record {
+      never_again = table.never_again;
+      same = table.same;
+      index = no_value _ _ is;
+      low = not_done _ _ is;
+      may = no_value _ _ is;
+      faults = at_error _ _ error (insert_is_add_fault c.args.kind _);
+      why = at_error _ _ error (λ t.
+          why_refused c.args.kind _ c.args.block c.in_ok-table.table c.place_of.result _ (table.table t) table.drive
+          c.place_of.ensures.place (c.place_law.ensures.back c.args.block c.requires.block) c.in_err-index.ensures.refused);
+      store = counted_other _ error (insert_is_no_failure _) table.store.later;
+    }
 
-pub returns-in_err-check_spare-clause-why : goal.returns-in_err-check_spare-clause-why
-returns-in_err-check_spare-clause-why g c =
-    at_error _ _ c.from_residual-in_err-check_spare.ensures.1 (λ t.
-    let told = c.in_err-check_spare.ensures.never_again t in
-    why_spare c.args.kind _ c.args.block c.in_ok-index.index c.entries.result c.in_ok-table.table c.insert.new.table _ c.in_err-check_spare.ensures.faults
-    (λ j is. subst (λ (packs : ℕ → Pack). IsFirstMarked c.args.kind (packs c.args.unit) c.in_ok-index.index c.entries.result j)
-    (c.in_ok-table.ensures.same told) (c.in_err-check_spare.ensures.marked j (ap (λ e. Err e) is) t))
-    (goes_to c.args.kind _ c.args.block _ c.in_ok-table.table _ c.place_of.result (c.in_ok-table.ensures.table told) c.place_of.ensures.place c.in_ok-index.ensures.ok)
-    c.entries.ensures.count)
+pub returns-in_err-check_spare : goal.returns-in_err-check_spare
+returns-in_err-check_spare g c =
+    let is = c.from_residual-in_err-check_spare.ensures.0 in
+    let error = c.from_residual-in_err-check_spare.ensures.1 in
+    let table = c.in_ok-table.ensures in
+    let spare = c.in_err-check_spare.ensures in record {
+      never_again = λ t. table.never_again (spare.never_again t);
+      same = λ t. spare.same t ∙ table.same (spare.never_again t);
+      index = no_value _ _ is;
+      low = not_done _ _ is;
+      may = no_value _ _ is;
+      faults = at_error _ _ error (spare_is_add_fault c.args.kind _ spare.faults);
+      why = at_error _ _ error (λ t.
+          let told = spare.never_again t in
+          why_spare c.args.kind _ c.args.block c.in_ok-index.index c.entries.result c.in_ok-table.table c.insert.new.table _ spare.faults
+          (λ j is. subst (λ (packs : ℕ → Pack). IsFirstMarked c.args.kind (packs c.args.unit) c.in_ok-index.index c.entries.result j)
+          (table.same told) (spare.marked j (ap (λ e. Err e) is) t))
+          (goes_to c.args.kind _ c.args.block _ c.in_ok-table.table _ c.place_of.result (table.table told) c.place_of.ensures.place c.in_ok-index.ensures.ok)
+          c.entries.ensures.count);
+      store = counted_then table.store.later (counted_on _ error spare.store);
+    }
 
 pub returns-clause-may : goal.returns-clause-may
 returns-clause-may g c = λ t.

@@ -1,25 +1,54 @@
 use Rattle.std.proofs.Common.{◌≡◌, ℕ, List, refl}
+use Rattle.block_tests.proofs.ExitLaws.{caused_failed, caused_ok, caused_then, not_done}
 use Rattle.block_tests.proofs.PollLaws.{on_err}
-use Rattle.block_tests.proofs.StageLaws.{on_err_any, on_ok_any, fills_then_same, holds_clean, stops_done, stops_write}
+use Rattle.block_tests.proofs.StageLaws.{fills_then_same, fills_unmoved, holds_clean, on_err_any, on_ok_any, stops_done, stops_write}
+use Rattle.block_tests.proofs.StopLaws.{at_error}
 use Rattle.block_tests.proofs.testing.write_and_read.Goals as goal
 
-pub returns-in_err-polled-clause-stops : goal.returns-in_err-polled-clause-stops
-returns-in_err-polled-clause-stops g c =
-    on_err _ c.from_residual.ensures.0 (λ t. stops_write c.args.unit c.args.block _ c.args.bytes.now _ _ c.told-bytes c.in_err-polled.ensures.failed t)
+pub returns-in_err-polled : goal.returns-in_err-polled
+returns-in_err-polled g c =
+    let is = c.from_residual.ensures.0 in
+    let write = c.in_err-polled.ensures in record {
+      fills = not_done _ _ is;
+      stops = on_err _ is (λ t. stops_write c.args.unit c.args.block _ c.args.bytes.now _ _ c.told-bytes write.failed t);
+      rest = not_done _ _ is;
+      stop = at_error _ _ c.from_residual.ensures.1 tt;
+      never_again = write.never_again;
+      cause = caused_failed write.cause;
+    }
+
+pub returns-in-Marked : goal.returns-in-Marked
+returns-in-Marked g c =
+    let write = c.in_ok-polled.ensures in record {
+      fills = λ t. fills_unmoved c.args.unit c.args.block _ c.in_ok-polled.polled _ _ c.args.bytes.now write.polls c.in-Marked.is t;
+      stops = tt;
+      rest = write.rest;
+      stop = tt;
+      never_again = write.never_again;
+      cause = caused_ok _ write.cause.later;
+    }
 
 pub read_back-requires-clause-written : goal.read_back-requires-clause-written
 read_back-requires-clause-written g c = λ t.
     (holds_clean c.args.unit c.args.block _ c.in_ok-polled.polled c.args.bytes.now _ _ c.told-bytes c.in_ok-polled.ensures.polls c.in-Clean.is t).0
 
-pub returns-in-Clean-clause-fills : goal.returns-in-Clean-clause-fills
-returns-in-Clean-clause-fills g c =
-    on_ok_any c.read_back.result
-    (λ t. fills_then_same c.args.unit c.args.block _ c.in_ok-polled.polled c.args.bytes.now _ _ _ c.told-bytes c.in_ok-polled.ensures.polls c.in-Clean.is
-    (c.read_back.ensures.never_again t) (c.read_back.ensures.same t))
+pub read_back-requires-clause-unmarked : goal.read_back-requires-clause-unmarked
+read_back-requires-clause-unmarked g c = λ t.
+    (holds_clean c.args.unit c.args.block _ c.in_ok-polled.polled c.args.bytes.now _ _ c.told-bytes c.in_ok-polled.ensures.polls c.in-Clean.is t).1
 
-pub returns-in-Clean-clause-stops : goal.returns-in-Clean-clause-stops
-returns-in-Clean-clause-stops g c =
-    on_err_any c.read_back.result
-    (λ t. stops_done c.args.unit _ (λ (x : List ℕ). x ≡ c.args.bytes.now) c.args.bytes.now _ _ refl
-    (fills_then_same c.args.unit c.args.block _ c.in_ok-polled.polled c.args.bytes.now _ _ _ c.told-bytes c.in_ok-polled.ensures.polls c.in-Clean.is
-    (c.read_back.ensures.never_again t) (c.read_back.ensures.same t)))
+pub returns-in-Clean : goal.returns-in-Clean
+returns-in-Clean g c =
+    let write = c.in_ok-polled.ensures in
+    let read = c.read_back.ensures in record {
+      fills = on_ok_any c.read_back.result (λ t.
+          fills_then_same c.args.unit c.args.block _ c.in_ok-polled.polled c.args.bytes.now _ _ _ c.told-bytes write.polls c.in-Clean.is
+          (read.never_again t) (read.same t));
+      stops = on_err_any c.read_back.result (λ t.
+          stops_done c.args.unit _ (λ (x : List ℕ). x ≡ c.args.bytes.now) c.args.bytes.now _ _ refl
+          (fills_then_same c.args.unit c.args.block _ c.in_ok-polled.polled c.args.bytes.now _ _ _ c.told-bytes write.polls c.in-Clean.is
+          (read.never_again t) (read.same t)));
+      rest = read.rest;
+      stop = read.stop;
+      never_again = λ t. write.never_again (read.never_again t);
+      cause = caused_then write.cause.later read.cause;
+    }

@@ -1,4 +1,7 @@
-use Rattle.std.proofs.Common.{◌≡◌, IsTrue, length, arith}
+use Rattle.std.proofs.Common.{◌≡◌, IsTrue, length, arith, ◌∙◌}
+use Rattle.block_tests.proofs.ExitLaws as test
+use Rattle.block_tests.proofs.ExitLaws.{not_done}
+use Rattle.pack_format.proofs.ExitLaws.{others_stay}
 use Rattle.block_tests.proofs.PollLaws.{on_err}
 use Rattle.block_tests.proofs.StageLaws.{on_err_then, on_ok_then}
 use Rattle.pack_format.specs.Formatted.{IsFormatted, IsPartly}
@@ -66,3 +69,43 @@ returns-clause-partly g c =
     partly_copies _ _ c.args.unit _ _ _ _ _ (g.P.Packs.held c.args.packs.now)
     (set_of (c.requires.can told) (c.requires.table told) count c.data_limit-limit.ensures c.copy_block-track.ensures)
     _ (c.in_ok-test_blocks.ensures.fills before) _ (c.in_ok-test_blocks-2.ensures.fills last) _ _ c.write_table.ensures (stops t))
+
+pub returns-in_err-test_blocks-clause-formatted : goal.returns-in_err-test_blocks-clause-formatted
+returns-in_err-test_blocks-clause-formatted g c = not_done _ _ c.from_residual.ensures.0
+
+pub returns-in_err-test_blocks-clause-elsewhere : goal.returns-in_err-test_blocks-clause-elsewhere
+returns-in_err-test_blocks-clause-elsewhere g c = λ other ne t. (c.in_err-test_blocks.ensures.stops t).others other ne
+
+pub returns-in_err-test_blocks-clause-cause : goal.returns-in_err-test_blocks-clause-cause
+returns-in_err-test_blocks-clause-cause g c = test.caused_on _ c.from_residual.ensures.1 c.in_err-test_blocks.ensures.cause
+
+pub returns-in_err-test_blocks-2-clause-formatted : goal.returns-in_err-test_blocks-2-clause-formatted
+returns-in_err-test_blocks-2-clause-formatted g c = not_done _ _ c.from_residual-in_err-test_blocks-2.ensures.0
+
+pub returns-in_err-test_blocks-2-clause-elsewhere : goal.returns-in_err-test_blocks-2-clause-elsewhere
+returns-in_err-test_blocks-2-clause-elsewhere g c = λ other ne t.
+    let before = c.in_err-test_blocks-2.ensures.never_again t in
+    (c.in_err-test_blocks-2.ensures.stops t).others other ne ∙ (c.in_ok-test_blocks.ensures.fills before).others other ne
+
+pub returns-in_err-test_blocks-2-clause-never_again : goal.returns-in_err-test_blocks-2-clause-never_again
+returns-in_err-test_blocks-2-clause-never_again g c = λ t. c.in_ok-test_blocks.ensures.never_again (c.in_err-test_blocks-2.ensures.never_again t)
+
+pub returns-in_err-test_blocks-2-clause-cause : goal.returns-in_err-test_blocks-2-clause-cause
+returns-in_err-test_blocks-2-clause-cause g c =
+    test.caused_then c.in_ok-test_blocks.ensures.cause.later
+    (test.caused_on _ c.from_residual-in_err-test_blocks-2.ensures.1 c.in_err-test_blocks-2.ensures.cause)
+
+pub returns-clause-elsewhere : goal.returns-clause-elsewhere
+returns-clause-elsewhere g c = λ other ne t.
+    let last = c.write_copies.ensures.never_again t in
+    let before = c.in_ok-test_blocks-2.ensures.never_again last in
+    others_stay c.args.unit other _ _ _ _ (IsTrue (g.P.Packs.tells c.write_copies.new.packs)) _ _ c.write_copies.result c.write_copies.ensures.fills c.write_copies.ensures.stops ne t
+    ∙ (c.in_ok-test_blocks-2.ensures.fills last).others other ne ∙ (c.in_ok-test_blocks.ensures.fills before).others other ne
+
+pub returns-clause-never_again : goal.returns-clause-never_again
+returns-clause-never_again g c = λ t.
+    c.in_ok-test_blocks.ensures.never_again (c.in_ok-test_blocks-2.ensures.never_again (c.write_copies.ensures.never_again t))
+
+pub returns-clause-cause : goal.returns-clause-cause
+returns-clause-cause g c =
+    test.caused_then c.in_ok-test_blocks.ensures.cause.later (test.caused_then c.in_ok-test_blocks-2.ensures.cause.later c.write_copies.ensures.cause)

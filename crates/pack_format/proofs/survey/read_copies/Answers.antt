@@ -2,6 +2,8 @@ use Rattle.std.proofs.Common.{ℕ, ◌&&◌, Bool, rules, sym, ap, ◌∙◌}
 use Rattle.pack_model.specs.Pack.{Pack, is_marked}
 use Rattle.pack_format.specs.Surveys.{all_marked}
 use Rattle.pack_format.proofs.SurveyLaws.{all_more, all_none}
+use Rattle.block_tests.proofs.ExitLaws.{cause_on, no_value, not_done}
+use Rattle.pack_format.proofs.ExitLaws.{cause_then, le_then}
 use Rattle.pack_format.proofs.survey.read_copies.Goals as goal
 
 pub loop-k-init : goal.loop-k-init
@@ -15,7 +17,7 @@ loop-k-init g c = record {
 
 pub loop-k-preserved : goal.loop-k-preserved
 loop-k-preserved g c = record {
-  rest = search rules;
+  rest = c.in_ok-marked.ensures.rest;
   all =
       λ t.
       let told = c.in_ok-marked.ensures.never_again t in
@@ -26,5 +28,17 @@ loop-k-preserved g c = record {
       ∙ sym (all_more c.args.kind (g.P.Packs.held c.args.packs.now c.args.unit) c.loop-k.k);
   same = λ t. c.in_ok-marked.ensures.same t ∙ c.loop-k.invariant.same (c.in_ok-marked.ensures.never_again t);
   never_again = λ t. c.loop-k.invariant.never_again (c.in_ok-marked.ensures.never_again t);
-  later = search rules;
+  later = le_then c.loop-k.invariant.later c.in_ok-marked.ensures.cause.later;
 }
+
+pub returns-in_err-marked : goal.returns-in_err-marked
+returns-in_err-marked g c =
+    let is = c.from_residual.ensures.0 in
+    let so_far = c.loop-k.invariant in
+    let mark = c.in_err-marked.ensures in record {
+      all = no_value _ _ is;
+      rest = not_done _ _ is;
+      same = λ t. mark.same t ∙ so_far.same (mark.never_again t);
+      never_again = λ t. so_far.never_again (mark.never_again t);
+      cause = cause_then so_far.later (cause_on _ is mark.cause);
+    }

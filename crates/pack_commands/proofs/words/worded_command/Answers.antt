@@ -1,0 +1,17 @@
+use Rattle.std.proofs.Common.{sym, ◌∙◌, arith}
+use Rattle.std.specs.String.{string_bytes}
+use Rattle.pack_commands.proofs.WordLaws.{added, many_more}
+use Rattle.pack_commands.proofs.words.worded_command.Goals as goal
+
+pub returns-then-eq : goal.returns-then-eq
+returns-then-eq c = record {
+  named = c.add_command.ensures.named ∙ added c.args.verb.now c.args.unit.now c.args.kind.now c.args.word.now _ (sym c.eq.ensures ∙ c.if-eq.true);
+  valid = c.add_command.ensures.valid;
+}
+
+pub returns-in-len1-up : goal.returns-in-len1-up
+returns-in-len1-up c = record {
+  named = many_more string_bytes c.args.verb.now c.args.unit.now c.args.kind.now c.args.word.now c.args.more.now
+      (omega (arith, c.in-len1-up.len_at_least)) (sym c.eq.ensures ∙ c.if-eq.false);
+  valid = tt;
+}
