@@ -4,9 +4,10 @@ use Rattle.pack_model.specs.Pack.{Pack, is_marked, with_written}
 use Rattle.main_memory.specs.Bytes.{filled}
 use Rattle.outside_traits.specs.Causes.{HasCause, Rose}
 use Rattle.hardware_table.specs.Drive.{DriveState, is_writing}
+use Rattle.hardware_table.specs.Noise.{Book}
 use Rattle.drive_model.specs.Move.{Site, FailsAtPacks}
 
-on_err : {T E P : Type 0} (result : Result T E) → P → OnErr result P
+pub on_err : {T E P : Type 0} (result : Result T E) → P → OnErr result P
 on_err (Ok v) p = tt
 on_err (Err e) p = p
 
@@ -60,3 +61,14 @@ write_fails {tells = tells} {held = held} {packs' = packs'} {unit = unit} {block
         × (held packs' ≡ with_written old.held unit block (filled 512 old.window)))
     new_too t (inl kept) = inl (kept ∙ same t)
     new_too t (inr wrote) = inr (writes, sym (unmarked t), wrote ∙ ap (λ h. with_written h unit block sector) (same t) ∙ ap (λ s. with_written old.held unit block s) is_sector)
+
+-- a failure that is handed on, of a window whose bytes have another name there
+pub fails : {Q V E : Type 0} {tells : Q → Bool} {held : Q → ℕ → Pack} {faults : Q → ℕ} {packs packs' : Q} {unit block : ℕ} {drive : DriveState}
+    {book : Book} {before : ℕ → Pack} {window bytes : List ℕ} {e : E} (result : Result V E) → window ≡ bytes
+    → FailsAtPacks {V = V} tells held faults packs packs' unit block drive (record { book = book; held = before; window = window }) (Err e)
+    → FailsAtPacks tells held faults packs packs' unit block drive (record { book = book; held = before; window = bytes }) result
+fails result same failure = rw (← same) (record {
+  old_or_new = on_err result failure.old_or_new;
+  never_again = failure.never_again;
+  cause = handed result failure.cause;
+})

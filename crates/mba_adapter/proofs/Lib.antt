@@ -1,3 +1,4 @@
 pub mod AttentionLaws
+pub mod FailLaws
 pub mod MapLaws
 pub mod WindowLaws
