@@ -1,12 +1,17 @@
-use Rattle.std.proofs.Common.{◌≡◌, ℕ, ◌+◌, List, rules, refl, ap, ◌∙◌}
+use Rattle.std.proofs.Common.{◌≡◌, ℕ, ◌+◌, List, rules, refl, sym, ap, ◌∙◌}
+use Rattle.main_memory.specs.declared.span.Span.{Span}
 use Rattle.std.proofs.lemmas.Result.{IfOk-from_err}
 use Rattle.main_memory.specs.Memory.{Memory, AreTaken}
 use Rattle.main_memory.specs.Windows.{memory_of}
 use Rattle.main_memory.specs.declared.window.Window.{Window}
+use Rattle.hardware_table.specs.Moves.{after_move}
+use Rattle.hardware_table.specs.Adapter.{AdapterState, next_block}
 use Rattle.drive_model.proofs.FailLaws.{fails}
-use Rattle.mba_adapter.proofs.FailLaws.{unchanged, shown}
-use Rattle.mba_adapter.proofs.WindowLaws.{kept_free}
+use Rattle.drive_model.proofs.MoveLaws.{moves_as}
+use Rattle.mba_adapter.proofs.FailLaws.{unchanged}
+use Rattle.mba_adapter.proofs.WindowLaws.{kept_free, same_span, shown, memory_after, ended, goes_on}
 use Rattle.mba_adapter.proofs.adapter.Adapter.step_sector.Goals as goal
+use Rattle.mba_adapter.proofs.adapter.Adapter.step_sector.Goals.{then-self, else-self}
 
 -- frames are lent as long as the same frames are free
 AreTaken-same : (frames old new : List ℕ) → new ≡ old → AreTaken frames old → AreTaken frames new
@@ -38,4 +43,38 @@ returns-in_err-verdict-clause-unchanged g c =
 
 pub returns-in_err-verdict-clause-failure : goal.returns-in_err-verdict-clause-failure
 returns-in_err-verdict-clause-failure g c =
-    rw (← c.self.view_is) (fails _ (shown c.args.buffer.now (c.self.inside.skip + c.self.inside.moved) c.args.memory.now c.window-window.result c.window-window.ensures.unchanged c.window-window.ensures.block) c.in_err-verdict.ensures.failure)
+    rw (← c.self.view_is) (fails _ (shown c.args.buffer.now (c.self.inside.skip + c.self.inside.moved) c.args.memory.now.bytes c.window-window.result (ap (λ (m : Memory). m.bytes) c.window-window.ensures.unchanged) c.window-window.ensures.block) c.in_err-verdict.ensures.failure)
+
+pub returns-clause-moves : goal.returns-clause-moves
+returns-clause-moves g c =
+    let still = same_span _ c.window-window.result c.move_sector.new.window _ c.in_ok-verdict.ensures.window in
+    rw (← c.self.view_is)
+    (moves_as (ap (λ (s : Span). s.len) c.window-window.ensures.block) (shown c.args.buffer.now (c.self.inside.skip + c.self.inside.moved) c.args.memory.now.bytes c.window-window.result (ap (λ (m : Memory). m.bytes) c.window-window.ensures.unchanged) c.window-window.ensures.block)
+    (shown c.args.buffer.now (c.self.inside.skip + c.self.inside.moved) _ c.move_sector.new.window (search rules) (still ∙ c.window-window.ensures.block)) c.in_ok-verdict.ensures.moves)
+
+pub returns-clause-adapter : goal.returns-clause-adapter
+returns-clause-adapter g c = c.take.ensures
+
+pub returns-clause-drive : goal.returns-clause-drive
+returns-clause-drive g c =
+    let by : c.move_sector.new.self ≡ after_move c.in_ok-verdict.verdict (next_block c.args.self.now) c.args.drive.now =
+    c.in_ok-verdict.ensures.drive ∙ ap (λ (a : AdapterState). after_move c.in_ok-verdict.verdict (next_block a) c.args.drive.now) c.self.view_is in
+    elim c.if-self.branch [
+      | then-self w ↦ ended c.in_ok-verdict.verdict c.args.self.now _ c.args.drive.now c.move_sector.new.self _ (c.self-2.view_is ∙ c.take.ensures) w.if-self.true by (w.drive-is ∙ w.end_transfer.ensures)
+      | else-self w ↦ goes_on c.in_ok-verdict.verdict c.args.self.now _ c.args.drive.now c.move_sector.new.self _ (c.self-2.view_is ∙ c.take.ensures) w.if-self.false by w.drive-is
+    ]
+
+pub returns-clause-memory : goal.returns-clause-memory
+returns-clause-memory g c =
+    rw (← c.self.view_is)
+    (memory_after _ c.args.buffer.now (c.self.inside.skip + c.self.inside.moved) c.args.memory.now _ c.window-window.result c.move_sector.new.window c.window-window.ensures.unchanged c.window-window.ensures.block (search rules) c.in_ok-verdict.ensures.window)
+
+pub returns-clause-stopped : goal.returns-clause-stopped
+returns-clause-stopped g c = c.in_ok-verdict.ensures.stopped
+
+pub returns-clause-failure : goal.returns-clause-failure
+returns-clause-failure g c = record {
+  old_or_new = tt;
+  never_again = c.in_ok-verdict.ensures.failure.never_again;
+  cause = c.in_ok-verdict.ensures.failure.cause;
+}
