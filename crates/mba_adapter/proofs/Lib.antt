@@ -1,4 +1,5 @@
 pub mod AttentionLaws
 pub mod FailLaws
 pub mod MapLaws
+pub mod RoomLaws
 pub mod WindowLaws

@@ -1,4 +1,4 @@
-use Rattle.std.proofs.Common.{◌≡◌, ℕ, ◌+◌, List, rules, refl, sym, ap, ◌∙◌}
+use Rattle.std.proofs.Common.{◌≡◌, ℕ, ◌+◌, true, false, List, rules, refl, ap, ◌∙◌}
 use Rattle.main_memory.specs.declared.span.Span.{Span}
 use Rattle.std.proofs.lemmas.Result.{IfOk-from_err}
 use Rattle.main_memory.specs.Memory.{Memory, AreTaken}
@@ -9,9 +9,14 @@ use Rattle.hardware_table.specs.Adapter.{AdapterState, next_block}
 use Rattle.drive_model.proofs.FailLaws.{fails}
 use Rattle.drive_model.proofs.MoveLaws.{moves_as}
 use Rattle.mba_adapter.proofs.FailLaws.{unchanged}
+use Rattle.mba_adapter.specs.State.{state_of}
+use Rattle.mba_adapter.proofs.RoomLaws.{next_left, inside_left}
 use Rattle.mba_adapter.proofs.WindowLaws.{kept_free, same_span, shown, memory_after, ended, goes_on}
 use Rattle.mba_adapter.proofs.adapter.Adapter.step_sector.Goals as goal
 use Rattle.mba_adapter.proofs.adapter.Adapter.step_sector.Goals.{then-self, else-self}
+
+not_ok : false ≡ true → ⊥
+not_ok e = cc
 
 -- frames are lent as long as the same frames are free
 AreTaken-same : (frames old new : List ℕ) → new ≡ old → AreTaken frames old → AreTaken frames new
@@ -78,3 +83,18 @@ returns-clause-failure g c = record {
   never_again = c.in_ok-verdict.ensures.failure.never_again;
   cause = c.in_ok-verdict.ensures.failure.cause;
 }
+
+pub window-window-requires-clause-inside : goal.window-window-requires-clause-inside
+window-window-requires-clause-inside g c = inside_left (state_of c.self.inside) _ _ _ c.self.view_is c.self.invariant c.requires.may.is c.requires.may.loaded
+
+pub returns-clause-inside : goal.returns-clause-inside
+returns-clause-inside g c = next_left (state_of c.self.inside) _ _ c.self.view_is c.self.invariant c.requires.may.is
+
+pub returns-in_err-verdict-clause-inside : goal.returns-in_err-verdict-clause-inside
+returns-in_err-verdict-clause-inside g c = next_left (state_of c.self.inside) _ _ c.self.view_is c.self.invariant c.requires.may.is
+
+pub take-requires : goal.take-requires
+take-requires g c = record { busy = c.requires.may.is.busy; under_way = c.requires.may.is.going_on }
+
+pub returns-in_err-verdict-clause-stopped : goal.returns-in_err-verdict-clause-stopped
+returns-in_err-verdict-clause-stopped g c = λ some. absurd (not_ok (c.in_err-verdict.ensures.stopped some).0)
