@@ -3,3 +3,4 @@ pub mod FailLaws
 pub mod MapLaws
 pub mod RoomLaws
 pub mod WindowLaws
+pub mod WorkLaws

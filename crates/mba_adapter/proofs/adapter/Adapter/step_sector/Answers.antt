@@ -1,9 +1,11 @@
-use Rattle.std.proofs.Common.{◌≡◌, ℕ, ◌+◌, true, false, List, rules, refl, ap, ◌∙◌}
+use Rattle.std.proofs.Common.{◌≡◌, ℕ, ◌+◌, ◌<◌, true, false, List, rules, refl, sym, ap, ◌∙◌, subst}
 use Rattle.main_memory.specs.declared.span.Span.{Span}
 use Rattle.std.proofs.lemmas.Result.{IfOk-from_err}
 use Rattle.main_memory.specs.Memory.{Memory, AreTaken}
 use Rattle.main_memory.specs.Windows.{memory_of}
 use Rattle.main_memory.specs.declared.window.Window.{Window}
+use Rattle.pack_geometry.specs.Geometry.{block_count}
+use Rattle.hardware_table.specs.Drive.{is_transferring}
 use Rattle.hardware_table.specs.Moves.{after_move}
 use Rattle.hardware_table.specs.Adapter.{AdapterState, next_block}
 use Rattle.drive_model.proofs.FailLaws.{fails}
@@ -12,6 +14,7 @@ use Rattle.mba_adapter.proofs.FailLaws.{unchanged}
 use Rattle.mba_adapter.specs.State.{state_of}
 use Rattle.mba_adapter.proofs.RoomLaws.{next_left, inside_left}
 use Rattle.mba_adapter.proofs.WindowLaws.{kept_free, same_span, shown, memory_after, ended, goes_on}
+use Rattle.mba_adapter.proofs.WorkLaws.{still_transferring}
 use Rattle.mba_adapter.proofs.adapter.Adapter.step_sector.Goals as goal
 use Rattle.mba_adapter.proofs.adapter.Adapter.step_sector.Goals.{then-self, else-self}
 
@@ -98,3 +101,13 @@ take-requires g c = record { busy = c.requires.may.is.busy; under_way = c.requir
 
 pub returns-in_err-verdict-clause-stopped : goal.returns-in_err-verdict-clause-stopped
 returns-in_err-verdict-clause-stopped g c = λ some. absurd (not_ok (c.in_err-verdict.ensures.stopped some).0)
+
+pub move_sector-requires : goal.move_sector-requires
+move_sector-requires g c = record {
+  unit = c.requires.unit;
+  transfer = ap is_transferring c.requires.may.is.transfer;
+  block = subst (λ (a : AdapterState). next_block a < block_count c.args.drive.now.kind) (sym c.self.view_is) c.requires.may.is.block;
+}
+
+pub end_transfer-requires : goal.end_transfer-requires
+end_transfer-requires g c = still_transferring c.in_ok-verdict.verdict _ c.args.drive.now _ _ c.in_ok-verdict.ensures.drive c.requires.may.is.transfer
