@@ -2,41 +2,17 @@
 use Rattle.std.proofs.Common.{◌≡◌, ◌<◌, Bool, true, false, List, length, refl, sym, ◌∙◌, ap, Result, Ok, Err, IfOk, OnErr}
 use Rattle.std.specs.Prelude.{ℕ, if◌then◌else◌, slice_set, slice_index_or}
 use Rattle.std.proofs.lemmas.List.{set-get_or}
-use Rattle.pack_geometry.specs.declared.DriveKind.{DriveKind}
-use Rattle.pack_geometry.specs.declared.DriveKind.TheVariants.{Rp06, Rm03, Rm05}
-use Rattle.hardware_table.specs.declared.FaultKind.{FaultKind}
-use Rattle.hardware_table.specs.declared.FaultKind.TheVariants.{Seek, Opi, Dte, Hcrc, Late}
 use Rattle.hardware_table.specs.declared.Moved.{Moved}
-use Rattle.hardware_table.specs.declared.Moved.TheVariants.{Clean, Burst, Hard, Marked, Faulted, Offline}
 use Rattle.hardware_table.specs.declared.Work.TheVariants.{Transfer}
 use Rattle.hardware_table.specs.Drive.{DriveState, is_positioning}
 use Rattle.hardware_table.specs.Events.{transfer_ended}
-use Rattle.hardware_table.specs.Moves.{after_move, with_fault_bits, with_mark_bits}
+use Rattle.hardware_table.specs.Moves.{after_move}
 use Rattle.hardware_table.specs.Adapter.{AdapterState, stepped, drive_stepped, next_block}
+use Rattle.mba_adapter.proofs.WorkLaws.{move_work}
 use Rattle.driver_machine.specs.World.{UnitView}
 use Rattle.driver_machine.specs.Acts.{with_drive}
 use Rattle.unit_bank.specs.Row.{unit_in}
 use Rattle.unit_bank.proofs.Rows.{alone}
-
-fault_work : (kind : FaultKind) (d : DriveState) → (with_fault_bits kind d).work ≡ d.work
-fault_work Seek d = refl
-fault_work Opi d = refl
-fault_work Dte d = refl
-fault_work Hcrc d = refl
-fault_work Late d = refl
-
-mark_work : (kind : DriveKind) (d : DriveState) → (with_mark_bits kind d).work ≡ d.work
-mark_work Rp06 d = refl
-mark_work Rm03 d = refl
-mark_work Rm05 d = refl
-
-move_work : (v : Moved) (block : ℕ) (d : DriveState) → (after_move v block d).work ≡ d.work
-move_work Offline block d = refl
-move_work (Faulted kind) block d = fault_work kind _
-move_work Marked block d = mark_work d.kind d
-move_work Clean block d = refl
-move_work (Burst at pattern) block d = refl
-move_work Hard block d = refl
 
 ended_or_not : (ended : Bool) (d : DriveState) (write : Bool) → d.work ≡ Transfer write → is_positioning (if ended then transfer_ended d else d).work ≡ false
 ended_or_not true d write is = refl
