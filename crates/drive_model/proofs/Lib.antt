@@ -1,3 +1,4 @@
 pub mod BookLaws
 pub mod EntryLaws
+pub mod FailLaws
 pub mod MoveLaws

@@ -1,3 +1,6 @@
 pub mod AttentionLaws
+pub mod FailLaws
 pub mod MapLaws
+pub mod RoomLaws
 pub mod WindowLaws
+pub mod WorkLaws

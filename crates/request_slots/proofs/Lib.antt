@@ -1,4 +1,5 @@
 pub mod FillLaws
+pub mod HolderLaws
 pub mod RoomLaws
 pub mod SlotLaws
 pub mod StepLaws

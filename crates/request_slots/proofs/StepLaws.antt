@@ -166,3 +166,9 @@ moves_as r unit block drive told book book_after held held_after {size} {size_se
     subst (λ (n : ℕ). IfOk r (λ v. MovesSector unit block drive n told (record { book = book; held = held; window = old_block }) (record { book = book_after; held = held_after; window = new_block }) v)) same
     (subst (λ (b : List ℕ). IfOk r (λ v. MovesSector unit block drive size told (record { book = book; held = held; window = b }) (record { book = book_after; held = held_after; window = new_block }) v)) before
     (subst (λ (b : List ℕ). IfOk r (λ v. MovesSector unit block drive size told (record { book = book; held = held; window = old }) (record { book = book_after; held = held_after; window = b }) v)) after moves))
+
+-- a failure leaves the slots as they were
+pub unchanged_step : {T E : Type 0} (A B D : Type 0) (a a' : A) (b b' : B) (d d' : D) (m m' : Memory) (slots : List (Option Slot)) {seen : List (Option Held)} (result : Result T E)
+    → as_seen m slots ≡ seen → OnErr result ((a' ≡ a) × (b' ≡ b) × (m' ≡ m) × (d' ≡ d)) → OnErr result ((as_seen m' slots ≡ seen) × (a' ≡ a) × (b' ≡ b) × (d' ≡ d))
+unchanged_step A B D a a' b b' d d' m m' slots (Ok v) view same = tt
+unchanged_step A B D a a' b b' d d' m m' slots (Err e) view same = (ap (λ (memory : Memory). as_seen memory slots) same.2 ∙ view, same.0, same.1, same.3)

@@ -13,6 +13,12 @@ pub others_kept : (row u : ℕ) (units : List UnitView) (v : UnitView) → IsRow
     → (k : ℕ) → k < 32 → k ≢ u → is_on row k ≡ can_arrive (unit_in (slice_set units u v) k)
 others_kept row u units v is k lt ne = is.bits k lt ∙ ap can_arrive (sym (get_or-set_other units u k v no_unit ne))
 
+-- also where the changed units are named
+pub others_at : (row a u : ℕ) (units after : List UnitView) (v : UnitView) → a ≡ u → after ≡ slice_set units a v → IsRow row units
+    → (k : ℕ) → k < 32 → k ≢ u → is_on row k ≡ can_arrive (unit_in after k)
+others_at row a u units after v at changed is k lt ne =
+    others_kept row a units v is k lt (λ e. ne (e ∙ at)) ∙ ap (λ (vs : List UnitView). can_arrive (unit_in vs k)) (sym changed)
+
 -- a unit that positions as before
 pub same_kept : (row u : ℕ) (units : List UnitView) (v : UnitView) → u < length units → IsRow row units → can_arrive v ≡ can_arrive (unit_in units u)
     → IsRow row (slice_set units u v)
@@ -31,6 +37,10 @@ same_kept row u units v lt is same = record { size = length-set units u v ∙ is
 pub own_unit : (a u : ℕ) (units now : List UnitView) (old d : UnitView) → a ≡ u → units ≡ now → u < length now → old ≡ slice_index_or units a d → old ≡ unit_in units a
 own_unit a u units now old d at is lt own = own ∙ get_or_default units a _ _ (omega (arith, lt, at, ap length is))
 
+pub old_unit : (a u : ℕ) (units now : List UnitView) (old d : UnitView) → a ≡ u → units ≡ now → u < length now → old ≡ slice_index_or units a d → old ≡ unit_in now u
+old_unit a u units now old d at is lt own =
+    own_unit a u units now old d at is lt own ∙ ap (λ (n : ℕ). unit_in units n) at ∙ ap (λ (vs : List UnitView). unit_in vs u) is
+
 -- it positions as before
 pub still_kept : (row a u : ℕ) (units now : List UnitView) (old d v : UnitView) → a ≡ u → units ≡ now → u < length now → IsRow row units
     → old ≡ slice_index_or units a d → can_arrive v ≡ can_arrive old → IsRow row (slice_set units a v)
@@ -42,7 +52,7 @@ pub alone : (a u : ℕ) (units now : List UnitView) (old d v : UnitView) (f : Un
     → old ≡ slice_index_or units a d → v ≡ f old → slice_set units a v ≡ slice_set now u (f (unit_in now u))
 alone a u units now old d v f at is lt own made =
     let here : v ≡ f (unit_in now u) =
-    made ∙ ap f (own_unit a u units now old d at is lt own ∙ ap (λ (n : ℕ). unit_in units n) at ∙ ap (λ (vs : List UnitView). unit_in vs u) is) in
+    made ∙ ap f (old_unit a u units now old d at is lt own) in
     ap (λ (n : ℕ). slice_set units n v) at ∙ ap (λ (vs : List UnitView). slice_set vs u v) is ∙ ap (λ (w : UnitView). slice_set now u w) here
 
 -- at the start no unit positions, and no bit is on

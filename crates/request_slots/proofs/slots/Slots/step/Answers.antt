@@ -7,8 +7,9 @@ use Rattle.mba_adapter.specs.Loaded.{loaded_buffer}
 use Rattle.driver_machine.specs.World.{Held, block_in}
 use Rattle.request_slots.specs.Requests.{held_at}
 use Rattle.request_slots.specs.Stored.{loan_of, all_slots, as_seen, IsKept}
+use Rattle.request_slots.proofs.HolderLaws.{stands, adapter_has}
 use Rattle.request_slots.proofs.SlotLaws.{loan_at}
-use Rattle.request_slots.proofs.StepLaws.{IsMoved, moved_block, length-moved_block, kept-same_frames, sound_step, shown_step, moves_as}
+use Rattle.request_slots.proofs.StepLaws.{IsMoved, moved_block, length-moved_block, kept-same_frames, sound_step, shown_step, moves_as, unchanged_step}
 use Rattle.request_slots.proofs.slots.Slots.step.Goals as goal
 use Rattle.request_slots.proofs.slots.Slots.step.Given.{Over}
 
@@ -85,3 +86,12 @@ returns-clause-failure g c = record {
   never_again = c.step_sector.ensures.failure.never_again;
   cause = c.step_sector.ensures.failure.cause;
 }
+
+pub slot_at-requires : goal.slot_at-requires
+slot_at-requires g c = stands c.self.inside.memory (all_slots c.self.inside.slots) c.args.slot c.self.view_is c.requires.may.there
+
+pub unreachable-requires : goal.unreachable-requires
+unreachable-requires g c = adapter_has c.self.inside.memory (all_slots c.self.inside.slots) c.args.slot c.slot_at.result.now c.in_default.field-0 c.self.view_is c.slot_at.ensures c.requires.may.bus c.in_default.is
+
+pub returns-clause-unchanged : goal.returns-clause-unchanged
+returns-clause-unchanged g c = unchanged_step _ _ _ _ _ _ _ _ _ c.self.inside.memory c.step_sector.new.memory (all_slots c.self.inside.slots) _ c.self.view_is c.step_sector.ensures.unchanged

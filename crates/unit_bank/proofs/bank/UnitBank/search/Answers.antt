@@ -1,10 +1,28 @@
-use Rattle.std.proofs.Common.{Some}
+use Rattle.std.proofs.Common.{◌≡◌, true, Some, sym, subst}
+use Rattle.hardware_table.specs.Drive.{is_ready}
 use Rattle.transfer_engine.specs.State.{begun}
 use Rattle.driver_machine.specs.World.{UnitView}
 use Rattle.driver_machine.specs.declared.Phase.TheVariants.{Positioning}
 use Rattle.driver_machine.specs.Acts.{going_to, searching}
-use Rattle.unit_bank.proofs.Rows.{alone}
+use Rattle.unit_bank.specs.Row.{unit_in}
+use Rattle.unit_bank.proofs.Rows.{alone, old_unit, others_at}
 use Rattle.unit_bank.proofs.bank.UnitBank.search.Goals as goal
 
 pub returns : goal.returns
 returns c = alone _ _ _ _ _ _ _ (λ (v : UnitView). record (going_to (Positioning 0) (searching c.args.target c.args.sector) v) { transfer = Some (begun c.args.job) }) c.from.ensures c.self.view_is c.requires.unit c.index_mut.ensures.value c.search.ensures
+
+pub search-requires : goal.search-requires
+search-requires c =
+    let own : c.index_mut.result.now ≡ unit_in c.args.self.now c.args.u = old_unit _ _ _ _ _ _ c.from.ensures c.self.view_is c.requires.unit c.index_mut.ensures.value in
+    record {
+      cylinder = c.requires.cylinder;
+      track = c.requires.track;
+      sector = c.requires.sector;
+      job = c.requires.job;
+      ready = subst (λ (v : UnitView). is_ready v.drive.work ≡ true) (sym own) c.requires.ready;
+      online = subst (λ (v : UnitView). v.drive.online ≡ true) (sym own) c.requires.online;
+    }
+
+pub noted-self-inside-requires-clause-others : goal.noted-self-inside-requires-clause-others
+noted-self-inside-requires-clause-others c =
+    others_at c.self.inside.row c.from.result c.args.u c.self.inside.units.items c.as_slice.result.now c.search.new.self c.from.ensures c.as_slice.ensures.value c.self.invariant
