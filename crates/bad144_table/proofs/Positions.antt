@@ -8,8 +8,8 @@ use Rattle.std.proofs.lemmas.List.Sums.{position_or_len_is}
 use Rattle.std.proofs.lemmas.Option.{get_or_from_slice_get, slice_get-get_or, slice_get_within}
 use Rattle.pack_geometry.specs.declared.Place.{Place}
 use Rattle.pack_geometry.specs.Geometry.{block_number}
-use Rattle.pack_model.specs.TableSpelling.{Table, IsTable}
-use Rattle.pack_model.specs.Homes.{is_place, index_in}
+use Rattle.pack_geometry.specs.TableSpelling.{Table, IsTable}
+use Rattle.pack_geometry.specs.Homes.{is_place, index_in}
 
 -- a proof by the two values of a test
 at : {P : Type 0} → (b : Bool) → (b ≡ true → P) → (b ≡ false → P) → P

@@ -14,9 +14,9 @@ use borrow.Rule.Slice.PartMut.{put_mid}
 use Rattle.pack_geometry.specs.declared.DriveKind.{DriveKind}
 use Rattle.pack_geometry.specs.declared.Place.{Place}
 use Rattle.pack_geometry.specs.Geometry.{IsInside, block_number}
-use Rattle.pack_model.specs.TableFields.{long_at, place_in, IsEnd}
-use Rattle.pack_model.specs.TableSpelling.{Table, Spells, head_text, pair_text, pairs_text, table_text}
-use Rattle.pack_model.proofs.TableLaws.{spelled_end, spelled_flag, spelled_no_end, spelled_place, spelled_zero, spells_once, table_text-read}
+use Rattle.pack_geometry.specs.TableFields.{long_at, place_in, IsEnd}
+use Rattle.pack_geometry.specs.TableSpelling.{Table, Spells, head_text, pair_text, pairs_text, table_text}
+use Rattle.pack_geometry.proofs.TableLaws.{spelled_end, spelled_flag, spelled_no_end, spelled_place, spelled_zero, spells_once, table_text-read}
 use Rattle.bad144_table.specs.Faults.{IsFirstFault, IsReadUpTo, IsSoundUpTo, Stops}
 use Rattle.bad144_table.specs.Last.{IsAtOrBelowLast}
 use Rattle.bad144_table.specs.declared.spelling.TableFault.{TableFault}

@@ -12,8 +12,8 @@ use Rattle.pack_geometry.specs.declared.DriveKind.{DriveKind}
 use Rattle.pack_geometry.specs.declared.DriveKind.TheVariants.{Rp06, Rm03, Rm05}
 use Rattle.pack_geometry.specs.declared.Place.{Place}
 use Rattle.pack_geometry.specs.Geometry.{IsInside, block_number, limit_of}
-use Rattle.pack_model.specs.TableSpelling.{Table, IsTable}
-use Rattle.pack_model.specs.TableEdit.{with_place}
+use Rattle.pack_geometry.specs.TableSpelling.{Table, IsTable}
+use Rattle.pack_geometry.specs.TableEdit.{with_place}
 use Rattle.bad144_table.specs.Inserts.{IsNew}
 use Rattle.bad144_table.specs.Last.{IsAtOrBelowLast}
 

@@ -3,7 +3,7 @@ use Rattle.std.specs.Prelude.{◌≡◌, ◌≢◌, ℕ, ◌<◌, ◌≤◌, ◌
 use Rattle.pack_geometry.specs.declared.DriveKind.{DriveKind}
 use Rattle.pack_geometry.specs.declared.Place.{Place}
 use Rattle.pack_geometry.specs.Geometry.{IsInside, block_number}
-use Rattle.pack_model.specs.TableFields.{word_at, place_in, IsEnd}
+use Rattle.pack_geometry.specs.TableFields.{word_at, place_in, IsEnd}
 use Rattle.bad144_table.specs.declared.spelling.TableFault.{TableFault}
 use Rattle.bad144_table.specs.declared.spelling.TableFault.TheVariants.{Zero, Flag, Range, Order, AfterEnd}
 

@@ -2,7 +2,7 @@
 use Rattle.std.specs.Prelude.{◌<◌, ◌≤◌, ◌-◌, length, slice_index_or}
 use Rattle.pack_geometry.specs.declared.Place.{Place}
 use Rattle.pack_geometry.specs.Geometry.{block_number}
-use Rattle.pack_model.specs.TableSpelling.{Table}
+use Rattle.pack_geometry.specs.TableSpelling.{Table}
 
 -- there is a last place, and the other does not lie above it
 pub record IsAtOrBelowLast (table : Table) (place : Place) : Type 0 where

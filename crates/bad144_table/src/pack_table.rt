@@ -1,6 +1,6 @@
 ghost use Rattle.std.specs.Prelude.{◌≡◌, ◌<◌, IfOk, IfSome, IsTrue, MatchOption};
-ghost use Rattle.pack_model.specs.TableSpelling.{Table};
-ghost use Rattle.pack_model.specs.PackTable.{IsTableOf, Tells};
+ghost use Rattle.pack_geometry.specs.TableSpelling.{Table};
+ghost use Rattle.pack_geometry.specs.PackTable.{IsTableOf, Tells};
 ghost use Rattle.outside_traits.specs.Causes.{HasCause};
 
 use crate::spelling::read_table;

@@ -1,6 +1,6 @@
 ghost use Rattle.std.specs.Prelude.{◌≡◌, ◌<◌, ◌≤◌, ◌+◌, ◌*◌, ◌++◌, [], IfErr, IfNone, IfOk, IfSome, OnOk, drop, length};
-ghost use Rattle.pack_model.specs.TableFields.{IsEnd, long_at, place_in, word_at};
-ghost use Rattle.pack_model.specs.TableSpelling.{Spells, Table, pair_text, table_text};
+ghost use Rattle.pack_geometry.specs.TableFields.{IsEnd, long_at, place_in, word_at};
+ghost use Rattle.pack_geometry.specs.TableSpelling.{Spells, Table, pair_text, table_text};
 ghost use Rattle.bad144_table.specs.Faults.{IsFirstFault, IsReadUpTo};
 
 use crate::table::{BadTable, empty_table, entries, entry, follows, lies_on, push, serial};

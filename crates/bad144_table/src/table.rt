@@ -2,8 +2,8 @@ ghost use Rattle.std.specs.Prelude.{◌≡◌, ◌<◌, ◌≤◌, ◌+◌, ◌+
 ghost use Rattle.std.specs.Bool.{OnFalse};
 ghost use Rattle.pack_geometry.specs.declared.Place.{Place};
 ghost use Rattle.pack_geometry.specs.Geometry.{IsInside, block_number};
-ghost use Rattle.pack_model.specs.TableSpelling.{IsTable};
-ghost use Rattle.pack_model.specs.Homes.{index_in};
+ghost use Rattle.pack_geometry.specs.TableSpelling.{IsTable};
+ghost use Rattle.pack_geometry.specs.Homes.{index_in};
 ghost use Rattle.bad144_table.specs.Inserts.{Inserts, IsRefused};
 ghost use Rattle.bad144_table.specs.Last.{IsAtOrBelowLast};
 
@@ -22,7 +22,7 @@ pub struct BadTable {
 }
 
 impl Model for BadTable {
-    ghost use Rattle.pack_model.specs.TableSpelling.{Table, IsTable};
+    ghost use Rattle.pack_geometry.specs.TableSpelling.{Table, IsTable};
 
     ghost Value = { Table };
 

@@ -4,8 +4,8 @@ use Rattle.std.specs.Prelude.{IfErr, IsErrAnd}
 use Rattle.pack_geometry.specs.declared.DriveKind.{DriveKind}
 use Rattle.pack_geometry.specs.declared.Place.{Place}
 use Rattle.pack_geometry.specs.Geometry.{block_number, limit_of, place_at}
-use Rattle.pack_model.specs.Pack.{Pack}
-use Rattle.pack_model.specs.TableSpelling.{Table}
+use Rattle.pack_geometry.specs.Pack.{Pack}
+use Rattle.pack_geometry.specs.TableSpelling.{Table}
 use Rattle.bad144_table.specs.declared.table.InsertFault.{InsertFault}
 use Rattle.bad144_table.specs.declared.table.InsertFault.TheVariants as insert_fault
 use Rattle.bad144_table.specs.Inserts.{Inserts, IsNew, IsRefused}

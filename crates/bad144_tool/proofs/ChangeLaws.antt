@@ -4,7 +4,7 @@ use Rattle.std.proofs.Math.Seq.{take-append-add}
 use Rattle.std.proofs.lemmas.List.{take-append-le, take_min}
 use Rattle.std.specs.Prelude.{◌⊎◌, min, OnErr, OnOk}
 use Rattle.outside_traits.specs.Causes.{HasCause}
-use Rattle.pack_model.specs.Pack.{Pack}
+use Rattle.pack_geometry.specs.Pack.{Pack}
 use Rattle.bad144_tool.specs.Changes.{Change, with_change, with_changes, IsCutShort, DoesAll}
 
 pub with_changes-append : (packs : ℕ → Pack) (unit : ℕ) (xs ys : List Change)

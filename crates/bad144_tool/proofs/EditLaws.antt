@@ -4,9 +4,9 @@ use Rattle.std.proofs.lemmas.Bool.Decides.{nat_tests}
 use Rattle.pack_geometry.specs.declared.DriveKind.{DriveKind}
 use Rattle.pack_geometry.specs.declared.DriveKind.TheVariants.{Rp06, Rm03, Rm05}
 use Rattle.pack_geometry.specs.Geometry.{replacement_at, limit_of}
-use Rattle.pack_model.specs.Pack.{Pack, block_at, with_block, with_written}
-use Rattle.pack_model.proofs.PackLaws.{length-block_at, block_at-with_block_other}
-use Rattle.pack_model.specs.TableSpelling.{Table, table_text}
+use Rattle.pack_geometry.specs.Pack.{Pack, block_at, with_block, with_written}
+use Rattle.pack_geometry.proofs.PackLaws.{length-block_at, block_at-with_block_other}
+use Rattle.pack_geometry.specs.TableSpelling.{Table, table_text}
 use Rattle.bad144_tool.specs.Changes.{Change, Block, Mark, with_changes, DoesAll, IsCutShort}
 use Rattle.bad144_tool.specs.Edit.{copies, marking, moves, first_content}
 use Rattle.bad144_tool.proofs.ChangeLaws.{does_then, does_same}

@@ -7,9 +7,9 @@ use Rattle.outside_traits.specs.Causes.{HasCause}
 use Rattle.bad144_table.specs.declared.table.InsertFault.{InsertFault}
 use Rattle.bad144_table.specs.declared.table.InsertFault.TheVariants as insert_fault
 use Rattle.pack_geometry.specs.Geometry.{replacement_at}
-use Rattle.pack_model.specs.Pack.{Pack, is_marked}
-use Rattle.pack_model.specs.PackTable.{IsTableOf}
-use Rattle.pack_model.specs.TableSpelling.{Table}
+use Rattle.pack_geometry.specs.Pack.{Pack, is_marked}
+use Rattle.pack_geometry.specs.PackTable.{IsTableOf}
+use Rattle.pack_geometry.specs.TableSpelling.{Table}
 use Rattle.bad144_tool.specs.Adding.{AreFree, Before, Fits, HasNone, HasTable}
 use Rattle.bad144_tool.specs.Faults.{IsAddFault, IsCounted, IsFreshFault, IsListFault, IsMarkFault, IsSpareFault, IsWhy, Leaves, LeavesMarks, from_insert}
 use Rattle.bad144_tool.specs.Marking as marking

@@ -12,15 +12,15 @@ use Rattle.pack_geometry.specs.declared.DriveKind.{DriveKind}
 use Rattle.pack_geometry.specs.declared.DriveKind.TheVariants.{Rp06, Rm03, Rm05}
 use Rattle.pack_geometry.specs.declared.Place.{Place}
 use Rattle.pack_geometry.specs.Geometry.{IsInside, block_count, block_number, copy_at, limit_of, place_at, replacement_at}
-use Rattle.pack_model.specs.Pack.{Pack, block_at, is_marked}
-use Rattle.pack_model.specs.Content.{bytes_at}
-use Rattle.pack_model.specs.Homes.{content_of, home_of, if_unmarked, index_in, is_place, replacement_home}
-use Rattle.pack_model.specs.PackTable.{HaveSameCopies, IsTableOf}
-use Rattle.pack_model.specs.TableEdit.{with_mark_at}
-use Rattle.pack_model.specs.TableSpelling.{Table, IsTable}
-use Rattle.pack_model.proofs.HomeLaws.{replacement_above, same_place}
-use Rattle.pack_model.proofs.PackTableLaws.{table_once, table_same}
-use Rattle.pack_model.proofs.TableEditBlocks.{marked_itself, marked_other}
+use Rattle.pack_geometry.specs.Pack.{Pack, block_at, is_marked}
+use Rattle.pack_geometry.specs.Content.{bytes_at}
+use Rattle.pack_geometry.specs.Homes.{content_of, home_of, if_unmarked, index_in, is_place, replacement_home}
+use Rattle.pack_geometry.specs.PackTable.{HaveSameCopies, IsTableOf}
+use Rattle.pack_geometry.specs.TableEdit.{with_mark_at}
+use Rattle.pack_geometry.specs.TableSpelling.{Table, IsTable}
+use Rattle.pack_geometry.proofs.HomeLaws.{replacement_above, same_place}
+use Rattle.pack_geometry.proofs.PackTableLaws.{table_once, table_same}
+use Rattle.pack_geometry.proofs.TableEditBlocks.{marked_itself, marked_other}
 use Rattle.bad144_tool.specs.Adding.{HasTable}
 use Rattle.outside_traits.specs.Causes.{HasCause}
 use Rattle.bad144_tool.specs.Changes.{Change, Mark, DoesAll, IsCutShort, with_changes}

@@ -7,10 +7,10 @@ use Rattle.std.proofs.lemmas.Option.{get_or_from_slice_get, slice_get_within}
 use Rattle.pack_geometry.specs.declared.DriveKind.{DriveKind}
 use Rattle.pack_geometry.specs.declared.Place.{Place}
 use Rattle.pack_geometry.specs.Geometry.{block_count, block_number, limit_of, place_at, replacement_at}
-use Rattle.pack_model.specs.Pack.{Pack, is_marked}
-use Rattle.pack_model.specs.PackTable.{IsTableOf}
-use Rattle.pack_model.specs.TableSpelling.{Table, IsTable}
-use Rattle.pack_model.proofs.PackTableLaws.{table_once}
+use Rattle.pack_geometry.specs.Pack.{Pack, is_marked}
+use Rattle.pack_geometry.specs.PackTable.{IsTableOf}
+use Rattle.pack_geometry.specs.TableSpelling.{Table, IsTable}
+use Rattle.pack_geometry.proofs.PackTableLaws.{table_once}
 use Rattle.bad144_table.specs.Inserts.{Inserts}
 use Rattle.bad144_tool.specs.Adding.{AreFree, GoesTo, HasTable, MayList}
 use Rattle.bad144_tool.specs.Faults.{IsRefusal, IsWhy}

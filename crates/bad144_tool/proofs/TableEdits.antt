@@ -6,15 +6,15 @@ use Rattle.std.specs.Prelude.{if◌then◌else◌, insert}
 use Rattle.pack_geometry.specs.declared.DriveKind.{DriveKind}
 use Rattle.pack_geometry.specs.declared.DriveKind.TheVariants.{Rp06, Rm03, Rm05}
 use Rattle.pack_geometry.specs.Geometry.{block_count, block_number, limit_of, place_at, replacement_at}
-use Rattle.pack_model.specs.Pack.{Pack, block_at, written}
-use Rattle.pack_model.specs.TableSpelling.{Table, IsTable, table_text}
-use Rattle.pack_model.specs.TableEdit.{IsAddedAt, edited, moved_up, with_copies, with_mark_at, with_place, zero_block}
+use Rattle.pack_geometry.specs.Pack.{Pack, block_at, written}
+use Rattle.pack_geometry.specs.TableSpelling.{Table, IsTable, table_text}
+use Rattle.pack_geometry.specs.TableEdit.{IsAddedAt, edited, moved_up, with_copies, with_mark_at, with_place, zero_block}
 use Rattle.bad144_tool.specs.Adding.{Adds, MayList, edit_of}
 use Rattle.bad144_tool.specs.Changes.{Change, Block, Mark, with_change, with_changes}
 use Rattle.bad144_tool.specs.Edit.{copies, edit_writes, first_content, marking, moves, writes_with}
 use Rattle.bad144_tool.specs.declared.edit.AddWay.{AddWay}
 use Rattle.bad144_tool.proofs.EditLaws.{different_replacements, moves_same}
-use Rattle.pack_model.proofs.PackLaws.{block_at-with_block_other, length-block_at}
+use Rattle.pack_geometry.proofs.PackLaws.{block_at-with_block_other, length-block_at}
 
 -- one write, as it is seen in the unit's pack
 abbrev pub changed : Pack → Change → Pack

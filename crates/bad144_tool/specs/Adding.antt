@@ -2,10 +2,10 @@
 use Rattle.std.specs.Prelude.{◌≡◌, ℕ, ◌<◌, ◌≤◌, ◌*◌, true, false, length, Some, None, slice_get}
 use Rattle.pack_geometry.specs.declared.DriveKind.{DriveKind}
 use Rattle.pack_geometry.specs.Geometry.{block_count, limit_of, place_at, replacement_at}
-use Rattle.pack_model.specs.Pack.{Pack, is_marked}
-use Rattle.pack_model.specs.PackTable.{IsTableOf}
-use Rattle.pack_model.specs.TableEdit.{Edit}
-use Rattle.pack_model.specs.TableSpelling.{Table}
+use Rattle.pack_geometry.specs.Pack.{Pack, is_marked}
+use Rattle.pack_geometry.specs.PackTable.{IsTableOf}
+use Rattle.pack_geometry.specs.TableEdit.{Edit}
+use Rattle.pack_geometry.specs.TableSpelling.{Table}
 use Rattle.bad144_table.specs.Inserts.{Inserts, IsNew}
 use Rattle.bad144_tool.specs.Changes.{with_changes, IsCutShort}
 use Rattle.bad144_tool.specs.Edit.{edit_writes}

@@ -1,6 +1,6 @@
 -- Writes to the pack of a unit, one after another.
 use Rattle.std.specs.Prelude.{◌≡◌, ℕ, true, IsTrue, Bool, List, [], ◌∷◌, take, Result, OnOk, OnErr}
-use Rattle.pack_model.specs.Pack.{Pack, with_written, with_mark}
+use Rattle.pack_geometry.specs.Pack.{Pack, with_written, with_mark}
 use Rattle.outside_traits.specs.Causes.{HasCause}
 
 -- a write: a block is replaced, or marked

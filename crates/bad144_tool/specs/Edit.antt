@@ -2,8 +2,8 @@
 use Rattle.std.specs.Prelude.{ℕ, zero, suc, ◌+◌, ◌-◌, Bool, if◌then◌else◌, List, [], ◌∷◌, ◌++◌, map, replicate, length}
 use Rattle.pack_geometry.specs.declared.DriveKind.{DriveKind}
 use Rattle.pack_geometry.specs.Geometry.{copy_at, replacement_at}
-use Rattle.pack_model.specs.Pack.{block_at}
-use Rattle.pack_model.specs.TableSpelling.{Table, table_text}
+use Rattle.pack_geometry.specs.Pack.{block_at}
+use Rattle.pack_geometry.specs.TableSpelling.{Table, table_text}
 use Rattle.bad144_tool.specs.Changes.{Change, Block, Mark}
 use Rattle.bad144_tool.specs.declared.edit.AddWay.{AddWay}
 

@@ -3,7 +3,7 @@ use Rattle.std.specs.Prelude.{◌≡◌, ℕ, ◌<◌, ◌≤◌, ◌*◌, Resul
 use Rattle.outside_traits.specs.Causes.{Rose}
 use Rattle.pack_geometry.specs.declared.DriveKind.{DriveKind}
 use Rattle.pack_geometry.specs.Geometry.{block_count}
-use Rattle.pack_model.specs.Pack.{Pack}
+use Rattle.pack_geometry.specs.Pack.{Pack}
 use Rattle.bad144_table.specs.declared.table.InsertFault.{InsertFault}
 use Rattle.bad144_table.specs.declared.table.InsertFault.TheVariants as insert_fault
 use Rattle.bad144_tool.specs.declared.fault.ToolFault.{ToolFault}

@@ -3,11 +3,11 @@ use Rattle.std.specs.Prelude.{◌≡◌, ◌&&◌, ◌||◌, ℕ, nat_lt, not, B
 use Rattle.pack_geometry.specs.declared.DriveKind.{DriveKind}
 use Rattle.pack_geometry.specs.declared.Place.{Place}
 use Rattle.pack_geometry.specs.Geometry.{block_number, limit_of, place_at, replacement_at}
-use Rattle.pack_model.specs.Content.{bytes_at}
-use Rattle.pack_model.specs.Homes.{content_of, home_of, if_unmarked, index_in}
-use Rattle.pack_model.specs.Pack.{Pack, is_marked}
-use Rattle.pack_model.specs.PackTable.{IsTableOf}
-use Rattle.pack_model.specs.TableSpelling.{Table}
+use Rattle.pack_geometry.specs.Content.{bytes_at}
+use Rattle.pack_geometry.specs.Homes.{content_of, home_of, if_unmarked, index_in}
+use Rattle.pack_geometry.specs.Pack.{Pack, is_marked}
+use Rattle.pack_geometry.specs.PackTable.{IsTableOf}
+use Rattle.pack_geometry.specs.TableSpelling.{Table}
 use Rattle.bad144_tool.specs.Adding.{HasTable}
 use Rattle.bad144_tool.specs.Changes.{Change, Mark, IsCutShort, with_changes}
 

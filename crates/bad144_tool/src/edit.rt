@@ -1,7 +1,7 @@
 ghost use Rattle.std.specs.Prelude.{◌<◌, ◌≤◌, ◌-◌, ◌+◌, [], ◌∷◌, length};
 ghost use Rattle.pack_geometry.specs.Geometry.{copy_at, limit_of, replacement_at};
-ghost use Rattle.pack_model.specs.Pack.{block_at};
-ghost use Rattle.pack_model.specs.TableSpelling.{table_text};
+ghost use Rattle.pack_geometry.specs.Pack.{block_at};
+ghost use Rattle.pack_geometry.specs.TableSpelling.{table_text};
 ghost use Rattle.bad144_tool.specs.Changes.{DoesAll, Block};
 ghost use Rattle.bad144_tool.specs.Edit.{copies, edit_writes, first_content, marking, moves, writes_with};
 

@@ -1,16 +1,16 @@
 ghost use Rattle.std.specs.Prelude.{◌≡◌, ◌≢◌, ◌<◌, ℕ};
 ghost use Rattle.pack_geometry.specs.declared.DriveKind.{DriveKind};
 ghost use Rattle.pack_geometry.specs.Geometry.{block_count};
-ghost use Rattle.pack_model.specs.Pack.{Pack};
-ghost use Rattle.pack_model.specs.TableEdit.{IsAddedAt, IsEdited};
-ghost use Rattle.pack_model.specs.TableSpelling.{Table};
+ghost use Rattle.pack_geometry.specs.Pack.{Pack};
+ghost use Rattle.pack_geometry.specs.TableEdit.{IsAddedAt, IsEdited};
+ghost use Rattle.pack_geometry.specs.TableSpelling.{Table};
 ghost use Rattle.bad144_tool.specs.Adding.{Adds, MayList, edit_of};
 ghost use Rattle.bad144_tool.specs.Faults.{IsRefusal, IsWhy};
 ghost use Rattle.bad144_tool.specs.Marking.{IsMarkedUp, Marks};
 ghost use Rattle.bad144_tool.specs.declared.fault.ToolFault.{ToolFault};
 ghost use Rattle.bad144_tool.specs.declared.edit.AddWay.{AddWay};
 
-use pack_model::table_edit_law;
+use pack_geometry::packs::table_edit_law;
 
 /// The law of an addition: where a block was added to the table of a unit's pack, that is an edit of the table, in which
 /// each data block but the new one keeps its content or stays unusable; and every other unit's pack is as before.

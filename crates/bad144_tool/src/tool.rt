@@ -1,6 +1,6 @@
 ghost use Rattle.std.specs.Prelude.{◌≡◌, ◌≢◌, ℕ, ◌<◌, ◌≤◌, ◌*◌, [], ◌++◌, length, IsTrue, IfOk, IfErr, IfSome, OnOk, IsErrOf};
 ghost use Rattle.pack_geometry.specs.Geometry.{IsInside, block_count, block_number, limit_of};
-ghost use Rattle.pack_model.specs.TableSpelling.{Table, table_text};
+ghost use Rattle.pack_geometry.specs.TableSpelling.{Table, table_text};
 ghost use Rattle.outside_traits.specs.Puts.{Puts};
 ghost use Rattle.bad144_tool.specs.Adding.{Adds, AreFree, Fits, HasTable, IsFirstMarked, MayList};
 ghost use Rattle.bad144_tool.specs.Changes.{IsCutShort, with_changes};

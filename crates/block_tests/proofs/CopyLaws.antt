@@ -4,7 +4,7 @@ use Rattle.std.proofs.lemmas.Bool.{cases_lt}
 use Rattle.std.proofs.lemmas.Bool.Decides.{Decides-eqb}
 use Rattle.pack_geometry.specs.declared.DriveKind.{DriveKind}
 use Rattle.pack_geometry.specs.Geometry.{copy_at}
-use Rattle.pack_model.specs.Pack.{Pack, is_marked}
+use Rattle.pack_geometry.specs.Pack.{Pack, is_marked}
 use Rattle.block_tests.specs.Stages.{Fills, Reaches, Stops, copied, is_copy, one}
 use Rattle.block_tests.proofs.StageLaws.{eq_same, false_true, fills_next, fills_none, reaches}
 

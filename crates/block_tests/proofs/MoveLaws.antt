@@ -1,6 +1,6 @@
 -- What a poll through the frame comes to, by the frame's bytes.
 use Rattle.std.proofs.Common.{◌≡◌, ◌⊎◌, inl, inr, ℕ, ◌+◌, ◌<◌, Bool, true, false, IsTrue, List, refl, ap, ◌∙◌, subst, arith}
-use Rattle.pack_model.specs.Pack.{Pack, block_at, is_marked, with_written}
+use Rattle.pack_geometry.specs.Pack.{Pack, block_at, is_marked, with_written}
 use Rattle.block_tests.specs.Polls.{IsOldOrNew, Polls, Sides}
 use Rattle.block_tests.specs.declared.station.Polled.{Polled}
 use Rattle.block_tests.specs.declared.station.Polled.TheVariants.{Clean, Marked}

@@ -4,8 +4,8 @@ use Rattle.std.specs.Prelude.{OnErr, slice_set}
 use Rattle.std.proofs.lemmas.List.{append-nil, take_all}
 use Rattle.pack_geometry.specs.declared.DriveKind.{DriveKind}
 use Rattle.pack_geometry.specs.declared.DriveKind.TheVariants.{Rp06, Rm03, Rm05}
-use Rattle.pack_model.specs.Pack.{Pack, block_at, is_marked, with_written}
-use Rattle.pack_model.proofs.PackLaws.{length-block_at}
+use Rattle.pack_geometry.specs.Pack.{Pack, block_at, is_marked, with_written}
+use Rattle.pack_geometry.proofs.PackLaws.{length-block_at}
 use Rattle.main_memory.specs.Blocks.{Loan, blocks_from, bytes_in, size_at, span_of}
 use Rattle.main_memory.specs.Bytes.{filled, front}
 use Rattle.main_memory.specs.Memory.{Memory, blocks_of}

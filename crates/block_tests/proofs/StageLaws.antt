@@ -2,8 +2,8 @@
 use Rattle.std.proofs.Common.{◌≡◌, ◌≢◌, ◌⊎◌, inl, inr, ℕ, ◌+◌, ◌<◌, ◌≤◌, ◌==◌, ◌&&◌, ◌||◌, not, Bool, true, false, IsTrue, if◌then◌else◌, List, length, Result, Ok, Err, refl, sym, ap, ◌∙◌, subst, arith}
 use Rattle.std.specs.Prelude.{OnErr, OnOk, slice_index}
 use Rattle.std.proofs.lemmas.Bool.Decides.{Decides-eqb, nat_tests}
-use Rattle.pack_model.specs.Pack.{Pack, block_at, is_marked, with_pack, with_written, written}
-use Rattle.pack_model.proofs.PackLaws.{block_at-with_block_same, block_at-with_block_other}
+use Rattle.pack_geometry.specs.Pack.{Pack, block_at, is_marked, with_pack, with_written, written}
+use Rattle.pack_geometry.proofs.PackLaws.{block_at-with_block_same, block_at-with_block_other}
 use Rattle.block_tests.specs.Polls.{IsOldOrNew, Polls, Sides, answer_for}
 use Rattle.block_tests.specs.Stages.{Fills, Reaches, Stops, between, if_done, one, ranged}
 use Rattle.block_tests.specs.declared.station.Polled.{Polled}

@@ -1,6 +1,6 @@
 -- What one poll of a sector comes to.
 use Rattle.std.specs.Prelude.{◌≡◌, ◌⊎◌, ℕ, Bool, true, false, IsTrue, List}
-use Rattle.pack_model.specs.Pack.{Pack, block_at, is_marked, with_written}
+use Rattle.pack_geometry.specs.Pack.{Pack, block_at, is_marked, with_written}
 use Rattle.main_memory.specs.Blocks.{Loan, bytes_in, span_of}
 use Rattle.main_memory.specs.Bytes.{filled}
 use Rattle.main_memory.specs.Memory.{Memory}

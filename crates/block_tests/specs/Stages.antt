@@ -2,7 +2,7 @@
 use Rattle.std.specs.Prelude.{◌≡◌, ◌≢◌, ◌⊎◌, ◌==◌, ◌&&◌, ◌||◌, nat_le, nat_lt, not, ℕ, zero, suc, ◌<◌, Bool, true, false, List, replicate}
 use Rattle.pack_geometry.specs.declared.DriveKind.{DriveKind}
 use Rattle.pack_geometry.specs.Geometry.{copy_at}
-use Rattle.pack_model.specs.Pack.{Pack, block_at, is_marked}
+use Rattle.pack_geometry.specs.Pack.{Pack, block_at, is_marked}
 
 -- the blocks of a range, and the first copies of the table
 abbrev pub between : ℕ → ℕ → ℕ → Bool

@@ -1,7 +1,7 @@
 //! Blocks are written and read back.
 ghost use Rattle.std.specs.Prelude.{◌≡◌, ◌==◌, ◌<◌, ◌≤◌, false, IsTrue, IfErr, OnOk, OnErr, replicate};
 ghost use Rattle.pack_geometry.specs.Geometry.{block_count};
-ghost use Rattle.pack_model.specs.Pack.{block_at, is_marked};
+ghost use Rattle.pack_geometry.specs.Pack.{block_at, is_marked};
 ghost use Rattle.block_tests.specs.Stations.{IsAtRest};
 ghost use Rattle.block_tests.specs.Stages.{Fills, IsTested, Reaches, Stops, between, copied, is_copy, one, ranged};
 ghost use Rattle.block_tests.specs.TestFaults.{IsStop, IsTestCaused, Tests, Writes};

@@ -1,6 +1,6 @@
 -- A call of the driver, whose lines are kept, and the answers behind it.
 use Rattle.std.proofs.Common.{◌≡◌, ℕ, Bool, true, false, IsTrue, List, [], ◌++◌, Option, Some, None, refl, sym, ap, subst, ◌∙◌, append-nil}
-use Rattle.pack_model.specs.Pack.{Pack, empty_pack}
+use Rattle.pack_geometry.specs.Pack.{Pack, empty_pack}
 use Rattle.outside_traits.specs.Puts.{TakesFront}
 use Rattle.hardware_table.specs.declared.Moved.TheVariants as verdict
 use Rattle.subsystem_spec.specs.Requests.{Request}

@@ -1,27 +1,27 @@
 -- The drain is over: the driver is quiet, and the answer is that of the map.
 use Rattle.std.proofs.Common.{◌≡◌, ℕ, ◌≤◌, Bool, IsTrue, List, [], ◌∷◌, ◌++◌, None, refl, sym, ap, subst, ◌∙◌, append-nil}
-use Rattle.pack_model.specs.Pack.{Pack}
+use Rattle.pack_geometry.specs.Pack.{Pack}
 use Rattle.subsystem_spec.specs.Requests.{Request, IsRequest}
 use Rattle.trace_replay.specs.Moments.{Moment, Idle, Answered, answers_in}
 use Rattle.trace_replay.specs.Script as script
 use Rattle.trace_replay.specs.Script.{IsThere}
 use Rattle.trace_replay.specs.Text.{trace_text, moment_text}
 use Rattle.trace_replay.specs.Replay.{Replay, IsOver}
-use Rattle.waited_requests.specs.Calm.{IsGood, IsCalm}
-use Rattle.block_machine.specs.Stands.{Setup}
+use Rattle.trace_laws.specs.Calm.{IsGood, IsCalm}
+use Rattle.trace_laws.specs.Stands.{Setup}
 use Rattle.driver_machine.specs.World.{World, unit_at}
 use Rattle.driver_machine.specs.Acts.{Nothing}
 use Rattle.driver_machine.specs.Events.{next_event}
 use Rattle.driver_machine.specs.Guards.{IsSetUp}
 use Rattle.driver_machine.specs.Sound.{Sound, AtWork}
 use Rattle.driver_machine.specs.Runs.{NoneOutstanding}
-use Rattle.driver_runs.specs.Runs.{Stay}
+use Rattle.driver_trace.specs.RunsRuns.{Stay}
 use Rattle.driver_trace.specs.Calls.{Stands}
 use Rattle.driver_trace.proofs.DrainsLaws.{drain_left, none_outstanding}
-use Rattle.waited_requests.specs.Sessions.{IsSession, behind, behind_all, waited, told_in}
-use Rattle.waited_requests.specs.Rest.{HasTables}
-use Rattle.waited_requests.specs.Waited.{map_of, answer_in, with_packs, IsAskable, IsWaitedFor, IsAnswered, AreLeftBy}
-use Rattle.waited_requests.proofs.WaitedLaws.{waited_is_answered, all_rest_again, packs_hold_map}
+use Rattle.trace_laws.specs.Sessions.{IsSession, behind, behind_all, waited, told_in}
+use Rattle.trace_laws.specs.Rest.{HasTables}
+use Rattle.trace_laws.specs.Waited.{map_of, answer_in, with_packs, IsAskable, IsWaitedFor, IsAnswered, AreLeftBy}
+use Rattle.trace_laws.proofs.WaitedLaws.{waited_is_answered, all_rest_again, packs_hold_map}
 use Rattle.hp_driver.specs.Passes.{IsQuiet, kind_if, setup_of, rested, StandsQuiet}
 use Rattle.hp_driver.specs.Passes.{IsOpen, GoesTo}
 use Rattle.hp_driver.proofs.Passes.{quiet_rests}

@@ -3,21 +3,21 @@ use Rattle.std.proofs.Common.{◌≡◌, inl, inr, ℕ, ◌==◌, not, List, [],
 use Rattle.std.specs.Prelude.{slice_index}
 use Rattle.std.proofs.lemmas.Grind.{flat_map-append}
 use Rattle.pack_geometry.specs.declared.DriveKind.{DriveKind}
-use Rattle.pack_model.specs.Pack.{Pack}
+use Rattle.pack_geometry.specs.Pack.{Pack}
 use Rattle.trace_replay.specs.Moments.{Moment}
 use Rattle.trace_replay.specs.Text.{trace_text, moment_text}
 use Rattle.trace_replay.specs.Packs.{Surface}
 use Rattle.trace_replay.specs.Replay.{Replay, AreLeft}
-use Rattle.block_machine.specs.Beginnings.{with_next}
-use Rattle.block_machine.specs.Stands.{Setup}
+use Rattle.trace_laws.specs.Beginnings.{with_next}
+use Rattle.trace_laws.specs.Stands.{Setup}
 use Rattle.driver_answers.specs.Outcome.{IsFront}
 use Rattle.driver_answers.specs.declared.outcome.Stop.{Stop}
 use Rattle.driver_answers.specs.declared.outcome.Stop.TheVariants.{Store, Sink}
 use Rattle.driver_answers.proofs.Joined.{front_more, front_of_front}
-use Rattle.driver_runs.specs.Runs.{Stay}
-use Rattle.driver_runs.specs.NextBlock.{HasNext}
-use Rattle.waited_requests.specs.Sessions.{Part, IsSession, behind, behind_all, waited, told_in}
-use Rattle.waited_requests.specs.Waited.{with_packs}
+use Rattle.driver_trace.specs.RunsRuns.{Stay}
+use Rattle.driver_trace.specs.NextBlock.{HasNext}
+use Rattle.trace_laws.specs.Sessions.{Part, IsSession, behind, behind_all, waited, told_in}
+use Rattle.trace_laws.specs.Waited.{with_packs}
 use Rattle.hp_driver.specs.Passes.{StandsQuiet}
 use Rattle.blocking_io.specs.Calls.{Stage}
 use Rattle.blocking_io.specs.Asking.{setup_at}

@@ -10,3 +10,7 @@ mod Stopped
 mod Readying
 pub mod Joined
 pub mod Passes
+pub mod Sites
+pub mod FrontsBlocks
+mod FrontsFronts
+pub mod FrontsPasses

@@ -4,7 +4,7 @@ use Rattle.std.specs.Prelude.{◌&&◌, nat_lt, if◌then◌else◌, Result, Ok,
 use Rattle.std.proofs.lemmas.Bool.{false≢true}
 use Rattle.std.proofs.lemmas.Grind.{flat_map-append}
 use Rattle.pack_geometry.specs.declared.DriveKind.{DriveKind}
-use Rattle.pack_model.specs.Pack.{Pack}
+use Rattle.pack_geometry.specs.Pack.{Pack}
 use Rattle.subsystem_spec.specs.Requests.{Request}
 use Rattle.trace_replay.specs.Moments.{Moment, Played, Idle, played}
 use Rattle.trace_replay.specs.Script as script
@@ -12,7 +12,7 @@ use Rattle.trace_replay.specs.Script.{Input}
 use Rattle.trace_replay.specs.Text.{trace_text, moment_text}
 use Rattle.trace_replay.specs.Events.{Event, is_no_line}
 use Rattle.trace_replay.specs.Replay.{Replay, next_wish, act_drained, drained, are_at_work, WorkMay, AreLeft, after_moment, after_moments}
-use Rattle.block_machine.specs.Beginnings.{QuietMomentsKeep}
+use Rattle.trace_laws.specs.Beginnings.{QuietMomentsKeep}
 use Rattle.driver_machine.specs.World.{World}
 use Rattle.driver_machine.specs.Acts.{Act, Nothing, Tried, after_all}
 use Rattle.driver_machine.specs.Lines.{lines_of_all}
@@ -30,11 +30,11 @@ use Rattle.driver_trace.specs.Calls.{Ends, IsSurfaceOf}
 use Rattle.driver_trace.proofs.DrainsLaws.{GoesOn, drain_begins, drain_goes_on, drain_between}
 use Rattle.driver_trace.proofs.Inputted.{lines_play_nothing}
 use Rattle.hp_driver.proofs.Passes.{event_fronts}
-use Rattle.driver_runs.specs.Runs.{Stay}
-use Rattle.driver_runs.specs.NextBlock.{NextBlocksShow}
-use Rattle.driver_runs.proofs.Sectors.{submission_quiet}
-use Rattle.waited_requests.specs.Sessions.{MayPlay, IsPart, behind, behind_all, told_in, waited}
-use Rattle.waited_requests.specs.Waited.{with_packs}
+use Rattle.driver_trace.specs.RunsRuns.{Stay}
+use Rattle.driver_trace.specs.NextBlock.{NextBlocksShow}
+use Rattle.driver_trace.proofs.Sectors.{submission_quiet}
+use Rattle.trace_laws.specs.Sessions.{MayPlay, IsPart, behind, behind_all, told_in, waited}
+use Rattle.trace_laws.specs.Waited.{with_packs}
 use Rattle.hp_driver.specs.Passes.{setup_of, StandsQuiet}
 use Rattle.hp_driver.specs.Passes.{GoesTo, DrainsFrom}
 use Rattle.hp_driver.proofs.Passes.{quiet_opens, quiet_submits, drains_begin, drains_continue, drains_find_nothing}

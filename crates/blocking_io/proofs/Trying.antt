@@ -3,12 +3,12 @@ use Rattle.std.proofs.Common.{◌≡◌, ◌⊎◌, inl, inr, ℕ, Bool, true, f
 use Rattle.std.proofs.lemmas.Bool.{false≢true}
 use Rattle.pack_geometry.specs.declared.DriveKind.{DriveKind}
 use Rattle.hardware_table.specs.Adapter.{next_block}
-use Rattle.pack_model.specs.Pack.{Pack}
+use Rattle.pack_geometry.specs.Pack.{Pack}
 use Rattle.trace_replay.specs.Moments.{Moment}
 use Rattle.trace_replay.specs.Script as says
 use Rattle.trace_replay.specs.Script.{Input}
 use Rattle.trace_replay.specs.Replay.{Replay, Follows, AreLeft, after_moments}
-use Rattle.block_machine.specs.Beginnings.{QuietMomentsKeep}
+use Rattle.trace_laws.specs.Beginnings.{QuietMomentsKeep}
 use Rattle.driver_machine.specs.World.{World, unit_of, adapter_at}
 use Rattle.driver_machine.specs.Acts.{Act, Nothing, Tried, Sector}
 use Rattle.driver_machine.specs.Lines.{lines_of_all}
@@ -23,9 +23,9 @@ use Rattle.driver_trace.specs.Calls.{IsReadOf}
 use Rattle.driver_trace.specs.Noises.{AllFlip}
 use Rattle.driver_trace.specs.Within.{ShowsAll}
 use Rattle.hp_driver.proofs.Passes.{event_fronts}
-use Rattle.driver_runs.specs.Runs.{AreDeclared}
-use Rattle.driver_runs.proofs.Sectors.{IsNoMove, event_quiet}
-use Rattle.driver_runs.specs.NextBlock.{NextBlocksShow}
+use Rattle.driver_trace.specs.RunsRuns.{AreDeclared}
+use Rattle.driver_trace.proofs.Sectors.{IsNoMove, event_quiet}
+use Rattle.driver_trace.specs.NextBlock.{NextBlocksShow}
 use Rattle.hp_driver.specs.Subsystem.{IsThere, is_move}
 use Rattle.hp_driver.proofs.Moves.{one_act, tried_by_rules, read_from}
 use Rattle.blocking_io.specs.Calls.{Stage, EventTellsFront, MoveFails}

@@ -3,14 +3,14 @@ use Rattle.std.proofs.Common.{◌≡◌, ℕ, ◌+◌, ◌≤◌, ◌<◌, Bool,
 use Rattle.std.proofs.lemmas.Option.{none-some, same_Some}
 use Rattle.std.proofs.lemmas.Grind.{flat_map-append}
 use Rattle.pack_geometry.specs.declared.DriveKind.{DriveKind}
-use Rattle.pack_model.specs.Pack.{Pack}
+use Rattle.pack_geometry.specs.Pack.{Pack}
 use Rattle.subsystem_spec.specs.Requests.{Request, IsRequest}
 use Rattle.trace_replay.specs.Moments.{Moment, Answered, played, answers_in}
 use Rattle.trace_replay.specs.Script as script
 use Rattle.trace_replay.specs.Script.{Input}
 use Rattle.trace_replay.specs.Text.{trace_text, moment_text}
 use Rattle.trace_replay.specs.Replay.{Replay}
-use Rattle.block_machine.specs.Stands.{Setup}
+use Rattle.trace_laws.specs.Stands.{Setup}
 use Rattle.driver_machine.specs.World.{World, unit_at}
 use Rattle.driver_machine.specs.Acts.{Act, Taken, after, after_all}
 use Rattle.driver_machine.specs.Lines.{lines_of_all}
@@ -21,12 +21,12 @@ use Rattle.driver_machine.specs.Runs.{Run}
 use Rattle.driver_answers.specs.Packs.{packs_after_all}
 use Rattle.driver_answers.proofs.Units.{setups_stay}
 use Rattle.driver_answers.proofs.Waiting.{events_alone, submissions_alone}
-use Rattle.driver_runs.specs.Runs.{AreDeclared, Stay}
-use Rattle.driver_runs.proofs.RunsLaws.{runs_keep}
+use Rattle.driver_trace.specs.RunsRuns.{AreDeclared, Stay}
+use Rattle.driver_trace.proofs.RunsLaws.{runs_keep}
 use Rattle.driver_trace.proofs.Inputted.{lines_play_nothing}
-use Rattle.waited_requests.specs.Sessions.{Part, MayPlay, IsPart, behind}
-use Rattle.waited_requests.specs.Waited.{with_packs}
-use Rattle.waited_requests.proofs.WaitedLaws.{answers_append}
+use Rattle.trace_laws.specs.Sessions.{Part, MayPlay, IsPart, behind}
+use Rattle.trace_laws.specs.Waited.{with_packs}
+use Rattle.trace_laws.proofs.WaitedLaws.{answers_append}
 use Rattle.hp_driver.specs.Passes.{IsQuiet, kind_if, setup_of, StandsQuiet}
 use Rattle.hp_driver.specs.Passes.{IsOpen, GoesTo, DrainsFrom}
 use Rattle.hp_driver.proofs.Passes.{quiet_opens, quiet_submits, drains_begin, drains_continue, takings_open, takings_drain}

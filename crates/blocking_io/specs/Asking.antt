@@ -1,17 +1,17 @@
 -- A REQUEST THAT IS WAITED FOR, as its callers see it: over the driver's world and the packs before and after.
 use Rattle.std.specs.Prelude.{◌≡◌, ℕ, ◌≤◌, false, IsTrue, List, [], ◌++◌, Some}
-use Rattle.pack_model.specs.Pack.{block_at}
+use Rattle.pack_geometry.specs.Pack.{block_at}
 use Rattle.subsystem_spec.specs.Requests as told
 use Rattle.subsystem_spec.specs.Requests.{IsRequest}
 use Rattle.trace_replay.specs.Moments.{Moment}
 use Rattle.trace_replay.specs.Text.{trace_text}
 use Rattle.trace_replay.specs.Replay.{Replay, IsOver}
-use Rattle.block_machine.specs.Stands.{Setup, home_in}
+use Rattle.trace_laws.specs.Stands.{Setup, home_in}
 use Rattle.driver_machine.specs.Guards.{IsSetUp}
-use Rattle.driver_runs.specs.Runs.{Stay}
-use Rattle.waited_requests.specs.Sessions.{IsSession, behind_all, waited}
-use Rattle.waited_requests.specs.Rest.{HasTables}
-use Rattle.waited_requests.specs.Waited.{map_of, answer_in, map_behind, with_packs}
+use Rattle.driver_trace.specs.RunsRuns.{Stay}
+use Rattle.trace_laws.specs.Sessions.{IsSession, behind_all, waited}
+use Rattle.trace_laws.specs.Rest.{HasTables}
+use Rattle.trace_laws.specs.Waited.{map_of, answer_in, map_behind, with_packs}
 use Rattle.hp_driver.specs.Passes.{IsQuiet, setup_of, StandsQuiet}
 use Rattle.subsystem_spec.specs.declared.request.Request.{Request}
 use Rattle.hp_driver.specs.Subsystem.{State, asked}

@@ -1,6 +1,6 @@
 -- ONE CALL OF THE DRIVER, and behind it the answers that wait are given and taken.
 use Rattle.std.specs.Prelude.{◌≡◌, ◌⊎◌, ◌≤◌, ℕ, Bool, true, false, if◌then◌else◌, IsTrue, List, [], ◌++◌, None, Result, IfErr, OnOk, OnErr}
-use Rattle.pack_model.specs.Pack.{Pack}
+use Rattle.pack_geometry.specs.Pack.{Pack}
 use Rattle.outside_traits.specs.Causes.{Rose}
 use Rattle.outside_traits.specs.Puts.{TakesFront}
 use Rattle.subsystem_spec.specs.Requests as told

@@ -5,3 +5,7 @@ pub mod Asking
 pub mod Stopping
 pub mod Sessions
 pub mod Passes
+pub mod Fronts
+pub mod Sites
+pub mod Blocks
+pub mod FrontsPasses

@@ -4,10 +4,10 @@ use Rattle.subsystem_spec.specs.Requests.{Request}
 use Rattle.trace_replay.specs.Text.{trace_text}
 use Rattle.trace_replay.specs.Replay.{Replay}
 use Rattle.driver_answers.specs.declared.outcome.Stop.{Stop}
-use Rattle.driver_runs.specs.Runs.{Stay}
-use Rattle.waited_requests.specs.Sessions.{Part, IsSession, behind_all, waited, told_in}
-use Rattle.waited_requests.specs.Rest.{HasTables}
-use Rattle.waited_requests.specs.Waited.{with_packs}
+use Rattle.driver_trace.specs.RunsRuns.{Stay}
+use Rattle.trace_laws.specs.Sessions.{Part, IsSession, behind_all, waited, told_in}
+use Rattle.trace_laws.specs.Rest.{HasTables}
+use Rattle.trace_laws.specs.Waited.{with_packs}
 use Rattle.hp_driver.specs.Passes.{StandsQuiet}
 use Rattle.blocking_io.specs.Calls.{Stage}
 use Rattle.blocking_io.specs.Asking.{setup_at, Answers}

@@ -2,7 +2,7 @@
 -- leave them, but for one block of a write.
 use Rattle.std.specs.Prelude.{◌≡◌, ◌⊎◌, ℕ, IsTrue, List, [], ◌∷◌, ◌++◌, Option, None, Some}
 use Rattle.pack_geometry.specs.declared.DriveKind.{DriveKind}
-use Rattle.pack_model.specs.Pack.{Pack}
+use Rattle.pack_geometry.specs.Pack.{Pack}
 use Rattle.subsystem_spec.specs.Requests.{Request}
 use Rattle.trace_replay.specs.Moments.{Moment}
 use Rattle.trace_replay.specs.Script.{Submit}
@@ -11,9 +11,9 @@ use Rattle.trace_replay.specs.Replay.{Replay, AreLeft}
 use Rattle.driver_answers.specs.Outcome.{IsFront}
 use Rattle.driver_answers.specs.declared.outcome.Stop.{Stop}
 use Rattle.driver_answers.specs.declared.outcome.Stop.TheVariants.{Store, Sink}
-use Rattle.driver_runs.specs.NextBlock.{HasNext}
-use Rattle.waited_requests.specs.Sessions.{Part, IsSession, behind_all, waited, told_in}
-use Rattle.waited_requests.specs.Rest.{HasTables}
+use Rattle.driver_trace.specs.NextBlock.{HasNext}
+use Rattle.trace_laws.specs.Sessions.{Part, IsSession, behind_all, waited, told_in}
+use Rattle.trace_laws.specs.Rest.{HasTables}
 use Rattle.hp_driver.specs.Passes.{StandsQuiet}
 use Rattle.blocking_io.specs.Calls.{Stage}
 use Rattle.blocking_io.specs.Asking.{setup_at}

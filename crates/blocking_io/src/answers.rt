@@ -5,7 +5,7 @@ ghost use Rattle.driver_machine.specs.World.{bytes_in};
 ghost use Rattle.driver_machine.specs.Lines.{answer_told};
 ghost use Rattle.driver_answers.specs.Waiting.{waiting, all_taken};
 ghost use Rattle.blocking_io.specs.Given.{bytes_by, gives_all};
-ghost use Rattle.waited_requests.specs.Laid.{laid, laid_at};
+ghost use Rattle.trace_laws.specs.Laid.{laid, laid_at};
 ghost use Rattle.blocking_io.specs.Taking.{oldest_blocks, IsOldestKind, HasBlock};
 
 use crate::reached::{Reached, reached_by};

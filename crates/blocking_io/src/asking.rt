@@ -1,6 +1,6 @@
 // A request is submitted, drained, and its answer given.
 ghost use Rattle.std.specs.Prelude.{◌≡◌, ◌≤◌, ℕ, [], Bool, false, if◌then◌else◌, IsTrue, IfOk, IfErr, OnOk};
-ghost use Rattle.pack_model.specs.Pack.{Pack};
+ghost use Rattle.pack_geometry.specs.Pack.{Pack};
 ghost use Rattle.outside_traits.specs.Causes.{HasCause};
 ghost use Rattle.trace_replay.specs.Moments.{Idle};
 ghost use Rattle.trace_replay.specs.Text.{moment_text};
@@ -15,11 +15,11 @@ ghost use Rattle.blocking_io.specs.Stopping.{Stops};
 
 use crate::answers::take_answers;
 use crate::reached::Reached;
-use block_machine::promises::beginnings_law;
-use driver_runs::runs::next_block_law;
+use driver_trace::runs::next_block_law;
 use hp_driver::{Event, Request, Stop, Subsystem};
 use outside_traits::traits::{Packs, Sink};
 use outside_traits::whole::write_all;
+use trace_laws::promises::beginnings_law;
 use trace_lines::idle;
 
 /// Submits a request at a line, with the bytes of a write. Its lines are kept.

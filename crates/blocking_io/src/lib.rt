@@ -14,10 +14,12 @@
 
 mod answers;
 mod asking;
+pub mod fronts;
 mod reached;
 mod sessions;
 
 pub use asking::{ask_read, ask_write};
+pub use fronts::{clean_law, fronts_law};
 pub use hp_driver::{Request, Stop, Subsystem, UnitSetup};
 pub use reached::Reached;
 pub use sessions::sessions_law;

@@ -1,6 +1,6 @@
 // Blocks of an RM03 are written and read back.
 ghost use Rattle.std.specs.Prelude.{◌≡◌, ◌≤◌, ◌<◌, ◌^◌, IfSome, OnOk};
-ghost use Rattle.pack_model.specs.TableSpelling.{IsTable};
+ghost use Rattle.pack_geometry.specs.TableSpelling.{IsTable};
 ghost use Rattle.driver_machine.specs.Guards.{IsSetUp};
 ghost use Rattle.blocking_io.specs.Asking.{IsReady};
 ghost use Rattle.raw_io.specs.Passes.{MayTransfer};
@@ -8,12 +8,12 @@ ghost use Rattle.raw_io.specs.Passes.{MayTransfer};
 use bad144_table::{BadTable, entries};
 use blocking_io::{Reached, ask_read, ask_write};
 use drive_model::Drive;
+use driver_trace::quiet::rests_law;
 use hp_driver::{Request, Stop, Subsystem, UnitSetup};
 use mba_autoconf::attach;
 use outside_traits::traits::{Packs, Sink};
 use pack_geometry::DriveKind;
 use partitions::Part;
-use quiet_driver::quiet::rests_law;
 use raw_io::{RawFault, raw_read, raw_write};
 use std::alloc::Global;
 

@@ -22,7 +22,7 @@ pub(crate) struct FewBlocks {
 
 impl Packs for FewBlocks {
     ghost use Rattle.std.specs.Prelude.{false};
-    ghost use Rattle.pack_model.specs.Pack.{empty_pack};
+    ghost use Rattle.pack_geometry.specs.Pack.{empty_pack};
 
     ghost tells = { λ _. false };
 

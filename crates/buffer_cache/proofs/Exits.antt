@@ -5,16 +5,16 @@ use Rattle.std.proofs.lemmas.Bool.Decides.{eqb_tells}
 use Rattle.partitions.specs.declared.Part.TheVariants.{C}
 use Rattle.partitions.specs.Partitions.{first_of}
 use Rattle.subsystem_spec.specs.Requests.{Request}
-use Rattle.block_machine.specs.Machine.{blocks_done}
-use Rattle.waited_requests.specs.Sessions.{waited}
-use Rattle.waited_requests.specs.Rest.{HasTables}
-use Rattle.request_fronts.specs.Passes.{Stage, setup_at, Answers, GoesOn, AnswersReach}
-use Rattle.request_fronts.specs.Sites.{kind_at, map_at, left_map}
-use Rattle.request_fronts.specs.Blocks.{blocks_reached, ReadsOnce, PutsBlocks, PutsFront}
-use Rattle.request_fronts.proofs.Blocks.{plain, few_reached, read_once_of, puts_of}
-use Rattle.request_fronts.proofs.Sites.{map_long}
-use Rattle.waited_requests.specs.Requests.{reads, writes, behind_one}
-use Rattle.waited_requests.proofs.Requested.{read_leaves}
+use Rattle.trace_laws.specs.Machine.{blocks_done}
+use Rattle.trace_laws.specs.Sessions.{waited}
+use Rattle.trace_laws.specs.Rest.{HasTables}
+use Rattle.blocking_io.specs.FrontsPasses.{Stage, setup_at, Answers, GoesOn, AnswersReach}
+use Rattle.blocking_io.specs.Sites.{kind_at, map_at, left_map}
+use Rattle.blocking_io.specs.Blocks.{blocks_reached, ReadsOnce, PutsBlocks, PutsFront}
+use Rattle.blocking_io.proofs.FrontsBlocks.{plain, few_reached, read_once_of, puts_of}
+use Rattle.blocking_io.proofs.Sites.{map_long}
+use Rattle.trace_laws.specs.Requests.{reads, writes, behind_one}
+use Rattle.trace_laws.proofs.Requested.{read_leaves}
 use Rattle.buffer_cache.specs.Asks.{IsData, Asks, Fetches, LeftBy}
 use Rattle.buffer_cache.proofs.Maps.{first_c, are_blocks, other_unit, write_one, stop_one, read_one}
 

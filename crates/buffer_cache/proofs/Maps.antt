@@ -9,16 +9,16 @@ use Rattle.pack_geometry.specs.Geometry.{limit_of}
 use Rattle.partitions.specs.declared.Part.TheVariants.{C}
 use Rattle.partitions.specs.Partitions.{first_of, size_of}
 use Rattle.trace_replay.specs.Packs.{sector_of_block}
-use Rattle.block_machine.specs.Machine.{Blocks, bytes_or_none, blocks_done, bytes_of_first}
-use Rattle.block_machine.proofs.Blocks.{begun_blocks, block_done, other_blocks}
-use Rattle.waited_requests.specs.Pieces.{Reaches}
-use Rattle.waited_requests.specs.Laid.{laid}
-use Rattle.waited_requests.proofs.Ranges.{laid_long}
-use Rattle.waited_requests.proofs.Replaced.{sector_whole}
+use Rattle.trace_laws.specs.Machine.{Blocks, bytes_or_none, blocks_done, bytes_of_first}
+use Rattle.trace_laws.proofs.Blocks.{begun_blocks, block_done, other_blocks}
+use Rattle.trace_laws.specs.Pieces.{Reaches}
+use Rattle.trace_laws.specs.Laid.{laid}
+use Rattle.trace_laws.proofs.Ranges.{laid_long}
+use Rattle.trace_laws.proofs.Replaced.{sector_whole}
 use Rattle.driver_machine.specs.World.{World}
-use Rattle.request_fronts.specs.Blocks.{AreBlocks}
-use Rattle.request_fronts.specs.Sites.{kind_at}
-use Rattle.waited_requests.specs.Requests.{one_block, reads, writes, Map, written_over, behind_one}
+use Rattle.blocking_io.specs.Blocks.{AreBlocks}
+use Rattle.blocking_io.specs.Sites.{kind_at}
+use Rattle.trace_laws.specs.Requests.{one_block, reads, writes, Map, written_over, behind_one}
 use Rattle.buffer_cache.specs.Asks.{IsData, found_bytes}
 
 -- ---- partition `c` is all data blocks

@@ -1,4 +1,4 @@
 -- What is passed on of the crates below, so that those above stand on this one.
-pub use Rattle.request_fronts.proofs.Blocks.{first_is, none_unusable}
-pub use Rattle.request_fronts.proofs.Passes.{new_is_quiet}
-pub use Rattle.request_fronts.proofs.Sites.{keeps_err, keeps_join, keeps_none, kind_stays, left_over, map_long, on_err, others_none, others_over}
+pub use Rattle.blocking_io.proofs.FrontsBlocks.{first_is, none_unusable}
+pub use Rattle.blocking_io.proofs.FrontsPasses.{new_is_quiet}
+pub use Rattle.blocking_io.proofs.Sites.{keeps_err, keeps_join, keeps_none, kind_stays, left_over, map_long, on_err, others_none, others_over}

@@ -5,18 +5,18 @@ use Rattle.std.specs.List.{AllByRecursion}
 use Rattle.std.proofs.lemmas.List.{length-set, map-append}
 use Rattle.lru.specs.LruCache.{LruCache}
 use Rattle.driver_machine.specs.World.{World}
-use Rattle.waited_requests.specs.Rest.{HasTables}
+use Rattle.trace_laws.specs.Rest.{HasTables}
 use Rattle.buffer_cache.specs.Passes.{Stage}
 use Rattle.buffer_cache.specs.Passes.{setup_at}
 use Rattle.buffer_cache.specs.Passes.{StillTell, SessionsJoin}
 use Rattle.buffer_cache.specs.Passes.{map_at}
-use Rattle.waited_requests.specs.declared.cached.Entry.{Entry}
-use Rattle.waited_requests.specs.Requests.{writes}
-use Rattle.waited_requests.specs.Contents.{Flushes}
-use Rattle.waited_requests.specs.CachedLaws.{SyncWrites}
-use Rattle.waited_requests.specs.Entries.{State, AreApart, IsCache, if_changed, unchanged, write_backs, written_back}
-use Rattle.waited_requests.proofs.Lookups.{all_parts}
-use Rattle.waited_requests.proofs.Ones.{IsFound, each_found, back_one, backs_one, none_one}
+use Rattle.trace_laws.specs.declared.cached.Entry.{Entry}
+use Rattle.trace_laws.specs.Requests.{writes}
+use Rattle.trace_laws.specs.Contents.{Flushes}
+use Rattle.trace_laws.specs.CachedLaws.{SyncWrites}
+use Rattle.trace_laws.specs.Entries.{State, AreApart, IsCache, if_changed, unchanged, write_backs, written_back}
+use Rattle.trace_laws.proofs.Lookups.{all_parts}
+use Rattle.trace_laws.proofs.Ones.{IsFound, each_found, back_one, backs_one, none_one}
 use Rattle.buffer_cache.specs.Asks.{IsData, Asks, LeftBy}
 use Rattle.buffer_cache.proofs.Joins.{asks_join}
 use Rattle.buffer_cache.specs.declared.entry.Key.{Key}

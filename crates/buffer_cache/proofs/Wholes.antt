@@ -4,19 +4,19 @@ use Rattle.std.specs.Prelude.{if◌then◌else◌, Result, Ok, Err, IsErrAnd}
 use Rattle.driver_answers.specs.declared.outcome.Stop.{Stop}
 use Rattle.buffer_cache.specs.Passes.{State as Driver}
 use Rattle.buffer_cache.specs.Passes.{Keeps}
-use Rattle.waited_requests.specs.Rest.{HasTables}
+use Rattle.trace_laws.specs.Rest.{HasTables}
 use Rattle.buffer_cache.specs.Passes.{Stage}
 use Rattle.buffer_cache.specs.Passes.{setup_at}
 use Rattle.buffer_cache.specs.Passes.{StillTell, SessionsJoin}
 use Rattle.buffer_cache.specs.Passes.{map_at}
-use Rattle.waited_requests.specs.declared.cached.Entry.{Entry}
-use Rattle.waited_requests.specs.Requests.{Map, reads, writes, behind}
-use Rattle.waited_requests.specs.Entries.{State, IsCache, entry_of, in_front, rewritten, fronted, changed_in_front, to_write_back, put, write_backs}
-use Rattle.waited_requests.specs.Calls.{Done, entry, read_by, read_done, write_by, write_done}
-use Rattle.waited_requests.specs.Contents.{AreOne}
-use Rattle.waited_requests.specs.CachedLaws.{ReadKeeps, WriteKeeps, ReadLeavesOne, WriteLeavesOne}
-use Rattle.waited_requests.proofs.Ones.{each_found, none_one, last_one, own_one}
-use Rattle.waited_requests.proofs.Requested.{read_same}
+use Rattle.trace_laws.specs.declared.cached.Entry.{Entry}
+use Rattle.trace_laws.specs.Requests.{Map, reads, writes, behind}
+use Rattle.trace_laws.specs.Entries.{State, IsCache, entry_of, in_front, rewritten, fronted, changed_in_front, to_write_back, put, write_backs}
+use Rattle.trace_laws.specs.Calls.{Done, entry, read_by, read_done, write_by, write_done}
+use Rattle.trace_laws.specs.Contents.{AreOne}
+use Rattle.trace_laws.specs.CachedLaws.{ReadKeeps, WriteKeeps, ReadLeavesOne, WriteLeavesOne}
+use Rattle.trace_laws.proofs.Ones.{each_found, none_one, last_one, own_one}
+use Rattle.trace_laws.proofs.Requested.{read_same}
 use Rattle.buffer_cache.specs.Asks.{Asks, LeftBy}
 use Rattle.buffer_cache.proofs.Joins.{asks_none, asks_join}
 use Rattle.buffer_cache.specs.declared.fault.CacheFault.{CacheFault}

@@ -2,18 +2,18 @@
 ghost use Rattle.std.specs.Prelude.{◌≡◌, ◌≤◌, ◌∷◌, [], true, IsTrue, IfOk, OnOk, OnErr, if◌then◌else◌};
 ghost use Rattle.partitions.specs.declared.Part.TheVariants.{C};
 ghost use Rattle.driver_answers.specs.Outcome.{stop_in};
-ghost use Rattle.waited_requests.specs.Rest.{HasTables};
-ghost use Rattle.request_fronts.specs.Passes.{setup_at};
-ghost use Rattle.request_fronts.specs.Sites.{site, Keeps, MayTransfer, IsUntouched};
-ghost use Rattle.request_fronts.specs.Blocks.{blocks_reached};
-ghost use Rattle.waited_requests.specs.Requests.{writes};
+ghost use Rattle.trace_laws.specs.Rest.{HasTables};
+ghost use Rattle.blocking_io.specs.FrontsPasses.{setup_at};
+ghost use Rattle.blocking_io.specs.Sites.{site, Keeps, MayTransfer, IsUntouched};
+ghost use Rattle.blocking_io.specs.Blocks.{blocks_reached};
+ghost use Rattle.trace_laws.specs.Requests.{writes};
 ghost use Rattle.buffer_cache.specs.Asks.{IsData, Asks, Fetches, LeftBy};
 
-use outside_traits::traits::{Packs, Sink};
-use partitions::Part;
-use request_fronts::{
+use blocking_io::{
     Reached, Request, Stop, Subsystem, ask_read, ask_write, fronts_law, sessions_law,
 };
+use outside_traits::traits::{Packs, Sink};
+use partitions::Part;
 
 /// A request for one data block of a unit.
 fn one_block(unit: u8, block: u32, write: bool) -> Request

@@ -23,9 +23,9 @@ mod placing;
 mod slots;
 mod syncing;
 
+pub use blocking_io::{Stop, Subsystem, sessions_law};
 pub use blocks::{fetch_block, store_block};
 #[doc(hidden)]
 pub use entry::{Held, Key};
 pub use fault::CacheFault;
-pub use request_fronts::{Stop, Subsystem, sessions_law};
 pub use slots::Cache;

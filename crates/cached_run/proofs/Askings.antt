@@ -9,9 +9,9 @@ use Rattle.subsystem_spec.specs.declared.answers.AnswerKind.TheVariants as answe
 use Rattle.subsystem_spec.specs.declared.answers.Cause.TheVariants as cause
 use Rattle.buffer_cache.specs.Passes.{Stage}
 use Rattle.buffer_cache.specs.Passes.{map_at}
-use Rattle.waited_requests.specs.Requests.{Map}
-use Rattle.waited_requests.specs.Entries.{State}
-use Rattle.waited_requests.specs.Contents.{cached}
+use Rattle.trace_laws.specs.Requests.{Map}
+use Rattle.trace_laws.specs.Entries.{State}
+use Rattle.trace_laws.specs.Contents.{cached}
 use Rattle.buffer_cache.specs.Calls.{IfTold}
 use Rattle.cached_script.specs.declared.statement.Asked.{Asked}
 use Rattle.cached_run.specs.Answers.{Replacement, replaced_with}

@@ -4,7 +4,7 @@ use Rattle.std.specs.Prelude.{slice_index_or, Result, Ok, Err, IfErr}
 use Rattle.std.specs.Result.{IsErrAnd}
 use Rattle.pack_geometry.specs.declared.DriveKind.{DriveKind}
 use Rattle.pack_geometry.specs.Geometry.{block_count}
-use Rattle.pack_model.specs.Pack.{Pack}
+use Rattle.pack_geometry.specs.Pack.{Pack}
 use Rattle.trace_replay.specs.Script.{Statement, Declares, Plays, Line, drives_in, IsPlayed}
 use Rattle.driver_machine.specs.World.{Setup}
 use Rattle.event_player.specs.Passes.{tables_in, AreSetFor}

@@ -1,7 +1,7 @@
 -- Replacements, one behind the other.
 use Rattle.std.proofs.Common.{◌≡◌, ℕ, zero, suc, ◌+◌, ◌≤◌, List, [], ◌∷◌, ◌++◌, length, take, refl, ap, arith}
 use Rattle.std.proofs.Math.Seq.{take-append-add}
-use Rattle.block_machine.specs.Machine.{Blocks}
+use Rattle.trace_laws.specs.Machine.{Blocks}
 use Rattle.cached_run.specs.Answers.{Replacement, with_replacement, after}
 
 pub after_more : (xs ys : List Replacement) (map : ℕ → Blocks) → after (xs ++ ys) map ≡ after ys (after xs map)

@@ -4,11 +4,11 @@ use Rattle.std.specs.Prelude.{is_some, unwrap_or, min}
 use Rattle.std.proofs.Math.Path.{fun_ext}
 use Rattle.pack_geometry.specs.declared.DriveKind.{DriveKind}
 use Rattle.pack_geometry.specs.declared.DriveKind.TheVariants.{Rp06}
-use Rattle.pack_model.specs.Pack.{Pack}
-use Rattle.pack_model.specs.TableSpelling.{Table}
-use Rattle.pack_model.specs.PackTable.{IsTableAt, AreTablesOf}
+use Rattle.pack_geometry.specs.Pack.{Pack}
+use Rattle.pack_geometry.specs.TableSpelling.{Table}
+use Rattle.pack_geometry.specs.PackTable.{IsTableAt, AreTablesOf}
 use Rattle.trace_replay.specs.Script.{Script, drives_of}
-use Rattle.waited_requests.specs.Rest.{HasTables}
+use Rattle.trace_laws.specs.Rest.{HasTables}
 use Rattle.driver_machine.specs.World.{World, UnitView, Setup as UnitSetup, new_unit, new_world, unit_at}
 use Rattle.driver_machine.specs.Guards.{IsSetUp}
 use Rattle.buffer_cache.specs.Passes.{State as Driver}
@@ -18,10 +18,10 @@ use Rattle.buffer_cache.proofs.Passes.{new_is_quiet}
 use Rattle.buffer_cache.specs.Passes.{setup_at}
 use Rattle.buffer_cache.specs.Passes.{map_at}
 use Rattle.std.specs.List.{AllByRecursion}
-use Rattle.waited_requests.specs.declared.cached.Entry.{Entry}
+use Rattle.trace_laws.specs.declared.cached.Entry.{Entry}
 use Rattle.buffer_cache.specs.Asks.{IsData}
-use Rattle.waited_requests.specs.Entries.{State}
-use Rattle.waited_requests.specs.Contents.{cached, AllFit}
+use Rattle.trace_laws.specs.Entries.{State}
+use Rattle.trace_laws.specs.Contents.{cached, AllFit}
 use Rattle.buffer_cache.specs.Calls.{MayUse}
 use Rattle.event_player.specs.Passes.{UnitSetup as Made}
 use Rattle.event_player.specs.Passes.{setups_of}

@@ -7,23 +7,23 @@ use Rattle.outside_traits.specs.Puts.{TakesFront}
 use Rattle.pack_geometry.specs.declared.DriveKind.{DriveKind}
 use Rattle.pack_geometry.specs.declared.DriveKind.TheVariants.{Rp06, Rm03, Rm05}
 use Rattle.pack_geometry.specs.Geometry.{block_count, copy_at}
-use Rattle.pack_model.specs.Pack.{Pack}
-use Rattle.pack_model.specs.TableSpelling.{Table}
-use Rattle.pack_model.specs.PackTable.{IsTableAt, AreTablesOf, places_of}
-use Rattle.pack_model.proofs.HomeLaws.{home_below}
-use Rattle.pack_model.proofs.PackTableLaws.{table_room, table_same}
+use Rattle.pack_geometry.specs.Pack.{Pack}
+use Rattle.pack_geometry.specs.TableSpelling.{Table}
+use Rattle.pack_geometry.specs.PackTable.{IsTableAt, AreTablesOf, places_of}
+use Rattle.pack_geometry.proofs.HomeLaws.{home_below}
+use Rattle.pack_geometry.proofs.PackTableLaws.{table_room, table_same}
 use Rattle.trace_replay.specs.Script.{Script, Numbered, Drain, drives_of, inputs_of}
-use Rattle.block_machine.specs.Machine.{Blocks}
-use Rattle.block_machine.specs.Laws.{RestStays}
-use Rattle.block_machine.specs.LegalAnswers.{AreLegal, all_claimed}
-use Rattle.block_machine.specs.Stands.{Setup, home_at, home_in}
-use Rattle.waited_requests.specs.Rest.{HasTables}
-use Rattle.waited_requests.specs.Waited.{map_of, with_packs}
+use Rattle.trace_laws.specs.Machine.{Blocks}
+use Rattle.trace_laws.specs.Laws.{RestStays}
+use Rattle.trace_laws.specs.LegalAnswers.{AreLegal, all_claimed}
+use Rattle.trace_laws.specs.Stands.{Setup, home_at, home_in}
+use Rattle.trace_laws.specs.Rest.{HasTables}
+use Rattle.trace_laws.specs.Waited.{map_of, with_packs}
 use Rattle.buffer_cache.specs.Passes.{setup_at}
 use Rattle.buffer_cache.specs.Passes.{OthersStay}
 use Rattle.buffer_cache.specs.Passes.{map_at, left_map}
 use Rattle.buffer_cache.proofs.Passes.{map_long}
-use Rattle.waited_requests.specs.Entries.{State}
+use Rattle.trace_laws.specs.Entries.{State}
 use Rattle.event_player.specs.Passes.{Took}
 use Rattle.cached_run.specs.Answers.{answers_of, map_of_inputs, text_of, replacements_of, after}
 use Rattle.cached_run.specs.Theorem.{contents, CachedPlays, IsAfter, EndsWithSync, HasNoSync, AreParted, CachedStops}

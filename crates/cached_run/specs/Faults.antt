@@ -1,7 +1,7 @@
 -- Where a script was not played, or not to its end.
 use Rattle.std.specs.Prelude.{◌⊎◌, ℕ, ◌≤◌, Bool, Result, Ok, Err, IsErrOf}
 use Rattle.outside_traits.specs.Causes.{Rose}
-use Rattle.pack_model.specs.Pack.{Pack}
+use Rattle.pack_geometry.specs.Pack.{Pack}
 use Rattle.trace_replay.specs.Script.{Script}
 use Rattle.driver_answers.specs.declared.outcome.Stop.{Stop}
 use Rattle.driver_answers.specs.declared.outcome.Stop.TheVariants as stop

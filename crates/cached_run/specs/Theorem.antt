@@ -4,14 +4,14 @@ use Rattle.outside_traits.specs.Causes.{Rose}
 use Rattle.outside_traits.specs.Puts.{TakesFront}
 use Rattle.pack_geometry.specs.declared.DriveKind.{DriveKind}
 use Rattle.pack_geometry.specs.Geometry.{limit_of}
-use Rattle.pack_model.specs.Pack.{Pack}
-use Rattle.pack_model.specs.TableSpelling.{Table}
-use Rattle.pack_model.specs.PackTable.{AreTablesOf}
-use Rattle.pack_model.specs.Homes.{contents_of}
+use Rattle.pack_geometry.specs.Pack.{Pack}
+use Rattle.pack_geometry.specs.TableSpelling.{Table}
+use Rattle.pack_geometry.specs.PackTable.{AreTablesOf}
+use Rattle.pack_geometry.specs.Homes.{contents_of}
 use Rattle.trace_replay.specs.Script.{Drain, Numbered, Script, drives_of, inputs_of}
-use Rattle.block_machine.specs.Machine.{Blocks}
-use Rattle.block_machine.specs.LegalAnswers.{AreLegal, all_claimed}
-use Rattle.block_machine.specs.Laws.{HoldMap, RestStays}
+use Rattle.trace_laws.specs.Machine.{Blocks}
+use Rattle.trace_laws.specs.LegalAnswers.{AreLegal, all_claimed}
+use Rattle.trace_laws.specs.Laws.{HoldMap, RestStays}
 use Rattle.event_player.specs.Passes.{Took}
 use Rattle.event_player.specs.Stops.{IsUnplayed}
 use Rattle.cached_run.specs.declared.fault.CachedPlayFault.{CachedPlayFault}

@@ -1,8 +1,8 @@
 // The units of a script are attached.
 ghost use Rattle.std.specs.Prelude.{◌≡◌, ◌≤◌, ◌<◌, ℕ, IsTrue, IfOk, IfErr, IfSome, OnOk, IsErrOf};
 ghost use Rattle.outside_traits.specs.Causes.{Rose};
-ghost use Rattle.pack_model.specs.PackTable.{AreTablesOf};
-ghost use Rattle.pack_model.specs.TableSpelling.{IsTable};
+ghost use Rattle.pack_geometry.specs.PackTable.{AreTablesOf};
+ghost use Rattle.pack_geometry.specs.TableSpelling.{IsTable};
 ghost use Rattle.trace_replay.specs.Script.{drives_of};
 ghost use Rattle.event_player.specs.Passes.{setup_of, setups_of};
 ghost use Rattle.event_player.specs.Passes.{tables_in, AreSetFor};

@@ -1,7 +1,7 @@
 // A script is played to its end.
 ghost use Rattle.std.specs.Prelude.{◌≡◌, ◌≤◌, ℕ, [], IsTrue, IfErr, OnOk, OnErr};
 ghost use Rattle.trace_replay.specs.Script.{inputs_of};
-ghost use Rattle.waited_requests.specs.Rest.{HasTables};
+ghost use Rattle.trace_laws.specs.Rest.{HasTables};
 ghost use Rattle.buffer_cache.specs.Passes.{setup_at};
 ghost use Rattle.buffer_cache.specs.Passes.{site};
 ghost use Rattle.buffer_cache.specs.Calls.{MayUse};

@@ -6,7 +6,7 @@ ghost use Rattle.driver_machine.specs.Guards.{IsSetUp};
 ghost use Rattle.driver_answers.specs.Outcome.{stop_in};
 ghost use Rattle.buffer_cache.specs.Passes.{kind_at, map_at};
 ghost use Rattle.buffer_cache.specs.Passes.{site, Keeps};
-ghost use Rattle.waited_requests.specs.Contents.{cached};
+ghost use Rattle.trace_laws.specs.Contents.{cached};
 ghost use Rattle.buffer_cache.specs.Calls.{MayUse, IfTold};
 ghost use Rattle.cached_run.specs.Answers.{replaced_with};
 ghost use Rattle.cached_run.specs.Leaving.{Leaves, KeepsSetup, Does};

@@ -3,7 +3,7 @@ ghost use Rattle.std.specs.Prelude.{◌≡◌, ◌≤◌, IfOk, OnOk, OnErr, len
 ghost use Rattle.driver_answers.specs.Outcome.{stop_in};
 ghost use Rattle.buffer_cache.specs.Passes.{map_at};
 ghost use Rattle.buffer_cache.specs.Passes.{site, Keeps};
-ghost use Rattle.waited_requests.specs.Contents.{cached};
+ghost use Rattle.trace_laws.specs.Contents.{cached};
 ghost use Rattle.buffer_cache.specs.Calls.{MayUse, IfTold};
 ghost use Rattle.cached_run.specs.Leaving.{Leaves, KeepsSetup, AreData, AreRead, Does, usable_in, spread};
 

@@ -1,7 +1,7 @@
 -- What a command meets outside: of the source, the packs and the two sinks, whether each tells, what it holds, and its count of faults.
 use Rattle.std.specs.Prelude.{◌≡◌, ◌⊎◌, ℕ, Bool, List}
 use Rattle.outside_traits.specs.Causes.{Rose}
-use Rattle.pack_model.specs.Pack.{Pack}
+use Rattle.pack_geometry.specs.Pack.{Pack}
 
 pub record Outside : Type 0 where
   pub source_tells : Bool

@@ -8,7 +8,7 @@ use Rattle.script_reader.specs.Grammar.{Spells}
 use Rattle.script_lines.specs.Known.{Numbered}
 use Rattle.script_lines.specs.Words.{all_verbs}
 use Rattle.script_reader.proofs.ReadingLaws.{one_script}
-use Rattle.script_meaning.specs.Meaning.{meaning}
+use Rattle.script_reader.specs.Meaning.{meaning}
 use Rattle.trace_rows.specs.Rows1.{first_read_script}
 use Rattle.contract_rows.specs.OneRead.{one_read_text, MeansOneRead}
 

@@ -9,8 +9,8 @@ use Rattle.main_memory.specs.Windows.{Writes, memory_of, window_len, window_byte
 use Rattle.main_memory.proofs.BlockLaws.{length-with_bytes_in, bytes_in-with_bytes_in, get_or-bytes_in, length-bytes_in}
 use Rattle.main_memory.proofs.ByteLaws.{length-filled}
 use Rattle.main_memory.proofs.FillLaws.{fill_at}
-use Rattle.pack_model.specs.Pack.{Pack, block_at, with_written, written}
-use Rattle.pack_model.proofs.PackLaws.{block_at-with_block_same}
+use Rattle.pack_geometry.specs.Pack.{Pack, block_at, with_written, written}
+use Rattle.pack_geometry.proofs.PackLaws.{block_at-with_block_same}
 use Rattle.hardware_table.specs.Drive.{DriveState}
 use Rattle.drive_model.specs.Move.{Site}
 use Rattle.contract_rows.specs.Memory.{byte_of}

@@ -2,10 +2,10 @@
 use Rattle.std.specs.Prelude.{ℕ, ◌≡◌, ◌≢◌, ◌⊎◌, ◌<◌, ◌≤◌, ◌+◌, true, false, List, Option, Some, None}
 use Rattle.pack_geometry.specs.declared.DriveKind.{DriveKind}
 use Rattle.pack_geometry.specs.Geometry.{place_at}
-use Rattle.pack_model.specs.Pack.{Pack, block_at, is_marked}
-use Rattle.pack_model.specs.TableSpelling.{Table}
-use Rattle.pack_model.specs.PackTable.{IsTableOf}
-use Rattle.pack_model.specs.Homes.{home_of, content_of, index_in}
+use Rattle.pack_geometry.specs.Pack.{Pack, block_at, is_marked}
+use Rattle.pack_geometry.specs.TableSpelling.{Table}
+use Rattle.pack_geometry.specs.PackTable.{IsTableOf}
+use Rattle.pack_geometry.specs.Homes.{home_of, content_of, index_in}
 use Rattle.hardware_table.specs.declared.Moved.{Moved}
 use Rattle.hardware_table.specs.declared.Moved.TheVariants.{Burst}
 use Rattle.hardware_table.specs.Adapter.{AdapterState}
@@ -14,10 +14,10 @@ use Rattle.main_memory.specs.Bytes.{filled}
 use Rattle.ecc_repair.specs.Repaired.{repaired}
 use Rattle.transfer_engine.specs.State.{TransferState}
 use Rattle.subsystem_spec.specs.declared.answers.AnswerKind.TheVariants.{ReadOk}
-use Rattle.block_machine.specs.Machine.{Blocks}
-use Rattle.block_machine.specs.Stands.{is_sure_among}
+use Rattle.trace_laws.specs.Machine.{Blocks}
+use Rattle.trace_laws.specs.Stands.{is_sure_among}
 use Rattle.driver_machine.specs.World.{UnitView, Held, block_in}
-use Rattle.quiet_driver.specs.Bytes.{asked_of, IsSureFor, HandBears, UnitBears, IsStep}
+use Rattle.driver_trace.specs.Bytes.{asked_of, IsSureFor, HandBears, UnitBears, IsStep}
 
 -- a block that a write has done is not at its home
 abbrev pub WriteNotAtItsHome : Type 0

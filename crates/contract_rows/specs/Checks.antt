@@ -9,7 +9,7 @@ use Rattle.hardware_table.specs.Functions.{is_addressed}
 use Rattle.hardware_table.specs.Moves.{after_move}
 use Rattle.hardware_table.specs.Adapter.{AdapterState, next_block}
 use Rattle.disksort.specs.declared.Waiter.{Waiter}
-use Rattle.pack_model.specs.Homes.{index_in}
+use Rattle.pack_geometry.specs.Homes.{index_in}
 use Rattle.transfer_engine.specs.State.{TransferState, segment_of}
 use Rattle.subsystem_spec.specs.declared.answers.Answer.{Answer}
 use Rattle.driver_machine.specs.declared.Made.{Made}

@@ -10,7 +10,7 @@ use Rattle.hardware_table.specs.Moves.{IsVerdict, first_armed}
 use Rattle.hardware_table.specs.Noise.{strikes}
 use Rattle.hardware_table.specs.Adapter.{AdapterState, loaded, stepped}
 use Rattle.main_memory.specs.Bytes.{filled}
-use Rattle.pack_model.specs.Pack.{block_at, is_marked}
+use Rattle.pack_geometry.specs.Pack.{block_at, is_marked}
 use Rattle.drive_model.specs.Move.{Site, MovesSector}
 use Rattle.block_tests.specs.declared.station.Polled.{Polled}
 use Rattle.block_tests.specs.Polls.{Sides, Polls}

@@ -5,7 +5,7 @@ use Rattle.hardware_table.specs.declared.Moved.{Moved}
 use Rattle.hardware_table.specs.declared.Moved.TheVariants.{Hard}
 use Rattle.hardware_table.specs.Adapter.{AdapterState}
 use Rattle.partitions.specs.declared.Admission.TheVariants.{Outside}
-use Rattle.pack_model.specs.TableSpelling.{Table}
+use Rattle.pack_geometry.specs.TableSpelling.{Table}
 use Rattle.transfer_engine.specs.State.{TransferState, segment_of}
 use Rattle.transfer_engine.specs.Calls.{entry_for}
 use Rattle.subsystem_spec.specs.declared.answers.AnswerKind.{AnswerKind}

@@ -3,7 +3,7 @@ use Rattle.std.specs.Prelude.{◌≡◌, ℕ, List, [], ◌∷◌, ◌++◌, cod
 use Rattle.script_lines.specs.Known.{Numbered}
 use Rattle.script_lines.specs.Words.{all_verbs}
 use Rattle.script_reader.specs.Grammar.{Spells}
-use Rattle.script_meaning.specs.Meaning.{meaning}
+use Rattle.script_reader.specs.Meaning.{meaning}
 use Rattle.trace_rows.specs.Rows1.{first_read_script}
 
 -- a script of one read of one block

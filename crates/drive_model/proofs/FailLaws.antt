@@ -1,6 +1,6 @@
 -- What an exit by an error leaves, from what the call of the packs said.
 use Rattle.std.proofs.Common.{◌≡◌, ◌≤◌, ◌⊎◌, inl, inr, ℕ, Bool, true, false, IsTrue, List, Option, None, Some, Result, Ok, Err, OnErr, IsSome, sym, ap, ◌∙◌, arith}
-use Rattle.pack_model.specs.Pack.{Pack, is_marked, with_written}
+use Rattle.pack_geometry.specs.Pack.{Pack, is_marked, with_written}
 use Rattle.main_memory.specs.Bytes.{filled}
 use Rattle.outside_traits.specs.Causes.{HasCause, Rose}
 use Rattle.hardware_table.specs.Drive.{DriveState, is_writing}

@@ -1,6 +1,6 @@
 -- What a move leaves, from what the drive, the book and the packs said.
 use Rattle.std.proofs.Common.{◌≡◌, ℕ, Bool, true, false, not, ◌&&◌, IsTrue, if◌then◌else◌, List, Option, None, Some, option_map, refl, ap, ◌∙◌, subst}
-use Rattle.pack_model.specs.Pack.{Pack, block_at, is_marked, with_written}
+use Rattle.pack_geometry.specs.Pack.{Pack, block_at, is_marked, with_written}
 use Rattle.main_memory.specs.Bytes.{front, filled}
 use Rattle.hardware_table.specs.declared.FaultKind.{FaultKind}
 use Rattle.hardware_table.specs.declared.Moved.{Moved}

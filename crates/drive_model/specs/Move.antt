@@ -1,7 +1,7 @@
 -- What the move of one sector between a pack and a window leaves.
 use Rattle.std.specs.Prelude.{◌≡◌, ℕ, ◌⊎◌, Bool, true, false, IsTrue, if◌then◌else◌, List, Option, Result, OnErr}
 use Rattle.main_memory.specs.Bytes.{front, filled}
-use Rattle.pack_model.specs.Pack.{Pack, block_at, is_marked, with_written}
+use Rattle.pack_geometry.specs.Pack.{Pack, block_at, is_marked, with_written}
 use Rattle.outside_traits.specs.Causes.{HasCause}
 use Rattle.hardware_table.specs.declared.Moved.{Moved}
 use Rattle.hardware_table.specs.Drive.{DriveState, is_writing}

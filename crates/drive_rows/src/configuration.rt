@@ -18,7 +18,7 @@ struct Copies {
 
 impl Packs for Copies {
     ghost use Rattle.std.specs.Prelude.{false};
-    ghost use Rattle.pack_model.specs.Pack.{empty_pack};
+    ghost use Rattle.pack_geometry.specs.Pack.{empty_pack};
 
     ghost tells = { λ _. false };
 

@@ -1,7 +1,7 @@
 -- What a call of the driver comes to: its acts, all of them, or the first ones up to a failure of the trace or of the packs.
 use Rattle.std.specs.Prelude.{◌≡◌, ◌⊎◌, ℕ, Bool, false, true, IsTrue, List, [], ◌++◌, Result, Ok, Err, Option, None, Some}
 use Rattle.main_memory.specs.Bytes.{filled}
-use Rattle.pack_model.specs.Pack.{Pack, is_marked, with_written}
+use Rattle.pack_geometry.specs.Pack.{Pack, is_marked, with_written}
 use Rattle.hardware_table.specs.Drive.{is_writing}
 use Rattle.hardware_table.specs.Adapter.{next_block, next_window}
 use Rattle.trace_replay.specs.Text.{trace_text}

@@ -2,7 +2,7 @@
 use Rattle.std.specs.Prelude.{◌≡◌, ℕ, IsTrue, if◌then◌else◌, List, [], ◌∷◌}
 use Rattle.main_memory.specs.Bytes.{filled}
 use Rattle.main_memory.specs.Blocks.{size_at}
-use Rattle.pack_model.specs.Pack.{Pack, block_at, is_marked, with_written}
+use Rattle.pack_geometry.specs.Pack.{Pack, block_at, is_marked, with_written}
 use Rattle.hardware_table.specs.Adapter.{next_window}
 use Rattle.hardware_table.specs.Moves.{was_read, was_written}
 use Rattle.drive_model.specs.Move.{IsFrontRead, struck_at}

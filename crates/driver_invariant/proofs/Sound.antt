@@ -1,11 +1,11 @@
 -- Each act keeps what holds of the driver, from its parts.
-use Rattle.driver_phases.specs.Passes.{World}
-use Rattle.driver_phases.specs.Passes.{Act, after}
-use Rattle.driver_phases.specs.Passes.{Allowed}
-use Rattle.driver_phases.specs.Passes.{Sound}
-use Rattle.driver_phases.proofs.EachAct.{Keeps, act_keeps}
-use Rattle.driver_slots.proofs.EachAct.{queues_after, slots_after, frames_after, answers_after}
-use Rattle.driver_slots.proofs.Whole.{sound_from}
+use Rattle.driver_invariant.specs.Passes.{World}
+use Rattle.driver_invariant.specs.Passes.{Act, after}
+use Rattle.driver_invariant.specs.Passes.{Allowed}
+use Rattle.driver_invariant.specs.Passes.{Sound}
+use Rattle.driver_invariant.proofs.EachAct.{Keeps, act_keeps}
+use Rattle.driver_invariant.proofs.SlotsEachAct.{queues_after, slots_after, frames_after, answers_after}
+use Rattle.driver_invariant.proofs.SlotsWhole.{sound_from}
 
 pub sound_after : (w : World) (act : Act) → Sound w → Allowed w act → Sound (after w act)
 sound_after w act s may =

@@ -1,34 +1,27 @@
--- What holds of the driver between any two acts is kept by each, and between any two calls nothing is left undone.
-use Rattle.std.specs.Prelude.{◌≡◌, ℕ, ◌<◌, List, [], ◌∷◌, length}
-use Rattle.subsystem_spec.specs.Requests.{Request}
-use Rattle.trace_replay.specs.Script.{Input}
-use Rattle.driver_phases.specs.Passes.{World, Held}
-use Rattle.driver_phases.specs.Passes.{Act, Taken, Tried, after, after_all}
-use Rattle.driver_phases.specs.Passes.{choose_acts, adapter_start, submit_acts, event_acts}
-use Rattle.driver_phases.specs.Passes.{Allowed}
-use Rattle.driver_phases.specs.Passes.{Sound, AtWork}
-use Rattle.driver_phases.specs.Passes.{Run, Works, MaySubmit, MayCome}
+-- What each act keeps of units and adapters: the world behind it is one in which these hold.
+use Rattle.std.specs.Prelude.{◌≡◌, ℕ, ◌<◌, Some}
+use Rattle.pack_geometry.specs.TableSpelling.{Table}
+use Rattle.driver_machine.specs.World.{World, adapter_of, unit_at, adapter_at, held_in, slot_in_hand}
+use Rattle.driver_machine.specs.Acts.{Act, after}
+use Rattle.driver_machine.specs.Guards.{Allowed}
+use Rattle.driver_machine.specs.Sound.{IsDrive, IsPhase, IsTableFor, AdapterOk, Sound}
 
--- each act that is allowed leaves the driver sound, and so do acts that run
-abbrev pub EachActKeeps : Type 0
-EachActKeeps = (w : World) (act : Act) → Sound w → Allowed w act → Sound (after w act)
+-- the drive of each unit is one whose heads and registers name places of it
+abbrev pub AreDrives : World → Type 0
+AreDrives w = (u : ℕ) → u < 32 → IsDrive (unit_at w u).drive
 
-abbrev pub RunsKeep : Type 0
-RunsKeep = (w : World) (acts : List Act) → Sound w → Run w acts → Sound (after_all w acts)
+-- the table of each unit, where its pack has one, is a table for the unit's kind
+abbrev pub AreTables : World → Type 0
+AreTables w = (u : ℕ) → u < 32 → (table : Table) → (unit_at w u).table ≡ Some table → IsTableFor (unit_at w u).drive.kind table
 
--- what a submission does, what any other input does, and the taking of an answer, run from a sound driver at work, and leave one
-abbrev pub SubmissionsWork : Type 0
-SubmissionsWork = (w : World) (line p : ℕ) (r : Request) (h : Held) → Sound w → AtWork w → MaySubmit w r p h → Works w (submit_acts r line p h w)
+-- each unit is where its phase says, with its adapter and with the request that it has in hand
+abbrev pub ArePhases : World → Type 0
+ArePhases w = (u : ℕ) → u < 32 → IsPhase u (unit_at w u) (adapter_at w (adapter_of u)) (held_in w (slot_in_hand (unit_at w u))) (unit_at w u).phase
 
-abbrev pub EventsWork : Type 0
-EventsWork = (w : World) (line : ℕ) (input : Input) (tried : Tried) → Sound w → AtWork w → MayCome w input tried → Works w (event_acts line input tried w)
+-- each adapter is as it has to be
+abbrev pub AreAdapters : World → Type 0
+AreAdapters w = (a : ℕ) → a < 4 → AdapterOk w a (adapter_at w a)
 
-abbrev pub TakingWorks : Type 0
-TakingWorks = (w : World) → Sound w → AtWork w → 0 < length w.answers → Works w (Taken ∷ [])
-
--- the start of an adapter goes on until the adapter is busy or no unit waits for it
-abbrev pub StartsRun : Type 0
-StartsRun = (w : World) (line a : ℕ) → Sound w → Run w (adapter_start line a w)
-
-abbrev pub StartsEnd : Type 0
-StartsEnd = (w : World) (line a : ℕ) → Sound w → choose_acts line a (after_all w (adapter_start line a w)) ≡ []
+-- behind each act that may come in a sound world it holds
+abbrev pub IsKept : (World → Type 0) → Type 0
+IsKept Holds = (w : World) (act : Act) → Sound w → Allowed w act → Holds (after w act)

@@ -1,2 +1,5 @@
 pub mod Kept
 pub mod Passes
+pub mod Parts
+pub mod InvariantKept
+pub mod InvariantPasses

@@ -1,10 +1,10 @@
-//! The driver's invariant whole: it holds at the start (`driver_slots::start_law`), each act keeps it, and each call of the
+//! The driver's invariant whole: it holds at the start (`crate::slots::start_law`), each act keeps it, and each call of the
 //! driver runs and leaves no work undone. The functions here do nothing: each stands for a law.
 //!
 //! What is proved: `invariant_law`: each act keeps the invariant whole. `calls_law`: each submission, event and taking of an
 //! answer runs from a sound driver at work, and leaves one.
 
-ghost use Rattle.driver_invariant.specs.Kept.{EachActKeeps, RunsKeep, SubmissionsWork, EventsWork, TakingWorks, StartsRun, StartsEnd};
+ghost use Rattle.driver_invariant.specs.InvariantKept.{EachActKeeps, RunsKeep, SubmissionsWork, EventsWork, TakingWorks, StartsRun, StartsEnd};
 
 /// Each act that may come leaves the driver sound, and so does each run of acts.
 pub fn invariant_law()

@@ -3,8 +3,8 @@ use Rattle.std.specs.Prelude.{◌≡◌, ◌≢◌, ◌⊎◌, ℕ, ◌+◌, ◌
 use Rattle.std.specs.Int.{bit_at}
 use Rattle.pack_geometry.specs.declared.DriveKind.{DriveKind}
 use Rattle.pack_geometry.specs.Geometry.{cylinders_of, sectors_of, limit_of, place_at}
-use Rattle.pack_model.specs.TableSpelling.{Table, IsTable}
-use Rattle.pack_model.specs.PackTable.{places_of}
+use Rattle.pack_geometry.specs.TableSpelling.{Table, IsTable}
+use Rattle.pack_geometry.specs.PackTable.{places_of}
 use Rattle.drive_registers.specs.Bits as bits
 use Rattle.drive_registers.specs.Codes.{offset_code}
 use Rattle.drive_registers.specs.declared.OffsetCode.{OffsetCode}

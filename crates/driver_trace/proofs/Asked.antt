@@ -4,7 +4,7 @@ use Rattle.trace_replay.specs.Moments as moment
 use Rattle.trace_replay.specs.Moments.{Moment, Played, Told, Idle}
 use Rattle.trace_replay.specs.Causes.{AskSome}
 use Rattle.trace_replay.specs.Script as script
-use Rattle.trace_work.specs.Drains.{AreOf}
+use Rattle.trace_laws.specs.Drains.{AreOf}
 use Rattle.driver_machine.specs.World.{World, held_in, slot_in_hand, unit_at}
 use Rattle.driver_machine.specs.Acts.{Act, Refuse, Submit, Of, Change, Nothing, Taken, after}
 use Rattle.driver_machine.specs.Lines.{deed_told, lines_with, lines_of, lines_of_all}

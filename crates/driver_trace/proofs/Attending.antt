@@ -16,13 +16,13 @@ use Rattle.driver_machine.proofs.Measure.{is_resting}
 use Rattle.driver_machine.specs.Events.{and_then, when_by, each, begun, data_interrupt, attention, steps_taken, drives, attended, adapter_start}
 use Rattle.driver_machine.specs.Guards.{IsSetUp}
 use Rattle.driver_machine.specs.Sound.{Sound, Among, Once, IsPhase, IsTask, is_waiting}
-use Rattle.driver_replay.proofs.Passes.{false_true}
+use Rattle.driver_trace.proofs.Passes.{false_true}
 use Rattle.driver_machine.specs.Runs.{Run}
 use Rattle.driver_answers.proofs.Passes.{run_split}
 use Rattle.driver_answers.proofs.Passes.{deed_at, own_adapter}
 use Rattle.driver_answers.proofs.Passes.{begun_one}
 use Rattle.driver_answers.proofs.Passes.{IsServing, serving}
-use Rattle.driver_replay.specs.Shows.{is_coming}
+use Rattle.driver_trace.specs.Shows.{is_coming}
 use Rattle.driver_trace.specs.Within.{Rests}
 use Rattle.driver_trace.proofs.Telling.{Tells}
 use Rattle.driver_trace.proofs.Joined.{nothing_told, then_tells, tells_too}

@@ -1,8 +1,8 @@
 -- Each call, from what may be asked alone.
 use Rattle.std.proofs.Common.{◌≡◌, inr, ℕ, ◌<◌, true, false, List, [], ◌∷◌, ◌++◌, Option, Some, None, refl}
 use Rattle.pack_geometry.specs.declared.DriveKind.{DriveKind}
-use Rattle.pack_model.specs.Pack.{Pack}
-use Rattle.pack_model.specs.TableSpelling.{Table}
+use Rattle.pack_geometry.specs.Pack.{Pack}
+use Rattle.pack_geometry.specs.TableSpelling.{Table}
 use Rattle.subsystem_spec.specs.Requests.{Request}
 use Rattle.trace_replay.specs.Moments.{Moment, Played}
 use Rattle.trace_replay.specs.Packs.{Surface}
@@ -10,7 +10,7 @@ use Rattle.trace_replay.specs.Script as script
 use Rattle.trace_replay.specs.Script.{Input}
 use Rattle.trace_replay.specs.Replay.{Replay, new_replay, are_at_work, after_moment, after_moments}
 use Rattle.trace_replay.proofs.Kept.{moments_all, starts}
-use Rattle.trace_work.proofs.Conserved.{is_conserved}
+use Rattle.trace_laws.proofs.Conserved.{is_conserved}
 use Rattle.subsystem_spec.specs.declared.answers.AnswerKind.{AnswerKind}
 use Rattle.driver_machine.specs.World.{World, Held}
 use Rattle.driver_machine.specs.Acts.{Tried, Taken, after_all}
@@ -27,7 +27,7 @@ use Rattle.driver_trace.specs.Runs.{IsSoFar, IsDraining, IsOfUnits, with_call, E
 use Rattle.driver_trace.proofs.Inputs.{arrive_played, attend_played}
 use Rattle.driver_trace.proofs.Submits.{MayJoin, change_played, refused_played, joined_played}
 use Rattle.driver_trace.proofs.DrainsLaws.{GoesOn, move_played, drain_begins, drain_goes_on, drain_between}
-use Rattle.driver_trace.proofs.Runs.{call_goes, drain_starts, drain_continues}
+use Rattle.driver_trace.proofs.TraceRuns.{call_goes, drain_starts, drain_continues}
 use Rattle.driver_trace.proofs.Start.{taken_goes}
 use Rattle.driver_trace.proofs.ReadSectors.{tried_on}
 

@@ -2,7 +2,7 @@
 use Rattle.std.proofs.Common.{◌≡◌, ◌≢◌, inl, inr, ℕ, zero, suc, ◌==◌, ◌<◌, Bool, true, false, not, ◌&&◌, List, [], ◌∷◌, Option, Some, None, refl, sym, ap, subst, arith, ◌∙◌}
 use Rattle.std.specs.Prelude.{if◌then◌else◌, nat_lt, slice_index_or}
 use Rattle.std.proofs.lemmas.Bool.Decides.{eqb_tells, leb_tells}
-use Rattle.pack_model.specs.Pack.{Pack}
+use Rattle.pack_geometry.specs.Pack.{Pack}
 use Rattle.hardware_table.specs.Adapter.{next_block}
 use Rattle.trace_replay.specs.Moments.{Played}
 use Rattle.trace_replay.specs.Script as script
@@ -14,10 +14,10 @@ use Rattle.driver_machine.specs.Acts as deed
 use Rattle.driver_machine.specs.Acts.{Tried, Nothing, scene_of}
 use Rattle.driver_machine.specs.Events.{in_hand, or_nothing, can_move, attended, move_acts, event_acts, next_event}
 use Rattle.driver_machine.specs.Sound.{Sound, AtWork}
-use Rattle.driver_replay.proofs.Passes.{false_true}
+use Rattle.driver_trace.proofs.Passes.{false_true}
 use Rattle.driver_machine.specs.Runs.{Run, CanCome}
 use Rattle.driver_answers.proofs.Passes.{next_none}
-use Rattle.driver_replay.specs.Shows.{counted_by, outstanding_in, IsOnSurface}
+use Rattle.driver_trace.specs.Shows.{counted_by, outstanding_in, IsOnSurface}
 use Rattle.driver_trace.specs.Within.{Rests}
 use Rattle.driver_trace.specs.Calls.{IsSurfaceOf, Stands, IsOverWithin, Ends, IsLeft, AreThere}
 use Rattle.driver_trace.proofs.Telling.{IsTold}

@@ -29,12 +29,12 @@ use Rattle.driver_machine.specs.Acts.{Deed, Scene}
 use Rattle.driver_machine.specs.Due.{next_of, next_by, deed_for, start_by, position_of, target_of, steps_of, step_of}
 use Rattle.driver_machine.specs.Lines.{deed_told, step_told}
 use Rattle.driver_machine.proofs.Measure.{is_resting}
-use Rattle.driver_replay.specs.Passes.{IsDue}
-use Rattle.driver_replay.proofs.Passes.{false_true, none_some}
-use Rattle.driver_replay.specs.Stages.{stage_by, task_stage, lines_left, segment_seen, steps_seen}
-use Rattle.driver_replay.specs.Shows.{Match, IsUnitSeen, is_coming}
-use Rattle.driver_replay.proofs.Core.{Core, IsHead, core_of, head_is}
-use Rattle.driver_replay.proofs.Search.{search_stage}
+use Rattle.driver_trace.specs.Passes.{IsDue}
+use Rattle.driver_trace.proofs.Passes.{false_true, none_some}
+use Rattle.driver_trace.specs.Stages.{stage_by, task_stage, lines_left, segment_seen, steps_seen}
+use Rattle.driver_trace.specs.Shows.{Match, IsUnitSeen, is_coming}
+use Rattle.driver_trace.proofs.Core.{Core, IsHead, core_of, head_is}
+use Rattle.driver_trace.proofs.Search.{search_stage}
 
 -- A DEED TELLS one line or none.
 pub told_cases : (h : Held) (d : Deed) → (deed_told h d ≡ []) ⊎ ((line : moment.Deed) × (deed_told h d ≡ line ∷ []))

@@ -4,7 +4,7 @@ use Rattle.std.specs.Prelude.{if◌then◌else◌, nat_lt}
 use Rattle.std.specs.Int.{bit_at}
 use Rattle.std.proofs.lemmas.Nat.Bits.{bit_at-zero, same_from_bits_below}
 use Rattle.std.proofs.lemmas.Bool.Decides.{eqb_tells}
-use Rattle.pack_model.specs.Pack.{Pack}
+use Rattle.pack_geometry.specs.Pack.{Pack}
 use Rattle.trace_replay.specs.Moments.{Moment}
 use Rattle.trace_replay.specs.Adapters as told
 use Rattle.trace_replay.specs.Events.{NoLine, wanted, is_no_line, Act, Done, Serving, NothingToDo, serving}
@@ -16,7 +16,7 @@ use Rattle.driver_machine.specs.Acts.{Nothing, after}
 use Rattle.driver_machine.specs.Lines.{lines_of_all}
 use Rattle.driver_machine.specs.Events.{attended, drives, can_attend}
 use Rattle.driver_machine.specs.Sound.{Sound, Among}
-use Rattle.driver_replay.proofs.Passes.{false_true}
+use Rattle.driver_trace.proofs.Passes.{false_true}
 use Rattle.driver_machine.specs.Runs.{Run}
 use Rattle.driver_answers.specs.Packs.{packs_after_all}
 use Rattle.driver_trace.specs.Within.{ShowsAll, Rests}
@@ -42,9 +42,9 @@ drained_there s = by_test (s.event.drains && (is_no_line (next_wish s) && nat_lt
 pub same_packs : (held new : ℕ → Pack) (s r : Replay) → r.surface ≡ s.surface → new ≡ held → IsSurfaceOf held s → IsSurfaceOf new r
 same_packs held new s r surface same packs = record {
   sectors = λ u block. ap (λ (x : Rattle.trace_replay.specs.Packs.Surface). x.sector u block) surface ∙ packs.sectors u block
-      ∙ ap (λ (h : ℕ → Pack). Rattle.pack_model.specs.Pack.block_at (h u).image block) (sym same);
+      ∙ ap (λ (h : ℕ → Pack). Rattle.pack_geometry.specs.Pack.block_at (h u).image block) (sym same);
   marks = λ u block. ap (λ (x : Rattle.trace_replay.specs.Packs.Surface). x.is_marked u block) surface ∙ packs.marks u block
-      ∙ ap (λ (h : ℕ → Pack). Rattle.pack_model.specs.Pack.is_marked (h u) block) (sym same);
+      ∙ ap (λ (h : ℕ → Pack). Rattle.pack_geometry.specs.Pack.is_marked (h u) block) (sym same);
 }
 
 pub is_told : (line : ℕ) (drains : Bool) (held : ℕ → Pack) (w : World) (s : Replay) (acts : List deed.Act) → IsSurfaceOf held s

@@ -1,18 +1,18 @@
 -- How many event lines are left falls with each event of a drain.
 use Rattle.std.proofs.Common.{◌≡◌, ℕ, ◌+◌, ◌*◌, ◌≤◌, ◌<◌, Bool, true, List, [], ◌∷◌, ◌++◌, Some, refl, sym, ap, subst, arith, append_assoc}
-use Rattle.pack_model.specs.Pack.{Pack}
+use Rattle.pack_geometry.specs.Pack.{Pack}
 use Rattle.trace_replay.specs.Moments.{Moment, Played, Told, Idle}
 use Rattle.trace_replay.specs.Script as script
 use Rattle.trace_replay.specs.Script.{Input}
 use Rattle.trace_replay.specs.Replay.{Replay, MayCome, Follows, WorkMay, new_replay, after_moment, after_moments}
 use Rattle.trace_replay.proofs.Following.{follow_on}
-use Rattle.trace_work.specs.Measure.{events_left, blocks_outstanding}
-use Rattle.trace_work.specs.Drains.{event_by, events_in, IsIdle}
-use Rattle.trace_work.proofs.Idle.{starts_idle}
-use Rattle.trace_work.proofs.Drain.{events_are_few, drains_are_bounded}
-use Rattle.trace_work.proofs.Tells.{events_tell, drains_tell}
-use Rattle.trace_work.specs.Consistent.{IsConsistent}
-use Rattle.trace_work.proofs.Consistency.{moments_consistent, starts_consistent}
+use Rattle.trace_laws.specs.Measure.{events_left, blocks_outstanding}
+use Rattle.trace_laws.specs.Drains.{event_by, events_in, IsIdle}
+use Rattle.trace_laws.proofs.Idle.{starts_idle}
+use Rattle.trace_laws.proofs.Drain.{events_are_few, drains_are_bounded}
+use Rattle.trace_laws.proofs.Tells.{events_tell, drains_tell}
+use Rattle.trace_laws.specs.Consistent.{IsConsistent}
+use Rattle.trace_laws.proofs.Consistency.{moments_consistent, starts_consistent}
 use Rattle.driver_machine.specs.World.{World}
 use Rattle.driver_machine.specs.Acts.{Act, Tried}
 use Rattle.driver_machine.specs.Lines.{lines_of_all}
@@ -21,14 +21,14 @@ use Rattle.driver_machine.specs.Runs.{Works}
 use Rattle.driver_machine.specs.Runs as work
 use Rattle.driver_answers.proofs.Passes.{event_works}
 use Rattle.driver_answers.proofs.Passes.{next_can}
-use Rattle.driver_trace.proofs.Runs.{sound_after}
+use Rattle.driver_trace.proofs.TraceRuns.{sound_after}
 use Rattle.driver_trace.specs.Runs.{IsDraining, with_call}
 use Rattle.driver_trace.proofs.Telling.{IsTold}
 use Rattle.driver_trace.proofs.Named.{IsTriedOn}
 use Rattle.driver_trace.proofs.Inputted.{lines_play_nothing}
 use Rattle.driver_trace.proofs.ReadSectors.{tried_on}
 use Rattle.driver_trace.proofs.DrainsLaws.{GoesOn, event_goes, drain_goes_on, drain_between, drain_begins}
-use Rattle.driver_trace.proofs.Runs.{moments_append, follows_append}
+use Rattle.driver_trace.proofs.TraceRuns.{moments_append, follows_append}
 use Rattle.driver_trace.proofs.Calls.{drains_start}
 use Rattle.driver_trace.specs.Drains.{CanStart, ScriptsCanStart, Falls, AreAsked, FirstEventsFall, DrainsFall, DrainsFallFrom, DrainsKeep}
 use Rattle.driver_trace.proofs.Asked.{drain_asked}

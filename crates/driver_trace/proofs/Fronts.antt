@@ -1,30 +1,45 @@
--- A front of moments that follow.
-use Rattle.std.proofs.Common.{◌≡◌, List, [], ◌∷◌, ◌++◌, sym, ap, subst, ◌∙◌, append_assoc}
-use Rattle.trace_replay.specs.Moments.{Moment, Played}
-use Rattle.trace_replay.specs.Replay.{Replay, Follows}
-use Rattle.trace_replay.proofs.Following.{follow_on}
-use Rattle.driver_machine.specs.World.{World}
-use Rattle.driver_machine.specs.Acts.{Act, after_all}
-use Rattle.driver_machine.specs.Lines.{lines_of_all}
-use Rattle.driver_trace.proofs.Joined.{lines_append}
-use Rattle.driver_trace.specs.Fronts.{CallFrontsFollow, EventFrontsFollow}
+-- The front of a buffer, as the bytes of a read so far.
+use Rattle.std.proofs.Common.{◌≡◌, ◌<◌, ℕ, suc, ◌+◌, Bool, true, false, List, [], ◌∷◌, ◌++◌, take, length, refl, sym, ap, arith, ◌∙◌, append_assoc}
+use Rattle.std.proofs.lemmas.List.{take-set, take_more_set, get_or-set_same}
+use Rattle.std.proofs.Math.Seq.{take-length}
+use Rattle.std.specs.Prelude.{if◌then◌else◌, bit_xor, slice_set}
+use Rattle.fire_code.specs.Repair.{burst_byte}
+use Rattle.ecc_repair.specs.Repaired as machine
+use Rattle.trace_replay.specs.Packs.{repaired_from}
+use Rattle.driver_machine.specs.World.{Held, bytes_in, with_block_in, block_in}
+use Rattle.driver_trace.specs.Stages.{front_of}
 
--- the lines of the first acts, behind some moments
-front_follows : (start : Replay) (moments : List Moment) (w : World) (acts done left : List Act)
-    → Follows start (moments ++ lines_of_all w acts) → acts ≡ done ++ left → Follows start (moments ++ lines_of_all w done)
-front_follows start moments w acts done left follows all =
-    let parts : moments ++ lines_of_all w acts ≡ (moments ++ lines_of_all w done) ++ lines_of_all (after_all w done) left =
-    ap (λ (xs : List Act). moments ++ lines_of_all w xs) all
-    ∙ ap (λ (ms : List Moment). moments ++ ms) (lines_append w done left)
-    ∙ sym (append_assoc moments (lines_of_all w done) (lines_of_all (after_all w done) left)) in
-    ((follow_on start (moments ++ lines_of_all w done) (lines_of_all (after_all w done) left)).0 (subst (Follows start) parts follows)).0
+bytes_append : (xs ys : List (List ℕ)) → bytes_in (xs ++ ys) ≡ bytes_in xs ++ bytes_in ys
+bytes_append [] ys = refl
+bytes_append (x ∷ xs) ys = ap (λ zs. x ++ zs) (bytes_append xs ys) ∙ sym (append_assoc x (bytes_in xs) (bytes_in ys))
 
-pub event_fronts : EventFrontsFollow
-event_fronts = front_follows
+append_nil : (xs : List ℕ) → xs ++ [] ≡ xs
+append_nil [] = refl
+append_nil (x ∷ xs) = ap (λ ys. x ∷ ys) (append_nil xs)
 
-pub call_fronts : CallFrontsFollow
-call_fronts start moments line input w acts done left follows all =
-    let behind : (acts : List Act) → moments ++ Played line input ∷ lines_of_all w acts ≡ (moments ++ Played line input ∷ []) ++ lines_of_all w acts =
-    λ acts. sym (append_assoc moments (Played line input ∷ []) (lines_of_all w acts)) in
-    subst (Follows start) (sym (behind done))
-    (front_follows start (moments ++ Played line input ∷ []) w acts done left (subst (Follows start) (behind acts) follows) all)
+front_more_by : (write : Bool) (k : ℕ) (bytes : List ℕ) (blocks : List (List ℕ)) → write ≡ false → k < length blocks
+    → (if write then [] else bytes_in (take (k + 1) (slice_set blocks k bytes))) ≡ (if write then [] else bytes_in (take k blocks)) ++ bytes
+front_more_by true k bytes blocks is inside = absurd (grind (arith, is))
+front_more_by false k bytes blocks is inside =
+    ap bytes_in (take_more_set blocks k bytes inside) ∙ bytes_append (take k blocks) (bytes ∷ []) ∙ ap (λ ys. bytes_in (take k blocks) ++ ys) (append_nil bytes)
+
+pub front_more : (h : Held) (k : ℕ) (bytes : List ℕ) → h.write ≡ false → k < length h.blocks
+    → front_of (with_block_in k bytes h) (k + 1) ≡ front_of h k ++ bytes
+front_more h k bytes reads inside = front_more_by h.write k bytes h.blocks reads inside
+
+pub front_same : (h : Held) (k : ℕ) (bytes : List ℕ) → front_of (with_block_in k bytes h) k ≡ front_of h k
+front_same h k bytes = ap (λ blocks. if h.write then [] else bytes_in blocks) (take-set h.blocks k bytes)
+
+pub block_set : (h : Held) (k : ℕ) (bytes : List ℕ) → k < length h.blocks → block_in (with_block_in k bytes h) k ≡ bytes
+block_set h k bytes inside = get_or-set_same h.blocks k bytes [] inside
+
+pub front_whole : (h : Held) (count : ℕ) → h.write ≡ false → length h.blocks ≡ count → front_of h count ≡ bytes_in h.blocks
+front_whole h count reads size = rw (reads, sym size) (ap bytes_in (take-length h.blocks))
+
+pub repaired_same : (i at pattern : ℕ) (bytes : List ℕ) → repaired_from i at pattern bytes ≡ machine.repaired_from i at pattern bytes
+unfolding machine.repaired_from
+repaired_same i at pattern [] = refl
+repaired_same i at pattern (b ∷ bytes) =
+    let one : i + 1 ≡ suc i = omega arith in
+    ap (λ ys. bit_xor b (burst_byte at pattern i) ∷ ys)
+    (ap (λ j. repaired_from j at pattern bytes) one ∙ repaired_same (suc i) at pattern bytes)

@@ -1,7 +1,7 @@
 -- Each line of the script that is played, and the lines of its event.
 use Rattle.std.proofs.Common.{◌≡◌, inl, ℕ, ◌<◌, Bool, true, false, ◌&&◌, List, [], ◌∷◌, length, refl, sym, ap, subst, ◌∙◌}
 use Rattle.std.specs.Prelude.{if◌then◌else◌, nat_lt}
-use Rattle.pack_model.specs.Pack.{Pack}
+use Rattle.pack_geometry.specs.Pack.{Pack}
 use Rattle.hardware_table.specs.Drive.{is_positioning}
 use Rattle.hardware_table.specs.declared.Work.{Work}
 use Rattle.hardware_table.specs.declared.Work.TheVariants as doing
@@ -23,8 +23,8 @@ use Rattle.driver_machine.proofs.Measure.{is_resting}
 use Rattle.driver_machine.specs.Events.{in_hand, can_arrive, can_attend, or_nothing, attended, arrive_acts, attend_acts}
 use Rattle.driver_machine.specs.Guards.{IsSetUp}
 use Rattle.driver_machine.specs.Sound.{IsPhase, IsTask, is_waiting}
-use Rattle.driver_replay.proofs.Passes.{false_true}
-use Rattle.driver_replay.proofs.Passes.{own_unit, resting}
+use Rattle.driver_trace.proofs.Passes.{false_true}
+use Rattle.driver_trace.proofs.Passes.{own_unit, resting}
 use Rattle.driver_machine.specs.Runs.{Run}
 use Rattle.driver_answers.proofs.Passes.{deed_at}
 use Rattle.driver_answers.proofs.Passes.{in_hand_one}

@@ -1,7 +1,7 @@
 -- One part of an event behind another; and the lines of an event follow, in a drain too.
 use Rattle.std.proofs.Common.{◌≡◌, ℕ, ◌&&◌, Bool, true, false, List, [], ◌∷◌, ◌++◌, refl, sym, ap, subst, ◌∙◌, append_assoc}
 use Rattle.std.specs.Prelude.{if◌then◌else◌, nat_lt}
-use Rattle.pack_model.specs.Pack as model
+use Rattle.pack_geometry.specs.Pack as model
 use Rattle.trace_replay.specs.Moments as moment
 use Rattle.trace_replay.specs.Moments.{Deed, Moment, Played, Told, Idle}
 use Rattle.trace_replay.specs.Events.{Wish, wish_of, is_no_line}

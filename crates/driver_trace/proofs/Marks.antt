@@ -1,7 +1,7 @@
 -- The packs as a run leaves them.
 use Rattle.std.proofs.Common.{◌≡◌, ℕ, Bool, true, false, List, [], ◌∷◌, refl, sym, ◌∙◌}
 use Rattle.std.specs.Prelude.{if◌then◌else◌}
-use Rattle.pack_model.specs.Pack.{Pack, with_written}
+use Rattle.pack_geometry.specs.Pack.{Pack, with_written}
 use Rattle.main_memory.specs.Bytes.{filled}
 use Rattle.hardware_table.specs.Moves.{was_written}
 use Rattle.driver_machine.specs.World.{World, unit_at}

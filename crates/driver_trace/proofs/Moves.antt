@@ -4,8 +4,8 @@ use Rattle.std.specs.Prelude.{if◌then◌else◌, replicate}
 use Rattle.std.proofs.lemmas.Bool.Decides.{eqb_tells}
 use Rattle.std.proofs.lemmas.List.{take-replicate}
 use Rattle.std.proofs.Math.Seq.{take-append-add}
-use Rattle.pack_model.specs.Pack.{Pack, block_at, is_marked, with_written, written, with_block}
-use Rattle.pack_model.proofs.PackLaws.{block_at-with_block_same, block_at-with_block_other}
+use Rattle.pack_geometry.specs.Pack.{Pack, block_at, is_marked, with_written, written, with_block}
+use Rattle.pack_geometry.proofs.PackLaws.{block_at-with_block_same, block_at-with_block_other}
 use Rattle.main_memory.specs.Bytes.{filled}
 use Rattle.main_memory.specs.Blocks.{Loan, IsLoan, size_at}
 use Rattle.main_memory.proofs.ByteLaws.{length-filled}
@@ -29,17 +29,17 @@ use Rattle.driver_machine.specs.Events.{can_move}
 use Rattle.driver_machine.specs.Events as part
 use Rattle.driver_machine.specs.Guards.{Allowed, IsSetUp}
 use Rattle.driver_machine.specs.Sound.{Sound}
-use Rattle.driver_replay.proofs.Passes.{false_true}
-use Rattle.driver_replay.proofs.Passes.{own_unit}
+use Rattle.driver_trace.proofs.Passes.{false_true}
+use Rattle.driver_trace.proofs.Passes.{own_unit}
 use Rattle.driver_machine.specs.Runs.{Run}
 use Rattle.driver_answers.proofs.Passes.{deed_at}
 use Rattle.driver_answers.proofs.Passes.{in_hand_one}
 use Rattle.driver_answers.proofs.Passes.{IsServing, serving}
 use Rattle.driver_answers.specs.Packs.{packs_after}
-use Rattle.driver_replay.specs.Shows.{Shows, is_coming, IsOnSurface}
-use Rattle.driver_replay.proofs.Writes.{writes_show}
-use Rattle.driver_replay.proofs.Facts.{At, at_facts}
-use Rattle.driver_replay.proofs.Sector.{IsSector, sector_facts}
+use Rattle.driver_trace.specs.Shows.{Shows, is_coming, IsOnSurface}
+use Rattle.driver_trace.proofs.Writes.{writes_show}
+use Rattle.driver_trace.proofs.Facts.{At, at_facts}
+use Rattle.driver_trace.proofs.Sector.{IsSector, sector_facts}
 use Rattle.driver_trace.specs.Within.{Rests}
 use Rattle.driver_trace.proofs.Telling.{told_within, IsTold}
 use Rattle.driver_trace.specs.Calls.{IsSurfaceOf, IsOverWithin}

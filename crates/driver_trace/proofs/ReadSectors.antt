@@ -5,7 +5,7 @@ use Rattle.std.proofs.lemmas.Nat.Bits.{same_from_bits_below}
 use Rattle.std.proofs.lemmas.Grind.{same_number_lists}
 use Rattle.fire_code.specs.Word.{bit_of_word}
 use Rattle.fire_code.proofs.Toggle.{bit_of_data}
-use Rattle.pack_model.specs.Pack.{Pack, block_at}
+use Rattle.pack_geometry.specs.Pack.{Pack, block_at}
 use Rattle.main_memory.specs.Bytes.{front}
 use Rattle.main_memory.specs.Blocks.{size_at}
 use Rattle.hardware_table.specs.Adapter.{next_block, next_window}
@@ -21,7 +21,7 @@ use Rattle.trace_replay.proofs.ReadBytes.{reads_as_told}
 use Rattle.driver_machine.specs.World.{World, unit_of, unit_at, adapter_at, adapter_of, held_in, slot_in_hand}
 use Rattle.driver_machine.specs.Acts.{Tried, Of, Sector, scene_of}
 use Rattle.driver_answers.specs.Packs.{Reads}
-use Rattle.driver_replay.specs.Shows.{IsOnSurface}
+use Rattle.driver_trace.specs.Shows.{IsOnSurface}
 use Rattle.driver_trace.specs.Within.{ShowsAll}
 use Rattle.driver_trace.specs.Calls.{IsSurfaceOf, IsReadOf}
 use Rattle.driver_trace.proofs.Named.{IsTriedOn}

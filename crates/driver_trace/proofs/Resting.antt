@@ -13,11 +13,11 @@ use Rattle.driver_machine.specs.Due.{next_by}
 use Rattle.driver_machine.specs.Events.{in_hand_by, due_by, next_acts, due_acts, begun}
 use Rattle.driver_machine.proofs.Measure.{is_resting}
 use Rattle.driver_machine.specs.Sound.{Sound, is_waiting}
-use Rattle.driver_replay.proofs.Passes.{due_over}
+use Rattle.driver_trace.proofs.Passes.{due_over}
 use Rattle.driver_machine.specs.Runs.{Run}
 use Rattle.driver_answers.proofs.Passes.{deed_at}
 use Rattle.driver_answers.proofs.Passes.{begun_one}
-use Rattle.driver_replay.specs.Shows.{Shows, with_coming, is_coming}
+use Rattle.driver_trace.specs.Shows.{Shows, with_coming, is_coming}
 use Rattle.driver_trace.specs.Within.{ShowsAll, Rests}
 use Rattle.driver_trace.proofs.Telling.{Speaks, Tells}
 use Rattle.driver_trace.proofs.Joined.{tells_append, tells_too}

@@ -1,7 +1,7 @@
 -- A unit speaks: what is due at it, deed by deed, until nothing is.
 use Rattle.std.proofs.Common.{◌≡◌, ◌≢◌, ◌⊎◌, inl, inr, ℕ, zero, suc, ◌<◌, Bool, true, false, List, [], ◌∷◌, ◌++◌, length, Some, refl, sym, ap, subst, arith, ◌∙◌}
 use Rattle.std.proofs.lemmas.Bool.Decides.{eqb_tells}
-use Rattle.pack_model.specs.Pack as model
+use Rattle.pack_geometry.specs.Pack as model
 use Rattle.trace_replay.specs.Moments as moment
 use Rattle.trace_replay.specs.Moments.{Moment, Told}
 use Rattle.trace_replay.specs.Conversation.{goes_on}
@@ -17,16 +17,16 @@ use Rattle.driver_machine.specs.Lines.{deed_told, step_told, lines_with, lines_o
 use Rattle.driver_machine.specs.Events.{go_on, until, next_acts}
 use Rattle.driver_machine.specs.Guards.{Allowed, IsSetUp}
 use Rattle.driver_machine.specs.Sound.{Sound}
-use Rattle.driver_replay.proofs.Passes.{due_facts}
-use Rattle.driver_replay.proofs.Passes.{other_unit, effect_same}
-use Rattle.driver_replay.proofs.Passes.{IsNext, next_cases, own_unit}
+use Rattle.driver_trace.proofs.Passes.{due_facts}
+use Rattle.driver_trace.proofs.Passes.{other_unit, effect_same}
+use Rattle.driver_trace.proofs.Passes.{IsNext, next_cases, own_unit}
 use Rattle.driver_machine.specs.Runs.{Run}
 use Rattle.driver_answers.proofs.Passes.{deed_at, own_adapter}
 use Rattle.driver_answers.proofs.Passes.{sound_after}
 use Rattle.driver_answers.specs.Packs.{packs_after}
-use Rattle.driver_replay.specs.Shows.{Shows, IsOnSurface}
-use Rattle.driver_replay.specs.Laws.{IsSaid, told_by}
-use Rattle.driver_replay.proofs.EachDeed.{lines_are_said, silent_deeds_show}
+use Rattle.driver_trace.specs.Shows.{Shows, IsOnSurface}
+use Rattle.driver_trace.specs.Laws.{IsSaid, told_by}
+use Rattle.driver_trace.proofs.EachDeed.{lines_are_said, silent_deeds_show}
 use Rattle.driver_trace.specs.Within.{IsEvent}
 use Rattle.driver_trace.proofs.Telling.{told_within, within_all, LinesFollow, Speaks, Tells}
 use Rattle.driver_trace.proofs.Joined.{nothing_told, then_tells}

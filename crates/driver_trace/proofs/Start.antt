@@ -2,8 +2,8 @@
 use Rattle.std.proofs.Common.{◌≡◌, ℕ, false, List, [], Option, refl}
 use Rattle.std.specs.Prelude.{is_some}
 use Rattle.pack_geometry.specs.declared.DriveKind.{DriveKind}
-use Rattle.pack_model.specs.Pack.{Pack}
-use Rattle.pack_model.specs.TableSpelling.{Table}
+use Rattle.pack_geometry.specs.Pack.{Pack}
+use Rattle.pack_geometry.specs.TableSpelling.{Table}
 use Rattle.trace_replay.specs.Moments.{Moment}
 use Rattle.trace_replay.specs.Packs.{surface_of}
 use Rattle.trace_replay.specs.Conversation as told
@@ -16,14 +16,14 @@ use Rattle.driver_machine.specs.Guards.{IsSetUp}
 use Rattle.driver_machine.specs.Sound.{Sound, AtWork}
 use Rattle.driver_answers.specs.Passes.{AreSetups}
 use Rattle.driver_answers.proofs.Passes.{sound_new, rests_new}
-use Rattle.driver_replay.specs.Shows.{Shows, is_coming}
-use Rattle.driver_replay.specs.Acts.{AreSetUp}
-use Rattle.driver_replay.proofs.Rest.{start_is_shown, rest_shows}
+use Rattle.driver_trace.specs.Shows.{Shows, is_coming}
+use Rattle.driver_trace.specs.Acts.{AreSetUp}
+use Rattle.driver_trace.proofs.Rest.{start_is_shown, rest_shows}
 use Rattle.driver_trace.specs.Calls.{Stands}
 use Rattle.driver_trace.specs.Runs.{IsSoFar}
 use Rattle.driver_trace.proofs.Resting.{shows_one, shows_all}
 use Rattle.driver_trace.proofs.Submits.{calm}
-use Rattle.driver_trace.proofs.Runs.{filter_by}
+use Rattle.driver_trace.proofs.TraceRuns.{filter_by}
 
 waiting_calm : (phase : Phase) → is_coming phase told.Waiting ≡ false
 waiting_calm Waiting = refl

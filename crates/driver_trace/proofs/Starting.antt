@@ -22,8 +22,8 @@ use Rattle.driver_answers.proofs.Passes.{deed_at}
 use Rattle.driver_answers.proofs.Passes.{begun_one}
 use Rattle.driver_answers.proofs.Passes.{start_is, no_more}
 use Rattle.driver_answers.proofs.Passes.{sound_after}
-use Rattle.driver_replay.specs.Shows.{is_coming}
-use Rattle.driver_replay.specs.Laws.{told_by}
+use Rattle.driver_trace.specs.Shows.{is_coming}
+use Rattle.driver_trace.specs.Laws.{told_by}
 use Rattle.driver_trace.specs.Within.{Rests}
 use Rattle.driver_trace.proofs.Telling.{within_all, Tells}
 use Rattle.driver_trace.specs.Calls.{IsOverWithin}

@@ -2,7 +2,7 @@
 use Rattle.std.proofs.Common.{◌≡◌, ◌≢◌, inl, inr, ℕ, ◌+◌, ◌/◌, ◌<◌, Bool, true, false, ◌&&◌, List, [], ◌∷◌, length, None, refl, sym, ap, subst, arith, ◌∙◌, get_or-set_same}
 use Rattle.std.specs.Prelude.{nat_lt, nat_le}
 use Rattle.pack_geometry.specs.declared.DriveKind.{DriveKind}
-use Rattle.pack_model.specs.Pack.{Pack}
+use Rattle.pack_geometry.specs.Pack.{Pack}
 use Rattle.partitions.specs.Partitions.{admission}
 use Rattle.partitions.specs.declared.Admission.{Admission}
 use Rattle.partitions.specs.declared.Admission.TheVariants.{Inside, Eof, Outside}
@@ -34,9 +34,9 @@ use Rattle.driver_answers.proofs.Passes.{run_split}
 use Rattle.driver_answers.proofs.Passes.{until_stop}
 use Rattle.driver_answers.proofs.Passes.{sound_after}
 use Rattle.driver_answers.specs.Packs.{packs_after_all}
-use Rattle.driver_replay.specs.Shows.{Shows}
-use Rattle.driver_replay.specs.Acts.{IsRefused, IsAtWorkFor}
-use Rattle.driver_replay.proofs.Rest.{refusals_show, joins_show, changes_show}
+use Rattle.driver_trace.specs.Shows.{Shows}
+use Rattle.driver_trace.specs.Acts.{IsRefused, IsAtWorkFor}
+use Rattle.driver_trace.proofs.Rest.{refusals_show, joins_show, changes_show}
 use Rattle.driver_trace.specs.Within.{ShowsAll, Rests}
 use Rattle.driver_trace.proofs.Telling.{within_all, Speaks, Tells, IsTold}
 use Rattle.driver_trace.specs.Calls.{IsSurfaceOf, Stands, IsOverWithin, Ends}
@@ -89,7 +89,7 @@ work_rest Queued queue work = inl refl
 work_rest Transferring queue work = inl refl
 
 pub calm : (w : World) (s : Replay) (x : ℕ) → AtWork w → IsSetUp w x
-    → Rattle.driver_replay.specs.Shows.IsUnitSeen (held_in w) (unit_at w x) (adapter_at w (adapter_of x)).state (s.units x)
+    → Rattle.driver_trace.specs.Shows.IsUnitSeen (held_in w) (unit_at w x) (adapter_at w (adapter_of x)).state (s.units x)
     → IsQuiet (unit_at w x).phase (s.units x).stage
 calm w s x work unit seen =
     rest_quiet (unit_at w x).phase (held_in w) (unit_at w x) (adapter_at w (adapter_of x)).state (s.units x) seen refl

@@ -1,6 +1,6 @@
 -- What the acts of one event tell, in the replay: within an event a drain does not go on to its next one.
 use Rattle.std.specs.Prelude.{◌≡◌, ◌≢◌, ℕ, Bool, false, List, [], ◌∷◌}
-use Rattle.pack_model.specs.Pack as model
+use Rattle.pack_geometry.specs.Pack as model
 use Rattle.trace_replay.specs.Moments.{Deed, Moment, Told}
 use Rattle.trace_replay.specs.Conversation.{goes_on}
 use Rattle.trace_replay.specs.Events.{Act}
@@ -11,7 +11,7 @@ use Rattle.driver_machine.specs.Acts.{after_all}
 use Rattle.driver_machine.specs.Lines.{lines_of_all}
 use Rattle.driver_machine.specs.Guards.{IsSetUp}
 use Rattle.driver_machine.specs.Sound.{Sound}
-use Rattle.driver_replay.specs.Shows.{Shows}
+use Rattle.driver_trace.specs.Shows.{Shows}
 use Rattle.driver_answers.specs.Packs.{packs_after_all}
 use Rattle.driver_trace.specs.Within.{IsEvent}
 use Rattle.driver_trace.specs.Calls.{Ends}

@@ -1,7 +1,7 @@
 -- A call of the driver in the replay: its lines follow, and behind them the replay shows the world behind its acts, with the
 -- packs as they are left.
 use Rattle.std.specs.Prelude.{◌≡◌, ℕ, Bool, false, filter, ◌&&◌, nat_lt, IsTrue}
-use Rattle.pack_model.specs.Pack.{Pack, block_at, is_marked}
+use Rattle.pack_geometry.specs.Pack.{Pack, block_at, is_marked}
 use Rattle.hardware_table.specs.Adapter.{next_block}
 use Rattle.trace_replay.specs.Script as script
 use Rattle.trace_replay.specs.Script.{Input}

@@ -1,17 +1,17 @@
 -- A drain comes to its end: how many event lines are left falls with each of its events.
 use Rattle.std.specs.Prelude.{◌≡◌, ℕ, ◌*◌, ◌<◌, ◌≤◌, List, [], ◌∷◌, ◌++◌, Option, Some}
 use Rattle.pack_geometry.specs.declared.DriveKind.{DriveKind}
-use Rattle.pack_model.specs.Pack.{Pack}
-use Rattle.pack_model.specs.TableSpelling.{Table}
+use Rattle.pack_geometry.specs.Pack.{Pack}
+use Rattle.pack_geometry.specs.TableSpelling.{Table}
 use Rattle.trace_replay.specs.Moments.{Moment, Played}
 use Rattle.trace_replay.specs.Causes.{AsksSome, AskSome}
 use Rattle.trace_replay.specs.Script as script
 use Rattle.trace_replay.specs.Script.{Input}
 use Rattle.trace_replay.specs.Packs.{Surface}
 use Rattle.trace_replay.specs.Replay.{Replay, new_replay, after_moments}
-use Rattle.trace_work.specs.Measure.{events_left, blocks_outstanding}
-use Rattle.trace_work.specs.Drains.{IsIdle, IsOf, AreOf}
-use Rattle.trace_work.specs.Consistent.{IsConsistent}
+use Rattle.trace_laws.specs.Measure.{events_left, blocks_outstanding}
+use Rattle.trace_laws.specs.Drains.{IsIdle, IsOf, AreOf}
+use Rattle.trace_laws.specs.Consistent.{IsConsistent}
 use Rattle.driver_machine.specs.World.{World}
 use Rattle.driver_machine.specs.Acts.{Act, Tried}
 use Rattle.driver_machine.specs.Lines.{lines_of_all}

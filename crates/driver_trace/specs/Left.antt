@@ -1,6 +1,6 @@
 -- The packs as a run leaves them, in the replay's words.
 use Rattle.std.specs.Prelude.{◌≡◌, ℕ, List}
-use Rattle.pack_model.specs.Pack.{Pack, block_at}
+use Rattle.pack_geometry.specs.Pack.{Pack, block_at}
 use Rattle.trace_replay.specs.Moments.{Moment}
 use Rattle.trace_replay.specs.Replay.{Replay, after_moments}
 use Rattle.driver_machine.specs.World.{World}

@@ -1,8 +1,8 @@
 -- A run, call by call: the lines so far follow from the start, and the replay behind them stands for the driver.
 use Rattle.std.specs.Prelude.{◌≡◌, ℕ, ◌<◌, true, List, [], ◌∷◌, ◌++◌, length, Option, Some, None, is_some}
 use Rattle.pack_geometry.specs.declared.DriveKind.{DriveKind}
-use Rattle.pack_model.specs.Pack.{Pack}
-use Rattle.pack_model.specs.TableSpelling.{Table}
+use Rattle.pack_geometry.specs.Pack.{Pack}
+use Rattle.pack_geometry.specs.TableSpelling.{Table}
 use Rattle.subsystem_spec.specs.Requests.{Request}
 use Rattle.trace_replay.specs.Moments.{Moment, Played, played, answers_in}
 use Rattle.trace_replay.specs.Causes.{AskSome}
@@ -19,7 +19,7 @@ use Rattle.driver_machine.specs.Sound.{AtWork}
 use Rattle.driver_answers.specs.Passes.{AreSetups}
 use Rattle.driver_machine.specs.Runs.{MaySubmit, MayCome}
 use Rattle.driver_answers.specs.Packs.{packs_after_all}
-use Rattle.driver_replay.specs.Acts.{AreSetUp}
+use Rattle.driver_trace.specs.Acts.{AreSetUp}
 use Rattle.driver_trace.specs.Calls.{Ends, IsLeft, AreThere, IsReadOf}
 
 -- BETWEEN TWO CALLS, of which the last one was that of this line

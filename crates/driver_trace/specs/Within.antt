@@ -6,7 +6,7 @@ use Rattle.trace_replay.specs.Replay.{Replay, WorkMay}
 use Rattle.driver_machine.specs.World.{World, adapter_of, unit_at, adapter_at, held_in}
 use Rattle.driver_machine.specs.Guards.{IsSetUp}
 use Rattle.driver_machine.specs.Sound.{Sound}
-use Rattle.driver_replay.specs.Shows.{IsUnitSeen, IsAdapterSeen, outstanding_in}
+use Rattle.driver_trace.specs.Shows.{IsUnitSeen, IsAdapterSeen, outstanding_in}
 
 -- THE REPLAY shows a world in which no unit speaks.
 pub record ShowsAll (w : World) (s : Replay) : Type 0 where

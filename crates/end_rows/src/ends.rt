@@ -1,6 +1,6 @@
 // The status of each end, in the working folder.
 use crate::words::end_here;
-use hpsim_main::{TRACE_NAME, end_status, words_of};
+use hpsim_run::{TRACE_NAME, end_status, words_of};
 use mass_outside::file_sink::FileSink;
 use mass_outside::mem_streams::SureSink;
 use mass_outside::os_folder::OsFolder;

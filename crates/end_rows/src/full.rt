@@ -1,7 +1,7 @@
 // Texts and packs on a full disk.
 use crate::ends::is_between;
 use crate::words::{end_here, words};
-use hpsim_main::{end_status, words_of};
+use hpsim_run::{end_status, words_of};
 use mass_outside::file_sink::FileSink;
 use mass_outside::mem_streams::SureSink;
 use mass_outside::os_folder::OsFolder;

@@ -84,7 +84,7 @@ fn byte_at(file: &[u8], at: u64) -> u8 {
 
 impl<'a> PackFolder for MemFolder<'a> {
     ghost use Rattle.std.specs.Prelude.{false};
-    ghost use Rattle.pack_model.specs.Pack.{empty_pack};
+    ghost use Rattle.pack_geometry.specs.Pack.{empty_pack};
 
     ghost tells = { λ _. false };
 

@@ -1,5 +1,5 @@
 // The words of a command line, and what a run of it comes to.
-use hpsim_main::{end_status, words_of};
+use hpsim_run::{end_status, words_of};
 use mass_outside::folder::PackFolder;
 use mass_outside::os_folder::OsFolder;
 use mass_outside::traits::Sink;

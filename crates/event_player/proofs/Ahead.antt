@@ -2,8 +2,8 @@
 use Rattle.std.proofs.Common.{◌≡◌, inl, inr, ◌⊎◌, ℕ, Bool, true, false, IsTrue, List, [], ◌∷◌, ◌++◌, Option, take, drop, refl, sym, ap, subst, ◌∙◌, append-nil, append_assoc, take-append-drop}
 use Rattle.std.proofs.lemmas.Bool.{false≢true}
 use Rattle.std.proofs.lemmas.Grind.{flat_map-append}
-use Rattle.pack_model.specs.Pack.{Pack}
-use Rattle.pack_model.specs.TableSpelling.{Table}
+use Rattle.pack_geometry.specs.Pack.{Pack}
+use Rattle.pack_geometry.specs.TableSpelling.{Table}
 use Rattle.outside_traits.specs.Puts.{TakesFront}
 use Rattle.trace_replay.specs.Moments.{Moment, Played}
 use Rattle.trace_replay.specs.Script.{Script, Input}
@@ -13,9 +13,9 @@ use Rattle.trace_replay.specs.Text.{trace_text, moment_text}
 use Rattle.driver_answers.specs.Outcome.{IsFront}
 use Rattle.driver_answers.proofs.Joined.{front_same, front_of_front}
 use Rattle.answer_lines.specs.AnswerText.{said_text, out_text}
-use Rattle.run_stops.specs.Writing.{WriteNothing}
-use Rattle.run_stops.specs.Ahead.{IsBetween, SaysOneSector, AreBehind, WritesAhead, TellsAhead}
-use Rattle.run_stops.proofs.Ahead.{rules_start, nothing_keeps_rule, writes_keep_rule}
+use Rattle.run_laws.specs.Writing.{WriteNothing}
+use Rattle.run_laws.specs.Ahead.{IsBetween, SaysOneSector, AreBehind, WritesAhead, TellsAhead}
+use Rattle.run_laws.proofs.Ahead.{rules_start, nothing_keeps_rule, writes_keep_rule}
 use Rattle.event_player.specs.Steps.{Stage, Passes, PassesAhead, IsCut, IsAhead}
 
 -- TEXTS one behind the other

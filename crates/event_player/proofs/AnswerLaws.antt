@@ -19,13 +19,13 @@ use Rattle.driver_machine.specs.Acts.{Taken, after, after_all}
 use Rattle.driver_machine.specs.Lines.{answer_told}
 use Rattle.driver_machine.specs.Refusals.{refuses}
 use Rattle.driver_machine.specs.Sound.{Sound, SlotOk, IsGiven, IsMade}
-use Rattle.driver_slots.proofs.Lists.{Contains-first}
+use Rattle.driver_invariant.proofs.SlotsLists.{Contains-first}
 use Rattle.driver_answers.specs.Waiting.{blocks_for, told_by, waiting, TakingDrops, takings, all_taken}
 use Rattle.answer_lines.specs.AnswerText.{answer_text, block_text, block_texts, blocks_text}
 use Rattle.answer_lines.specs.Blocks.{AreBlocks, blocks_in, joined}
 use Rattle.answer_lines.proofs.BlockLaws.{blocks_in-joined}
 use Rattle.answer_lines.proofs.TextLaws.{one_more}
-use Rattle.run_stops.specs.Passes.{State, IsOldest}
+use Rattle.run_laws.specs.StopsPasses.{State, IsOldest}
 use Rattle.event_player.specs.Answering.{first_blocks, first_told, first_text, first_rest, IsFirst, IsFirstKind, HasBlock}
 use Rattle.event_player.specs.Saying.{Side, Says}
 use Rattle.event_player.specs.Steps.{waiting_text}

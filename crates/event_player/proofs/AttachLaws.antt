@@ -9,19 +9,19 @@ use Rattle.std.proofs.lemmas.Option.{none-some}
 use Rattle.std.proofs.Math.Seq.{drop-cons}
 use Rattle.pack_geometry.specs.declared.DriveKind.{DriveKind}
 use Rattle.pack_geometry.specs.Geometry.{block_count}
-use Rattle.pack_model.specs.Pack.{Pack}
-use Rattle.pack_model.specs.PackTable.{AreTablesOf}
+use Rattle.pack_geometry.specs.Pack.{Pack}
+use Rattle.pack_geometry.specs.PackTable.{AreTablesOf}
 use Rattle.script_lines.specs.declared.statement.Span.{Span}
 use Rattle.script_lines.specs.declared.statement.Statement.{Statement as Said}
 use Rattle.script_lines.specs.declared.statement.Statement.TheVariants as says
 use Rattle.script_reader.specs.Stored.{Kept, Stored, seen, digits_at}
 use Rattle.script_lines.specs.Renamed.{renamed}
-use Rattle.script_meaning.specs.Meaning.{statement_of, line_of, meaning_of}
+use Rattle.script_reader.specs.Meaning.{statement_of, line_of, meaning_of}
 use Rattle.trace_replay.specs.Script.{Script, Statement, Declares, Plays, Line, declared_by, drives_in, IsPlayed, AreUnitsFirst}
 use Rattle.driver_machine.specs.World.{Setup}
-use Rattle.one_run.specs.Steps.{tables_in, AreSetFor}
-use Rattle.one_run.proofs.Attached as one
-use Rattle.one_run.proofs.Attached.{IsSetupOf, AreAttached, HasDrive, attached_more, attached_still, is_first, drive_there, drives_same, drives-append, first_none, first_some, none_or_some, set_for_script}
+use Rattle.run_laws.specs.Steps.{tables_in, AreSetFor}
+use Rattle.run_laws.proofs.Attached as one
+use Rattle.run_laws.proofs.Attached.{IsSetupOf, AreAttached, HasDrive, attached_more, attached_still, is_first, drive_there, drives_same, drives-append, first_none, first_some, none_or_some, set_for_script}
 use Rattle.event_player.specs.declared.play.PlayFault.{PlayFault}
 use Rattle.event_player.specs.declared.play.PlayFault.TheVariants as faults
 use Rattle.event_player.specs.Plays.{IsTooLong, NamesTooLong}

@@ -3,21 +3,21 @@ use Rattle.std.proofs.Common.{◌≡◌, ℕ, zero, suc, ◌+◌, ◌-◌, ◌*�
 use Rattle.std.specs.Prelude.{if◌then◌else◌, unwrap_or, Contains}
 use Rattle.std.proofs.lemmas.List.{length-map}
 use Rattle.pack_geometry.specs.declared.DriveKind.{DriveKind}
-use Rattle.pack_model.specs.Pack.{Pack}
+use Rattle.pack_geometry.specs.Pack.{Pack}
 use Rattle.disksort.specs.declared.Waiter.{Waiter}
 use Rattle.subsystem_spec.specs.ServiceOrder.{Waiting}
 use Rattle.subsystem_spec.specs.Requests.{Request}
 use Rattle.trace_replay.specs.Moments.{Moment}
 use Rattle.trace_replay.specs.Replay.{Replay, UnitSeen, all_units, after_moments}
-use Rattle.trace_work.specs.Measure.{blocks_waiting, blocks_of_units, blocks_outstanding}
+use Rattle.trace_laws.specs.Measure.{blocks_waiting, blocks_of_units, blocks_outstanding}
 use Rattle.driver_machine.specs.World.{World, Held, no_held, unit_at, slot_at, held_in, adapter_at, adapter_of}
 use Rattle.driver_machine.specs.Guards.{IsSetUp}
 use Rattle.driver_machine.specs.Sound.{Sound, slots_of, IsOutstanding, UnitOk}
 use Rattle.driver_invariant.proofs.Deeds.{slot_there}
-use Rattle.driver_slots.proofs.Lists.{Contains-first, Contains-later, contained_among}
-use Rattle.driver_replay.specs.Shows.{Match, IsUnitSeen}
-use Rattle.run_stops.specs.Passes.{ShowsAll}
-use Rattle.run_stops.specs.Passes.{IsSoFar}
+use Rattle.driver_invariant.proofs.SlotsLists.{Contains-first, Contains-later, contained_among}
+use Rattle.driver_trace.specs.Shows.{Match, IsUnitSeen}
+use Rattle.run_laws.specs.StopsPasses.{ShowsAll}
+use Rattle.run_laws.specs.StopsPasses.{IsSoFar}
 use Rattle.hp_core.proofs.Deeds.{pigeons}
 
 -- A QUEUE has at most 127 blocks for each of its requests.

@@ -2,7 +2,7 @@
 use Rattle.std.proofs.Common.{◌≡◌, ◌⊎◌, inl, inr, ℕ, Bool, true, false, IsTrue, List, [], ◌++◌, Some, None, refl, sym, ap, subst, ◌∙◌, append-nil, append_assoc}
 use Rattle.std.specs.Prelude.{Result, Ok, Err, IsOk}
 use Rattle.std.proofs.lemmas.List.{append_cancel_right}
-use Rattle.pack_model.specs.Pack.{Pack}
+use Rattle.pack_geometry.specs.Pack.{Pack}
 use Rattle.outside_traits.specs.declared.traits.SinkFailed.{SinkFailed}
 use Rattle.subsystem_spec.specs.Requests.{Request}
 use Rattle.trace_replay.specs.Script.{Input}
@@ -17,13 +17,13 @@ use Rattle.driver_answers.specs.Outcome.{Does, StopsAtTrace, IsFront, IsNextBloc
 use Rattle.driver_answers.specs.declared.outcome.Stop.{Stop}
 use Rattle.driver_answers.specs.declared.outcome.Stop.TheVariants as stop
 use Rattle.driver_answers.proofs.Joined.{front_same, front_more, front_of_front}
-use Rattle.run_stops.specs.Passes.{AllFlip}
+use Rattle.run_laws.specs.StopsPasses.{AllFlip}
 use Rattle.driver_answers.specs.Waiting.{waiting, all_taken}
 use Rattle.driver_answers.proofs.Waiting.{events_alone, submissions_alone}
 use Rattle.answer_lines.specs.AnswerText.{out_text}
 use Rattle.answer_lines.specs.declared.tally.Tally.{Tally}
 use Rattle.answer_lines.specs.Counting.{Counts}
-use Rattle.run_stops.specs.Passes.{Submits, Comes, seen, is_move, writes_by}
+use Rattle.run_laws.specs.StopsPasses.{Submits, Comes, seen, is_move, writes_by}
 use Rattle.event_player.specs.declared.play.PlayFault.TheVariants as playing
 use Rattle.event_player.specs.Faults.{from_stop}
 use Rattle.event_player.specs.Saying.{Side, side, Says, SendsAhead}

@@ -1,8 +1,8 @@
 -- Where a call begins: at a line of the script, at the line of a drain, and behind an event of a drain.
 use Rattle.std.proofs.Common.{◌≡◌, inl, inr, ℕ, ◌<◌, Bool, false, IsTrue, List, [], ◌∷◌, ◌++◌, Option, Some, None, refl, sym, ap, subst, ◌∙◌, append-nil, append_assoc}
 use Rattle.std.proofs.lemmas.Bool.{false≢true}
-use Rattle.pack_model.specs.Pack.{Pack}
-use Rattle.pack_model.specs.TableSpelling.{Table}
+use Rattle.pack_geometry.specs.Pack.{Pack}
+use Rattle.pack_geometry.specs.TableSpelling.{Table}
 use Rattle.subsystem_spec.specs.Requests.{Request, IsRequest}
 use Rattle.trace_replay.specs.Moments.{Moment, Played, Idle}
 use Rattle.trace_replay.specs.Script as says
@@ -11,7 +11,7 @@ use Rattle.trace_replay.specs.Packs.{surface_of}
 use Rattle.trace_replay.specs.Replay.{Replay, WorkMay, Follows, after_moment, after_moments}
 use Rattle.trace_replay.specs.Runs.{start_of}
 use Rattle.trace_replay.specs.Text.{moment_text}
-use Rattle.trace_work.specs.Drains.{IsOf}
+use Rattle.trace_laws.specs.Drains.{IsOf}
 use Rattle.driver_machine.specs.Acts.{Act, Tried}
 use Rattle.driver_machine.specs.Lines.{lines_of_all}
 use Rattle.driver_machine.specs.Events.{submit_acts, event_acts, next_event}
@@ -22,19 +22,19 @@ use Rattle.driver_invariant.proofs.Sound.{sound_after}
 use Rattle.driver_answers.specs.Outcome.{IsFront}
 use Rattle.driver_answers.specs.Packs.{packs_after_all}
 use Rattle.driver_answers.proofs.Joined.{front_same}
-use Rattle.run_stops.specs.Passes.{ShowsAll}
-use Rattle.run_stops.specs.Passes.{with_call}
-use Rattle.run_stops.proofs.Passes.{lines_play_nothing}
-use Rattle.run_stops.proofs.Passes.{GoesOn, drain_begins, drain_goes_on, drain_between}
-use Rattle.one_run.proofs.Passes.{scripts_can_start}
-use Rattle.trace_work.proofs.Consistency.{moments_consistent}
-use Rattle.run_stops.proofs.Passes.{drained_shows}
+use Rattle.run_laws.specs.StopsPasses.{ShowsAll}
+use Rattle.run_laws.specs.StopsPasses.{with_call}
+use Rattle.run_laws.proofs.StopsPasses.{lines_play_nothing}
+use Rattle.run_laws.proofs.StopsPasses.{GoesOn, drain_begins, drain_goes_on, drain_between}
+use Rattle.run_laws.proofs.Passes.{scripts_can_start}
+use Rattle.trace_laws.proofs.Consistency.{moments_consistent}
+use Rattle.run_laws.proofs.StopsPasses.{drained_shows}
 use Rattle.answer_lines.specs.AnswerText.{said_text}
-use Rattle.run_stops.specs.Passes.{IsThere}
-use Rattle.run_stops.specs.Writing.{WriteNothing}
-use Rattle.run_stops.specs.Stops.{AreOfOneEvent, StopsAtSink}
-use Rattle.run_stops.proofs.Passes.{after_parts}
-use Rattle.run_stops.proofs.Events.{submissions_write_nothing, empty_drains_write_nothing}
+use Rattle.run_laws.specs.StopsPasses.{IsThere}
+use Rattle.run_laws.specs.Writing.{WriteNothing}
+use Rattle.run_laws.specs.Stops.{AreOfOneEvent, StopsAtSink}
+use Rattle.run_laws.proofs.StopsPasses.{after_parts}
+use Rattle.run_laws.proofs.StopsEvents.{submissions_write_nothing, empty_drains_write_nothing}
 use Rattle.event_player.specs.declared.play.PlayFault.{PlayFault}
 use Rattle.event_player.specs.declared.play.PlayFault.TheVariants as faults
 use Rattle.event_player.specs.Steps.{Stage, Passes, IsCut, IsAhead}

@@ -9,8 +9,8 @@ use Rattle.script_lines.specs.declared.statement.Statement.TheVariants as says
 use Rattle.script_reader.specs.Formed.{IsWell, AreWell, learned}
 use Rattle.script_lines.specs.Known.{Known, Said, Numbered}
 use Rattle.script_reader.specs.Stored.{Kept, Stored, seen, lines_in}
-use Rattle.script_meaning.specs.Meaning.{statement_of, line_of, meaning_of}
-use Rattle.script_meaning.specs.Promises.{said_in}
+use Rattle.script_reader.specs.Meaning.{statement_of, line_of, meaning_of}
+use Rattle.script_reader.specs.Promises.{said_in}
 use Rattle.trace_replay.specs.Script.{Statement, Line}
 use Rattle.event_player.specs.Playing.{counted, one_request, one_noise}
 

@@ -1,31 +1,31 @@
 -- A drain, event by event.
 use Rattle.std.proofs.Common.{◌≡◌, ℕ, ◌+◌, ◌-◌, ◌*◌, ◌^◌, ◌<◌, ◌≤◌, false, IsTrue, List, [], ◌∷◌, ◌++◌, length, Option, Some, None, refl, sym, ap, subst, arith, ◌∙◌, append-nil, append_assoc}
 use Rattle.std.proofs.lemmas.Bool.{false≢true}
-use Rattle.pack_model.specs.Pack.{Pack}
-use Rattle.pack_model.specs.TableSpelling.{Table}
+use Rattle.pack_geometry.specs.Pack.{Pack}
+use Rattle.pack_geometry.specs.TableSpelling.{Table}
 use Rattle.trace_replay.specs.Moments.{Moment, Played, Idle}
 use Rattle.trace_replay.specs.Script as says
 use Rattle.trace_replay.specs.Script.{Script, Input, Line}
 use Rattle.trace_replay.specs.Text.{moment_text}
 use Rattle.trace_replay.specs.Replay.{Replay, after_moments}
 use Rattle.trace_replay.specs.Runs.{start_of}
-use Rattle.trace_work.specs.Measure.{events_left, blocks_outstanding}
+use Rattle.trace_laws.specs.Measure.{events_left, blocks_outstanding}
 use Rattle.driver_machine.specs.World.{World}
 use Rattle.driver_machine.specs.Acts.{Act, Nothing, Tried, after_all}
 use Rattle.driver_machine.specs.Lines.{lines_of_all}
 use Rattle.driver_machine.specs.Events.{event_acts, next_event}
 use Rattle.driver_answers.specs.Packs.{packs_after_all}
-use Rattle.run_stops.specs.Passes.{with_call}
-use Rattle.run_stops.specs.Passes.{ShowsAll}
-use Rattle.run_stops.proofs.Passes.{drained_shows}
+use Rattle.run_laws.specs.StopsPasses.{with_call}
+use Rattle.run_laws.specs.StopsPasses.{ShowsAll}
+use Rattle.run_laws.proofs.StopsPasses.{drained_shows}
 use Rattle.answer_lines.specs.Counting.{CountsAll}
 use Rattle.answer_lines.proofs.CountLaws.{counts_none, counts_more}
 use Rattle.driver_answers.specs.Waiting.{all_taken}
-use Rattle.run_stops.specs.Passes.{writes_by}
-use Rattle.run_stops.specs.Writing.{WriteNothing}
-use Rattle.run_stops.specs.Ahead.{AreBehind}
-use Rattle.run_stops.proofs.Passes.{after_parts}
-use Rattle.run_stops.proofs.Events.{first_events_write_nothing, later_events_write_nothing, empty_drains_write_nothing}
+use Rattle.run_laws.specs.StopsPasses.{writes_by}
+use Rattle.run_laws.specs.Writing.{WriteNothing}
+use Rattle.run_laws.specs.Ahead.{AreBehind}
+use Rattle.run_laws.proofs.StopsPasses.{after_parts}
+use Rattle.run_laws.proofs.StopsEvents.{first_events_write_nothing, later_events_write_nothing, empty_drains_write_nothing}
 use Rattle.event_player.specs.Playing.{HasRun}
 use Rattle.event_player.specs.Steps.{Stage, Passes, IsAhead, KeepsAhead, PlaysEvent, HasDrained, EndsDraining, GoesOnDraining, PlaysDrain}
 use Rattle.event_player.proofs.Bounds.{blocks_few}

@@ -1,7 +1,7 @@
 -- A run goes on call by call, with the answers that are taken behind each call.
 use Rattle.std.proofs.Common.{◌≡◌, inl, ℕ, ◌*◌, ◌<◌, ◌≤◌, List, [], ◌∷◌, ◌++◌, Option, Some, None, refl, sym, ap, subst, arith, ◌∙◌}
-use Rattle.pack_model.specs.Pack.{Pack}
-use Rattle.pack_model.specs.TableSpelling.{Table}
+use Rattle.pack_geometry.specs.Pack.{Pack}
+use Rattle.pack_geometry.specs.TableSpelling.{Table}
 use Rattle.subsystem_spec.specs.Requests.{Request}
 use Rattle.trace_replay.specs.Moments.{Moment}
 use Rattle.trace_replay.specs.Causes.{AsksSome}
@@ -10,8 +10,8 @@ use Rattle.trace_replay.specs.Script.{Script, Input, Statement, Declares, Plays,
 use Rattle.trace_replay.specs.Packs.{surface_of}
 use Rattle.trace_replay.specs.Replay.{Replay, after_moments}
 use Rattle.trace_replay.specs.Runs.{start_of}
-use Rattle.trace_work.specs.Measure.{events_left, blocks_outstanding}
-use Rattle.trace_work.specs.Drains.{IsOf}
+use Rattle.trace_laws.specs.Measure.{events_left, blocks_outstanding}
+use Rattle.trace_laws.specs.Drains.{IsOf}
 use Rattle.driver_machine.specs.World.{World, Held, unit_at}
 use Rattle.driver_machine.specs.Acts.{Act, Nothing, Tried, after_all}
 use Rattle.driver_machine.specs.Lines.{lines_of_all}
@@ -22,23 +22,23 @@ use Rattle.driver_machine.specs.Runs.{Works, MaySubmit, MayCome}
 use Rattle.driver_invariant.proofs.Calls.{event_works, submit_works}
 use Rattle.driver_invariant.proofs.Sound.{sound_after}
 use Rattle.driver_answers.specs.Packs.{packs_after_all}
-use Rattle.run_stops.specs.Passes.{IsReadOf}
-use Rattle.run_stops.specs.Passes.{ShowsAll}
-use Rattle.run_stops.specs.Passes.{IsOfUnits, with_call}
-use Rattle.run_stops.proofs.Passes.{events_go, submissions_go, drains_start, drains_go_on}
-use Rattle.run_stops.proofs.Passes.{drain_finds_nothing, drain_ends}
-use Rattle.run_stops.proofs.Passes.{calls_are_played, lines_play_nothing}
-use Rattle.run_stops.proofs.Passes.{events_keep, submissions_keep}
-use Rattle.run_stops.proofs.Passes.{events_keep_reach, submissions_keep_reach}
-use Rattle.run_stops.proofs.Passes.{events_keep_lengths, first_events_keep_lengths, later_events_keep_lengths, empty_drains_keep_lengths, submissions_keep_lengths, drained_shows}
-use Rattle.one_run.specs.Passes.{Falls}
-use Rattle.one_run.proofs.Passes.{lines_ask_nothing, calls_ask}
-use Rattle.one_run.proofs.Passes.{first_events_fall, drains_fall}
-use Rattle.run_stops.specs.Passes.{IsThere}
+use Rattle.run_laws.specs.StopsPasses.{IsReadOf}
+use Rattle.run_laws.specs.StopsPasses.{ShowsAll}
+use Rattle.run_laws.specs.StopsPasses.{IsOfUnits, with_call}
+use Rattle.run_laws.proofs.StopsPasses.{events_go, submissions_go, drains_start, drains_go_on}
+use Rattle.run_laws.proofs.StopsPasses.{drain_finds_nothing, drain_ends}
+use Rattle.run_laws.proofs.StopsPasses.{calls_are_played, lines_play_nothing}
+use Rattle.run_laws.proofs.StopsPasses.{events_keep, submissions_keep}
+use Rattle.run_laws.proofs.StopsPasses.{events_keep_reach, submissions_keep_reach}
+use Rattle.run_laws.proofs.StopsPasses.{events_keep_lengths, first_events_keep_lengths, later_events_keep_lengths, empty_drains_keep_lengths, submissions_keep_lengths, drained_shows}
+use Rattle.run_laws.specs.Passes.{Falls}
+use Rattle.run_laws.proofs.Passes.{lines_ask_nothing, calls_ask}
+use Rattle.run_laws.proofs.Passes.{first_events_fall, drains_fall}
+use Rattle.run_laws.specs.StopsPasses.{IsThere}
 use Rattle.driver_answers.specs.Waiting.{all_taken}
 use Rattle.event_player.specs.Playing.{HasRun}
 use Rattle.event_player.specs.Steps.{HasDrained}
-use Rattle.one_run.proofs.Taking.{runs_wait, so_far_taken, draining_taken, kept_taken}
+use Rattle.run_laws.proofs.Taking.{runs_wait, so_far_taken, draining_taken, kept_taken}
 use Rattle.event_player.proofs.Reaching.{call_asks, lines_ask, within_taken}
 
 -- THE INPUTS of lines, with those of one more

@@ -3,9 +3,9 @@ use Rattle.std.proofs.Common.{◌≡◌, inl, inr, ℕ, ◌+◌, ◌*◌, ◌<�
 use Rattle.std.specs.Prelude.{Result, Ok, Err, IfErr, IsErrAnd, min}
 use Rattle.std.proofs.lemmas.Bool.{false≢true}
 use Rattle.std.proofs.lemmas.List.{take_all, drop_all}
-use Rattle.pack_model.specs.Pack.{Pack}
-use Rattle.pack_model.specs.PackTable.{AreTablesOf}
-use Rattle.pack_model.specs.TableSpelling.{Table}
+use Rattle.pack_geometry.specs.Pack.{Pack}
+use Rattle.pack_geometry.specs.PackTable.{AreTablesOf}
+use Rattle.pack_geometry.specs.TableSpelling.{Table}
 use Rattle.outside_traits.specs.Puts.{Puts}
 use Rattle.outside_traits.specs.declared.traits.SinkFailed.{SinkFailed}
 use Rattle.outside_traits.proofs.GatherLaws.{rose_more}
@@ -24,24 +24,24 @@ use Rattle.driver_machine.specs.Guards.{IsSetUp}
 use Rattle.driver_answers.specs.Outcome.{IsFront}
 use Rattle.driver_answers.specs.Packs.{packs_after_all}
 use Rattle.driver_answers.proofs.Joined.{front_same, front_more, front_of_front}
-use Rattle.run_stops.specs.Passes.{AskBelow}
-use Rattle.run_stops.specs.Passes.{with_call}
+use Rattle.run_laws.specs.StopsPasses.{AskBelow}
+use Rattle.run_laws.specs.StopsPasses.{with_call}
 use Rattle.answer_lines.specs.AnswerText.{said_text, out_text}
 use Rattle.answer_lines.specs.declared.tally.Tally.{Tally}
 use Rattle.hp_core.specs.declared.start.UnitSetup.{UnitSetup}
 use Rattle.hp_core.specs.Setups.{setups_of}
-use Rattle.run_stops.specs.Passes.{Event}
+use Rattle.run_laws.specs.StopsPasses.{Event}
 use Rattle.hp_events.specs.declared.drain.Event.TheVariants as event
 use Rattle.hardware_table.specs.declared.NoiseSpan.{NoiseSpan}
-use Rattle.run_stops.specs.Passes.{input_of}
-use Rattle.run_stops.specs.Passes.{State, IsThere}
+use Rattle.run_laws.specs.StopsPasses.{input_of}
+use Rattle.run_laws.specs.StopsPasses.{State, IsThere}
 use Rattle.driver_answers.specs.Waiting.{all_taken}
-use Rattle.one_run.specs.Steps.{tables_in, AreSetFor}
+use Rattle.run_laws.specs.Steps.{tables_in, AreSetFor}
 use Rattle.event_player.specs.declared.play.PlayFault.{PlayFault}
 use Rattle.event_player.specs.declared.play.PlayFault.TheVariants as faults
 use Rattle.event_player.specs.Playing.{HasRun}
-use Rattle.run_stops.specs.Ahead.{IsBetween}
-use Rattle.run_stops.specs.Stops.{took, TakesRest, StopsAtSink, StopsAtStore}
+use Rattle.run_laws.specs.Ahead.{IsBetween}
+use Rattle.run_laws.specs.Stops.{took, TakesRest, StopsAtSink, StopsAtStore}
 use Rattle.event_player.specs.Steps.{Stage, stage, Passes, IsCut, IsAhead, PlaysEvent, PlaysDrain, MayAsk, MayPlay, HasDrained}
 use Rattle.event_player.specs.Stops.{EventStops, SubmissionStops, StopsInput, StopsLine, StopsDraining, StopsScript, StopsAtMove, StopsAt, IsNext, Leaves}
 use Rattle.event_player.proofs.Contexts.{line_stops, opening_stops, submission_stops, first_stops, idle_stops, later_stops}

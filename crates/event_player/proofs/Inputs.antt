@@ -2,33 +2,33 @@
 use Rattle.std.proofs.Common.{◌≡◌, ℕ, Bool, false, IsTrue, List, [], ◌∷◌, ◌++◌, Option, refl, sym, ap, subst, ◌∙◌, append-nil, append_assoc}
 use Rattle.std.specs.List.{flat_map}
 use Rattle.std.proofs.lemmas.Bool.{false≢true}
-use Rattle.pack_model.specs.Pack.{Pack}
-use Rattle.pack_model.specs.TableSpelling.{Table}
+use Rattle.pack_geometry.specs.Pack.{Pack}
+use Rattle.pack_geometry.specs.TableSpelling.{Table}
 use Rattle.subsystem_spec.specs.Requests.{Request, IsRequest}
 use Rattle.trace_replay.specs.Moments.{Moment, Answered, Played, answers_in}
 use Rattle.trace_replay.specs.Script as says
 use Rattle.trace_replay.specs.Script.{Script, Input, Line}
 use Rattle.trace_replay.specs.Replay.{Replay, after_moments}
 use Rattle.trace_replay.specs.Runs.{start_of}
-use Rattle.trace_work.specs.Drains.{IsOf}
+use Rattle.trace_laws.specs.Drains.{IsOf}
 use Rattle.driver_machine.specs.World.{World}
 use Rattle.driver_machine.specs.Acts.{Act, Tried, after_all}
 use Rattle.driver_machine.specs.Lines.{lines_of_all}
 use Rattle.driver_machine.specs.Events.{submit_acts, event_acts}
 use Rattle.driver_answers.specs.Packs.{packs_after_all}
 use Rattle.driver_answers.specs.Outcome.{IsFront}
-use Rattle.run_stops.specs.Passes.{with_call}
-use Rattle.run_stops.proofs.Passes.{lines_play_nothing}
+use Rattle.run_laws.specs.StopsPasses.{with_call}
+use Rattle.run_laws.proofs.StopsPasses.{lines_play_nothing}
 use Rattle.driver_answers.specs.Waiting.{waiting, all_taken}
 use Rattle.driver_answers.proofs.Waiting.{events_alone, submissions_alone}
 use Rattle.answer_lines.specs.AnswerText.{answer_text, said_text, out_text}
 use Rattle.answer_lines.specs.Counting.{Counts, CountsAll}
 use Rattle.answer_lines.proofs.CountLaws.{counts_none, counts_both, counts_same}
-use Rattle.run_stops.specs.Passes.{IsThere, writes_by}
-use Rattle.run_stops.specs.Writing.{WriteNothing}
-use Rattle.run_stops.specs.Ahead.{AreBehind}
-use Rattle.run_stops.proofs.Passes.{after_parts}
-use Rattle.run_stops.proofs.Events.{events_write_nothing, submissions_write_nothing}
+use Rattle.run_laws.specs.StopsPasses.{IsThere, writes_by}
+use Rattle.run_laws.specs.Writing.{WriteNothing}
+use Rattle.run_laws.specs.Ahead.{AreBehind}
+use Rattle.run_laws.proofs.StopsPasses.{after_parts}
+use Rattle.run_laws.proofs.StopsEvents.{events_write_nothing, submissions_write_nothing}
 use Rattle.driver_answers.proofs.Taking.{none_waits}
 use Rattle.event_player.specs.Playing.{HasRun}
 use Rattle.event_player.specs.Steps.{Stage, PlaysActs, PlaysEvent, PlaysSubmission, PlaysInput, IsAhead, waiting_text}

@@ -3,7 +3,7 @@ use Rattle.std.proofs.Common.{◌≡◌, ℕ, Bool, true, false, List, [], ◌�
 use Rattle.std.proofs.lemmas.Bool.{false≢true}
 use Rattle.disksort.specs.declared.Waiter.{Waiter}
 use Rattle.hardware_table.specs.Adapter.{next_block}
-use Rattle.pack_model.specs.Pack.{Pack}
+use Rattle.pack_geometry.specs.Pack.{Pack}
 use Rattle.trace_replay.specs.Moments.{Idle}
 use Rattle.trace_replay.specs.Script as says
 use Rattle.trace_replay.specs.Script.{Input}
@@ -14,16 +14,16 @@ use Rattle.driver_machine.specs.Events.{event_acts, in_hand, in_hand_by, or_noth
 use Rattle.driver_machine.specs.Sound.{Sound}
 use Rattle.driver_machine.specs.Runs.{Run, MayCome}
 use Rattle.driver_answers.specs.Packs.{ReadAll}
-use Rattle.run_stops.specs.Passes.{IsReadOf}
-use Rattle.run_stops.specs.Passes.{AllFlip}
-use Rattle.run_stops.proofs.Passes.{IsNoMove}
-use Rattle.run_stops.specs.Passes.{Event}
+use Rattle.run_laws.specs.StopsPasses.{IsReadOf}
+use Rattle.run_laws.specs.StopsPasses.{AllFlip}
+use Rattle.run_laws.proofs.StopsPasses.{IsNoMove}
+use Rattle.run_laws.specs.StopsPasses.{Event}
 use Rattle.hp_events.specs.declared.drain.Event.TheVariants as event
-use Rattle.run_stops.specs.Passes.{input_of}
-use Rattle.run_stops.specs.Passes.{writes_next}
-use Rattle.run_stops.specs.Passes.{IsThere, is_move, writes_by}
-use Rattle.run_stops.proofs.Passes.{tried_by_rules, read_from}
-use Rattle.run_stops.specs.Ahead.{SaysOneSector}
+use Rattle.run_laws.specs.StopsPasses.{input_of}
+use Rattle.run_laws.specs.StopsPasses.{writes_next}
+use Rattle.run_laws.specs.StopsPasses.{IsThere, is_move, writes_by}
+use Rattle.run_laws.proofs.StopsPasses.{tried_by_rules, read_from}
+use Rattle.run_laws.specs.Ahead.{SaysOneSector}
 use Rattle.event_player.proofs.OneEvent.{IsShort, short_or}
 
 -- A MOVE says one line at most.

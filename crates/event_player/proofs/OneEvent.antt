@@ -17,16 +17,16 @@ use Rattle.driver_machine.specs.Acts.{Act, Tried, Deed, after_all}
 use Rattle.driver_machine.specs.Lines.{deed_told, lines_with, lines_of_all}
 use Rattle.driver_machine.specs.Events.{event_acts, in_hand, in_hand_by, or_nothing, attended, can_arrive, can_move}
 use Rattle.driver_machine.specs.Runs.{Run, CanCome}
-use Rattle.run_stops.proofs.Passes.{act_named}
-use Rattle.run_stops.specs.Passes.{Rests}
-use Rattle.run_stops.proofs.Passes.{told_within, LineFollows, LinesFollow}
-use Rattle.run_stops.proofs.Passes.{lines_append, line_after}
-use Rattle.run_stops.proofs.Passes.{other_act}
-use Rattle.run_stops.proofs.Passes.{not_drained, serving_is}
-use Rattle.run_stops.proofs.Passes.{attended_told}
-use Rattle.run_stops.proofs.Passes.{lines_play_nothing}
-use Rattle.run_stops.specs.Passes.{IsThere}
-use Rattle.run_stops.specs.Stops.{IsEventOver, AreOfOneEvent}
+use Rattle.run_laws.proofs.StopsPasses.{act_named}
+use Rattle.run_laws.specs.StopsPasses.{Rests}
+use Rattle.run_laws.proofs.StopsPasses.{told_within, LineFollows, LinesFollow}
+use Rattle.run_laws.proofs.StopsPasses.{lines_append, line_after}
+use Rattle.run_laws.proofs.StopsPasses.{other_act}
+use Rattle.run_laws.proofs.StopsPasses.{not_drained, serving_is}
+use Rattle.run_laws.proofs.StopsPasses.{attended_told}
+use Rattle.run_laws.proofs.StopsPasses.{lines_play_nothing}
+use Rattle.run_laws.specs.StopsPasses.{IsThere}
+use Rattle.run_laws.specs.Stops.{IsEventOver, AreOfOneEvent}
 
 -- WHERE A LINE OF THE TRACE MAY COME NEXT one is still to come.
 some_line : (unit : ℕ) (d : moment.Deed) → is_no_line (wish_of unit d) ≡ false

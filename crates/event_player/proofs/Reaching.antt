@@ -1,7 +1,7 @@
 -- How far the writes of a run reach, call by call.
 use Rattle.std.proofs.Common.{◌≡◌, ◌⊎◌, inl, inr, ℕ, ◌*◌, ◌<◌, List, [], ◌∷◌, ◌++◌, drop, length, Option, refl, ap, subst, ◌∙◌}
 use Rattle.pack_geometry.specs.declared.DriveKind.{DriveKind}
-use Rattle.pack_model.specs.Pack.{Pack}
+use Rattle.pack_geometry.specs.Pack.{Pack}
 use Rattle.trace_replay.specs.Moments.{Moment, played}
 use Rattle.trace_replay.specs.Script.{Input, Numbered}
 use Rattle.driver_machine.specs.World.{World}
@@ -10,11 +10,11 @@ use Rattle.driver_machine.specs.Lines.{lines_of_all}
 use Rattle.driver_machine.specs.Sound.{Sound}
 use Rattle.driver_invariant.proofs.Sound.{sound_after}
 use Rattle.driver_answers.specs.Outcome.{IsNextBlock}
-use Rattle.run_stops.specs.Passes.{with_call}
-use Rattle.run_stops.proofs.Passes.{calls_are_played, lines_play_nothing}
-use Rattle.run_stops.specs.Passes.{AsksBelow, AskBelow, IsWithinReach, StayFrom}
-use Rattle.run_stops.proofs.Passes.{next_blocks_stay}
-use Rattle.run_stops.proofs.Passes.{answers_keep_reach}
+use Rattle.run_laws.specs.StopsPasses.{with_call}
+use Rattle.run_laws.proofs.StopsPasses.{calls_are_played, lines_play_nothing}
+use Rattle.run_laws.specs.StopsPasses.{AsksBelow, AskBelow, IsWithinReach, StayFrom}
+use Rattle.run_laws.proofs.StopsPasses.{next_blocks_stay}
+use Rattle.run_laws.proofs.StopsPasses.{answers_keep_reach}
 use Rattle.driver_answers.specs.Waiting.{all_taken}
 use Rattle.driver_answers.proofs.Taking.{taken_by}
 

@@ -13,8 +13,8 @@ use Rattle.driver_machine.specs.World.{World, Held}
 use Rattle.driver_machine.specs.Acts.{Act, after_all}
 use Rattle.subsystem_spec.specs.declared.answers.AnswerKind.{AnswerKind}
 use Rattle.driver_machine.specs.Events.{submit_by, submit_acts, event_acts, refusal_of, next_event}
-use Rattle.driver_slots.proofs.Sizes.{sizes_all}
-use Rattle.driver_slots.proofs.Lists.{Contains-later, Contains-cases}
+use Rattle.driver_invariant.proofs.Sizes.{sizes_all}
+use Rattle.driver_invariant.proofs.SlotsLists.{Contains-later, Contains-cases}
 use Rattle.driver_machine.specs.Runs.{CanCome}
 use Rattle.driver_invariant.proofs.Next.{next_can}
 use Rattle.driver_answers.specs.Counts.{IsWithin, in_use, noises_of, faults_of}
@@ -23,14 +23,14 @@ use Rattle.driver_answers.proofs.Events.{events_add, submissions_add}
 use Rattle.driver_answers.specs.Ids.{AreOf}
 use Rattle.driver_answers.proofs.Ids.{events_add_none, taking_adds_none, no_others}
 use Rattle.driver_answers.proofs.Ids as ids
-use Rattle.run_stops.specs.Passes.{State}
+use Rattle.run_laws.specs.StopsPasses.{State}
 use Rattle.driver_answers.specs.Waiting.{takings, all_taken}
-use Rattle.one_run.specs.Steps.{AreUnits}
+use Rattle.run_laws.specs.Steps.{AreUnits}
 use Rattle.event_player.specs.Playing.{counted, one_request, one_noise, one_fault}
 use Rattle.event_player.specs.Steps.{Stage, PlaysEvent, PlaysSubmission, Ready, Brings, MayAsk, MayPlay}
 use Rattle.driver_answers.proofs.Taking.{taken_by, none_waits}
-use Rattle.one_run.proofs.Fitting.{within_more, units_stay, few_lines, Found, found, set_up, may_turn, may_strike, may_arm}
-use Rattle.one_run.proofs.Rooms.{nothing_armed}
+use Rattle.run_laws.proofs.Fitting.{within_more, units_stay, few_lines, Found, found, set_up, may_turn, may_strike, may_arm}
+use Rattle.run_laws.proofs.Rooms.{nothing_armed}
 
 -- MORE ROOM is enough.
 pub ready_more : (s : Script) (r r' n n' f f' : ℕ) (xs ys : List ℕ) (w : World) → r ≤ r' → n ≤ n' → f ≤ f' → ((id : ℕ) → Contains xs id → Contains ys id)

@@ -6,7 +6,7 @@ use Rattle.outside_traits.specs.Causes.{Rose}
 use Rattle.outside_traits.specs.Puts.{Puts}
 use Rattle.outside_traits.specs.declared.traits.SinkFailed.{SinkFailed}
 use Rattle.outside_traits.specs.Gathers.{Gathers}
-use Rattle.pack_model.specs.Pack.{Pack}
+use Rattle.pack_geometry.specs.Pack.{Pack}
 use Rattle.trace_replay.specs.Moments.{Played}
 use Rattle.trace_replay.specs.Script.{Input}
 use Rattle.driver_machine.specs.World.{World}
@@ -14,7 +14,7 @@ use Rattle.driver_answers.specs.Outcome.{IsFront}
 use Rattle.driver_answers.proofs.Joined.{front_same, front_more, front_of_front}
 use Rattle.answer_lines.specs.AnswerText.{said_text}
 use Rattle.answer_lines.specs.declared.tally.Tally.{Tally}
-use Rattle.run_stops.specs.Ahead.{IsBetween}
+use Rattle.run_laws.specs.Ahead.{IsBetween}
 use Rattle.event_player.specs.Saying.{Side, side, Says, SendsAhead}
 use Rattle.event_player.specs.Steps.{Stage, Passes, PassesAhead}
 use Rattle.event_player.proofs.Ahead.{between_by, IsOpened}

@@ -7,7 +7,7 @@ use Rattle.outside_traits.specs.declared.traits.SinkFailed.{SinkFailed}
 use Rattle.outside_traits.proofs.GatherLaws.{rose_more}
 use Rattle.driver_answers.specs.Outcome.{IsFront}
 use Rattle.driver_answers.proofs.Joined.{front_of_front}
-use Rattle.run_stops.specs.Ahead.{IsBetween}
+use Rattle.run_laws.specs.Ahead.{IsBetween}
 use Rattle.event_player.specs.Saying.{Side, Says}
 
 -- the same text by another name

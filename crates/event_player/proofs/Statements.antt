@@ -3,8 +3,8 @@ use Rattle.std.proofs.Common.{◌≡◌, ℕ, true, false, IsTrue, List, [], Opt
 use Rattle.std.specs.Prelude.{Box}
 use Rattle.std.specs.Box.{box_value}
 use Rattle.std.specs.declared.alloc.Global.{Global}
-use Rattle.pack_model.specs.Pack.{Pack}
-use Rattle.pack_model.specs.TableSpelling.{Table}
+use Rattle.pack_geometry.specs.Pack.{Pack}
+use Rattle.pack_geometry.specs.TableSpelling.{Table}
 use Rattle.script_lines.specs.declared.statement.Span.{Span}
 use Rattle.hardware_table.specs.declared.NoiseSpan.{NoiseSpan}
 use Rattle.script_lines.specs.declared.statement.Statement as Told
@@ -13,26 +13,26 @@ use Rattle.script_lines.specs.declared.statement.Content.{Content}
 use Rattle.script_lines.specs.declared.statement.Request.{Request as Asked}
 use Rattle.script_reader.specs.Stored.{Kept, seen, digits_at}
 use Rattle.script_lines.specs.Renamed.{renamed, content_by}
-use Rattle.script_meaning.specs.Meaning.{statement_of, written_of}
+use Rattle.script_reader.specs.Meaning.{statement_of, written_of}
 use Rattle.subsystem_spec.specs.Requests.{Request}
 use Rattle.trace_replay.specs.Moments.{Moment, Played}
 use Rattle.trace_replay.specs.Script as says
 use Rattle.trace_replay.specs.Script.{Script, Input, Statement, Plays, Line}
 use Rattle.trace_replay.specs.Runs.{start_of}
-use Rattle.trace_work.specs.Drains.{IsOf}
+use Rattle.trace_laws.specs.Drains.{IsOf}
 use Rattle.driver_machine.specs.World.{World}
 use Rattle.driver_machine.specs.Guards.{IsSetUp}
 use Rattle.driver_answers.specs.Outcome.{IsFront}
 use Rattle.answer_lines.specs.AnswerText.{said_text}
 use Rattle.answer_lines.specs.Counting.{Counts}
-use Rattle.run_stops.specs.Passes.{Event}
+use Rattle.run_laws.specs.StopsPasses.{Event}
 use Rattle.hp_events.specs.declared.drain.Event.TheVariants as event
 use Rattle.subsystem_spec.specs.declared.request.Request as driver
-use Rattle.run_stops.specs.Passes.{input_of}
-use Rattle.run_stops.specs.Passes.{State, IsThere, asked}
+use Rattle.run_laws.specs.StopsPasses.{input_of}
+use Rattle.run_laws.specs.StopsPasses.{State, IsThere, asked}
 use Rattle.event_player.specs.Playing.{HasRun}
 use Rattle.event_player.specs.Steps.{Stage, PlaysEvent, PlaysSubmission, PlaysLine, PlaysDrain, Brings, MayAsk, MayPlay}
-use Rattle.one_run.proofs.Submissions.{of_unit}
+use Rattle.run_laws.proofs.Submissions.{of_unit}
 use Rattle.event_player.proofs.Ahead.{IsOpened}
 use Rattle.event_player.proofs.Inputs.{with_said, plays_event, plays_silent, plays_submission}
 use Rattle.event_player.proofs.Rooms.{event_brings, submission_brings}

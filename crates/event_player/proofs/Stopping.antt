@@ -1,8 +1,8 @@
 -- A call that stopped behind a run so far leaves what playing leaves.
 use Rattle.std.proofs.Common.{◌≡◌, ◌⊎◌, inl, inr, ℕ, ◌≤◌, Bool, true, false, IsTrue, List, [], ◌∷◌, ◌++◌, ◌*◌, length, drop, Option, refl, sym, ap, subst, arith, ◌∙◌, append-nil, append_assoc}
 use Rattle.std.proofs.lemmas.Bool.{false≢true}
-use Rattle.pack_model.specs.Pack.{Pack}
-use Rattle.pack_model.specs.TableSpelling.{Table}
+use Rattle.pack_geometry.specs.Pack.{Pack}
+use Rattle.pack_geometry.specs.TableSpelling.{Table}
 use Rattle.trace_replay.specs.Moments.{Moment, Played, Told, Idle, played}
 use Rattle.trace_replay.specs.Script as says
 use Rattle.trace_replay.specs.Script.{Script, Input, Numbered, drives_of, inputs_of}
@@ -16,18 +16,18 @@ use Rattle.driver_machine.specs.Sound.{Sound}
 use Rattle.driver_machine.specs.Runs.{Run, MayCome}
 use Rattle.driver_answers.specs.Outcome.{IsFront, IsNextBlock}
 use Rattle.driver_answers.specs.Packs.{ReadAll, packs_after_all}
-use Rattle.run_stops.specs.Passes.{AreDeclared}
-use Rattle.run_stops.specs.Passes.{AskBelow, TablesBelow, IsWithinReach}
-use Rattle.run_stops.specs.Passes.{IsReadOf}
-use Rattle.run_stops.specs.Passes.{ShowsAll}
-use Rattle.run_stops.proofs.Passes.{lines_play_nothing}
-use Rattle.one_run.proofs.Passes.{event_fronts}
+use Rattle.run_laws.specs.StopsPasses.{AreDeclared}
+use Rattle.run_laws.specs.StopsPasses.{AskBelow, TablesBelow, IsWithinReach}
+use Rattle.run_laws.specs.StopsPasses.{IsReadOf}
+use Rattle.run_laws.specs.StopsPasses.{ShowsAll}
+use Rattle.run_laws.proofs.StopsPasses.{lines_play_nothing}
+use Rattle.run_laws.proofs.Passes.{event_fronts}
 use Rattle.answer_lines.specs.AnswerText.{out_text}
-use Rattle.run_stops.specs.Passes.{IsThere, is_move, writes_by}
-use Rattle.run_stops.specs.Passes.{writes_next}
-use Rattle.run_stops.specs.Writing.{WriteNothing}
-use Rattle.run_stops.specs.Ahead.{SaysOneSector, AreBehind}
-use Rattle.run_stops.specs.Stops.{IsEventOver, AreOfOneEvent, StaysBeyond, IsAtMove, StopsAtSink}
+use Rattle.run_laws.specs.StopsPasses.{IsThere, is_move, writes_by}
+use Rattle.run_laws.specs.StopsPasses.{writes_next}
+use Rattle.run_laws.specs.Writing.{WriteNothing}
+use Rattle.run_laws.specs.Ahead.{SaysOneSector, AreBehind}
+use Rattle.run_laws.specs.Stops.{IsEventOver, AreOfOneEvent, StaysBeyond, IsAtMove, StopsAtSink}
 use Rattle.event_player.specs.declared.play.PlayFault.{PlayFault}
 use Rattle.event_player.specs.declared.play.PlayFault.TheVariants as faults
 use Rattle.event_player.specs.Steps.{Stage, Passes, PassesAhead, IsCut, IsAhead}

@@ -4,14 +4,14 @@ use Rattle.std.specs.Prelude.{is_some, min, unwrap_or}
 use Rattle.std.proofs.lemmas.List.{take_more, take_all, drop_all, take-append-drop, length-map, length-replicate, get_or-map, get_or_past}
 use Rattle.std.proofs.lemmas.Bool.{cases_lt, false≢true}
 use Rattle.pack_geometry.specs.declared.DriveKind.{DriveKind}
-use Rattle.pack_model.specs.Pack.{Pack}
-use Rattle.pack_model.specs.TableSpelling.{Table}
-use Rattle.pack_model.specs.PackTable.{AreTablesOf}
+use Rattle.pack_geometry.specs.Pack.{Pack}
+use Rattle.pack_geometry.specs.TableSpelling.{Table}
+use Rattle.pack_geometry.specs.PackTable.{AreTablesOf}
 use Rattle.script_lines.specs.declared.statement.Statement.TheVariants as stated
 use Rattle.script_reader.specs.Formed.{IsInRange, AreWell, learned}
 use Rattle.script_lines.specs.Known.{Known, Said, Numbered, known_of}
 use Rattle.script_reader.specs.Stored.{Stored, Kept, seen, lines_in}
-use Rattle.script_meaning.specs.Meaning.{line_of, meaning_of}
+use Rattle.script_reader.specs.Meaning.{line_of, meaning_of}
 use Rattle.trace_replay.specs.Moments.{Moment}
 use Rattle.trace_replay.specs.Script as says
 use Rattle.trace_replay.specs.Script.{Script, Statement, Declares, Plays, Line, IsScript, IsStatement, AreNumbered, drives_of, inputs_before}
@@ -21,19 +21,19 @@ use Rattle.driver_machine.specs.World.{World, UnitView, Setup, no_unit, new_worl
 use Rattle.driver_machine.specs.Events.{next_event}
 use Rattle.driver_machine.specs.Guards.{IsSetUp}
 use Rattle.driver_machine.specs.Sound.{Sound}
-use Rattle.driver_slots.proofs.Starts.{sound_new}
-use Rattle.run_stops.proofs.Passes.{starts}
-use Rattle.run_stops.proofs.Passes.{starts_kept, runs_are_legal}
-use Rattle.run_stops.specs.Passes.{AskBelow}
-use Rattle.run_stops.proofs.Passes.{starts_within_reach}
+use Rattle.driver_invariant.proofs.Starts.{sound_new}
+use Rattle.run_laws.proofs.StopsPasses.{starts}
+use Rattle.run_laws.proofs.StopsPasses.{starts_kept, runs_are_legal}
+use Rattle.run_laws.specs.StopsPasses.{AskBelow}
+use Rattle.run_laws.proofs.StopsPasses.{starts_within_reach}
 use Rattle.driver_answers.proofs.Starts.{starts_with_none, starts_with_room}
 use Rattle.driver_answers.proofs.Ids.{starts_of_none}
 use Rattle.answer_lines.specs.Counting.{CountsAll, tally_by}
 use Rattle.answer_lines.proofs.CountLaws.{counts_none, counts_more}
 use Rattle.hp_core.specs.declared.start.UnitSetup.{UnitSetup}
 use Rattle.hp_core.specs.Setups.{setups_of}
-use Rattle.run_stops.specs.Passes.{State}
-use Rattle.one_run.specs.Steps.{AreUnits, tables_in, AreSetFor}
+use Rattle.run_laws.specs.StopsPasses.{State}
+use Rattle.run_laws.specs.Steps.{AreUnits, tables_in, AreSetFor}
 use Rattle.event_player.specs.Plays.{Plays as IsPlayed, Tallied}
 use Rattle.event_player.specs.Playing.{HasRun, counted, one_request, one_noise}
 use Rattle.event_player.specs.Steps.{Stage, IsAhead, GoesOn, PlaysLine, PlaysDrain, Drains, EndsWith, PlaysScript, Ready, Brings, MayPlay, HasData}

@@ -1,8 +1,8 @@
 -- What a run so far, and a drain, leave of packs.
 use Rattle.std.proofs.Common.{◌≡◌, ℕ, ◌&&◌, Bool, true, false, List, Option, refl, sym, ap, ◌∙◌}
 use Rattle.std.specs.Prelude.{if◌then◌else◌, nat_lt}
-use Rattle.pack_model.specs.Pack.{Pack}
-use Rattle.pack_model.specs.TableSpelling.{Table}
+use Rattle.pack_geometry.specs.Pack.{Pack}
+use Rattle.pack_geometry.specs.TableSpelling.{Table}
 use Rattle.trace_replay.specs.Moments.{Moment, played}
 use Rattle.trace_replay.specs.Script.{Script, Line, drives_of}
 use Rattle.trace_replay.specs.Events.{Event, is_no_line}
@@ -10,9 +10,9 @@ use Rattle.trace_replay.specs.Packs.{Surface}
 use Rattle.trace_replay.specs.Replay.{Replay, Follows, after_moments, drained, act_drained, next_wish}
 use Rattle.trace_replay.specs.Runs.{start_of}
 use Rattle.driver_machine.specs.World.{World}
-use Rattle.run_stops.proofs.Passes.{packs_are_left}
-use Rattle.run_stops.specs.Passes.{AskBelow, TablesBelow, StayFrom}
-use Rattle.run_stops.specs.Ahead.{AreBehind}
+use Rattle.run_laws.proofs.StopsPasses.{packs_are_left}
+use Rattle.run_laws.specs.StopsPasses.{AskBelow, TablesBelow, StayFrom}
+use Rattle.run_laws.specs.Ahead.{AreBehind}
 use Rattle.event_player.specs.Playing.{HasRun}
 use Rattle.event_player.specs.Steps.{HasDrained}
 

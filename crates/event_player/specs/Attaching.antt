@@ -2,9 +2,9 @@
 use Rattle.std.specs.Prelude.{◌≡◌, ℕ, ◌*◌, ◌<◌, ◌≤◌, Bool, IsTrue, List, [], ◌∷◌, ◌++◌, length, Some}
 use Rattle.pack_geometry.specs.declared.DriveKind.{DriveKind}
 use Rattle.pack_geometry.specs.Geometry.{block_count}
-use Rattle.pack_model.specs.Pack.{Pack}
-use Rattle.pack_model.specs.TableSpelling.{Table}
-use Rattle.pack_model.specs.PackTable.{IsTableOf}
+use Rattle.pack_geometry.specs.Pack.{Pack}
+use Rattle.pack_geometry.specs.TableSpelling.{Table}
+use Rattle.pack_geometry.specs.PackTable.{IsTableOf}
 use Rattle.script_lines.specs.declared.statement.Statement.{Statement}
 use Rattle.script_lines.specs.declared.statement.Statement.TheVariants as says
 use Rattle.driver_machine.specs.World.{Setup}

@@ -1,6 +1,6 @@
 -- What each call of the player needs, and what it leaves.
 use Rattle.std.specs.Prelude.{◌≡◌, false, IsTrue, [], Result, OnOk, IfErr}
-use Rattle.run_stops.specs.Passes.{State}
+use Rattle.run_laws.specs.StopsPasses.{State}
 use Rattle.event_player.specs.declared.play.PlayFault.{PlayFault}
 use Rattle.event_player.specs.Faults.{HaveTold}
 use Rattle.event_player.specs.Steps.{Stage}

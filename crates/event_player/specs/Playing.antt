@@ -1,16 +1,16 @@
 -- How far a script is played: what stands between two lines of it.
 use Rattle.std.specs.Prelude.{◌≡◌, ℕ, ◌+◌, List, [], ◌∷◌, Option}
-use Rattle.pack_model.specs.Pack.{Pack}
-use Rattle.pack_model.specs.TableSpelling.{Table}
+use Rattle.pack_geometry.specs.Pack.{Pack}
+use Rattle.pack_geometry.specs.TableSpelling.{Table}
 use Rattle.trace_replay.specs.Moments.{Moment, played}
 use Rattle.trace_replay.specs.Script.{Script, Submit, Noise, Arm, Statement, Plays as PlaysInput, Line, drives_of, inputs_before}
 use Rattle.trace_replay.specs.Runs.{start_of}
 use Rattle.driver_machine.specs.World.{World}
-use Rattle.run_stops.specs.Passes.{IsSoFar}
-use Rattle.run_stops.specs.Passes.{IsKept}
-use Rattle.run_stops.specs.Passes.{AskBelow, TablesBelow, IsWithinReach}
-use Rattle.run_stops.specs.Passes.{AreAsLong}
-use Rattle.one_run.specs.Passes.{AreAsked}
+use Rattle.run_laws.specs.StopsPasses.{IsSoFar}
+use Rattle.run_laws.specs.StopsPasses.{IsKept}
+use Rattle.run_laws.specs.StopsPasses.{AskBelow, TablesBelow, IsWithinReach}
+use Rattle.run_laws.specs.StopsPasses.{AreAsLong}
+use Rattle.run_laws.specs.Passes.{AreAsked}
 
 -- HOW MUCH lines bring: so many requests, noises, and lines that arm faults
 abbrev pub one_request : Statement → ℕ

@@ -2,17 +2,17 @@
 use Rattle.std.specs.Prelude.{◌≡◌, ℕ, ◌<◌, ◌≤◌, ◌*◌, Bool, IsTrue, List, ◌∷◌, ◌++◌, length, Option, Some}
 use Rattle.pack_geometry.specs.declared.DriveKind.{DriveKind}
 use Rattle.pack_geometry.specs.Geometry.{block_count}
-use Rattle.pack_model.specs.Pack.{Pack}
-use Rattle.pack_model.specs.TableSpelling.{Table}
+use Rattle.pack_geometry.specs.Pack.{Pack}
+use Rattle.pack_geometry.specs.TableSpelling.{Table}
 use Rattle.trace_replay.specs.Moments.{Moment}
 use Rattle.trace_replay.specs.Script.{Script, Line, Declares, drives_in, drives_of}
 use Rattle.trace_replay.specs.Runs.{IsLegalRun, start_of}
 use Rattle.trace_replay.specs.Text.{trace_text}
-use Rattle.run_stops.specs.Passes.{AreAsLong}
+use Rattle.run_laws.specs.StopsPasses.{AreAsLong}
 use Rattle.answer_lines.specs.AnswerText.{out_text}
 use Rattle.answer_lines.specs.declared.tally.Tally.{Tally}
 use Rattle.answer_lines.specs.Counting.{tally_of}
-use Rattle.run_stops.specs.Stops.{StaysBeyond}
+use Rattle.run_laws.specs.Stops.{StaysBeyond}
 use Rattle.event_player.specs.Playing.{counted, one_request}
 
 -- A LEGAL RUN of the script over the packs, from what they held first to what they hold now, with the tables of these packs. Where the

@@ -1,7 +1,7 @@
 -- A TEXT IS SAID: it is put behind what is kept for the sink of the answers. Before any of that goes out, all lines that are kept are sent.
 use Rattle.std.specs.Prelude.{◌≡◌, ◌⊎◌, ℕ, ◌≤◌, Bool, true, false, IsTrue, List, [], ◌++◌, Result, OnOk, OnErr}
 use Rattle.outside_traits.specs.Causes.{Rose}
-use Rattle.run_stops.specs.Ahead.{IsBetween}
+use Rattle.run_laws.specs.Ahead.{IsBetween}
 
 -- a sink as whether it tells, what it took, and its count of faults; and what is kept for it
 pub record Side : Type 0 where

@@ -1,8 +1,8 @@
 -- What playing does line by line: the acts of a call with the answers behind them, and how a run goes on.
 use Rattle.std.specs.Prelude.{◌≡◌, ◌≢◌, ◌⊎◌, ℕ, ◌+◌, ◌-◌, ◌^◌, ◌<◌, ◌≤◌, Bool, true, false, IsTrue, List, [], ◌∷◌, ◌++◌, length, Option, Some, None, Result, IsErrOf}
 use Rattle.std.specs.List.{flat_map}
-use Rattle.pack_model.specs.Pack.{Pack}
-use Rattle.pack_model.specs.TableSpelling.{Table}
+use Rattle.pack_geometry.specs.Pack.{Pack}
+use Rattle.pack_geometry.specs.TableSpelling.{Table}
 use Rattle.outside_traits.specs.Causes.{Rose}
 use Rattle.script_lines.specs.declared.statement.Statement as Told
 use Rattle.script_lines.specs.declared.statement.Statement.TheVariants as says
@@ -13,7 +13,7 @@ use Rattle.trace_replay.specs.Moments.{Moment, played}
 use Rattle.trace_replay.specs.Script.{Script, Input, Submit, Drain, Statement, Declares, Plays, Line, drives_of, inputs_before, with_id}
 use Rattle.trace_replay.specs.Replay.{after_moments}
 use Rattle.trace_replay.specs.Runs.{start_of}
-use Rattle.trace_work.specs.Measure.{events_left}
+use Rattle.trace_laws.specs.Measure.{events_left}
 use Rattle.trace_replay.specs.Text.{trace_text}
 use Rattle.driver_machine.specs.World.{World, Held, unit_at, slot_at}
 use Rattle.driver_machine.specs.Acts.{Act, Tried, after_all}
@@ -23,23 +23,23 @@ use Rattle.driver_machine.specs.Guards.{IsSetUp, IsHeldFor}
 use Rattle.driver_machine.specs.Sound.{Sound, AtWork}
 use Rattle.driver_machine.specs.Runs.{Run, MaySubmit, MayCome}
 use Rattle.driver_answers.specs.Packs.{packs_after_all}
-use Rattle.run_stops.specs.Passes.{IsReadOf}
-use Rattle.run_stops.specs.Passes.{IsDraining}
-use Rattle.run_stops.specs.Passes.{IsKept}
-use Rattle.run_stops.specs.Passes.{AskBelow, TablesBelow, IsWithinReach}
-use Rattle.run_stops.specs.Passes.{AreAsLong}
-use Rattle.one_run.specs.Passes.{AreAsked}
+use Rattle.run_laws.specs.StopsPasses.{IsReadOf}
+use Rattle.run_laws.specs.StopsPasses.{IsDraining}
+use Rattle.run_laws.specs.StopsPasses.{IsKept}
+use Rattle.run_laws.specs.StopsPasses.{AskBelow, TablesBelow, IsWithinReach}
+use Rattle.run_laws.specs.StopsPasses.{AreAsLong}
+use Rattle.run_laws.specs.Passes.{AreAsked}
 use Rattle.driver_answers.specs.Counts.{IsWithin, in_use}
 use Rattle.driver_answers.specs.Ids.{AreOf}
 use Rattle.driver_answers.specs.Waiting.{waiting, all_taken}
 use Rattle.answer_lines.specs.AnswerText.{answer_text, out_text}
 use Rattle.answer_lines.specs.declared.tally.Tally.{Tally}
 use Rattle.answer_lines.specs.Counting.{Counts, CountsAll}
-use Rattle.run_stops.specs.Passes.{State, IsThere, writes_by}
-use Rattle.run_stops.specs.Ahead.{IsBetween, WritesAhead, TellsAhead}
+use Rattle.run_laws.specs.StopsPasses.{State, IsThere, writes_by}
+use Rattle.run_laws.specs.Ahead.{IsBetween, WritesAhead, TellsAhead}
 use Rattle.event_player.specs.declared.play.PlayFault.{PlayFault}
 use Rattle.event_player.specs.declared.play.PlayFault.TheVariants as faults
-use Rattle.one_run.specs.Steps.{AreUnits}
+use Rattle.run_laws.specs.Steps.{AreUnits}
 use Rattle.event_player.specs.Playing.{HasRun, counted, one_request, one_noise, one_fault}
 
 -- THE ANSWERS THAT WAIT: their text

@@ -1,8 +1,8 @@
 -- What a call leaves where a sink or the packs failed, and a script with it.
 use Rattle.std.specs.Prelude.{◌≡◌, ◌⊎◌, ℕ, ◌<◌, Bool, true, false, IsTrue, List, [], ◌∷◌, ◌++◌, Option, None}
-use Rattle.pack_model.specs.Pack.{Pack}
-use Rattle.pack_model.specs.PackTable.{AreTablesOf}
-use Rattle.pack_model.specs.TableSpelling.{Table}
+use Rattle.pack_geometry.specs.Pack.{Pack}
+use Rattle.pack_geometry.specs.PackTable.{AreTablesOf}
+use Rattle.pack_geometry.specs.TableSpelling.{Table}
 use Rattle.subsystem_spec.specs.Requests.{Request}
 use Rattle.trace_replay.specs.Moments.{Moment}
 use Rattle.trace_replay.specs.Script.{Script, Input, Line, Numbered, Statement, Declares, Plays, drives_of, inputs_of, inputs_before}
@@ -18,13 +18,13 @@ use Rattle.driver_machine.specs.Sound.{Sound}
 use Rattle.driver_machine.specs.Runs.{Run, MaySubmit}
 use Rattle.driver_answers.specs.Outcome.{IsFront, IsNextBlock}
 use Rattle.driver_answers.specs.Packs.{ReadAll, packs_after_all}
-use Rattle.run_stops.specs.Passes.{AreDeclared}
-use Rattle.run_stops.specs.Passes.{AllFlip}
-use Rattle.run_stops.specs.Passes.{ShowsAll}
+use Rattle.run_laws.specs.StopsPasses.{AreDeclared}
+use Rattle.run_laws.specs.StopsPasses.{AllFlip}
+use Rattle.run_laws.specs.StopsPasses.{ShowsAll}
 use Rattle.answer_lines.specs.AnswerText.{out_text}
-use Rattle.run_stops.specs.Passes.{is_move, writes_by}
-use Rattle.run_stops.specs.Passes.{writes_next}
-use Rattle.run_stops.specs.Stops.{CameTo, StaysBeyond, IsAtMove, Took, StopsAtSink, StopsAtStore}
+use Rattle.run_laws.specs.StopsPasses.{is_move, writes_by}
+use Rattle.run_laws.specs.StopsPasses.{writes_next}
+use Rattle.run_laws.specs.Stops.{CameTo, StaysBeyond, IsAtMove, Took, StopsAtSink, StopsAtStore}
 use Rattle.event_player.specs.declared.play.PlayFault.{PlayFault}
 use Rattle.event_player.specs.declared.play.PlayFault.TheVariants as faults
 use Rattle.event_player.specs.Playing.{HasRun}

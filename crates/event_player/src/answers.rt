@@ -12,7 +12,7 @@ use crate::desk::Desk;
 use answer_lines::{answer_line, write_fill};
 use driver_answers::answers::taken_law;
 use outside_traits::traits::{Sink, SinkFailed};
-use run_stops::{Answer, AnswerKind, Subsystem};
+use run_laws::stops::{Answer, AnswerKind, Subsystem};
 
 /// How many bytes block `k` of `count` has, of which the last one has `last`.
 fn block_size(k: u32, count: u32, last: u32) -> u32

@@ -1,15 +1,15 @@
 // The units of a script are attached.
 ghost use Rattle.std.specs.Prelude.{◌≡◌, ◌≤◌, ◌<◌, ℕ, IsTrue, IfOk, IfErr, IfSome, OnOk, IsErrOf};
 ghost use Rattle.outside_traits.specs.Causes.{Rose};
-ghost use Rattle.pack_model.specs.PackTable.{AreTablesOf};
-ghost use Rattle.pack_model.specs.TableSpelling.{IsTable};
+ghost use Rattle.pack_geometry.specs.PackTable.{AreTablesOf};
+ghost use Rattle.pack_geometry.specs.TableSpelling.{IsTable};
 ghost use Rattle.script_reader.specs.Grammar.{Spells};
 ghost use Rattle.script_reader.specs.Stored.{lines_in};
 ghost use Rattle.script_lines.specs.Words.{all_verbs};
-ghost use Rattle.script_meaning.specs.Meaning.{meaning_of};
+ghost use Rattle.script_reader.specs.Meaning.{meaning_of};
 ghost use Rattle.trace_replay.specs.Script.{drives_of};
 ghost use Rattle.hp_core.specs.Setups.{setup_of, setups_of};
-ghost use Rattle.one_run.specs.Steps.{tables_in, AreSetFor};
+ghost use Rattle.run_laws.specs.Steps.{tables_in, AreSetFor};
 ghost use Rattle.event_player.specs.Attaching.{IsSet, IsFoundLong, HasRoom, Adds, RefusesLine};
 ghost use Rattle.event_player.specs.Faults.{IsLongFor};
 ghost use Rattle.event_player.specs.Plays.{IsTooLong};
@@ -20,8 +20,8 @@ use drive_model::Drive;
 use mba_autoconf::{AttachFault, attach};
 use outside_traits::traits::Packs;
 use pack_geometry::DriveKind;
-use run_stops::UnitSetup;
-use script_meaning::meaning_law;
+use run_laws::stops::UnitSetup;
+use script_reader::meaning::meaning_law;
 use script_reader::{Script, Statement, Stored};
 use std::alloc::Global;
 

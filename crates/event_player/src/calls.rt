@@ -1,8 +1,8 @@
 // The calls of the driver: a request is submitted, or an event happens; behind them the answers that wait are said.
 ghost use Rattle.std.specs.Prelude.{◌≡◌, ℕ, Bool, IsTrue, OnOk, IfErr};
-ghost use Rattle.pack_model.specs.Pack.{Pack};
-ghost use Rattle.run_stops.specs.Passes.{input_of};
-ghost use Rattle.run_stops.specs.Passes.{IsAsked, IsThere, asked, writes_by};
+ghost use Rattle.pack_geometry.specs.Pack.{Pack};
+ghost use Rattle.run_laws.specs.StopsPasses.{input_of};
+ghost use Rattle.run_laws.specs.StopsPasses.{IsAsked, IsThere, asked, writes_by};
 ghost use Rattle.event_player.specs.Saying.{side, SendsAhead};
 ghost use Rattle.event_player.specs.Calls.{MayGoOn, KeepsGoing};
 ghost use Rattle.event_player.specs.Faults.{HaveTold};
@@ -13,7 +13,7 @@ use crate::answers::say_answers;
 use crate::desk::Desk;
 use crate::play::PlayFault;
 use outside_traits::traits::{Packs, Sink, SinkFailed};
-use run_stops::{Event, Request, Subsystem};
+use run_laws::stops::{Event, Request, Subsystem};
 
 /// Submits a request at a line, with the bytes of a write.
 pub fn ask<O: Sink, T: Sink>(

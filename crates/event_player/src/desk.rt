@@ -6,7 +6,7 @@ ghost use Rattle.event_player.specs.Saying.{side, Says};
 use answer_lines::{BlockLine, FillLine, Tally};
 use outside_traits::Gather;
 use outside_traits::traits::{NoMemory, Sink, SinkFailed};
-use run_stops::Subsystem;
+use run_laws::stops::Subsystem;
 use std::alloc::Global;
 
 /// How many bytes of answers are gathered at most.

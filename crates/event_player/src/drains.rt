@@ -9,7 +9,7 @@ use crate::calls::happen;
 use crate::desk::Desk;
 use crate::play::PlayFault;
 use outside_traits::traits::{Packs, Sink};
-use run_stops::Subsystem;
+use run_laws::stops::Subsystem;
 
 /// The events of a drain behind its first one. It comes to its end long before it has turned so often.
 fn go_on<P: Packs, O: Sink, T: Sink>(

@@ -24,5 +24,5 @@ pub mod play;
 mod player;
 
 pub use hp_core::UnitSetup;
-pub use run_stops::next_block_law;
+pub use run_laws::stops::next_block_law;
 pub use script_reader::{ReadFault, Script, ScriptKind, read_script};

@@ -1,10 +1,10 @@
 // A script is played to its end.
 ghost use Rattle.std.specs.Prelude.{◌≡◌, ◌≤◌, ℕ, [], length, IsTrue, Result, Ok, IfOk, IfErr, vec_len, Option};
-ghost use Rattle.pack_model.specs.TableSpelling.{Table};
+ghost use Rattle.pack_geometry.specs.TableSpelling.{Table};
 ghost use Rattle.script_reader.specs.Grammar.{Spells};
 ghost use Rattle.script_reader.specs.Stored.{lines_in};
 ghost use Rattle.script_lines.specs.Words.{all_verbs};
-ghost use Rattle.script_meaning.specs.Meaning.{meaning_of};
+ghost use Rattle.script_reader.specs.Meaning.{meaning_of};
 ghost use Rattle.answer_lines.specs.Counting.{tally_by};
 ghost use Rattle.event_player.specs.Plays.{Tallied, IsTooLong};
 ghost use Rattle.event_player.specs.Faults.{IsPlaying, IsBefore, IsLongFor, AreUntouched, HaveTold, Rise};
@@ -13,7 +13,7 @@ ghost use Rattle.event_player.specs.Calls.{MayGoOn, IsPlayed};
 ghost use Rattle.event_player.specs.Steps.{stage, Ready, PlaysScript, HasCauses};
 ghost use Rattle.event_player.specs.Stops.{StopsScript, Leaves};
 ghost use Rattle.event_player.specs.declared.play.PlayFault.TheVariants.{Store};
-ghost use Rattle.run_stops.specs.Stops.{took, TakesRest};
+ghost use Rattle.run_laws.specs.Stops.{took, TakesRest};
 
 use crate::attaching::attach_units;
 use crate::counting::{count_noises, count_requests};
@@ -23,8 +23,8 @@ use crate::player::play_line;
 pub use answer_lines::Tally;
 use driver_answers::outcome::Stop;
 use outside_traits::traits::{NoMemory, Packs, Sink, SinkFailed};
-use run_stops::Subsystem;
-use script_meaning::meaning_law;
+use run_laws::stops::Subsystem;
+use script_reader::meaning::meaning_law;
 use script_reader::{Script, read_back_law};
 use std::alloc::{AllocError, Global};
 use thiserror::Error;

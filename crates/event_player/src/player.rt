@@ -7,12 +7,12 @@ ghost use Rattle.script_reader.specs.Formed.{IsWritten};
 ghost use Rattle.script_lines.specs.declared.statement.Span.{Span};
 ghost use Rattle.script_reader.specs.Stored.{seen, digits_at};
 ghost use Rattle.script_lines.specs.Renamed.{renamed, content_by};
-ghost use Rattle.script_meaning.specs.Meaning.{statement_of, written_of};
+ghost use Rattle.script_reader.specs.Meaning.{statement_of, written_of};
 ghost use Rattle.trace_replay.specs.Moments.{Played};
 ghost use Rattle.trace_replay.specs.Script.{Noise as NoiseInput, Plays};
 ghost use Rattle.answer_lines.specs.AnswerText.{said_text};
 ghost use Rattle.answer_lines.specs.Counting.{Counts};
-ghost use Rattle.run_stops.specs.Passes.{input_of};
+ghost use Rattle.run_laws.specs.StopsPasses.{input_of};
 ghost use Rattle.event_player.specs.Saying.{side, Says};
 ghost use Rattle.event_player.specs.Calls.{MayGoOn, KeepsGoing, IsPlayed};
 ghost use Rattle.event_player.specs.Steps.{stage, IsNoEvent, PlaysLine, Brings, MayPlay, HasData, HasCauses};
@@ -25,8 +25,8 @@ use crate::play::PlayFault;
 use answer_lines::noise_line;
 use fire_code::{Noise, class_of};
 use outside_traits::traits::{Packs, Sink, SinkFailed};
-use run_stops::{Event, Request, Subsystem};
-use script_meaning::meaning_law;
+use run_laws::stops::{Event, Request, Subsystem};
+use script_reader::meaning::meaning_law;
 use script_reader::{Content, Request as Asked, Script, Span, Statement, Stored};
 
 /// Says the class of noise that is armed at a line, and counts what it says.

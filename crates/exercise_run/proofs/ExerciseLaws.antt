@@ -1,7 +1,7 @@
 -- What an exercise comes to.
 use Rattle.std.proofs.Common.{◌≡◌, ℕ, suc, ◌+◌, ◌-◌, ◌^◌, ◌<◌, Bool, false, List, [], ◌∷◌, map, min, length, All, Option, sym, ap, subst, arith, ◌∙◌}
-use Rattle.pack_model.specs.Pack.{Pack}
-use Rattle.pack_model.specs.TableSpelling.{Table}
+use Rattle.pack_geometry.specs.Pack.{Pack}
+use Rattle.pack_geometry.specs.TableSpelling.{Table}
 use Rattle.script_lines.specs.declared.statement.Statement.TheVariants as says
 use Rattle.script_reader.specs.declared.fault.ReadFault.{ReadFault}
 use Rattle.script_reader.specs.declared.fault.ReadFault.TheVariants as reading
@@ -12,12 +12,12 @@ use Rattle.script_lines.specs.Known.{Said, Numbered as NumberedLine}
 use Rattle.script_reader.specs.Printing.{numbered}
 use Rattle.script_reader.specs.Stored.{Stored, lines_in}
 use Rattle.script_lines.specs.Words.{all_verbs}
-use Rattle.script_meaning.specs.Meaning.{line_of, meaning, meaning_of, statement_of}
+use Rattle.script_reader.specs.Meaning.{line_of, meaning, meaning_of, statement_of}
 use Rattle.trace_replay.specs.Moments.{Moment, answers_in}
 use Rattle.trace_replay.specs.Script.{Drain, Numbered, Script, IsScript, with_input, inputs_before}
 use Rattle.trace_replay.specs.Runs.{IsLegalRun}
-use Rattle.block_machine.specs.LegalAnswers.{AreNoAliases}
-use Rattle.block_machine.specs.Promises.{Promises}
+use Rattle.trace_laws.specs.LegalAnswers.{AreNoAliases}
+use Rattle.trace_laws.specs.Promises.{Promises}
 use Rattle.answer_lines.specs.declared.tally.Tally.{Tally}
 use Rattle.event_player.proofs.Passes.{legal_runs_are_one}
 use Rattle.event_player.specs.declared.play.PlayFault.{PlayFault}

@@ -11,7 +11,7 @@ use Rattle.script_lines.specs.declared.statement.Request.{Request}
 use Rattle.script_lines.specs.declared.statement.Statement.TheVariants as says
 use Rattle.script_lines.specs.Known.{Said}
 use Rattle.script_reader.specs.Printing.{numbered}
-use Rattle.script_meaning.specs.Meaning.{line_of, statement_of}
+use Rattle.script_reader.specs.Meaning.{line_of, statement_of}
 use Rattle.trace_replay.specs.Script.{Drain, Numbered, drives_of, inputs_before, inputs_of, with_input}
 use Rattle.event_player.specs.Passes.{AskBelow}
 use Rattle.hp_exercise.specs.Exercise.{block_of, count_of, words_of}

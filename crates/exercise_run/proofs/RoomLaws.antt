@@ -4,8 +4,8 @@ use Rattle.std.specs.Prelude.{if◌then◌else◌, ◌==◌}
 use Rattle.std.proofs.lemmas.Grind.{common_steps}
 use Rattle.std.proofs.lemmas.Bool.{eq-eqb}
 use Rattle.std.proofs.lemmas.Bool.Decides.{eqb_tells}
-use Rattle.pack_model.specs.Pack.{Pack, grown, with_window, with_block, with_pack, with_written, written}
-use Rattle.pack_model.proofs.PackLaws.{length-grown}
+use Rattle.pack_geometry.specs.Pack.{Pack, grown, with_window, with_block, with_pack, with_written, written}
+use Rattle.pack_geometry.proofs.PackLaws.{length-grown}
 use Rattle.outside_traits.specs.Causes.{Rose}
 use Rattle.trace_replay.specs.Script.{Script, drives_of}
 use Rattle.driver_answers.specs.Outcome.{IsNextBlock}

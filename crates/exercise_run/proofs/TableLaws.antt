@@ -5,12 +5,12 @@ use Rattle.std.proofs.lemmas.Option.{none-some}
 use Rattle.pack_geometry.specs.declared.DriveKind.{DriveKind}
 use Rattle.pack_geometry.specs.declared.Place.{Place}
 use Rattle.pack_geometry.specs.Geometry.{block_number, copy_at}
-use Rattle.pack_model.specs.Pack.{Pack, block_at, empty_pack}
-use Rattle.pack_model.specs.PackTable.{IsFirstTold, IsTableAt, IsTableOf, AreTablesOf}
-use Rattle.pack_model.specs.TableFields.{word_at}
-use Rattle.pack_model.specs.TableSpelling.{Table, Spells, table_text}
-use Rattle.pack_model.proofs.PackLaws.{get_or-window}
-use Rattle.pack_model.proofs.TableLaws.{place_in-listed, unlisted_is_end}
+use Rattle.pack_geometry.specs.Pack.{Pack, block_at, empty_pack}
+use Rattle.pack_geometry.specs.PackTable.{IsFirstTold, IsTableAt, IsTableOf, AreTablesOf}
+use Rattle.pack_geometry.specs.TableFields.{word_at}
+use Rattle.pack_geometry.specs.TableSpelling.{Table, Spells, table_text}
+use Rattle.pack_geometry.proofs.PackLaws.{get_or-window}
+use Rattle.pack_geometry.proofs.TableLaws.{place_in-listed, unlisted_is_end}
 use Rattle.exercise_run.specs.Room.{AreEmpty}
 
 -- ITS WORDS are zero.

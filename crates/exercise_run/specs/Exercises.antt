@@ -1,15 +1,15 @@
 -- What an exercise has done.
 use Rattle.std.specs.Prelude.{◌≡◌, ◌⊎◌, ℕ, false, Bool, IsTrue, List, [], ◌++◌}
-use Rattle.pack_model.specs.Pack.{Pack}
+use Rattle.pack_geometry.specs.Pack.{Pack}
 use Rattle.outside_traits.specs.Causes.{Rose}
 use Rattle.outside_traits.specs.Puts.{TakesFront}
 use Rattle.script_reader.specs.Grammar.{Spells}
 use Rattle.script_lines.specs.Known.{Numbered}
 use Rattle.script_reader.specs.Printing.{numbered}
 use Rattle.script_lines.specs.Words.{all_verbs}
-use Rattle.script_meaning.specs.Meaning.{meaning}
+use Rattle.script_reader.specs.Meaning.{meaning}
 use Rattle.trace_replay.specs.Script.{Script, inputs_of}
-use Rattle.block_machine.specs.LegalAnswers.{AreNoAliases}
+use Rattle.trace_laws.specs.LegalAnswers.{AreNoAliases}
 use Rattle.answer_lines.specs.declared.tally.Tally.{Tally}
 use Rattle.event_player.specs.declared.play.PlayFault.TheVariants as faults
 use Rattle.event_player.specs.Plays.{Tallied}
@@ -17,7 +17,7 @@ use Rattle.event_player.specs.Passes.{Took}
 use Rattle.event_player.specs.Stops.{StopsPlaying}
 use Rattle.hp_exercise.specs.Exercise.{script_text}
 use Rattle.hp_exercise.specs.Statements.{script_statements}
-use Rattle.block_machine.specs.Promises.{Promises}
+use Rattle.trace_laws.specs.Promises.{Promises}
 use Rattle.event_player.specs.Passes.{IsTheRun}
 use Rattle.exercise_run.specs.Room.{AreEmpty}
 use Rattle.exercise_run.specs.ExerciseText.{exercise_text}

@@ -1,6 +1,6 @@
 -- The room for an exercise, and the packs in memory on which it is played.
 use Rattle.std.specs.Prelude.{◌≡◌, ℕ, ◌<◌, ◌≤◌, ◌-◌, ◌^◌, ◌==◌, ◌||◌, true, if◌then◌else◌, List, [], length, Option, None, Some, slice_get}
-use Rattle.pack_model.specs.Pack.{Pack, empty_pack, with_written, with_mark}
+use Rattle.pack_geometry.specs.Pack.{Pack, empty_pack, with_written, with_mark}
 use Rattle.mass_outside.specs.declared.slots.Image.{Image}
 use Rattle.mass_outside.specs.Images.{slot_of}
 use Rattle.mass_outside.specs.Slots.{blocks_in}

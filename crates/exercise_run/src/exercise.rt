@@ -6,16 +6,16 @@ ghost use Rattle.exercise_run.specs.Exercises.{Exercised, IsCutShort, IsDone, Is
 use crate::packs::ExercisePacks;
 use crate::text::exercise_lines;
 use answer_lines::Tally;
-use block_machine::promises::promises_law;
 use event_player::play::{PlayFault, play};
 use hp_exercise::{bounds_law, script_of, spelling_law};
 use mass_outside::mem_streams::SureSink;
 use outside_traits::traits::{Sink, SinkFailed};
 use outside_traits::whole::write_all;
-use script_meaning::meaning_law;
+use script_reader::meaning::meaning_law;
 use script_reader::{ReadFault, grammar_law, read_script};
 use std::alloc::Global;
 use thiserror::Error;
+use trace_laws::promises::promises_law;
 
 /// Why an exercise was not played, or not printed.
 #[derive(Clone, Copy, Debug, PartialEq, Eq, Error)]

@@ -3,7 +3,7 @@ use Rattle.std.proofs.Common.{◌≡◌, inl, inr, ℕ, ◌≤◌, Bool, true, f
 use Rattle.std.specs.Prelude.{Result, Ok, Err, IfOk, IfErr, if◌then◌else◌, IsTrue, slice_set, not, ◌&&◌}
 use Rattle.main_memory.specs.Bytes.{filled}
 use Rattle.main_memory.specs.Blocks.{size_at}
-use Rattle.pack_model.specs.Pack.{Pack, with_written}
+use Rattle.pack_geometry.specs.Pack.{Pack, with_written}
 use Rattle.hardware_table.specs.declared.Moved.{Moved}
 use Rattle.hardware_table.specs.declared.Work.TheVariants.{Transfer}
 use Rattle.hardware_table.specs.Drive.{DriveState, is_writing}

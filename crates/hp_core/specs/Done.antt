@@ -1,6 +1,6 @@
 -- What the method of an act does.
 use Rattle.std.specs.Prelude.{◌≡◌, ℕ, ◌<◌, ◌≤◌, Bool, false, List, [], ◌∷◌, length, Result, Option, Some, IsTrue, IfOk, IfErr}
-use Rattle.pack_model.specs.Pack.{Pack}
+use Rattle.pack_geometry.specs.Pack.{Pack}
 use Rattle.outside_traits.specs.Causes.{HasCause, Rose}
 use Rattle.hardware_table.specs.Adapter.{next_block}
 use Rattle.outside_traits.specs.Gathers.{Gathers}

@@ -1,6 +1,6 @@
 -- What the acts of the driver work on.
 use Rattle.std.specs.Prelude.{ℕ, ◌≤◌, ◌+◌, ◌++◌, List, [], ◌∷◌, length, Option, None, Some}
-use Rattle.pack_model.specs.Pack.{Pack}
+use Rattle.pack_geometry.specs.Pack.{Pack}
 use Rattle.driver_machine.specs.declared.Made.{Made}
 use Rattle.driver_machine.specs.World.{World, Held}
 use Rattle.driver_answers.specs.Outcome.{Site}

@@ -2,7 +2,7 @@
 ghost use Rattle.std.specs.Prelude.{◌≡◌, ◌<◌, ◌≤◌, ◌+◌, [], Contains, min, replicate, IfOk, None};
 ghost use Rattle.hardware_table.specs.Noise.{empty_book};
 ghost use Rattle.driver_machine.specs.World.{Setup, no_unit, new_unit, new_adapter_view, set_up, new_world};
-ghost use Rattle.driver_slots.specs.Parts.{AreSetups};
+ghost use Rattle.driver_invariant.specs.Parts.{AreSetups};
 ghost use Rattle.hp_core.specs.Setups.{setup_of, setups_of};
 
 use crate::driver::Core;

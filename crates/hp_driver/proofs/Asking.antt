@@ -13,8 +13,8 @@ use Rattle.driver_machine.specs.Guards.{IsSetUp, IsFresh, IsNew, IsHeldFor}
 use Rattle.driver_machine.specs.Runs.{MaySubmit}
 use Rattle.driver_invariant.proofs.Calls.{submit_works}
 use Rattle.hp_events.proofs.Passes.{sound_after}
-use Rattle.quiet_driver.specs.Passes.{Stop}
-use Rattle.quiet_driver.specs.Passes.{stop_in}
+use Rattle.driver_trace.specs.QuietPasses.{Stop}
+use Rattle.driver_trace.specs.QuietPasses.{stop_in}
 use Rattle.request_slots.specs.declared.asked.Asked.{Asked}
 use Rattle.request_slots.specs.Requests as slots
 use Rattle.hp_events.specs.Passes.{State}

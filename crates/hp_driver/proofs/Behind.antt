@@ -3,15 +3,15 @@ use Rattle.std.proofs.Common.{◌≡◌, List, length, Option, Some, None, sym, 
 use Rattle.driver_machine.specs.World.{World}
 use Rattle.driver_machine.specs.Acts.{Act, after_all}
 use Rattle.driver_machine.specs.Sound.{Sound}
-use Rattle.driver_slots.proofs.Sizes.{sizes_all}
+use Rattle.driver_invariant.proofs.Sizes.{sizes_all}
 use Rattle.driver_machine.specs.Runs.{Run}
 use Rattle.driver_invariant.proofs.Leads.{sound_along}
 use Rattle.hp_events.proofs.Passes.{sound_after}
-use Rattle.quiet_driver.specs.Passes.{Site, Told, Outcome}
-use Rattle.quiet_driver.specs.Passes.{Stop}
-use Rattle.quiet_driver.specs.Passes.{Store, Sink}
-use Rattle.quiet_driver.specs.Passes.{AllFlip}
-use Rattle.quiet_driver.proofs.Passes.{acts_keep_noise}
+use Rattle.driver_trace.specs.QuietPasses.{Site, Told, Outcome}
+use Rattle.driver_trace.specs.QuietPasses.{Stop}
+use Rattle.driver_trace.specs.QuietPasses.{Store, Sink}
+use Rattle.driver_trace.specs.QuietPasses.{AllFlip}
+use Rattle.driver_trace.proofs.QuietPasses.{acts_keep_noise}
 
 -- some acts ran, and left this world
 pub record Ran (w now : World) : Type 0 where

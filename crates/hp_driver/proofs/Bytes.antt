@@ -1,25 +1,25 @@
 -- What the calls keep of the driver's bytes.
 use Rattle.std.proofs.Common.{◌≡◌, ℕ, Bool, true, List, [], ◌∷◌, ◌++◌, drop, Option, Some, None, refl, sym, ap, ◌∙◌, subst}
 use Rattle.std.proofs.lemmas.List.{append-nil}
-use Rattle.pack_model.specs.Pack.{Pack}
+use Rattle.pack_geometry.specs.Pack.{Pack}
 use Rattle.hardware_table.specs.Noise.{LiveNoise}
 use Rattle.subsystem_spec.specs.Requests as told
 use Rattle.subsystem_spec.specs.declared.answers.AnswerKind.TheVariants.{ReadOk}
 use Rattle.trace_replay.specs.Script.{Input}
-use Rattle.block_machine.specs.Machine.{Blocks}
-use Rattle.block_machine.specs.Stands.{armed_by, is_sure_among}
+use Rattle.trace_laws.specs.Machine.{Blocks}
+use Rattle.trace_laws.specs.Stands.{armed_by, is_sure_among}
 use Rattle.driver_machine.specs.declared.Made.{Made}
 use Rattle.driver_machine.specs.World.{World, unit_at, held_in}
 use Rattle.driver_machine.specs.Acts.{Act, after_all}
 use Rattle.driver_machine.specs.Events.{submit_acts, event_acts}
 use Rattle.driver_machine.specs.Sound.{Sound}
-use Rattle.quiet_driver.specs.Passes.{Stop}
-use Rattle.quiet_driver.specs.Passes.{Store, Sink}
-use Rattle.quiet_driver.specs.Passes.{Does, StopsAtTrace}
-use Rattle.quiet_driver.specs.Passes.{packs_after_all}
-use Rattle.quiet_driver.specs.Bytes.{IsSureFor, IsSaid, StepsFrom, AreSteps, Bears}
-use Rattle.quiet_driver.proofs.Rests.{rest_bears}
-use Rattle.quiet_driver.proofs.Calls.{submissions_bear, events_bear, takings_bear}
+use Rattle.driver_trace.specs.QuietPasses.{Stop}
+use Rattle.driver_trace.specs.QuietPasses.{Store, Sink}
+use Rattle.driver_trace.specs.QuietPasses.{Does, StopsAtTrace}
+use Rattle.driver_trace.specs.QuietPasses.{packs_after_all}
+use Rattle.driver_trace.specs.Bytes.{IsSureFor, IsSaid, StepsFrom, AreSteps, Bears}
+use Rattle.driver_trace.proofs.Rests.{rest_bears}
+use Rattle.driver_trace.proofs.QuietCalls.{submissions_bear, events_bear, takings_bear}
 use Rattle.hp_driver.specs.Subsystem.{seen, Submits, Comes}
 use Rattle.hp_driver.specs.Bytes.{KeepsMaps, KeepsMapsIn, GivesOfMaps, HoldsMaps}
 

@@ -2,7 +2,7 @@
 use Rattle.std.proofs.Common.{◌≡◌, ℕ, Bool, true, false, List, [], ◌∷◌, ◌++◌, Some, refl, sym, ap, ◌∙◌, subst, arith}
 use Rattle.std.specs.Prelude.{Result, Ok, Err, IfErr, OnOk}
 use Rattle.std.proofs.lemmas.List.{append-nil}
-use Rattle.pack_model.specs.Pack.{Pack, empty_pack}
+use Rattle.pack_geometry.specs.Pack.{Pack, empty_pack}
 use Rattle.outside_traits.specs.Causes.{HasCause}
 use Rattle.trace_replay.specs.Script.{Input}
 use Rattle.driver_machine.specs.Acts.{Act, Tried, after_all}
@@ -12,10 +12,10 @@ use Rattle.driver_machine.specs.Sound.{AtWork}
 use Rattle.driver_machine.specs.Runs.{Works, MayCome}
 use Rattle.driver_invariant.proofs.Calls.{event_works}
 use Rattle.hp_events.proofs.Passes.{sound_after}
-use Rattle.quiet_driver.specs.Passes.{stop_in}
-use Rattle.quiet_driver.specs.Passes.{Stop}
-use Rattle.quiet_driver.specs.Passes.{Store, Sink}
-use Rattle.quiet_driver.specs.Passes.{IsReadOf}
+use Rattle.driver_trace.specs.QuietPasses.{stop_in}
+use Rattle.driver_trace.specs.QuietPasses.{Stop}
+use Rattle.driver_trace.specs.QuietPasses.{Store, Sink}
+use Rattle.driver_trace.specs.QuietPasses.{IsReadOf}
 use Rattle.hp_events.specs.Passes.{State, site}
 use Rattle.hp_events.specs.Passes.{DoesSilently, HasCauses}
 use Rattle.hp_events.specs.Done.{DoesActs}

@@ -1,15 +1,15 @@
 -- Each kind of event, from what its call did.
 use Rattle.std.proofs.Common.{◌≡◌, ℕ, Bool, false, List, [], ◌∷◌, sym, subst}
 use Rattle.std.specs.Prelude.{Result, Ok}
-use Rattle.pack_model.specs.Pack.{Pack}
+use Rattle.pack_geometry.specs.Pack.{Pack}
 use Rattle.hardware_table.specs.declared.Moved.TheVariants.{Clean}
 use Rattle.trace_replay.specs.Script as script
 use Rattle.trace_replay.specs.Script.{Input}
 use Rattle.driver_machine.specs.Acts.{Act, Change, Tried}
 use Rattle.driver_machine.specs.Events.{event_acts, arrive_acts, attend_acts}
 use Rattle.driver_machine.specs.Runs.{MayCome}
-use Rattle.quiet_driver.specs.Passes.{Stop}
-use Rattle.quiet_driver.specs.Passes.{IsReadOf}
+use Rattle.driver_trace.specs.QuietPasses.{Stop}
+use Rattle.driver_trace.specs.QuietPasses.{IsReadOf}
 use Rattle.hp_events.specs.Passes.{State}
 use Rattle.hp_events.specs.Passes.{DoesSilently}
 use Rattle.hp_events.specs.Done.{DoesActs}

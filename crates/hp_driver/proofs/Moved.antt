@@ -1,15 +1,15 @@
 -- A move.
 use Rattle.std.proofs.Common.{ℕ, Bool, List, refl, sym, subst}
 use Rattle.std.specs.Prelude.{Result, Ok, Err, OnOk}
-use Rattle.pack_model.specs.Pack.{Pack}
+use Rattle.pack_geometry.specs.Pack.{Pack}
 use Rattle.trace_replay.specs.Script.{MoveAt}
 use Rattle.driver_machine.specs.Events.{move_acts}
 use Rattle.driver_machine.specs.Sound.{AtWork}
 use Rattle.driver_machine.specs.Runs.{MayCome}
 use Rattle.driver_invariant.proofs.Calls.{event_works}
 use Rattle.hp_events.proofs.Passes.{sound_after}
-use Rattle.quiet_driver.specs.Passes.{stop_in}
-use Rattle.quiet_driver.specs.Passes.{Stop}
+use Rattle.driver_trace.specs.QuietPasses.{stop_in}
+use Rattle.driver_trace.specs.QuietPasses.{Stop}
 use Rattle.hp_events.specs.Passes.{State}
 use Rattle.hp_events.specs.Moves.{DoesMove}
 use Rattle.hp_driver.specs.Subsystem.{Comes}

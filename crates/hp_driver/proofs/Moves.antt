@@ -1,6 +1,6 @@
 -- A sector that was tried: it is one that the rules of the move allow, of what the packs hold.
 use Rattle.std.proofs.Common.{◌≡◌, ℕ, Bool, true, false, not, ◌&&◌, List, [], ◌∷◌, refl, ap, ◌∙◌, subst}
-use Rattle.pack_model.specs.Pack.{Pack}
+use Rattle.pack_geometry.specs.Pack.{Pack}
 use Rattle.hardware_table.specs.Adapter.{next_block}
 use Rattle.driver_machine.specs.World.{World, unit_of, unit_at, adapter_at}
 use Rattle.driver_machine.specs.Acts.{Act, Tried, Sector, scene_of}
@@ -12,10 +12,10 @@ use Rattle.driver_machine.specs.Runs.{Run}
 use Rattle.driver_invariant.proofs.Deeds.{deed_at}
 use Rattle.driver_invariant.proofs.Due.{in_hand_one}
 use Rattle.driver_invariant.proofs.Calls.{IsServing, serving}
-use Rattle.quiet_driver.specs.Passes.{ReadAll}
-use Rattle.quiet_driver.specs.Passes.{IsReadFrom}
-use Rattle.quiet_driver.specs.Passes.{AllFlip}
-use Rattle.quiet_driver.proofs.Passes.{strikes_flip}
+use Rattle.driver_trace.specs.QuietPasses.{ReadAll}
+use Rattle.driver_trace.specs.QuietPasses.{IsReadFrom}
+use Rattle.driver_trace.specs.QuietPasses.{AllFlip}
+use Rattle.driver_trace.proofs.QuietPasses.{strikes_flip}
 
 busy_too : (b c : Bool) → b && not c ≡ true → b ≡ true
 busy_too true c e = refl

@@ -8,8 +8,8 @@ use Rattle.driver_machine.specs.World.{World, Held, unit_at}
 use Rattle.driver_machine.specs.Sound.{Sound}
 use Rattle.request_slots.specs.Requests.{frames_lent, HasFree}
 use Rattle.hp_events.specs.Passes.{MayJoin}
-use Rattle.quiet_driver.specs.Passes.{in_use}
-use Rattle.quiet_driver.proofs.Passes.{free_where_room, all_lent_are_needed}
+use Rattle.driver_trace.specs.QuietPasses.{in_use}
+use Rattle.driver_trace.proofs.QuietPasses.{free_where_room, all_lent_are_needed}
 use Rattle.subsystem_spec.specs.declared.request.Request.{Request}
 use Rattle.hp_driver.specs.Calls.{MayAsk, asked_at}
 

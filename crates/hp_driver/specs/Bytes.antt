@@ -1,18 +1,18 @@
 -- What each call keeps of the driver's bytes, for any map that the driver stands for with its packs.
 use Rattle.std.specs.Prelude.{◌≡◌, ◌≢◌, ℕ, ◌+◌, ◌<◌, Bool, IsTrue, List, [], length, Option, Some}
-use Rattle.pack_model.specs.Pack.{Pack}
+use Rattle.pack_geometry.specs.Pack.{Pack}
 use Rattle.hardware_table.specs.Noise.{LiveNoise}
 use Rattle.trace_replay.specs.Script.{Input}
-use Rattle.block_machine.specs.Machine.{Blocks}
-use Rattle.block_machine.specs.Stands.{armed_by, is_sure_among}
+use Rattle.trace_laws.specs.Machine.{Blocks}
+use Rattle.trace_laws.specs.Stands.{armed_by, is_sure_among}
 use Rattle.driver_machine.specs.declared.Made.{Made}
 use Rattle.driver_machine.specs.World.{World, unit_at, held_in, block_in}
 use Rattle.driver_machine.specs.Acts.{Taken, after}
 use Rattle.driver_machine.specs.Sound.{AtWork}
-use Rattle.quiet_driver.specs.Passes.{Stop}
-use Rattle.quiet_driver.specs.Passes.{Store}
-use Rattle.quiet_driver.specs.Bytes.{IsSureFor, asked_of, Bears}
-use Rattle.quiet_driver.specs.Laws.{Rests, contents_in, maps_taken}
+use Rattle.driver_trace.specs.QuietPasses.{Stop}
+use Rattle.driver_trace.specs.QuietPasses.{Store}
+use Rattle.driver_trace.specs.Bytes.{IsSureFor, asked_of, Bears}
+use Rattle.driver_trace.specs.QuietLaws.{Rests, contents_in, maps_taken}
 use Rattle.hp_driver.specs.Subsystem.{IsOldest, Reads}
 
 -- WITH NOTHING OUTSTANDING the driver stands for what its packs hold, whatever led to it; so does a new one.

@@ -1,6 +1,6 @@
 -- What the parts of a call come to, over the core.
 use Rattle.std.specs.Prelude.{◌≡◌, ℕ, ◌+◌, ◌-◌, ◌*◌, ◌<◌, Bool, false, if◌then◌else◌, IsTrue, min, List, length, Result, IfErr, OnOk}
-use Rattle.pack_model.specs.Pack.{Pack}
+use Rattle.pack_geometry.specs.Pack.{Pack}
 use Rattle.outside_traits.specs.Causes.{HasCause}
 use Rattle.subsystem_spec.specs.Requests as told
 use Rattle.subsystem_spec.specs.Requests.{IsRequest}
@@ -9,12 +9,12 @@ use Rattle.driver_machine.specs.World.{World}
 use Rattle.driver_machine.specs.Acts.{Act}
 use Rattle.driver_machine.specs.Guards.{IsSetUp, IsFresh}
 use Rattle.driver_machine.specs.Sound.{Sound, AtWork}
-use Rattle.quiet_driver.specs.Passes.{Stop}
-use Rattle.quiet_driver.specs.Passes.{Sink}
-use Rattle.quiet_driver.specs.Passes.{stop_in}
+use Rattle.driver_trace.specs.QuietPasses.{Stop}
+use Rattle.driver_trace.specs.QuietPasses.{Sink}
+use Rattle.driver_trace.specs.QuietPasses.{stop_in}
 use Rattle.request_slots.specs.declared.asked.Asked.{Asked}
-use Rattle.quiet_driver.specs.Passes.{in_use}
-use Rattle.quiet_driver.specs.Passes.{AllFlip}
+use Rattle.driver_trace.specs.QuietPasses.{in_use}
+use Rattle.driver_trace.specs.QuietPasses.{AllFlip}
 use Rattle.hp_events.specs.Passes.{State}
 use Rattle.hp_events.specs.Passes.{HasCauses}
 use Rattle.subsystem_spec.specs.declared.request.Request.{Request}

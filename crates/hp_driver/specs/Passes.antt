@@ -3,5 +3,5 @@ pub use Rattle.hp_events.specs.Passes.{HasCauses}
 pub use Rattle.hp_events.specs.Inputs.{input_of}
 pub use Rattle.hp_events.specs.Moves.{writes_next}
 pub use Rattle.hp_events.specs.declared.drain.Event.{Event}
-pub use Rattle.quiet_driver.specs.Calls.{DrainsFrom, GoesTo, IsOpen}
-pub use Rattle.quiet_driver.specs.Quiet.{IsQuiet, StandsQuiet, kind_if, rested, setup_of, table_if}
+pub use Rattle.driver_trace.specs.QuietCalls.{DrainsFrom, GoesTo, IsOpen}
+pub use Rattle.driver_trace.specs.Quiet.{IsQuiet, StandsQuiet, kind_if, rested, setup_of, table_if}

@@ -1,6 +1,6 @@
 -- The driver as its users' contracts see it: what may be asked of it, and what each call comes to.
 use Rattle.std.specs.Prelude.{◌≡◌, ◌≢◌, ℕ, ◌<◌, ◌≤◌, min, Bool, true, false, if◌then◌else◌, IsTrue, List, [], ◌∷◌, ◌++◌, length, drop, Option, None, Some, Result, Ok, Err}
-use Rattle.pack_model.specs.Pack.{Pack}
+use Rattle.pack_geometry.specs.Pack.{Pack}
 use Rattle.outside_traits.specs.declared.traits.SinkFailed.{SinkFailed}
 use Rattle.subsystem_spec.specs.Requests as told
 use Rattle.subsystem_spec.specs.Requests.{IsRequest}
@@ -17,14 +17,14 @@ use Rattle.driver_machine.specs.Events.{refusal_of, submit_acts, event_acts}
 use Rattle.driver_machine.specs.Guards.{IsSetUp, IsHeldFor, MayChange}
 use Rattle.driver_machine.specs.Sound.{Sound, AtWork}
 use Rattle.driver_machine.specs.Runs.{MaySubmit, MayCome}
-use Rattle.quiet_driver.specs.Passes.{Stop}
-use Rattle.quiet_driver.specs.Passes.{Store, Sink}
-use Rattle.quiet_driver.specs.Passes.{Site, Outcome, StopsBefore}
-use Rattle.quiet_driver.specs.Passes.{in_use}
-use Rattle.quiet_driver.specs.Passes.{IsReadOf}
-use Rattle.quiet_driver.specs.Passes.{AllFlip}
-use Rattle.quiet_driver.specs.Passes.{IsDraining}
-use Rattle.quiet_driver.specs.Passes.{CanStart, AreAsked, Falls}
+use Rattle.driver_trace.specs.QuietPasses.{Stop}
+use Rattle.driver_trace.specs.QuietPasses.{Store, Sink}
+use Rattle.driver_trace.specs.QuietPasses.{Site, Outcome, StopsBefore}
+use Rattle.driver_trace.specs.QuietPasses.{in_use}
+use Rattle.driver_trace.specs.QuietPasses.{IsReadOf}
+use Rattle.driver_trace.specs.QuietPasses.{AllFlip}
+use Rattle.driver_trace.specs.QuietPasses.{IsDraining}
+use Rattle.driver_trace.specs.QuietPasses.{CanStart, AreAsked, Falls}
 use Rattle.hp_events.specs.Moves.{writes_next}
 use Rattle.subsystem_spec.specs.declared.request.Request.{Request}
 

@@ -3,9 +3,9 @@ ghost use Rattle.hp_events.specs.Inputs.{input_of};
 ghost use Rattle.hp_driver.specs.Subsystem.{IsThere};
 ghost use Rattle.hp_driver.specs.Calls.{Stands, Happens};
 
+use driver_trace::Stop;
 use hp_events::{Core, Event, arrive, attend, move_sector};
 use outside_traits::traits::{Packs, Sink};
-use quiet_driver::Stop;
 
 /// An event happens at a line of the script.
 pub(crate) fn happen<P: Packs, T: Sink>(

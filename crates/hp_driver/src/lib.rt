@@ -19,7 +19,7 @@ mod submission;
 mod subsystem;
 
 pub use driver_machine::{Answer, AnswerKind, Cause};
+pub use driver_trace::Stop;
 pub use hp_events::{Event, UnitSetup};
-pub use quiet_driver::Stop;
 pub use subsystem::Subsystem;
 pub use subsystem_spec::Request;

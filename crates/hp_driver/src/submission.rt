@@ -10,10 +10,10 @@ ghost use Rattle.hp_driver.specs.Calls.{Stands, MayAsk, asked_at, Asks};
 
 use crate::request::frames_for;
 use driver_machine::{AnswerKind, Cause};
+use driver_trace::Stop;
 use hp_events::Core;
 use outside_traits::traits::Sink;
 use partitions::{Admission, admit};
-use quiet_driver::Stop;
 use request_slots::Asked;
 use subsystem_spec::Request;
 

@@ -12,13 +12,13 @@ ghost use Rattle.driver_machine.specs.Guards.{IsSetUp};
 ghost use Rattle.driver_machine.specs.Acts.{Taken, after};
 ghost use Rattle.driver_machine.specs.Events.{next_event};
 ghost use Rattle.driver_machine.specs.Sound.{Sound, AtWork};
-ghost use Rattle.driver_slots.specs.Parts.{AreSetups};
+ghost use Rattle.driver_invariant.specs.Parts.{AreSetups};
 ghost use Rattle.driver_machine.specs.Runs.{NoneOutstanding};
-ghost use Rattle.quiet_driver.specs.Passes.{AllFlip};
-ghost use Rattle.quiet_driver.specs.Passes.{stop_in};
+ghost use Rattle.driver_trace.specs.QuietPasses.{AllFlip};
+ghost use Rattle.driver_trace.specs.QuietPasses.{stop_in};
 ghost use Rattle.hp_events.specs.Passes.{HasCauses};
 ghost use Rattle.hp_events.specs.Passes.{setups_of};
-ghost use Rattle.trace_work.specs.Commands.{CommandsAreBounded};
+ghost use Rattle.trace_laws.specs.Commands.{CommandsAreBounded};
 ghost use Rattle.hp_events.specs.Inputs.{input_of};
 ghost use Rattle.hp_events.specs.Moves.{writes_next};
 ghost use Rattle.hp_driver.specs.Bytes.{HoldsMaps, KeepsMaps, KeepsMapsIn};
@@ -26,14 +26,14 @@ ghost use Rattle.hp_driver.specs.Subsystem.{asked, IsAsked, Submits, IsThere, is
 
 use crate::{events, submission};
 use driver_machine::Answer;
+use driver_trace::{Stop, falls_law};
 use hp_events::{Core, Event, UnitSetup};
 use outside_traits::traits::{NoMemory, Packs, Sink, SinkFailed};
 use pack_geometry::DriveKind;
-use quiet_driver::{Stop, falls_law};
 use std::alloc::Global;
 use std::marker::Model;
 use subsystem_spec::Request;
-use trace_work::bounds::commands_law;
+use trace_laws::bounds::commands_law;
 
 /// The disks, their adapters, the requests that are outstanding, and the text of the trace that is kept, at most 64 KiB. Nothing is
 /// allocated once it is made.

@@ -18,9 +18,9 @@ use Rattle.driver_machine.specs.Acts.{scene_of}
 use Rattle.driver_machine.specs.Due.{steps_for, seek_steps, offset_steps}
 use Rattle.driver_machine.specs.Guards.{InHand}
 use Rattle.driver_machine.specs.Sound.{Sound, IsTask, IsEndedAt}
-use Rattle.driver_phases.proofs.Drives.{below_limit}
-use Rattle.driver_phases.proofs.Frame.{scene_ok}
-use Rattle.driver_phases.proofs.Scene.{SceneOk, phase_is}
+use Rattle.driver_invariant.proofs.Drives.{below_limit}
+use Rattle.driver_invariant.proofs.Frame.{scene_ok}
+use Rattle.driver_invariant.proofs.Scene.{SceneOk, phase_is}
 use Rattle.hp_events.specs.Hand.{hand_at}
 
 pub unit_there : (w : World) (u : ℕ) → Sound w → u < 32 → u < length w.units

@@ -1,7 +1,7 @@
 -- Calls one behind the other, each of which does acts.
 use Rattle.std.proofs.Common.{◌≡◌, ℕ, ◌≤◌, Bool, false, IsTrue, List, [], ◌∷◌, ◌++◌, sym, subst, arith}
 use Rattle.std.specs.Prelude.{Result, Ok, Err}
-use Rattle.pack_model.specs.Pack.{empty_pack}
+use Rattle.pack_geometry.specs.Pack.{empty_pack}
 use Rattle.outside_traits.specs.Causes.{HasCause, Rose}
 use Rattle.driver_machine.specs.World.{World}
 use Rattle.driver_machine.specs.Acts.{Act, after_all}

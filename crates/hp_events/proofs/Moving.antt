@@ -1,7 +1,7 @@
 -- One sector is moved, or there is none to move.
 use Rattle.std.proofs.Common.{◌≡◌, ℕ, ◌≤◌, Bool, true, false, List, [], Option, Some, None, refl, sym, subst, arith}
 use Rattle.std.specs.Prelude.{◌&&◌, Result, Ok, Err, IfErr}
-use Rattle.pack_model.specs.Pack.{Pack}
+use Rattle.pack_geometry.specs.Pack.{Pack}
 use Rattle.outside_traits.specs.Causes.{HasCause}
 use Rattle.hardware_table.specs.declared.Moved.TheVariants.{Clean}
 use Rattle.driver_machine.specs.World.{unit_of, unit_at, adapter_at, held_in, slot_in_hand}

@@ -1,6 +1,6 @@
 -- What a call that does acts one after another comes to.
 use Rattle.std.specs.Prelude.{◌≡◌, ℕ, Bool, IsTrue, List, Result, IfErr}
-use Rattle.pack_model.specs.Pack.{Pack}
+use Rattle.pack_geometry.specs.Pack.{Pack}
 use Rattle.outside_traits.specs.Causes.{HasCause}
 use Rattle.driver_machine.specs.Acts.{Act}
 use Rattle.hp_core.specs.Passes.{Outcome, stop_in}

@@ -3,8 +3,8 @@ use Rattle.std.proofs.Common.{◌≡◌, refl, ap, ℕ, ◌+◌, ◌<◌, ◌≤
 use Rattle.pack_geometry.specs.declared.DriveKind.{DriveKind}
 use Rattle.pack_geometry.specs.declared.DriveKind.TheVariants.{Rp06, Rm03, Rm05}
 use Rattle.pack_geometry.specs.Geometry.{limit_of, replacement_at, place_at}
-use Rattle.pack_model.specs.Homes.{index_in}
-use Rattle.pack_model.specs.TableSpelling.{Table}
+use Rattle.pack_geometry.specs.Homes.{index_in}
+use Rattle.pack_geometry.specs.TableSpelling.{Table}
 use Rattle.transfer_engine.specs.State.{TransferState, IsTransfer, segment_of, segment_by}
 use Rattle.transfer_engine.specs.Calls.{entry_for, entry_by}
 

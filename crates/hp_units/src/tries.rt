@@ -2,7 +2,7 @@
 ghost use Rattle.std.specs.Prelude.{◌≡◌, ◌<◌, ◌≤◌, ◌+◌, ◌∷◌, [], drop, slice_get, IfSome, IfNone, Option, unwrap_or};
 ghost use Rattle.std.specs.Option.{option_map};
 ghost use Rattle.pack_geometry.specs.Geometry.{block_count, place_at};
-ghost use Rattle.pack_model.specs.Homes.{index_in};
+ghost use Rattle.pack_geometry.specs.Homes.{index_in};
 ghost use Rattle.transfer_engine.specs.State.{segment_of, moved_on, forwarded, failures_after};
 ghost use Rattle.transfer_engine.specs.Calls.{state_of, entry_for, step_for, next_at};
 ghost use Rattle.retry_offsets.specs.Schedule.{step_after};

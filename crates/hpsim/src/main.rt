@@ -1,8 +1,8 @@
 //! The program: it makes the real words, folder, reader, writer and trace, and ends with the status of the command, which is
-//! `hpsim_main::end_status`. Only tested: its stored run, with real streams and files.
+//! `hpsim_run::end_status`. Only tested: its stored run, with real streams and files.
 #![tactic(auto)]
 
-use hpsim_main::{TRACE_NAME, end_status, words_of};
+use hpsim_run::{TRACE_NAME, end_status, words_of};
 use outside_files::file_sink::FileSink;
 use outside_files::os_folder::OsFolder;
 use std::alloc::Global;

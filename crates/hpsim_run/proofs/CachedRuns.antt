@@ -1,6 +1,6 @@
 -- A run of `cached`, by its status.
 use Rattle.std.proofs.Common.{◌≡◌, ◌⊎◌, ℕ, Bool, IsTrue, List, Err, refl, sym, ap, subst, arith, ◌∙◌}
-use Rattle.pack_model.specs.Pack.{Pack}
+use Rattle.pack_geometry.specs.Pack.{Pack}
 use Rattle.outside_traits.specs.Causes.{Rose}
 use Rattle.trace_replay.specs.Script.{Script}
 use Rattle.cached_script.specs.declared.statement.Line.{Line}

@@ -2,7 +2,7 @@
 use Rattle.std.proofs.Common.{◌≡◌, inl, inr, ℕ, ◌++◌, List, Bool, IsTrue, Result, Ok, Err, OnOk, OnErr, ap, subst, sym}
 use Rattle.outside_traits.specs.Causes.{HasCause}
 use Rattle.outside_traits.specs.Puts.{TakesFront}
-use Rattle.pack_model.specs.Pack.{Pack}
+use Rattle.pack_geometry.specs.Pack.{Pack}
 use Rattle.script_lines.specs.declared.kinds.ScriptKind.{ScriptKind}
 use Rattle.trace_replay.specs.Script.{Script}
 use Rattle.event_player.specs.declared.play.PlayFault.{PlayFault}

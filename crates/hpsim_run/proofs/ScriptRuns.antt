@@ -1,6 +1,6 @@
 -- A run of a script by its status, but for what was played, whichever its grammar.
 use Rattle.std.proofs.Common.{◌≡◌, ◌⊎◌, inl, inr, ℕ, ◌+◌, ◌≤◌, IsTrue, List, length, refl, subst, arith}
-use Rattle.pack_model.specs.Pack.{Pack}
+use Rattle.pack_geometry.specs.Pack.{Pack}
 use Rattle.outside_traits.specs.Causes.{Rose}
 use Rattle.trace_replay.specs.Script.{Script}
 use Rattle.script_lines.specs.declared.kinds.ScriptKind.{ScriptKind}

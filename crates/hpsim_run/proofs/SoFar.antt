@@ -3,9 +3,9 @@ use Rattle.std.proofs.Common.{◌≡◌, ◌⊎◌, inl, inr, ℕ, ◌+◌, ◌=
 use Rattle.std.specs.List.{list_any}
 use Rattle.std.proofs.lemmas.List.Elements.{All-head, All-tail}
 use Rattle.pack_geometry.specs.declared.DriveKind.{DriveKind}
-use Rattle.pack_model.specs.Pack.{Pack}
-use Rattle.pack_model.specs.PackTable.{AreTablesOf}
-use Rattle.pack_model.specs.TableSpelling.{Table}
+use Rattle.pack_geometry.specs.Pack.{Pack}
+use Rattle.pack_geometry.specs.PackTable.{AreTablesOf}
+use Rattle.pack_geometry.specs.TableSpelling.{Table}
 use Rattle.subsystem_spec.specs.Requests.{Request, Answer, IsRequest}
 use Rattle.trace_replay.specs.Script.{Script, Input, Submit, ArriveAt, MoveAt, AttendTo, Drain, Turn, Noise, Arm, SetOnline, SetLocked, Statement, Declares, Plays, Line, Numbered, with_input, inputs_before, drives_of, IsThere, IsInput, IsStatement, IsScript, AreApart}
 use Rattle.trace_replay.specs.Moments.{Moment, Played, Told, Idle, End, played}
@@ -15,10 +15,10 @@ use Rattle.trace_replay.specs.Causes.{AsksSome, AskSome}
 use Rattle.trace_replay.specs.Runs.{start_of}
 use Rattle.trace_replay.proofs.Following.{follow_on}
 use Rattle.trace_replay.proofs.Explained.{are_explained}
-use Rattle.trace_work.proofs.Commands.{ends_are_bounded}
-use Rattle.block_machine.specs.LegalAnswers.{ids_asked, with_asked}
-use Rattle.block_machine.specs.Stands.{AreGiven}
-use Rattle.block_machine.proofs.Runs.{each_beginning, script_ids}
+use Rattle.trace_laws.proofs.Commands.{ends_are_bounded}
+use Rattle.trace_laws.specs.LegalAnswers.{ids_asked, with_asked}
+use Rattle.trace_laws.specs.Stands.{AreGiven}
+use Rattle.trace_laws.proofs.MachineRuns.{each_beginning, script_ids}
 use Rattle.event_player.specs.declared.play.PlayFault.{PlayFault}
 use Rattle.event_player.specs.declared.play.PlayFault.TheVariants as faults
 use Rattle.driver_answers.specs.Outcome.{IsNextBlock}
@@ -29,7 +29,7 @@ use Rattle.event_player.specs.Passes.{AreBehind, WritesAhead}
 use Rattle.event_player.specs.Passes.{CameTo, Took}
 use Rattle.event_player.proofs.Passes.{rules_hold, behind_more}
 use Rattle.event_player.specs.Stops.{StopsPlaying}
-use Rattle.block_machine.specs.Beginnings.{IsBegun, BeginningsKeep, NextBlocksKeep, PromisesSoFar}
+use Rattle.trace_laws.specs.Beginnings.{IsBegun, BeginningsKeep, NextBlocksKeep, PromisesSoFar}
 use Rattle.hpsim_run.specs.SoFar.{KeepsSoFar, HoldSoFar, Holds, Keeps}
 use Rattle.hpsim_run.proofs.Standing.{FoundBehind, found_behind}
 

@@ -1,12 +1,12 @@
 -- What a run of `play` that is done has done.
 use Rattle.std.specs.Prelude.{◌≡◌, ℕ, List, [], Bool, IsTrue}
-use Rattle.pack_model.specs.Pack.{Pack}
+use Rattle.pack_geometry.specs.Pack.{Pack}
 use Rattle.script_reader.specs.Grammar.{Spells}
 use Rattle.script_lines.specs.Known.{Numbered}
 use Rattle.script_lines.specs.Words.{all_verbs}
 use Rattle.trace_replay.specs.Script.{Script}
-use Rattle.script_meaning.specs.Meaning.{meaning}
-use Rattle.block_machine.specs.Promises.{Promises}
+use Rattle.script_reader.specs.Meaning.{meaning}
+use Rattle.trace_laws.specs.Promises.{Promises}
 use Rattle.event_player.specs.declared.play.PlayFault.{PlayFault}
 use Rattle.event_player.specs.Plays.{Plays, IsTooLong}
 use Rattle.event_player.specs.Passes.{Took}

@@ -2,7 +2,7 @@
 -- script, and `First` which have a first fault.
 use Rattle.std.specs.Prelude.{◌≡◌, ◌⊎◌, ℕ, ◌+◌, ◌≤◌, Bool, IsTrue, List, length}
 use Rattle.outside_traits.specs.Causes.{Rose}
-use Rattle.pack_model.specs.Pack.{Pack}
+use Rattle.pack_geometry.specs.Pack.{Pack}
 use Rattle.trace_replay.specs.Script.{Script}
 use Rattle.script_lines.specs.declared.kinds.ScriptKind.{ScriptKind}
 use Rattle.script_lines.specs.Refusals.{refusal_text}

@@ -1,7 +1,7 @@
 -- What is promised of a run that stopped, as far as it came.
 use Rattle.std.specs.Prelude.{◌≡◌, ℕ, ◌*◌, ◌≤◌, false, List, [], ◌∷◌, ◌++◌, Option}
-use Rattle.pack_model.specs.Pack.{Pack}
-use Rattle.pack_model.specs.TableSpelling.{Table}
+use Rattle.pack_geometry.specs.Pack.{Pack}
+use Rattle.pack_geometry.specs.TableSpelling.{Table}
 use Rattle.subsystem_spec.specs.Requests.{Answer}
 use Rattle.trace_replay.specs.Script.{Script, drives_of}
 use Rattle.trace_replay.specs.Moments.{Moment, Told, End}
@@ -10,16 +10,16 @@ use Rattle.trace_replay.specs.Replay.{after_moments}
 use Rattle.trace_replay.specs.History.{is_refusal, lines_of}
 use Rattle.trace_replay.specs.Causes.{IsExplained}
 use Rattle.trace_replay.specs.Runs.{start_of}
-use Rattle.trace_work.specs.Commands.{commands_in}
+use Rattle.trace_laws.specs.Commands.{commands_in}
 use Rattle.driver_answers.specs.Outcome.{IsFront}
 use Rattle.answer_lines.specs.AnswerText.{out_text, answer_line}
-use Rattle.block_machine.specs.Laws.{HasBegun}
+use Rattle.trace_laws.specs.Laws.{HasBegun}
 use Rattle.event_player.specs.declared.play.PlayFault.{PlayFault}
 use Rattle.event_player.specs.declared.play.PlayFault.TheVariants as faults
 use Rattle.event_player.specs.Passes.{SaysOneSector}
 use Rattle.event_player.specs.Passes.{Took}
 use Rattle.event_player.specs.Stops.{StopsPlaying}
-use Rattle.block_machine.specs.Beginnings.{PromisesSoFar}
+use Rattle.trace_laws.specs.Beginnings.{PromisesSoFar}
 
 -- OF THE MOMENTS SO FAR: their answers are those of the block machine to the lines that were played, and the replay behind them stands
 -- for its map; each answer has its cause; and a request took at most 300 commands for each of its blocks.

@@ -1,7 +1,7 @@
 -- What a run of a tool's command has done to a pack: one of `bad144`, or `format`.
 use Rattle.std.specs.Prelude.{◌≡◌, ℕ, Bool, List, Option, Some}
 use Rattle.pack_geometry.specs.declared.DriveKind.{DriveKind}
-use Rattle.pack_model.specs.Pack.{Pack}
+use Rattle.pack_geometry.specs.Pack.{Pack}
 use Rattle.bad144_tool.specs.declared.edit.AddWay.{AddWay}
 use Rattle.pack_commands.specs.Formats.{RunsFormat}
 use Rattle.pack_commands.specs.Tools.{RunsAdd, RunsFresh, RunsList, RunsMark}

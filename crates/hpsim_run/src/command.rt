@@ -16,7 +16,6 @@ use crate::cached::run_cached;
 use crate::exercise::run_exercise;
 use crate::load::{LoadFault, load};
 use crate::transfers::run_bytes;
-use block_machine::promises::{beginnings_law, promises_law};
 use command_parts::{Status, too_long};
 use event_player::next_block_law;
 use event_player::play::{PlayFault, play};
@@ -26,9 +25,10 @@ use pack_commands::{
     Command, command_of, run_add, run_format, run_fresh, run_list, run_mark, usage,
 };
 use script_lines::refusal;
-use script_meaning::meaning_law;
 use script_reader::grammar_law;
+use script_reader::meaning::meaning_law;
 use std::alloc::Global;
+use trace_laws::promises::{beginnings_law, promises_law};
 
 /// Reads a script from the source and plays it over the packs.
 fn run_play<S: Source, P: Packs, O: Sink, T: Sink>(

@@ -12,7 +12,9 @@ mod cached;
 mod command;
 mod exercise;
 mod load;
+mod program;
 mod transfers;
 
 pub use command::run;
 pub use command_parts::Status;
+pub use program::{TRACE_NAME, end_status, words_of};

@@ -1,8 +1,8 @@
 //! The program: it makes the real words, readers and writer, and ends with the status of the command, which is
-//! `hpview_main::end_status`. Only tested: its stored run, with real streams and files.
+//! `hpview_run::end_status`. Only tested: its stored run, with real streams and files.
 #![tactic(auto)]
 
-use hpview_main::{TRACE_NAME, end_status, words_of};
+use hpview_run::{TRACE_NAME, end_status, words_of};
 use std::alloc::Global;
 use std::fs::{File, OpenOptions};
 use std::process::ExitCode;

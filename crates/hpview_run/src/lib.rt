@@ -7,11 +7,14 @@
 mod command;
 mod draw;
 mod load;
+mod program;
 mod put;
 mod sources;
 mod status;
 mod text;
+mod trace_source;
 mod words;
 
 pub use command::view;
+pub use program::{TRACE_NAME, end_status, words_of};
 pub use status::Status;

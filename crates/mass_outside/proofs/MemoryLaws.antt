@@ -7,7 +7,7 @@ use Rattle.std.proofs.lemmas.Grind.{common_steps}
 use Rattle.std.proofs.lemmas.Option.{slice_get-get_or, slice_get_past, slice_get_within}
 use Rattle.std.proofs.lemmas.Bool.Decides.{nat_tests}
 use Rattle.mass_outside.specs.declared.slots.Image.{Image}
-use Rattle.pack_model.specs.Pack.{Pack, with_pack, with_window, written, with_written, with_mark}
+use Rattle.pack_geometry.specs.Pack.{Pack, with_pack, with_window, written, with_written, with_mark}
 use Rattle.mass_outside.specs.Slots.{SlotView, AllEmpty, empty_slot, pack_in, blocks_in, held_slots, slot_written, slot_marked}
 use Rattle.mass_outside.specs.Images.{image_slot, slot_of, is_listed}
 use Rattle.mass_outside.specs.Memory.{is_outside}

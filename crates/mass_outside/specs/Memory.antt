@@ -1,6 +1,6 @@
 -- Packs in memory, as contracts see them.
 use Rattle.std.specs.Prelude.{◌≡◌, ℕ, nat_lt, not, Bool, if◌then◌else◌, List, Some, slice_get, slice_set}
-use Rattle.pack_model.specs.Pack.{Pack}
+use Rattle.pack_geometry.specs.Pack.{Pack}
 use Rattle.mass_outside.specs.Slots.{SlotView, held_slots, blocks_in, slot_written, slot_marked}
 use Rattle.outside_traits.specs.Causes.{next}
 use Rattle.mass_outside.specs.declared.mem_packs.FailCall.{FailCall}

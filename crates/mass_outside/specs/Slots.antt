@@ -1,6 +1,6 @@
 -- What packs in memory hold.
 use Rattle.std.specs.Prelude.{◌≡◌, ℕ, if◌then◌else◌, List, [], ◌∷◌, Option, None, Some, slice_get, nat_lt, length}
-use Rattle.pack_model.specs.Pack.{Pack, empty_pack, with_block, with_window}
+use Rattle.pack_geometry.specs.Pack.{Pack, empty_pack, with_block, with_window}
 
 -- a unit's pack, and how many blocks it has room for
 pub record SlotView : Type 0 where

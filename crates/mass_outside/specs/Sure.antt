@@ -1,6 +1,6 @@
 -- Packs in memory that never fail, as contracts see them.
 use Rattle.std.specs.Prelude.{◌≡◌, ℕ, Bool, if◌then◌else◌, List, Some, slice_get, slice_set}
-use Rattle.pack_model.specs.Pack.{Pack}
+use Rattle.pack_geometry.specs.Pack.{Pack}
 use Rattle.mass_outside.specs.Slots.{SlotView, held_slots, slot_written, slot_marked}
 
 -- the slots of the 32 units, and whether no write and no mark was passed over

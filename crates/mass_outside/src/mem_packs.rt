@@ -149,7 +149,7 @@ impl MemPacks {
 
 impl Packs for MemPacks {
     ghost use Rattle.std.specs.Prelude.{true};
-    ghost use Rattle.pack_model.specs.Pack.{block_at, is_marked, with_written, with_mark};
+    ghost use Rattle.pack_geometry.specs.Pack.{block_at, is_marked, with_written, with_mark};
     ghost use Rattle.outside_traits.specs.Causes.{HasCause, next};
     ghost use Rattle.mass_outside.specs.Memory.{held_by, has_no_room, AfterWrite, AfterMark};
 

@@ -1,5 +1,5 @@
 ghost use Rattle.std.specs.Prelude.{◌≡◌, ◌+◌, ◌*◌, ◌^◌, ◌<◌, ◌≤◌, ◌++◌, length, take, drop, vec_len, vec_capacity, IfOk, OnOk};
-ghost use Rattle.pack_model.specs.Pack.{block_at, grown, window, with_block, with_window};
+ghost use Rattle.pack_geometry.specs.Pack.{block_at, grown, window, with_block, with_window};
 
 use std::alloc::{AllocError, Global};
 use std::marker::Model;
@@ -36,7 +36,7 @@ fn put_at(bytes: &mut [u8], at: usize, from: &[u8])
 }
 
 /// Extends the bytes by zeros up to a size for which there is room.
-#[tactic(auto, unfolding(pack_model::specs::Pack::grown))]
+#[tactic(auto, unfolding(pack_geometry::specs::Pack::grown))]
 fn grow(bytes: &mut Vec<u8>, size: usize)
     requires { size ≤ vec_capacity bytes.old }
     ensures items { bytes.new.items ≡ grown bytes.old.items size }
@@ -50,7 +50,7 @@ fn grow(bytes: &mut Vec<u8>, size: usize)
 }
 
 /// Writes bytes at a place for which there is room, and extends the bytes by zeros where they are short.
-#[tactic(auto, unfolding(pack_model::specs::Pack::with_window))]
+#[tactic(auto, unfolding(pack_geometry::specs::Pack::with_window))]
 fn write_window(bytes: &mut Vec<u8>, at: usize, from: &[u8])
     requires fits { at + length from.now < 2 ^ 64 }
     requires room { at + length from.now ≤ vec_capacity bytes.old }
@@ -62,7 +62,7 @@ fn write_window(bytes: &mut Vec<u8>, at: usize, from: &[u8])
 }
 
 /// Reads a block of an image.
-#[tactic(auto, unfolding(pack_model::specs::Pack::block_at))]
+#[tactic(auto, unfolding(pack_geometry::specs::Pack::block_at))]
 fn read_block(bytes: &[u8], block: u32, into: &mut [u8; 512])
     ensures { into.new ≡ block_at bytes.now block }
 {
@@ -70,7 +70,7 @@ fn read_block(bytes: &[u8], block: u32, into: &mut [u8; 512])
 }
 
 /// Replaces a block of an image that has room for it.
-#[tactic(auto, unfolding(pack_model::specs::Pack::with_block))]
+#[tactic(auto, unfolding(pack_geometry::specs::Pack::with_block))]
 fn write_block(bytes: &mut Vec<u8>, block: u32, from: &[u8; 512])
     requires { 512 * block + 512 ≤ vec_capacity bytes.old }
     ensures items { bytes.new.items ≡ with_block bytes.old.items block from.now }
@@ -112,7 +112,7 @@ impl Model for Slot {
 
 impl Slot {
     ghost use Rattle.std.specs.Prelude.{nat_lt};
-    ghost use Rattle.pack_model.specs.Pack.{is_marked};
+    ghost use Rattle.pack_geometry.specs.Pack.{is_marked};
     ghost use Rattle.mass_outside.specs.Images.{image_slot};
     ghost use Rattle.mass_outside.specs.Slots.{empty_slot, slot_written, slot_marked};
 

@@ -41,7 +41,7 @@ impl SurePacks {
 }
 
 impl Packs for SurePacks {
-    ghost use Rattle.pack_model.specs.Pack.{block_at, is_marked, with_written, with_mark};
+    ghost use Rattle.pack_geometry.specs.Pack.{block_at, is_marked, with_written, with_mark};
     ghost use Rattle.outside_traits.specs.Causes.{HasCause};
     ghost use Rattle.mass_outside.specs.Sure.{sure_held, SureWrote, SureMarked};
 

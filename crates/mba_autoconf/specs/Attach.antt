@@ -2,8 +2,8 @@
 use Rattle.std.specs.Prelude.{◌≡◌, ◌<◌, ◌≤◌, ◌*◌, length, Result, Ok, Err}
 use Rattle.pack_geometry.specs.declared.DriveKind.{DriveKind}
 use Rattle.pack_geometry.specs.Geometry.{block_count}
-use Rattle.pack_model.specs.Pack.{Pack}
-use Rattle.pack_model.specs.PackTable.{IsTableOf}
+use Rattle.pack_geometry.specs.Pack.{Pack}
+use Rattle.pack_geometry.specs.PackTable.{IsTableOf}
 use Rattle.mba_autoconf.specs.declared.attaching.Attached.{Attached}
 use Rattle.mba_autoconf.specs.declared.attaching.AttachFault.{AttachFault}
 use Rattle.mba_autoconf.specs.declared.attaching.AttachFault.TheVariants.{TooLong, Store}

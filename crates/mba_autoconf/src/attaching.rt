@@ -4,8 +4,8 @@ ghost use Rattle.hardware_table.specs.declared.Register.TheVariants.{Dt};
 ghost use Rattle.hardware_table.specs.Drive.{DriveState, is_ready, register_of};
 ghost use Rattle.hardware_table.specs.Functions.{attached};
 ghost use Rattle.pack_geometry.specs.declared.DriveKind.{DriveKind};
-ghost use Rattle.pack_model.specs.Pack.{Pack};
-ghost use Rattle.pack_model.specs.PackTable.{HaveSameCopies};
+ghost use Rattle.pack_geometry.specs.Pack.{Pack};
+ghost use Rattle.pack_geometry.specs.PackTable.{HaveSameCopies};
 ghost use Rattle.outside_traits.specs.Causes.{Rose};
 ghost use Rattle.mba_autoconf.specs.declared.attaching.Attached.{Attached};
 ghost use Rattle.mba_autoconf.specs.Probe.{nine_bits, type_code};
@@ -18,8 +18,8 @@ use drive_model::Drive;
 use drive_registers::{Function, Of};
 use hardware_table::Register;
 use outside_traits::traits::{Packs, StoreFailed};
+use pack_geometry::packs::pack_table_law;
 use pack_geometry::{DriveKind, blocks};
-use pack_model::pack_table_law;
 use thiserror::Error;
 
 /// A drive that is attached: its kind, and the bad-sector table of its pack, if it has one.

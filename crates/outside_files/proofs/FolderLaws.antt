@@ -10,8 +10,8 @@ use Rattle.std.proofs.lemmas.Slice.{take-put_mid_below}
 use Rattle.std.proofs.Math.Path.{fun_ext}
 use Rattle.std.proofs.Math.Seq.{take-add, take-append-add}
 use Rattle.outside_traits.proofs.TakenLaws.{rest_whole}
-use Rattle.pack_model.specs.Pack.{Pack, grown, window, with_window, with_pack, with_block, with_written}
-use Rattle.pack_model.proofs.PackLaws.{length-grown, get_or-window, get_or-with_window_here, get_or-with_window_before, get_or-with_window_after}
+use Rattle.pack_geometry.specs.Pack.{Pack, grown, window, with_window, with_pack, with_block, with_written}
+use Rattle.pack_geometry.proofs.PackLaws.{length-grown, get_or-window, get_or-with_window_here, get_or-with_window_before, get_or-with_window_after}
 use Rattle.outside_files.specs.Folder.{file_of, with_file, put_at, with_put, IsFilled, IsTorn}
 use Rattle.outside_files.specs.declared.folder.Part.{Part}
 use Rattle.outside_files.specs.declared.folder.Part.TheVariants.{Image, Marks}

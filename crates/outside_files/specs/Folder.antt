@@ -1,7 +1,7 @@
 -- The two files of each unit's pack, and what is written to one of them.
 use Rattle.std.specs.Prelude.{◌≡◌, ℕ, Bool, IsTrue, ◌+◌, ◌*◌, ◌&&◌, not, ◌<◌, ◌≤◌, take, drop, length, List, [], ◌∷◌, ◌++◌, codes}
 use Rattle.std.specs.Fmt.{decimal}
-use Rattle.pack_model.specs.Pack.{Pack, with_pack, with_window}
+use Rattle.pack_geometry.specs.Pack.{Pack, with_pack, with_window}
 use Rattle.outside_files.specs.declared.folder.Part.{Part}
 use Rattle.outside_files.specs.declared.folder.Part.TheVariants.{Image, Marks}
 

@@ -1,5 +1,5 @@
 ghost use Rattle.std.specs.Prelude.{◌≡◌, ◌<◌, ◌*◌, ◌==◌, ◌⊎◌, IsTrue, true, false, not, if◌then◌else◌, length, IfOk, OnOk, OnErr};
-ghost use Rattle.pack_model.specs.Pack.{window, block_at, is_marked, with_written, with_mark};
+ghost use Rattle.pack_geometry.specs.Pack.{window, block_at, is_marked, with_written, with_mark};
 ghost use Rattle.outside_traits.specs.Causes.{HasCause, Counts};
 ghost use Rattle.outside_files.specs.Folder.{with_put, IsTorn, tells_whole};
 ghost use Rattle.outside_files.specs.declared.folder.Part.TheVariants.{Image};
@@ -135,7 +135,7 @@ impl<F: PackFolder> Packs for FilePacks<F> {
         counted(length, StoreFailed, &mut self.faults)
     }
 
-    #[tactic(auto, unfolding(pack_model::specs::Pack::block_at))]
+    #[tactic(auto, unfolding(pack_geometry::specs::Pack::block_at))]
     fn read(&mut self, unit: u8, block: u32, into: &mut [u8; 512]) -> Result<(), StoreFailed>
         requires { unit < 32 }
         ensures never_again { IsTrue (tells_whole (F.tells self.new.folder) self.new.torn) → IsTrue (tells_whole (F.tells self.old.folder) self.old.torn) }

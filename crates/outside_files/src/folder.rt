@@ -1,5 +1,5 @@
 ghost use Rattle.std.specs.Prelude.{◌≡◌, ℕ, ◌<◌, ◌≤◌, Bool, IsTrue, take, drop, length, IfOk, OnErr, string_bytes};
-ghost use Rattle.pack_model.specs.Pack.{Pack};
+ghost use Rattle.pack_geometry.specs.Pack.{Pack};
 ghost use Rattle.outside_files.specs.Folder.{file_of, with_put, file_number, name_of};
 
 use std::alloc::{AllocError, Global};

@@ -90,7 +90,7 @@ where
     R::File: FileExt,
 {
     ghost use Rattle.std.specs.Prelude.{false};
-    ghost use Rattle.pack_model.specs.Pack.{empty_pack};
+    ghost use Rattle.pack_geometry.specs.Pack.{empty_pack};
 
     ghost tells = { λ _. false };
 

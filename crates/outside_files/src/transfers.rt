@@ -1,6 +1,6 @@
 // Whole pieces of a file, by calls of a folder that may be short or interrupted.
 ghost use Rattle.std.specs.Prelude.{◌≡◌, ◌<◌, ◌≤◌, ◌+◌, ◌-◌, ◌++◌, IsTrue, length, take, replicate, IfOk, OnOk, OnErr};
-ghost use Rattle.pack_model.specs.Pack.{window};
+ghost use Rattle.pack_geometry.specs.Pack.{window};
 ghost use Rattle.outside_files.specs.Folder.{file_of, IsFilled, with_put};
 
 use crate::folder::{PackFolder, Part};

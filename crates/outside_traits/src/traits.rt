@@ -1,5 +1,5 @@
 ghost use Rattle.std.specs.Prelude.{◌≡◌, ℕ, ◌<◌, ◌≤◌, ◌⊎◌, Bool, IsTrue, List, [], ◌++◌, length, take, IfOk, OnOk, OnErr};
-ghost use Rattle.pack_model.specs.Pack.{Pack, block_at, with_written, with_mark, is_marked};
+ghost use Rattle.pack_geometry.specs.Pack.{Pack, block_at, with_written, with_mark, is_marked};
 ghost use Rattle.outside_traits.specs.Causes.{HasCause};
 
 pub use no_memory::NoMemory;

@@ -1,5 +1,5 @@
 ghost use Rattle.std.specs.Prelude.{◌≡◌, ◌<◌, ◌*◌, IsTrue, OnOk, length};
-ghost use Rattle.pack_model.specs.Pack.{window};
+ghost use Rattle.pack_geometry.specs.Pack.{window};
 ghost use Rattle.outside_traits.specs.Causes.{HasCause};
 
 use crate::traits::{Packs, StoreFailed};

@@ -4,8 +4,8 @@ use Rattle.std.proofs.lemmas.List.{append-nil}
 use Rattle.outside_traits.specs.Causes.{Rose}
 use Rattle.outside_traits.specs.Puts.{TakesFront}
 use Rattle.pack_geometry.specs.declared.DriveKind.{DriveKind}
-use Rattle.pack_model.specs.Pack.{Pack}
-use Rattle.pack_model.specs.TableSpelling.{table_text}
+use Rattle.pack_geometry.specs.Pack.{Pack}
+use Rattle.pack_geometry.specs.TableSpelling.{table_text}
 use Rattle.bad144_tool.specs.Adding.{Adds, Fits}
 use Rattle.bad144_tool.specs.Changes.{IsCutShort, with_changes}
 use Rattle.bad144_tool.specs.Edit.{copies}

@@ -4,8 +4,8 @@ use Rattle.std.specs.Prelude.{IsErrAnd, OnErr, OnOk}
 use Rattle.std.proofs.lemmas.List.{length-map}
 use Rattle.pack_geometry.specs.declared.DriveKind.{DriveKind}
 use Rattle.pack_geometry.specs.Geometry.{limit_of, place_at}
-use Rattle.pack_model.specs.Pack.{Pack}
-use Rattle.pack_model.specs.TableSpelling.{Table}
+use Rattle.pack_geometry.specs.Pack.{Pack}
+use Rattle.pack_geometry.specs.TableSpelling.{Table}
 use Rattle.outside_traits.specs.Causes.{HasCause}
 use Rattle.block_tests.specs.Stages.{Fills, Reaches}
 use Rattle.block_tests.specs.TestFaults.{IsTestCaused}

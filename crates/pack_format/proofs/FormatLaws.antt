@@ -9,11 +9,11 @@ use Rattle.std.specs.Option.{option_map}
 use Rattle.pack_geometry.specs.declared.DriveKind.{DriveKind}
 use Rattle.pack_geometry.specs.declared.DriveKind.TheVariants.{Rp06, Rm03, Rm05}
 use Rattle.pack_geometry.specs.Geometry.{copy_at, limit_of, place_at, replacement_at}
-use Rattle.pack_model.specs.Pack.{Pack, block_at, is_marked}
-use Rattle.pack_model.specs.Content.{bytes_at}
-use Rattle.pack_model.specs.Homes.{content_of, index_in, replacement_home}
-use Rattle.pack_model.specs.PackTable.{IsTableOf}
-use Rattle.pack_model.specs.TableSpelling.{Table, IsTable, Spells}
+use Rattle.pack_geometry.specs.Pack.{Pack, block_at, is_marked}
+use Rattle.pack_geometry.specs.Content.{bytes_at}
+use Rattle.pack_geometry.specs.Homes.{content_of, index_in, replacement_home}
+use Rattle.pack_geometry.specs.PackTable.{IsTableOf}
+use Rattle.pack_geometry.specs.TableSpelling.{Table, IsTable, Spells}
 use Rattle.bad144_table.proofs.Positions.{index_listed}
 use Rattle.block_tests.specs.Stages.{Fills, IsTested, Reaches, between, copied, is_copy, ranged}
 use Rattle.block_tests.proofs.CopyLaws.{copy_here, which_copy}

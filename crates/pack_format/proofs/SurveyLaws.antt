@@ -10,9 +10,9 @@ use Rattle.pack_geometry.specs.declared.DriveKind.{DriveKind}
 use Rattle.pack_geometry.specs.declared.DriveKind.TheVariants.{Rp06, Rm03, Rm05}
 use Rattle.pack_geometry.specs.declared.Place.{Place}
 use Rattle.pack_geometry.specs.Geometry.{block_number, copy_at, limit_of, place_at, replacement_at}
-use Rattle.pack_model.specs.Pack.{Pack, is_marked}
-use Rattle.pack_model.specs.TableEdit.{with_place}
-use Rattle.pack_model.specs.TableSpelling.{Table, IsTable}
+use Rattle.pack_geometry.specs.Pack.{Pack, is_marked}
+use Rattle.pack_geometry.specs.TableEdit.{with_place}
+use Rattle.pack_geometry.specs.TableSpelling.{Table, IsTable}
 use Rattle.bad144_table.specs.Inserts.{Inserts, IsRefused}
 use Rattle.bad144_table.specs.declared.table.InsertFault.{InsertFault}
 use Rattle.bad144_table.specs.declared.table.InsertFault.TheVariants as refused

@@ -5,10 +5,10 @@ use Rattle.std.proofs.lemmas.List.{same_lists}
 use Rattle.pack_geometry.specs.declared.DriveKind.{DriveKind}
 use Rattle.pack_geometry.specs.declared.Place.{Place}
 use Rattle.pack_geometry.specs.Geometry.{IsInside, block_number, copy_at}
-use Rattle.pack_model.specs.Pack.{Pack, block_at, is_marked}
-use Rattle.pack_model.specs.TableFields.{IsEnd, long_at, place_in}
-use Rattle.pack_model.specs.TableSpelling.{Spells, Table, table_text}
-use Rattle.pack_model.proofs.TableLaws.{listed_is_no_end, long_at-serial, place_in-listed, spelled_end, spelled_no_end, spelled_place, spelled_serial, unlisted_is_end}
+use Rattle.pack_geometry.specs.Pack.{Pack, block_at, is_marked}
+use Rattle.pack_geometry.specs.TableFields.{IsEnd, long_at, place_in}
+use Rattle.pack_geometry.specs.TableSpelling.{Spells, Table, table_text}
+use Rattle.pack_geometry.proofs.TableLaws.{listed_is_no_end, long_at-serial, place_in-listed, spelled_end, spelled_no_end, spelled_place, spelled_serial, unlisted_is_end}
 use Rattle.pack_format.specs.Formatted.{IsFormatted, table_for}
 
 -- a text that is spelled too has the places of that table

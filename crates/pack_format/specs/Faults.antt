@@ -2,7 +2,7 @@
 use Rattle.std.specs.Prelude.{◌≡◌, ◌≢◌, ◌⊎◌, ℕ, ◌<◌, ◌≤◌, nat_lt, true, Result, IsErrOf, length}
 use Rattle.pack_geometry.specs.declared.DriveKind.{DriveKind}
 use Rattle.pack_geometry.specs.Geometry.{copy_at}
-use Rattle.pack_model.specs.Pack.{Pack}
+use Rattle.pack_geometry.specs.Pack.{Pack}
 use Rattle.outside_traits.specs.Causes.{Rose}
 use Rattle.block_tests.specs.Stages.{is_copy}
 use Rattle.block_tests.specs.TestFaults.{Tests}

@@ -2,10 +2,10 @@
 use Rattle.std.specs.Prelude.{◌≡◌, ◌⊎◌, ℕ, zero, suc, ◌*◌, ◌<◌, Bool, true, false, List, [], ◌∷◌, ◌++◌, length, map, replicate, Some}
 use Rattle.pack_geometry.specs.declared.DriveKind.{DriveKind}
 use Rattle.pack_geometry.specs.Geometry.{block_count, limit_of, place_at, replacement_at, copy_at}
-use Rattle.pack_model.specs.Pack.{Pack, block_at, is_marked}
-use Rattle.pack_model.specs.PackTable.{IsTableOf}
-use Rattle.pack_model.specs.TableSpelling.{Table, Spells}
-use Rattle.pack_model.specs.Homes.{content_of}
+use Rattle.pack_geometry.specs.Pack.{Pack, block_at, is_marked}
+use Rattle.pack_geometry.specs.PackTable.{IsTableOf}
+use Rattle.pack_geometry.specs.TableSpelling.{Table, Spells}
+use Rattle.pack_geometry.specs.Homes.{content_of}
 use Rattle.block_tests.specs.Stages.{IsTested}
 
 -- the marked blocks below a number, in ascending order

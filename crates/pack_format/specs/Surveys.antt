@@ -2,8 +2,8 @@
 use Rattle.std.specs.Prelude.{◌≡◌, ℕ, zero, suc, ◌<◌, ◌≤◌, ◌&&◌, nat_lt, if◌then◌else◌, Bool, true, false, Option, None, Some, map, length}
 use Rattle.pack_geometry.specs.declared.DriveKind.{DriveKind}
 use Rattle.pack_geometry.specs.Geometry.{copy_at, place_at, replacement_at}
-use Rattle.pack_model.specs.Pack.{Pack, is_marked}
-use Rattle.pack_model.specs.TableSpelling.{Table}
+use Rattle.pack_geometry.specs.Pack.{Pack, is_marked}
+use Rattle.pack_geometry.specs.TableSpelling.{Table}
 use Rattle.pack_format.specs.Formatted.{IsTooLong, found, marked_below}
 use Rattle.pack_format.specs.declared.fault.FormatFault.{FormatFault}
 use Rattle.pack_format.specs.declared.fault.FormatFault.TheVariants.{Memory, TooLong, TooMany, Spare, NoCopy, Differs, Store}

@@ -2,9 +2,9 @@
 ghost use Rattle.std.specs.Prelude.{◌≡◌, ◌≢◌, ◌⊎◌, ℕ, ◌+◌, ◌*◌, ◌<◌, ◌≤◌, true, false, List, length, All, AllPairs};
 ghost use Rattle.pack_geometry.specs.Geometry.{IsInside, block_number, copy_at, replacement_at};
 ghost use Rattle.pack_geometry.specs.declared.Place.{Place};
-ghost use Rattle.pack_model.specs.TableSpelling.{table_text};
+ghost use Rattle.pack_geometry.specs.TableSpelling.{table_text};
 ghost use Rattle.pack_geometry.specs.declared.DriveKind.{DriveKind};
-ghost use Rattle.pack_model.specs.Pack.{Pack, block_at, is_marked};
+ghost use Rattle.pack_geometry.specs.Pack.{Pack, block_at, is_marked};
 ghost use Rattle.pack_format.specs.Faults.{IsWhy};
 ghost use Rattle.pack_format.specs.Formatted.{CanBeFormatted, Holds, IsFormatted, IsPartly, IsWritten, IsZeros, found};
 ghost use Rattle.pack_format.specs.declared.fault.FormatFault.{FormatFault};

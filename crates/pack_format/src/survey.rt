@@ -2,7 +2,7 @@
 ghost use Rattle.std.specs.Prelude.{◌≡◌, ◌<◌, ◌≤◌, ◌+◌, ℕ, true, IsTrue, IfErr, IfOk, OnOk};
 ghost use Rattle.outside_traits.specs.Causes.{HasCause};
 ghost use Rattle.pack_geometry.specs.Geometry.{block_count, limit_of, replacement_at};
-ghost use Rattle.pack_model.specs.Pack.{Pack, is_marked};
+ghost use Rattle.pack_geometry.specs.Pack.{Pack, is_marked};
 ghost use Rattle.pack_format.specs.Faults.{IsCaused, IsFault, IsWhy};
 ghost use Rattle.pack_format.specs.Formatted.{CanBeFormatted, IsTooLong, table_for};
 ghost use Rattle.block_tests.specs.Polls.{answer_for};

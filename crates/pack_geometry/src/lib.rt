@@ -7,6 +7,8 @@
 //! Only tested, in `pack_rows`: worked values, beside their proofs.
 #![tactic(auto)]
 
+pub mod packs;
+
 ghost use Rattle.std.specs.Prelude.{◌≡◌, ◌≢◌, ◌<◌, ◌≤◌, ◌-◌, ◌↔◌, ℕ, IfNone, SomeIff};
 ghost use Rattle.pack_geometry.specs.declared.DriveKind.{DriveKind};
 ghost use Rattle.pack_geometry.specs.declared.Place.{Place};

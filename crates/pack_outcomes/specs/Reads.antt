@@ -1,6 +1,6 @@
 -- What wrong bodies would read, write and keep of packs and streams, refused by the words of their contracts.
 use Rattle.std.specs.Prelude.{◌≡◌, ◌≢◌, ℕ, ◌+◌, ◌*◌, ◌/◌, ◌<◌, true, List, ◌∷◌, ◌++◌, length, take, Ok, Some, slice_get, slice_index}
-use Rattle.pack_model.specs.Pack.{Pack, block_at, window, with_written}
+use Rattle.pack_geometry.specs.Pack.{Pack, block_at, window, with_written}
 use Rattle.outside_traits.specs.Puts.{Puts}
 use Rattle.outside_traits.specs.declared.traits.SinkFailed.{SinkFailed}
 use Rattle.outside_traits.specs.Gathers.{Gathers}

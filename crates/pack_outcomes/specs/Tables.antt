@@ -3,9 +3,9 @@ use Rattle.std.specs.Prelude.{◌≡◌, ◌≢◌, ℕ, ◌+◌, ◌*◌, ◌<�
 use Rattle.pack_geometry.specs.declared.DriveKind.{DriveKind}
 use Rattle.pack_geometry.specs.declared.Place.{Place}
 use Rattle.pack_geometry.specs.Geometry.{block_count, copy_at, replacement_at}
-use Rattle.pack_model.specs.Pack.{Pack, block_at, is_marked}
-use Rattle.pack_model.specs.PackTable.{Tells}
-use Rattle.pack_model.specs.TableSpelling.{Table}
+use Rattle.pack_geometry.specs.Pack.{Pack, block_at, is_marked}
+use Rattle.pack_geometry.specs.PackTable.{Tells}
+use Rattle.pack_geometry.specs.TableSpelling.{Table}
 use Rattle.bad144_table.specs.Faults.{IsReadUpTo}
 use Rattle.bad144_tool.specs.Adding.{Adds}
 use Rattle.bad144_tool.specs.declared.edit.AddWay.{AddWay}

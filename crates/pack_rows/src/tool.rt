@@ -148,7 +148,7 @@ impl Sparse {
 
 impl Packs for Sparse {
     ghost use Rattle.std.specs.Prelude.{false};
-    ghost use Rattle.pack_model.specs.Pack.{empty_pack};
+    ghost use Rattle.pack_geometry.specs.Pack.{empty_pack};
 
     ghost tells = { λ _. false };
 

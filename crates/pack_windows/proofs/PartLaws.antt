@@ -6,8 +6,8 @@ use Rattle.std.proofs.lemmas.List.{get_or-take, get_or-drop, get_or_default, get
 use Rattle.std.specs.Prelude.{Some, if◌then◌else◌, ◌==◌, slice_get}
 use Rattle.std.proofs.lemmas.Bool.Decides.{nat_tests}
 use Rattle.std.proofs.lemmas.Option.{slice_get_within, get_or_from_slice_get, slice_get-get_or, slice_get_past}
-use Rattle.pack_model.specs.Pack.{Pack, window, with_window, with_block, with_written, with_mark}
-use Rattle.pack_model.proofs.PackLaws.{length-window, get_or-window, get_or-with_window_here, get_or-with_window_before, get_or-with_window_after, window-with_window_other}
+use Rattle.pack_geometry.specs.Pack.{Pack, window, with_window, with_block, with_written, with_mark}
+use Rattle.pack_geometry.proofs.PackLaws.{length-window, get_or-window, get_or-with_window_here, get_or-with_window_before, get_or-with_window_after, window-with_window_other}
 use Rattle.pack_windows.specs.Parts.{Part, IsPart, AreParts, AreCurrent, images_of, marks_of}
 
 -- nothing is a part of any whole

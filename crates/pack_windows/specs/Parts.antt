@@ -1,6 +1,6 @@
 -- What windows of the parts of packs hold.
 use Rattle.std.specs.Prelude.{◌≡◌, ℕ, Bool, IsTrue, List, length, Some, slice_get}
-use Rattle.pack_model.specs.Pack.{Pack, window}
+use Rattle.pack_geometry.specs.Pack.{Pack, window}
 
 -- bytes, and the place where they stand in a whole
 pub record Part : Type 0 where

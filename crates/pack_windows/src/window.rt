@@ -1,5 +1,5 @@
 ghost use Rattle.std.specs.Prelude.{◌≡◌, ℕ, ◌<◌, ◌≤◌, ◌+◌, ◌*◌, ◌⊎◌, if◌then◌else◌, List, [], ◌∷◌, ◌++◌, take, drop, IsTrue, IfSome, OnOk, length, slice_index};
-ghost use Rattle.pack_model.specs.Pack.{window, with_window, with_block, block_at};
+ghost use Rattle.pack_geometry.specs.Pack.{window, with_window, with_block, block_at};
 ghost use Rattle.outside_traits.specs.Causes.{HasCause};
 ghost use Rattle.pack_windows.specs.Parts.{IsPart};
 

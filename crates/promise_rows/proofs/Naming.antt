@@ -6,16 +6,16 @@ use Rattle.std.proofs.lemmas.Option.{same_Some}
 use Rattle.pack_geometry.specs.declared.DriveKind.{DriveKind}
 use Rattle.pack_geometry.specs.declared.DriveKind.TheVariants.{Rp06, Rm03, Rm05}
 use Rattle.pack_geometry.specs.Geometry.{block_count}
-use Rattle.pack_model.specs.TableSpelling.{Table}
+use Rattle.pack_geometry.specs.TableSpelling.{Table}
 use Rattle.subsystem_spec.specs.Requests.{first_block}
 use Rattle.trace_replay.specs.Moments.{Told}
 use Rattle.trace_replay.specs.Replay.{after_moments}
 use Rattle.trace_replay.specs.Runs.{start_of}
 use Rattle.trace_replay.specs.Script as says
 use Rattle.trace_replay.specs.Script.{Input, Numbered, drives_of, inputs_of}
-use Rattle.trace_work.specs.Drains.{event_by}
-use Rattle.driver_runs.specs.Reach.{AsksBelow, AskBelow, TablesBelow}
-use Rattle.run_stops.specs.Stops.{AreOfOneEvent}
+use Rattle.trace_laws.specs.Drains.{event_by}
+use Rattle.driver_trace.specs.Reach.{AsksBelow, AskBelow, TablesBelow}
+use Rattle.run_laws.specs.Stops.{AreOfOneEvent}
 use Rattle.event_player.proofs.OneEvent.{over_at_last}
 use Rattle.promise_rows.specs.Naming.{LaterUnitNamed, FittingLengthNamed, FirstEventUntold, OtherRunByOtherTables, NoneWrites, WritesTo, ReadsLengthen, TwoLinesUnderWay, TwoEventsUnderWay, MarkGoneBehindAFailure, NotAsLongAsWritten}
 

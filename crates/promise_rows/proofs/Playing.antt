@@ -4,17 +4,17 @@ use Rattle.std.specs.Prelude.{if◌then◌else◌, Contains}
 use Rattle.std.specs.Fmt as fmt
 use Rattle.std.proofs.lemmas.Bool.{eq-eqb}
 use Rattle.std.proofs.lemmas.List.{append_cancel_left, append-nil}
-use Rattle.pack_model.specs.Homes.{contents_of}
+use Rattle.pack_geometry.specs.Homes.{contents_of}
 use Rattle.subsystem_spec.specs.Requests.{Answer}
-use Rattle.script_meaning.specs.Meaning.{meaning}
+use Rattle.script_reader.specs.Meaning.{meaning}
 use Rattle.hardware_table.specs.Noise.{LiveNoise}
 use Rattle.trace_replay.specs.Moments.{Moment, Played, Told, Idle, Deed, Search, Seek, Recal, Offset, Centre, Clear, Pack as Packs, Transfer, Arrive, Sector, Intr, Try, Attn, End, Answered, answers_in}
 use Rattle.trace_replay.specs.Script.{Noise, Script, drives_of, ids_of, inputs_of}
-use Rattle.driver_slots.proofs.Lists.{Contains-none}
-use Rattle.block_machine.specs.Laws.{HoldMap}
-use Rattle.block_machine.specs.LastWrites.{left_behind}
-use Rattle.block_machine.specs.LegalAnswers.{times_answered}
-use Rattle.block_machine.specs.Promises.{Promises}
+use Rattle.driver_invariant.proofs.SlotsLists.{Contains-none}
+use Rattle.trace_laws.specs.Laws.{HoldMap}
+use Rattle.trace_laws.specs.LastWrites.{left_behind}
+use Rattle.trace_laws.specs.LegalAnswers.{times_answered}
+use Rattle.trace_laws.specs.Promises.{Promises}
 use Rattle.answer_lines.specs.AnswerText.{out_text, said_text}
 use Rattle.answer_lines.specs.Blocks as blocks
 use Rattle.answer_lines.specs.declared.tally.Tally.{Tally}

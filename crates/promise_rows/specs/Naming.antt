@@ -2,18 +2,18 @@
 use Rattle.std.specs.Prelude.{◌≡◌, ◌≢◌, ℕ, ◌*◌, ◌<◌, ◌≤◌, Bool, true, false, List, [], ◌∷◌, ◌++◌, length, Option, Some, is_some}
 use Rattle.pack_geometry.specs.declared.DriveKind.{DriveKind}
 use Rattle.pack_geometry.specs.Geometry.{block_count}
-use Rattle.pack_model.specs.Pack.{Pack}
-use Rattle.pack_model.specs.TableSpelling.{Table}
+use Rattle.pack_geometry.specs.Pack.{Pack}
+use Rattle.pack_geometry.specs.TableSpelling.{Table}
 use Rattle.trace_replay.specs.Moments.{Moment, Played, Told, Deed, played}
 use Rattle.trace_replay.specs.Replay.{after_moments}
 use Rattle.trace_replay.specs.Runs.{IsLegalRun, start_of}
 use Rattle.trace_replay.specs.Script.{Script, Input, Numbered, Submit, Drain, drives_in, drives_of, inputs_of}
-use Rattle.trace_work.specs.Drains.{event_by}
-use Rattle.block_machine.specs.Promises.{Promises}
-use Rattle.driver_runs.specs.Lengths.{length_behind}
+use Rattle.trace_laws.specs.Drains.{event_by}
+use Rattle.trace_laws.specs.Promises.{Promises}
+use Rattle.driver_trace.specs.Lengths.{length_behind}
 use Rattle.event_player.specs.declared.play.PlayFault.TheVariants as faults
 use Rattle.event_player.specs.Plays.{NamesTooLong, Plays}
-use Rattle.run_stops.specs.Stops.{IsEventOver, Took, StopsAtSink}
+use Rattle.run_laws.specs.Stops.{IsEventOver, Took, StopsAtSink}
 use Rattle.event_player.specs.Stops.{StopsPlaying}
 use Rattle.hpsim_run.specs.SoFar.{Keeps}
 

@@ -1,7 +1,7 @@
 -- Wrong outcomes of the tool and of `exercise`, and statuses of other commands.
 use Rattle.std.specs.Prelude.{ℕ, true, List, [], ◌∷◌, codes, Some}
 use Rattle.pack_geometry.specs.declared.DriveKind.{DriveKind}
-use Rattle.pack_model.specs.Pack.{Pack}
+use Rattle.pack_geometry.specs.Pack.{Pack}
 use Rattle.bad144_tool.specs.declared.edit.AddWay.{AddWay}
 use Rattle.hpsim_run.specs.Passes.{Play}
 use Rattle.command_parts.specs.declared.status.Status.TheVariants.{ToolRefused}

@@ -3,18 +3,18 @@ use Rattle.std.specs.Prelude.{◌≡◌, ◌≢◌, ℕ, ◌<◌, ◌-◌, ◌^�
 use Rattle.outside_traits.specs.Causes.{Rose}
 use Rattle.pack_geometry.specs.declared.DriveKind.{DriveKind}
 use Rattle.pack_geometry.specs.Geometry.{limit_of}
-use Rattle.pack_model.specs.Pack.{Pack}
-use Rattle.pack_model.specs.Homes.{contents_of}
-use Rattle.pack_model.specs.TableSpelling.{Table}
+use Rattle.pack_geometry.specs.Pack.{Pack}
+use Rattle.pack_geometry.specs.Homes.{contents_of}
+use Rattle.pack_geometry.specs.TableSpelling.{Table}
 use Rattle.hardware_table.specs.Noise.{LiveNoise}
 use Rattle.subsystem_spec.specs.Requests.{ReadOk}
-use Rattle.script_meaning.specs.Meaning.{meaning}
+use Rattle.script_reader.specs.Meaning.{meaning}
 use Rattle.trace_replay.specs.Moments.{Moment, Played}
 use Rattle.trace_replay.specs.Script.{Script, Noise, drives_of, ids_of}
 use Rattle.answer_lines.specs.AnswerText.{answer_text}
 use Rattle.answer_lines.specs.declared.tally.Tally.{Tally}
 use Rattle.event_player.specs.Plays.{Tallied}
-use Rattle.run_stops.specs.Stops.{StopsAtSink}
+use Rattle.run_laws.specs.Stops.{StopsAtSink}
 use Rattle.hpsim_run.specs.Headline.{Headline}
 
 -- ALWAYS A FAULT: a fault is answered, and no count rose.

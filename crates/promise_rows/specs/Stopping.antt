@@ -1,8 +1,8 @@
 -- Wrong outcomes of a stop, or of a kill between two calls.
 use Rattle.std.specs.Prelude.{◌≡◌, ◌≢◌, ℕ, true, IsTrue, List, [], ◌∷◌, ◌++◌, Option}
 use Rattle.outside_traits.specs.Causes.{Rose}
-use Rattle.pack_model.specs.Pack.{Pack}
-use Rattle.pack_model.specs.TableSpelling.{Table}
+use Rattle.pack_geometry.specs.Pack.{Pack}
+use Rattle.pack_geometry.specs.TableSpelling.{Table}
 use Rattle.hardware_table.specs.declared.Moved.{Moved}
 use Rattle.subsystem_spec.specs.Requests.{Answer}
 use Rattle.trace_replay.specs.Moments.{Moment, Told, Sector, End}
@@ -11,9 +11,9 @@ use Rattle.trace_replay.specs.Replay.{after_moments}
 use Rattle.trace_replay.specs.Runs.{start_of}
 use Rattle.trace_replay.specs.Text.{trace_text}
 use Rattle.answer_lines.specs.AnswerText.{out_text}
-use Rattle.run_stops.specs.Writing.{was_written_at}
-use Rattle.run_stops.specs.Ahead.{WritesAhead, TellsAhead}
-use Rattle.run_stops.specs.Stops.{StopsAtStore, Took}
+use Rattle.run_laws.specs.Writing.{was_written_at}
+use Rattle.run_laws.specs.Ahead.{WritesAhead, TellsAhead}
+use Rattle.run_laws.specs.Stops.{StopsAtStore, Took}
 
 -- AN ANSWER BEFORE ITS LINE: of what came late an answer is the first, the trace took nothing more, and `out` did.
 abbrev pub AnswerBeforeItsLine : Type 0

@@ -1,17 +1,17 @@
 -- A wrong outcome of `play`: tries fail more often than the script makes them.
 use Rattle.std.specs.Prelude.{◌≡◌, ℕ, ◌+◌, ◌<◌, true, false, List, ◌∷◌, ◌++◌, Option, Some, IsSome, is_some}
 use Rattle.pack_geometry.specs.declared.DriveKind.{DriveKind}
-use Rattle.pack_model.specs.Pack.{Pack}
-use Rattle.pack_model.specs.TableSpelling.{Table}
-use Rattle.pack_model.specs.Homes.{home_of}
+use Rattle.pack_geometry.specs.Pack.{Pack}
+use Rattle.pack_geometry.specs.TableSpelling.{Table}
+use Rattle.pack_geometry.specs.Homes.{home_of}
 use Rattle.subsystem_spec.specs.Requests.{Request, Failed, Fault, first_block}
 use Rattle.trace_replay.specs.Conditions.{online_behind, locked_behind}
 use Rattle.trace_replay.specs.Moments.{Moment, Played, Told, End}
 use Rattle.trace_replay.specs.Replay.{Joined, submission, after_moments}
 use Rattle.trace_replay.specs.Runs.{start_of}
 use Rattle.trace_replay.specs.Script.{Script, Submit, drives_of}
-use Rattle.trace_work.specs.Strikes.{AreFewStrikes}
-use Rattle.block_machine.specs.Promises.{Promises}
+use Rattle.trace_laws.specs.Strikes.{AreFewStrikes}
+use Rattle.trace_laws.specs.Promises.{Promises}
 
 -- FAILED BY FEW STRIKES: a request that joins, whose unit is online and not locked and whose blocks can be used, is answered `fault`, and the
 -- script's faults and noise that shows strike its unit fewer than 28 times.

@@ -8,7 +8,7 @@ use Rattle.partitions.specs.Partitions.{size_of}
 use Rattle.outside_traits.specs.Causes.{HasCause, Rose}
 use Rattle.outside_traits.specs.Puts.{TakesFront}
 use Rattle.pack_geometry.specs.declared.DriveKind.{DriveKind}
-use Rattle.waited_requests.specs.Bytes.{IsOutside}
+use Rattle.trace_laws.specs.Bytes.{IsOutside}
 use Rattle.driver_answers.specs.declared.outcome.Stop.TheVariants as stopped
 use Rattle.command_parts.specs.Lines.{Told}
 use Rattle.command_parts.specs.Outside.{HasItsCause, Outside}

@@ -5,22 +5,22 @@ use Rattle.std.proofs.lemmas.Bool.{eqb-true, eq-eqb}
 use Rattle.std.proofs.Math.Path.{fun_ext}
 use Rattle.pack_geometry.specs.declared.DriveKind.{DriveKind}
 use Rattle.pack_geometry.specs.declared.DriveKind.TheVariants.{Rp06}
-use Rattle.pack_model.specs.Pack.{Pack}
-use Rattle.pack_model.specs.PackTable.{IsTableOf, IsTableAt}
-use Rattle.pack_model.specs.TableSpelling.{Table}
+use Rattle.pack_geometry.specs.Pack.{Pack}
+use Rattle.pack_geometry.specs.PackTable.{IsTableOf, IsTableAt}
+use Rattle.pack_geometry.specs.TableSpelling.{Table}
 use Rattle.trace_replay.specs.Packs.{surface_of}
 use Rattle.trace_replay.specs.Replay.{new_replay}
-use Rattle.trace_work.proofs.Consistency.{starts_consistent}
-use Rattle.block_machine.specs.Stands.{Setup as Seen, start_over}
-use Rattle.waited_requests.specs.Rest.{HasTables, IsAtRest}
-use Rattle.waited_requests.proofs.Restful.{start_rests}
+use Rattle.trace_laws.proofs.Consistency.{starts_consistent}
+use Rattle.trace_laws.specs.Stands.{Setup as Seen, start_over}
+use Rattle.trace_laws.specs.Rest.{HasTables, IsAtRest}
+use Rattle.trace_laws.proofs.Restful.{start_rests}
 use Rattle.driver_machine.specs.World.{World, UnitView, Setup, no_unit, new_unit, new_world, unit_at}
 use Rattle.driver_machine.specs.Guards.{IsSetUp}
 use Rattle.driver_machine.specs.Sound.{IsTableFor}
-use Rattle.driver_slots.specs.Parts.{AreSetups}
-use Rattle.driver_slots.proofs.Lists.{Contains-none, Contains-first, Contains-cases}
-use Rattle.driver_slots.proofs.Starts.{stands_new, others_new}
-use Rattle.driver_replay.specs.Acts.{AreSetUp}
+use Rattle.driver_invariant.specs.Parts.{AreSetups}
+use Rattle.driver_invariant.proofs.SlotsLists.{Contains-none, Contains-first, Contains-cases}
+use Rattle.driver_invariant.proofs.Starts.{stands_new, others_new}
+use Rattle.driver_trace.specs.Acts.{AreSetUp}
 use Rattle.raw_io.specs.Passes.{IsSoFar, State, kind_if, table_if, setup_of, StandsQuiet, kind_at, MayTransfer}
 use Rattle.raw_io.proofs.Passes.{starts, new_is_quiet}
 use Rattle.raw_command.specs.Units.{at_unit, unit_setup}

@@ -2,23 +2,23 @@
 use Rattle.std.proofs.Common.{◌≡◌, ℕ, ◌+◌, ◌<◌, ◌≤◌, Bool, true, false, IsTrue, List, take, drop, length, Option, Some, sym, ap, subst, ◌∙◌}
 use Rattle.std.proofs.Math.Seq.{take-append_seam}
 use Rattle.pack_geometry.specs.declared.DriveKind.{DriveKind}
-use Rattle.pack_model.specs.Pack.{Pack}
-use Rattle.pack_model.specs.Homes.{content_at, content_of, home_of}
-use Rattle.pack_model.specs.PackTable.{IsTableOf}
-use Rattle.pack_model.specs.TableSpelling.{Table}
+use Rattle.pack_geometry.specs.Pack.{Pack}
+use Rattle.pack_geometry.specs.Homes.{content_at, content_of, home_of}
+use Rattle.pack_geometry.specs.PackTable.{IsTableOf}
+use Rattle.pack_geometry.specs.TableSpelling.{Table}
 use Rattle.partitions.specs.Partitions.{first_of}
-use Rattle.block_machine.specs.Machine.{Blocks}
-use Rattle.block_machine.specs.Stands.{Setup as Seen, home_at, home_in}
-use Rattle.waited_requests.specs.Cleans.{MovedClean}
-use Rattle.waited_requests.specs.Rest.{HasTables}
-use Rattle.waited_requests.specs.Sessions.{told_in}
-use Rattle.waited_requests.specs.Waited.{map_of, with_packs}
+use Rattle.trace_laws.specs.Machine.{Blocks}
+use Rattle.trace_laws.specs.Stands.{Setup as Seen, home_at, home_in}
+use Rattle.trace_laws.specs.Cleans.{MovedClean}
+use Rattle.trace_laws.specs.Rest.{HasTables}
+use Rattle.trace_laws.specs.Sessions.{told_in}
+use Rattle.trace_laws.specs.Waited.{map_of, with_packs}
 use Rattle.driver_machine.specs.World.{World}
 use Rattle.driver_machine.specs.Sound.{IsTableFor}
 use Rattle.raw_io.specs.Passes.{setup_of, StandsQuiet, Stage, setup_at, Reaches, OthersStay, kind_at, map_at, left_map, IsUntouched}
-use Rattle.waited_requests.specs.Bytes.{range, ComesTo, with_range}
-use Rattle.waited_requests.specs.Laid.{laid}
-use Rattle.waited_requests.proofs.Ranges.{laid_short, length_range}
+use Rattle.trace_laws.specs.Bytes.{range, ComesTo, with_range}
+use Rattle.trace_laws.specs.Laid.{laid}
+use Rattle.trace_laws.proofs.Ranges.{laid_short, length_range}
 use Rattle.raw_io.specs.Calls.{ReadsRange, StopsAt, WritesRange}
 use Rattle.raw_io.specs.Pieces.{GivesRange, PutsRange, start_of}
 use Rattle.raw_io.specs.Transfers.{Transfers}

@@ -2,10 +2,10 @@
 use Rattle.std.proofs.Common.{◌≡◌, ◌⊎◌, inl, inr, ℕ, ◌+◌, ◌-◌, ◌*◌, ◌/◌, ◌<◌, ◌≤◌, Bool, List, Option, length, length-append, replicate, ap, sym, subst, ◌∙◌, arith}
 use Rattle.std.proofs.lemmas.List.{length-replicate}
 use Rattle.pack_geometry.specs.declared.DriveKind.{DriveKind}
-use Rattle.pack_model.specs.Pack.{Pack}
+use Rattle.pack_geometry.specs.Pack.{Pack}
 use Rattle.partitions.specs.declared.Part.TheVariants.{B}
 use Rattle.partitions.specs.Partitions.{size_of}
-use Rattle.waited_requests.specs.Bytes.{blocks_for, dumped, dump_place}
+use Rattle.trace_laws.specs.Bytes.{blocks_for, dumped, dump_place}
 use Rattle.raw_command.specs.Endings.{IsBeyond, bytes_for, target_for}
 use Rattle.raw_command.specs.Transfers.{WritesUnit}
 use Rattle.command_parts.specs.Words.{IsPlaced, IsTarget}

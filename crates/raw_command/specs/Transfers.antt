@@ -1,20 +1,20 @@
 -- WHAT A TRANSFER COMES TO over the packs, by the contents of its unit's data blocks.
 use Rattle.std.specs.Prelude.{◌≡◌, ◌⊎◌, ℕ, ◌+◌, ◌<◌, ◌≤◌, Bool, true, false, IsTrue, List, ◌++◌, take, length, Option, Some, IfSome}
 use Rattle.pack_geometry.specs.Geometry.{block_count}
-use Rattle.pack_model.specs.Pack.{Pack, block_at}
-use Rattle.pack_model.specs.Homes.{IsHome, content_of}
-use Rattle.pack_model.specs.PackTable.{IsTableOf}
-use Rattle.pack_model.specs.TableSpelling.{Table}
+use Rattle.pack_geometry.specs.Pack.{Pack, block_at}
+use Rattle.pack_geometry.specs.Homes.{IsHome, content_of}
+use Rattle.pack_geometry.specs.PackTable.{IsTableOf}
+use Rattle.pack_geometry.specs.TableSpelling.{Table}
 use Rattle.partitions.specs.Partitions.{first_of}
 use Rattle.trace_replay.specs.Replay.{Replay, IsOver}
 use Rattle.trace_replay.specs.Text.{trace_text}
-use Rattle.block_machine.specs.Machine.{Blocks}
-use Rattle.block_machine.specs.Stands.{start_over}
+use Rattle.trace_laws.specs.Machine.{Blocks}
+use Rattle.trace_laws.specs.Stands.{start_over}
 use Rattle.raw_io.specs.Passes.{Stay}
-use Rattle.waited_requests.specs.Sessions.{Part, IsSession, behind_all, told_in}
-use Rattle.waited_requests.specs.Cleans.{MovedClean}
-use Rattle.waited_requests.specs.Bytes.{range, Touches, ComesTo, with_range}
-use Rattle.waited_requests.specs.Pieces.{EndsBlock}
+use Rattle.trace_laws.specs.Sessions.{Part, IsSession, behind_all, told_in}
+use Rattle.trace_laws.specs.Cleans.{MovedClean}
+use Rattle.trace_laws.specs.Bytes.{range, Touches, ComesTo, with_range}
+use Rattle.trace_laws.specs.Pieces.{EndsBlock}
 use Rattle.raw_io.specs.Transfers.{AreWaited}
 use Rattle.mba_autoconf.specs.Attach.{Fits}
 use Rattle.raw_command.specs.Faults.{done_by}

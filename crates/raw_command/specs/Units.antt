@@ -2,10 +2,10 @@
 use Rattle.std.specs.Prelude.{◌≡◌, ℕ, ◌*◌, ◌<◌, ◌==◌, if◌then◌else◌, Bool, false, IsTrue, [], ◌∷◌, Option, None, Some, IfSome, length}
 use Rattle.pack_geometry.specs.declared.DriveKind.{DriveKind}
 use Rattle.pack_geometry.specs.Geometry.{block_count}
-use Rattle.pack_model.specs.Pack.{Pack}
-use Rattle.pack_model.specs.PackTable.{IsTableOf}
-use Rattle.pack_model.specs.TableSpelling.{Table}
-use Rattle.block_machine.specs.Stands.{Setup}
+use Rattle.pack_geometry.specs.Pack.{Pack}
+use Rattle.pack_geometry.specs.PackTable.{IsTableOf}
+use Rattle.pack_geometry.specs.TableSpelling.{Table}
+use Rattle.trace_laws.specs.Stands.{Setup}
 use Rattle.driver_machine.specs.World.{new_world}
 use Rattle.driver_machine.specs.Sound.{IsTableFor}
 use Rattle.raw_io.specs.Passes.{HasCauses, State}

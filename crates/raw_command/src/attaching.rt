@@ -1,7 +1,7 @@
 // The unit of a transfer is attached.
 ghost use Rattle.std.specs.Prelude.{◌≡◌, ◌≤◌, ◌<◌, IsTrue, IfOk, IfErr, IfSome, IsErrOf};
 ghost use Rattle.outside_traits.specs.Causes.{Rose};
-ghost use Rattle.pack_model.specs.TableSpelling.{IsTable};
+ghost use Rattle.pack_geometry.specs.TableSpelling.{IsTable};
 ghost use Rattle.raw_command.specs.Faults.{IsOfAttaching};
 ghost use Rattle.raw_command.specs.Units.{IsAttached, IsFoundLong};
 

@@ -5,15 +5,15 @@ use Rattle.pack_geometry.specs.declared.DriveKind.{DriveKind}
 use Rattle.subsystem_spec.specs.Requests.{Answer, EndOfPartition, Failed, IsRequest, NoFrames, OutsidePartition, ReadOk, Request, WriteOk}
 use Rattle.driver_machine.specs.Guards.{IsSetUp}
 use Rattle.driver_machine.specs.Sound.{Sound, AtWork}
-use Rattle.waited_requests.specs.Sessions.{told_in, waited}
-use Rattle.waited_requests.specs.Rest.{HasTables}
-use Rattle.waited_requests.specs.Waited.{answer_in}
-use Rattle.waited_requests.specs.Cleans.{MovedClean, done_by}
-use Rattle.request_fronts.specs.Passes.{Answers, AnswersReach, GoesOn, IsQuiet, Stage, reached_by, setup_at}
-use Rattle.request_fronts.specs.Fronts.{AnsweredMovesClean}
-use Rattle.request_fronts.specs.Sites.{kind_at}
-use Rattle.request_fronts.specs.Blocks.{AreBlocks, blocks_reached, origin}
-use Rattle.request_fronts.proofs.Blocks.{few_reached, first_at, is_request, none_written, plain, puts_of, read_once_of}
+use Rattle.trace_laws.specs.Sessions.{told_in, waited}
+use Rattle.trace_laws.specs.Rest.{HasTables}
+use Rattle.trace_laws.specs.Waited.{answer_in}
+use Rattle.trace_laws.specs.Cleans.{MovedClean, done_by}
+use Rattle.blocking_io.specs.FrontsPasses.{Answers, AnswersReach, GoesOn, IsQuiet, Stage, reached_by, setup_at}
+use Rattle.blocking_io.specs.Fronts.{AnsweredMovesClean}
+use Rattle.blocking_io.specs.Sites.{kind_at}
+use Rattle.blocking_io.specs.Blocks.{AreBlocks, blocks_reached, origin}
+use Rattle.blocking_io.proofs.FrontsBlocks.{few_reached, first_at, is_request, none_written, plain, puts_of, read_once_of}
 use Rattle.raw_io.specs.Transfers.{AreClean, IsAsk, Transfers}
 use Rattle.raw_io.specs.Blocks.{Puts, Reads}
 

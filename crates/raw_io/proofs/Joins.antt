@@ -5,13 +5,13 @@ use Rattle.std.proofs.lemmas.List.Elements.{Contains-append_left, Contains-appen
 use Rattle.hardware_table.specs.declared.Moved.TheVariants.{Clean}
 use Rattle.trace_replay.specs.Moments.{Told, Sector}
 use Rattle.partitions.specs.declared.Part.{Part}
-use Rattle.block_machine.specs.Stands.{Setup, home_in}
-use Rattle.waited_requests.specs.Sessions.{Part as SessionPart, told_in}
-use Rattle.waited_requests.specs.Cleans.{MovedClean}
-use Rattle.waited_requests.specs.Waited.{with_packs}
-use Rattle.request_fronts.specs.Passes.{Stage, setup_at, StillTell, SessionsJoin}
-use Rattle.request_fronts.specs.Fronts.{OthersStay}
-use Rattle.request_fronts.proofs.Sites.{homes_same, others_none, others_over}
+use Rattle.trace_laws.specs.Stands.{Setup, home_in}
+use Rattle.trace_laws.specs.Sessions.{Part as SessionPart, told_in}
+use Rattle.trace_laws.specs.Cleans.{MovedClean}
+use Rattle.trace_laws.specs.Waited.{with_packs}
+use Rattle.blocking_io.specs.FrontsPasses.{Stage, setup_at, StillTell, SessionsJoin}
+use Rattle.blocking_io.specs.Fronts.{OthersStay}
+use Rattle.blocking_io.proofs.Sites.{homes_same, others_none, others_over}
 use Rattle.raw_io.specs.Transfers.{AreWaited, Transfers}
 
 -- ---- requests

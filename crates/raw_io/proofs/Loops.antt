@@ -3,14 +3,14 @@ use Rattle.std.proofs.Common.{◌≡◌, ℕ, ◌+◌, ◌*◌, ◌<◌, ◌≤�
 use Rattle.pack_geometry.specs.declared.DriveKind.{DriveKind}
 use Rattle.partitions.specs.declared.Part.{Part}
 use Rattle.partitions.specs.Partitions.{size_of}
-use Rattle.request_fronts.specs.Passes.{asked, Stage, setup_at}
+use Rattle.blocking_io.specs.FrontsPasses.{asked, Stage, setup_at}
 use Rattle.driver_machine.specs.Guards.{IsSetUp}
-use Rattle.waited_requests.specs.Waited.{with_packs}
+use Rattle.trace_laws.specs.Waited.{with_packs}
 use Rattle.raw_io.specs.declared.pieces.Piece.{Piece}
-use Rattle.request_fronts.specs.Blocks.{AreBlocks}
-use Rattle.request_fronts.specs.Sites.{kind_at}
+use Rattle.blocking_io.specs.Blocks.{AreBlocks}
+use Rattle.blocking_io.specs.Sites.{kind_at}
 use Rattle.raw_io.specs.Pieces.{IsPiece}
-use Rattle.request_fronts.proofs.Sites.{kind_stays}
+use Rattle.blocking_io.proofs.Sites.{kind_stays}
 
 -- ---- its blocks lie inside the partition
 pub piece_blocks : (kind : DriveKind) (unit : ℕ) (part : Part) (write : Bool) (place left : ℕ) (p : Piece) (bytes : List ℕ) → IsPiece unit part write place left p → place + left ≤ 512 * size_of kind part

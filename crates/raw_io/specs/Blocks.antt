@@ -1,15 +1,15 @@
 -- WHOLE BLOCKS of a partition, read or written by requests that are waited for.
 use Rattle.std.specs.Prelude.{◌≡◌, ℕ, ◌+◌, ◌*◌, ◌<◌, ◌≤◌, IsTrue, true, false, List}
 use Rattle.subsystem_spec.specs.Requests.{Request}
-use Rattle.waited_requests.specs.Sessions.{told_in}
-use Rattle.waited_requests.specs.Rest.{HasTables}
-use Rattle.request_fronts.specs.Passes.{Stage, setup_at}
-use Rattle.waited_requests.specs.Laid.{laid}
-use Rattle.waited_requests.specs.Pieces.{Reaches}
-use Rattle.waited_requests.specs.Bytes.{range}
+use Rattle.trace_laws.specs.Sessions.{told_in}
+use Rattle.trace_laws.specs.Rest.{HasTables}
+use Rattle.blocking_io.specs.FrontsPasses.{Stage, setup_at}
+use Rattle.trace_laws.specs.Laid.{laid}
+use Rattle.trace_laws.specs.Pieces.{Reaches}
+use Rattle.trace_laws.specs.Bytes.{range}
 use Rattle.raw_io.specs.Transfers.{Transfers, AreClean}
-use Rattle.request_fronts.specs.Sites.{IsUnchanged, map_at}
-use Rattle.request_fronts.specs.Blocks.{PutsBlocks, ReadsOnce, origin}
+use Rattle.blocking_io.specs.Sites.{IsUnchanged, map_at}
+use Rattle.blocking_io.specs.Blocks.{PutsBlocks, ReadsOnce, origin}
 
 pub record Reads (r : Request) (n : ℕ) (into into' : List ℕ) (old new : Stage) : Type 0 where
   pub few : n ≤ r.count

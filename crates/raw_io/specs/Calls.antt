@@ -2,14 +2,14 @@
 use Rattle.std.specs.Prelude.{◌≡◌, ◌≢◌, ℕ, ◌≤◌, List, take, length, Option, None, Some, Result, Ok, Err}
 use Rattle.driver_answers.specs.declared.outcome.Stop.{Stop}
 use Rattle.driver_answers.specs.declared.outcome.Stop.TheVariants as stopped
-use Rattle.waited_requests.specs.Laid.{laid}
-use Rattle.request_fronts.specs.Passes.{Stage, setup_at}
-use Rattle.request_fronts.specs.Fronts.{OthersStay}
-use Rattle.request_fronts.specs.Sites.{left_map, map_at}
+use Rattle.trace_laws.specs.Laid.{laid}
+use Rattle.blocking_io.specs.FrontsPasses.{Stage, setup_at}
+use Rattle.blocking_io.specs.Fronts.{OthersStay}
+use Rattle.blocking_io.specs.Sites.{left_map, map_at}
 use Rattle.raw_io.specs.declared.fault.RawFault.{RawFault}
 use Rattle.raw_io.specs.declared.fault.RawFault.TheVariants.{Unusable, Store, Sink}
-use Rattle.waited_requests.specs.Pieces.{EndsBlock}
-use Rattle.waited_requests.specs.Bytes.{range, ComesTo, with_range}
+use Rattle.trace_laws.specs.Pieces.{EndsBlock}
+use Rattle.trace_laws.specs.Bytes.{range, ComesTo, with_range}
 
 -- A READ OF A RANGE gives its bytes, so many, over those of a buffer, and changes nothing.
 pub record ReadsRange (unit first at done : ℕ) (into into' : List ℕ) (old new : Stage) : Type 0 where

@@ -2,20 +2,20 @@
 use Rattle.std.specs.Prelude.{◌≡◌, ◌≢◌, ◌⊎◌, ℕ, ◌+◌, ◌*◌, ◌<◌, ◌≤◌, Bool, true, false, IsTrue, List, take, drop, length, Some}
 use Rattle.pack_geometry.specs.declared.DriveKind.{DriveKind}
 use Rattle.partitions.specs.declared.Part.{Part}
-use Rattle.request_fronts.specs.Passes.{asked, Stage, setup_at}
+use Rattle.blocking_io.specs.FrontsPasses.{asked, Stage, setup_at}
 use Rattle.partitions.specs.Partitions.{first_of}
-use Rattle.block_machine.specs.Machine.{Blocks}
-use Rattle.waited_requests.specs.Sessions.{told_in}
-use Rattle.waited_requests.specs.Rest.{HasTables}
-use Rattle.request_fronts.specs.Fronts.{OthersStay}
-use Rattle.waited_requests.specs.Laid.{laid}
+use Rattle.trace_laws.specs.Machine.{Blocks}
+use Rattle.trace_laws.specs.Sessions.{told_in}
+use Rattle.trace_laws.specs.Rest.{HasTables}
+use Rattle.blocking_io.specs.Fronts.{OthersStay}
+use Rattle.trace_laws.specs.Laid.{laid}
 use Rattle.raw_io.specs.declared.pieces.Piece.{Piece}
-use Rattle.waited_requests.specs.Bytes.{range, Touches, with_range}
+use Rattle.trace_laws.specs.Bytes.{range, Touches, with_range}
 use Rattle.raw_io.specs.Transfers.{Transfers, AreClean}
-use Rattle.request_fronts.specs.Blocks.{AreBlocks}
-use Rattle.request_fronts.specs.Sites.{kind_at, map_at, left_map, IsUnchanged}
+use Rattle.blocking_io.specs.Blocks.{AreBlocks}
+use Rattle.blocking_io.specs.Sites.{kind_at, map_at, left_map, IsUnchanged}
 use Rattle.raw_io.specs.Calls.{ReadsRange, WritesRange}
-use Rattle.waited_requests.specs.Pieces.{Reaches, bytes_among}
+use Rattle.trace_laws.specs.Pieces.{Reaches, bytes_among}
 
 -- a piece begins in the first of its blocks, and ends in the last one
 pub record IsCut (p : Piece) : Type 0 where

@@ -4,11 +4,11 @@ use Rattle.partitions.specs.declared.Part.{Part}
 use Rattle.subsystem_spec.specs.Requests.{Request}
 use Rattle.trace_replay.specs.Script.{Submit, Drain}
 use Rattle.trace_replay.specs.Moments.{Moment}
-use Rattle.request_fronts.specs.Passes.{Stage, setup_at, GoesOn}
-use Rattle.waited_requests.specs.Sessions.{Part as SessionPart}
-use Rattle.waited_requests.specs.Rest.{HasTables}
-use Rattle.waited_requests.specs.Cleans.{MovedClean}
-use Rattle.request_fronts.specs.Fronts.{OthersStay}
+use Rattle.blocking_io.specs.FrontsPasses.{Stage, setup_at, GoesOn}
+use Rattle.trace_laws.specs.Sessions.{Part as SessionPart}
+use Rattle.trace_laws.specs.Rest.{HasTables}
+use Rattle.trace_laws.specs.Cleans.{MovedClean}
+use Rattle.blocking_io.specs.Fronts.{OthersStay}
 
 -- a request of one, which only reads where the transfer does
 pub record IsAsk (reads : Bool) (unit : ℕ) (part : Part) (r : Request) : Type 0 where

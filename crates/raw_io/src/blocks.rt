@@ -1,16 +1,16 @@
 // Whole blocks of a partition, by requests that are waited for.
 ghost use Rattle.std.specs.Prelude.{◌≡◌, ◌*◌, [], true, false, IsTrue, IfOk, OnErr, length};
 ghost use Rattle.driver_answers.specs.Outcome.{stop_in};
-ghost use Rattle.request_fronts.specs.Passes.{asked, setup_at};
-ghost use Rattle.waited_requests.specs.Rest.{HasTables};
-ghost use Rattle.request_fronts.specs.Sites.{site, Keeps, MayTransfer, kind_at, IsUntouched};
-ghost use Rattle.request_fronts.specs.Blocks.{AreBlocks, blocks_reached, PutsFront};
+ghost use Rattle.blocking_io.specs.FrontsPasses.{asked, setup_at};
+ghost use Rattle.trace_laws.specs.Rest.{HasTables};
+ghost use Rattle.blocking_io.specs.Sites.{site, Keeps, MayTransfer, kind_at, IsUntouched};
+ghost use Rattle.blocking_io.specs.Blocks.{AreBlocks, blocks_reached, PutsFront};
 ghost use Rattle.raw_io.specs.Blocks.{Reads, Gives, Puts};
 
-use outside_traits::traits::{Packs, Sink};
-use request_fronts::{
+use blocking_io::{
     Reached, Request, Stop, Subsystem, ask_read, ask_write, clean_law, fronts_law, sessions_law,
 };
+use outside_traits::traits::{Packs, Sink};
 
 /// How many blocks of a request were done, of so many.
 fn blocks_done(reached: Reached, count: u32) -> u32

@@ -4,20 +4,20 @@ ghost use Rattle.partitions.specs.declared.Part.TheVariants.{B};
 ghost use Rattle.partitions.specs.Partitions.{size_of};
 ghost use Rattle.driver_answers.specs.declared.outcome.Stop.{Stop};
 ghost use Rattle.driver_answers.specs.Outcome.{stop_in};
-ghost use Rattle.waited_requests.specs.Rest.{HasTables};
-ghost use Rattle.request_fronts.specs.Passes.{setup_at};
+ghost use Rattle.trace_laws.specs.Rest.{HasTables};
+ghost use Rattle.blocking_io.specs.FrontsPasses.{setup_at};
 ghost use Rattle.raw_io.specs.declared.fault.RawFault.TheVariants.{Outside, Unusable};
-ghost use Rattle.waited_requests.specs.Bytes.{blocks_for, dumped, dump_place};
-ghost use Rattle.request_fronts.specs.Sites.{site, Keeps, MayTransfer, kind_at};
+ghost use Rattle.trace_laws.specs.Bytes.{blocks_for, dumped, dump_place};
+ghost use Rattle.blocking_io.specs.Sites.{site, Keeps, MayTransfer, kind_at};
 ghost use Rattle.raw_io.specs.Calls.{StopsAt, stop_of, done_by};
 ghost use Rattle.raw_io.specs.Pieces.{IsWritten, IsWholeOrOne, start_of, PutsPiece, StopsPiece, PutsRange};
 
 use crate::fault::RawFault;
 use crate::pieces::{Piece, piece_to_write};
 use crate::writing::write_piece;
+use blocking_io::{Stop, Subsystem, sessions_law};
 use outside_traits::traits::{Packs, Sink};
 use partitions::{Part, part_range};
-use request_fronts::{Stop, Subsystem, sessions_law};
 
 /// How many bytes memory has at the most.
 const MEMORY: usize = 8_388_608;

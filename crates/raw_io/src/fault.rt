@@ -1,5 +1,5 @@
 // What a raw transfer is refused or stopped by.
-use request_fronts::Stop;
+use blocking_io::Stop;
 use thiserror::Error;
 
 /// Why a raw transfer did not come to all its bytes.

@@ -16,11 +16,9 @@ mod pieces;
 mod reading;
 mod writing;
 
+pub use blocking_io::{Stop, Subsystem, UnitSetup};
 pub use dumping::dump;
 pub use fault::RawFault;
 pub use pieces::is_outside;
 pub use reading::raw_read;
-pub use request_fronts::{
-    Reached, Request, Stop, Subsystem, UnitSetup, ask_read, ask_write, fronts_law, sessions_law,
-};
 pub use writing::raw_write;

@@ -1,12 +1,12 @@
 // Pieces of a range, each of as many blocks as one request has.
 ghost use Rattle.std.specs.Prelude.{◌≡◌, ◌≤◌, ◌<◌, ◌+◌, ◌^◌, ◌↔◌, true, false, IsTrue};
-ghost use Rattle.waited_requests.specs.Bytes.{IsOutside};
-ghost use Rattle.waited_requests.specs.Pieces.{bytes_among};
+ghost use Rattle.trace_laws.specs.Bytes.{IsOutside};
+ghost use Rattle.trace_laws.specs.Pieces.{bytes_among};
 ghost use Rattle.raw_io.specs.Pieces.{IsPiece, IsWholeOrOne};
 
+use blocking_io::Request;
 use pack_geometry::DriveKind;
 use partitions::{Part, part_range};
-use request_fronts::Request;
 
 /// The blocks that a piece of a range touches, and the piece in them: `size` bytes behind the first `skip`.
 #[derive(Clone, Copy)]

@@ -3,21 +3,21 @@ ghost use Rattle.std.specs.Prelude.{◌≡◌, ◌+◌, ◌*◌, ◌^◌, ◌<�
 ghost use Rattle.partitions.specs.Partitions.{size_of};
 ghost use Rattle.driver_answers.specs.declared.outcome.Stop.{Stop};
 ghost use Rattle.driver_answers.specs.Outcome.{stop_in};
-ghost use Rattle.request_fronts.specs.Passes.{asked, setup_at};
-ghost use Rattle.waited_requests.specs.Rest.{HasTables};
+ghost use Rattle.blocking_io.specs.FrontsPasses.{asked, setup_at};
+ghost use Rattle.trace_laws.specs.Rest.{HasTables};
 ghost use Rattle.raw_io.specs.declared.fault.RawFault.TheVariants.{Outside, Unusable};
-ghost use Rattle.waited_requests.specs.Bytes.{IsOutside};
-ghost use Rattle.request_fronts.specs.Sites.{site, Keeps, MayTransfer, kind_at, IsUntouched};
-ghost use Rattle.request_fronts.specs.Blocks.{AreBlocks};
+ghost use Rattle.trace_laws.specs.Bytes.{IsOutside};
+ghost use Rattle.blocking_io.specs.Sites.{site, Keeps, MayTransfer, kind_at, IsUntouched};
+ghost use Rattle.blocking_io.specs.Blocks.{AreBlocks};
 ghost use Rattle.raw_io.specs.Calls.{stop_of, done_by};
 ghost use Rattle.raw_io.specs.Pieces.{IsCut, GivesPiece, GivesRange};
 
 use crate::blocks::get_blocks;
 use crate::fault::RawFault;
 use crate::pieces::{Piece, bytes_among, is_outside, piece_to_read};
+use blocking_io::{Stop, Subsystem, sessions_law};
 use outside_traits::traits::{Packs, Sink};
 use partitions::Part;
-use request_fronts::{Stop, Subsystem, sessions_law};
 
 /// Reads a piece of a range through a buffer for its blocks, and gives the bytes before the first block that can't be used: how many.
 fn read_piece<P: Packs, T: Sink>(

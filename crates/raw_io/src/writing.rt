@@ -3,21 +3,21 @@ ghost use Rattle.std.specs.Prelude.{◌≡◌, ◌+◌, ◌*◌, ◌^◌, ◌<�
 ghost use Rattle.partitions.specs.Partitions.{size_of};
 ghost use Rattle.driver_answers.specs.declared.outcome.Stop.{Stop};
 ghost use Rattle.driver_answers.specs.Outcome.{stop_in};
-ghost use Rattle.waited_requests.specs.Rest.{HasTables};
-ghost use Rattle.waited_requests.specs.Laid.{laid_at};
-ghost use Rattle.request_fronts.specs.Passes.{setup_at};
+ghost use Rattle.trace_laws.specs.Rest.{HasTables};
+ghost use Rattle.trace_laws.specs.Laid.{laid_at};
+ghost use Rattle.blocking_io.specs.FrontsPasses.{setup_at};
 ghost use Rattle.raw_io.specs.declared.fault.RawFault.TheVariants.{Outside, Unusable};
-ghost use Rattle.waited_requests.specs.Bytes.{IsOutside};
-ghost use Rattle.request_fronts.specs.Sites.{site, Keeps, MayTransfer, kind_at};
+ghost use Rattle.trace_laws.specs.Bytes.{IsOutside};
+ghost use Rattle.blocking_io.specs.Sites.{site, Keeps, MayTransfer, kind_at};
 ghost use Rattle.raw_io.specs.Calls.{StopsAt, stop_of, done_by};
 ghost use Rattle.raw_io.specs.Pieces.{IsWritten, IsWholeOrOne, start_of, PutsPiece, StopsPiece, PutsRange};
 
 use crate::blocks::{get_blocks, put_blocks};
 use crate::fault::RawFault;
 use crate::pieces::{Piece, bytes_among, is_outside, piece_to_write};
+use blocking_io::{Request, Stop, Subsystem, sessions_law};
 use outside_traits::traits::{Packs, Sink};
 use partitions::Part;
-use request_fronts::{Request, Stop, Subsystem, sessions_law};
 
 /// Lays bytes over those of a block, from a place on.
 fn merge(block: &mut [u8; 512], skip: usize, from: &[u8])

@@ -8,7 +8,7 @@ use Rattle.main_memory.specs.Blocks.{Loan, IsLoan, IsSpan, in_frame, in_next, si
 use Rattle.main_memory.specs.Memory.{Memory, IsMemory, IsLent, AreTaken, AreApart, with_block, blocks_of}
 use Rattle.main_memory.proofs.ByteLaws.{length-with_part}
 use Rattle.main_memory.proofs.BlockLaws.{is_span, length-bytes_in, length-with_bytes_in, slice_get-blocks_of, blocks_of-with_block, blocks_of-with_block_other}
-use Rattle.pack_model.specs.Pack.{Pack}
+use Rattle.pack_geometry.specs.Pack.{Pack}
 use Rattle.hardware_table.specs.declared.Moved.{Moved}
 use Rattle.hardware_table.specs.Drive.{DriveState}
 use Rattle.hardware_table.specs.Noise.{Book}

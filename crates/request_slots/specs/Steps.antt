@@ -1,6 +1,6 @@
 -- The move of the next sector of a transfer, for the request in a slot.
 use Rattle.std.specs.Prelude.{◌≡◌, ℕ, true, IsSome, List, Option}
-use Rattle.pack_model.specs.Pack.{Pack}
+use Rattle.pack_geometry.specs.Pack.{Pack}
 use Rattle.hardware_table.specs.Drive.{DriveState}
 use Rattle.hardware_table.specs.Noise.{Book}
 use Rattle.hardware_table.specs.Adapter.{AdapterState, next_window}

@@ -170,7 +170,7 @@ impl RowPacks {
 
 impl Packs for RowPacks {
     ghost use Rattle.std.specs.Prelude.{false};
-    ghost use Rattle.pack_model.specs.Pack.{empty_pack};
+    ghost use Rattle.pack_geometry.specs.Pack.{empty_pack};
 
     ghost tells = { λ _. false };
 

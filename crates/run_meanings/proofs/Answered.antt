@@ -11,8 +11,8 @@ use Rattle.drive_pictures.specs.declared.requests.Outcome.TheVariants as outcome
 use Rattle.drive_pictures.specs.declared.requests.Request.{Request}
 use Rattle.drive_pictures.specs.Requests.{new_request, is_refused, answer}
 use Rattle.pack_geometry.specs.declared.DriveKind.{DriveKind}
-use Rattle.pack_model.specs.Pack as model
-use Rattle.pack_model.specs.TableSpelling.{Table}
+use Rattle.pack_geometry.specs.Pack as model
+use Rattle.pack_geometry.specs.TableSpelling.{Table}
 use Rattle.picture_sheet.specs.Words.{outcome_word}
 use Rattle.run_counts.specs.Doings.{at_moment}
 use Rattle.run_meanings.proofs.Drawing.{no_refusal}

@@ -8,7 +8,7 @@ use Rattle.run_meanings.specs.Hears.{seen_of}
 use Rattle.run_view.specs.Plays.{plays_of}
 use Rattle.run_view.specs.Runs.{told_of, up_to, beyond, run_of}
 use Rattle.run_view.specs.Saids.{Said}
-use Rattle.script_meaning.specs.Meaning.{meaning_of}
+use Rattle.script_reader.specs.Meaning.{meaning_of}
 use Rattle.trace_reader.specs.declared.line.TraceLine.{TraceLine}
 use Rattle.trace_reader.specs.declared.line.TraceLine.TheVariants as lines
 use Rattle.trace_reader.specs.Lines.{line_number}

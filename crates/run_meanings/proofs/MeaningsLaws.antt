@@ -15,7 +15,7 @@ use Rattle.run_view.specs.Saids.{Said}
 use Rattle.run_picture.specs.declared.columns.Window.{Window}
 use Rattle.run_picture.specs.Fold.{Known, new_known}
 use Rattle.run_view.specs.Views as views
-use Rattle.script_meaning.specs.Meaning.{statement_of, line_of}
+use Rattle.script_reader.specs.Meaning.{statement_of, line_of}
 use Rattle.script_lines.specs.declared.statement.Span.{Span}
 use Rattle.script_lines.specs.declared.statement.Statement.{Statement}
 use Rattle.script_lines.specs.declared.statement.Statement.TheVariants as says

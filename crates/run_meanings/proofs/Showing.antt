@@ -1,7 +1,7 @@
 -- The answers of a legal run, as its trace is read and shown.
 use Rattle.std.proofs.Common.{◌≡◌, ℕ, ◌==◌, false, List, ◌∷◌, ◌++◌, map, Option, sym, ap, ◌∙◌, subst}
-use Rattle.pack_model.specs.Pack as model
-use Rattle.pack_model.specs.TableSpelling.{Table}
+use Rattle.pack_geometry.specs.Pack as model
+use Rattle.pack_geometry.specs.TableSpelling.{Table}
 use Rattle.run_meanings.specs.Answers.{IsDrawn}
 use Rattle.run_meanings.proofs.Answered.{are_answers_drawn}
 use Rattle.run_meanings.specs.Hears.{seen_of, known_of}
@@ -10,7 +10,7 @@ use Rattle.run_view.specs.Runs.{run_of}
 use Rattle.run_picture.specs.Fold.{Known, run_from}
 use Rattle.run_view.specs.declared.view.View.{View}
 use Rattle.run_view.specs.Views.{Views}
-use Rattle.script_meaning.specs.Meaning.{meaning_of}
+use Rattle.script_reader.specs.Meaning.{meaning_of}
 use Rattle.script_reader.specs.Stored.{Stored}
 use Rattle.trace_reader.proofs.GrammarLaws.{one_trace}
 use Rattle.trace_reader.specs.declared.line.TraceLine.{TraceLine}

@@ -9,8 +9,8 @@ use Rattle.hardware_table.specs.Drive.{new_drive}
 use Rattle.hardware_table.specs.Functions.{performed}
 use Rattle.pack_geometry.specs.declared.DriveKind.{DriveKind}
 use Rattle.pack_geometry.specs.declared.DriveKind.TheVariants.{Rp06}
-use Rattle.pack_model.specs.Pack as model
-use Rattle.pack_model.specs.TableSpelling.{Table}
+use Rattle.pack_geometry.specs.Pack as model
+use Rattle.pack_geometry.specs.TableSpelling.{Table}
 use Rattle.drive_pictures.specs.declared.requests.Request.{Request}
 use Rattle.run_picture.specs.Fold.{Known, step}
 use Rattle.run_picture.specs.Places.{place_of, place_from}

@@ -6,7 +6,7 @@ use Rattle.std.proofs.lemmas.Bool.Decides.{nat_tests, eqb_tells}
 use Rattle.hardware_table.specs.declared.Moved.{Moved}
 use Rattle.hardware_table.specs.Drive.{DriveState}
 use Rattle.pack_geometry.specs.declared.DriveKind.{DriveKind}
-use Rattle.pack_model.specs.TableSpelling.{Table}
+use Rattle.pack_geometry.specs.TableSpelling.{Table}
 use Rattle.subsystem_spec.specs.ServiceOrder.{Waiting as Waiter, put, Service, after_leave}
 use Rattle.subsystem_spec.proofs.ServiceOrderRuns.{newcomer, after_join-waiting}
 use Rattle.subsystem_spec.specs.Requests.{Request, Rejection, rejection_answer}

@@ -1,7 +1,7 @@
 -- THE ANSWERS OF A LEGAL RUN, as they are drawn.
 use Rattle.std.specs.Prelude.{◌≡◌, ℕ, ◌-◌, ◌<◌, ◌^◌, List, ◌∷◌, ◌++◌, length, map, Option, Some}
-use Rattle.pack_model.specs.Pack as model
-use Rattle.pack_model.specs.TableSpelling.{Table}
+use Rattle.pack_geometry.specs.Pack as model
+use Rattle.pack_geometry.specs.TableSpelling.{Table}
 use Rattle.run_counts.specs.Counted.{behind}
 use Rattle.run_meanings.specs.Outcomes.{IsWordOf}
 use Rattle.run_picture.specs.declared.columns.Window.{Window}

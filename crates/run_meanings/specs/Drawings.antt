@@ -3,8 +3,8 @@ use Rattle.std.specs.Prelude.{◌≡◌, ℕ, ◌<◌, ◌^◌, false, List, [],
 use Rattle.std.specs.List.{AllByRecursion}
 use Rattle.drive_pictures.specs.declared.moments.Moment.{Moment as Seen}
 use Rattle.drive_pictures.specs.declared.moments.Moment.TheVariants as seen
-use Rattle.pack_model.specs.Pack as model
-use Rattle.pack_model.specs.TableSpelling.{Table}
+use Rattle.pack_geometry.specs.Pack as model
+use Rattle.pack_geometry.specs.TableSpelling.{Table}
 use Rattle.run_counts.specs.Counted.{behind}
 use Rattle.run_picture.specs.Fold.{Known, drive_at, request_at}
 use Rattle.subsystem_spec.specs.Requests.{Answer}

@@ -1,8 +1,8 @@
 -- WHAT A PICTURE READS OF A SCRIPT is what the script means.
 use Rattle.std.specs.Prelude.{◌≡◌, ℕ, ◌<◌, ◌^◌, ◌==◌, false, List, ◌∷◌, ◌++◌, length, map, Option}
 use Rattle.drive_pictures.specs.declared.moments.Moment.{Moment as Seen}
-use Rattle.pack_model.specs.Pack as model
-use Rattle.pack_model.specs.TableSpelling.{Table}
+use Rattle.pack_geometry.specs.Pack as model
+use Rattle.pack_geometry.specs.TableSpelling.{Table}
 use Rattle.run_meanings.specs.Answers.{IsDrawn}
 use Rattle.run_meanings.specs.Hears.{seen_of, known_of}
 use Rattle.run_view.specs.Plays.{plays_of}
@@ -11,7 +11,7 @@ use Rattle.run_view.specs.Saids.{Said}
 use Rattle.run_picture.specs.declared.columns.Window.{Window}
 use Rattle.run_view.specs.declared.view.View.{View}
 use Rattle.run_view.specs.Views.{known_before, Views}
-use Rattle.script_meaning.specs.Meaning.{meaning_of}
+use Rattle.script_reader.specs.Meaning.{meaning_of}
 use Rattle.script_reader.specs.Stored.{Stored}
 use Rattle.trace_reader.specs.RoundTrip.{lines_told}
 use Rattle.subsystem_spec.specs.Requests.{Answer}

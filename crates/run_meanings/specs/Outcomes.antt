@@ -6,8 +6,8 @@ use Rattle.drive_pictures.specs.declared.requests.Outcome.{Outcome}
 use Rattle.drive_pictures.specs.declared.requests.Outcome.TheVariants as outcome
 use Rattle.drive_pictures.specs.declared.requests.Request.{Request}
 use Rattle.drive_pictures.specs.Requests.{answer}
-use Rattle.pack_model.specs.Pack as model
-use Rattle.pack_model.specs.TableSpelling.{Table}
+use Rattle.pack_geometry.specs.Pack as model
+use Rattle.pack_geometry.specs.TableSpelling.{Table}
 use Rattle.picture_sheet.specs.Words.{outcome_word}
 use Rattle.run_picture.specs.Fold.{admitted}
 use Rattle.script_lines.specs.declared.statement.Request.{Request as Asked}

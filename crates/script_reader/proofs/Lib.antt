@@ -9,3 +9,7 @@ pub mod ReadingLaws
 pub mod StoredLaws
 pub mod TextLaws
 pub mod WellLaws
+pub mod Numbers
+pub mod Bytes
+pub mod Scripts
+pub mod Drives

@@ -5,3 +5,5 @@ pub mod Lines
 pub mod Printing
 pub mod Reading
 pub mod Stored
+pub mod Meaning
+pub mod Promises

@@ -11,6 +11,7 @@
 mod data;
 mod fault;
 mod lines;
+pub mod meaning;
 mod script;
 
 pub use fault::ReadFault;

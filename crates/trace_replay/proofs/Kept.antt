@@ -7,7 +7,7 @@ use Rattle.std.proofs.lemmas.Bool.{cond-true}
 use Rattle.std.proofs.lemmas.Bool.Decides.{nat_tests, eqb_tells}
 use Rattle.pack_geometry.specs.declared.DriveKind.{DriveKind}
 use Rattle.pack_geometry.specs.declared.DriveKind.TheVariants.{Rp06, Rm03, Rm05}
-use Rattle.pack_model.specs.TableSpelling.{Table}
+use Rattle.pack_geometry.specs.TableSpelling.{Table}
 use Rattle.drive_registers.specs.declared.Function.{Function}
 use Rattle.drive_registers.specs.declared.Function.TheVariants as function
 use Rattle.hardware_table.specs.declared.FaultKind.TheVariants as fault

@@ -1,7 +1,7 @@
 -- How much a request costs whose sectors are all clean.
 use Rattle.std.specs.Prelude.{◌≡◌, ℕ, ◌+◌, ◌≤◌, List, [], ◌∷◌, ◌++◌, Option}
 use Rattle.pack_geometry.specs.declared.DriveKind.{DriveKind}
-use Rattle.pack_model.specs.TableSpelling.{Table}
+use Rattle.pack_geometry.specs.TableSpelling.{Table}
 use Rattle.hardware_table.specs.declared.Moved.TheVariants as verdict
 use Rattle.subsystem_spec.specs.Requests.{Answer}
 use Rattle.trace_replay.specs.Moments.{Deed, Search, Transfer, Sector, End, Moment, Told}

@@ -1,9 +1,9 @@
 -- WHY a request is answered as it is: each cause exactly, by its lines, its unit as its end comes, and the table of its pack.
 use Rattle.std.specs.Prelude.{◌≡◌, ◌⊎◌, ℕ, ◌<◌, ◌≤◌, true, false, Bool, List, [], ◌∷◌, ◌++◌, Option, None, ◌+◌, Some}
 use Rattle.pack_geometry.specs.declared.DriveKind.{DriveKind}
-use Rattle.pack_model.specs.Pack as model
-use Rattle.pack_model.specs.TableSpelling.{Table}
-use Rattle.pack_model.specs.Homes.{home_of}
+use Rattle.pack_geometry.specs.Pack as model
+use Rattle.pack_geometry.specs.TableSpelling.{Table}
+use Rattle.pack_geometry.specs.Homes.{home_of}
 use Rattle.hardware_table.specs.declared.Moved.TheVariants as verdict
 use Rattle.subsystem_spec.specs.Requests.{first_block, Answer, ReadOk, WriteOk, Cause, Offline, Locked, Unforwarded, Fault, Failed}
 use Rattle.trace_replay.specs.Script.{Input, Submit}

@@ -1,7 +1,7 @@
 -- THE RULE OF PACKS AND NOISE. The verdict of a tried sector is the hardware table's, from the drive, the pack's mark and
 -- the noise that is live; and the bytes of reads and of the packs follow.
 use Rattle.std.specs.Prelude.{ℕ, ◌+◌, ◌*◌, ◌/◌, ◌%◌, ◌^◌, ◌==◌, ◌&&◌, Bool, true, false, if◌then◌else◌, List, [], ◌∷◌, ◌++◌, take, drop, replicate, Option, None, Some, bit_xor}
-use Rattle.pack_model.specs.Pack as model
+use Rattle.pack_geometry.specs.Pack as model
 use Rattle.fire_code.specs.Repair.{burst_byte}
 use Rattle.hardware_table.specs.declared.Moved.{Moved}
 use Rattle.hardware_table.specs.Drive.{DriveState}

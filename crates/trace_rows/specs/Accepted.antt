@@ -1,6 +1,6 @@
 -- A row: a script over packs, and the moments of its run.
 use Rattle.std.specs.Prelude.{ℕ, Bool, false, List, [], Option, None, replicate}
-use Rattle.pack_model.specs.TableSpelling.{Table}
+use Rattle.pack_geometry.specs.TableSpelling.{Table}
 use Rattle.trace_replay.specs.Script.{Script, drives_of}
 use Rattle.trace_replay.specs.Moments.{Moment}
 use Rattle.trace_replay.specs.Replay.{Replay, new_replay, Legal}

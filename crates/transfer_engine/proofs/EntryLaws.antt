@@ -5,8 +5,8 @@ use Rattle.pack_geometry.specs.declared.DriveKind.{DriveKind}
 use Rattle.pack_geometry.specs.declared.DriveKind.TheVariants.{Rp06, Rm03, Rm05}
 use Rattle.pack_geometry.specs.declared.Place.{Place}
 use Rattle.pack_geometry.specs.Geometry.{block_count, limit_of, place_at}
-use Rattle.pack_model.specs.TableSpelling.{Table}
-use Rattle.pack_model.specs.Homes.{index_in}
+use Rattle.pack_geometry.specs.TableSpelling.{Table}
+use Rattle.pack_geometry.specs.Homes.{index_in}
 use Rattle.transfer_engine.specs.declared.progress.Progress.{Progress}
 use Rattle.transfer_engine.specs.State.{TransferState, IsTransfer, seen_as, segment_of}
 use Rattle.transfer_engine.specs.Calls.{entry_for}

@@ -8,8 +8,8 @@ use Rattle.pack_geometry.specs.declared.DriveKind.{DriveKind}
 use Rattle.pack_geometry.specs.declared.DriveKind.TheVariants.{Rp06, Rm03, Rm05}
 use Rattle.pack_geometry.specs.declared.Place.{Place}
 use Rattle.pack_geometry.specs.Geometry.{limit_of, replacement_at, place_at}
-use Rattle.pack_model.specs.Homes.{is_place}
-use Rattle.pack_model.specs.TableSpelling.{Table, IsTable}
+use Rattle.pack_geometry.specs.Homes.{is_place}
+use Rattle.pack_geometry.specs.TableSpelling.{Table, IsTable}
 use Rattle.transfer_engine.specs.declared.job.Job.{Job}
 use Rattle.transfer_engine.specs.declared.job.Segment.{Segment}
 use Rattle.transfer_engine.specs.declared.states.Next.TheVariants.{Finished, More}

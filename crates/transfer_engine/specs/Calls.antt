@@ -2,8 +2,8 @@
 use Rattle.std.specs.Prelude.{ℕ, ◌+◌, ◌==◌, not, if◌then◌else◌, Option, None, Some, Result, Ok, Err}
 use Rattle.pack_geometry.specs.declared.Place.{Place}
 use Rattle.pack_geometry.specs.Geometry.{place_at}
-use Rattle.pack_model.specs.Homes.{index_in}
-use Rattle.pack_model.specs.TableSpelling.{Table}
+use Rattle.pack_geometry.specs.Homes.{index_in}
+use Rattle.pack_geometry.specs.TableSpelling.{Table}
 use Rattle.retry_offsets.specs.declared.Step.{Step}
 use Rattle.retry_offsets.specs.Schedule.{step_after}
 use Rattle.transfer_engine.specs.State.{TransferState, segment_of, moved_on, forwarded, failures_after}

@@ -1,7 +1,7 @@
 -- The ends of segments one behind the other, from a job's beginning to its end.
 use Rattle.std.specs.Prelude.{◌≡◌, ℕ, zero, suc, ◌+◌, ◌-◌, ◌*◌, ◌<◌, ◌≤◌, ◌==◌, if◌then◌else◌, List, [], ◌∷◌, Option, None, Some, Result, Ok, Err, IfSome}
 use Rattle.pack_geometry.specs.Geometry.{limit_of, replacement_at}
-use Rattle.pack_model.specs.TableSpelling.{Table, IsTable}
+use Rattle.pack_geometry.specs.TableSpelling.{Table, IsTable}
 use Rattle.transfer_engine.specs.State.{TransferState, IsTransfer, segment_of, failures_after, failed}
 use Rattle.transfer_engine.specs.Calls.{after_done, after_corrected, after_bad_sector}
 use Rattle.transfer_engine.specs.declared.states.Next.{Next}

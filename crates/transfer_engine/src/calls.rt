@@ -1,7 +1,7 @@
 //! What each end of a segment makes of a transfer.
 ghost use Rattle.std.specs.Prelude.{◌≡◌, ◌≢◌, ◌<◌, ◌≤◌, ◌+◌, ◌↔◌, IfOk, IfErr, IfSome, IsErr, Option};
 ghost use Rattle.std.specs.Option.{option_copied};
-ghost use Rattle.pack_model.specs.Homes.{index_in};
+ghost use Rattle.pack_geometry.specs.Homes.{index_in};
 ghost use Rattle.retry_offsets.specs.declared.Step.TheVariants.{GiveUp};
 ghost use Rattle.transfer_engine.specs.State.{TransferState, IsJob, IsTransfer, begun, seen_as, segment_of, failures_after, failed};
 ghost use Rattle.transfer_engine.specs.Calls.{state_of, with_state, next_at, after_done, after_corrected, entry_for, after_bad_sector, step_for};

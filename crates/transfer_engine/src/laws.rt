@@ -1,6 +1,6 @@
 //! What follows for a whole transfer from what each call does.
 ghost use Rattle.std.specs.Prelude.{◌≡◌, ◌↔◌, ℕ, ◌+◌, ◌*◌, ◌-◌, ◌<◌, ◌≤◌, List, length, Option};
-ghost use Rattle.pack_model.specs.TableSpelling.{Table};
+ghost use Rattle.pack_geometry.specs.TableSpelling.{Table};
 ghost use Rattle.transfer_engine.specs.declared.job.Job.{Job};
 ghost use Rattle.transfer_engine.specs.State.{TransferState, IsJob, IsTransfer, begun, segment_of};
 ghost use Rattle.transfer_engine.specs.Runs.{Outcome, Done, BadSector, Fault, MayEnd, after, IsInJob, IsReplacement, calls_left, Follows, CountsFailures, failures_at, Runs};

@@ -1,10 +1,10 @@
 -- Wrong outcomes of the cache.
 use Rattle.std.specs.Prelude.{◌≡◌, ◌≢◌, ℕ, ◌-◌, ◌^◌, ◌<◌, true, IsTrue, List, [], ◌∷◌, Option, None, Some}
-use Rattle.waited_requests.specs.Rest.{HasTables}
-use Rattle.waited_requests.specs.declared.cached.Entry.{Entry}
-use Rattle.waited_requests.specs.Requests.{writes}
-use Rattle.waited_requests.specs.Entries.{State, entry_of, put}
-use Rattle.waited_requests.specs.Contents.{AllFit}
+use Rattle.trace_laws.specs.Rest.{HasTables}
+use Rattle.trace_laws.specs.declared.cached.Entry.{Entry}
+use Rattle.trace_laws.specs.Requests.{writes}
+use Rattle.trace_laws.specs.Entries.{State, entry_of, put}
+use Rattle.trace_laws.specs.Contents.{AllFit}
 use Rattle.buffer_cache.specs.Asks.{Asks, Fetches}
 use Rattle.buffer_cache.specs.Passes.{Stage, map_at, setup_at}
 use Rattle.buffer_cache.specs.Calls.{Reads, Syncs}

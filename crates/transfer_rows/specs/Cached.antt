@@ -2,16 +2,16 @@
 use Rattle.std.specs.Prelude.{◌≡◌, ◌≢◌, ℕ, ◌+◌, ◌-◌, ◌^◌, ◌<◌, ◌≤◌, IsTrue, List, [], ◌∷◌, ◌++◌, length, take, Option, None, Some, Err}
 use Rattle.pack_geometry.specs.declared.DriveKind.{DriveKind}
 use Rattle.pack_geometry.specs.Geometry.{limit_of}
-use Rattle.pack_model.specs.Pack.{Pack}
+use Rattle.pack_geometry.specs.Pack.{Pack}
 use Rattle.partitions.specs.declared.Admission.TheVariants.{Inside}
 use Rattle.subsystem_spec.specs.Requests.{Request, WriteOk}
 use Rattle.trace_replay.specs.Script.{Numbered, Script, drives_of, inputs_of}
-use Rattle.block_machine.specs.Machine.{Blocks}
-use Rattle.waited_requests.specs.Entries.{State}
+use Rattle.trace_laws.specs.Machine.{Blocks}
+use Rattle.trace_laws.specs.Entries.{State}
 use Rattle.cached_script.specs.declared.statement.Line.{Line}
 use Rattle.cached_script.specs.declared.statement.Statement.TheVariants as says
 use Rattle.cached_script.specs.Formed.{IsScript}
-use Rattle.run_stops.specs.Stops.{Took}
+use Rattle.run_laws.specs.Stops.{Took}
 use Rattle.cached_run.specs.declared.fault.CachedPlayFault.TheVariants.{Sink}
 use Rattle.cached_run.specs.Answers.{after, answer_to, first_by, map_of_inputs, met_by, replacements_of}
 use Rattle.cached_run.specs.Faults.{Rise}

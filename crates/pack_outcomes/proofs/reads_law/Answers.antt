@@ -1,8 +1,8 @@
 use Rattle.std.proofs.Common.{◌≡◌, ℕ, ◌+◌, ◌*◌, ◌/◌, ◌<◌, List, ◌∷◌, ◌++◌, length, take, get_or, refl, sym, ap, ◌∙◌, length-append, arith}
 use Rattle.std.proofs.lemmas.Bool.Decides.{nat_tests}
 use Rattle.std.proofs.lemmas.List.{length-take}
-use Rattle.pack_model.specs.Pack.{Pack, block_at, window, with_block, with_written}
-use Rattle.pack_model.proofs.PackLaws.{get_or-window, get_or-with_window_here}
+use Rattle.pack_geometry.specs.Pack.{Pack, block_at, window, with_block, with_written}
+use Rattle.pack_geometry.proofs.PackLaws.{get_or-window, get_or-with_window_here}
 use Rattle.pack_outcomes.specs.Reads.{ReadOfAnotherUnit, NextBlockRead, FirstByteLeftOut, WholePieceKept, WindowKeptAfterFailedWrite}
 use Rattle.pack_outcomes.proofs.reads_law.Goals as goal
 

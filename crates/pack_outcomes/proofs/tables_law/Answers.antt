@@ -4,11 +4,11 @@ use Rattle.std.proofs.lemmas.Option.{same_Some}
 use Rattle.pack_geometry.specs.declared.DriveKind.{DriveKind}
 use Rattle.pack_geometry.specs.declared.DriveKind.TheVariants.{Rp06}
 use Rattle.pack_geometry.specs.Geometry.{block_count, replacement_at}
-use Rattle.pack_model.specs.Pack.{Pack, block_at}
-use Rattle.pack_model.specs.PackTable.{IsFirstTold, IsTableOf}
-use Rattle.pack_model.specs.TableSpelling.{Table}
-use Rattle.pack_model.proofs.PackTableLaws.{table_once}
-use Rattle.pack_model.proofs.TableEditLaws.{after_writes}
+use Rattle.pack_geometry.specs.Pack.{Pack, block_at}
+use Rattle.pack_geometry.specs.PackTable.{IsFirstTold, IsTableOf}
+use Rattle.pack_geometry.specs.TableSpelling.{Table}
+use Rattle.pack_geometry.proofs.PackTableLaws.{table_once}
+use Rattle.pack_geometry.proofs.TableEditLaws.{after_writes}
 use Rattle.bad144_tool.specs.Adding.{edit_of}
 use Rattle.bad144_tool.proofs.TableEdits.{adds_as, adds_edits}
 use Rattle.pack_outcomes.specs.Tables.{EntryAfterTheEnd, ReplacementsLeftBehind, LastCopyTaken, MarkedCopyTaken, TooLongAtTheLastByte}

@@ -1,6 +1,6 @@
 use Rattle.std.proofs.Common.{◌≡◌, ◌<◌, ◌≤◌, ℕ, IsTrue}
-use Rattle.pack_model.specs.TableSpelling.{Table}
-use Rattle.pack_model.specs.PackTable.{Tells}
+use Rattle.pack_geometry.specs.TableSpelling.{Table}
+use Rattle.pack_geometry.specs.PackTable.{Tells}
 use Rattle.bad144_table.proofs.pack_table.table_of.Given as goal
 
 -- no copy so far tells a table

@@ -1,7 +1,7 @@
 use Rattle.std.proofs.Common.{◌≡◌, ℕ, List, ap, sym, subst, ◌∙◌}
-use Rattle.pack_model.specs.Pack.{Pack, block_at, is_marked}
+use Rattle.pack_geometry.specs.Pack.{Pack, block_at, is_marked}
 use Rattle.pack_geometry.specs.Geometry.{copy_at}
-use Rattle.pack_model.specs.TableSpelling.{Spells}
+use Rattle.pack_geometry.specs.TableSpelling.{Spells}
 use Rattle.bad144_table.proofs.pack_table.told_by.Goals as goal
 
 pub returns-in-Ok-clause-told : goal.returns-in-Ok-clause-told

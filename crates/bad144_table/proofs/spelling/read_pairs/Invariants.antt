@@ -1,5 +1,5 @@
 use Rattle.std.proofs.Common.{◌≡◌}
-use Rattle.pack_model.specs.TableFields.{long_at}
+use Rattle.pack_geometry.specs.TableFields.{long_at}
 use Rattle.bad144_table.specs.Faults.{IsReadUpTo}
 use Rattle.bad144_table.proofs.spelling.read_pairs.Given as goal
 

@@ -1,5 +1,5 @@
 use Rattle.std.proofs.Common.{◌<◌, ◌∙◌, ap, take, length, arith, refl}
-use Rattle.pack_model.specs.TableSpelling.{table_text}
+use Rattle.pack_geometry.specs.TableSpelling.{table_text}
 use Rattle.bad144_table.proofs.SpellingLemmas.{front_long, front_more, text_step}
 use Rattle.bad144_table.proofs.spelling.write_table.Goals as goal
 

@@ -1,7 +1,7 @@
 use Rattle.std.proofs.Common.{length, ap, ◌∙◌, arith}
 use borrow.Author.Tests.{ltb-true}
 use Rattle.pack_geometry.specs.declared.Place.{Place}
-use Rattle.pack_model.specs.TableSpelling.{Table}
+use Rattle.pack_geometry.specs.TableSpelling.{Table}
 use Rattle.bad144_table.proofs.TableLemmas.{below_last, at_or_below_last}
 use Rattle.bad144_table.proofs.table.follows.Goals as goal
 

@@ -1,7 +1,7 @@
 use Rattle.std.proofs.Common.{arith, List, length, sym, ap, ◌∙◌}
 use Rattle.std.proofs.lemmas.Bool.{eqb-true, eqb-false}
 use Rattle.pack_geometry.specs.declared.Place.{Place}
-use Rattle.pack_model.specs.TableSpelling.{Table}
+use Rattle.pack_geometry.specs.TableSpelling.{Table}
 use Rattle.bad144_table.proofs.TableLemmas.{IsLookedUp, is_new, is_valid}
 use Rattle.bad144_table.proofs.table.insert.Goals as goal
 

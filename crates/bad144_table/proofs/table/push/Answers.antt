@@ -1,4 +1,4 @@
-use Rattle.pack_model.specs.TableSpelling.{Table}
+use Rattle.pack_geometry.specs.TableSpelling.{Table}
 use Rattle.bad144_table.proofs.TableLemmas.{valid_push}
 use Rattle.bad144_table.proofs.table.push.Goals as goal
 

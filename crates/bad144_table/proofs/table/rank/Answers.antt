@@ -4,7 +4,7 @@ use borrow.Author.Count.{below_more}
 use Rattle.pack_geometry.specs.declared.Place.{Place}
 use Rattle.pack_geometry.specs.declared.DriveKind.{DriveKind}
 use Rattle.pack_geometry.specs.Geometry.{block_number}
-use Rattle.pack_model.specs.TableSpelling.{Table}
+use Rattle.pack_geometry.specs.TableSpelling.{Table}
 use Rattle.bad144_table.proofs.TableLemmas.{above_from}
 use Rattle.bad144_table.proofs.table.rank.Goals as goal
 

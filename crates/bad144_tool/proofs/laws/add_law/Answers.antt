@@ -1,6 +1,6 @@
 use Rattle.std.proofs.Common.{ℕ, ap, sym, subst, ◌∙◌}
-use Rattle.pack_model.specs.Pack.{Pack}
-use Rattle.pack_model.specs.TableEdit.{IsEdited}
+use Rattle.pack_geometry.specs.Pack.{Pack}
+use Rattle.pack_geometry.specs.TableEdit.{IsEdited}
 use Rattle.bad144_tool.specs.Adding.{edit_of}
 use Rattle.bad144_tool.specs.Edit.{edit_writes}
 use Rattle.bad144_tool.proofs.TableEdits.{adds_as, adds_edits, changes_elsewhere}

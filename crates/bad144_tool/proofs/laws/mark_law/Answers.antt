@@ -1,7 +1,7 @@
 use Rattle.bad144_tool.proofs.MarkLaws.{marked_up, nothing_again}
 use Rattle.bad144_tool.proofs.TableEdits.{changes_elsewhere}
 use Rattle.std.proofs.Common.{ℕ, ap, ◌∙◌}
-use Rattle.pack_model.specs.Pack.{Pack}
+use Rattle.pack_geometry.specs.Pack.{Pack}
 use Rattle.bad144_tool.specs.Marking.{markings}
 use Rattle.bad144_tool.proofs.laws.mark_law.Goals as goal
 

@@ -1,6 +1,6 @@
 use Rattle.std.proofs.Common.{ℕ, refl, subst, ◌∙◌}
-use Rattle.pack_model.specs.Pack.{Pack}
-use Rattle.pack_model.specs.PackTable.{IsTableOf}
+use Rattle.pack_geometry.specs.Pack.{Pack}
+use Rattle.pack_geometry.specs.PackTable.{IsTableOf}
 use Rattle.bad144_tool.proofs.AddLaws.{at_error}
 use Rattle.bad144_tool.proofs.ExitLaws.{counted_failed, counted_ok, counted_on, counted_other, counted_same, counted_then, fresh_is_list_fault, fresh_is_not_sink, not_done, not_this, ok_is_no_error, sink_is_not_store, store_is_not_sink}
 use Rattle.bad144_tool.proofs.tool.list.Goals as goal

@@ -1,5 +1,5 @@
 use Rattle.std.proofs.Common.{ℕ, subst, ap, Err, ◌∙◌}
-use Rattle.pack_model.specs.Pack.{Pack}
+use Rattle.pack_geometry.specs.Pack.{Pack}
 use Rattle.bad144_tool.specs.Adding.{AreFree, IsFirstMarked}
 use Rattle.bad144_tool.proofs.AddLaws.{at_error, goes_to, may_list, why_refused, why_spare}
 use Rattle.bad144_tool.proofs.ExitLaws.{counted_on, counted_other, counted_then, insert_is_add_fault, insert_is_no_failure, no_value, not_done, spare_is_add_fault}

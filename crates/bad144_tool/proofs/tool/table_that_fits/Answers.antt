@@ -1,6 +1,6 @@
 use Rattle.std.proofs.Common.{ℕ, IsTrue, subst, ◌∙◌}
-use Rattle.pack_model.specs.Pack.{Pack}
-use Rattle.pack_model.specs.PackTable.{IsTableOf}
+use Rattle.pack_geometry.specs.Pack.{Pack}
+use Rattle.pack_geometry.specs.PackTable.{IsTableOf}
 use Rattle.bad144_tool.proofs.AddLaws.{at_error}
 use Rattle.bad144_tool.proofs.ExitLaws.{counted_failed, counted_on, counted_then, counted_unless, fresh_is_mark_fault, has_none, has_table, mark_is_add_fault, no_value, none_is_not_store, or_error, or_value, why_length}
 use Rattle.bad144_tool.proofs.tool.table_that_fits.Goals as goal

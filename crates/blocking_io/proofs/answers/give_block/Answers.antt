@@ -1,5 +1,5 @@
 use Rattle.std.proofs.Common.{ap, ◌∙◌, ◌*◌}
-use Rattle.waited_requests.specs.Laid.{laid_at}
+use Rattle.trace_laws.specs.Laid.{laid_at}
 use Rattle.blocking_io.proofs.Blocks.{block_given}
 use Rattle.blocking_io.proofs.answers.give_block.Goals as goal
 

@@ -1,10 +1,10 @@
 use Rattle.std.proofs.Common.{[], refl, sym, ap, subst}
 use Rattle.std.specs.Prelude.{None}
-use Rattle.request_fronts.specs.Passes.{asked, Before, Stage, stage, MayAsk, Answers, Stops}
-use Rattle.request_fronts.specs.Sites.{kind_at}
-use Rattle.request_fronts.proofs.Blocks.{is_request, none_written, read_stops_of}
-use Rattle.request_fronts.proofs.Sites.{on_err, keeps_err}
-use Rattle.waited_requests.specs.Requests.{reads}
+use Rattle.blocking_io.specs.FrontsPasses.{asked, Before, Stage, stage, MayAsk, Answers, Stops}
+use Rattle.blocking_io.specs.Sites.{kind_at}
+use Rattle.blocking_io.proofs.FrontsBlocks.{is_request, none_written, read_stops_of}
+use Rattle.blocking_io.proofs.Sites.{on_err, keeps_err}
+use Rattle.trace_laws.specs.Requests.{reads}
 use Rattle.buffer_cache.proofs.Maps.{are_blocks}
 use Rattle.buffer_cache.proofs.Exits.{fetches_of}
 use Rattle.buffer_cache.proofs.blocks.fetch_block.Goals as goal

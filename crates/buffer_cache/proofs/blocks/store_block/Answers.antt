@@ -1,10 +1,10 @@
 use Rattle.std.proofs.Common.{◌≡◌, true, false, [], refl, sym, subst}
 use Rattle.std.specs.Prelude.{Some}
-use Rattle.request_fronts.specs.Passes.{asked, Before, Stage, stage, MayAsk, Answers, Stops}
-use Rattle.request_fronts.specs.Sites.{kind_at}
-use Rattle.request_fronts.proofs.Blocks.{is_request, all_written, write_stops_of}
-use Rattle.request_fronts.proofs.Sites.{on_err, keeps_err}
-use Rattle.waited_requests.specs.Requests.{writes}
+use Rattle.blocking_io.specs.FrontsPasses.{asked, Before, Stage, stage, MayAsk, Answers, Stops}
+use Rattle.blocking_io.specs.Sites.{kind_at}
+use Rattle.blocking_io.proofs.FrontsBlocks.{is_request, all_written, write_stops_of}
+use Rattle.blocking_io.proofs.Sites.{on_err, keeps_err}
+use Rattle.trace_laws.specs.Requests.{writes}
 use Rattle.buffer_cache.proofs.Maps.{are_blocks}
 use Rattle.buffer_cache.proofs.Exits.{front_leaves, stores_of}
 use Rattle.buffer_cache.proofs.blocks.store_block.Goals as goal

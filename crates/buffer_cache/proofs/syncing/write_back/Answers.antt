@@ -2,7 +2,7 @@ use Rattle.std.proofs.Common.{sym, subst}
 use Rattle.std.specs.Prelude.{None, Some, if◌then◌else◌}
 use Rattle.buffer_cache.specs.Passes.{Stage}
 use Rattle.buffer_cache.specs.Passes.{site}
-use Rattle.waited_requests.specs.Entries.{write_backs}
+use Rattle.trace_laws.specs.Entries.{write_backs}
 use Rattle.buffer_cache.specs.Asks.{Asks}
 use Rattle.buffer_cache.proofs.Joins.{asks_none}
 use Rattle.buffer_cache.specs.Views.{entry_with}

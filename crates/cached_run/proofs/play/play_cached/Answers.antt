@@ -3,7 +3,7 @@ use Rattle.trace_replay.specs.Script.{Drain}
 use Rattle.event_player.specs.Passes.{setups_of}
 use Rattle.event_player.specs.Passes.{Took, took}
 use Rattle.event_player.specs.Passes.{tables_in}
-use Rattle.waited_requests.specs.Entries.{State}
+use Rattle.trace_laws.specs.Entries.{State}
 use Rattle.cached_run.specs.Going.{Scene, scene}
 use Rattle.cached_run.specs.Lines.{inputs_till}
 use Rattle.cached_run.specs.Meaning.{meaning_of}

@@ -1,5 +1,5 @@
 use Rattle.std.proofs.Common.{◌≤◌, IsTrue}
-use Rattle.waited_requests.specs.Rest.{HasTables}
+use Rattle.trace_laws.specs.Rest.{HasTables}
 use Rattle.buffer_cache.specs.Passes.{setup_at}
 use Rattle.buffer_cache.specs.Passes.{site}
 use Rattle.buffer_cache.specs.Calls.{MayUse}

@@ -2,8 +2,8 @@ use Rattle.std.proofs.Common.{◌+◌, sym, ap, ◌∙◌}
 use Rattle.std.proofs.lemmas.Bool.{false≢true}
 use Rattle.std.proofs.lemmas.Option.{same_Some}
 use Rattle.std.specs.Prelude.{is_some}
-use Rattle.pack_model.specs.Content.{bytes_at}
-use Rattle.pack_model.proofs.PackTableLaws.{table_once}
+use Rattle.pack_geometry.specs.Content.{bytes_at}
+use Rattle.pack_geometry.proofs.PackTableLaws.{table_once}
 use Rattle.contract_rows.proofs.Bytes.{map_here, map_outside}
 use Rattle.contract_rows.proofs.contracts.bytes_law.Goals as goal
 

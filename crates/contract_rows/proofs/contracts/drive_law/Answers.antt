@@ -2,7 +2,7 @@ use Rattle.std.proofs.Common.{sym, ◌∙◌, ap, List, ℕ, get_or, ◌<◌, ar
 use Rattle.std.proofs.lemmas.List.{get_or_past}
 use Rattle.fire_code.specs.Burst as burst
 use Rattle.main_memory.proofs.HeldLaws.{filled_at}
-use Rattle.pack_model.specs.Pack.{Pack, block_at}
+use Rattle.pack_geometry.specs.Pack.{Pack, block_at}
 use Rattle.contract_rows.proofs.Written.{written_block}
 use Rattle.contract_rows.proofs.contracts.drive_law.Goals as goal
 

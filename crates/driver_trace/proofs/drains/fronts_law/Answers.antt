@@ -1,4 +1,4 @@
-use Rattle.driver_trace.proofs.Fronts.{call_fronts, event_fronts}
+use Rattle.driver_trace.proofs.TraceFronts.{call_fronts, event_fronts}
 use Rattle.driver_trace.proofs.drains.fronts_law.Goals as goal
 
 pub returns-clause-call : goal.returns-clause-call

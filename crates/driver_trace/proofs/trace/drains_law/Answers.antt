@@ -1,5 +1,5 @@
 use Rattle.driver_trace.proofs.Calls.{drains_start, drains_go_on}
-use Rattle.driver_trace.proofs.Runs.{drain_finds_nothing, drain_ends}
+use Rattle.driver_trace.proofs.TraceRuns.{drain_finds_nothing, drain_ends}
 use Rattle.driver_trace.proofs.trace.drains_law.Goals as goal
 
 pub returns-clause-empty : goal.returns-clause-empty

@@ -1,4 +1,4 @@
-use Rattle.driver_trace.proofs.Runs.{is_legal}
+use Rattle.driver_trace.proofs.TraceRuns.{is_legal}
 use Rattle.driver_trace.proofs.trace.legal_law.Goals as goal
 
 pub returns : goal.returns

@@ -1,7 +1,7 @@
 use Rattle.std.proofs.Common.{◌≡◌, ℕ, List, ap, refl, sym, subst, ◌∙◌}
 use Rattle.driver_machine.specs.Acts.{Taken, after}
 use Rattle.driver_machine.specs.World.{World}
-use Rattle.run_stops.specs.Passes.{State}
+use Rattle.run_laws.specs.StopsPasses.{State}
 use Rattle.event_player.specs.Answering.{IsFirst}
 use Rattle.event_player.specs.Saying.{side}
 use Rattle.event_player.proofs.AnswerLaws.{SoFar, none_so_far, one_so_far, so_far_stops, all_so_far, state_so_far, is_taken}

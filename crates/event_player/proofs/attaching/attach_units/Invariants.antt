@@ -1,6 +1,6 @@
 use Rattle.std.proofs.Common.{◌≡◌, ◌≤◌, IsTrue}
 use Rattle.hp_core.specs.Setups.{setups_of}
-use Rattle.one_run.proofs.Attached.{AreAttached}
+use Rattle.run_laws.proofs.Attached.{AreAttached}
 use Rattle.event_player.proofs.AttachLaws.{AreTold}
 use Rattle.event_player.proofs.CountLaws.{lines_before}
 use Rattle.event_player.proofs.attaching.attach_units.Given as goal

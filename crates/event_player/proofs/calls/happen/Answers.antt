@@ -1,7 +1,7 @@
 use Rattle.std.proofs.Common.{Some, None, refl, ap, subst, sym}
 use Rattle.driver_machine.specs.World.{World}
-use Rattle.run_stops.specs.Passes.{input_of}
-use Rattle.run_stops.specs.Passes.{State, Comes}
+use Rattle.run_laws.specs.StopsPasses.{input_of}
+use Rattle.run_laws.specs.StopsPasses.{State, Comes}
 use Rattle.driver_answers.specs.Waiting.{waiting}
 use Rattle.answer_lines.specs.declared.tally.Tally.{Tally}
 use Rattle.answer_lines.specs.Counting.{Counts}

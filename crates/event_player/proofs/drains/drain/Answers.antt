@@ -1,8 +1,8 @@
 use Rattle.std.proofs.Common.{refl, rules, ap, sym, append_assoc, ◌∙◌}
-use Rattle.run_stops.specs.Passes.{input_of}
+use Rattle.run_laws.specs.StopsPasses.{input_of}
 use Rattle.trace_replay.specs.Moments.{Idle}
 use Rattle.trace_replay.specs.Text.{moment_text}
-use Rattle.run_stops.specs.Passes.{State}
+use Rattle.run_laws.specs.StopsPasses.{State}
 use Rattle.event_player.specs.Saying.{side}
 use Rattle.event_player.specs.Steps.{Stage, stage}
 use Rattle.event_player.proofs.Saying.{told_passes, passes_all}

@@ -1,16 +1,16 @@
 use Rattle.std.proofs.Common.{ℕ, Bool, List, [], ◌++◌, ◌≡◌, refl, ap, sym, subst, ◌∙◌, IfErr, append-nil}
 use Rattle.std.specs.Prelude.{Result, Ok, Err}
-use Rattle.pack_model.specs.Pack.{Pack}
+use Rattle.pack_geometry.specs.Pack.{Pack}
 use Rattle.trace_replay.specs.Script.{Script}
-use Rattle.script_meaning.specs.Meaning.{meaning_of}
+use Rattle.script_reader.specs.Meaning.{meaning_of}
 use Rattle.answer_lines.specs.Counting.{tally_by}
 use Rattle.answer_lines.specs.declared.tally.Tally.{Tally}
 use Rattle.event_player.specs.declared.play.PlayFault.{PlayFault}
 use Rattle.event_player.specs.declared.play.PlayFault.TheVariants as fault
 use Rattle.event_player.specs.Faults.{IsBefore, IsLongFor}
 use Rattle.hp_core.specs.Setups.{setups_of}
-use Rattle.run_stops.specs.Passes.{State}
-use Rattle.one_run.specs.Steps.{tables_in}
+use Rattle.run_laws.specs.StopsPasses.{State}
+use Rattle.run_laws.specs.Steps.{tables_in}
 use Rattle.event_player.specs.Plays.{Tallied}
 use Rattle.event_player.specs.Steps.{Stage, stage, HasCauses}
 use Rattle.event_player.proofs.Whole.{ready_for, whole_for}

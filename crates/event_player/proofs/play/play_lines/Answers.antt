@@ -2,10 +2,10 @@ use Rattle.std.proofs.Common.{rules, ◌≡◌, ◌<◌, ◌≤◌, ℕ, ◌+◌
 use Rattle.std.proofs.lemmas.List.{length-map}
 use Rattle.script_reader.specs.Stored.{Kept, seen, lines_in}
 use Rattle.script_lines.specs.Words.{all_verbs}
-use Rattle.script_meaning.specs.Meaning.{line_of, meaning_of}
+use Rattle.script_reader.specs.Meaning.{line_of, meaning_of}
 use Rattle.trace_replay.specs.Script.{IsScript}
 use Rattle.answer_lines.specs.declared.tally.Tally.{Tally}
-use Rattle.run_stops.specs.Passes.{State}
+use Rattle.run_laws.specs.StopsPasses.{State}
 use Rattle.event_player.specs.declared.play.PlayFault.TheVariants as faults
 use Rattle.event_player.specs.Saying.{side}
 use Rattle.event_player.specs.Steps.{Stage, stage}

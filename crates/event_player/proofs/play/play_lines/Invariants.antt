@@ -1,5 +1,5 @@
 use Rattle.std.proofs.Common.{◌≡◌, ◌≤◌, false, take, IsTrue}
-use Rattle.script_meaning.specs.Meaning.{meaning_of}
+use Rattle.script_reader.specs.Meaning.{meaning_of}
 use Rattle.event_player.specs.Faults.{HaveTold}
 use Rattle.event_player.specs.Steps.{stage}
 use Rattle.event_player.proofs.Rooms.{ReadyBehind}

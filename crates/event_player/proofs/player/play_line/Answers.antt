@@ -1,7 +1,7 @@
 use Rattle.std.proofs.Common.{refl, ◌≡◌}
 use Rattle.std.proofs.lemmas.Result.{on_ok_weaker}
-use Rattle.run_stops.specs.Passes.{input_of}
-use Rattle.script_meaning.specs.Meaning.{statement_of}
+use Rattle.run_laws.specs.StopsPasses.{input_of}
+use Rattle.script_reader.specs.Meaning.{statement_of}
 use Rattle.script_reader.specs.Stored.{seen, digits_at}
 use Rattle.trace_replay.specs.Script.{Statement}
 use Rattle.event_player.specs.Steps.{Stage, stage}

@@ -2,14 +2,14 @@ use Rattle.std.proofs.Common.{rules, ℕ, [], List, take, refl, ◌≡◌, ap, s
 use Rattle.std.specs.Box.{box_value}
 use Rattle.std.proofs.lemmas.Result.{on_ok_weaker}
 use Rattle.hp_events.specs.declared.drain.Event.TheVariants as event
-use Rattle.run_stops.specs.Passes.{input_of}
-use Rattle.run_stops.specs.Passes.{asked}
-use Rattle.script_meaning.specs.Meaning.{statement_of}
+use Rattle.run_laws.specs.StopsPasses.{input_of}
+use Rattle.run_laws.specs.StopsPasses.{asked}
+use Rattle.script_reader.specs.Meaning.{statement_of}
 use Rattle.script_reader.specs.Stored.{seen}
 use Rattle.hardware_table.specs.Noise.{LiveNoise}
 use Rattle.trace_replay.specs.Script.{Statement, Noise as NoiseInput}
 use Rattle.driver_machine.specs.World.{World}
-use Rattle.run_stops.specs.Passes.{State}
+use Rattle.run_laws.specs.StopsPasses.{State}
 use Rattle.event_player.specs.Steps.{Stage, stage, PlaysEvent, Brings}
 use Rattle.event_player.specs.Stops.{EventStops}
 use Rattle.event_player.proofs.Ahead.{IsOpened}

@@ -2,7 +2,7 @@ use Rattle.std.proofs.Common.{rules, ◌≡◌, Result, Err, ap, refl, subst}
 use Rattle.script_reader.specs.Grammar.{Spells}
 use Rattle.script_reader.specs.Stored.{lines_in}
 use Rattle.script_lines.specs.Words.{all_verbs}
-use Rattle.script_meaning.specs.Meaning.{meaning_of}
+use Rattle.script_reader.specs.Meaning.{meaning_of}
 use Rattle.hp_exercise.specs.Exercise.{script_text}
 use Rattle.outside_traits.specs.Causes.{Rose}
 use Rattle.answer_lines.specs.declared.tally.Tally.{Tally}

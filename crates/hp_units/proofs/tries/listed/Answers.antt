@@ -1,7 +1,7 @@
 use Rattle.std.proofs.Common.{◌≡◌, ◌+◌, ℕ, sym, ap, ◌∙◌, arith}
 use Rattle.pack_geometry.specs.declared.DriveKind.{DriveKind}
 use Rattle.pack_geometry.specs.Geometry.{limit_of, place_at}
-use Rattle.pack_model.specs.Homes.{index_in}
+use Rattle.pack_geometry.specs.Homes.{index_in}
 use Rattle.transfer_engine.specs.declared.job.Segment.{Segment}
 use Rattle.transfer_engine.specs.State.{segment_of}
 use Rattle.transfer_engine.specs.Calls.{state_of}

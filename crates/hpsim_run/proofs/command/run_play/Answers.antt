@@ -3,7 +3,7 @@ use Rattle.event_player.specs.declared.play.PlayFault.TheVariants as faults
 use Rattle.script_lines.specs.Words.{all_verbs}
 use Rattle.script_reader.specs.Grammar.{IsRefused}
 use Rattle.script_reader.specs.Stored.{lines_in}
-use Rattle.script_meaning.specs.Meaning.{meaning}
+use Rattle.script_reader.specs.Meaning.{meaning}
 use Rattle.hpsim_run.specs.Headline.{Means}
 use Rattle.hpsim_run.proofs.PlayLaws.{told_of, told_from, refused_parts, refusal_is, long_parts, long_before, sink_plays, left_by, err_is}
 use Rattle.hpsim_run.proofs.PlayRuns.{one_meaning, runs_done, runs_sink, runs_store, unplayed}

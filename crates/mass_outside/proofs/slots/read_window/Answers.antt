@@ -1,7 +1,7 @@
 use Rattle.std.proofs.Common.{◌≡◌, ℕ, ◌<◌, length, sym, ◌∙◌, arith}
 use Rattle.std.proofs.lemmas.Grind.{same_number_lists}
-use Rattle.pack_model.specs.Pack.{window}
-use Rattle.pack_model.proofs.PackLaws.{length-window, get_or-window}
+use Rattle.pack_geometry.specs.Pack.{window}
+use Rattle.pack_geometry.proofs.PackLaws.{length-window, get_or-window}
 use Rattle.mass_outside.proofs.slots.read_window.Goals as goal
 
 pub returns : goal.returns

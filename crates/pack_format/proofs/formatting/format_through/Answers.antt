@@ -1,6 +1,6 @@
 use Rattle.std.proofs.Common.{ℕ, ap, subst, sym, ◌∙◌}
-use Rattle.pack_model.specs.Pack.{Pack}
-use Rattle.pack_model.specs.TableSpelling.{Table}
+use Rattle.pack_geometry.specs.Pack.{Pack}
+use Rattle.pack_geometry.specs.TableSpelling.{Table}
 use Rattle.block_tests.proofs.ExitLaws.{no_value}
 use Rattle.block_tests.proofs.StopLaws.{at_error}
 use Rattle.pack_format.specs.Formatted.{CanBeFormatted}

@@ -1,5 +1,5 @@
 use Rattle.std.proofs.Common.{ℕ, ◌&&◌, Bool, rules, sym, ap, ◌∙◌}
-use Rattle.pack_model.specs.Pack.{Pack, is_marked}
+use Rattle.pack_geometry.specs.Pack.{Pack, is_marked}
 use Rattle.pack_format.specs.Surveys.{all_marked}
 use Rattle.pack_format.proofs.SurveyLaws.{all_more, all_none}
 use Rattle.block_tests.proofs.ExitLaws.{cause_on, no_value, not_done}

@@ -1,8 +1,8 @@
 use Rattle.std.proofs.Common.{◌≢◌, inl, inr, ℕ, ◌<◌, ◌≤◌, ◌+◌, [], refl, sym, subst, arith}
 use Rattle.partitions.specs.Partitions.{size_of}
-use Rattle.request_fronts.specs.Passes.{asked, Stage}
-use Rattle.request_fronts.specs.Sites.{site}
-use Rattle.request_fronts.proofs.Sites.{on_err, kind_stays}
+use Rattle.blocking_io.specs.FrontsPasses.{asked, Stage}
+use Rattle.blocking_io.specs.Sites.{site}
+use Rattle.blocking_io.proofs.Sites.{on_err, kind_stays}
 use Rattle.raw_io.proofs.ReadPieces.{gives_first, gives_again, untouched_again}
 use Rattle.raw_io.proofs.blocks.get_blocks.Goals as goal
 use Rattle.raw_io.proofs.blocks.get_blocks.Goals.{then-first-request-via-then-first-request, then-first-request-via-else-first-request+then-first-eq0}

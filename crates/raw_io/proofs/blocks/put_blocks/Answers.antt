@@ -1,11 +1,11 @@
 use Rattle.std.proofs.Common.{◌≡◌, Bool, true, false, [], ap}
 use Rattle.std.specs.Prelude.{if◌then◌else◌, Some, None}
 use Rattle.subsystem_spec.specs.Requests as told
-use Rattle.request_fronts.specs.Passes.{asked, Before, Stage, stage}
-use Rattle.request_fronts.specs.Sites.{kind_at}
-use Rattle.request_fronts.proofs.Blocks.{is_request, all_written, write_stops_of}
+use Rattle.blocking_io.specs.FrontsPasses.{asked, Before, Stage, stage}
+use Rattle.blocking_io.specs.Sites.{kind_at}
+use Rattle.blocking_io.proofs.FrontsBlocks.{is_request, all_written, write_stops_of}
 use Rattle.raw_io.proofs.Exits.{wrote_of}
-use Rattle.request_fronts.proofs.Sites.{on_err, keeps_err}
+use Rattle.blocking_io.proofs.Sites.{on_err, keeps_err}
 use Rattle.raw_io.proofs.blocks.put_blocks.Goals as goal
 
 both : {b : Bool} → b ≡ true → b ≡ false → ⊥

@@ -1,8 +1,8 @@
 use Rattle.std.proofs.Common.{IsTrue, sym, subst}
 use Rattle.std.specs.Prelude.{IfOk, OnErr}
-use Rattle.waited_requests.specs.Rest.{HasTables}
-use Rattle.request_fronts.specs.Passes.{Stage, setup_at}
-use Rattle.request_fronts.specs.Sites.{site, kind_at}
+use Rattle.trace_laws.specs.Rest.{HasTables}
+use Rattle.blocking_io.specs.FrontsPasses.{Stage, setup_at}
+use Rattle.blocking_io.specs.Sites.{site, kind_at}
 use Rattle.raw_io.specs.Pieces.{IsWritten, PutsPiece, StopsPiece}
 use Rattle.raw_io.proofs.Dumps.{piece_is}
 use Rattle.raw_io.proofs.dumping.dump_piece.Goals as goal

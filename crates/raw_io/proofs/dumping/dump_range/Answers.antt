@@ -1,11 +1,11 @@
 use Rattle.std.proofs.Common.{◌≤◌, ◌+◌, ◌-◌, ◌*◌, ◌∙◌, take, drop, true, None, refl, sym, subst, arith, rules}
 use Rattle.partitions.specs.declared.Part.TheVariants.{B}
 use Rattle.partitions.specs.Partitions.{size_of}
-use Rattle.waited_requests.specs.Bytes.{dumped}
-use Rattle.request_fronts.specs.Passes.{Stage}
-use Rattle.request_fronts.specs.Sites.{site, kind_at}
+use Rattle.trace_laws.specs.Bytes.{dumped}
+use Rattle.blocking_io.specs.FrontsPasses.{Stage}
+use Rattle.blocking_io.specs.Sites.{site, kind_at}
 use Rattle.raw_io.specs.Pieces.{IsPiece}
-use Rattle.request_fronts.proofs.Sites.{on_err, keeps_none, keeps_join}
+use Rattle.blocking_io.proofs.Sites.{on_err, keeps_none, keeps_join}
 use Rattle.raw_io.proofs.Dumps.{dumped_long}
 use Rattle.raw_io.proofs.WriteRanges.{written_none, written_whole, turn_written, write_more, write_ends, write_stops}
 use Rattle.raw_io.proofs.dumping.dump_range.Goals as goal

@@ -1,7 +1,7 @@
 use Rattle.std.proofs.Common.{◌≡◌, ◌*◌, ◌-◌, None, length}
 use Rattle.partitions.specs.declared.Part.TheVariants.{B}
-use Rattle.waited_requests.specs.Bytes.{blocks_for, dumped}
-use Rattle.request_fronts.specs.Sites.{site, Keeps}
+use Rattle.trace_laws.specs.Bytes.{blocks_for, dumped}
+use Rattle.blocking_io.specs.Sites.{site, Keeps}
 use Rattle.raw_io.proofs.WriteRanges.{SoWritten}
 use Rattle.raw_io.proofs.dumping.dump_range.Given as goal
 

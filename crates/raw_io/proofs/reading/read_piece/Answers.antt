@@ -1,6 +1,6 @@
 use Rattle.std.proofs.Common.{◌≡◌, ℕ, ◌+◌, ◌-◌, List, ◌++◌, take, drop, sym, ap, ◌∙◌, subst, arith}
-use Rattle.request_fronts.specs.Passes.{Stage}
-use Rattle.request_fronts.specs.Sites.{site}
+use Rattle.blocking_io.specs.FrontsPasses.{Stage}
+use Rattle.blocking_io.specs.Sites.{site}
 use Rattle.raw_io.specs.Pieces.{GivesPiece}
 use Rattle.raw_io.proofs.ReadPieces.{gives_piece}
 use Rattle.raw_io.proofs.reading.read_piece.Goals as goal

@@ -1,8 +1,8 @@
 use Rattle.std.proofs.Common.{◌+◌, ◌-◌, [], ◌++◌, None, false, length, refl, ap, subst, arith, rules}
-use Rattle.request_fronts.specs.Passes.{Stage}
-use Rattle.request_fronts.specs.Sites.{site}
+use Rattle.blocking_io.specs.FrontsPasses.{Stage}
+use Rattle.blocking_io.specs.Sites.{site}
 use Rattle.raw_io.specs.Pieces.{IsPiece, GivesPiece}
-use Rattle.request_fronts.proofs.Sites.{on_err, keeps_none, keeps_join}
+use Rattle.blocking_io.proofs.Sites.{on_err, keeps_none, keeps_join}
 use Rattle.raw_io.proofs.Loops.{turn_blocks}
 use Rattle.raw_io.proofs.ReadRanges.{read_none, read_whole, read_more, read_ends, read_stops}
 use Rattle.raw_io.proofs.reading.read_range.Goals as goal

@@ -1,5 +1,5 @@
 use Rattle.std.proofs.Common.{◌≡◌, ◌-◌, None, length}
-use Rattle.request_fronts.specs.Sites.{site, Keeps}
+use Rattle.blocking_io.specs.Sites.{site, Keeps}
 use Rattle.raw_io.proofs.ReadRanges.{SoRead}
 use Rattle.raw_io.proofs.reading.read_range.Given as goal
 

@@ -1,8 +1,8 @@
 use Rattle.std.proofs.Common.{refl, sym, subst}
-use Rattle.request_fronts.specs.Passes.{Stage}
-use Rattle.request_fronts.specs.Sites.{site, kind_at}
+use Rattle.blocking_io.specs.FrontsPasses.{Stage}
+use Rattle.blocking_io.specs.Sites.{site, kind_at}
 use Rattle.raw_io.specs.Pieces.{PutsPiece}
-use Rattle.request_fronts.proofs.Sites.{on_err, kind_stays}
+use Rattle.blocking_io.proofs.Sites.{on_err, kind_stays}
 use Rattle.raw_io.proofs.WritePieces.{stops_read, puts_none, one_read, other_bytes, puts_edge, stops_edge}
 use Rattle.raw_io.proofs.writing.write_edge.Goals as goal
 

@@ -1,8 +1,8 @@
 use Rattle.std.proofs.Common.{sym, subst}
-use Rattle.request_fronts.specs.Passes.{Stage}
-use Rattle.request_fronts.specs.Sites.{site}
+use Rattle.blocking_io.specs.FrontsPasses.{Stage}
+use Rattle.blocking_io.specs.Sites.{site}
 use Rattle.raw_io.specs.Pieces.{IsWhole, PutsPiece}
-use Rattle.request_fronts.proofs.Sites.{on_err}
+use Rattle.blocking_io.proofs.Sites.{on_err}
 use Rattle.raw_io.proofs.WritePieces.{whole_if, puts_whole, stops_whole}
 use Rattle.raw_io.proofs.writing.write_piece.Goals as goal
 

@@ -1,7 +1,7 @@
 use Rattle.std.proofs.Common.{◌+◌, ◌-◌, take, drop, refl, arith, None}
-use Rattle.request_fronts.specs.Passes.{Stage}
-use Rattle.request_fronts.specs.Sites.{site}
-use Rattle.request_fronts.proofs.Sites.{on_err, keeps_none, keeps_join}
+use Rattle.blocking_io.specs.FrontsPasses.{Stage}
+use Rattle.blocking_io.specs.Sites.{site}
+use Rattle.blocking_io.proofs.Sites.{on_err, keeps_none, keeps_join}
 use Rattle.raw_io.proofs.WriteRanges.{written_none, written_whole, piece_of, turn_written, write_more, write_ends, write_stops}
 use Rattle.raw_io.proofs.writing.write_range.Goals as goal
 

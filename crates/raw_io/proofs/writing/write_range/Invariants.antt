@@ -1,5 +1,5 @@
 use Rattle.std.proofs.Common.{◌-◌, None, length}
-use Rattle.request_fronts.specs.Sites.{site, Keeps}
+use Rattle.blocking_io.specs.Sites.{site, Keeps}
 use Rattle.raw_io.proofs.WriteRanges.{SoWritten}
 use Rattle.raw_io.proofs.writing.write_range.Given as goal
 

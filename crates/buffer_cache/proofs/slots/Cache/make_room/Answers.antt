@@ -4,10 +4,10 @@ use Rattle.buffer_cache.specs.Passes.{Stage}
 use Rattle.buffer_cache.specs.Passes.{site}
 use Rattle.buffer_cache.specs.Passes.{map_at}
 use Rattle.buffer_cache.proofs.Passes.{on_err}
-use Rattle.waited_requests.specs.declared.cached.Entry.{Entry}
-use Rattle.waited_requests.specs.Requests.{writes}
-use Rattle.waited_requests.specs.Entries.{write_backs}
-use Rattle.waited_requests.proofs.Ones.{IsFound, each_found, back_all, back_one, none_one}
+use Rattle.trace_laws.specs.declared.cached.Entry.{Entry}
+use Rattle.trace_laws.specs.Requests.{writes}
+use Rattle.trace_laws.specs.Entries.{write_backs}
+use Rattle.trace_laws.proofs.Ones.{IsFound, each_found, back_all, back_one, none_one}
 use Rattle.buffer_cache.specs.Asks.{IsData, Asks}
 use Rattle.buffer_cache.proofs.Joins.{asks_none}
 use Rattle.buffer_cache.proofs.Stays.{all_data, holds_left, unchanged_data}

@@ -3,8 +3,8 @@ use Rattle.std.specs.Prelude.{not}
 use Rattle.std.specs.List.{AllByRecursion}
 use Rattle.buffer_cache.specs.Passes.{Stage}
 use Rattle.buffer_cache.specs.Passes.{site}
-use Rattle.waited_requests.specs.Entries.{State, put}
-use Rattle.waited_requests.specs.Calls.{entry}
+use Rattle.trace_laws.specs.Entries.{State, put}
+use Rattle.trace_laws.specs.Calls.{entry}
 use Rattle.buffer_cache.specs.Asks.{IsData}
 use Rattle.buffer_cache.proofs.Joins.{asks_none}
 use Rattle.buffer_cache.proofs.Stays.{data_stays, all_data, put_data}

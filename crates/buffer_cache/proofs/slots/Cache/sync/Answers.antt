@@ -4,7 +4,7 @@ use Rattle.std.specs.List.{AllByRecursion}
 use Rattle.buffer_cache.specs.Passes.{Stage}
 use Rattle.buffer_cache.specs.Passes.{site}
 use Rattle.buffer_cache.specs.Passes.{map_at}
-use Rattle.waited_requests.specs.Entries.{State, IsCache, written_back}
+use Rattle.trace_laws.specs.Entries.{State, IsCache, written_back}
 use Rattle.buffer_cache.specs.Asks.{IsData, Asks}
 use Rattle.buffer_cache.specs.Views.{entries_of, state_of}
 use Rattle.buffer_cache.specs.Calls.{Syncs}

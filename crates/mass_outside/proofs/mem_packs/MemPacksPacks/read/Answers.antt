@@ -1,7 +1,7 @@
 use Rattle.std.proofs.Common.{false, ap, ◌∙◌}
 use Rattle.mass_outside.specs.Memory.{MemView}
 use Rattle.outside_traits.specs.Causes.{next}
-use Rattle.pack_model.specs.Pack.{Pack, block_at}
+use Rattle.pack_geometry.specs.Pack.{Pack, block_at}
 use Rattle.mass_outside.specs.declared.mem_packs.PackOp.TheVariants.{Read}
 use Rattle.mass_outside.proofs.MemoryLaws.{slot_at, held_at, listed_of}
 use Rattle.mass_outside.proofs.mem_packs.MemPacksPacks.read.Goals as goal

@@ -1,6 +1,6 @@
 use Rattle.std.proofs.Common.{ℕ, ap, ◌∙◌}
 use Rattle.std.specs.Prelude.{◌==◌, not}
-use Rattle.pack_model.specs.Pack.{window}
+use Rattle.pack_geometry.specs.Pack.{window}
 use Rattle.outside_files.proofs.FolderLaws.{mark_read}
 use Rattle.outside_files.proofs.files.FilePacks.read_mark.Goals as goal
 

@@ -1,5 +1,5 @@
 use Rattle.std.proofs.Common.{ap, ◌∙◌}
-use Rattle.pack_model.specs.Pack.{block_at, window}
+use Rattle.pack_geometry.specs.Pack.{block_at, window}
 use Rattle.pack_windows.proofs.window.Window.read_block.Goals as goal
 
 pub returns : goal.returns

@@ -1,5 +1,5 @@
 use Rattle.std.proofs.Common.{ℕ, subst}
-use Rattle.pack_model.specs.Pack.{with_block, with_window}
+use Rattle.pack_geometry.specs.Pack.{with_block, with_window}
 use Rattle.pack_windows.specs.Parts.{IsPart}
 use Rattle.pack_windows.proofs.window.Window.write_block.Goals as goal
 

@@ -1,5 +1,5 @@
 use Rattle.std.proofs.Common.{ℕ, ◌≡◌, ◌≤◌, IsTrue, ap, ◌∙◌, subst}
-use Rattle.pack_model.specs.Pack.{Pack, is_marked}
+use Rattle.pack_geometry.specs.Pack.{Pack, is_marked}
 use Rattle.pack_windows.proofs.AheadLaws.{if_ok_by, cause_after}
 use Rattle.pack_windows.proofs.window_packs.WindowPacksPacks.marked.Goals as goal
 

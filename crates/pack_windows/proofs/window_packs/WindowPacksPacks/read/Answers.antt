@@ -1,5 +1,5 @@
 use Rattle.std.proofs.Common.{ℕ, ◌≡◌, ◌≤◌, IsTrue, ap, ◌∙◌, subst}
-use Rattle.pack_model.specs.Pack.{Pack, block_at}
+use Rattle.pack_geometry.specs.Pack.{Pack, block_at}
 use Rattle.pack_windows.proofs.AheadLaws.{on_ok_by, cause_after}
 use Rattle.pack_windows.proofs.window_packs.WindowPacksPacks.read.Goals as goal
 

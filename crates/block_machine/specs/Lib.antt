@@ -1,9 +1,0 @@
-pub mod Machine
-pub mod LegalAnswers
-pub mod LastWrites
-pub mod Stands
-pub mod Laws
-pub mod Refusals
-pub mod Beginnings
-pub mod Completeness
-pub mod Promises

@@ -1,0 +1,119 @@
+//! What a pack holds, as the contracts of all crates see it: image and mark bytes, the bad-sector table, and the home and the
+//! content of each data block.
+//!
+//! Defined in `specs/`: packs, the spelling of a bad-sector table, the table of a pack by its five copies, homes and contents
+//! by the drive's kind and that table.
+//!
+//! What is proved: `block_law`: a block that was written is read again, and no other changed. `table_law`: bytes spell one
+//! table of a kind at most, and each table has one spelling, of 512 bytes. `pack_table_law`: a pack has one table at most, by
+//! its copies alone. `home_law`: no two data blocks share a home. `home_write_law`: a write at a home leaves the copies, the
+//! tables and every other block's content. `table_edit_law`: the writes that list a block leave every other data block's
+//! content; `two_edits_law`: two of them come to the same in either order.
+//!
+//! Only tested, in `pack_rows`: worked values, beside their proofs.
+
+ghost use Rattle.std.specs.Prelude.{◌≡◌, ◌≢◌, ◌≤◌, ◌<◌, ℕ, true, false, List, Option, Some, length};
+ghost use Rattle.pack_geometry.specs.declared.DriveKind.{DriveKind};
+ghost use Rattle.pack_geometry.specs.Geometry.{copy_at, limit_of};
+ghost use Rattle.pack_geometry.specs.Pack.{Pack, block_at, is_marked, with_block, with_written, written};
+ghost use Rattle.pack_geometry.specs.TableSpelling.{Table, IsTable, Spells, table_text};
+ghost use Rattle.pack_geometry.specs.PackTable.{IsTableOf, AreTablesOf, HaveSameCopies, places_of};
+ghost use Rattle.pack_geometry.specs.Homes.{home_of, content_of, contents_of, with_content};
+ghost use Rattle.pack_geometry.specs.TableEdit.{Edit, IsAddedAt, IsEdited, AreMade, edited, edited_table, twice_edited};
+
+/// The law of blocks: a block has 512 bytes, what was written to it is read again, and a write to one block
+/// changes no other.
+pub fn block_law()
+    ensures size { (image : List ℕ) → (block : ℕ) → length (block_at image block) ≡ 512 }
+    ensures same { (image bytes : List ℕ) → (block : ℕ) → length bytes ≡ 512
+        → block_at (with_block image block bytes) block ≡ bytes }
+    ensures other { (image bytes : List ℕ) → (block other : ℕ) → length bytes ≡ 512 → other ≢ block
+        → block_at (with_block image block bytes) other ≡ block_at image other }
+{}
+
+/// The law of tables: 512 bytes spell one table of a drive at most, and each table has one spelling of 512 bytes.
+pub fn table_law()
+    ensures once { (bytes : List ℕ) → (table other : Table) → Spells bytes table → Spells bytes other
+        → table.kind ≡ other.kind → table ≡ other }
+    ensures size { (bytes : List ℕ) → (table : Table) → Spells bytes table → length bytes ≡ 512 }
+    ensures spelled { (table : Table) → IsTable table → Spells (table_text table.serial table.places) table }
+{}
+
+/// The law of a pack's table: each pack has one or has none, and never two; it lists 126 places at most; and packs with
+/// the same copies share it, whatever else they hold.
+pub fn pack_table_law()
+    ensures exists { (kind : DriveKind) → (pack : Pack) → (table : Option Table) × IsTableOf kind pack table }
+    ensures once { (kind : DriveKind) → (pack : Pack) → (table other : Option Table) → IsTableOf kind pack table
+        → IsTableOf kind pack other → table ≡ other }
+    ensures room { (kind : DriveKind) → (pack : Pack) → (table : Option Table) → IsTableOf kind pack table
+        → length (places_of table) ≤ 126 }
+    ensures copies { (kind : DriveKind) → (pack other : Pack) → (table : Option Table) → HaveSameCopies kind pack other
+        → IsTableOf kind pack table → IsTableOf kind other table }
+    ensures all_once { (drives : ℕ → Option DriveKind) → (packs : ℕ → Pack) → (tables others : ℕ → Option Table)
+        → AreTablesOf drives packs tables → AreTablesOf drives packs others → tables ≡ others }
+{}
+
+/// The law of homes: only data blocks have one; it is an unmarked sector below the copies of the table; no two data
+/// blocks share a home; and homes go by the marks and the table alone.
+pub fn home_law()
+    ensures only_data { (kind : DriveKind) → (table : Option Table) → (pack : Pack) → (block home : ℕ)
+        → home_of kind table pack block ≡ Some home → block < limit_of kind }
+    ensures unmarked { (kind : DriveKind) → (table : Option Table) → (pack : Pack) → (block home : ℕ)
+        → home_of kind table pack block ≡ Some home → is_marked pack home ≡ false }
+    ensures below { (kind : DriveKind) → (table : Option Table) → (pack : Pack) → (block home k : ℕ)
+        → length (places_of table) ≤ 126 → home_of kind table pack block ≡ Some home → home < copy_at kind k }
+    ensures apart { (kind : DriveKind) → (table : Option Table) → (pack : Pack) → (block other home : ℕ)
+        → length (places_of table) ≤ 126 → home_of kind table pack block ≡ Some home
+        → home_of kind table pack other ≡ Some home → block ≡ other }
+    ensures marks { (kind : DriveKind) → (table : Option Table) → (pack other : Pack) → pack.marks ≡ other.marks
+        → home_of kind table pack ≡ home_of kind table other }
+{}
+
+/// The law of a write at the home of a data block: that block then has the bytes that were written; the copies of the
+/// table, and so the table, and every other block's content are as before.
+pub fn home_write_law()
+    ensures same { (kind : DriveKind) → (table : Option Table) → (pack : Pack) → (block home : ℕ) → (bytes : List ℕ)
+        → length bytes ≡ 512 → home_of kind table pack block ≡ Some home
+        → content_of kind table (written pack home bytes) block ≡ Some bytes }
+    ensures other { (kind : DriveKind) → (table : Option Table) → (pack : Pack) → (block home other : ℕ)
+        → (bytes : List ℕ) → length bytes ≡ 512 → length (places_of table) ≤ 126
+        → home_of kind table pack block ≡ Some home → other ≢ block
+        → content_of kind table (written pack home bytes) other ≡ content_of kind table pack other }
+    ensures copies { (kind : DriveKind) → (table : Option Table) → (pack : Pack) → (block home : ℕ) → (bytes : List ℕ)
+        → length bytes ≡ 512 → length (places_of table) ≤ 126 → home_of kind table pack block ≡ Some home
+        → HaveSameCopies kind pack (written pack home bytes) }
+    ensures contents { (drives : ℕ → Option DriveKind) → (tables : ℕ → Option Table) → (packs : ℕ → Pack)
+        → (kind : DriveKind) → (unit block home : ℕ) → (bytes : List ℕ) → drives unit ≡ Some kind → length bytes ≡ 512
+        → length (places_of (tables unit)) ≤ 126 → home_of kind (tables unit) (packs unit) block ≡ Some home
+        → contents_of drives tables (with_written packs unit home bytes)
+        ≡ with_content (contents_of drives tables packs) unit block bytes }
+    ensures tables { (drives : ℕ → Option DriveKind) → (tables : ℕ → Option Table) → (packs : ℕ → Pack)
+        → (kind : DriveKind) → (unit block home : ℕ) → (bytes : List ℕ) → drives unit ≡ Some kind → length bytes ≡ 512
+        → home_of kind (tables unit) (packs unit) block ≡ Some home → AreTablesOf drives packs tables
+        → AreTablesOf drives (with_written packs unit home bytes) tables }
+{}
+
+/// The law of the table edit: where a block may be added, the writes that list it make the edit. Where they copy the
+/// bytes of a block that was unmarked, every data block holds what it held.
+pub fn table_edit_law()
+    ensures made { (kind : DriveKind) → (pack : Pack) → (table : Table) → (edit : Edit) → (i : ℕ)
+        → IsAddedAt kind pack table edit i → IsEdited kind pack (edited kind pack table edit i) table edit i }
+    ensures kept { (kind : DriveKind) → (pack new : Pack) → (table : Table) → (edit : Edit) → (i : ℕ)
+        → IsAddedAt kind pack table edit i → IsEdited kind pack new table edit i → edit.copy ≡ true
+        → is_marked pack edit.block ≡ false
+        → content_of kind (Some (edited_table kind table edit i)) new ≡ content_of kind (Some table) pack }
+{}
+
+/// The law of two edits: where two blocks are listed one after the other, and also in the other order, the table and the
+/// content of every data block come to the same.
+pub fn two_edits_law()
+    ensures table { (kind : DriveKind) → (old middle new other_middle other_new : Pack) → (table : Table)
+        → (one two : Edit) → (i j k l : ℕ) → AreMade kind old middle new table one two i j
+        → AreMade kind old other_middle other_new table two one k l
+        → twice_edited kind table one two i j ≡ twice_edited kind table two one k l }
+    ensures contents { (kind : DriveKind) → (old middle new other_middle other_new : Pack) → (table : Table)
+        → (one two : Edit) → (i j k l : ℕ) → one.block ≢ two.block → AreMade kind old middle new table one two i j
+        → AreMade kind old other_middle other_new table two one k l
+        → content_of kind (Some (twice_edited kind table one two i j)) new
+        ≡ content_of kind (Some (twice_edited kind table two one k l)) other_new }
+{}

@@ -1,4 +1,0 @@
-pub mod Sites
-pub mod Blocks
-mod Fronts
-pub mod Passes

@@ -1,4 +1,0 @@
-pub mod Fronts
-pub mod Sites
-pub mod Blocks
-pub mod Passes

@@ -1,4 +1,0 @@
-pub mod Writing
-pub mod Events
-pub mod Ahead
-pub mod Passes

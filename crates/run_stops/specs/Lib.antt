@@ -1,4 +1,0 @@
-pub mod Writing
-pub mod Ahead
-pub mod Stops
-pub mod Passes

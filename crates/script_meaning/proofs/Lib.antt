@@ -1,4 +1,0 @@
-pub mod Numbers
-pub mod Bytes
-pub mod Scripts
-pub mod Drives
