@@ -1,5 +1,5 @@
-//! That the replay of the trace shows what the driver does (`replay`), that the lines of its calls follow there (`trace`), and what a drain and a call that stops come to
-//! there (`drains`). The functions here do nothing: each stands for a law.
+//! That the replay of the trace shows what the driver does (`replay`), that the lines of its calls follow there (`trace`), and what a
+//! drain and a call that stops come to there (`drains`). The functions here do nothing: each stands for a law.
 //!
 //! What runs of the driver leave of its packs (`runs`), and how far their writes reach (`reach`). The functions here do nothing: each
 //! stands for a law.
