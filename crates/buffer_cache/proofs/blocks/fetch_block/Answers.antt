@@ -1,6 +1,7 @@
 use Rattle.std.proofs.Common.{[], refl, sym, ap, subst}
 use Rattle.std.specs.Prelude.{None}
-use Rattle.blocking_io.specs.FrontsPasses.{asked, Before, Stage, stage, MayAsk, Answers, Stops}
+use Rattle.blocking_io.specs.declared.reached.Reached.TheVariants.{Before}
+use Rattle.blocking_io.specs.FrontsPasses.{asked, Stage, stage, MayAsk, Answers, Stops}
 use Rattle.blocking_io.specs.Sites.{kind_at}
 use Rattle.blocking_io.proofs.FrontsBlocks.{is_request, none_written, read_stops_of}
 use Rattle.blocking_io.proofs.Sites.{on_err, keeps_err}

@@ -1,7 +1,8 @@
 use Rattle.std.proofs.Common.{◌≡◌, Bool, true, false, [], ap}
 use Rattle.std.specs.Prelude.{if◌then◌else◌, Some, None}
 use Rattle.subsystem_spec.specs.Requests as told
-use Rattle.blocking_io.specs.FrontsPasses.{asked, Before, Stage, stage}
+use Rattle.blocking_io.specs.declared.reached.Reached.TheVariants.{Before}
+use Rattle.blocking_io.specs.FrontsPasses.{asked, Stage, stage}
 use Rattle.blocking_io.specs.Sites.{kind_at}
 use Rattle.blocking_io.proofs.FrontsBlocks.{is_request, all_written, write_stops_of}
 use Rattle.raw_io.proofs.Exits.{wrote_of}
