@@ -16,7 +16,7 @@ use Rattle.buffer_cache.specs.Calls.{IfTold}
 use Rattle.cached_script.specs.declared.statement.Asked.{Asked}
 use Rattle.cached_run.specs.Answers.{Replacement, replaced_with}
 use Rattle.cached_run.specs.Leaving.{Leaves, Makes, AreRead, Does, usable_in, spread}
-use Rattle.cached_run.specs.Meaning.{request_of, filled, one_filled}
+use Rattle.cached_script.specs.Meaning.{request_of, filled, one_filled}
 use Rattle.cached_run.specs.Saying.{kind_by, IsSaid}
 use Rattle.cached_run.proofs.Leavings.{leaves_none, makes_none}
 use Rattle.cached_run.proofs.Sayings.{outside_said, eof_said, asked_read, asked_write, spread_is, none_outside, none_eof}

@@ -1,30 +1,26 @@
 -- Laws of attaching: behind some lines of a script its units are set up, their images fit, and their tables are those of their packs.
 use Rattle.std.proofs.Common.{◌≡◌, ℕ, suc, ◌+◌, ◌*◌, ◌<◌, ◌≤◌, Bool, IsTrue, List, [], ◌∷◌, ◌++◌, length, map, drop, refl, sym, ap, subst, ◌∙◌}
-use Rattle.std.specs.Prelude.{slice_index_or, Result, Ok, Err, IfErr}
-use Rattle.std.specs.Result.{IsErrAnd}
+use Rattle.std.specs.Prelude.{slice_index_or}
 use Rattle.pack_geometry.specs.declared.DriveKind.{DriveKind}
 use Rattle.pack_geometry.specs.Geometry.{block_count}
 use Rattle.pack_geometry.specs.Pack.{Pack}
 use Rattle.trace_replay.specs.Script.{Statement, Declares, Plays, Line, drives_in, IsPlayed}
 use Rattle.driver_machine.specs.World.{Setup}
-use Rattle.event_player.specs.Passes.{tables_in, AreSetFor}
-use Rattle.event_player.proofs.Passes.{IsSetupOf, AreAttached, HasDrive, attached_more, attached_still, drive_there, set_for_script}
-use Rattle.event_player.specs.Attaching.{IsSet}
-use Rattle.event_player.specs.Plays.{NamesTooLong}
-use Rattle.event_player.proofs.AttachLaws.{AreTold, told_more, told_still}
+use Rattle.run_laws.specs.Steps.{tables_in, AreSetFor}
+use Rattle.run_laws.proofs.Attached.{AreAttached, HasDrive, attached_more, attached_still, drive_there, set_for_script}
+use Rattle.unit_attaching.specs.Attaching.{IsSet}
+use Rattle.unit_attaching.specs.Lengths.{NamesTooLong}
+use Rattle.unit_attaching.proofs.AttachLaws.{AreTold, set_up_as, told_more, told_still}
 use Rattle.cached_script.specs.declared.statement.Line.{Line as Said}
 use Rattle.cached_script.specs.Scripts as cached
 use Rattle.cached_script.specs.Formed.{IsScript}
-use Rattle.cached_run.specs.declared.fault.CachedPlayFault.{CachedPlayFault}
-use Rattle.cached_run.specs.declared.fault.CachedPlayFault.TheVariants as faults
+use Rattle.unit_attaching.specs.declared.fault.PlayFault.{PlayFault}
+use Rattle.unit_attaching.specs.declared.fault.PlayFault.TheVariants as faults
 use Rattle.cached_run.specs.Attaching.{HasRoom, Adds, RefusesLine}
-use Rattle.cached_run.specs.Faults.{IsLongFor}
+use Rattle.unit_attaching.specs.Faults.{IsLongFor}
 use Rattle.cached_run.specs.Lines.{lines_before}
-use Rattle.cached_run.specs.Meaning.{statement_of, line_of, meaning_of}
+use Rattle.cached_script.specs.Meaning.{statement_of, line_of, meaning_of}
 use Rattle.cached_run.proofs.ScriptLines.{lines_more, lines_split, first_at, lines_all}
-
-set_up_as : {tells : Bool} {packs : ℕ → Pack} {u : ℕ} {kind : DriveKind} {s : Setup} → IsSet tells packs u kind s → IsSetupOf u kind s
-set_up_as set = record { unit_is = set.unit_is; kind_is = set.kind_is; good = set.good }
 
 attached_line : (line : Line) (tells : Bool) (packs : ℕ → Pack) (lines : List Line) (old new : List Setup) → ((u : ℕ) (kind : DriveKind) → line.statement ≡ Declares u kind → HasDrive lines u)
     → Adds tells packs line.statement old new → AreAttached lines old → AreAttached (lines ++ line ∷ []) new
@@ -64,7 +60,7 @@ module _ (s : cached.Script) (i : ℕ) (line : Said) (script : IsScript s) (lt :
       (told_line (line_of line) tells first (lines_before s i) old new t (subst (λ (p : ℕ → Pack). Adds tells p (statement_of line.statement) old new) same adds) a told)
 
   -- a unit that is refused at the line is the first one whose image is too long
-  pub long_at : (tells : Bool) (packs first : ℕ → Pack) (old : List Setup) (fault : CachedPlayFault) → (IsTrue tells → packs ≡ first)
+  pub long_at : (tells : Bool) (packs first : ℕ → Pack) (old : List Setup) (fault : PlayFault) → (IsTrue tells → packs ≡ first)
       → (IsTrue tells → AreTold first (lines_before s i) old) → RefusesLine tells packs (statement_of line.statement) fault → IsLongFor (meaning_of s) tells first fault
   long_at tells packs first old fault same told refuses = at (statement_of line.statement) refl fault refuses
     where
@@ -84,18 +80,13 @@ module _ (s : cached.Script) (i : ℕ) (line : Said) (script : IsScript s) (lt :
         first = λ t other its there. (told t).fits other its there;
       }
 
-      at : (st : Statement) → statement_of line.statement ≡ st → (stop : CachedPlayFault) → RefusesLine tells packs st stop → IsLongFor (meaning_of s) tells first stop
+      at : (st : Statement) → statement_of line.statement ≡ st → (stop : PlayFault) → RefusesLine tells packs st stop → IsLongFor (meaning_of s) tells first stop
       at (Declares u kind) e faults.Memory long = tt
       at (Declares u kind) e (faults.TooLong other n) long =
           subst (λ (k : ℕ). NamesTooLong (meaning_of s) tells first k n) (sym long.0) (named u n kind e long.1 long.2)
       at (Declares u kind) e faults.Store long = tt
       at (Declares u kind) e faults.Sink long = tt
       at (Plays input) e stop none = absurd none
-
--- what holds of the fault that a call gave holds of the one that is handed on
-pub at_fault : {T : Type 0} (result : Result T CachedPlayFault) {fault : CachedPlayFault} (P : CachedPlayFault → Type 0) → IsErrAnd result (λ x. x ≡ fault) → P fault → IfErr result P
-at_fault (Ok v) P is p = tt
-at_fault (Err x) P is p = subst P (sym is) p
 
 -- BEHIND THE LAST LINE
 pub attached_all : (s : cached.Script) (i : ℕ) (setups : List Setup) → length s.lines ≤ i → AreAttached (lines_before s i) setups → AreSetFor (meaning_of s) (tables_in setups) setups

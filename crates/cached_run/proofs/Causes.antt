@@ -9,10 +9,11 @@ use Rattle.trace_replay.specs.Script.{Script}
 use Rattle.driver_answers.specs.declared.outcome.Stop.{Stop}
 use Rattle.driver_answers.specs.declared.outcome.Stop.TheVariants as stop
 use Rattle.buffer_cache.specs.Passes.{HasCauses}
-use Rattle.cached_run.specs.declared.fault.CachedPlayFault.{CachedPlayFault}
-use Rattle.cached_run.specs.declared.fault.CachedPlayFault.TheVariants as fault
-use Rattle.event_player.specs.Passes.{Took}
-use Rattle.cached_run.specs.Faults.{from_stop, IsCaused, IsBefore, IsLongFor}
+use Rattle.unit_attaching.specs.declared.fault.PlayFault.{PlayFault}
+use Rattle.unit_attaching.specs.declared.fault.PlayFault.TheVariants as fault
+use Rattle.run_laws.specs.Stops.{Took}
+use Rattle.unit_attaching.specs.Faults.{from_stop, IsBefore, IsLongFor}
+use Rattle.cached_run.specs.Faults.{IsCaused}
 use Rattle.cached_run.specs.Theorem.{CachedStops, CachedLeaves}
 
 pub same : (n : ℕ) → n ≤ n
@@ -22,7 +23,7 @@ trans : (a b c : ℕ) → a ≤ b → b ≤ c → a ≤ c
 trans a b c p q = omega (arith, p, q)
 
 -- what holds of an error holds of the result that is it
-pub as_err : {T : Type 0} (P : Result T CachedPlayFault → Type 0) (result : Result T CachedPlayFault) (why : CachedPlayFault) → IsErrAnd result (λ x. x ≡ why) → P (Err why) → P result
+pub as_err : {T : Type 0} (P : Result T PlayFault → Type 0) (result : Result T PlayFault) (why : PlayFault) → IsErrAnd result (λ x. x ≡ why) → P (Err why) → P result
 as_err P (Ok v) why is p = absurd is
 as_err P (Err x) why is p = subst (λ z. P (Err z)) (sym is) p
 
@@ -34,7 +35,7 @@ module _ {T : Type 0} {p p' o o' t t' : ℕ} where
     too_long = λ unit length_is e. never e;
   }
     where
-      never : {x : CachedPlayFault} → ◌≡◌ {A = Result T CachedPlayFault} (Ok value) (Err x) → ⊥
+      never : {x : PlayFault} → ◌≡◌ {A = Result T PlayFault} (Ok value) (Err x) → ⊥
       never e = cc
 
   pub caused_stop : (why : Stop) → HasCauses p p' t t' (Some why) → o ≤ o' → IsCaused {T = T} p p' o o' t t' (Err (from_stop why))
@@ -44,13 +45,13 @@ module _ {T : Type 0} {p p' o o' t t' : ℕ} where
     too_long = λ unit length_is e. not_long e;
   }
     where
-      never : ◌≡◌ {A = Result T CachedPlayFault} (Err fault.Store) (Err fault.Sink) → ⊥
+      never : ◌≡◌ {A = Result T PlayFault} (Err fault.Store) (Err fault.Sink) → ⊥
       never e = cc
 
-      no_memory : ◌≡◌ {A = Result T CachedPlayFault} (Err fault.Store) (Err fault.Memory) → ⊥
+      no_memory : ◌≡◌ {A = Result T PlayFault} (Err fault.Store) (Err fault.Memory) → ⊥
       no_memory e = cc
 
-      not_long : {u n : ℕ} → ◌≡◌ {A = Result T CachedPlayFault} (Err fault.Store) (Err (fault.TooLong u n)) → ⊥
+      not_long : {u n : ℕ} → ◌≡◌ {A = Result T PlayFault} (Err fault.Store) (Err (fault.TooLong u n)) → ⊥
       not_long e = cc
   caused_stop stop.Sink h next = record {
     rise = record { later = h.later_packs; later_out = next; later_trace = h.later; store = λ e. absurd (never e); sink = λ e. inr (h.sink refl) };
@@ -58,13 +59,13 @@ module _ {T : Type 0} {p p' o o' t t' : ℕ} where
     too_long = λ unit length_is e. not_long e;
   }
     where
-      never : ◌≡◌ {A = Result T CachedPlayFault} (Err fault.Sink) (Err fault.Store) → ⊥
+      never : ◌≡◌ {A = Result T PlayFault} (Err fault.Sink) (Err fault.Store) → ⊥
       never e = cc
 
-      no_memory : ◌≡◌ {A = Result T CachedPlayFault} (Err fault.Sink) (Err fault.Memory) → ⊥
+      no_memory : ◌≡◌ {A = Result T PlayFault} (Err fault.Sink) (Err fault.Memory) → ⊥
       no_memory e = cc
 
-      not_long : {u n : ℕ} → ◌≡◌ {A = Result T CachedPlayFault} (Err fault.Sink) (Err (fault.TooLong u n)) → ⊥
+      not_long : {u n : ℕ} → ◌≡◌ {A = Result T PlayFault} (Err fault.Sink) (Err (fault.TooLong u n)) → ⊥
       not_long e = cc
 
   pub caused_out : p ≤ p' → t ≤ t' → o ≤ o' → Rose o o' → IsCaused {T = T} p p' o o' t t' (Err fault.Sink)
@@ -74,17 +75,17 @@ module _ {T : Type 0} {p p' o o' t t' : ℕ} where
     too_long = λ unit length_is e. not_long e;
   }
     where
-      never : ◌≡◌ {A = Result T CachedPlayFault} (Err fault.Sink) (Err fault.Store) → ⊥
+      never : ◌≡◌ {A = Result T PlayFault} (Err fault.Sink) (Err fault.Store) → ⊥
       never e = cc
 
-      no_memory : ◌≡◌ {A = Result T CachedPlayFault} (Err fault.Sink) (Err fault.Memory) → ⊥
+      no_memory : ◌≡◌ {A = Result T PlayFault} (Err fault.Sink) (Err fault.Memory) → ⊥
       no_memory e = cc
 
-      not_long : {u n : ℕ} → ◌≡◌ {A = Result T CachedPlayFault} (Err fault.Sink) (Err (fault.TooLong u n)) → ⊥
+      not_long : {u n : ℕ} → ◌≡◌ {A = Result T PlayFault} (Err fault.Sink) (Err (fault.TooLong u n)) → ⊥
       not_long e = cc
 
 -- counts that rose before do so from an earlier one on
-pub caused_more : {T : Type 0} {p0 o0 t0 p p' o o' t t' : ℕ} (result : Result T CachedPlayFault) → p0 ≤ p → o0 ≤ o → t0 ≤ t → IsCaused p p' o o' t t' result → IsCaused p0 p' o0 o' t0 t' result
+pub caused_more : {T : Type 0} {p0 o0 t0 p p' o o' t t' : ℕ} (result : Result T PlayFault) → p0 ≤ p → o0 ≤ o → t0 ≤ t → IsCaused p p' o o' t t' result → IsCaused p0 p' o0 o' t0 t' result
 caused_more {T} {p0} {o0} {t0} {p} {p'} {o} {o'} {t} {t'} result first next last c = record {
   rise = record {
     later = trans p0 p p' first c.rise.later;
@@ -98,14 +99,14 @@ caused_more {T} {p0} {o0} {t0} {p} {p'} {o} {o'} {t} {t'} result first next last
 }
 
 -- what was handed on of a stop of the driver, and of a sink that failed
-pub stop_caused : {T : Type 0} (result : Result T CachedPlayFault) (why : Stop) (p p' o t t' : ℕ) → IsErrAnd result (λ x. x ≡ from_stop why) → HasCauses p p' t t' (Some why) → IsCaused p p' o o t t' result
+pub stop_caused : {T : Type 0} (result : Result T PlayFault) (why : Stop) (p p' o t t' : ℕ) → IsErrAnd result (λ x. x ≡ from_stop why) → HasCauses p p' t t' (Some why) → IsCaused p p' o o t t' result
 stop_caused result why p p' o t t' is h = as_err (λ z. IsCaused p p' o o t t' z) result (from_stop why) is (caused_stop why h (same o))
 
-pub sink_caused : {T : Type 0} (result : Result T CachedPlayFault) (p p' o o' t t' : ℕ) → IsErrAnd result (λ x. x ≡ fault.Sink) → p ≤ p' → t ≤ t' → o ≤ o' → Rose o o' → IsCaused p p' o o' t t' result
+pub sink_caused : {T : Type 0} (result : Result T PlayFault) (p p' o o' t t' : ℕ) → IsErrAnd result (λ x. x ≡ fault.Sink) → p ≤ p' → t ≤ t' → o ≤ o' → Rose o o' → IsCaused p p' o o' t t' result
 sink_caused result p p' o o' t t' is first last next rose = as_err (λ z. IsCaused p p' o o' t t' z) result fault.Sink is (caused_out first last next rose)
 
 -- the same of calls behind others
-pub more_caused : {T : Type 0} (result : Result T CachedPlayFault) (why : CachedPlayFault) (p0 p p' o0 o o' t0 t t' : ℕ) → IsErrAnd result (λ x. x ≡ why) → p0 ≤ p → o0 ≤ o → t0 ≤ t
+pub more_caused : {T : Type 0} (result : Result T PlayFault) (why : PlayFault) (p0 p p' o0 o o' t0 t t' : ℕ) → IsErrAnd result (λ x. x ≡ why) → p0 ≤ p → o0 ≤ o → t0 ≤ t
     → IsCaused {T = T} p p' o o' t t' (Err why) → IsCaused p0 p' o0 o' t0 t' result
 more_caused {T} result why p0 p p' o0 o o' t0 t t' is first next last c =
     as_err (λ z. IsCaused p0 p' o0 o' t0 t' z) result why is (caused_more {T = T} {p0 = p0} {o0 = o0} {t0 = t0} {p = p} {p' = p'} {o = o} {o' = o'} {t = t} {t' = t'} (Err why) first next last c)
@@ -120,21 +121,21 @@ on_err_map (Ok v) turn p = tt
 on_err_map (Err x) turn p = turn p
 
 -- IN PLAYING nothing else stops it
-pub never_before : {T : Type 0} {p p' o o' t t' : ℕ} (result : Result T CachedPlayFault) → IsCaused p p' o o' t t' result → IsBefore result → ⊥
+pub never_before : {T : Type 0} {p p' o o' t t' : ℕ} (result : Result T PlayFault) → IsCaused p p' o o' t t' result → IsBefore result → ⊥
 never_before (Ok value) c before = before
 never_before (Err fault.Memory) c before = c.memory refl
 never_before (Err (fault.TooLong unit length_is)) c before = c.too_long unit length_is refl
 never_before (Err fault.Store) c before = before
 never_before (Err fault.Sink) c before = before
 
-pub never_long : {T : Type 0} {p p' o o' t t' : ℕ} (result : Result T CachedPlayFault) → IsCaused p p' o o' t t' result → (script : Script) (tells : Bool) (packs : ℕ → Pack) → IfErr result (IsLongFor script tells packs)
+pub never_long : {T : Type 0} {p p' o o' t t' : ℕ} (result : Result T PlayFault) → IsCaused p p' o o' t t' result → (script : Script) (tells : Bool) (packs : ℕ → Pack) → IfErr result (IsLongFor script tells packs)
 never_long (Ok value) c script tells packs = tt
 never_long (Err fault.Memory) c script tells packs = tt
 never_long (Err (fault.TooLong unit length_is)) c script tells packs = absurd (c.too_long unit length_is refl)
 never_long (Err fault.Store) c script tells packs = tt
 never_long (Err fault.Sink) c script tells packs = tt
 
-pub leaves_as : {T : Type 0} (Q : Type 0) (result : Result T CachedPlayFault) (script : Script) (first left : ℕ → Pack) (out trace : Took) → OnErr result (Q → CachedStops script first left out)
+pub leaves_as : {T : Type 0} (Q : Type 0) (result : Result T PlayFault) (script : Script) (first left : ℕ → Pack) (out trace : Took) → OnErr result (Q → CachedStops script first left out)
     → IfErr result (λ why. Q → CachedLeaves why script first left out trace)
 leaves_as Q (Ok value) script first left out trace stops = tt
 leaves_as Q (Err fault.Memory) script first left out trace stops = λ q. tt

@@ -7,7 +7,7 @@ use Rattle.cached_script.specs.declared.statement.Statement.{Statement as Says}
 use Rattle.cached_script.specs.declared.statement.Line.{Line as Said}
 use Rattle.cached_run.specs.Going.{Scene, IsFar, GoesOn, Halts, HaltsScript}
 use Rattle.cached_run.specs.Lines.{MayPlay, input_at}
-use Rattle.cached_run.specs.Meaning.{statement_of}
+use Rattle.cached_script.specs.Meaning.{statement_of}
 
 -- a line with no input
 pub goes_none : (s : State) (here : Scene) → GoesOn [] s s here here

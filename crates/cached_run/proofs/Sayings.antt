@@ -25,7 +25,7 @@ use Rattle.trace_laws.specs.Requests.{Map}
 use Rattle.cached_script.specs.declared.statement.Asked.{Asked}
 use Rattle.cached_run.specs.Answers.{answer_with, replaced, usable_of, replaced_at, replaced_with}
 use Rattle.cached_run.specs.Leaving.{AreRead, usable_in, spread}
-use Rattle.cached_run.specs.Meaning.{filled, one_filled, request_of}
+use Rattle.cached_script.specs.Meaning.{filled, one_filled, request_of}
 use Rattle.cached_run.specs.Saying.{AreLong, IsSaid, kind_by, GivesAmong}
 
 -- ---- with no blocks

@@ -12,9 +12,9 @@ use Rattle.pack_geometry.specs.declared.DriveKind.TheVariants.{Rp06}
 use Rattle.subsystem_spec.specs.Requests.{IsRequest}
 use Rattle.trace_replay.specs.Script.{Statement, Declares, Plays, Numbered, Input, Drain, declared_by, drives_in, with_input, inputs_before, inputs_of}
 use Rattle.driver_machine.specs.World.{World}
-use Rattle.event_player.specs.Passes.{AreUnits}
-use Rattle.event_player.proofs.Passes.{HasDrive, drives-append, first_some}
-use Rattle.event_player.proofs.Going.{inputs_append, inputs_end}
+use Rattle.run_laws.specs.Steps.{AreUnits}
+use Rattle.run_laws.proofs.Attached.{HasDrive, drives-append, first_some}
+use Rattle.unit_attaching.proofs.LineLaws.{inputs_append, inputs_end}
 use Rattle.cached_script.specs.declared.statement.Asked.{Asked}
 use Rattle.cached_script.specs.declared.statement.Statement.{Statement as Says}
 use Rattle.cached_script.specs.declared.statement.Statement.TheVariants as says
@@ -22,7 +22,7 @@ use Rattle.cached_script.specs.declared.statement.Line.{Line as Said}
 use Rattle.cached_script.specs.Scripts as cached
 use Rattle.cached_script.specs.Scripts.{kind_after, kind_in, known_of}
 use Rattle.cached_script.specs.Formed.{IsAsked, IsWell, AreWell, IsScript}
-use Rattle.cached_run.specs.Meaning.{filled, request_of, statement_of, line_of, meaning_of}
+use Rattle.cached_script.specs.Meaning.{filled, request_of, statement_of, line_of, meaning_of}
 use Rattle.cached_run.specs.Lines.{lines_before, inputs_till, input_at, MayAsk, MayPlay, KeepsUnits}
 use Rattle.cached_run.proofs.Legal.{AreAskedWell}
 

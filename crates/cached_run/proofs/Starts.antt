@@ -23,10 +23,10 @@ use Rattle.buffer_cache.specs.Asks.{IsData}
 use Rattle.trace_laws.specs.Entries.{State}
 use Rattle.trace_laws.specs.Contents.{cached, AllFit}
 use Rattle.buffer_cache.specs.Calls.{MayUse}
-use Rattle.event_player.specs.Passes.{UnitSetup as Made}
-use Rattle.event_player.specs.Passes.{setups_of}
-use Rattle.event_player.specs.Passes.{tables_in, AreUnits, AreSetFor}
-use Rattle.event_player.proofs.Passes.{below_or_not, unit_beyond}
+use Rattle.hp_core.specs.declared.start.UnitSetup.{UnitSetup as Made}
+use Rattle.hp_core.specs.Setups.{setups_of}
+use Rattle.run_laws.specs.Steps.{tables_in, AreUnits, AreSetFor}
+use Rattle.run_laws.proofs.Attached.{below_or_not, unit_beyond}
 use Rattle.cached_run.specs.Going.{Scene, IsFar}
 use Rattle.cached_run.proofs.Whole.{setup_for}
 

@@ -24,7 +24,7 @@ use Rattle.buffer_cache.specs.Passes.{OthersStay}
 use Rattle.buffer_cache.specs.Passes.{map_at, left_map}
 use Rattle.buffer_cache.proofs.Passes.{map_long}
 use Rattle.trace_laws.specs.Entries.{State}
-use Rattle.event_player.specs.Passes.{Took}
+use Rattle.run_laws.specs.Stops.{Took}
 use Rattle.cached_run.specs.Answers.{answers_of, map_of_inputs, text_of, replacements_of, after}
 use Rattle.cached_run.specs.Theorem.{contents, CachedPlays, IsAfter, EndsWithSync, HasNoSync, AreParted, CachedStops}
 use Rattle.cached_run.specs.Going.{Scene, drives_at, blocks_at, IsFar, HaltsScript}

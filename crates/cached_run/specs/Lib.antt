@@ -1,4 +1,3 @@
-pub mod Meaning
 pub mod Answers
 pub mod Theorem
 pub mod Leaving

@@ -8,7 +8,7 @@ use Rattle.cached_script.specs.declared.statement.Statement.{Statement}
 use Rattle.cached_script.specs.declared.statement.Statement.TheVariants as says
 use Rattle.cached_script.specs.declared.statement.Line.{Line as Said}
 use Rattle.cached_script.specs.Scripts as cached
-use Rattle.cached_run.specs.Meaning.{line_of, statement_of}
+use Rattle.cached_script.specs.Meaning.{line_of, statement_of}
 
 -- those before one, and their inputs
 abbrev pub lines_before : cached.Script → ℕ → List Line

@@ -12,10 +12,10 @@ use Rattle.trace_replay.specs.Script.{Drain, Numbered, Script, drives_of, inputs
 use Rattle.trace_laws.specs.Machine.{Blocks}
 use Rattle.trace_laws.specs.LegalAnswers.{AreLegal, all_claimed}
 use Rattle.trace_laws.specs.Laws.{HoldMap, RestStays}
-use Rattle.event_player.specs.Passes.{Took}
-use Rattle.event_player.specs.Stops.{IsUnplayed}
-use Rattle.cached_run.specs.declared.fault.CachedPlayFault.{CachedPlayFault}
-use Rattle.cached_run.specs.declared.fault.CachedPlayFault.TheVariants as faults
+use Rattle.run_laws.specs.Stops.{Took}
+use Rattle.unit_attaching.specs.Faults.{IsUnplayed}
+use Rattle.unit_attaching.specs.declared.fault.PlayFault.{PlayFault}
+use Rattle.unit_attaching.specs.declared.fault.PlayFault.TheVariants as faults
 use Rattle.cached_run.specs.Answers.{Replacement, answers_of, map_of_inputs, text_of, replacements_of, after}
 
 -- what the packs hold, with these tables
@@ -79,7 +79,7 @@ pub record CachedStops (script : Script) (old new : ℕ → Pack) (out : Took) :
       → out.after ≡ out.before ++ text_of (answers_of (drives_of script) (contents script tables old) before)
 
 -- WHAT PLAYING LEAVES where it stopped: nothing was played, as the packs failed when a unit was attached; or it stopped in playing.
-abbrev pub CachedLeaves : CachedPlayFault → Script → (first left : ℕ → Pack) → (out trace : Took) → Type 0
+abbrev pub CachedLeaves : PlayFault → Script → (first left : ℕ → Pack) → (out trace : Took) → Type 0
 CachedLeaves faults.Store script first left out trace = IsUnplayed first left out trace ⊎ CachedStops script first left out
 CachedLeaves faults.Sink script first left out trace = CachedStops script first left out
 CachedLeaves fault script first left out trace = Unit {0}

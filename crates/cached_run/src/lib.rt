@@ -5,11 +5,10 @@
 mod answers;
 mod attaching;
 mod desk;
-mod fault;
 mod lines;
 mod play;
 mod requests;
 mod transfers;
 
-pub use fault::CachedPlayFault;
 pub use play::play_cached;
+pub use unit_attaching::PlayFault as CachedPlayFault;

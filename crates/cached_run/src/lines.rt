@@ -3,19 +3,19 @@ ghost use Rattle.std.specs.Prelude.{◌≤◌, ℕ, Bool, None, Some, [], ◌∷
 ghost use Rattle.trace_replay.specs.Script.{Submit};
 ghost use Rattle.buffer_cache.specs.Passes.{site};
 ghost use Rattle.buffer_cache.specs.Calls.{MayUse};
-ghost use Rattle.event_player.specs.Faults.{HaveTold};
+ghost use Rattle.unit_attaching.specs.Faults.{HaveTold};
 ghost use Rattle.cached_run.specs.Faults.{IsCaused};
 ghost use Rattle.cached_run.specs.Going.{scene, GoesOn, Halts, SyncGoesOn, SyncHalts};
 ghost use Rattle.cached_run.specs.Lines.{MayAsk, MayPlay, IsRoomy, KeepsUnits, input_at};
-ghost use Rattle.cached_run.specs.Meaning.{request_of, filled};
+ghost use Rattle.cached_script.specs.Meaning.{request_of, filled};
 
 use crate::answers::write_answer;
 use crate::desk::Desk;
-use crate::fault::CachedPlayFault;
 use crate::requests::{read_asked, write_asked};
 use buffer_cache::{Cache, Subsystem};
 use cached_script::{Asked, Line, Statement};
 use outside_traits::traits::{Packs, Sink};
+use unit_attaching::PlayFault;
 
 /// Plays a read at a line.
 fn play_read<P: Packs, O: Sink, T: Sink>(
@@ -27,7 +27,7 @@ fn play_read<P: Packs, O: Sink, T: Sink>(
     packs: &mut P,
     out: &mut O,
     trace: &mut T,
-) -> Result<(), CachedPlayFault>
+) -> Result<(), PlayFault>
     requires line { 1 ≤ number }
     requires may { MayUse cache.old subsystem.old }
     requires ask { MayAsk subsystem.old.world asked.now }
@@ -68,7 +68,7 @@ fn play_write<P: Packs, O: Sink, T: Sink>(
     packs: &mut P,
     out: &mut O,
     trace: &mut T,
-) -> Result<(), CachedPlayFault>
+) -> Result<(), PlayFault>
     requires line { 1 ≤ number }
     requires may { MayUse cache.old subsystem.old }
     requires ask { MayAsk subsystem.old.world asked.now }
@@ -97,7 +97,7 @@ pub(crate) fn play_sync<P: Packs, T: Sink>(
     subsystem: &mut Subsystem,
     packs: &mut P,
     trace: &mut T,
-) -> Result<(), CachedPlayFault>
+) -> Result<(), PlayFault>
     requires line { 1 ≤ number }
     requires may { MayUse cache.old subsystem.old }
     ensures goes { OnOk result (IsTrue (P.tells packs.new) → SyncGoesOn number cache.old cache.new
@@ -124,7 +124,7 @@ pub(crate) fn play_line<P: Packs, O: Sink, T: Sink>(
     packs: &mut P,
     out: &mut O,
     trace: &mut T,
-) -> Result<(), CachedPlayFault>
+) -> Result<(), PlayFault>
     requires line { 1 ≤ line.now.number }
     requires may { MayUse cache.old subsystem.old }
     requires ask { MayPlay subsystem.old.world line.now.statement }

@@ -5,24 +5,25 @@ ghost use Rattle.trace_laws.specs.Rest.{HasTables};
 ghost use Rattle.buffer_cache.specs.Passes.{setup_at};
 ghost use Rattle.buffer_cache.specs.Passes.{site};
 ghost use Rattle.buffer_cache.specs.Calls.{MayUse};
-ghost use Rattle.event_player.specs.Passes.{AreUnits};
-ghost use Rattle.event_player.specs.Passes.{took};
-ghost use Rattle.event_player.specs.Faults.{AreUntouched, HaveTold};
-ghost use Rattle.event_player.specs.Plays.{IsTooLong};
-ghost use Rattle.cached_run.specs.Faults.{IsBefore, IsPlaying, IsLongFor, IsCaused, Rise};
+ghost use Rattle.run_laws.specs.Steps.{AreUnits};
+ghost use Rattle.run_laws.specs.Stops.{took};
+ghost use Rattle.unit_attaching.specs.Faults.{AreUntouched, HaveTold};
+ghost use Rattle.unit_attaching.specs.Lengths.{IsTooLong};
+ghost use Rattle.unit_attaching.specs.Faults.{IsBefore, IsPlaying, IsLongFor, Rise};
+ghost use Rattle.cached_run.specs.Faults.{IsCaused};
 ghost use Rattle.cached_run.specs.Going.{scene, IsFar, HaltsScript};
 ghost use Rattle.cached_run.specs.Lines.{IsRoomy};
-ghost use Rattle.cached_run.specs.Meaning.{meaning_of};
+ghost use Rattle.cached_script.specs.Meaning.{meaning_of};
 ghost use Rattle.cached_run.specs.Theorem.{CachedPlays, CachedLeaves};
 
 use crate::attaching::attach_units;
 use crate::desk::Desk;
-use crate::fault::CachedPlayFault;
 use crate::lines::{play_line, play_sync};
 use buffer_cache::{Cache, Subsystem};
 use cached_script::CachedScript;
 use outside_traits::traits::{Packs, Sink};
 use std::alloc::Global;
+use unit_attaching::PlayFault;
 
 /// Plays the lines of a script over units that are set up for it, and behind the last line a sync, whose number is the number of
 /// lines plus one.
@@ -34,7 +35,7 @@ fn play_lines<P: Packs, O: Sink, T: Sink>(
     packs: &mut P,
     out: &mut O,
     trace: &mut T,
-) -> Result<(), CachedPlayFault>
+) -> Result<(), PlayFault>
     requires units { AreUnits (meaning_of script.now) subsystem.old.world }
     requires may { MayUse cache.old subsystem.old }
     requires desk { IsRoomy desk.old.gather desk.old.blocks.items }
@@ -76,7 +77,7 @@ pub fn play_cached<P: Packs, O: Sink, T: Sink>(
     packs: &mut P,
     out: &mut O,
     trace: &mut T,
-) -> Result<(), CachedPlayFault>
+) -> Result<(), PlayFault>
     requires some { 1 ≤ capacity }
     requires most { capacity ≤ 4096 }
     ensures plays { OnOk result (IsTrue (P.tells packs.new) → CachedPlays (meaning_of script.now) (P.held packs.old) (P.held packs.new)

@@ -11,7 +11,7 @@ ghost use Rattle.buffer_cache.specs.Calls.{MayUse, IfTold};
 ghost use Rattle.cached_run.specs.Answers.{replaced_with};
 ghost use Rattle.cached_run.specs.Leaving.{Leaves, KeepsSetup, Does};
 ghost use Rattle.cached_run.specs.Lines.{MayAsk};
-ghost use Rattle.cached_run.specs.Meaning.{request_of, filled, one_filled};
+ghost use Rattle.cached_script.specs.Meaning.{request_of, filled, one_filled};
 ghost use Rattle.cached_run.specs.Saying.{kind_by, IsSaid, GivesAmong};
 
 use crate::transfers::{read_blocks, write_blocks};

@@ -3,3 +3,4 @@ pub mod Scripts
 pub mod Knowing
 pub mod Reading
 pub mod Formed
+pub mod Meaning

@@ -24,8 +24,8 @@ use Rattle.answer_lines.specs.AnswerText.{out_text}
 use Rattle.answer_lines.specs.declared.tally.Tally.{Tally}
 use Rattle.answer_lines.specs.Counting.{Counts}
 use Rattle.run_laws.specs.StopsPasses.{Submits, Comes, seen, is_move, writes_by}
-use Rattle.event_player.specs.declared.play.PlayFault.TheVariants as playing
-use Rattle.event_player.specs.Faults.{from_stop}
+use Rattle.unit_attaching.specs.declared.fault.PlayFault.TheVariants as playing
+use Rattle.unit_attaching.specs.Faults.{from_stop}
 use Rattle.event_player.specs.Saying.{Side, side, Says, SendsAhead}
 use Rattle.event_player.specs.Steps.{Stage, Passes, PassesAhead, PlaysActs, PlaysEvent, PlaysSubmission, waiting_text}
 use Rattle.event_player.specs.Stops.{StopsActs, EventStops, SubmissionStops}

@@ -35,8 +35,8 @@ use Rattle.run_laws.specs.Writing.{WriteNothing}
 use Rattle.run_laws.specs.Stops.{AreOfOneEvent, StopsAtSink}
 use Rattle.run_laws.proofs.StopsPasses.{after_parts}
 use Rattle.run_laws.proofs.StopsEvents.{submissions_write_nothing, empty_drains_write_nothing}
-use Rattle.event_player.specs.declared.play.PlayFault.{PlayFault}
-use Rattle.event_player.specs.declared.play.PlayFault.TheVariants as faults
+use Rattle.unit_attaching.specs.declared.fault.PlayFault.{PlayFault}
+use Rattle.unit_attaching.specs.declared.fault.PlayFault.TheVariants as faults
 use Rattle.event_player.specs.Steps.{Stage, Passes, IsCut, IsAhead}
 use Rattle.event_player.specs.Stops.{HasTold, IsNext, HasDrainedTold, EventStops, SubmissionStops, StopsSubmission, StopsAt}
 use Rattle.event_player.proofs.Going.{event_goes, submission_goes, drain_empty, drain_first, drain_more}

@@ -14,26 +14,6 @@ use Rattle.script_reader.specs.Promises.{said_in}
 use Rattle.trace_replay.specs.Script.{Statement, Line}
 use Rattle.event_player.specs.Playing.{counted, one_request, one_noise}
 
--- THE LINES that stand before one of a script, as they are meant
-abbrev pub lines_before : Stored → ℕ → List Line
-lines_before s i = map line_of (map (seen s.text) (take i s.lines))
-
-pub lines_more : (s : Stored) (i : ℕ) (line : Kept) → i < length s.lines → line ≡ slice_index_or s.lines i line
-    → lines_before s (i + 1) ≡ lines_before s i ++ line_of (seen s.text line) ∷ []
-lines_more s i line lt is =
-    ap (λ (xs : List Kept). map line_of (map (seen s.text) xs)) (take_more s.lines i line lt ∙ ap (λ (x : Kept). take i s.lines ++ x ∷ []) (sym is))
-    ∙ ap (map line_of) (map-append (seen s.text) (take i s.lines) (line ∷ []))
-    ∙ map-append line_of (map (seen s.text) (take i s.lines)) (seen s.text line ∷ [])
-
-pub lines_all : (s : Stored) (i : ℕ) → length s.lines ≤ i → lines_before s i ≡ (meaning_of s).lines
-lines_all s i all = ap (λ (xs : List Kept). map line_of (map (seen s.text) xs)) (take_all i s.lines all)
-
-pub lines_parted : (s : Stored) (i : ℕ) → (meaning_of s).lines ≡ lines_before s i ++ map line_of (map (seen s.text) (drop i s.lines))
-lines_parted s i =
-    ap (λ (xs : List Kept). map line_of (map (seen s.text) xs)) (sym (take-append-drop i s.lines))
-    ∙ ap (map line_of) (map-append (seen s.text) (take i s.lines) (drop i s.lines))
-    ∙ map-append line_of (map (seen s.text) (take i s.lines)) (map (seen s.text) (drop i s.lines))
-
 -- COUNTS of lines, and of more of them
 counted-append : (one : Statement → ℕ) (xs ys : List Line) → counted one (xs ++ ys) ≡ counted one xs + counted one ys
 counted-append one [] ys = omega arith

@@ -6,7 +6,7 @@ use Rattle.subsystem_spec.specs.Requests.{Request}
 use Rattle.trace_replay.specs.Moments.{Moment}
 use Rattle.trace_replay.specs.Causes.{AsksSome}
 use Rattle.trace_replay.specs.Script as says
-use Rattle.trace_replay.specs.Script.{Script, Input, Statement, Declares, Plays, Line, Numbered, with_input, drives_of, inputs_before}
+use Rattle.trace_replay.specs.Script.{Script, Input, Statement, Declares, Plays, Line, Numbered, drives_of, inputs_before}
 use Rattle.trace_replay.specs.Packs.{surface_of}
 use Rattle.trace_replay.specs.Replay.{Replay, after_moments}
 use Rattle.trace_replay.specs.Runs.{start_of}
@@ -36,25 +36,13 @@ use Rattle.run_laws.proofs.Passes.{lines_ask_nothing, calls_ask}
 use Rattle.run_laws.proofs.Passes.{first_events_fall, drains_fall}
 use Rattle.run_laws.specs.StopsPasses.{IsThere}
 use Rattle.driver_answers.specs.Waiting.{all_taken}
+use Rattle.unit_attaching.proofs.LineLaws.{inputs_append, inputs_end}
 use Rattle.event_player.specs.Playing.{HasRun}
 use Rattle.event_player.specs.Steps.{HasDrained}
 use Rattle.run_laws.proofs.Taking.{runs_wait, so_far_taken, draining_taken, kept_taken}
 use Rattle.event_player.proofs.Reaching.{call_asks, lines_ask, within_taken}
 
 -- THE INPUTS of lines, with those of one more
-with_more : (number : ℕ) (statement : Statement) (inputs more : List Numbered) → with_input number statement (inputs ++ more) ≡ with_input number statement inputs ++ more
-with_more number (Declares unit kind) inputs more = refl
-with_more number (Plays input) inputs more = refl
-
-pub inputs_append : (last : List Numbered) (lines more : List Line) → inputs_before last (lines ++ more) ≡ inputs_before (inputs_before last more) lines
-inputs_append last [] more = refl
-inputs_append last (line ∷ lines) more = ap (with_input line.number line.statement) (inputs_append last lines more)
-
-pub inputs_end : (inputs more : List Numbered) (lines : List Line) → inputs_before (inputs ++ more) lines ≡ inputs_before inputs lines ++ more
-inputs_end inputs more [] = refl
-inputs_end inputs more (line ∷ lines) =
-    ap (with_input line.number line.statement) (inputs_end inputs more lines) ∙ with_more line.number line.statement (inputs_before inputs lines) more
-
 abbrev pub line_for : ℕ → Input → Line
 line_for number input = record { number = number; statement = Plays input }
 

@@ -37,8 +37,8 @@ use Rattle.run_laws.specs.StopsPasses.{input_of}
 use Rattle.run_laws.specs.StopsPasses.{State, IsThere}
 use Rattle.driver_answers.specs.Waiting.{all_taken}
 use Rattle.run_laws.specs.Steps.{tables_in, AreSetFor}
-use Rattle.event_player.specs.declared.play.PlayFault.{PlayFault}
-use Rattle.event_player.specs.declared.play.PlayFault.TheVariants as faults
+use Rattle.unit_attaching.specs.declared.fault.PlayFault.{PlayFault}
+use Rattle.unit_attaching.specs.declared.fault.PlayFault.TheVariants as faults
 use Rattle.event_player.specs.Playing.{HasRun}
 use Rattle.run_laws.specs.Ahead.{IsBetween}
 use Rattle.run_laws.specs.Stops.{took, TakesRest, StopsAtSink, StopsAtStore}

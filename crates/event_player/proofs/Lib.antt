@@ -12,7 +12,6 @@ pub mod Draining
 pub mod Rooms
 pub mod SaysLaws
 pub mod AnswerLaws
-pub mod AttachLaws
 pub mod CountLaws
 pub mod Statements
 pub mod Whole

@@ -28,8 +28,8 @@ use Rattle.run_laws.specs.StopsPasses.{writes_next}
 use Rattle.run_laws.specs.Writing.{WriteNothing}
 use Rattle.run_laws.specs.Ahead.{SaysOneSector, AreBehind}
 use Rattle.run_laws.specs.Stops.{IsEventOver, AreOfOneEvent, StaysBeyond, IsAtMove, StopsAtSink}
-use Rattle.event_player.specs.declared.play.PlayFault.{PlayFault}
-use Rattle.event_player.specs.declared.play.PlayFault.TheVariants as faults
+use Rattle.unit_attaching.specs.declared.fault.PlayFault.{PlayFault}
+use Rattle.unit_attaching.specs.declared.fault.PlayFault.TheVariants as faults
 use Rattle.event_player.specs.Steps.{Stage, Passes, PassesAhead, IsCut, IsAhead}
 use Rattle.event_player.specs.Stops.{StopsActs, StopsEvent, StopsBefore, MoveFails, EventStops, StopsAtMove, StopsAt}
 use Rattle.event_player.proofs.Reaching.{ask_parts, left_stays}

@@ -1,8 +1,8 @@
 -- What each call of the player needs, and what it leaves.
 use Rattle.std.specs.Prelude.{◌≡◌, false, IsTrue, [], Result, OnOk, IfErr}
 use Rattle.run_laws.specs.StopsPasses.{State}
-use Rattle.event_player.specs.declared.play.PlayFault.{PlayFault}
-use Rattle.event_player.specs.Faults.{HaveTold}
+use Rattle.unit_attaching.specs.declared.fault.PlayFault.{PlayFault}
+use Rattle.unit_attaching.specs.Faults.{HaveTold}
 use Rattle.event_player.specs.Steps.{Stage}
 
 -- IT MAY COME where no call of the driver failed, and no answer waits.

@@ -1,10 +1,8 @@
 pub mod Playing
 pub mod Plays
-pub mod Faults
 pub mod Saying
 pub mod Steps
 pub mod Calls
 pub mod Answering
-pub mod Attaching
 pub mod Stops
 pub mod Passes

@@ -31,24 +31,3 @@ pub record Plays (script : Script) (old new : ℕ → Pack) (out_tells : Bool) (
 pub record Tallied (script : Script) (old new : ℕ → Pack) (out_tells : Bool) (said said' : List ℕ) (trace_tells : Bool) (taken taken' : List ℕ) (tally : Tally) : Type 0 where
   pub plays : Plays script old new out_tells said said' trace_tells taken taken'
   pub is : tally ≡ tally_of (counted one_request script.lines) plays.moments
-
--- an image has more bytes than the blocks of its unit's drive
-pub record IsTooLong (script : Script) (packs : ℕ → Pack) (unit length_is : ℕ) : Type 0 where
-  pub kind : DriveKind
-  pub declared : drives_of script unit ≡ Some kind
-  pub is : length_is ≡ length (packs unit).image
-  pub more : 512 * block_count kind < length_is
-
--- one that is NAMED so: a line declares its unit, and the length is more than its drive has; where the packs tell, it is the length of the
--- image, and the images of all units that are declared before fit
-pub record NamesTooLong (script : Script) (tells : Bool) (packs : ℕ → Pack) (unit length_is : ℕ) : Type 0 where
-  pub kind : DriveKind
-  pub before : List Line
-  pub line : Line
-  pub after : List Line
-  pub lines : script.lines ≡ before ++ line ∷ after
-  pub declares : line.statement ≡ Declares unit kind
-  pub declared : drives_of script unit ≡ Some kind
-  pub more : 512 * block_count kind < length_is
-  pub is : IsTrue tells → length_is ≡ length (packs unit).image
-  pub first : IsTrue tells → (other : ℕ) (its : DriveKind) → drives_in before other ≡ Some its → length (packs other).image ≤ 512 * block_count its

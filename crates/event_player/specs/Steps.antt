@@ -37,8 +37,8 @@ use Rattle.answer_lines.specs.declared.tally.Tally.{Tally}
 use Rattle.answer_lines.specs.Counting.{Counts, CountsAll}
 use Rattle.run_laws.specs.StopsPasses.{State, IsThere, writes_by}
 use Rattle.run_laws.specs.Ahead.{IsBetween, WritesAhead, TellsAhead}
-use Rattle.event_player.specs.declared.play.PlayFault.{PlayFault}
-use Rattle.event_player.specs.declared.play.PlayFault.TheVariants as faults
+use Rattle.unit_attaching.specs.declared.fault.PlayFault.{PlayFault}
+use Rattle.unit_attaching.specs.declared.fault.PlayFault.TheVariants as faults
 use Rattle.run_laws.specs.Steps.{AreUnits}
 use Rattle.event_player.specs.Playing.{HasRun, counted, one_request, one_noise, one_fault}
 

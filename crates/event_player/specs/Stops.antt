@@ -25,8 +25,9 @@ use Rattle.answer_lines.specs.AnswerText.{out_text}
 use Rattle.run_laws.specs.StopsPasses.{is_move, writes_by}
 use Rattle.run_laws.specs.StopsPasses.{writes_next}
 use Rattle.run_laws.specs.Stops.{CameTo, StaysBeyond, IsAtMove, Took, StopsAtSink, StopsAtStore}
-use Rattle.event_player.specs.declared.play.PlayFault.{PlayFault}
-use Rattle.event_player.specs.declared.play.PlayFault.TheVariants as faults
+use Rattle.unit_attaching.specs.declared.fault.PlayFault.{PlayFault}
+use Rattle.unit_attaching.specs.declared.fault.PlayFault.TheVariants as faults
+use Rattle.unit_attaching.specs.Faults.{IsUnplayed}
 use Rattle.event_player.specs.Playing.{HasRun}
 use Rattle.event_player.specs.Steps.{Stage, Passes, PassesAhead, IsAhead, HasDrained}
 
@@ -139,11 +140,6 @@ StopsScript script tables fault old new = HasRun script tables old.held old.held
 
 -- WHAT PLAYING LEAVES where it stopped: nothing was played, as the packs failed when a unit was attached; or it was played so far, with
 -- the tables of these packs, and where the packs failed the rest of the text was sent.
-pub record IsUnplayed (first left : ℕ → Pack) (out trace : Took) : Type 0 where
-  pub packs : left ≡ first
-  pub unsaid : out.after ≡ out.before
-  pub untold : trace.after ≡ trace.before
-
 abbrev pub Stopped : PlayFault → Script → (ℕ → Option Table) → (first left : ℕ → Pack) → (out trace : Took) → Type 0
 Stopped faults.Store script tables first left out trace = StopsAtStore script tables first left out trace
 Stopped faults.Sink script tables first left out trace = StopsAtSink script tables first left out.tells out.before out.after trace.tells trace.before trace.after

@@ -5,7 +5,7 @@ ghost use Rattle.run_laws.specs.StopsPasses.{input_of};
 ghost use Rattle.run_laws.specs.StopsPasses.{IsAsked, IsThere, asked, writes_by};
 ghost use Rattle.event_player.specs.Saying.{side, SendsAhead};
 ghost use Rattle.event_player.specs.Calls.{MayGoOn, KeepsGoing};
-ghost use Rattle.event_player.specs.Faults.{HaveTold};
+ghost use Rattle.unit_attaching.specs.Faults.{HaveTold};
 ghost use Rattle.event_player.specs.Steps.{stage, PlaysEvent, PlaysSubmission, HasCauses};
 ghost use Rattle.event_player.specs.Stops.{EventStops, SubmissionStops};
 

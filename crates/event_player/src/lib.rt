@@ -15,7 +15,6 @@
 #![tactic(auto)]
 
 mod answers;
-mod attaching;
 mod calls;
 mod counting;
 mod desk;

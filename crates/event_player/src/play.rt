@@ -1,100 +1,40 @@
 // A script is played to its end.
-ghost use Rattle.std.specs.Prelude.{◌≡◌, ◌≤◌, ℕ, [], length, IsTrue, Result, Ok, IfOk, IfErr, vec_len, Option};
+ghost use Rattle.std.specs.Prelude.{◌≡◌, ◌≤◌, ℕ, [], length, IsTrue, Result, Ok, IfOk, IfErr, IsErrOf, vec_len, Option};
+ghost use Rattle.pack_geometry.specs.PackTable.{AreTablesOf};
 ghost use Rattle.pack_geometry.specs.TableSpelling.{Table};
 ghost use Rattle.script_reader.specs.Grammar.{Spells};
 ghost use Rattle.script_reader.specs.Stored.{lines_in};
 ghost use Rattle.script_lines.specs.Words.{all_verbs};
 ghost use Rattle.script_reader.specs.Meaning.{meaning_of};
+ghost use Rattle.trace_replay.specs.Script.{drives_of};
+ghost use Rattle.hp_core.specs.Setups.{setups_of};
+ghost use Rattle.run_laws.specs.Steps.{tables_in, AreSetFor};
 ghost use Rattle.answer_lines.specs.Counting.{tally_by};
-ghost use Rattle.event_player.specs.Plays.{Tallied, IsTooLong};
-ghost use Rattle.event_player.specs.Faults.{IsPlaying, IsBefore, IsLongFor, AreUntouched, HaveTold, Rise};
+ghost use Rattle.event_player.specs.Plays.{Tallied};
+ghost use Rattle.unit_attaching.specs.Lengths.{IsTooLong};
+ghost use Rattle.unit_attaching.specs.Faults.{IsPlaying, IsBefore, IsLongFor, AreUntouched, HaveTold, Rise};
 ghost use Rattle.event_player.specs.Playing.{counted, one_request};
 ghost use Rattle.event_player.specs.Calls.{MayGoOn, IsPlayed};
 ghost use Rattle.event_player.specs.Steps.{stage, Ready, PlaysScript, HasCauses};
 ghost use Rattle.event_player.specs.Stops.{StopsScript, Leaves};
-ghost use Rattle.event_player.specs.declared.play.PlayFault.TheVariants.{Store};
+ghost use Rattle.unit_attaching.specs.declared.fault.PlayFault.TheVariants.{TooLong, Store};
 ghost use Rattle.run_laws.specs.Stops.{took, TakesRest};
 
-use crate::attaching::attach_units;
 use crate::counting::{count_noises, count_requests};
 use crate::desk::Desk;
 use crate::drains::drain;
 use crate::player::play_line;
 pub use answer_lines::Tally;
-use driver_answers::outcome::Stop;
-use outside_traits::traits::{NoMemory, Packs, Sink, SinkFailed};
-use run_laws::stops::Subsystem;
+use outside_traits::traits::{Packs, Sink};
+use run_laws::stops::{Subsystem, UnitSetup};
 use script_reader::meaning::meaning_law;
 use script_reader::{Script, read_back_law};
 use std::alloc::{AllocError, Global};
-use thiserror::Error;
+pub use unit_attaching::PlayFault;
+use unit_attaching::attach_units;
 
 /// How many bytes the longest write brings: 127 blocks.
 const MOST_BYTES: usize = 65_024;
-
-/// Why a script was not played to its end.
-#[derive(Clone, Copy, Debug, PartialEq, Eq, Error)]
-pub enum PlayFault {
-    /// There was no memory. Nothing was played.
-    #[error("there is no memory")]
-    Memory,
-    /// The image of a unit is longer than its pack. Nothing was played.
-    #[error("the image of unit {unit} has {length} bytes")]
-    TooLong { unit: u8, length: u64 },
-    /// A call on the packs failed.
-    #[error("the packs failed")]
-    Store,
-    /// A call of a sink failed.
-    #[error("a sink failed")]
-    Sink,
-}
-
-impl From<NoMemory> for PlayFault {
-    ghost use Rattle.std.specs.Prelude.{◌≡◌};
-    ghost use Rattle.event_player.specs.declared.play.PlayFault.TheVariants.{Memory};
-
-    ghost from_gives = { λ _ e. e ≡ Memory };
-
-    fn from(_: NoMemory) -> PlayFault {
-        PlayFault::Memory
-    }
-}
-
-impl From<AllocError> for PlayFault {
-    ghost use Rattle.std.specs.Prelude.{◌≡◌};
-    ghost use Rattle.event_player.specs.declared.play.PlayFault.TheVariants.{Memory};
-
-    ghost from_gives = { λ _ e. e ≡ Memory };
-
-    fn from(_: AllocError) -> PlayFault {
-        PlayFault::Memory
-    }
-}
-
-impl From<SinkFailed> for PlayFault {
-    ghost use Rattle.std.specs.Prelude.{◌≡◌};
-    ghost use Rattle.event_player.specs.declared.play.PlayFault.TheVariants.{Sink};
-
-    ghost from_gives = { λ _ e. e ≡ Sink };
-
-    fn from(_: SinkFailed) -> PlayFault {
-        PlayFault::Sink
-    }
-}
-
-impl From<Stop> for PlayFault {
-    ghost use Rattle.std.specs.Prelude.{◌≡◌};
-    ghost use Rattle.event_player.specs.Faults.{from_stop};
-
-    ghost from_gives = { λ stop e. e ≡ from_stop stop };
-
-    fn from(stop: Stop) -> PlayFault {
-        match stop {
-            Stop::Store => PlayFault::Store,
-            Stop::Sink => PlayFault::Sink,
-        }
-    }
-}
 
 /// So many bytes.
 fn bytes(alloc: Global, size: usize) -> Result<Vec<u8>, AllocError>
@@ -184,6 +124,51 @@ fn send_rest<O: Sink, T: Sink>(
     }
 }
 
+/// Plays a script over units that are set up for it, as `play` does behind their attaching: Memory comes only before the first line is
+/// played, and TooLong never.
+fn play_units<P: Packs, O: Sink, T: Sink>(
+    alloc: Global,
+    script: &Script,
+    units: &[UnitSetup],
+    packs: &mut P,
+    out: &mut O,
+    trace: &mut T,
+) -> Result<Tally, PlayFault>
+    requires good { Spells all_verbs script.now.text (lines_in script.now) script.now.count }
+    requires set { AreSetFor (meaning_of script.now) (tables_in (setups_of units.now)) (setups_of units.now) }
+    requires tables { IsTrue (P.tells packs.old) → AreTablesOf (drives_of (meaning_of script.now)) (P.held packs.old) (tables_in (setups_of units.now)) }
+    ensures tallied { IfOk result (λ tally. IsTrue (P.tells packs.new) → Tallied (meaning_of script.now) (P.held packs.old) (P.held packs.new)
+        (O.tells out.new) (O.taken out.old) (O.taken out.new) (T.tells trace.new) (T.taken trace.old) (T.taken trace.new) tally) }
+    ensures requests { IfOk result (λ tally. tally.requests ≡ counted one_request (meaning_of script.now).lines) }
+    ensures stopped { IfErr result (λ fault. IsTrue (P.tells packs.new) → Leaves fault (meaning_of script.now) (P.held packs.old) (P.held packs.new)
+        (took O.tells O.taken O.faults out.old out.new) (took T.tells T.taken T.faults trace.old trace.new)) }
+    ensures too_long { (unit n : ℕ) → ¬ (IsErrOf result (TooLong unit n)) }
+    ensures told { HaveTold (P.tells packs.old) (P.tells packs.new) (O.tells out.old) (O.tells out.new) (T.tells trace.old) (T.tells trace.new) }
+    ensures causes { Rise (P.faults packs.old) (P.faults packs.new) (O.faults out.old) (O.faults out.new) (T.faults trace.old) (T.faults trace.new) result }
+    ensures untouched { IsBefore result → AreUntouched (P.tells packs.new) (P.held packs.old) (P.held packs.new) out.old out.new trace.old trace.new }
+{
+    meaning_law();
+    let requests = count_requests(script);
+    let noises = count_noises(script);
+    let mut bench = Bench::new(alloc, u64::from(requests))?;
+    let mut subsystem = Subsystem::new(alloc, units, requests, noises)?;
+    match play_lines(
+        script,
+        &mut subsystem,
+        bench.room.as_mut_slice(),
+        &mut bench.desk,
+        packs,
+        out,
+        trace,
+    ) {
+        Ok(tally) => Ok(tally),
+        Err(fault) => {
+            send_rest(fault, &mut subsystem, &mut bench.desk, out, trace);
+            Err(fault)
+        }
+    }
+}
+
 /// Plays a script line by line, and behind its last line a drain, whose number is the number of lines plus one. Its lines are kept for
 /// `trace`, and its answers for `out`. They are sent, lines first, before a move that may write a block, where there is no room for more,
 /// at the end, and where the packs failed.
@@ -215,25 +200,6 @@ pub fn play<P: Packs, O: Sink, T: Sink>(
     ensures causes { Rise (P.faults packs.old) (P.faults packs.new) (O.faults out.old) (O.faults out.new) (T.faults trace.old) (T.faults trace.new) result }
     ensures untouched { IsBefore result → AreUntouched (P.tells packs.new) (P.held packs.old) (P.held packs.new) out.old out.new trace.old trace.new }
 {
-    meaning_law();
     let units = attach_units(alloc, script, packs)?;
-    let requests = count_requests(script);
-    let noises = count_noises(script);
-    let mut bench = Bench::new(alloc, u64::from(requests))?;
-    let mut subsystem = Subsystem::new(alloc, units.as_slice(), requests, noises)?;
-    match play_lines(
-        script,
-        &mut subsystem,
-        bench.room.as_mut_slice(),
-        &mut bench.desk,
-        packs,
-        out,
-        trace,
-    ) {
-        Ok(tally) => Ok(tally),
-        Err(fault) => {
-            send_rest(fault, &mut subsystem, &mut bench.desk, out, trace);
-            Err(fault)
-        }
-    }
+    play_units(alloc, script, units.as_slice(), packs, out, trace)
 }

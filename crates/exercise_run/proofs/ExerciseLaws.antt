@@ -20,8 +20,8 @@ use Rattle.trace_laws.specs.LegalAnswers.{AreNoAliases}
 use Rattle.trace_laws.specs.Promises.{Promises}
 use Rattle.answer_lines.specs.declared.tally.Tally.{Tally}
 use Rattle.event_player.proofs.Passes.{legal_runs_are_one}
-use Rattle.event_player.specs.declared.play.PlayFault.{PlayFault}
-use Rattle.event_player.specs.declared.play.PlayFault.TheVariants as faults
+use Rattle.unit_attaching.specs.declared.fault.PlayFault.{PlayFault}
+use Rattle.unit_attaching.specs.declared.fault.PlayFault.TheVariants as faults
 use Rattle.event_player.specs.Playing.{counted, one_request}
 use Rattle.event_player.specs.Plays.{Tallied}
 use Rattle.event_player.specs.Passes.{Took, StopsAtSink}

@@ -9,8 +9,8 @@ use Rattle.pack_geometry.proofs.PackLaws.{length-grown}
 use Rattle.outside_traits.specs.Causes.{Rose}
 use Rattle.trace_replay.specs.Script.{Script, drives_of}
 use Rattle.driver_answers.specs.Outcome.{IsNextBlock}
-use Rattle.event_player.specs.declared.play.PlayFault.{PlayFault}
-use Rattle.event_player.specs.declared.play.PlayFault.TheVariants as faults
+use Rattle.unit_attaching.specs.declared.fault.PlayFault.{PlayFault}
+use Rattle.unit_attaching.specs.declared.fault.PlayFault.TheVariants as faults
 use Rattle.event_player.specs.Passes.{writes_next}
 use Rattle.event_player.specs.Passes.{Took}
 use Rattle.event_player.specs.Stops.{Leaves}

@@ -11,7 +11,7 @@ use Rattle.script_reader.specs.Meaning.{meaning}
 use Rattle.trace_replay.specs.Script.{Script, inputs_of}
 use Rattle.trace_laws.specs.LegalAnswers.{AreNoAliases}
 use Rattle.answer_lines.specs.declared.tally.Tally.{Tally}
-use Rattle.event_player.specs.declared.play.PlayFault.TheVariants as faults
+use Rattle.unit_attaching.specs.declared.fault.PlayFault.TheVariants as faults
 use Rattle.event_player.specs.Plays.{Tallied}
 use Rattle.event_player.specs.Passes.{Took}
 use Rattle.event_player.specs.Stops.{StopsPlaying}

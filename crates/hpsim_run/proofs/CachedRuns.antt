@@ -6,18 +6,19 @@ use Rattle.trace_replay.specs.Script.{Script}
 use Rattle.cached_script.specs.declared.statement.Line.{Line}
 use Rattle.cached_script.specs.Scripts.{IsRefused}
 use Rattle.cached_script.proofs.ReadingLaws.{one_script}
-use Rattle.cached_run.specs.Faults.{IsBefore, IsLongFor, IsPlaying}
-use Rattle.cached_run.specs.Meaning.{meaning_of}
+use Rattle.unit_attaching.specs.Faults.{IsBefore, IsLongFor, IsPlaying}
+use Rattle.cached_script.specs.Meaning.{meaning_of}
 use Rattle.cached_run.specs.Theorem.{CachedLeaves}
-use Rattle.cached_run.specs.declared.fault.CachedPlayFault.{CachedPlayFault}
-use Rattle.cached_run.specs.declared.fault.CachedPlayFault.TheVariants as faults
-use Rattle.event_player.specs.Passes.{Took}
-use Rattle.event_player.specs.Plays.{IsTooLong, NamesTooLong}
+use Rattle.unit_attaching.specs.declared.fault.PlayFault.{PlayFault}
+use Rattle.unit_attaching.specs.declared.fault.PlayFault.TheVariants as faults
+use Rattle.run_laws.specs.Stops.{Took}
+use Rattle.unit_attaching.specs.Lengths.{IsTooLong, NamesTooLong}
 use Rattle.command_parts.specs.Outside.{Outside}
-use Rattle.hpsim_run.specs.Sinks.{out_took, trace_took}
-use Rattle.hpsim_run.specs.Cached.{HasCached, HasStoppedCached, MeansCached, RunsCached}
-use Rattle.hpsim_run.specs.Scripts.{RunsScript}
-use Rattle.hpsim_run.proofs.ScriptRuns.{IsApart, IsRead, MeanOne, script_done, script_sink, script_store}
+use Rattle.script_commands.specs.Sinks.{out_took, trace_took}
+use Rattle.script_commands.specs.Loading.{MeansCached}
+use Rattle.hpsim_run.specs.Cached.{HasCached, HasStoppedCached, RunsCached}
+use Rattle.script_commands.specs.Scripts.{RunsScript}
+use Rattle.script_commands.proofs.ScriptRuns.{IsApart, IsRead, MeanOne, script_done, script_sink, script_store}
 
 pub one_cached : MeanOne MeansCached
 one_cached bytes script other means read =
@@ -35,7 +36,7 @@ module _ (old new : Outside) (read : IsRead old new) where
     stopped_packs = λ e. absurd (omega (arith, e));
   }
 
-  abbrev Stop : CachedPlayFault → Type 0
+  abbrev Stop : PlayFault → Type 0
   Stop fault = HasStoppedCached fault new.source_tells old.left new.left new.packs_tell old.held new.held (out_took old new) (trace_took old new)
 
   pub cached_sink : (s : Stop faults.Sink) → (IsTrue new.packs_tell → (unit n : ℕ) → ¬ (IsTooLong (meaning_of s.lines) old.held unit n))
@@ -65,16 +66,16 @@ uncached apart script = record {
 }
 
 -- ---- by a fault's name
-pub cached_long : (script : Script) (tells : Bool) (packs : ℕ → Pack) (fault : CachedPlayFault) (unit length_is : ℕ) → fault ≡ faults.TooLong unit length_is
+pub cached_long : (script : Script) (tells : Bool) (packs : ℕ → Pack) (fault : PlayFault) (unit length_is : ℕ) → fault ≡ faults.TooLong unit length_is
     → IsLongFor script tells packs fault → NamesTooLong script tells packs unit length_is
-cached_long script tells packs fault unit length_is e is = subst (λ (f : CachedPlayFault). IsLongFor script tells packs f) e is
+cached_long script tells packs fault unit length_is e is = subst (λ (f : PlayFault). IsLongFor script tells packs f) e is
 
-pub cached_plays : (T : Type 0) (fault : CachedPlayFault) → fault ≡ faults.Sink → IsPlaying {T = T} (Err fault)
-cached_plays T fault e = subst (λ (f : CachedPlayFault). IsPlaying {T = T} (Err f)) (sym e) tt
+pub cached_plays : (T : Type 0) (fault : PlayFault) → fault ≡ faults.Sink → IsPlaying {T = T} (Err fault)
+cached_plays T fault e = subst (λ (f : PlayFault). IsPlaying {T = T} (Err f)) (sym e) tt
 
-pub cached_before : (T : Type 0) (fault : CachedPlayFault) (unit length_is : ℕ) → fault ≡ faults.TooLong unit length_is → IsBefore {T = T} (Err fault)
-cached_before T fault unit length_is e = subst (λ (f : CachedPlayFault). IsBefore {T = T} (Err f)) (sym e) tt
+pub cached_before : (T : Type 0) (fault : PlayFault) (unit length_is : ℕ) → fault ≡ faults.TooLong unit length_is → IsBefore {T = T} (Err fault)
+cached_before T fault unit length_is e = subst (λ (f : PlayFault). IsBefore {T = T} (Err f)) (sym e) tt
 
-pub cached_leaves : (fault other : CachedPlayFault) (script : Script) (first left : ℕ → Pack) (out trace : Took) → fault ≡ other → CachedLeaves fault script first left out trace
+pub cached_leaves : (fault other : PlayFault) (script : Script) (first left : ℕ → Pack) (out trace : Took) → fault ≡ other → CachedLeaves fault script first left out trace
     → CachedLeaves other script first left out trace
-cached_leaves fault other script first left out trace e is = subst (λ (f : CachedPlayFault). CachedLeaves f script first left out trace) e is
+cached_leaves fault other script first left out trace e is = subst (λ (f : PlayFault). CachedLeaves f script first left out trace) e is

@@ -3,23 +3,18 @@ use Rattle.std.specs.Prelude.{◌≡◌, ℕ, Bool, IsTrue, List, []}
 use Rattle.pack_geometry.specs.Pack.{Pack}
 use Rattle.trace_replay.specs.Script.{Script}
 use Rattle.cached_script.specs.Scripts.{Script as Lines, Spells, IsRefused}
-use Rattle.cached_run.specs.Meaning.{meaning_of}
+use Rattle.cached_script.specs.Meaning.{meaning_of}
 use Rattle.cached_run.specs.Theorem.{CachedPlays, CachedLeaves}
-use Rattle.cached_run.specs.declared.fault.CachedPlayFault.{CachedPlayFault}
-use Rattle.cached_run.specs.declared.fault.CachedPlayFault.TheVariants as faults
-use Rattle.event_player.specs.Passes.{Took}
-use Rattle.event_player.specs.Plays.{IsTooLong}
+use Rattle.unit_attaching.specs.declared.fault.PlayFault.{PlayFault}
+use Rattle.unit_attaching.specs.declared.fault.PlayFault.TheVariants as faults
+use Rattle.run_laws.specs.Stops.{Took}
+use Rattle.unit_attaching.specs.Lengths.{IsTooLong}
 use Rattle.command_parts.specs.Outside.{Outside}
 use Rattle.command_parts.specs.Statuses.{status_code}
 use Rattle.command_parts.specs.declared.status.Status.TheVariants.{Done, SinkFailed, PacksFailed}
-use Rattle.hpsim_run.specs.Scripts.{RunsScript}
-use Rattle.hpsim_run.specs.Sinks.{out_took, trace_took}
-
--- WHAT BYTES MEAN to `cached`: they spell lines that mean the script.
-pub record MeansCached (bytes : List ℕ) (script : Script) : Type 0 where
-  pub lines : Lines
-  pub spelled : Spells bytes lines.lines lines.count
-  pub is : script ≡ meaning_of lines
+use Rattle.script_commands.specs.Loading.{MeansCached}
+use Rattle.script_commands.specs.Scripts.{RunsScript}
+use Rattle.script_commands.specs.Sinks.{out_took, trace_took}
 
 -- PLAYED THROUGH THE CACHE. Where the source tells, it was read to its end, and its bytes spell these lines; where the packs tell, each
 -- request was answered at its own line, as the block machine answers it, the packs hold what all writes leave, and no image was too long.
@@ -32,7 +27,7 @@ pub record HasCached (source_tells : Bool) (left left_after : List ℕ) (tells :
 
 -- WHERE IT STOPPED as a sink or the packs failed. Where the source tells, it was read to its end, and its bytes spell these lines; where the
 -- packs tell, each block holds what some of the writes up to the line of the stop left, those before the last sync that ended among them.
-pub record HasStoppedCached (fault : CachedPlayFault) (source_tells : Bool) (left left_after : List ℕ) (tells : Bool) (old new : ℕ → Pack) (out trace : Took) : Type 0 where
+pub record HasStoppedCached (fault : PlayFault) (source_tells : Bool) (left left_after : List ℕ) (tells : Bool) (old new : ℕ → Pack) (out trace : Took) : Type 0 where
   pub lines : Lines
   pub read : IsTrue source_tells → left_after ≡ []
   pub spelled : IsTrue source_tells → Spells left lines.lines lines.count

@@ -3,18 +3,15 @@ use Rattle.std.specs.Prelude.{◌≡◌, ◌⊎◌, ℕ, Option, None, Some}
 use Rattle.pack_geometry.specs.declared.DriveKind.{DriveKind}
 use Rattle.bad144_tool.specs.declared.edit.AddWay.{AddWay}
 use Rattle.command_parts.specs.Statuses.{status_code}
-use Rattle.command_parts.specs.declared.status.Status.TheVariants.{Done, Usage, Refused, SourceFailed, SinkFailed, PacksFailed, TooLong, ToolRefused, OutOfMemory}
+use Rattle.command_parts.specs.declared.status.Status.TheVariants.{Done, Usage, SinkFailed, PacksFailed, TooLong, ToolRefused, OutOfMemory}
 use Rattle.raw_command.specs.Faults.{IsTransferCode}
 use Rattle.command_parts.specs.declared.words.Transfer.{Transfer}
+use Rattle.script_commands.specs.Scripts.{IsPlayCode}
 use Rattle.pack_commands.specs.Formats.{IsFormatCode}
 use Rattle.pack_commands.specs.declared.words.Command.{Command}
 use Rattle.pack_commands.specs.declared.words.Command.TheVariants.{Play, ListTable, AddBlock, FreshTable, MarkBlocks, Exercise, Cached, FormatPack, TransferBytes}
 
--- the statuses of `play` and `cached`, of the commands of `bad144` without and with refusals of their own, and of `exercise`
-abbrev pub IsPlayCode : ℕ → Type 0
-IsPlayCode code = (code ≡ status_code Done) ⊎ (code ≡ status_code Refused) ⊎ (code ≡ status_code SourceFailed) ⊎ (code ≡ status_code SinkFailed)
-    ⊎ (code ≡ status_code PacksFailed) ⊎ (code ≡ status_code TooLong) ⊎ (code ≡ status_code OutOfMemory)
-
+-- the statuses of the commands of `bad144` without and with refusals of their own, and of `exercise`
 abbrev pub IsToolCode : ℕ → Type 0
 IsToolCode code = (code ≡ status_code Done) ⊎ (code ≡ status_code SinkFailed) ⊎ (code ≡ status_code PacksFailed) ⊎ (code ≡ status_code TooLong)
 

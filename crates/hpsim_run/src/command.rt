@@ -1,12 +1,11 @@
-ghost use Rattle.std.specs.Prelude.{◌≡◌, ℕ, Some};
+ghost use Rattle.std.specs.Prelude.{◌≡◌, ℕ, None, Some};
 ghost use Rattle.command_parts.specs.Outside.{HasItsCause, outside};
 ghost use Rattle.raw_command.specs.Endings.{RunsTransfer};
 ghost use Rattle.command_parts.specs.declared.words.Transfer.{Transfer};
 ghost use Rattle.hpsim_run.specs.Cached.{RunsCached};
 ghost use Rattle.hpsim_run.specs.Exercises.{RunsExercise};
-ghost use Rattle.hpsim_run.specs.Leaves.{LeavesAlone, TellsUsage};
-ghost use Rattle.hpsim_run.specs.Plays.{RunsPlay};
-ghost use Rattle.command_parts.specs.Statuses.{status_code};
+ghost use Rattle.script_commands.specs.Leaves.{LeavesAlone, TellsUsage};
+ghost use Rattle.script_commands.specs.Plays.{RunsPlay};
 ghost use Rattle.hpsim_run.specs.Statuses.{IsStatusOf};
 ghost use Rattle.hpsim_run.specs.Tools.{RunsTool};
 ghost use Rattle.pack_commands.specs.Words.{command_of as the_command};
@@ -14,63 +13,15 @@ ghost use Rattle.pack_commands.specs.declared.words.Command.TheVariants.{Play, C
 
 use crate::cached::run_cached;
 use crate::exercise::run_exercise;
-use crate::load::{LoadFault, load};
 use crate::transfers::run_bytes;
-use command_parts::{Status, too_long};
-use event_player::next_block_law;
-use event_player::play::{PlayFault, play};
+use command_parts::Status;
 use outside_traits::traits::{Packs, Sink, Source};
 use outside_traits::whole::write_all;
 use pack_commands::{
     Command, command_of, run_add, run_format, run_fresh, run_list, run_mark, usage,
 };
-use script_lines::refusal;
-use script_reader::grammar_law;
-use script_reader::meaning::meaning_law;
+use script_commands::run_play;
 use std::alloc::Global;
-use trace_laws::promises::{beginnings_law, promises_law};
-
-/// Reads a script from the source and plays it over the packs.
-fn run_play<S: Source, P: Packs, O: Sink, T: Sink>(
-    alloc: Global,
-    script: &mut S,
-    packs: &mut P,
-    out: &mut O,
-    trace: &mut T,
-) -> Status
-    ensures runs { RunsPlay (status_code result)
-        (outside S.tells S.left S.faults P.tells P.held P.faults O.tells O.taken O.faults T.tells T.taken T.faults script.old packs.old out.old trace.old)
-        (outside S.tells S.left S.faults P.tells P.held P.faults O.tells O.taken O.faults T.tells T.taken T.faults script.new packs.new out.new trace.new) }
-    ensures causes { HasItsCause (status_code result)
-        (outside S.tells S.left S.faults P.tells P.held P.faults O.tells O.taken O.faults T.tells T.taken T.faults script.old packs.old out.old trace.old)
-        (outside S.tells S.left S.faults P.tells P.held P.faults O.tells O.taken O.faults T.tells T.taken T.faults script.new packs.new out.new trace.new) }
-    ensures leaves { LeavesAlone (Some Play) (status_code result) script.old script.new packs.old packs.new out.old out.new trace.old trace.new }
-{
-    promises_law();
-    beginnings_law();
-    meaning_law();
-    grammar_law();
-    next_block_law();
-    let script = match load(alloc, script) {
-        Ok(script) => script,
-        Err(LoadFault::Memory) => return Status::OutOfMemory,
-        Err(LoadFault::Failed) => return Status::SourceFailed,
-        Err(LoadFault::Refused { line, kind }) => {
-            let _ = write_all(out, refusal(line, kind).as_bytes());
-            return Status::Refused;
-        }
-    };
-    match play(alloc, &script, packs, out, trace) {
-        Ok(_tally) => Status::Done,
-        Err(PlayFault::TooLong { unit, length }) => {
-            let _ = write_all(out, too_long(unit, length).as_bytes());
-            Status::TooLong
-        }
-        Err(PlayFault::Sink) => Status::SinkFailed,
-        Err(PlayFault::Store) => Status::PacksFailed,
-        Err(PlayFault::Memory) => Status::OutOfMemory,
-    }
-}
 
 /// Runs the command that the words name, and answers the code of its `Status`.
 ///

@@ -13,7 +13,6 @@
 mod cached;
 mod command;
 mod exercise;
-mod load;
 mod program;
 mod transfers;
 

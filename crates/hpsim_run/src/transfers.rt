@@ -4,7 +4,7 @@ ghost use Rattle.command_parts.specs.Outside.{HasItsCause, outside};
 ghost use Rattle.raw_command.specs.Endings.{RunsTransfer};
 ghost use Rattle.raw_command.specs.Faults.{IsTransferCode, code_of};
 ghost use Rattle.command_parts.specs.Words.{IsInRange};
-ghost use Rattle.hpsim_run.specs.Leaves.{LeavesAlone};
+ghost use Rattle.script_commands.specs.Leaves.{LeavesAlone};
 ghost use Rattle.command_parts.specs.Statuses.{status_code};
 ghost use Rattle.pack_commands.specs.declared.words.Command.TheVariants.{TransferBytes};
 

@@ -2,7 +2,7 @@
 use Rattle.std.proofs.Common.{◌≡◌, inl, inr, ℕ, List, [], ◌∷◌, ◌++◌, refl, sym, ap, arith, ◌∙◌}
 use Rattle.std.proofs.lemmas.List.{append_cancel_left, append-nil}
 use Rattle.exercise_run.specs.ExerciseText as exercise
-use Rattle.hpsim_run.specs.Statuses.{IsPlayCode}
+use Rattle.script_commands.specs.Scripts.{IsPlayCode}
 use Rattle.promise_rows.specs.Others.{DoneWhereTheTextWasNotTaken, FaultThatPrints, HandedInPacksPlayed, PlayedAsRefusedByTheTool}
 
 nothing_more : (taken text : List ℕ) → taken ≡ taken ++ text → text ≡ []

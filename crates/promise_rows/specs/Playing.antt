@@ -15,7 +15,7 @@ use Rattle.answer_lines.specs.AnswerText.{answer_text}
 use Rattle.answer_lines.specs.declared.tally.Tally.{Tally}
 use Rattle.event_player.specs.Plays.{Tallied}
 use Rattle.run_laws.specs.Stops.{StopsAtSink}
-use Rattle.hpsim_run.specs.Headline.{Headline}
+use Rattle.script_commands.specs.Headline.{Headline}
 
 -- ALWAYS A FAULT: a fault is answered, and no count rose.
 abbrev pub AlwaysAFault : Type 0

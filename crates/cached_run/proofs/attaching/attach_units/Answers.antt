@@ -1,7 +1,8 @@
 use Rattle.std.proofs.Common.{◌≡◌, ◌<◌, ◌≤◌, length, subst, ◌∙◌, slice_index_or, List, arith}
-use Rattle.event_player.specs.Passes.{setups_of}
+use Rattle.hp_core.specs.Setups.{setups_of}
 use Rattle.cached_script.specs.declared.statement.Line.{Line as Said}
-use Rattle.cached_run.proofs.Attachings.{room_at, attached_at, told_at_line, long_at, at_fault, attached_all}
+use Rattle.cached_run.proofs.Attachings.{room_at, attached_at, told_at_line, long_at, attached_all}
+use Rattle.unit_attaching.proofs.AttachLaws.{at_fault}
 use Rattle.cached_run.proofs.ScriptLines.{blank, item_is}
 use Rattle.cached_run.proofs.attaching.attach_units.Goals as goal
 

@@ -1,7 +1,7 @@
 use Rattle.std.proofs.Common.{◌≡◌, ◌≤◌, IsTrue}
-use Rattle.event_player.specs.Passes.{setups_of}
-use Rattle.event_player.proofs.Passes.{AreAttached}
-use Rattle.event_player.proofs.AttachLaws.{AreTold}
+use Rattle.hp_core.specs.Setups.{setups_of}
+use Rattle.run_laws.proofs.Attached.{AreAttached}
+use Rattle.unit_attaching.proofs.AttachLaws.{AreTold}
 use Rattle.cached_run.specs.Lines.{lines_before}
 use Rattle.cached_run.proofs.attaching.attach_units.Given as goal
 

@@ -7,7 +7,7 @@ use Rattle.buffer_cache.specs.Passes.{site}
 use Rattle.buffer_cache.proofs.Passes.{on_err}
 use Rattle.trace_laws.specs.Contents.{cached}
 use Rattle.cached_run.specs.Going.{Scene, scene}
-use Rattle.cached_run.specs.Meaning.{request_of}
+use Rattle.cached_script.specs.Meaning.{request_of}
 use Rattle.cached_run.proofs.Sayings.{none_read}
 use Rattle.cached_run.proofs.Causes.{stop_caused, sink_caused, caused_ok}
 use Rattle.cached_run.proofs.Goings.{request_halts, saying_halts, request_goes}

@@ -1,12 +1,12 @@
 use Rattle.std.proofs.Common.{◌+◌, IsTrue, length, refl, ap}
 use Rattle.trace_replay.specs.Script.{Drain}
-use Rattle.event_player.specs.Passes.{setups_of}
-use Rattle.event_player.specs.Passes.{Took, took}
-use Rattle.event_player.specs.Passes.{tables_in}
+use Rattle.hp_core.specs.Setups.{setups_of}
+use Rattle.run_laws.specs.Stops.{Took, took}
+use Rattle.run_laws.specs.Steps.{tables_in}
 use Rattle.trace_laws.specs.Entries.{State}
 use Rattle.cached_run.specs.Going.{Scene, scene}
 use Rattle.cached_run.specs.Lines.{inputs_till}
-use Rattle.cached_run.specs.Meaning.{meaning_of}
+use Rattle.cached_script.specs.Meaning.{meaning_of}
 use Rattle.cached_run.proofs.Causes.{same, caused_more, never_before, never_long, leaves_as, on_ok_map, on_err_map}
 use Rattle.cached_run.proofs.ScriptLines.{inputs_all, all_asked_well}
 use Rattle.cached_run.proofs.Starts.{made_units, made_may, made_setup, made_tables}

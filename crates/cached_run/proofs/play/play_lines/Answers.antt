@@ -5,7 +5,7 @@ use Rattle.buffer_cache.proofs.Passes.{on_err}
 use Rattle.cached_script.specs.declared.statement.Line.{Line as Said}
 use Rattle.cached_run.specs.Going.{Scene, scene, IsFar, syncs_at}
 use Rattle.cached_run.specs.Lines.{inputs_till, input_at}
-use Rattle.cached_run.specs.Meaning.{line_of, meaning_of}
+use Rattle.cached_script.specs.Meaning.{line_of, meaning_of}
 use Rattle.cached_run.proofs.Causes.{same, caused_more, more_caused}
 use Rattle.cached_run.proofs.Playing.{halts_script}
 use Rattle.cached_run.proofs.ScriptLines.{blank, item_is, number_is, may_play, inputs_next, inputs_split, inputs_all}

@@ -1,7 +1,7 @@
 use Rattle.std.proofs.Common.{refl, ap, subst, sym}
 use Rattle.driver_machine.specs.World.{World}
 use Rattle.run_laws.specs.StopsPasses.{State, asked}
-use Rattle.event_player.specs.declared.play.PlayFault.TheVariants as faults
+use Rattle.unit_attaching.specs.declared.fault.PlayFault.TheVariants as faults
 use Rattle.event_player.specs.Saying.{Side, side}
 use Rattle.event_player.specs.Steps.{PlaysSubmission}
 use Rattle.event_player.proofs.Saying.{by_sides, is_said}

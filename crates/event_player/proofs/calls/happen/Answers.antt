@@ -5,8 +5,8 @@ use Rattle.run_laws.specs.StopsPasses.{State, Comes}
 use Rattle.driver_answers.specs.Waiting.{waiting}
 use Rattle.answer_lines.specs.declared.tally.Tally.{Tally}
 use Rattle.answer_lines.specs.Counting.{Counts}
-use Rattle.event_player.specs.declared.play.PlayFault.TheVariants as faults
-use Rattle.event_player.specs.Faults.{from_stop}
+use Rattle.unit_attaching.specs.declared.fault.PlayFault.TheVariants as faults
+use Rattle.unit_attaching.specs.Faults.{from_stop}
 use Rattle.event_player.specs.Saying.{side}
 use Rattle.event_player.specs.Steps.{PlaysEvent, waiting_text}
 use Rattle.event_player.proofs.Saying.{by_sides, is_said}

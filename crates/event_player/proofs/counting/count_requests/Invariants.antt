@@ -1,6 +1,6 @@
 use Rattle.std.proofs.Common.{◌≡◌}
 use Rattle.event_player.specs.Playing.{counted, one_request}
-use Rattle.event_player.proofs.CountLaws.{lines_before}
+use Rattle.unit_attaching.proofs.LineLaws.{lines_before}
 use Rattle.event_player.proofs.counting.count_requests.Given as goal
 
 -- those of the lines before were counted

@@ -10,7 +10,7 @@ use Rattle.event_player.proofs.Draining.{drain_plays, drain_nothing}
 use Rattle.event_player.proofs.Rooms.{drain_brings, brings_both}
 use Rattle.event_player.proofs.Inputs.{plays_none}
 use Rattle.event_player.proofs.drains.drain.Goals as goal
-use Rattle.event_player.specs.declared.play.PlayFault.TheVariants as faults
+use Rattle.unit_attaching.specs.declared.fault.PlayFault.TheVariants as faults
 use Rattle.event_player.proofs.Halting.{err_is, idle_halts, first_halts, rest_halts}
 
 pub returns-in_default-clause-played : goal.returns-in_default-clause-played

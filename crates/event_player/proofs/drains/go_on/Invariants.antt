@@ -1,6 +1,6 @@
 use Rattle.std.proofs.Common.{◌≡◌, ◌≤◌, IsTrue}
 use Rattle.trace_replay.specs.Script.{Plays, Drain}
-use Rattle.event_player.specs.Faults.{HaveTold}
+use Rattle.unit_attaching.specs.Faults.{HaveTold}
 use Rattle.event_player.specs.Steps.{stage, Brings}
 use Rattle.event_player.specs.Calls.{MayGoOn}
 use Rattle.event_player.proofs.Draining.{Draining}

@@ -6,7 +6,7 @@ use Rattle.script_reader.specs.Meaning.{line_of, meaning_of}
 use Rattle.trace_replay.specs.Script.{IsScript}
 use Rattle.answer_lines.specs.declared.tally.Tally.{Tally}
 use Rattle.run_laws.specs.StopsPasses.{State}
-use Rattle.event_player.specs.declared.play.PlayFault.TheVariants as faults
+use Rattle.unit_attaching.specs.declared.fault.PlayFault.TheVariants as faults
 use Rattle.event_player.specs.Saying.{side}
 use Rattle.event_player.specs.Steps.{Stage, stage}
 use Rattle.event_player.proofs.Saying.{is_said, unsent_passes, all_sent}

@@ -1,6 +1,6 @@
 use Rattle.std.proofs.Common.{◌≡◌, ◌≤◌, false, take, IsTrue}
 use Rattle.script_reader.specs.Meaning.{meaning_of}
-use Rattle.event_player.specs.Faults.{HaveTold}
+use Rattle.unit_attaching.specs.Faults.{HaveTold}
 use Rattle.event_player.specs.Steps.{stage}
 use Rattle.event_player.proofs.Rooms.{ReadyBehind}
 use Rattle.event_player.proofs.Whole.{PlaysTo}

@@ -17,7 +17,7 @@ use Rattle.event_player.proofs.Inputs.{with_said, at_said}
 use Rattle.event_player.proofs.Saying.{is_said, said_passes, opened_said}
 use Rattle.event_player.proofs.Statements.{request_plays, request_brings, event_plays, event_line_brings, drain_line, drain_line_brings, read_says, write_says, noise_says, drain_says, renumbered}
 use Rattle.event_player.proofs.player.play_other.Goals as goal
-use Rattle.event_player.specs.declared.play.PlayFault.TheVariants as faults
+use Rattle.unit_attaching.specs.declared.fault.PlayFault.TheVariants as faults
 use Rattle.event_player.proofs.Halting.{if_err, err_is, event_halts, noise_halts, request_halts, drain_halts}
 
 pub returns-in-Read-clause-played : goal.returns-in-Read-clause-played

@@ -1,10 +1,10 @@
 use Rattle.std.proofs.Common.{refl, sym}
 use Rattle.cached_script.specs.Scripts.{IsRefused}
-use Rattle.cached_run.specs.Meaning.{meaning_of}
-use Rattle.hpsim_run.specs.Cached.{MeansCached}
-use Rattle.hpsim_run.proofs.PlayLaws.{told_of, told_from, refused_parts, refusal_is, err_is}
+use Rattle.cached_script.specs.Meaning.{meaning_of}
+use Rattle.script_commands.specs.Loading.{MeansCached}
+use Rattle.script_commands.proofs.PlayLaws.{told_of, told_from, refused_parts, refusal_is, err_is}
 use Rattle.hpsim_run.proofs.CachedRuns.{one_cached, cached_done, cached_sink, cached_store, cached_before, cached_leaves, cached_long, cached_plays, uncached}
-use Rattle.hpsim_run.proofs.ScriptRuns.{memory_apart, refused_apart, too_long_apart, unread_apart, script_memory, script_refused, script_too_long, script_unread}
+use Rattle.script_commands.proofs.ScriptRuns.{memory_apart, refused_apart, too_long_apart, unread_apart, script_memory, script_refused, script_too_long, script_unread}
 use Rattle.hpsim_run.proofs.cached.run_cached.Goals as goal
 
 pub returns-in-Err-Refused-clause-runs : goal.returns-in-Err-Refused-clause-runs

@@ -1,5 +1,5 @@
 use Rattle.std.proofs.Common.{rules, subst, sym}
-use Rattle.hpsim_run.specs.Statuses.{IsPlayCode}
+use Rattle.script_commands.specs.Scripts.{IsPlayCode}
 use Rattle.hpsim_run.proofs.command.run.Goals as goal
 
 pub returns-in-Some-Play-clause-statuses : goal.returns-in-Some-Play-clause-statuses

@@ -1,0 +1,7 @@
+pub mod LoadLaws
+mod PlayLaws
+pub mod SoFar
+mod Standing
+mod TheRunLaws
+mod PlayRuns
+pub mod ScriptRuns

@@ -1,0 +1,238 @@
+-- The laws of legal beginnings, of the moments that a script came to before it stopped.
+use Rattle.std.proofs.Common.{◌≡◌, ◌⊎◌, inl, inr, ℕ, ◌+◌, ◌==◌, ◌||◌, Bool, true, false, All, List, [], ◌∷◌, ◌++◌, Option, Some, None, refl, sym, ap, subst, arith, ◌∙◌, append-nil, append_assoc}
+use Rattle.std.specs.List.{list_any}
+use Rattle.std.proofs.lemmas.List.Elements.{All-head, All-tail}
+use Rattle.pack_geometry.specs.declared.DriveKind.{DriveKind}
+use Rattle.pack_geometry.specs.Pack.{Pack}
+use Rattle.pack_geometry.specs.PackTable.{AreTablesOf}
+use Rattle.pack_geometry.specs.TableSpelling.{Table}
+use Rattle.subsystem_spec.specs.Requests.{Request, Answer, IsRequest}
+use Rattle.trace_replay.specs.Script.{Script, Input, Submit, ArriveAt, MoveAt, AttendTo, Drain, Turn, Noise, Arm, SetOnline, SetLocked, Statement, Declares, Plays, Line, Numbered, with_input, inputs_before, drives_of, IsThere, IsInput, IsStatement, IsScript, AreApart}
+use Rattle.trace_replay.specs.Moments.{Moment, Played, Told, Idle, End, played}
+use Rattle.trace_replay.specs.Packs.{surface_of}
+use Rattle.trace_replay.specs.Replay.{Follows, after_moments}
+use Rattle.trace_replay.specs.Causes.{AsksSome, AskSome}
+use Rattle.trace_replay.specs.Runs.{start_of}
+use Rattle.trace_replay.proofs.Following.{follow_on}
+use Rattle.trace_replay.proofs.Explained.{are_explained}
+use Rattle.trace_laws.proofs.Commands.{ends_are_bounded}
+use Rattle.trace_laws.specs.LegalAnswers.{ids_asked, with_asked}
+use Rattle.trace_laws.specs.Stands.{AreGiven}
+use Rattle.trace_laws.proofs.MachineRuns.{each_beginning, script_ids}
+use Rattle.unit_attaching.specs.declared.fault.PlayFault.{PlayFault}
+use Rattle.unit_attaching.specs.declared.fault.PlayFault.TheVariants as faults
+use Rattle.driver_answers.specs.Outcome.{IsNextBlock}
+use Rattle.event_player.specs.Passes.{HasNext, NextBlocksShow}
+use Rattle.event_player.specs.Passes.{ShowsAll}
+use Rattle.event_player.specs.Passes.{writes_next}
+use Rattle.event_player.specs.Passes.{AreBehind, WritesAhead}
+use Rattle.event_player.specs.Passes.{CameTo, Took}
+use Rattle.event_player.proofs.Passes.{rules_hold, behind_more}
+use Rattle.event_player.specs.Stops.{StopsPlaying}
+use Rattle.trace_laws.specs.Beginnings.{IsBegun, BeginningsKeep, NextBlocksKeep, PromisesSoFar}
+use Rattle.script_commands.specs.SoFar.{KeepsSoFar, HoldSoFar, Holds, Keeps}
+use Rattle.script_commands.proofs.Standing.{FoundBehind, found_behind}
+
+-- THE INPUTS of a script are good, and so are the first of them.
+abbrev AllGood : (ℕ → Option DriveKind) → List Numbered → Type 0
+AllGood drives [] = Unit {0}
+AllGood drives (n ∷ ns) = IsInput drives n.input × AllGood drives ns
+
+with_good : (drives : ℕ → Option DriveKind) (number : ℕ) (statement : Statement) (inputs : List Numbered) → IsStatement drives statement → AllGood drives inputs
+    → AllGood drives (with_input number statement inputs)
+with_good drives number (Declares unit kind) inputs is all = all
+with_good drives number (Plays input) inputs is all = (is, all)
+
+lines_good : (drives : ℕ → Option DriveKind) (last : List Numbered) (lines : List Line) → All (λ (line : Line). IsStatement drives line.statement) lines → AllGood drives last
+    → AllGood drives (inputs_before last lines)
+lines_good drives last [] is all = all
+lines_good drives last (line ∷ lines) is all =
+    with_good drives line.number line.statement (inputs_before last lines) (All-head (λ (l : Line). IsStatement drives l.statement) line lines is)
+    (lines_good drives last lines (All-tail (λ (l : Line). IsStatement drives l.statement) line lines is) all)
+
+good_front : (drives : ℕ → Option DriveKind) (ns more : List Numbered) → AllGood drives (ns ++ more) → AllGood drives ns
+good_front drives [] more all = tt
+good_front drives (n ∷ ns) more all = (all.0, good_front drives ns more all.1)
+
+moments_good : (drives : ℕ → Option DriveKind) (ms : List Moment) → AllGood drives (played ms) → AreGiven drives ms
+moments_good drives [] all = tt
+moments_good drives (Played line input ∷ ms) all = (all.0, moments_good drives ms all.1)
+moments_good drives (Told line unit id deed ∷ ms) all = (tt, moments_good drives ms all)
+moments_good drives (Idle line ∷ ms) all = (tt, moments_good drives ms all)
+
+there_asks : (drive : Option DriveKind) (r : Request) → IsThere drive (λ kind. IsRequest r) → AsksSome (Submit r)
+there_asks None r is = absurd is
+there_asks (Some kind) r is = is.some
+
+input_asks : (drives : ℕ → Option DriveKind) (input : Input) → IsInput drives input → AsksSome input
+input_asks drives (Submit r) is = there_asks (drives r.unit) r is
+input_asks drives (ArriveAt u) is = tt
+input_asks drives (MoveAt a) is = tt
+input_asks drives (AttendTo a) is = tt
+input_asks drives Drain is = tt
+input_asks drives (Turn u y) is = tt
+input_asks drives (Noise n) is = tt
+input_asks drives (Arm u k n) is = tt
+input_asks drives (SetOnline u on) is = tt
+input_asks drives (SetLocked u on) is = tt
+
+moments_ask : (drives : ℕ → Option DriveKind) (ms ns : List Moment) → AllGood drives (played (ms ++ ns)) → AskSome ms
+moments_ask drives [] ns all = tt
+moments_ask drives (Played line input ∷ ms) ns all = (input_asks drives input all.0, moments_ask drives ms ns all.1)
+moments_ask drives (Told line unit id deed ∷ ms) ns all = moments_ask drives ms ns all
+moments_ask drives (Idle line ∷ ms) ns all = moments_ask drives ms ns all
+
+-- THE IDS of the first inputs are apart.
+or_front : (b c d : Bool) → (c ≡ false → d ≡ false) → b || c ≡ false → b || d ≡ false
+or_front true c d later none = none
+or_front false c d later none = later none
+
+any_front : (test : ℕ → Bool) (xs more : List ℕ) → list_any test (xs ++ more) ≡ false → list_any test xs ≡ false
+any_front test [] more none = refl
+any_front test (x ∷ xs) more none = or_front (test x) (list_any test (xs ++ more)) (list_any test xs) (any_front test xs more) none
+
+apart_front : (ids more : List ℕ) → AreApart (ids ++ more) → AreApart ids
+apart_front [] more apart = tt
+apart_front (id ∷ ids) more apart = (any_front (λ other. other == id) ids more apart.0, apart_front ids more apart.1)
+
+asked_more : (input : Input) (ids more all : List ℕ) → all ≡ ids ++ more → with_asked input all ≡ with_asked input ids ++ more
+asked_more (Submit r) ids more all is = ap (λ (xs : List ℕ). r.id ∷ xs) is
+asked_more (ArriveAt u) ids more all is = is
+asked_more (MoveAt a) ids more all is = is
+asked_more (AttendTo a) ids more all is = is
+asked_more Drain ids more all is = is
+asked_more (Turn u y) ids more all is = is
+asked_more (Noise n) ids more all is = is
+asked_more (Arm u k n) ids more all is = is
+asked_more (SetOnline u on) ids more all is = is
+asked_more (SetLocked u on) ids more all is = is
+
+ids_append : (ns more : List Numbered) → ids_asked (ns ++ more) ≡ ids_asked ns ++ ids_asked more
+ids_append [] more = refl
+ids_append (n ∷ ns) more = asked_more n.input (ids_asked ns) (ids_asked more) (ids_asked (ns ++ more)) (ids_append ns more)
+
+-- THE MOMENTS that a script came to
+module _ (script : Script) (good : IsScript script) (tables : ℕ → Option Table) (first : ℕ → Pack) (read : AreTablesOf (drives_of script) first tables)
+    (done under : List Moment) (later : List Numbered) (came : CameTo script tables first done under later) where
+  all_good : AllGood (drives_of script) (played (done ++ under))
+  all_good =
+      good_front (drives_of script) (played (done ++ under)) later
+      (subst (AllGood (drives_of script)) came.inputs (lines_good (drives_of script) (record { line = script.count + 1; input = Drain } ∷ []) script.lines good.inputs (tt, tt)))
+
+  apart : AreApart (ids_asked (played (done ++ under)))
+  apart =
+      apart_front (ids_asked (played (done ++ under))) (ids_asked later)
+      (subst AreApart (sym (script_ids script) ∙ ap ids_asked came.inputs ∙ ids_append (played (done ++ under)) later) good.ids)
+
+  module _ (line unit id : ℕ) (answer : Answer) (before after : List Moment) (is : done ++ under ≡ before ++ Told line unit id (End answer) ∷ after) where
+    front : Follows (start_of script tables first) (before ++ Told line unit id (End answer) ∷ [])
+    front =
+        let parts : Follows (start_of script tables first) before × Follows (after_moments (start_of script tables first) before) (Told line unit id (End answer) ∷ after) =
+        (follow_on (start_of script tables first) before (Told line unit id (End answer) ∷ after)).0 (subst (Follows (start_of script tables first)) is came.follows) in
+        (follow_on (start_of script tables first) before (Told line unit id (End answer) ∷ [])).1 (parts.0, (parts.1.0, tt))
+
+    asks : AskSome before
+    asks = moments_ask (drives_of script) before (Told line unit id (End answer) ∷ after) (subst (λ (ms : List Moment). AllGood (drives_of script) (played ms)) is all_good)
+
+  pub keeps_so_far : KeepsSoFar script tables first (done ++ under)
+  keeps_so_far = record {
+    legal = each_beginning (record { drives = drives_of script; tables = tables; packs = first }) (done ++ under) read (moments_good (drives_of script) (done ++ under) all_good) apart came.follows;
+    explained = λ line unit id answer before after is kept.
+        are_explained (drives_of script) tables (surface_of first) before line unit id answer (asks line unit id answer before after is) (front line unit id answer before after is) kept;
+    commands = λ line unit id answer before after is kept.
+        (ends_are_bounded (drives_of script) tables (surface_of first) before line unit id answer (asks line unit id answer before after is) (front line unit id answer before after is) kept).0;
+  }
+
+-- WITH THE PACKS behind them
+module _ (keep : BeginningsKeep) (script : Script) (good : IsScript script) (tables : ℕ → Option Table) (first left : ℕ → Pack)
+    (read : AreTablesOf (drives_of script) first tables) (done under : List Moment) (later : List Numbered) (came : CameTo script tables first done under later)
+    (sent late : List Moment) (same : sent ++ late ≡ done ++ under) where
+  begun : IsBegun script tables first (sent ++ late)
+  begun = subst (IsBegun script tables first) (sym same) (record { good = good; later = later; inputs = came.inputs; tables_read = read; follows = came.follows })
+
+  hold_so_far : WritesAhead script tables first left sent late → HoldSoFar script tables first left sent late
+  hold_so_far ahead = record {
+    move = ahead.move;
+    quiet = ahead.quiet;
+    cut = ahead.cut;
+    one = ahead.one;
+    each = rules_hold keep script tables first left sent late begun ahead;
+  }
+
+holds : (script : Script) (tables : ℕ → Option Table) (first left : ℕ → Pack) (out : Took) (sent late : List Moment) → HoldSoFar script tables first left sent late → Holds script tables first left out sent late
+holds script tables first left out sent late hold =
+    let f : FoundBehind out.before out.after sent hold.move hold.quiet = found_behind out.before out.after sent hold.move hold.quiet hold.one.silent in
+    record {
+      so_far = hold;
+      taken = record {
+        front = hold.move ++ f.front;
+        rest = f.rest;
+        cut = hold.cut ∙ ap (λ (ms : List Moment). hold.move ++ ms) f.cut ∙ sym (append_assoc hold.move f.front f.rest);
+        stand = f.stand;
+        hold = hold.each f.front f.rest f.cut;
+      };
+    }
+
+-- the packs behind all of them
+all_behind : (script : Script) (tables : ℕ → Option Table) (first left : ℕ → Pack) (sent late : List Moment) → WritesAhead script tables first left sent late → AreBehind script tables first left (sent ++ late)
+all_behind script tables first left sent late ahead =
+    subst (AreBehind script tables first left) (append_assoc sent ahead.move ahead.quiet ∙ ap (λ (ms : List Moment). sent ++ ms) (sym ahead.cut))
+    (behind_more script tables first left (sent ++ ahead.move) ahead.quiet ahead.packs ahead.nothing)
+
+-- where nothing is late
+hold_none : (script : Script) (tables : ℕ → Option Table) (first left : ℕ → Pack) (sent late : List Moment) → late ≡ [] → PromisesSoFar script tables first left (sent ++ late)
+    → HoldSoFar script tables first left sent late
+hold_none script tables first left sent late none promises = record {
+  move = [];
+  quiet = [];
+  cut = none;
+  one = record { few = omega arith; silent = refl };
+  each = each;
+}
+  where
+    each : (front rest : List Moment) → [] ≡ front ++ rest → PromisesSoFar script tables first left (sent ++ ([] ++ front))
+    each [] rest cut = subst (λ (ms : List Moment). PromisesSoFar script tables first left (sent ++ ms)) none promises
+    each (m ∷ front) rest cut = absurd (cc cut)
+
+-- THE PACKS FAILED: with the block that may be new, and without it
+module _ (keep : BeginningsKeep) (next : NextBlocksKeep) (shows : NextBlocksShow) (script : Script) (good : IsScript script) (first left : ℕ → Pack) (out trace : Took)
+    (is : StopsPlaying faults.Store script first left out trace) where
+  same_moments : is.stopped.sent ++ is.stopped.late ≡ is.stopped.done ++ []
+  same_moments = is.stopped.same ∙ sym (append-nil is.stopped.done)
+
+  without : HoldSoFar script is.tables first is.stopped.held is.stopped.sent is.stopped.late
+  without = hold_so_far keep script good is.tables first is.stopped.held is.read is.stopped.done [] is.stopped.later is.stopped.came is.stopped.sent is.stopped.late same_moments is.stopped.ahead
+
+  begun_so : IsBegun script is.tables first (is.stopped.sent ++ is.stopped.late)
+  begun_so = begun keep script good is.tables first left is.read is.stopped.done [] is.stopped.later is.stopped.came is.stopped.sent is.stopped.late same_moments
+
+  shown : ShowsAll is.stopped.world (after_moments (start_of script is.tables first) (is.stopped.sent ++ is.stopped.late))
+  shown = subst (λ (ms : List Moment). ShowsAll is.stopped.world (after_moments (start_of script is.tables first) ms)) (sym is.stopped.same) is.stopped.shows
+
+  left_holds : HoldSoFar script is.tables first left is.stopped.sent is.stopped.late
+  left_holds = by is.stopped.packs
+    where
+      by : (left ≡ is.stopped.held) ⊎ ((writes_next is.stopped.world is.stopped.adapter ≡ true) × IsNextBlock is.stopped.world is.stopped.held left)
+          → HoldSoFar script is.tables first left is.stopped.sent is.stopped.late
+      by (inl same) = subst (λ (packs : ℕ → Pack). HoldSoFar script is.tables first packs is.stopped.sent is.stopped.late) (sym same) without
+      by (inr block) =
+          let has : HasNext (drives_of script) first left (after_moments (start_of script is.tables first) (is.stopped.sent ++ is.stopped.late)) =
+          shows (drives_of script) first is.stopped.held left (after_moments (start_of script is.tables first) (is.stopped.sent ++ is.stopped.late)) is.stopped.world is.stopped.sound shown
+          is.stopped.declared (all_behind script is.tables first is.stopped.held is.stopped.sent is.stopped.late is.stopped.ahead).surface block.1 in
+          hold_none script is.tables first left is.stopped.sent is.stopped.late (is.stopped.none_late block.0)
+          (next script is.tables first left (is.stopped.sent ++ is.stopped.late) has.unit has.block has.kind begun_so has.declared has.next has.packs)
+
+pub keeps : BeginningsKeep → NextBlocksKeep → NextBlocksShow → (fault : PlayFault) (script : Script) (first left : ℕ → Pack) (out trace : Took)
+    → IsScript script → Keeps fault script first left out trace
+keeps keep next shows faults.Memory script first left out trace good = tt
+keeps keep next shows (faults.TooLong u n) script first left out trace good = tt
+keeps keep next shows faults.Store script first left out trace good = λ is. (
+  keeps_so_far script good is.tables first is.read is.stopped.done [] is.stopped.later is.stopped.came,
+  holds script is.tables first is.stopped.held out is.stopped.sent is.stopped.late (without keep next shows script good first left out trace is),
+  holds script is.tables first left out is.stopped.sent is.stopped.late (left_holds keep next shows script good first left out trace is),
+)
+keeps keep next shows faults.Sink script first left out trace good = λ is. (
+  keeps_so_far script good is.tables first is.read is.stopped.done is.stopped.under is.stopped.later is.stopped.came,
+  holds script is.tables first left out is.stopped.sent is.stopped.late
+      (hold_so_far keep script good is.tables first left is.read is.stopped.done is.stopped.under is.stopped.later is.stopped.came is.stopped.sent is.stopped.late is.stopped.same is.stopped.ahead),
+)

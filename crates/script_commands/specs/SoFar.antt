@@ -1,0 +1,75 @@
+-- What is promised of a run that stopped, as far as it came.
+use Rattle.std.specs.Prelude.{◌≡◌, ℕ, ◌*◌, ◌≤◌, false, List, [], ◌∷◌, ◌++◌, Option}
+use Rattle.pack_geometry.specs.Pack.{Pack}
+use Rattle.pack_geometry.specs.TableSpelling.{Table}
+use Rattle.subsystem_spec.specs.Requests.{Answer}
+use Rattle.trace_replay.specs.Script.{Script, drives_of}
+use Rattle.trace_replay.specs.Moments.{Moment, Told, End}
+use Rattle.trace_replay.specs.Service.{in_hand}
+use Rattle.trace_replay.specs.Replay.{after_moments}
+use Rattle.trace_replay.specs.History.{is_refusal, lines_of}
+use Rattle.trace_replay.specs.Causes.{IsExplained}
+use Rattle.trace_replay.specs.Runs.{start_of}
+use Rattle.trace_laws.specs.Commands.{commands_in}
+use Rattle.driver_answers.specs.Outcome.{IsFront}
+use Rattle.answer_lines.specs.AnswerText.{out_text, answer_line}
+use Rattle.trace_laws.specs.Laws.{HasBegun}
+use Rattle.unit_attaching.specs.declared.fault.PlayFault.{PlayFault}
+use Rattle.unit_attaching.specs.declared.fault.PlayFault.TheVariants as faults
+use Rattle.event_player.specs.Passes.{SaysOneSector}
+use Rattle.event_player.specs.Passes.{Took}
+use Rattle.event_player.specs.Stops.{StopsPlaying}
+use Rattle.trace_laws.specs.Beginnings.{PromisesSoFar}
+
+-- OF THE MOMENTS SO FAR: their answers are those of the block machine to the lines that were played, and the replay behind them stands
+-- for its map; each answer has its cause; and a request took at most 300 commands for each of its blocks.
+pub record KeepsSoFar (script : Script) (tables : ℕ → Option Table) (first : ℕ → Pack) (moments : List Moment) : Type 0 where
+  pub legal : HasBegun (record { drives = drives_of script; tables = tables; packs = first }) moments
+  pub explained : (line unit id : ℕ) (answer : Answer) (before after : List Moment) → moments ≡ before ++ Told line unit id (End answer) ∷ after
+      → is_refusal answer ≡ false → IsExplained ((after_moments (start_of script tables first) before).units unit) (lines_of unit before) answer
+  pub commands : (line unit id : ℕ) (answer : Answer) (before after : List Moment) → moments ≡ before ++ Told line unit id (End answer) ∷ after
+      → is_refusal answer ≡ false → commands_in (lines_of unit before) ≤ 300 * (in_hand ((after_moments (start_of script tables first) before).units unit).service).count
+
+-- THE PACKS hold what the answered writes left, but for one request of each unit, wherever what came since text was last sent is cut behind
+-- the one move that may have written: so behind each of its answers, since that move says none.
+pub record HoldSoFar (script : Script) (tables : ℕ → Option Table) (first left : ℕ → Pack) (sent late : List Moment) : Type 0 where
+  pub move : List Moment
+  pub quiet : List Moment
+  pub cut : late ≡ move ++ quiet
+  pub one : SaysOneSector move
+  pub each : (front rest : List Moment) → quiet ≡ front ++ rest → PromisesSoFar script tables first left (sent ++ (move ++ front))
+
+-- the line of an answer stands whole in the text that was taken, behind what was said before it
+abbrev pub Stands : (said said' : List ℕ) (before : List Moment) (line id : ℕ) → Answer → Type 0
+Stands said said' before line id answer = IsFront (said ++ (out_text before ++ answer_line line id answer)) said'
+
+-- WHICH ANSWERS of what came since text was last sent STAND in it: those of the first moments, and no later one.
+pub record StandIn (said said' : List ℕ) (sent front rest : List Moment) : Type 0 where
+  pub each : (line unit id : ℕ) (answer : Answer) (before after : List Moment) → front ≡ before ++ Told line unit id (End answer) ∷ after
+      → Stands said said' (sent ++ before) line id answer
+  pub no_more : (line unit id : ℕ) (answer : Answer) (before after : List Moment) → rest ≡ before ++ Told line unit id (End answer) ∷ after
+      → Stands said said' (sent ++ (front ++ before)) line id answer → ⊥
+
+-- BEHIND THE ANSWERS THAT STAND in the text that was taken, the packs hold what the answered writes left.
+pub record HoldTaken (script : Script) (tables : ℕ → Option Table) (first left : ℕ → Pack) (said said' : List ℕ) (sent late : List Moment) : Type 0 where
+  pub front : List Moment
+  pub rest : List Moment
+  pub cut : late ≡ front ++ rest
+  pub stand : StandIn said said' sent front rest
+  pub hold : PromisesSoFar script tables first left (sent ++ front)
+
+-- OF THE PACKS AND WHAT STANDS, cut where text was last sent
+pub record Holds (script : Script) (tables : ℕ → Option Table) (first left : ℕ → Pack) (out : Took) (sent late : List Moment) : Type 0 where
+  pub so_far : HoldSoFar script tables first left sent late
+  pub taken : HoldTaken script tables first left out.before out.after sent late
+
+-- All this is promised of whatever came so far. Where the packs failed it is so of the packs that are left, with the one block that may be
+-- new, and of those without it.
+abbrev pub Keeps : (fault : PlayFault) (script : Script) (first left : ℕ → Pack) (out trace : Took) → Type 0
+Keeps faults.Store script first left out trace = (is : StopsPlaying faults.Store script first left out trace)
+    → KeepsSoFar script is.tables first (is.stopped.done ++ []) × Holds script is.tables first is.stopped.held out is.stopped.sent is.stopped.late
+    × Holds script is.tables first left out is.stopped.sent is.stopped.late
+Keeps faults.Sink script first left out trace = (is : StopsPlaying faults.Sink script first left out trace)
+    → KeepsSoFar script is.tables first (is.stopped.done ++ is.stopped.under) × Holds script is.tables first left out is.stopped.sent is.stopped.late
+Keeps faults.Memory script first left out trace = Unit {0}
+Keeps (faults.TooLong u n) script first left out trace = Unit {0}
