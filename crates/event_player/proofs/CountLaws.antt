@@ -12,6 +12,7 @@ use Rattle.script_reader.specs.Stored.{Kept, Stored, seen, lines_in}
 use Rattle.script_reader.specs.Meaning.{statement_of, line_of, meaning_of}
 use Rattle.script_reader.specs.Promises.{said_in}
 use Rattle.trace_replay.specs.Script.{Statement, Line}
+use Rattle.unit_attaching.proofs.LineLaws.{lines_before, lines_more, lines_parted}
 use Rattle.event_player.specs.Playing.{counted, one_request, one_noise}
 
 -- COUNTS of lines, and of more of them

@@ -48,7 +48,8 @@ use Rattle.event_player.proofs.Contexts.{line_stops, opening_stops, submission_s
 use Rattle.event_player.proofs.Ahead.{IsOpened, stays_opened, nothing_more, between_by, told_more}
 use Rattle.event_player.proofs.Wholes.{Whole, whole_run}
 use Rattle.event_player.proofs.Draining.{Draining, SoDrained, first_event_ahead}
-use Rattle.event_player.proofs.Going.{line_for, inputs_append, inputs_end, inputs_more, event_goes, drain_first}
+use Rattle.event_player.proofs.Going.{line_for, inputs_more, event_goes, drain_first}
+use Rattle.unit_attaching.proofs.LineLaws.{inputs_append, inputs_end}
 use Rattle.event_player.proofs.Inputs.{with_said}
 use Rattle.event_player.proofs.Statements.{may_event, of_run}
 use Rattle.event_player.proofs.Whole.{PlayedTo, PlaysTo, EndsAt, ends_at, new_is, starts_run}

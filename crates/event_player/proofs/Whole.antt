@@ -37,7 +37,8 @@ use Rattle.run_laws.specs.Steps.{AreUnits, tables_in, AreSetFor}
 use Rattle.event_player.specs.Plays.{Plays as IsPlayed, Tallied}
 use Rattle.event_player.specs.Playing.{HasRun, counted, one_request, one_noise}
 use Rattle.event_player.specs.Steps.{Stage, IsAhead, GoesOn, PlaysLine, PlaysDrain, Drains, EndsWith, PlaysScript, Ready, Brings, MayPlay, HasData}
-use Rattle.event_player.proofs.Going.{line_for, inputs_append}
+use Rattle.event_player.proofs.Going.{line_for}
+use Rattle.unit_attaching.proofs.LineLaws.{inputs_append}
 use Rattle.event_player.proofs.Ahead.{starts_ahead}
 use Rattle.event_player.proofs.Wholes.{whole_run}
 use Rattle.event_player.proofs.Rooms.{ReadyBehind, ready_next, may_play}
