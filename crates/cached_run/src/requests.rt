@@ -51,7 +51,7 @@ fn met(subsystem: &Subsystem, asked: &Asked) -> Admission
 }
 
 /// A block all of whose bytes are this one.
-#[tactic(auto, unfolding(crate::specs::Meaning::one_filled))]
+#[tactic(auto, unfolding(cached_script::specs::Meaning::one_filled))]
 fn filled_block(fill: u8) -> [u8; 512]
     ensures { result ≡ one_filled fill }
 {
