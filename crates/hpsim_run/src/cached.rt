@@ -10,7 +10,7 @@ use cached_run::{CachedPlayFault, play_cached};
 use command_parts::{Status, too_long};
 use outside_traits::traits::{Packs, Sink, Source};
 use outside_traits::whole::write_all;
-use script_commands::{LoadFault, load_cached};
+use script_commands::load::{LoadFault, load_cached};
 use script_lines::refusal;
 use std::alloc::Global;
 

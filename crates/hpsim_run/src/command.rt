@@ -20,7 +20,7 @@ use outside_traits::whole::write_all;
 use pack_commands::{
     Command, command_of, run_add, run_format, run_fresh, run_list, run_mark, usage,
 };
-use script_commands::run_play;
+use script_commands::play::run_play;
 use std::alloc::Global;
 
 /// Runs the command that the words name, and answers the code of its `Status`.

@@ -5,6 +5,7 @@ use Rattle.outside_traits.specs.Puts.{TakesFront}
 use Rattle.pack_geometry.specs.Pack.{Pack}
 use Rattle.script_lines.specs.declared.kinds.ScriptKind.{ScriptKind}
 use Rattle.trace_replay.specs.Script.{Script}
+use Rattle.answer_lines.specs.declared.tally.Tally.{Tally}
 use Rattle.unit_attaching.specs.declared.fault.PlayFault.{PlayFault}
 use Rattle.unit_attaching.specs.declared.fault.PlayFault.TheVariants as faults
 use Rattle.unit_attaching.specs.Faults.{IsPlaying, IsBefore, IsLongFor}
@@ -43,12 +44,12 @@ pub long_parts : (script : Script) (tells : Bool) (packs : ℕ → Pack) (fault 
 long_parts script tells packs fault unit length_is e is = subst (λ (f : PlayFault). IsLongFor script tells packs f) e is
 
 -- a sink that failed did so in playing
-pub sink_plays : (fault : PlayFault) → fault ≡ faults.Sink → IsPlaying (Err fault)
-sink_plays fault e = subst (λ (f : PlayFault). IsPlaying (Err f)) (sym e) tt
+pub sink_plays : (fault : PlayFault) → fault ≡ faults.Sink → IsPlaying {T = Tally} (Err fault)
+sink_plays fault e = subst (λ (f : PlayFault). IsPlaying {T = Tally} (Err f)) (sym e) tt
 
 -- nothing was played where an image is too long
-pub long_before : (fault : PlayFault) (unit length_is : ℕ) → fault ≡ faults.TooLong unit length_is → IsBefore (Err fault)
-long_before fault unit length_is e = subst (λ (f : PlayFault). IsBefore (Err f)) (sym e) tt
+pub long_before : (fault : PlayFault) (unit length_is : ℕ) → fault ≡ faults.TooLong unit length_is → IsBefore {T = Tally} (Err fault)
+long_before fault unit length_is e = subst (λ (f : PlayFault). IsBefore {T = Tally} (Err f)) (sym e) tt
 
 -- a text that was written to a sink as it was
 pub told_from : {O : Type 0} (taken : O → List ℕ) (count : O → ℕ) (old mid : O) (after text : List ℕ) (faults_after : ℕ) → mid ≡ old

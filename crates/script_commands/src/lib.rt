@@ -5,8 +5,5 @@
 //! exactly where the source's bytes spell a script of that grammar, and Refused names their first fault.
 #![tactic(auto)]
 
-mod load;
-mod play;
-
-pub use load::{LoadFault, load, load_cached};
-pub use play::run_play;
+pub mod load;
+pub mod play;
