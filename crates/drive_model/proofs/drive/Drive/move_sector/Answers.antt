@@ -1,20 +1,22 @@
-use Rattle.std.proofs.Common.{ℕ, refl, sym, ap, ◌∙◌, rules, arith}
+use Rattle.std.proofs.Common.{ℕ, refl, sym, ap, ◌∙◌, arith}
 use Rattle.std.proofs.lemmas.Result.{IfOk-from_err}
 use Rattle.pack_geometry.specs.Pack.{Pack, block_at}
+use Rattle.main_memory.specs.Windows.{window_len}
+use Rattle.hardware_table.specs.Drive.{DriveState}
 use Rattle.drive_model.proofs.FailLaws.{unchanged, goes_on, handed, handed_later, keeps, write_fails}
 use Rattle.drive_model.proofs.MoveLaws.{stopped_moves, stopped_window, marked_moves, write_moves, write_window, read_moves, read_window}
 use Rattle.drive_model.proofs.drive.Drive.move_sector.Goals as goal
 
 pub returns-in-Some-clause-moves : goal.returns-in-Some-clause-moves
-returns-in-Some-clause-moves g c = stopped_moves _ _ _ _ _ _ c.in-Some.verdict (sym c.stop.ensures ∙ c.in-Some.is)
+returns-in-Some-clause-moves g c = stopped_moves c.args.unit c.args.block c.args.self.now (window_len c.args.window.now) (g.P.Packs.tells c.args.packs.now) _ c.in-Some.verdict (sym c.stop.ensures ∙ c.in-Some.is)
 
 pub returns-clause-moves : goal.returns-clause-moves
 returns-clause-moves g c =
     let marked = c.in_ok-marked.ensures in
     let read = c.in_ok-read.ensures in
     rw (← c.book.view_is)
-    (read_moves _ _ c.bits-of.result _ _ _ _ _ _ c.read.new.into c.read_through-moved.new.bytes
-    (search rules) (sym c.stop.ensures ∙ c.in_default.is) (sym c.is_writing.ensures ∙ c.if-is_writing.false)
+    (read_moves c.args.unit c.args.block c.bits-of.result c.args.self.now (window_len c.args.window.now) (g.P.Packs.tells c.read.new.self) _ _ c.read_through-moved.result c.read.new.into c.read_through-moved.new.bytes
+    (c.bits-of.ensures tt ∙ ap (λ (d : DriveState). d.offset) c.self.view_is) (sym c.stop.ensures ∙ c.in_default.is) (sym c.is_writing.ensures ∙ c.if-is_writing.false)
     (λ t. sym c.if-branch.false ∙ marked.mark (read.never_again t)) c.read_through-moved.ensures.verdict c.read_through-moved.ensures.book c.read_through-moved.ensures.bytes
     (λ t. read.block t ∙ ap (λ (h : ℕ → Pack). block_at (h c.args.unit).image c.args.block) (marked.same (read.never_again t)))
     c.copy_in.ensures.bytes (λ t. read.same t ∙ marked.same (read.never_again t)))
@@ -22,13 +24,13 @@ returns-clause-moves g c =
 pub returns-then-branch-clause-moves : goal.returns-then-branch-clause-moves
 returns-then-branch-clause-moves g c =
     let mark = c.in_ok-marked.ensures.mark in
-    marked_moves _ _ _ _ _ _ _ (sym c.stop.ensures ∙ c.in_default.is) (λ t. sym c.if-branch.true ∙ mark t) refl refl c.in_ok-marked.ensures.same
+    marked_moves c.args.unit c.args.block c.args.self.now (window_len c.args.window.now) (g.P.Packs.tells c.marked.new.self) _ _ (sym c.stop.ensures ∙ c.in_default.is) (λ t. sym c.if-branch.true ∙ mark t) refl refl c.in_ok-marked.ensures.same
 
 pub returns-then-is_writing-clause-moves : goal.returns-then-is_writing-clause-moves
 returns-then-is_writing-clause-moves g c =
     let marked = c.in_ok-marked.ensures in
     let write = c.in_ok-write.ensures in
-    write_moves _ _ _ _ _ _ _ (sym c.stop.ensures ∙ c.in_default.is) (sym c.is_writing.ensures ∙ c.if-is_writing.true) (λ t. sym c.if-branch.false ∙ marked.mark (write.never_again t))
+    write_moves c.args.unit c.args.block c.args.self.now (window_len c.args.window.now) (g.P.Packs.tells c.write.new.self) _ _ (sym c.stop.ensures ∙ c.in_default.is) (sym c.is_writing.ensures ∙ c.if-is_writing.true) (λ t. sym c.if-branch.false ∙ marked.mark (write.never_again t))
     c.book.view_is refl (λ t. cc (write.ok t, marked.same (write.never_again t), c.copy_out.ensures.bytes, c.copy_out.ensures.whole))
 
 pub returns-in_err-marked-clause-moves : goal.returns-in_err-marked-clause-moves
