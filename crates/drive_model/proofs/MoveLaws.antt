@@ -1,13 +1,15 @@
 -- What a move leaves, from what the drive, the book and the packs said.
-use Rattle.std.proofs.Common.{◌≡◌, ℕ, Bool, true, false, not, ◌&&◌, IsTrue, if◌then◌else◌, List, Option, None, Some, option_map, refl, ap, ◌∙◌, subst}
+use Rattle.std.proofs.Common.{◌≡◌, ℕ, Bool, true, false, not, ◌&&◌, IsTrue, MatchBool, if◌then◌else◌, List, Option, None, Some, option_map, refl, sym, ap, ◌∙◌, subst}
 use Rattle.pack_geometry.specs.Pack.{Pack, block_at, is_marked, with_written}
 use Rattle.main_memory.specs.Bytes.{front, filled}
+use Rattle.main_memory.specs.declared.window.Window.{Window}
+use Rattle.main_memory.specs.Windows.{Writes, window_bytes}
 use Rattle.hardware_table.specs.declared.FaultKind.{FaultKind}
 use Rattle.hardware_table.specs.declared.Moved.{Moved}
 use Rattle.hardware_table.specs.declared.Moved.TheVariants.{Clean, Burst, Hard, Marked, Faulted, Offline}
 use Rattle.hardware_table.specs.Drive.{DriveState, is_writing}
 use Rattle.hardware_table.specs.Noise.{Book, strikes, book_struck}
-use Rattle.hardware_table.specs.Moves.{stop_of, first_armed, has_bytes, IsVerdict, IsReadVerdict, IsReadAs}
+use Rattle.hardware_table.specs.Moves.{stop_of, first_armed, has_bytes, was_read, IsVerdict, IsReadVerdict, IsReadAs}
 use Rattle.drive_model.specs.Move.{Site, MovesSector, struck_at}
 
 -- a drive that is stopped moves no bytes
@@ -111,6 +113,34 @@ read_moves unit block word d size told old new verdict sector bytes is_word goes
 
     something : (a b : Bool) → a ≡ true → b ≡ false → (a && not b) ≡ false → ⊥
     something a b e f g = cc
+
+-- the window of a sector that was not read, and of one that was
+pub stopped_window : (d : DriveState) → (verdict : Moved) → (window : Window) → stop_of d ≡ Some verdict
+    → MatchBool (was_read d verdict) (Writes window window (window_bytes window)) (window ≡ window)
+stopped_window d verdict window e = unread_window (has_bytes verdict) (not (is_writing d.work)) (no_bytes d verdict e)
+  where
+    unread_window : (a b : Bool) → a ≡ false → MatchBool (a && b) (Writes window window (window_bytes window)) (window ≡ window)
+    unread_window false b e = refl
+    unread_window true b e = absurd (no (sym e))
+
+pub write_window : (d : DriveState) → (window : Window) → is_writing d.work ≡ true
+    → MatchBool (was_read d Clean) (Writes window window (window_bytes window)) (window ≡ window)
+write_window d window writes = by_write (is_writing d.work) writes
+  where
+    by_write : (b : Bool) → b ≡ true → MatchBool (not b) (Writes window window (window_bytes window)) (window ≡ window)
+    by_write true e = refl
+    by_write false e = absurd (no e)
+
+pub read_window : (d : DriveState) → (places : Option (List ℕ)) → (verdict : Moved) → (old new : Window) → (bytes : List ℕ)
+    → is_writing d.work ≡ false → IsReadVerdict places verdict → window_bytes new ≡ bytes → Writes old new bytes
+    → MatchBool (was_read d verdict) (Writes old new (window_bytes new)) (new ≡ old)
+read_window d places verdict old new bytes reads judged shown writes =
+    by_read (has_bytes verdict) (is_writing d.work) (read_bytes places verdict judged) reads (rw shown writes)
+  where
+    by_read : (a b : Bool) → a ≡ true → b ≡ false → Writes old new (window_bytes new) → MatchBool (a && not b) (Writes old new (window_bytes new)) (new ≡ old)
+    by_read true false e f written = written
+    by_read true true e f written = absurd (no (sym f))
+    by_read false b e f written = absurd (no e)
 
 -- a move through a window whose size and bytes have other names
 pub moves_as : {unit block : ℕ} {d : DriveState} {told : Bool} {book book' : Book} {held held' : ℕ → Pack} {size size' : ℕ} {before before' after after' : List ℕ} {verdict : Moved}

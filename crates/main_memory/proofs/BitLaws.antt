@@ -1,8 +1,9 @@
 -- Laws of the words in which free frames are bits.
 use Rattle.std.proofs.Common.{◌≡◌, ◌≢◌, ℕ, ◌+◌, ◌*◌, ◌/◌, ◌%◌, ◌<◌, ◌==◌, true, false, List, [], ◌∷◌, length, get_or, refl, sym, ap, ◌∙◌, arith, get_or-set_same, get_or-set_other}
-use Rattle.std.proofs.Math.ListN.{set}
+use Rattle.std.proofs.Math.ListN.{set, replicate}
 use Rattle.std.proofs.lemmas.Bool.{eqb-true, eqb-false}
-use Rattle.std.proofs.lemmas.Nat.Bits.{bit_at-zero}
+use Rattle.std.proofs.lemmas.List.{get_or-replicate}
+use Rattle.std.proofs.lemmas.Nat.Bits.{bit_at-zero, bit_at_ones}
 use Rattle.std.specs.Int.{bit_at}
 use Rattle.main_memory.specs.Frames.{is_free, free_frames, all_frames, with_frame}
 use Rattle.main_memory.proofs.FrameLaws.{by_test, kept-agree, kept-none, kept-lowest, kept-insert, length-kept_all}
@@ -93,3 +94,10 @@ free-all words ones = kept-agree (is_free words) (λ _. true) 0 16384 (λ k low 
 pub length-all_frames : length all_frames ≡ 16384
 unfolding all_frames
 length-all_frames = length-kept_all 0 16384
+
+-- each word all ones
+pub free-ones : (words : List ℕ) → words ≡ replicate 256 18446744073709551615 → free_frames words ≡ all_frames
+free-ones words is = free-all words (λ k j inside small. ap (λ ws. bit_at (get_or ws k 0) j) is ∙ one 256 k j inside small)
+  where
+    one : (n k j : ℕ) → k < n → j < 64 → bit_at (get_or (replicate n 18446744073709551615) k 0) j ≡ 1
+    one n k j inside small = ap (λ w. bit_at w j) (get_or-replicate n k 18446744073709551615 0 inside) ∙ bit_at_ones 64 j small

@@ -1,15 +1,8 @@
 // Free frames as bits: bit i of word j is on where frame 64 * j + i is free.
 ghost use Rattle.std.specs.Prelude.{◌≡◌, ◌<◌, ◌≤◌, ◌/◌, ◌∷◌, ℕ, length, take, drop, slice_index};
-ghost use Rattle.main_memory.specs.Frames.{free_frames, all_frames, with_frame, with_frames};
+ghost use Rattle.main_memory.specs.Frames.{free_frames, with_frame, with_frames};
 
 use arrayvec::ArrayVec;
-
-// Every frame free.
-pub(crate) fn all_free() -> [u64; 256]
-    ensures { free_frames result ≡ all_frames }
-{
-    [u64::MAX; 256]
-}
 
 // Takes the lowest free frame. The words before `from` have none.
 pub(crate) fn take_lowest(words: &mut [u64; 256], from: usize) -> u16

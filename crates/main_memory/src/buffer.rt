@@ -1,5 +1,5 @@
 // Buffers: frames that memory lent, as moved values.
-ghost use Rattle.std.specs.Prelude.{◌≡◌, ◌<◌};
+ghost use Rattle.std.specs.Prelude.{◌≡◌, ◌<◌, slice_index};
 ghost use Rattle.main_memory.specs.Blocks.{IsLoan, size_at, span_of};
 
 use crate::span::Span;
@@ -90,17 +90,21 @@ impl<S> Buffer<S> {
         ensures span { result ≡ span_of self.now k }
         ensures shape { IsLoan self.now }
     {
-        let len = self.size_at(k) as usize;
         let frames = self.frames.as_slice();
-        let k = k as usize;
-        let next = frames.get(k + 1).copied().unwrap_or(0);
         Span {
-            frame: usize::from(frames[k]),
-            next: usize::from(next),
+            frame: frame_at(frames, k),
+            next: frame_at(frames, k + 1),
             offset: self.offset as usize,
-            len,
+            len: self.size_at(k) as usize,
         }
     }
+}
+
+// A frame by its place, and 0 behind the last.
+fn frame_at(frames: &[u16], place: u32) -> usize
+    ensures { result ≡ slice_index frames.now place }
+{
+    usize::from(frames.get(place as usize).copied().unwrap_or(0))
 }
 
 /// Hands a buffer to an adapter.

@@ -5,7 +5,7 @@ ghost use Rattle.main_memory.specs.Bytes.{front, filled, IsFill};
 ghost use Rattle.main_memory.specs.Blocks.{Loan, IsShape, IsLoan, IsSpan, size_at, span_of, bytes_in};
 ghost use Rattle.main_memory.specs.Memory.{IsMemory, IsLent, AreApart, with_block, with_span, blocks_of};
 
-use crate::bits::{all_free, give_frames, take_frames};
+use crate::bits::{give_frames, take_frames};
 use crate::buffer::{Buffer, Cpu, frames_of};
 use crate::frames::Frames;
 use crate::span::{Span, fill_span, read_filled, write_front};
@@ -55,7 +55,7 @@ impl MainMemory {
         let bytes = Frames::new(alloc)?;
         Ok(MainMemory {
             bytes,
-            free_words: all_free(),
+            free_words: [u64::MAX; 256],
             free: FRAMES,
         })
     }

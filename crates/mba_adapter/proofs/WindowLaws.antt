@@ -12,10 +12,10 @@ use Rattle.hardware_table.specs.Moves.{after_move}
 use Rattle.hardware_table.specs.Adapter.{AdapterState, next_block, stepped, drive_stepped}
 
 -- the same frames are free
-pub kept_free : (was_read : Bool) → (old new : Window) → (block : List ℕ) → MatchBool was_read (Writes old new block) (new ≡ old)
-    → (memory_of new).free ≡ (memory_of old).free
-kept_free true old new block h = ap (λ (m : Memory). m.free) h.memory
-kept_free false old new block h = ap (λ (w : Window). (memory_of w).free) h
+pub free_after : (was_read : Bool) (loan : Loan) (k : ℕ) (block : List ℕ) (memory memory' : Memory)
+    → memory' ≡ (if was_read then with_block loan k block memory else memory) → memory'.free ≡ memory.free
+free_after true loan k block memory memory' after = ap (λ (m : Memory). m.free) after
+free_after false loan k block memory memory' after = ap (λ (m : Memory). m.free) after
 
 -- the window is on the same block
 pub same_span : (was_read : Bool) (old new : Window) (block : List ℕ) → MatchBool was_read (Writes old new block) (new ≡ old) → new.span ≡ old.span

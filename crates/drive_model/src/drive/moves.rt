@@ -1,11 +1,13 @@
 // The move of one sector between the pack and the memory.
 ghost use Rattle.std.specs.Prelude.{◌≡◌, ◌<◌, ◌+◌, ◌%◌, ℕ, List, true, MatchBool, IfOk, IsOk, OnErr, Some, IsSome, bit_or};
-ghost use Rattle.pack_geometry.specs.Geometry.{block_count, sectors_of};
+ghost use Rattle.pack_geometry.specs.Geometry.{block_count, sectors_of, place_at, track_and_sector};
+ghost use Rattle.hardware_table.specs.Events.{look_ahead};
 ghost use Rattle.hardware_table.specs.Drive.{is_transferring, is_writing};
 ghost use Rattle.main_memory.specs.Windows.{memory_name, window_len, window_bytes, Writes};
 ghost use Rattle.hardware_table.specs.Functions.{refused};
 ghost use Rattle.hardware_table.specs.Noise.{strikes, book_struck};
-ghost use Rattle.hardware_table.specs.Moves.{stop_of, first_armed, IsReadVerdict, was_read, IsReadAs, passed, fault_used, with_fault_bits, with_mark_bits, after_move};
+ghost use Rattle.hardware_table.specs.Moves.{stop_of, IsReadVerdict, was_read, IsReadAs, passed, fault_used, with_fault_bits, with_mark_bits, after_move};
+ghost use Rattle.hardware_table.specs.declared.Moved.TheVariants.{Burst, Hard};
 ghost use Rattle.drive_model.specs.Move.{MovesSector, FailsAtPacks};
 ghost use Rattle.fire_code.specs.Remainder.{remainder};
 ghost use Rattle.fire_code.specs.Verdict.{Judges};
@@ -16,30 +18,11 @@ use crate::live::Live;
 use bitflags::Flags;
 use drive_registers::{Er1, Er2};
 use fire_code::{Check, Verdict, apply, data_law, judge_noise};
-use hardware_table::{Armed, FaultKind, Moved, Work};
+use hardware_table::{FaultKind, Moved, Work};
 use main_memory::Window;
 use outside_traits::traits::{Packs, StoreFailed};
 use pack_geometry::{DriveKind, blocks, geometry_of, place_of, sector_word};
 use sector_format::{HeaderFault, header_fault, header_of};
-
-// The first armed fault, in the order in which faults strike.
-fn first_armed(armed: Armed) -> Option<FaultKind>
-    ensures { result ≡ first_armed armed }
-{
-    if armed.seek > 0 {
-        Some(FaultKind::Seek)
-    } else if armed.opi > 0 {
-        Some(FaultKind::Opi)
-    } else if armed.dte > 0 {
-        Some(FaultKind::Dte)
-    } else if armed.hcrc > 0 {
-        Some(FaultKind::Hcrc)
-    } else if armed.late > 0 {
-        Some(FaultKind::Late)
-    } else {
-        None
-    }
-}
 
 // The verdict on a read that noise has struck.
 fn moved_by(verdict: Verdict) -> Moved
@@ -69,27 +52,51 @@ fn read_through(live: &mut Live, unit: u8, block: u32, of: u16, bytes: &mut [u8;
     }
 }
 
-// The sector of a track that comes under the heads behind one of it.
-fn next_sector(kind: DriveKind, sector: u32) -> u32
-    requires { sector < sectors_of kind }
-    ensures { result ≡ (sector + 1) % sectors_of kind }
+// Where the heads stand behind a block: on its cylinder, with the look-ahead of the sector that comes next.
+fn heads_behind(kind: DriveKind, block: u32) -> (u16, u16)
+    requires { block < block_count kind }
+    ensures cylinder { result.0 ≡ (place_at kind block).cylinder }
+    ensures ahead { result.1 ≡ look_ahead (((place_at kind block).sector + 1) % sectors_of kind) }
 {
-    if sector + 1 < geometry_of(kind).sectors {
-        sector + 1
-    } else {
-        0
-    }
+    let place = place_of(kind, block);
+    let next = (place.sector + 1) % geometry_of(kind).sectors;
+    (place.cylinder as u16, next as u16 * 64)
+}
+
+// The address of a block: its cylinder, and the word of its track and sector.
+fn address_of(kind: DriveKind, block: u32) -> (u16, u16)
+    requires { block < block_count kind }
+    ensures cylinder { result.0 ≡ (place_at kind block).cylinder }
+    ensures word { result.1 ≡ track_and_sector (place_at kind block) }
+{
+    let place = place_of(kind, block);
+    (place.cylinder as u16, sector_word(place))
 }
 
 impl Drive {
-    // The verdict of a drive that is offline, or on which a fault is armed.
+    // The verdict of a drive that is offline, or on which a fault is armed: the first, in the order in which faults
+    // strike.
     fn stop(&self) -> Option<Moved>
         ensures { result ≡ stop_of self.now }
     {
         if !self.online {
             return Some(Moved::Offline);
         }
-        first_armed(self.armed).map(Moved::Faulted)
+        let armed = self.armed;
+        let kind = if armed.seek > 0 {
+            FaultKind::Seek
+        } else if armed.opi > 0 {
+            FaultKind::Opi
+        } else if armed.dte > 0 {
+            FaultKind::Dte
+        } else if armed.hcrc > 0 {
+            FaultKind::Hcrc
+        } else if armed.late > 0 {
+            FaultKind::Late
+        } else {
+            return None;
+        };
+        Some(Moved::Faulted(kind))
     }
 
     // The heads have passed a block.
@@ -97,14 +104,31 @@ impl Drive {
         requires { block < block_count self.old.kind }
         ensures { self.new ≡ passed block self.old }
     {
-        let place = place_of(self.kind, block);
-        self.cc = place.cylinder as u16;
-        self.la = (next_sector(self.kind, place.sector) * 64) as u16;
-        if block + 1 < blocks(self.kind) {
-            let next = place_of(self.kind, block + 1);
-            self.dc = next.cylinder as u16;
-            self.da = sector_word(next);
+        let kind = self.kind;
+        (self.cc, self.la) = heads_behind(kind, block);
+        if block + 1 < blocks(kind) {
+            (self.dc, self.da) = address_of(kind, block + 1);
         }
+    }
+
+    // The heads have passed a block with an error that the code corrects.
+    fn pass_burst(&mut self, block: u32, at: u16, pattern: u16)
+        requires { block < block_count self.old.kind }
+        ensures { self.new ≡ after_move (Burst at pattern) block self.old }
+    {
+        self.pass(block);
+        self.raise(Er1::DCK.bits());
+        self.ec1 = at;
+        self.ec2 = pattern;
+    }
+
+    // The heads have passed a block with an error that the code does not correct.
+    fn pass_hard(&mut self, block: u32)
+        requires { block < block_count self.old.kind }
+        ensures { self.new ≡ after_move Hard block self.old }
+    {
+        self.pass(block);
+        self.raise(Er1::DCK.bits() | Er1::ECH.bits());
     }
 
     // A fault strikes: it is used once, and its error bit goes on, but for data late.
@@ -153,16 +177,8 @@ impl Drive {
     {
         match verdict {
             Moved::Clean => self.pass(block),
-            Moved::Burst { at, pattern } => {
-                self.pass(block);
-                self.raise(Er1::DCK.bits());
-                self.ec1 = at;
-                self.ec2 = pattern;
-            }
-            Moved::Hard => {
-                self.pass(block);
-                self.raise(Er1::DCK.bits() | Er1::ECH.bits());
-            }
+            Moved::Burst { at, pattern } => self.pass_burst(block, at, pattern),
+            Moved::Hard => self.pass_hard(block),
             Moved::Marked => self.take_mark(block),
             Moved::Faulted(kind) => self.take_fault(kind),
             Moved::Offline => self.raise(Er1::UNS.bits()),
