@@ -1,12 +1,14 @@
 -- What copying a block, and writing the copies of a table, come to.
-use Rattle.std.proofs.Common.{◌≡◌, ℕ, zero, suc, ◌+◌, ◌<◌, ◌≤◌, Bool, IsTrue, List, [], ◌∷◌, ◌++◌, take, drop, length, Result, Ok, Err, refl, sym, ap, ◌∙◌, subst, arith}
+use Rattle.std.proofs.Common.{◌≡◌, ℕ, zero, suc, ◌+◌, ◌<◌, ◌≤◌, Bool, IsTrue, List, [], ◌∷◌, ◌++◌, take, drop, length, get_or, Result, Ok, Err, refl, sym, ap, ◌∙◌, subst, arith}
 use Rattle.std.proofs.lemmas.List.{take-append-drop}
 use Rattle.std.proofs.lemmas.List.Edits.{length-insert}
+use Rattle.std.proofs.lemmas.Option.{get_or_from_slice_get, slice_get_within}
+use Rattle.std.specs.Prelude.{Some, slice_get}
 use Rattle.pack_geometry.specs.declared.DriveKind.{DriveKind}
 use Rattle.pack_geometry.specs.declared.Place.{Place}
-use Rattle.pack_geometry.specs.Geometry.{block_number, copy_at, limit_of, place_at}
+use Rattle.pack_geometry.specs.Geometry.{IsInside, block_number, copy_at, limit_of, place_at}
 use Rattle.pack_geometry.specs.Pack.{Pack, block_at}
-use Rattle.pack_geometry.specs.TableSpelling.{Table}
+use Rattle.pack_geometry.specs.TableSpelling.{Table, IsTable}
 use Rattle.bad144_table.specs.Inserts.{Inserts}
 use Rattle.bad144_tool.specs.Changes.{Change, Block, DoesAll}
 use Rattle.bad144_tool.specs.Edit.{copies}
@@ -65,3 +67,9 @@ pub inserted_low : (kind : DriveKind) (block i : ℕ) (old new : Table) (place :
 inserted_low kind block i old new place drive at number inserted =
     subst (λ (n : ℕ). n < limit_of kind) number
     (subst (λ (p : Place). block_number kind p < limit_of kind) at (subst (λ (k : DriveKind). block_number k place < limit_of k) drive inserted.fresh.below))
+
+-- a listed place is one of the drive
+pub listed_inside : (kind : DriveKind) (table : Table) (i : ℕ) (place : Place) → table.kind ≡ kind → IsTable table → slice_get table.places i ≡ Some place → IsInside kind place
+listed_inside kind table i place drive valid is =
+    subst (λ (k : DriveKind). IsInside k place) drive
+    (subst (IsInside table.kind) (get_or_from_slice_get table.places i place place is) (valid.inside i place (slice_get_within table.places i place is)))
