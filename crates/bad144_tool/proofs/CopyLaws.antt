@@ -1,5 +1,5 @@
 -- What copying a block, and writing the copies of a table, come to.
-use Rattle.std.proofs.Common.{◌≡◌, ℕ, zero, suc, ◌+◌, ◌<◌, ◌≤◌, Bool, IsTrue, List, [], ◌∷◌, ◌++◌, take, drop, length, get_or, Result, Ok, Err, refl, sym, ap, ◌∙◌, subst, arith}
+use Rattle.std.proofs.Common.{◌≡◌, ℕ, zero, suc, ◌+◌, ◌<◌, ◌≤◌, Bool, IsTrue, List, [], ◌∷◌, ◌++◌, take, drop, length, Result, Ok, Err, refl, sym, ap, ◌∙◌, subst, arith}
 use Rattle.std.proofs.lemmas.List.{take-append-drop}
 use Rattle.std.proofs.lemmas.List.Edits.{length-insert}
 use Rattle.std.proofs.lemmas.Option.{get_or_from_slice_get, slice_get_within}
@@ -10,7 +10,7 @@ use Rattle.pack_geometry.specs.Geometry.{IsInside, block_number, copy_at, limit_
 use Rattle.pack_geometry.specs.Pack.{Pack, block_at}
 use Rattle.pack_geometry.specs.TableSpelling.{Table, IsTable}
 use Rattle.bad144_table.specs.Inserts.{Inserts}
-use Rattle.bad144_tool.specs.Changes.{Change, Block, DoesAll}
+use Rattle.bad144_tool.specs.Changes.{Block, DoesAll}
 use Rattle.bad144_tool.specs.Edit.{copies}
 use Rattle.bad144_tool.proofs.ChangeLaws.{does_cut, does_same, does_then}
 
