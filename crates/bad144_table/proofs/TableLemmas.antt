@@ -1,5 +1,5 @@
 -- Places in ascending order.
-use Rattle.std.proofs.Common.{◌≡◌, ◌⊎◌, inl, inr, ℕ, ◌+◌, ◌-◌, ◌<◌, ◌≤◌, Bool, true, false, nat_lt, refl, List, length, get_or, ap, ◌∙◌, arith, [], ◌∷◌, ◌++◌, length-append}
+use Rattle.std.proofs.Common.{◌≡◌, ◌⊎◌, inl, inr, ℕ, ◌+◌, ◌-◌, ◌<◌, ◌≤◌, Bool, true, false, nat_lt, refl, List, length, get_or, ap, sym, ◌∙◌, arith, [], ◌∷◌, ◌++◌, length-append}
 use Rattle.std.specs.Prelude.{AllPairs, IsTrue, Some, slice_get, Contains, insert}
 use Rattle.std.proofs.lemmas.Bool.{cases_lt, ltb-false}
 use Rattle.std.specs.Bool.{OnFalse}
@@ -7,7 +7,7 @@ use Rattle.std.proofs.lemmas.List.{get_or_default}
 use Rattle.std.proofs.lemmas.List.Edits.{get_or-insert_above, get_or-insert_at, get_or-insert_below, length-insert}
 use Rattle.std.proofs.lemmas.List.Elements.{All-push}
 use Rattle.std.proofs.lemmas.List.Quantifiers.{all_pairs_push}
-use Rattle.std.proofs.lemmas.Option.{slice_get-get_or}
+use Rattle.std.proofs.lemmas.Option.{get_or_from_slice_get, slice_get-get_or, slice_get_within}
 use Rattle.pack_geometry.specs.declared.DriveKind.{DriveKind}
 use Rattle.pack_geometry.specs.declared.DriveKind.TheVariants.{Rp06, Rm03, Rm05}
 use Rattle.pack_geometry.specs.declared.Place.{Place}
@@ -230,3 +230,21 @@ at_or_below_last t place blank last number some l n = on_false (nat_lt last numb
           let same = ap (block_number t.kind) (get_or_default t.places (length t.places - 1) blank d (omega (arith, there))) in
           omega (arith, less, l, n, same);
     })
+
+-- ---- a place's numbers
+
+-- the numbers of a place fit the words of a pair
+pub record HasSmallNumbers (place : Place) : Type 0 where
+  pub cylinder : place.cylinder < 65536
+  pub track : place.track < 256
+  pub sector : place.sector < 256
+
+small_numbers : (kind : DriveKind) (place : Place) → IsInside kind place → HasSmallNumbers place
+small_numbers Rp06 place inside = record { cylinder = omega (arith, inside.cylinder); track = omega (arith, inside.track); sector = omega (arith, inside.sector) }
+small_numbers Rm03 place inside = record { cylinder = omega (arith, inside.cylinder); track = omega (arith, inside.track); sector = omega (arith, inside.sector) }
+small_numbers Rm05 place inside = record { cylinder = omega (arith, inside.cylinder); track = omega (arith, inside.track); sector = omega (arith, inside.sector) }
+
+pub listed_numbers : (t : Table) (place : Place) (i : ℕ) → IsTable t → slice_get t.places i ≡ Some place → HasSmallNumbers place
+listed_numbers t place i valid here =
+    small_numbers t.kind place
+    (inside_by t.kind place (get_or t.places i place) (sym (get_or_from_slice_get t.places i place place here)) (valid.inside i place (slice_get_within t.places i place here)))

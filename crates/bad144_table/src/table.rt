@@ -109,12 +109,12 @@ fn first_index(table: &BadTable, place: Place) -> Option<u8>
     ensures listed { IfSome result (λ i. slice_get table.now.places i ≡ Some place) }
     ensures none { IfNone result (¬ (Contains table.now.places place)) }
 {
-    let index = table
-        .places
-        .as_slice()
-        .iter()
-        .position(|listed| *listed == place)?;
-    Some(index as u8)
+    for (i, listed) in table.places.as_slice().iter().enumerate() {
+        if *listed == place {
+            return Some(i as u8);
+        }
+    }
+    None
 }
 
 fn number(kind: DriveKind, place: Place) -> u32

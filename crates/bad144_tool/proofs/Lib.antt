@@ -1,5 +1,6 @@
 pub mod AddLaws
 pub mod ChangeLaws
+pub mod CopyLaws
 pub mod EditLaws
 pub mod ExitLaws
 pub mod ListLaws

@@ -1,5 +1,5 @@
 ghost use Rattle.std.specs.Prelude.{◌<◌, ◌≤◌, ◌-◌, ◌+◌, [], ◌∷◌, length};
-ghost use Rattle.pack_geometry.specs.Geometry.{copy_at, limit_of, replacement_at};
+ghost use Rattle.pack_geometry.specs.Geometry.{limit_of, replacement_at};
 ghost use Rattle.pack_geometry.specs.Pack.{block_at};
 ghost use Rattle.pack_geometry.specs.TableSpelling.{table_text};
 ghost use Rattle.bad144_tool.specs.Changes.{DoesAll, Block};
@@ -92,21 +92,6 @@ fn write_first<P: Packs>(
     }
 }
 
-/// Writes a text to copy `k` of the table.
-fn write_copy<P: Packs>(
-    packs: &mut P,
-    unit: u8,
-    kind: DriveKind,
-    k: u32,
-    text: &[u8; 512],
-) -> Result<(), StoreFailed>
-    requires unit { unit < 32 }
-    requires copy { k < 5 }
-    ensures { DoesAll P.tells P.held P.faults unit packs.old packs.new result (Block (copy_at kind k) text.now ∷ []) }
-{
-    write_block(packs, unit, copy_block(kind, k), text)
-}
-
 /// Writes a text to the five copies of the table, copy 0 first.
 fn write_to_all<P: Packs>(
     packs: &mut P,
@@ -117,11 +102,11 @@ fn write_to_all<P: Packs>(
     requires { unit < 32 }
     ensures { DoesAll P.tells P.held P.faults unit packs.old packs.new result (copies kind text.now) }
 {
-    write_copy(packs, unit, kind, 0, text)?;
-    write_copy(packs, unit, kind, 1, text)?;
-    write_copy(packs, unit, kind, 2, text)?;
-    write_copy(packs, unit, kind, 3, text)?;
-    write_copy(packs, unit, kind, 4, text)
+    for k in 0..5u32 {
+        let block = copy_block(kind, k);
+        write_block(packs, unit, block, text)?;
+    }
+    Ok(())
 }
 
 /// Writes the five copies of a table, copy 0 first.

@@ -1,3 +1,4 @@
+pub mod BeginLaws
 pub mod PollLaws
 pub mod CopyLaws
 pub mod StageLaws

@@ -1,6 +1,6 @@
 -- The move of one sector on a good drive, as a poll.
 use Rattle.std.proofs.Common.{◌≡◌, ◌⊎◌, inl, inr, ℕ, ◌+◌, ◌-◌, ◌==◌, ◌&&◌, not, Bool, true, false, IsTrue, if◌then◌else◌, List, [], ◌∷◌, ◌++◌, length, replicate, take, Option, None, Result, Ok, Err, IsErr, refl, sym, ap, ◌∙◌, subst, arith}
-use Rattle.std.specs.Prelude.{OnErr, slice_set}
+use Rattle.std.specs.Prelude.{OnErr, min, slice_set}
 use Rattle.std.proofs.lemmas.List.{append-nil, take_all}
 use Rattle.pack_geometry.specs.declared.DriveKind.{DriveKind}
 use Rattle.pack_geometry.specs.declared.DriveKind.TheVariants.{Rp06, Rm03, Rm05}
@@ -12,13 +12,13 @@ use Rattle.main_memory.specs.Memory.{Memory, blocks_of}
 use Rattle.hardware_table.specs.declared.Moved.{Moved}
 use Rattle.hardware_table.specs.declared.Moved.TheVariants as verdict
 use Rattle.hardware_table.specs.declared.Work.TheVariants.{Ready, Transfer}
-use Rattle.hardware_table.specs.Adapter.{AdapterState, drive_stepped, stepped}
+use Rattle.hardware_table.specs.Adapter.{AdapterState, drive_stepped, next_block, stepped}
 use Rattle.hardware_table.specs.Drive.{DriveState, is_writing}
 use Rattle.hardware_table.specs.Events.{transfer_ended}
 use Rattle.hardware_table.specs.Functions.{performed}
 use Rattle.drive_registers.specs.declared.Function.TheVariants.{Clear}
-use Rattle.hardware_table.specs.Moves.{IsReadAs, IsVerdictBy, has_bytes, stop_of, was_read, was_written, with_mark_bits}
-use Rattle.hardware_table.specs.Noise.{Book}
+use Rattle.hardware_table.specs.Moves.{IsReadAs, IsVerdictBy, after_move, has_bytes, stop_of, was_read, was_written, with_mark_bits}
+use Rattle.hardware_table.specs.Noise.{Book, after_strike, book_struck}
 use Rattle.drive_model.specs.Move.{MovesSector, Site, struck_at}
 use Rattle.drive_model.specs.Move as move
 use Rattle.mba_adapter.specs.Loaded.{loaded_buffer}
@@ -246,3 +246,28 @@ stored loan old new from frame long set =
   where
     first : {x y : List ℕ} → x ∷ [] ≡ y ∷ [] → x ≡ y
     first {x} {y} e = cc
+
+-- ---- after a sector moved
+
+all_moved : (a : AdapterState) → a.byte_count ≡ 512 → (stepped verdict.Clean a).completion ≡ true
+all_moved a bytes = ap (λ (n : ℕ). n - min 512 n == 0) bytes
+
+-- the adapter after the only sector
+pub finished : (loan : Loan) (block : ℕ) (write : Bool) (a now : AdapterState) (v : Moved) → IsStarted loan block write a → v ≡ verdict.Clean → now ≡ stepped v a
+    → (now.completion ≡ true) × (loan ≡ loaded_buffer now)
+finished loan block write a now v started is step =
+    subst (λ (x : AdapterState). (x.completion ≡ true) × (loan ≡ loaded_buffer x)) (sym (step ∙ ap (λ (u : Moved). stepped u a) is)) (all_moved a started.bytes, started.loaded)
+
+-- the drive after it
+pub ended : (kind : DriveKind) (block : ℕ) (write : Bool) (loan : Loan) (a : AdapterState) (d now : DriveState) (v : Moved) → Does kind (Transfer write) d → IsStarted loan block write a
+    → v ≡ verdict.Clean → now ≡ drive_stepped v a d → Does kind Ready now
+ended kind block write loan a d now v does started is step =
+    subst (λ (x : DriveState). Does kind Ready x)
+    (sym (step ∙ ap (λ (u : Moved). drive_stepped u a d) is
+    ∙ ap (λ (b : Bool). if b then transfer_ended (after_move verdict.Clean (next_block a) d) else after_move verdict.Clean (next_block a) d) (all_moved a started.bytes)))
+    (record { kind_is = does.kind_is; work_is = refl; online = does.online; unlocked = does.unlocked; none = does.none })
+
+-- where no noise was live, none is live
+pub quiet_again : (unit block word : ℕ) (read : Bool) (book book' : Book) → book.live ≡ [] → book' ≡ (if read then book_struck unit block word book else book) → book'.live ≡ []
+quiet_again unit block word true book book' quiet is = ap (λ (b : Book). b.live) is ∙ ap (after_strike unit block word) quiet
+quiet_again unit block word false book book' quiet is = ap (λ (b : Book). b.live) is ∙ quiet

@@ -2,7 +2,7 @@ use outside_traits::traits::StoreFailed;
 use thiserror::Error;
 
 /// Why a test of blocks stopped.
-#[derive(Clone, Copy, Debug, Drop, PartialEq, Eq, Error)]
+#[derive(Clone, Copy, Debug, Drop, Error)]
 pub enum TestFault {
     /// A byte of a block came back otherwise than it was written; `at` is its place in the block.
     #[error("byte {at} of block {block} was written as {wrote} and read as {read}")]

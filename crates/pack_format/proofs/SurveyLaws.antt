@@ -20,6 +20,9 @@ use Rattle.pack_format.specs.Faults.{IsWhy}
 use Rattle.pack_format.specs.Formatted.{CanBeFormatted, IsSpare, IsTooMany, if_on, marked_below}
 use Rattle.pack_format.specs.Surveys.{IsFirst, IsJudged, IsSurvey, all_marked, used_of}
 use Rattle.pack_format.specs.declared.fault.FormatFault.TheVariants.{TooMany, Spare, NoCopy}
+use Rattle.block_tests.specs.Polls.{answer_for}
+use Rattle.block_tests.specs.declared.station.Polled.{Polled}
+use Rattle.block_tests.specs.declared.station.Polled.TheVariants.{Clean, Marked}
 use Rattle.block_tests.proofs.StageLaws.{at, false_true}
 
 pub not_off : (b : Bool) → not b ≡ true → b ≡ false
@@ -317,3 +320,16 @@ module _ (kind : DriveKind) (pack : Pack) (number : ℕ) (spare : Option ℕ) (n
     spares = none_spare few none;
     copy = λ all. false_true (sym some ∙ judged.copies ∙ all_by kind pack 5 all);
   }
+
+-- a poll's answer tells whether the block is marked
+pub answer_once : (a b : Bool) (p : Polled) → p ≡ answer_for a → p ≡ answer_for b → a ≡ b
+answer_once true true p one other = refl
+answer_once false false p one other = refl
+answer_once true false p one other = absurd (clash (sym one ∙ other))
+  where
+    clash : Marked ≡ Clean → ⊥
+    clash e = cc
+answer_once false true p one other = absurd (clash (sym other ∙ one))
+  where
+    clash : Marked ≡ Clean → ⊥
+    clash e = cc

@@ -1,7 +1,17 @@
-use Rattle.std.proofs.Common.{◌<◌, ◌∙◌, ap, take, length, arith, refl}
+use Rattle.std.proofs.Common.{rules, ◌<◌, ◌∙◌, ap, take, length, arith, refl}
 use Rattle.pack_geometry.specs.TableSpelling.{table_text}
 use Rattle.bad144_table.proofs.SpellingLemmas.{front_long, front_more, text_step}
+use Rattle.bad144_table.proofs.TableLemmas.{listed_numbers}
 use Rattle.bad144_table.proofs.spelling.write_table.Goals as goal
+
+pub write_pair-requires : goal.write_pair-requires
+write_pair-requires c =
+    let small = listed_numbers c.args.table.now c.entry.result c.loop-i.i c.entries-count.ensures.valid c.entry.ensures in record {
+      room = search rules;
+      cylinder = small.cylinder;
+      track = small.track;
+      sector = small.sector;
+    }
 
 pub loop-i-preserved : goal.loop-i-preserved
 loop-i-preserved c =

@@ -3,6 +3,8 @@ use Rattle.std.specs.Prelude.{if◌then◌else◌}
 use Rattle.pack_geometry.specs.declared.Place.{Place}
 use Rattle.bad144_tool.specs.Marking.{markings, to_mark}
 use Rattle.bad144_tool.proofs.ChangeLaws.{does_same}
+use Rattle.bad144_tool.proofs.CopyLaws.{listed_inside}
+use Rattle.bad144_tool.proofs.ExitLaws.{no_value}
 use Rattle.bad144_tool.proofs.MarkLaws.{all_taken, count_then, does_err, does_front, does_ok, place_then, wanted_first}
 use Rattle.bad144_tool.proofs.marking.mark_all.Goals as goal
 
@@ -10,11 +12,19 @@ small_then : (count i n : ℕ) (on : Bool) → n ≡ count + (if on then 1 else 
 small_then count i n true is le = omega arith
 small_then count i n false is le = omega arith
 
-pub returns-in_err-on-clause-does : goal.returns-in_err-on-clause-does
-returns-in_err-on-clause-does g c =
-    does_err c.from_residual.ensures.0 (does_front c.args.kind c.args.unit (c.loop-i.i + 1) c.args.table.now.places
-    (place_then c.args.kind c.args.table.now c.requires.kind c.entries-i-end.ensures.valid c.loop-i.i c.entry.result c.entry.ensures
-    c.loop-i.invariant.does c.in_err-on.ensures.does))
+pub mark_place-requires : goal.mark_place-requires
+mark_place-requires g c = record {
+  unit = c.requires.unit;
+  place = listed_inside c.args.kind c.args.table.now c.loop-i.i c.entry.result c.requires.kind c.entries-i-end.ensures.valid c.entry.ensures;
+}
+
+pub returns-in_err-on : goal.returns-in_err-on
+returns-in_err-on g c = record {
+  does = does_err c.from_residual.ensures.0 (does_front c.args.kind c.args.unit (c.loop-i.i + 1) c.args.table.now.places
+      (place_then c.args.kind c.args.table.now c.requires.kind c.entries-i-end.ensures.valid c.loop-i.i c.entry.result c.entry.ensures
+      c.loop-i.invariant.does c.in_err-on.ensures.does));
+  counted = no_value _ _ c.from_residual.ensures.0;
+}
 
 pub loop-i-preserved : goal.loop-i-preserved
 loop-i-preserved g c =

@@ -1,8 +1,11 @@
-use Rattle.std.proofs.Common.{ℕ, subst, ap, Err, ◌∙◌}
+use Rattle.std.proofs.Common.{ℕ, subst, sym, ap, arith, Err, ◌∙◌}
+use Rattle.pack_geometry.specs.declared.DriveKind.{DriveKind}
+use Rattle.pack_geometry.specs.Geometry.{IsInside}
 use Rattle.pack_geometry.specs.Pack.{Pack}
 use Rattle.bad144_tool.specs.Adding.{AreFree, IsFirstMarked}
 use Rattle.bad144_tool.proofs.AddLaws.{at_error, goes_to, may_list, why_refused, why_spare}
-use Rattle.bad144_tool.proofs.ExitLaws.{counted_on, counted_other, counted_then, insert_is_add_fault, insert_is_no_failure, no_value, not_done, spare_is_add_fault}
+use Rattle.bad144_tool.proofs.CopyLaws.{index_inside, inserted_low}
+use Rattle.bad144_tool.proofs.ExitLaws.{counted_ok, counted_on, counted_other, counted_then, insert_is_add_fault, insert_is_no_failure, no_value, not_done, spare_is_add_fault}
 use Rattle.bad144_tool.proofs.tool.make_plan.Goals as goal
 
 pub returns-in_err-table : goal.returns-in_err-table
@@ -59,13 +62,33 @@ returns-in_err-check_spare g c =
       store = counted_then table.store.later (counted_on _ error spare.store);
     }
 
-pub returns-clause-may : goal.returns-clause-may
-returns-clause-may g c = λ t.
-    let told = c.in_ok-check_spare.ensures.never_again t in (
-      c.in_ok-table.table,
-      may_list c.args.kind _ c.args.block _ c.entries.result c.in_ok-table.table _
-          (goes_to c.args.kind _ c.args.block _ c.in_ok-table.table _ c.place_of.result (c.in_ok-table.ensures.table told) c.place_of.ensures.place c.in_ok-index.ensures.ok)
-          c.entries.ensures.count
-          (subst (λ (packs : ℕ → Pack). AreFree c.args.kind (packs c.args.unit) c.in_ok-index.index c.entries.result)
-          (c.in_ok-table.ensures.same told) (c.in_ok-check_spare.ensures.free t)),
-    )
+pub insert-requires : goal.insert-requires
+insert-requires g c = subst (λ (kind : DriveKind). IsInside kind c.place_of.result) (sym c.in_ok-table.ensures.drive) c.place_of.ensures.inside
+
+pub check_spare-requires : goal.check_spare-requires
+check_spare-requires g c = record { unit = c.requires.unit; end = omega (arith, c.entries.ensures.count, c.entries.ensures.valid.room) }
+
+pub returns : goal.returns
+returns g c =
+    let table = c.in_ok-table.ensures in
+    let spare = c.in_ok-check_spare.ensures in
+    let inserted = c.in_ok-index.ensures.ok in record {
+      never_again = λ t. table.never_again (spare.never_again t);
+      same = λ t. spare.same t ∙ table.same (spare.never_again t);
+      index = index_inside c.in_ok-table.table _ c.place_of.result c.in_ok-index.index inserted;
+      low =
+          inserted_low c.args.kind c.args.block c.in_ok-index.index c.in_ok-table.table _ c.place_of.result table.drive c.place_of.ensures.place
+          (c.place_law.ensures.back c.args.block c.requires.block) inserted;
+      may = λ t.
+          let told = spare.never_again t in (
+            c.in_ok-table.table,
+            may_list c.args.kind _ c.args.block _ c.entries.result c.in_ok-table.table _
+                (goes_to c.args.kind _ c.args.block _ c.in_ok-table.table _ c.place_of.result (table.table told) c.place_of.ensures.place inserted)
+                c.entries.ensures.count
+                (subst (λ (packs : ℕ → Pack). AreFree c.args.kind (packs c.args.unit) c.in_ok-index.index c.entries.result)
+                (table.same told) (spare.free t)),
+          );
+      faults = tt;
+      why = tt;
+      store = counted_then table.store.later (counted_ok _ spare.store.later);
+    }

@@ -1,11 +1,36 @@
-use Rattle.std.proofs.Common.{ap, subst, ◌∙◌}
+use Rattle.std.proofs.Common.{ap, subst, sym, ◌∙◌}
 use Rattle.main_memory.specs.Blocks.{Loan}
 use Rattle.main_memory.specs.Memory.{IsLent}
 use Rattle.hardware_table.specs.Adapter.{AdapterState}
 use Rattle.block_tests.specs.Polls.{IsOldOrNew, Polls, sides_of}
+use Rattle.block_tests.specs.Stations.{IsFrame, IsStarted}
 use Rattle.block_tests.proofs.ExitLaws.{cause_ok, cause_on, no_value, not_done}
 use Rattle.block_tests.proofs.PollLaws.{on_err}
 use Rattle.block_tests.proofs.station.Station.poll.Goals as goal
+
+pub aim-requires : goal.aim-requires
+aim-requires g c = record { good = c.requires.rest.drive; block = c.requires.block }
+
+pub begin-requires : goal.begin-requires
+begin-requires g c = record { good = c.aim.ensures.good; addressed = c.aim.ensures.addressed; aimed = c.aim.ensures.aimed }
+
+pub hand-frame-requires : goal.hand-frame-requires
+hand-frame-requires g c = record { free = c.requires.rest.free; frame = c.requires.rest.frame }
+
+pub try_block-requires : goal.try_block-requires
+try_block-requires g c =
+    let same = sym c.hand-frame.ensures.same in record {
+      unit = c.requires.unit;
+      block = c.requires.block;
+      begun = record {
+        drive = c.begin.ensures.good;
+        aimed = c.begin.ensures.aimed;
+        started = subst (λ (frame : Loan). IsStarted frame c.args.block c.args.write c.hand-frame.new.adapter) same c.hand-frame.ensures.started;
+        frame = subst (λ (frame : Loan). IsFrame frame) same c.requires.rest.frame;
+        lent = subst (λ (frame : Loan). IsLent c.args.self.now.memory frame) same c.requires.rest.lent;
+        quiet = c.requires.rest.quiet;
+      };
+    }
 
 pub returns-in_err-polled : goal.returns-in_err-polled
 returns-in_err-polled g c =
