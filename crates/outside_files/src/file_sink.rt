@@ -1,4 +1,4 @@
-ghost use Rattle.std.specs.Prelude.{◌≡◌, ℕ, ◌<◌, ◌≤◌, ◌++◌, length, take, IsTrue, is_some, None, IfOk, OnErr};
+ghost use Rattle.std.specs.Prelude.{◌≡◌, ℕ, ◌<◌, ◌≤◌, ◌++◌, length, take, IfOk};
 ghost use Rattle.outside_traits.specs.Causes.{HasCause, Counts};
 ghost use Rattle.outside_files.specs.Answers.{TakesOn};
 
@@ -16,28 +16,6 @@ pub struct FileSink<'a, R: Files> {
     name: &'a str,
     file: Option<R::File>,
     faults: u64,
-}
-
-/// Makes the file of this name, where none is open.
-fn make<R: Files>(rt: &R, name: &str, file: &mut Option<R::File>) -> io::Result<()>
-    ensures open { IsTrue (is_some file.old) → file.new ≡ file.old }
-    ensures err { OnErr result (file.old ≡ None) }
-{
-    if file.is_none() {
-        *file = Some(std::fs::create(rt, name)?);
-    }
-    Ok(())
-}
-
-/// Writes to the file that is open.
-fn write_to<W: Write>(file: &mut Option<W>, from: &[u8]) -> io::Result<usize>
-    ensures bound { IfOk result (λ n. n ≤ length from.now) }
-    ensures on { TakesOn W.contents file.old file.new result from.now }
-{
-    match file {
-        Some(file) => file.write(from),
-        None => Err(io::Error::from(ErrorKind::NotFound)),
-    }
 }
 
 impl<'a, R: Files> FileSink<'a, R> {
@@ -60,13 +38,18 @@ impl<'a, R: Files> FileSink<'a, R> {
         ensures faults { self.new.faults ≡ self.old.faults }
         ensures on { TakesOn R.File.contents self.old.file self.new.file result from.now }
     {
-        make(&self.rt, self.name, &mut self.file)?;
-        write_to(&mut self.file, from)
+        if self.file.is_none() {
+            self.file = Some(std::fs::create(&self.rt, self.name)?);
+        }
+        match &mut self.file {
+            Some(file) => file.write(from),
+            None => Err(io::Error::from(ErrorKind::NotFound)),
+        }
     }
 }
 
 impl<'a, R: Files> Sink for FileSink<'a, R> {
-    ghost use Rattle.std.specs.Prelude.{false, List, []};
+    ghost use Rattle.std.specs.Prelude.{false, List, [], IsTrue, OnErr};
 
     ghost tells = { λ _. false };
 
