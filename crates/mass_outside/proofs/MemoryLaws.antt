@@ -59,6 +59,10 @@ held_at slots unit slot there = sym (ap pack_in there)
 pub room_at : (slots : List SlotView) (unit block : ℕ) (slot : SlotView) → slice_get slots unit ≡ Some slot → true ≡ nat_lt block slot.blocks → false ≡ is_outside slots unit block
 room_at slots unit block slot there e = ap not e ∙ ap (λ (o : Option SlotView). not (nat_lt block (blocks_in o))) (sym there)
 
+-- a block for which a unit's slot has no room is outside
+pub no_room_at : (slots : List SlotView) (unit block : ℕ) (slot : SlotView) → slice_get slots unit ≡ Some slot → false ≡ nat_lt block slot.blocks → true ≡ is_outside slots unit block
+no_room_at slots unit block slot there e = ap not e ∙ ap (λ (o : Option SlotView). not (nat_lt block (blocks_in o))) (sym there)
+
 pick_pack : (b : Bool) (new : SlotView) (o : Option SlotView) (pack : Pack) → new.pack ≡ pack → pack_in (if b then Some new else o) ≡ (if b then pack else pack_in o)
 pick_pack true new o pack e = e
 pick_pack false new o pack e = refl

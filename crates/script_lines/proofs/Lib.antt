@@ -5,3 +5,4 @@ pub mod FieldLaws
 pub mod KnownLaws
 pub mod PlacesLaws
 pub mod WholeLaws
+pub mod TailLaws

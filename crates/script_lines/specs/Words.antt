@@ -40,6 +40,13 @@ all_verbs =
     verbs.Unit ∷ verbs.Read ∷ verbs.Write ∷ verbs.Arrive ∷ verbs.Turn ∷ verbs.Move ∷ verbs.Attend
     ∷ verbs.Noise ∷ verbs.Fault ∷ verbs.Offline ∷ verbs.Online ∷ verbs.Lock ∷ verbs.Unlock ∷ verbs.Drain ∷ []
 
+-- the first seven of them, and the others
+abbrev pub first_verbs : List Verb
+first_verbs = verbs.Unit ∷ verbs.Read ∷ verbs.Write ∷ verbs.Arrive ∷ verbs.Turn ∷ verbs.Move ∷ verbs.Attend ∷ []
+
+abbrev pub later_verbs : List Verb
+later_verbs = verbs.Noise ∷ verbs.Fault ∷ verbs.Offline ∷ verbs.Online ∷ verbs.Lock ∷ verbs.Unlock ∷ verbs.Drain ∷ []
+
 abbrev pub kinds : List DriveKind
 kinds = Rp06 ∷ Rm03 ∷ Rm05 ∷ []
 

@@ -121,7 +121,6 @@ fn offset_and_last(fields: &mut Fields) -> Result<(u16, u16), ScriptKind>
 }
 
 /// `[off N] [last M]`, at the end of a line.
-#[tactic(auto, unfolding(crate::specs::Forms::tail_form))]
 fn tail(start: &Request, fields: &mut Fields) -> Result<Request, ScriptKind>
     ensures { Parses (tail_form start.now) fields.old result fields.new }
 {
@@ -142,6 +141,28 @@ fn spelled(count: u32, span: Span, fields: &mut Fields) -> Result<Content<Span>,
     Ok(Content::Hex(span))
 }
 
+/// `fill HH`, `seq N` or `hex DIGITS`, of which the first word was read, on the line that stands at `span`.
+#[tactic(auto, unfolding(crate::specs::Forms::content_form))]
+fn content_of(
+    word: &[u8],
+    count: u32,
+    span: Span,
+    fields: &mut Fields,
+) -> Result<Content<Span>, ScriptKind>
+    requires { count ≤ 127 }
+    ensures { Parses (mapped (content_by (λ _. span)) (content_form count)) (word.now ∷ fields.old) result fields.new }
+{
+    if is_word(word, b"fill".as_slice()) {
+        next_byte(fields).map(Content::Fill)
+    } else if is_word(word, b"seq".as_slice()) {
+        seq(fields).map(Content::Seq)
+    } else if is_word(word, b"hex".as_slice()) {
+        spelled(count, span, fields)
+    } else {
+        Err(ScriptKind::Word)
+    }
+}
+
 /// `fill HH`, `seq N` or `hex DIGITS`, on the line that stands at `span`.
 #[tactic(auto, unfolding(crate::specs::Forms::content_form))]
 fn content(count: u32, span: Span, fields: &mut Fields) -> Result<Content<Span>, ScriptKind>
@@ -149,10 +170,8 @@ fn content(count: u32, span: Span, fields: &mut Fields) -> Result<Content<Span>,
     ensures { Parses (mapped (content_by (λ _. span)) (content_form count)) fields.old result fields.new }
 {
     match fields.next() {
-        Some(word) if is_word(word, b"fill".as_slice()) => next_byte(fields).map(Content::Fill),
-        Some(word) if is_word(word, b"seq".as_slice()) => seq(fields).map(Content::Seq),
-        Some(word) if is_word(word, b"hex".as_slice()) => spelled(count, span, fields),
-        _ => Err(ScriptKind::Word),
+        Some(word) => content_of(word, count, span, fields),
+        None => Err(ScriptKind::Word),
     }
 }
 

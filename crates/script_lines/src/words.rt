@@ -1,7 +1,7 @@
 ghost use Rattle.std.specs.Prelude.{◌≡◌};
 ghost use Rattle.std.specs.Str.{bytes_eq};
 ghost use Rattle.script_lines.specs.Fields.{some_or, kind_field, part_field, offset_field, fault_field};
-ghost use Rattle.script_lines.specs.Words.{named, verb_word, all_verbs, offsets, faults};
+ghost use Rattle.script_lines.specs.Words.{named, verb_word, all_verbs, first_verbs, later_verbs, offsets, faults};
 ghost use Rattle.trace_replay.specs.Text.{offset_word, fault_word};
 
 use crate::kinds::ScriptKind;
@@ -18,40 +18,59 @@ pub fn is_word(field: &[u8], word: &[u8]) -> bool
     field == word
 }
 
+/// The word at the front of a line, where it is one of the first seven.
+fn first_verb(word: &[u8]) -> Option<Verb>
+    ensures { result ≡ named verb_word first_verbs word.now }
+{
+    if is_word(word, b"unit".as_slice()) {
+        Some(Verb::Unit)
+    } else if is_word(word, b"read".as_slice()) {
+        Some(Verb::Read)
+    } else if is_word(word, b"write".as_slice()) {
+        Some(Verb::Write)
+    } else if is_word(word, b"arrive".as_slice()) {
+        Some(Verb::Arrive)
+    } else if is_word(word, b"turn".as_slice()) {
+        Some(Verb::Turn)
+    } else if is_word(word, b"move".as_slice()) {
+        Some(Verb::Move)
+    } else if is_word(word, b"attend".as_slice()) {
+        Some(Verb::Attend)
+    } else {
+        None
+    }
+}
+
+/// The word at the front of a line, where it is one of the others.
+fn later_verb(word: &[u8]) -> Option<Verb>
+    ensures { result ≡ named verb_word later_verbs word.now }
+{
+    if is_word(word, b"noise".as_slice()) {
+        Some(Verb::Noise)
+    } else if is_word(word, b"fault".as_slice()) {
+        Some(Verb::Fault)
+    } else if is_word(word, b"offline".as_slice()) {
+        Some(Verb::Offline)
+    } else if is_word(word, b"online".as_slice()) {
+        Some(Verb::Online)
+    } else if is_word(word, b"lock".as_slice()) {
+        Some(Verb::Lock)
+    } else if is_word(word, b"unlock".as_slice()) {
+        Some(Verb::Unlock)
+    } else if is_word(word, b"drain".as_slice()) {
+        Some(Verb::Drain)
+    } else {
+        None
+    }
+}
+
 /// The word at the front of a line.
 pub fn verb(word: &[u8]) -> Result<Verb, ScriptKind>
     ensures { result ≡ some_or ScriptKind.Word (named verb_word all_verbs word.now) }
 {
-    if is_word(word, b"unit".as_slice()) {
-        Ok(Verb::Unit)
-    } else if is_word(word, b"read".as_slice()) {
-        Ok(Verb::Read)
-    } else if is_word(word, b"write".as_slice()) {
-        Ok(Verb::Write)
-    } else if is_word(word, b"arrive".as_slice()) {
-        Ok(Verb::Arrive)
-    } else if is_word(word, b"turn".as_slice()) {
-        Ok(Verb::Turn)
-    } else if is_word(word, b"move".as_slice()) {
-        Ok(Verb::Move)
-    } else if is_word(word, b"attend".as_slice()) {
-        Ok(Verb::Attend)
-    } else if is_word(word, b"noise".as_slice()) {
-        Ok(Verb::Noise)
-    } else if is_word(word, b"fault".as_slice()) {
-        Ok(Verb::Fault)
-    } else if is_word(word, b"offline".as_slice()) {
-        Ok(Verb::Offline)
-    } else if is_word(word, b"online".as_slice()) {
-        Ok(Verb::Online)
-    } else if is_word(word, b"lock".as_slice()) {
-        Ok(Verb::Lock)
-    } else if is_word(word, b"unlock".as_slice()) {
-        Ok(Verb::Unlock)
-    } else if is_word(word, b"drain".as_slice()) {
-        Ok(Verb::Drain)
-    } else {
-        Err(ScriptKind::Word)
+    match first_verb(word) {
+        Some(verb) => Ok(verb),
+        None => later_verb(word).ok_or(ScriptKind::Word),
     }
 }
 

@@ -1,4 +1,4 @@
-use Rattle.std.proofs.Common.{false, ap, ◌∙◌}
+use Rattle.std.proofs.Common.{ℕ, false, ap, ◌∙◌}
 use Rattle.mass_outside.specs.Memory.{MemView}
 use Rattle.outside_traits.specs.Causes.{next}
 use Rattle.pack_geometry.specs.Pack.{Pack, is_marked}
@@ -14,3 +14,15 @@ returns-clause-mark c =
 pub returns-clause-exact : goal.returns-clause-exact
 returns-clause-exact c = listed_of c.as_slice.result.now c.args.self.now.fail Marked c.saturating_add-self-inside.result (next c.args.self.now.markeds) false (c.as_slice.ensures.value ∙ ap (λ (m : MemView). m.fail) c.self.view_is)
     (c.saturating_add-self-inside.ensures ∙ ap (λ (m : MemView). next m.markeds) c.self.view_is) c.if-is_listed.ensures
+
+pub returns-then-is_listed-clause-err : goal.returns-then-is_listed-clause-err
+returns-then-is_listed-clause-err c =
+    let seen : MemView = record { slots = c.self.inside.slots.items; fail = c.self.inside.fail.items; lengths = c.self.inside.lengths; reads = c.self.inside.reads; writes = c.self.inside.writes; markeds = c.self.inside.markeds; set_marks = c.self.inside.set_marks; faults = c.self.inside.faults } in
+    c.failed.ensures
+    ∙ ap (λ (n : ℕ). record seen { markeds = n; faults = next c.self.inside.faults }) c.saturating_add-self-inside.ensures
+    ∙ ap (λ (m : MemView). record m { markeds = next m.markeds; faults = next m.faults }) c.self.view_is
+
+pub returns-clause-ok : goal.returns-clause-ok
+returns-clause-ok c =
+    let seen : MemView = record { slots = c.self.inside.slots.items; fail = c.self.inside.fail.items; lengths = c.self.inside.lengths; reads = c.self.inside.reads; writes = c.self.inside.writes; markeds = c.self.inside.markeds; set_marks = c.self.inside.set_marks; faults = c.self.inside.faults } in
+    ap (λ (n : ℕ). record seen { markeds = n }) c.saturating_add-self-inside.ensures ∙ ap (λ (m : MemView). record m { markeds = next m.markeds }) c.self.view_is

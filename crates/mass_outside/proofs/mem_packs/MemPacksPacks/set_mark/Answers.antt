@@ -29,3 +29,17 @@ returns-clause-done c =
       ap (λ (slot : SlotView). record seen { slots = set slots c.args.unit slot; set_marks = c.saturating_add-self-inside.result }) (c.set_mark.ensures ∙ ap (λ (n : ℕ). slot_marked c.index_mut.result.now c.args.block n) (c.from.ensures ∙ mark_byte c.args.on))
           ∙ ap (λ (n : ℕ). record seen { slots = set slots c.args.unit (slot_marked c.index_mut.result.now c.args.block (if c.args.on then 1 else 0)); set_marks = n }) c.saturating_add-self-inside.ensures,
     )
+
+pub returns-then-is_listed-clause-failed : goal.returns-then-is_listed-clause-failed
+returns-then-is_listed-clause-failed c =
+    let seen : MemView = record { slots = c.self.inside.slots.items; fail = c.self.inside.fail.items; lengths = c.self.inside.lengths; reads = c.self.inside.reads; writes = c.self.inside.writes; markeds = c.self.inside.markeds; set_marks = c.self.inside.set_marks; faults = c.self.inside.faults } in
+    c.failed.ensures
+    ∙ ap (λ (n : ℕ). record seen { set_marks = n; faults = next c.self.inside.faults }) c.saturating_add-self-inside.ensures
+    ∙ ap (λ (m : MemView). record m { set_marks = next m.set_marks; faults = next m.faults }) c.self.view_is
+
+pub returns-then-not-has-clause-failed : goal.returns-then-not-has-clause-failed
+returns-then-not-has-clause-failed c =
+    let seen : MemView = record { slots = c.self.inside.slots.items; fail = c.self.inside.fail.items; lengths = c.self.inside.lengths; reads = c.self.inside.reads; writes = c.self.inside.writes; markeds = c.self.inside.markeds; set_marks = c.self.inside.set_marks; faults = c.self.inside.faults } in
+    c.failed-then-not-has.ensures
+    ∙ ap (λ (n : ℕ). record seen { set_marks = n; faults = next c.self.inside.faults }) c.saturating_add-self-inside.ensures
+    ∙ ap (λ (m : MemView). record m { set_marks = next m.set_marks; faults = next m.faults }) c.self.view_is

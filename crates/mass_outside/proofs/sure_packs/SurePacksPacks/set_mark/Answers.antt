@@ -1,8 +1,8 @@
-use Rattle.std.proofs.Common.{◌≡◌, ℕ, Some, refl, ap, ◌∙◌, subst, set}
+use Rattle.std.proofs.Common.{◌≡◌, ℕ, IsTrue, false, Some, refl, ap, ◌∙◌, subst, set}
 use Rattle.std.specs.Prelude.{slice_get}
 use Rattle.mass_outside.specs.Slots.{SlotView, slot_marked}
 use Rattle.mass_outside.specs.Sure.{SureView, SureMarked}
-use Rattle.mass_outside.proofs.MemoryLaws.{slot_at, room_at, held_marked, mark_byte}
+use Rattle.mass_outside.proofs.MemoryLaws.{slot_at, room_at, no_room_at, held_marked, mark_byte}
 use Rattle.mass_outside.proofs.sure_packs.SurePacksPacks.set_mark.Goals as goal
 
 pub returns-then-has-clause-ok : goal.returns-then-has-clause-ok
@@ -23,3 +23,15 @@ returns-then-has-clause-outside c = λ e.
     let same = ap (λ (p : SureView). p.slots) c.self.view_is in
     let room = room_at c.args.self.now.slots c.args.unit c.args.block c.index.result.now (slot_at c.self.inside.slots.items _ c.args.unit c.index.result.now same c.self.invariant c.requires c.index.ensures) c.if-has.ensures in
     absurd (cc (room ∙ e))
+
+pub returns-then-has-clause-never_again : goal.returns-then-has-clause-never_again
+returns-then-has-clause-never_again c = λ t. subst (λ (p : SureView). IsTrue p.tells) c.self.view_is t
+
+pub returns-clause-inside : goal.returns-clause-inside
+returns-clause-inside c = λ e.
+    let same = ap (λ (p : SureView). p.slots) c.self.view_is in
+    let room = no_room_at c.args.self.now.slots c.args.unit c.args.block c.index.result.now (slot_at c.self.inside.slots.items _ c.args.unit c.index.result.now same c.self.invariant c.requires c.index.ensures) c.if-has.ensures in
+    absurd (cc (room ∙ e))
+
+pub returns-clause-outside : goal.returns-clause-outside
+returns-clause-outside c = λ _. ap (λ (p : SureView). record p { tells = false }) c.self.view_is

@@ -1,0 +1,16 @@
+-- What a sink answers, by what its file took.
+use Rattle.std.proofs.Common.{◌≡◌, ℕ, ◌<◌, false, Result, Ok, Err, sym, ap, ◌∙◌, arith, subst}
+use Rattle.std.specs.Prelude.{IfOk, is_err, ◌==◌, ◌&&◌, nat_lt}
+use Rattle.std.proofs.lemmas.Bool.Decides.{nat_tests}
+use Rattle.outside_traits.specs.Causes.{HandsOn}
+use Rattle.outside_files.specs.Answers.{takes_nothing}
+
+positive : (n size : ℕ) → 0 < size → false ≡ ((n == 0) && nat_lt 0 size) → 0 < n
+positive n size room e = grind (arith, nat_tests)
+
+-- where bytes were there to take, an answer that is no error counts some
+pub some_counted : {D E : Type 0} (answer taken : Result ℕ D) (failed : E) (result : Result ℕ E) (before now size : ℕ)
+    → is_err taken ≡ takes_nothing answer size → IfOk taken (λ n. answer ≡ Ok n) → HandsOn taken failed result before now → IfOk result (λ n. 0 < size → 0 < n)
+some_counted answer (Ok n) failed result before now size exact count h =
+    subst (λ r. IfOk r (λ n. 0 < size → 0 < n)) (sym h.0) (λ room. positive n size room (exact ∙ ap (λ a. takes_nothing a size) count))
+some_counted answer (Err error) failed result before now size exact count h = subst (λ r. IfOk r (λ n. 0 < size → 0 < n)) (sym h.0) tt
