@@ -16,39 +16,6 @@ enum Known<F> {
     Open(F),
 }
 
-impl<F> Known<F> {
-    /// Whether it is to be opened, where a missing one is to be made or not.
-    fn is_to_open(&self, create: bool) -> bool {
-        match self {
-            Known::Nothing => true,
-            Known::Missing => create,
-            Known::Open(_) => false,
-        }
-    }
-
-    /// The file, where it is open.
-    fn file(&self) -> Option<&F> {
-        match self {
-            Known::Open(file) => Some(file),
-            _ => None,
-        }
-    }
-}
-
-/// What is known of a file by the answer of its opening.
-fn known_by<F>(answer: io::Result<F>, create: bool) -> io::Result<Known<F>> {
-    match answer {
-        Ok(file) => Ok(Known::Open(file)),
-        Err(error) if error.kind() == ErrorKind::NotFound && !create => Ok(Known::Missing),
-        Err(error) => Err(error),
-    }
-}
-
-/// An open file's length, in bytes.
-fn length_of_file<F: OpenFile>(file: &F) -> io::Result<u64> {
-    Ok(file.metadata()?.len())
-}
-
 /// The files `hpU.dsk` (image) and `hpU.bad` (marks) of the working folder, for unit U in decimal. A missing file is made at
 /// its first write; that it is missing is asked once, so nobody else may make it. One that may only be read is read alone.
 #[derive(Drop)]
@@ -84,7 +51,11 @@ impl<R: Files + AllocGlobal> OsFolder<R> {
     /// Opens a file, or finds that it is missing where it is not to be made.
     fn open(&self, unit: u8, part: Part, create: bool) -> io::Result<Known<R::File>> {
         let name = part.name(self.rt.alloc(), unit)?;
-        known_by(open_file(&self.rt, name.as_str(), create), create)
+        match open_file(&self.rt, name.as_str(), create) {
+            Ok(file) => Ok(Known::Open(file)),
+            Err(error) if error.kind() == ErrorKind::NotFound && !create => Ok(Known::Missing),
+            Err(error) => Err(error),
+        }
     }
 
     /// Makes room for what is known of each file.
@@ -102,10 +73,15 @@ impl<R: Files + AllocGlobal> OsFolder<R> {
     {
         self.make_room()?;
         let number = part.number(unit);
-        if self.files[number].is_to_open(create) {
+        let known = &self.files[number];
+        if matches!(known, Known::Nothing) || create && matches!(known, Known::Missing) {
             self.files[number] = self.open(unit, part, create)?;
         }
-        Ok(self.files[number].file())
+        let files = &self.files;
+        match &files[number] {
+            Known::Open(file) => Ok(Some(file)),
+            _ => Ok(None),
+        }
     }
 }
 
@@ -123,7 +99,7 @@ where
     fn length(&mut self, unit: u8, part: Part) -> io::Result<u64> {
         match self.find(unit, part, false)? {
             None => Ok(0),
-            Some(file) => length_of_file(file),
+            Some(file) => Ok(file.metadata()?.len()),
         }
     }
 
