@@ -10,10 +10,10 @@ use Rattle.hp_driver.proofs.subsystem.Subsystem.event.Goals as goal
 pub happen-requires : goal.happen-requires
 happen-requires g c = record {
   stands = record {
-      sound = c.self.invariant.sound;
-      work = c.self.invariant.work (ap (λ (s : State). s.failed) c.self.view_is ∙ c.requires.going);
-      noise = c.self.invariant.noise;
-    };
+    sound = c.self.invariant.sound;
+    work = c.self.invariant.work (ap (λ (s : State). s.failed) c.self.view_is ∙ c.requires.going);
+    noise = c.self.invariant.noise;
+  };
   there = subst (λ (s : State). IsThere s.world (input_of c.args.event)) (sym c.self.view_is) c.requires.there;
 }
 

@@ -14,10 +14,10 @@ submit-requires g c =
     let none = ap (λ (s : State). s.world.answers) c.self.view_is ∙ c.requires.none_waits in
     record {
       stands = record {
-          sound = c.self.invariant.sound;
-          work = c.self.invariant.work (ap (λ (s : State). s.failed) c.self.view_is ∙ c.requires.going);
-          noise = c.self.invariant.noise;
-        };
+        sound = c.self.invariant.sound;
+        work = c.self.invariant.work (ap (λ (s : State). s.failed) c.self.view_is ∙ c.requires.going);
+        noise = c.self.invariant.noise;
+      };
       none_waits = none;
       may = may_ask kept c.args.request c.args.bytes.now c.self.invariant.slots none
           (subst (λ (s : State). IsAsked s c.args.request c.args.bytes.now) (sym c.self.view_is) c.requires.asked);
