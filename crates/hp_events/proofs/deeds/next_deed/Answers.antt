@@ -91,7 +91,7 @@ pub returns-then-is_between : goal.returns-then-is_between
 returns-then-is_between g c =
     let w : World = c.args.core.now.world in
     let nothing : next_acts c.args.line c.args.u w ≡ [] = none_next w c.args.line c.args.u
-        (ap (λ (p : Phase). next_by p (unit_at w c.args.u) (hand_at w c.args.u)) (sym c.phase.ensures) ∙ c.if-is_between.ensures refl (unit_at w c.args.u) (hand_at w c.args.u)) in
+    (ap (λ (p : Phase). next_by p (unit_at w c.args.u) (hand_at w c.args.u)) (sym c.phase.ensures) ∙ c.if-is_between.ensures refl (unit_at w c.args.u) (hand_at w c.args.u)) in
     record {
       does = subst (λ (acts : List Act). DoesActs {A = Bool} g.T.Sink.tells g.T.Sink.taken g.T.Sink.faults c.args.trace.now c.args.trace.now c.args.core.now c.args.core.now (Ok false) acts) (sym nothing)
           (done_nothing g.T.Sink.tells g.T.Sink.taken g.T.Sink.faults c.args.trace.now c.args.core.now false);
