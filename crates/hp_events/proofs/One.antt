@@ -1,5 +1,5 @@
 -- One deed that is done by a call, under whichever name it is due.
-use Rattle.std.proofs.Common.{◌≡◌, ◌⊎◌, inl, inr, ℕ, ◌+◌, ◌/◌, ◌<◌, Bool, true, List, [], ◌∷◌, length, sym, ap, ◌∙◌, subst, arith, eq-eqb}
+use Rattle.std.proofs.Common.{◌≡◌, ◌⊎◌, inl, inr, ℕ, ◌+◌, ◌/◌, Bool, true, List, [], ◌∷◌, sym, ap, ◌∙◌, subst, arith, eq-eqb}
 use Rattle.std.specs.Prelude.{Result, Ok, if◌then◌else◌, ◌==◌, ◌≢◌}
 use Rattle.std.proofs.lemmas.Bool.{ne_eqb}
 use Rattle.pack_geometry.specs.declared.Place.{Place}
@@ -15,7 +15,6 @@ use Rattle.driver_machine.specs.World.{World, UnitView, Held, transfer_of}
 use Rattle.driver_machine.specs.Acts.{Of, Deed, Move, Continue, End}
 use Rattle.driver_machine.specs.Due.{failed, sensed, command_of, target_of, start_by, start_of, ready_for, finished, done_with}
 use Rattle.driver_machine.specs.Guards.{Allowed}
-use Rattle.driver_machine.specs.Sound.{Sound}
 use Rattle.hp_core.specs.Passes.{Stop}
 use Rattle.hp_core.specs.State.{State}
 use Rattle.hp_core.specs.Done.{DoesAct, DoesSilently}
@@ -25,10 +24,6 @@ use Rattle.hp_events.proofs.Joined.{of_act, of_silent}
 -- what is due may come under its other name
 pub became : (w : World) (line u id : ℕ) (d e : Deed) → d ≡ e → Allowed w (Of line u id d) → Allowed w (Of line u id e)
 became w line u id d e same may = subst (λ (x : Deed). Allowed w (Of line u id x)) same may
-
--- its unit is there
-pub unit_there : (w : World) (line u id : ℕ) (d : Deed) → Sound w → Allowed w (Of line u id d) → u < length w.units
-unit_there w line u id d sound may = subst (λ (n : ℕ). u < n) (sym sound.units) may.0.unit
 
 -- and what is done under the one is done under the other
 pub as_well : {O A : Type 0} (tells : O → Bool) (taken : O → List ℕ) (faults : O → ℕ) (trace trace' : O) (old new : State) (result : Result A Stop) (line u id : ℕ) (d e : Deed) → d ≡ e

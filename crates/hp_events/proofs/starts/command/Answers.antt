@@ -4,7 +4,8 @@ use Rattle.transfer_engine.specs.State.{segment_of}
 use Rattle.driver_machine.specs.World.{unit_at, transfer_of}
 use Rattle.driver_machine.specs.Acts.{Move}
 use Rattle.hp_events.specs.Hand.{hand_at}
-use Rattle.hp_events.proofs.One.{became, unit_there, told, none_moved, command_as}
+use Rattle.hp_events.proofs.Facts.{unit_there}
+use Rattle.hp_events.proofs.One.{became, told, none_moved, command_as}
 use Rattle.hp_events.proofs.starts.command.Goals as goal
 
 pub returns-in-Command : goal.returns-in-Command
@@ -23,13 +24,13 @@ returns-in-End g c =
     c.end.ensures
 
 pub due_before-requires : goal.due_before-requires
-due_before-requires g c = unit_there c.args.core.now.world c.args.line c.args.u c.args.asked.id _ c.requires.sound c.requires.may
+due_before-requires g c = unit_there c.args.core.now.world c.args.u c.requires.sound c.requires.may.0.unit
 
 pub done-done-requires : goal.done-done-requires
-done-done-requires g c = unit_there c.args.core.now.world c.args.line c.args.u c.args.asked.id _ c.requires.sound c.requires.may
+done-done-requires g c = unit_there c.args.core.now.world c.args.u c.requires.sound c.requires.may.0.unit
 
 pub segment-segment-requires : goal.segment-segment-requires
-segment-segment-requires g c = unit_there c.args.core.now.world c.args.line c.args.u c.args.asked.id _ c.requires.sound c.requires.may
+segment-segment-requires g c = unit_there c.args.core.now.world c.args.u c.requires.sound c.requires.may.0.unit
 
 pub command-requires : goal.command-requires
 command-requires g c = record {

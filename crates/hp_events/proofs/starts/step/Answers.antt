@@ -1,7 +1,8 @@
 use Rattle.std.proofs.Common.{◌∙◌}
 use Rattle.driver_machine.specs.World.{unit_at}
 use Rattle.driver_machine.specs.Acts.{Do}
-use Rattle.hp_events.proofs.One.{became, unit_there, told, none_moved}
+use Rattle.hp_events.proofs.Facts.{unit_there}
+use Rattle.hp_events.proofs.One.{became, told, none_moved}
 use Rattle.hp_events.proofs.starts.step.Goals as goal
 
 pub returns-in-Command : goal.returns-in-Command
@@ -16,10 +17,10 @@ returns-in-End g c =
     (c.in-End.ensures (Do c.args.step c.args.taken) ∙ none_moved c.in-End.cause (unit_at c.args.core.now.world c.args.u) _ c.done-done.ensures) c.end.ensures
 
 pub due_before-requires : goal.due_before-requires
-due_before-requires g c = unit_there c.args.core.now.world c.args.line c.args.u c.args.id _ c.requires.sound c.requires.may
+due_before-requires g c = unit_there c.args.core.now.world c.args.u c.requires.sound c.requires.may.0.unit
 
 pub done-done-requires : goal.done-done-requires
-done-done-requires g c = unit_there c.args.core.now.world c.args.line c.args.u c.args.id _ c.requires.sound c.requires.may
+done-done-requires g c = unit_there c.args.core.now.world c.args.u c.requires.sound c.requires.may.0.unit
 
 pub step-requires : goal.step-requires
 step-requires g c = record {

@@ -6,7 +6,8 @@ use Rattle.driver_machine.specs.declared.Task.TheVariants.{Judge}
 use Rattle.driver_machine.specs.World.{unit_at}
 use Rattle.driver_machine.specs.Due.{judged}
 use Rattle.hp_events.specs.Hand.{hand_at}
-use Rattle.hp_events.proofs.One.{became, unit_there, as_well, told, silent, some_moved}
+use Rattle.hp_events.proofs.Facts.{unit_there}
+use Rattle.hp_events.proofs.One.{became, as_well, told, silent, some_moved}
 use Rattle.hp_events.proofs.verdicts.follow.Goals as goal
 
 pub returns-in-Burst : goal.returns-in-Burst
@@ -35,7 +36,7 @@ returns-in-Hard g c =
     c.try_failed-in-Hard.ensures
 
 pub done-requires : goal.done-requires
-done-requires g c = unit_there c.args.core.now.world c.args.line c.args.u c.args.asked.id _ c.requires.sound c.requires.may
+done-requires g c = unit_there c.args.core.now.world c.args.u c.requires.sound c.requires.may.0.unit
 
 pub finish-requires : goal.finish-requires
 finish-requires g c = record {

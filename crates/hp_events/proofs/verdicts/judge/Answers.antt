@@ -4,7 +4,8 @@ use Rattle.driver_machine.specs.World.{unit_at}
 use Rattle.driver_machine.specs.Acts.{Rtc}
 use Rattle.driver_machine.specs.Due.{judged}
 use Rattle.hp_events.specs.Hand.{hand_at}
-use Rattle.hp_events.proofs.One.{became, unit_there, as_well, told}
+use Rattle.hp_events.proofs.Facts.{unit_there}
+use Rattle.hp_events.proofs.One.{became, as_well, told}
 use Rattle.hp_events.proofs.verdicts.judge.Goals as goal
 
 pub returns-else-is_centred : goal.returns-else-is_centred
@@ -14,7 +15,7 @@ returns-else-is_centred g c =
     c.centre.ensures
 
 pub is_centred-requires : goal.is_centred-requires
-is_centred-requires g c = unit_there c.args.core.now.world c.args.line c.args.u c.args.asked.id _ c.requires.sound c.requires.may
+is_centred-requires g c = unit_there c.args.core.now.world c.args.u c.requires.sound c.requires.may.0.unit
 
 pub follow-requires : goal.follow-requires
 follow-requires g c = record {
