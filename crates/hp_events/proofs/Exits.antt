@@ -1,6 +1,6 @@
 -- What a call did, handed on: under another name of its acts, or by the exit of a `?`.
 use Rattle.std.proofs.Common.{◌≡◌, ℕ, Bool, true, false, List, ◌∷◌, inl, refl, sym, subst, ◌<◌}
-use Rattle.std.specs.Prelude.{Result, Ok, Err}
+use Rattle.std.specs.Prelude.{Result, Ok, Err, IfOk}
 use Rattle.std.specs.Result.{IsErrAnd}
 use Rattle.driver_machine.specs.declared.Phase.TheVariants.{Queued}
 use Rattle.driver_machine.specs.World.{World, adapter_of, unit_at, adapter_at, held_in, slot_in_hand}
@@ -22,6 +22,11 @@ pub handed : {O A : Type 0} (tells : O → Bool) (taken : O → List ℕ) (fault
     → IsErrAnd result (λ x. x ≡ stop) → DoesActs {A = A} tells taken faults trace trace' old new (Err stop) acts → DoesActs tells taken faults trace trace' old new result acts
 handed tells taken faults trace trace' old new (Ok x) acts is does = absurd is
 handed {A = A} tells taken faults trace trace' old new (Err x) acts is does = subst (λ (e : Stop). DoesActs {A = A} tells taken faults trace trace' old new (Err e) acts) (sym is) does
+
+-- so nothing is asked of what an Ok leaves
+pub err_if : {A : Type 0} (Q : A → Type 0) (result : Result A Stop) (stop : Stop) → IsErrAnd result (λ x. x ≡ stop) → IfOk result Q
+err_if Q (Ok value) stop is = absurd is
+err_if Q (Err other) stop is = tt
 
 -- THE FIRST UNIT that waits for an adapter
 pub waits_is : (w : World) (a u : ℕ) (rest : List ℕ) → Sound w → a < 4 → (adapter_at w a).queue ≡ u ∷ rest → (u < 32) × (adapter_of u ≡ a) × ((unit_at w u).phase ≡ Queued)
