@@ -13,9 +13,10 @@ use Rattle.buffer_cache.proofs.Joins.{asks_none}
 use Rattle.buffer_cache.specs.declared.entry.Key.{Key}
 use Rattle.buffer_cache.specs.declared.entry.Held.{Held}
 use Rattle.buffer_cache.specs.Views.{nothing, entry_with, state_of}
+use Rattle.buffer_cache.specs.Calls.{IfTold, Holds}
 use Rattle.buffer_cache.proofs.Orders.{apart_of}
 use Rattle.buffer_cache.proofs.Stays.{data_stays}
-use Rattle.buffer_cache.proofs.Turns.{Flushing, Flushed, slot_now, data_now, flush_one, flush_stops, flushed_all}
+use Rattle.buffer_cache.proofs.Turns.{Flushing, slot_now, data_now, flush_one, flush_stops, flushed_all}
 use Rattle.buffer_cache.proofs.syncing.write_all_back.Goals as goal
 
 pub loop-key-init : goal.loop-key-init
@@ -94,7 +95,8 @@ returns-in_err-write_back-clause-stops g c =
     let lt = slot_now c.args.line c.args.order.now c.args.slots.now.items c.loop-key.slots.items old mid p c.next.new.self c.requires.kept c.len-count.ensures.valid.1 f in
     let value : c.index_mut.result.now ≡ slice_index_or c.loop-key.slots.items c.in-Some.slot.now nothing =
     c.index_mut.ensures.value ∙ get_or_default c.loop-key.slots.items c.in-Some.slot.now c.index_mut.result.now nothing lt in
-    on_err c.from_residual.result _ (λ t tables fit.
+    let before = state_of c.args.order.now c.args.slots.now.items 0 in
+    on_err c.from_residual.result (IfTold before old new (Holds 0 0 None before old new)) (λ t tables fit.
     flush_stops c.args.line c.args.order.now.entries c.args.slots.now.items c.loop-key.slots.items (state_of c.args.order.now c.args.slots.now.items 0) old mid new p c.next.new.self refl
     (apart_of c.args.order.now.entries c.args.slots.now.items c.len-count.ensures.valid.0) f c.in_err-write_back.ensures.keeps.never_again
     (subst (λ (h : Held). IsTrue new.packs_tell → HasTables (setup_at mid) → LeftBy (writes c.in-Some.key.now.unit c.in-Some.key.now.block h.bytes) mid new) value c.in_err-write_back.ensures.stops) t tables)

@@ -1,11 +1,12 @@
-use Rattle.std.proofs.Common.{false, refl, sym, ap, subst}
+use Rattle.std.proofs.Common.{IsTrue, refl, sym, ap, subst}
 use Rattle.std.specs.Prelude.{None, Some, if◌then◌else◌}
 use Rattle.buffer_cache.specs.Passes.{Stage}
-use Rattle.buffer_cache.specs.Passes.{site}
+use Rattle.buffer_cache.specs.Passes.{setup_at, site}
 use Rattle.buffer_cache.proofs.Passes.{keeps_none, keeps_err, on_err}
-use Rattle.buffer_cache.specs.declared.entry.Held.{Held}
 use Rattle.trace_laws.specs.Entries.{write_backs}
-use Rattle.buffer_cache.specs.Asks.{Asks}
+use Rattle.trace_laws.specs.Rest.{HasTables}
+use Rattle.trace_laws.specs.Requests.{writes}
+use Rattle.buffer_cache.specs.Asks.{Asks, LeftBy}
 use Rattle.buffer_cache.proofs.Joins.{asks_none}
 use Rattle.buffer_cache.specs.Views.{entry_with}
 use Rattle.buffer_cache.proofs.syncing.write_back.Goals as goal
@@ -22,7 +23,10 @@ pub returns-else-held-clause-keeps : goal.returns-else-held-clause-keeps
 returns-else-held-clause-keeps g c = keeps_none g.P.Packs.tells g.P.Packs.faults g.T.Sink.tells g.T.Sink.faults c.args.subsystem.now c.args.packs.now c.args.trace.now c.requires.may.ready
 
 pub returns-in_err-store_block-clause-stops : goal.returns-in_err-store_block-clause-stops
-returns-in_err-store_block-clause-stops g c = on_err c.from_residual.result _ c.in_err-store_block.ensures.stops
+returns-in_err-store_block-clause-stops g c =
+    let old : Stage = site g.P.Packs.tells g.P.Packs.held g.T.Sink.tells g.T.Sink.taken c.args.subsystem.now.world c.args.packs.now c.args.trace.now in
+    let new : Stage = site g.P.Packs.tells g.P.Packs.held g.T.Sink.tells g.T.Sink.taken c.store_block.new.subsystem.world c.store_block.new.packs c.store_block.new.trace in
+    on_err c.from_residual.result (IsTrue new.packs_tell → HasTables (setup_at old) → LeftBy (writes c.args.key.unit c.args.key.block c.args.held.now.bytes) old new) c.in_err-store_block.ensures.stops
 
 pub returns-in_err-store_block-clause-keeps : goal.returns-in_err-store_block-clause-keeps
 returns-in_err-store_block-clause-keeps g c =

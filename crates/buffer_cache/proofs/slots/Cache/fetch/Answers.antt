@@ -12,7 +12,7 @@ pub returns-in_err-fetch_block-clause-stops : goal.returns-in_err-fetch_block-cl
 returns-in_err-fetch_block-clause-stops g c =
     let old : Stage = site g.P.Packs.tells g.P.Packs.held g.T.Sink.tells g.T.Sink.taken c.args.subsystem.now.world c.args.packs.now c.args.trace.now in
     let new : Stage = site g.P.Packs.tells g.P.Packs.held g.T.Sink.tells g.T.Sink.taken c.fetch_block.new.subsystem.world c.fetch_block.new.packs c.fetch_block.new.trace in
-    on_err c.from_residual.result _ (λ t tables fit. holds_untouched 0 0 None c.args.self.now old new (c.in_err-fetch_block.ensures.stops t tables))
+    on_err c.from_residual.result (IfTold c.args.self.now old new (Holds 0 0 None c.args.self.now old new)) (λ t tables fit. holds_untouched 0 0 None c.args.self.now old new (c.in_err-fetch_block.ensures.stops t tables))
 
 pub make_room-requires-clause-may : goal.make_room-requires-clause-may
 make_room-requires-clause-may g c =

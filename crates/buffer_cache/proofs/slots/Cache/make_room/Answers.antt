@@ -9,6 +9,7 @@ use Rattle.trace_laws.specs.Requests.{writes}
 use Rattle.trace_laws.specs.Entries.{write_backs, written_last}
 use Rattle.trace_laws.proofs.Ones.{IsFound, each_found, back_all, back_one, none_one}
 use Rattle.buffer_cache.specs.Asks.{IsData, Asks}
+use Rattle.buffer_cache.specs.Calls.{IfTold, Holds}
 use Rattle.buffer_cache.proofs.Joins.{asks_none}
 use Rattle.buffer_cache.proofs.Stays.{all_data, holds_left, unchanged_data}
 use Rattle.buffer_cache.proofs.slots.Cache.make_room.Goals as goal
@@ -36,7 +37,7 @@ returns-in_err-store_block-clause-stops g c =
     let some = sym c.last_changed.ensures ∙ c.in-Some.is in
     let found = back_all (IsFound c.args.self.now.entries) c.args.self.now c.in-Some.last (each_found c.args.self.now.entries c.law.ensures.apart) some in
     let first = none_one (map_at old) c.args.self.now.entries 0 0 None in
-    on_err c.from_residual.result _ (λ t tables fit.
+    on_err c.from_residual.result (IfTold c.args.self.now old new (Holds 0 0 None c.args.self.now old new)) (λ t tables fit.
     holds_left c.args.line [] (writes c.in-Some.last.unit c.in-Some.last.block c.in-Some.last.bytes) 0 0 None c.args.self.now old old new (asks_none c.args.line old) first
     (back_one (map_at old) c.args.self.now.entries 0 0 None (map_at old) c.in-Some.last found first) c.in_err-store_block.ensures.keeps.never_again c.in_err-store_block.ensures.stops t tables)
 

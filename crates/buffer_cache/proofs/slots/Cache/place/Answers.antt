@@ -1,12 +1,14 @@
-use Rattle.std.proofs.Common.{◌≤◌, false, true, refl, sym, ap, ◌∙◌, subst}
+use Rattle.std.proofs.Common.{◌≤◌, IsTrue, false, true, refl, sym, ap, ◌∙◌, subst}
 use Rattle.std.specs.Prelude.{not}
 use Rattle.std.specs.List.{AllByRecursion}
 use Rattle.buffer_cache.specs.Passes.{Stage}
-use Rattle.buffer_cache.specs.Passes.{site}
+use Rattle.buffer_cache.specs.Passes.{setup_at, site}
 use Rattle.buffer_cache.proofs.Passes.{keeps_none, keeps_err, on_err}
 use Rattle.trace_laws.specs.Entries.{State, put}
 use Rattle.trace_laws.specs.Calls.{entry}
-use Rattle.buffer_cache.specs.Asks.{IsData}
+use Rattle.trace_laws.specs.Rest.{HasTables}
+use Rattle.trace_laws.specs.Requests.{writes}
+use Rattle.buffer_cache.specs.Asks.{IsData, LeftBy}
 use Rattle.buffer_cache.proofs.Joins.{asks_none}
 use Rattle.buffer_cache.proofs.Stays.{data_stays, all_data, put_data}
 use Rattle.buffer_cache.proofs.slots.Cache.place.Goals as goal
@@ -48,7 +50,10 @@ pub store_block-requires-clause-may : goal.store_block-requires-clause-may
 store_block-requires-clause-may g c = record { ready = c.requires.may.ready; room = c.requires.may.room; unit_is = c.requires.block.unit_is }
 
 pub returns-in_err-store_block-clause-stops : goal.returns-in_err-store_block-clause-stops
-returns-in_err-store_block-clause-stops g c = on_err c.from_residual.result _ c.in_err-store_block.ensures.stops
+returns-in_err-store_block-clause-stops g c =
+    let old : Stage = site g.P.Packs.tells g.P.Packs.held g.T.Sink.tells g.T.Sink.taken c.args.subsystem.now.world c.args.packs.now c.args.trace.now in
+    let new : Stage = site g.P.Packs.tells g.P.Packs.held g.T.Sink.tells g.T.Sink.taken c.store_block.new.subsystem.world c.store_block.new.packs c.store_block.new.trace in
+    on_err c.from_residual.result (IsTrue new.packs_tell → HasTables (setup_at old) → LeftBy (writes c.args.unit c.args.block c.args.from.now) old new) c.in_err-store_block.ensures.stops
 
 pub returns-in_err-store_block-clause-keeps : goal.returns-in_err-store_block-clause-keeps
 returns-in_err-store_block-clause-keeps g c =
