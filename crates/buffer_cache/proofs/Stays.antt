@@ -1,6 +1,6 @@
 -- What a call keeps of the driver, and of the blocks that may be asked for.
 use Rattle.std.proofs.Common.{◌≡◌, inl, inr, ℕ, zero, suc, ◌-◌, ◌<◌, length, take, drop, Bool, true, false, IsTrue, List, [], ◌∷◌, ◌++◌, Option, None, Some, refl, sym, ap, ◌∙◌, subst}
-use Rattle.std.specs.Prelude.{map, is_some, if◌then◌else◌}
+use Rattle.std.specs.Prelude.{map, is_some, IsSome, if◌then◌else◌}
 use Rattle.std.specs.List.{AllByRecursion}
 use Rattle.pack_geometry.specs.Geometry.{limit_of}
 use Rattle.driver_machine.specs.World.{World}
@@ -82,6 +82,15 @@ holds_more unit block from s old new h = record { each = λ u b. more u b (h.eac
       where
         never : false ≡ true → ⊥
         never some = cc
+
+-- it is said of the entries alone
+pub holds_alike : (unit block : ℕ) (from : Option (List ℕ)) (s s' : State) (old new : Stage) → s.entries ≡ s'.entries → IfTold s old new (Holds unit block from s old new) → IfTold s' old new (Holds unit block from s' old new)
+holds_alike unit block from s s' old new same h t tables fit =
+    let holds : Holds unit block from s old new = h t tables (subst (AllFit (map_at old)) (sym same) fit) in
+    record {
+      each = λ u b. subst (λ entries. IsOne (map_at old) entries unit block from u b (left_map old new u b)) same (holds.each u b);
+      others = holds.others;
+    }
 
 -- a read before changes nothing
 pub holds_behind_read : (line unit block : ℕ) (s : State) (old mid new : Stage) → Asks line (reads unit block ∷ []) old mid → (IsTrue new.packs_tell → IsTrue mid.packs_tell) → IfTold s mid new (Holds 0 0 None s mid new)
@@ -201,6 +210,12 @@ no_entry unit block entries not = by (entry_of unit block entries) not
       where
         false_true : false ≡ true → ⊥
         false_true e = cc
+
+pub never_some : (unit block : ℕ) (entries : List Entry) → entry_of unit block entries ≡ None → IsSome (entry_of unit block entries) → ⊥
+never_some unit block entries none some = false_true (subst (λ (o : Option Entry). IsSome o) none some)
+  where
+    false_true : false ≡ true → ⊥
+    false_true e = cc
 
 pub some_entry : (unit block : ℕ) (entries : List Entry) → true ≡ is_some (entry_of unit block entries) → Found unit block entries
 some_entry unit block entries is = by (entry_of unit block entries) refl is

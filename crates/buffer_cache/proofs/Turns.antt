@@ -116,6 +116,18 @@ data_now line order slots now old mid p rest w all f =
     (subst (AllByRecursion (λ e. IsData w e.unit e.block)) (ap (λ z. entries_of z slots) f.all ∙ map-append (entry_at slots) f.done (p ∷ rest)) all)).1.0
 
 -- ---- ALL OF THEM
+pub record Flushed (line : ℕ) (order : List (Key × ℕ)) (slots now : List Held) (old new : Stage) : Type 0 where
+  pub asks : Asks line (written_back (entries_of order slots)) old new
+  pub cleaned : entries_of order now ≡ map unchanged (entries_of order slots)
+
+pub flushed_all : (line : ℕ) (order : List (Key × ℕ)) (slots now : List Held) (old new : Stage) (rest : List (Key × ℕ)) → rest ≡ [] → Flushing line order slots now old new rest → Flushed line order slots now old new
+flushed_all line order slots now old new rest none f =
+    let all : order ≡ f.done = f.all ∙ ap (λ zs. f.done ++ zs) none ∙ append-nil f.done in
+    record {
+      asks = subst (λ zs. Asks line (written_back (entries_of zs slots)) old new) (sym all) f.asks;
+      cleaned = subst (λ zs. entries_of zs now ≡ map unchanged (entries_of zs slots)) (sym all) f.cleaned;
+    }
+
 pub flushed_data : (w : World) (entries : List Entry) → AllByRecursion (λ e. IsData w e.unit e.block) entries → AllByRecursion (λ e. IsData w e.unit e.block) (map unchanged entries)
 flushed_data w [] all = tt
 flushed_data w (e ∷ entries) all = (all.0, flushed_data w entries all.1)

@@ -1,6 +1,7 @@
 -- What a read or a write of a block comes to that is no entry, and of one that is.
 use Rattle.std.proofs.Common.{◌≡◌, ℕ, Bool, true, false, IsTrue, List, [], ◌∷◌, Option, None, Some, sym, ap, ◌∙◌, subst}
 use Rattle.std.specs.Prelude.{if◌then◌else◌, Result, Ok, Err, IsErrAnd}
+use Rattle.std.proofs.lemmas.Option.{none-some}
 use Rattle.driver_answers.specs.declared.outcome.Stop.{Stop}
 use Rattle.buffer_cache.specs.Passes.{State as Driver}
 use Rattle.buffer_cache.specs.Passes.{Keeps}
@@ -125,6 +126,9 @@ not_changed unit block from s none = ap (λ o. record s { entries = in_front (re
 stop_is : {A : Type 0} (result : Result A CacheFault) (stop : Stop) → IsErrAnd result (λ x. x ≡ fault.Stop stop) → stop_of result ≡ Some stop
 stop_is (Ok value) stop is = absurd is
 stop_is (Err other) stop is = ap (λ (x : CacheFault). stop_of {A = Unit {0}} (Err x)) is
+
+pub never_stopped : {A B : Type 0} (result : Result A CacheFault) (stop : Stop) → IsErrAnd result (λ x. x ≡ fault.Stop stop) → stop_of result ≡ None → B
+never_stopped result stop is none = absurd (none-some stop (sym none ∙ stop_is result stop is))
 
 pub keeps_stopped : {A O Q : Type 0} (holds : Q → Bool) (packs_faults : Q → ℕ) (tells : O → Bool) (faults : O → ℕ) (old new : Driver) (packs packs' : Q) (trace trace' : O) (result : Result A CacheFault) (stop : Stop)
     → IsErrAnd result (λ x. x ≡ fault.Stop stop) → Keeps holds packs_faults tells faults old new packs packs' trace trace' (Some stop)

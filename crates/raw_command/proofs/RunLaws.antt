@@ -1,5 +1,5 @@
 -- WHAT A TRANSFER ENDS WITH, from what its parts answer.
-use Rattle.std.proofs.Common.{◌≡◌, ◌⊎◌, inl, inr, ℕ, ◌+◌, ◌<◌, ◌≤◌, Bool, false, IsTrue, List, [], ◌++◌, take, length, Ok, Err, refl, sym, ap, subst, ◌∙◌, arith, append-nil}
+use Rattle.std.proofs.Common.{◌≡◌, ◌⊎◌, inl, inr, ℕ, ◌+◌, ◌<◌, ◌≤◌, Bool, false, IsTrue, List, [], ◌++◌, take, length, Ok, Err, refl, sym, ap, subst, ◌∙◌, arith, append-nil, length-append}
 use Rattle.std.specs.Prelude.{Some, Result, OnOk, OnErr, ◌*◌, ◌↔◌}
 use Rattle.std.proofs.Math.Seq.{take-length}
 use Rattle.std.proofs.lemmas.List.{length-take-le}
@@ -93,6 +93,11 @@ pub beyond_more : (w : Writing) (n m : ℕ) → n ≤ m → IsBeyond w n → IsB
 beyond_more (Raw t) n m le (inl e) = inl (omega (arith, le, e))
 beyond_more (Raw t) n m le (inr e) = inr (omega (arith, le, e))
 beyond_more (Dump unit kind) n m le e = omega (arith, le, e)
+
+pub beyond_all : (w : Writing) (n : ℕ) (items left rest : List ℕ) → left ≡ items ++ rest → n ≡ length items → IsBeyond w n → IsBeyond w (length left)
+beyond_all w n items left rest all same is =
+    let long : length left ≡ length items + length rest = ap (λ (xs : List ℕ). length xs) all ∙ length-append items rest in
+    beyond_more w n (length left) (omega (arith, same, long)) is
 
 less_or : (n m : ℕ) → (n ≤ m) ⊎ (m < n)
 less_or n m = grind arith
@@ -219,3 +224,17 @@ read_causes t size (Err (fault.Unusable done)) ends = no_cause (λ e. omega (ari
 read_causes t size (Err fault.Store) ends = record { source = λ e. absurd (omega (arith, e)); sink = λ e. absurd (omega (arith, e)); store = λ e. ends.0 }
 read_causes t size (Err fault.Sink) ends = record { source = λ e. absurd (omega (arith, e)); sink = λ e. sink_rose t size ends; store = λ e. absurd (omega (arith, e)) }
 read_causes t size (Err fault.Source) ends = absurd ends
+
+-- and those of a write
+written_rose : (w : Writing) {old new : Outside} → WriteEnds w (Err fault.Sink) old new → Rose old.out_faults new.out_faults ⊎ Rose old.trace_faults new.trace_faults
+written_rose w ends = elim ends [ inl is ↦ inr is.0 | inr is ↦ inl is.rose ]
+
+pub write_causes : (w : Writing) (answer : Answer) {old new : Outside} → WriteEnds w answer old new → HasItsCause (code_of answer) old new
+write_causes w (Ok value) ends = no_cause (λ e. omega (arith, e)) (λ e. omega (arith, e)) (λ e. omega (arith, e))
+write_causes w (Err fault.Outside) ends = no_cause (λ e. omega (arith, e)) (λ e. omega (arith, e)) (λ e. omega (arith, e))
+write_causes w (Err fault.Memory) ends = no_cause (λ e. omega (arith, e)) (λ e. omega (arith, e)) (λ e. omega (arith, e))
+write_causes w (Err (fault.TooLong n)) ends = no_cause (λ e. omega (arith, e)) (λ e. omega (arith, e)) (λ e. omega (arith, e))
+write_causes w (Err (fault.Unusable done)) ends = no_cause (λ e. omega (arith, e)) (λ e. omega (arith, e)) (λ e. omega (arith, e))
+write_causes w (Err fault.Store) ends = record { source = λ e. absurd (omega (arith, e)); sink = λ e. absurd (omega (arith, e)); store = λ e. ends.0 }
+write_causes w (Err fault.Sink) ends = record { source = λ e. absurd (omega (arith, e)); sink = λ e. written_rose w ends; store = λ e. absurd (omega (arith, e)) }
+write_causes w (Err fault.Source) ends = record { source = λ e. ends.0; sink = λ e. absurd (omega (arith, e)); store = λ e. absurd (omega (arith, e)) }

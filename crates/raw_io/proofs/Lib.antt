@@ -1,3 +1,4 @@
+mod Answered
 mod Joins
 mod Exits
 mod Loops

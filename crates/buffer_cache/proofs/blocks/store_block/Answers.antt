@@ -1,11 +1,13 @@
-use Rattle.std.proofs.Common.{◌≡◌, true, false, [], refl, sym, subst}
+use Rattle.std.proofs.Common.{◌≡◌, IsTrue, true, false, [], refl, sym, subst}
 use Rattle.std.specs.Prelude.{Some}
 use Rattle.blocking_io.specs.declared.reached.Reached.TheVariants.{Before}
-use Rattle.blocking_io.specs.FrontsPasses.{asked, Stage, stage, MayAsk, Answers, Stops}
+use Rattle.blocking_io.specs.FrontsPasses.{asked, setup_at, Stage, stage, MayAsk, Answers, Stops}
 use Rattle.blocking_io.specs.Sites.{kind_at}
 use Rattle.blocking_io.proofs.FrontsBlocks.{is_request, all_written, write_stops_of}
 use Rattle.blocking_io.proofs.Sites.{on_err, keeps_err}
+use Rattle.trace_laws.specs.Rest.{HasTables}
 use Rattle.trace_laws.specs.Requests.{writes}
+use Rattle.buffer_cache.specs.Asks.{LeftBy}
 use Rattle.buffer_cache.proofs.Maps.{are_blocks}
 use Rattle.buffer_cache.proofs.Exits.{front_leaves, stores_of}
 use Rattle.buffer_cache.proofs.blocks.store_block.Goals as goal
@@ -28,7 +30,7 @@ returns-in_err-ask_write-clause-stops g c =
     let old : Stage = stage g.P.Packs.tells g.P.Packs.held g.T.Sink.tells g.T.Sink.taken c.args.subsystem.now.world c.args.packs.now c.args.trace.now (Before 0) [] in
     let new : Stage = stage g.P.Packs.tells g.P.Packs.held g.T.Sink.tells g.T.Sink.taken c.ask_write.new.subsystem.world c.ask_write.new.packs c.ask_write.new.trace (Before 0) [] in
     let blocks = are_blocks c.args.subsystem.now.world c.args.unit c.args.block (Some c.args.from.now) c.requires.block in
-    on_err c.from_residual.result _
+    on_err c.from_residual.result (IsTrue new.packs_tell → HasTables (setup_at old) → LeftBy (writes c.args.unit c.args.block c.args.from.now) old new)
     (λ t tables. front_leaves c.args.line c.args.unit c.args.block old new c.requires.block c.args.from.now (cc) (write_stops_of c.in_err-ask_write.field-0.0 (writes c.args.unit c.args.block c.args.from.now) old new c.requires.block.unit_is blocks c.fronts_law.ensures c.law.ensures.sound (c.law.ensures.work c.requires.may.ready.going)
     c.requires.may.ready.quiet (is_request (kind_at c.args.subsystem.now.world c.args.unit) (writes c.args.unit c.args.block c.args.from.now) blocks (all_written (writes c.args.unit c.args.block c.args.from.now) c.args.from.now refl (cc)))
     (subst (λ q. Stops c.in_err-ask_write.field-0.0 c.args.line (asked q c.args.from.now) old new) c.one_block.ensures c.in_err-ask_write.ensures.stops) t tables))

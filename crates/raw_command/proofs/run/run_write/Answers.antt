@@ -1,16 +1,16 @@
 use Rattle.std.specs.Prelude.{IsTrue}
-use Rattle.std.proofs.Common.{inr, refl, ap, length, Some, Err, subst, sym, ◌∙◌, ◌++◌, List, ℕ}
+use Rattle.std.proofs.Common.{inr, refl, ap, length, Some, Err, subst, sym, ◌∙◌, ◌++◌, List, ℕ, ◌+◌, ◌≤◌, arith}
 use Rattle.outside_traits.specs.Puts.{TakesFront}
 use Rattle.pack_geometry.specs.declared.DriveKind.{DriveKind}
 use Rattle.command_parts.specs.Outside.{outside}
 use Rattle.raw_command.specs.Endings.{done_text, kind_of, number_for, target_for, unit_of}
-use Rattle.raw_command.specs.Faults.{done_by}
+use Rattle.raw_command.specs.Faults.{code_of, done_by}
 use Rattle.raw_command.specs.declared.fault.TransferFault.{TransferFault}
 use Rattle.raw_command.specs.declared.fault.TransferFault.TheVariants as fault
 use Rattle.command_parts.specs.Lines.{Told}
-use Rattle.raw_command.specs.Endings.{WriteEnds, bytes_for, fault_text}
+use Rattle.raw_command.specs.Endings.{Stays, WriteEnds, bytes_for, fault_text}
 use Rattle.raw_command.specs.Units.{IsFoundLong}
-use Rattle.raw_command.proofs.RunLaws.{kind_for, not_beyond, took_so, unit_for, write_fault}
+use Rattle.raw_command.proofs.RunLaws.{beyond_all, kind_for, not_beyond, stays_by, stays_fault, took_so, unit_for, write_fault}
 use Rattle.raw_command.proofs.run.run_write.Goals as goal
 
 pub returns-in-Ok-write_all-clause-ends : goal.returns-in-Ok-write_all-clause-ends
@@ -77,3 +77,53 @@ returns-clause-ends g c =
           is (told t);
     })
     e.stops)
+
+pub returns-in-Ok-write_all-clause-taken : goal.returns-in-Ok-write_all-clause-taken
+returns-in-Ok-write_all-clause-taken g c = λ t.
+    subst (λ limit. length (g.S.Source.left c.args.source.now) ≤ length (g.S.Source.left c.read_all.new.source) + limit + 1) c.limit.ensures.limit (c.in_ok-from.ensures.taken t)
+
+pub returns-in-Ok-clause-taken : goal.returns-in-Ok-clause-taken
+returns-in-Ok-clause-taken g c = λ t.
+    subst (λ limit. length (g.S.Source.left c.args.source.now) ≤ length (g.S.Source.left c.read_all.new.source) + limit + 1) c.limit.ensures.limit (c.in_ok-from.ensures.taken t)
+
+pub returns-clause-taken : goal.returns-clause-taken
+returns-clause-taken g c = λ t.
+    subst (λ limit. length (g.S.Source.left c.args.source.now) ≤ length (g.S.Source.left c.read_all.new.source) + limit + 1) c.limit.ensures.limit (c.in_ok-from.ensures.taken t)
+
+pub returns-then-is_beyond-clause-taken : goal.returns-then-is_beyond-clause-taken
+returns-then-is_beyond-clause-taken g c = λ t.
+    subst (λ limit. length (g.S.Source.left c.args.source.now) ≤ length (g.S.Source.left c.read_all.new.source) + limit + 1) c.limit.ensures.limit (c.in_ok-from.ensures.taken t)
+
+pub returns-in-Ok-write_all-clause-stays : goal.returns-in-Ok-write_all-clause-stays
+returns-in-Ok-write_all-clause-stays g c = stays_by 0 (λ e. omega (arith, e)) (λ e. omega (arith, e)) (λ e. omega (arith, e))
+
+pub returns-in-Ok-clause-stays : goal.returns-in-Ok-clause-stays
+returns-in-Ok-clause-stays g c = stays_by 5 (λ e. omega (arith, e)) (λ e. omega (arith, e)) (λ e. omega (arith, e))
+
+pub returns-clause-stays : goal.returns-clause-stays
+returns-clause-stays g c =
+    let keeps = c.in-Err.ensures.keeps in
+    let told = c.refuse-in-Err.ensures in
+    subst (λ (why : TransferFault). Stays (code_of (Err why)) c.args.packs.now c.put.new.packs c.args.out.now c.refuse-in-Err.new.out c.args.trace.now c.put.new.trace) (sym told.same)
+    (stays_fault c.in-Err.fault keeps.only keeps.untraced told.silent)
+
+pub returns-then-is_beyond-clause-stays : goal.returns-then-is_beyond-clause-stays
+returns-then-is_beyond-clause-stays g c =
+    subst (λ (why : TransferFault). Stays (code_of (Err why)) c.args.packs.now c.args.packs.now c.args.out.now c.refuse.new.out c.args.trace.now c.args.trace.now) (sym c.refuse.ensures.same)
+    (stays_by 10 (λ e. omega (arith, e)) (λ e. omega (arith, e)) (λ e. omega (arith, e)))
+
+pub returns-then-is_beyond-clause-ends : goal.returns-then-is_beyond-clause-ends
+returns-then-is_beyond-clause-ends g c =
+    let w = c.args.writing in
+    subst (λ (why : TransferFault). WriteEnds w (Err why)
+    (outside g.S.Source.tells g.S.Source.left g.S.Source.faults g.P.Packs.tells g.P.Packs.held g.P.Packs.faults g.O.Sink.tells g.O.Sink.taken g.O.Sink.faults g.T.Sink.tells g.T.Sink.taken g.T.Sink.faults c.args.source.now c.args.packs.now c.args.out.now c.args.trace.now)
+    (outside g.S.Source.tells g.S.Source.left g.S.Source.faults g.P.Packs.tells g.P.Packs.held g.P.Packs.faults g.O.Sink.tells g.O.Sink.taken g.O.Sink.faults g.T.Sink.tells g.T.Sink.taken g.T.Sink.faults c.read_all.new.source c.args.packs.now c.refuse.new.out c.args.trace.now))
+    (sym c.refuse.ensures.same) (
+      (λ t. beyond_all w c.len.result _ (g.S.Source.left c.args.source.now) (g.S.Source.left c.read_all.new.source) (c.in_ok-from.ensures.bytes t) (c.len.ensures ∙ c.in_ok-from.from.ok.0) (c.is_beyond.ensures.0 c.if-is_beyond.true)),
+      record {
+        packs = λ t. refl;
+        trace = refl;
+        told = λ t. subst (λ (u : ℕ). Told (g.O.Sink.taken c.args.out.now) (g.O.Sink.taken c.refuse.new.out) (fault_text u fault.Outside) (g.O.Sink.faults c.args.out.now) (g.O.Sink.faults c.refuse.new.out))
+            c.unit.ensures (c.refuse.ensures.told t);
+      },
+    )

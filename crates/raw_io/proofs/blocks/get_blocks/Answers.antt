@@ -1,8 +1,8 @@
-use Rattle.std.proofs.Common.{◌≢◌, inl, inr, ℕ, ◌<◌, ◌≤◌, ◌+◌, [], refl, sym, subst, arith}
+use Rattle.std.proofs.Common.{None, Some, ◌≢◌, inl, inr, ℕ, ◌<◌, ◌≤◌, ◌+◌, [], refl, sym, subst, arith}
 use Rattle.partitions.specs.Partitions.{size_of}
 use Rattle.blocking_io.specs.FrontsPasses.{asked, Stage}
 use Rattle.blocking_io.specs.Sites.{site}
-use Rattle.blocking_io.proofs.Sites.{on_err, kind_stays}
+use Rattle.blocking_io.proofs.Sites.{on_err, kind_stays, keeps_err, keeps_join}
 use Rattle.raw_io.proofs.ReadPieces.{gives_first, gives_again, untouched_again}
 use Rattle.raw_io.proofs.blocks.get_blocks.Goals as goal
 use Rattle.raw_io.proofs.blocks.get_blocks.Goals.{then-first-request-via-then-first-request, then-first-request-via-else-first-request+then-first-eq0}
@@ -61,3 +61,33 @@ returns-clause-gives g c =
     (c.in_ok-first.ensures.keeps.units refl c.args.request.unit c.requires.may.unit_is)
     (record { packs = c.in_ok-read_once.ensures.keeps.never_again; trace = c.in_ok-read_once.ensures.keeps.never_again_trace })
     c.in_ok-first.ensures.reads c.in_ok-read_once.ensures.reads
+
+pub returns-in_err-first-clause-keeps : goal.returns-in_err-first-clause-keeps
+returns-in_err-first-clause-keeps g c =
+    let keeps = c.in_err-first.ensures.keeps in
+    keeps_err g.P.Packs.tells g.P.Packs.faults g.T.Sink.tells g.T.Sink.faults c.args.subsystem.now c.read_once.new.subsystem c.args.packs.now c.read_once.new.packs c.args.trace.now c.read_once.new.trace
+    c.from_residual.result c.in_err-first.field-0.0 c.from_residual.ensures.1 keeps.outstanding keeps.never_again keeps.never_again_trace keeps.causes
+
+pub returns-then-first-request-clause-keeps : goal.returns-then-first-request-clause-keeps
+returns-then-first-request-clause-keeps g c =
+    c.in_ok-first.ensures.keeps
+
+pub read_once-requires-2-clause-may : goal.read_once-requires-2-clause-may
+read_once-requires-2-clause-may g c =
+    record {
+      ready = c.in_ok-first.ensures.keeps.ready refl;
+      room = subst (λ n. 1 ≤ n) (sym c.in_ok-first.ensures.keeps.outstanding) c.requires.may.room;
+      unit_is = c.in_ok-first.ensures.keeps.units refl c.args.request.unit c.requires.may.unit_is;
+    }
+
+pub returns-in_err-read_once-clause-keeps : goal.returns-in_err-read_once-clause-keeps
+returns-in_err-read_once-clause-keeps g c =
+    let joined = keeps_join g.P.Packs.tells g.P.Packs.faults g.T.Sink.tells g.T.Sink.faults c.args.subsystem.now c.read_once.new.subsystem c.read_once-2.new.subsystem c.args.packs.now c.read_once.new.packs
+    c.read_once-2.new.packs c.args.trace.now c.read_once.new.trace c.read_once-2.new.trace (Some c.in_err-read_once.field-0.0) c.in_ok-first.ensures.keeps c.in_err-read_once.ensures.keeps in
+    keeps_err g.P.Packs.tells g.P.Packs.faults g.T.Sink.tells g.T.Sink.faults c.args.subsystem.now c.read_once-2.new.subsystem c.args.packs.now c.read_once-2.new.packs c.args.trace.now c.read_once-2.new.trace
+    c.from_residual-in_err-read_once.result c.in_err-read_once.field-0.0 c.from_residual-in_err-read_once.ensures.1 joined.outstanding joined.never_again joined.never_again_trace joined.causes
+
+pub returns-clause-keeps : goal.returns-clause-keeps
+returns-clause-keeps g c =
+    keeps_join g.P.Packs.tells g.P.Packs.faults g.T.Sink.tells g.T.Sink.faults c.args.subsystem.now c.read_once.new.subsystem c.read_once-2.new.subsystem c.args.packs.now c.read_once.new.packs
+    c.read_once-2.new.packs c.args.trace.now c.read_once.new.trace c.read_once-2.new.trace None c.in_ok-first.ensures.keeps c.in_ok-read_once.ensures.keeps

@@ -1,11 +1,11 @@
-use Rattle.std.proofs.Common.{◌≤◌, ◌+◌, ◌-◌, ◌*◌, ◌∙◌, take, drop, true, None, refl, sym, subst, arith, rules}
+use Rattle.std.proofs.Common.{◌≤◌, ◌+◌, ◌-◌, ◌*◌, ◌∙◌, take, drop, true, None, refl, sym, subst, arith, rules, Some}
 use Rattle.partitions.specs.declared.Part.TheVariants.{B}
 use Rattle.partitions.specs.Partitions.{size_of}
 use Rattle.trace_laws.specs.Bytes.{dumped}
 use Rattle.blocking_io.specs.FrontsPasses.{Stage}
 use Rattle.blocking_io.specs.Sites.{site, kind_at}
 use Rattle.raw_io.specs.Pieces.{IsPiece}
-use Rattle.blocking_io.proofs.Sites.{on_err, keeps_none, keeps_join}
+use Rattle.blocking_io.proofs.Sites.{on_err, keeps_none, keeps_err, keeps_join}
 use Rattle.raw_io.proofs.Dumps.{dumped_long}
 use Rattle.raw_io.proofs.WriteRanges.{written_none, written_whole, turn_written, write_more, write_ends, write_stops}
 use Rattle.raw_io.proofs.dumping.dump_range.Goals as goal
@@ -84,3 +84,19 @@ returns-clause-puts g c =
     let test = c.loop-done-test.false in
     let long = dumped_long c.args.memory.now in
     written_whole c.args.unit B c.args.place c.loop-done.done (dumped c.args.memory.now) old new (λ lt. absurd (omega (arith, all, test, long, lt))) c.loop-done.invariant.so
+
+pub returns-in_err-written-clause-keeps : goal.returns-in_err-written-clause-keeps
+returns-in_err-written-clause-keeps g c =
+    let joined = keeps_join g.P.Packs.tells g.P.Packs.faults g.T.Sink.tells g.T.Sink.faults c.args.subsystem.now c.loop-done.subsystem c.dump_piece.new.subsystem c.args.packs.now c.loop-done.packs
+    c.dump_piece.new.packs c.args.trace.now c.loop-done.trace c.dump_piece.new.trace (Some c.in_err-written.field-0.0) c.loop-done.invariant.keeps c.in_err-written.ensures.keeps in
+    keeps_err g.P.Packs.tells g.P.Packs.faults g.T.Sink.tells g.T.Sink.faults c.args.subsystem.now c.dump_piece.new.subsystem c.args.packs.now c.dump_piece.new.packs c.args.trace.now c.dump_piece.new.trace
+    c.from_residual.result c.in_err-written.field-0.0 c.from_residual.ensures.1 joined.outstanding joined.never_again joined.never_again_trace joined.causes
+
+pub returns-then-written-piece-clause-keeps : goal.returns-then-written-piece-clause-keeps
+returns-then-written-piece-clause-keeps g c =
+    keeps_join g.P.Packs.tells g.P.Packs.faults g.T.Sink.tells g.T.Sink.faults c.args.subsystem.now c.loop-done.subsystem c.dump_piece.new.subsystem c.args.packs.now c.loop-done.packs
+    c.dump_piece.new.packs c.args.trace.now c.loop-done.trace c.dump_piece.new.trace None c.loop-done.invariant.keeps c.in_ok-written.ensures.keeps
+
+pub returns-clause-keeps : goal.returns-clause-keeps
+returns-clause-keeps g c =
+    c.loop-done.invariant.keeps

@@ -1,8 +1,8 @@
-use Rattle.std.proofs.Common.{◌+◌, ◌-◌, [], ◌++◌, None, false, length, refl, ap, subst, arith, rules}
+use Rattle.std.proofs.Common.{◌+◌, ◌-◌, [], ◌++◌, None, false, length, refl, ap, subst, arith, rules, Some}
 use Rattle.blocking_io.specs.FrontsPasses.{Stage}
 use Rattle.blocking_io.specs.Sites.{site}
 use Rattle.raw_io.specs.Pieces.{IsPiece, GivesPiece}
-use Rattle.blocking_io.proofs.Sites.{on_err, keeps_none, keeps_join}
+use Rattle.blocking_io.proofs.Sites.{on_err, keeps_none, keeps_err, keeps_join}
 use Rattle.raw_io.proofs.Loops.{turn_blocks}
 use Rattle.raw_io.proofs.ReadRanges.{read_none, read_whole, read_more, read_ends, read_stops}
 use Rattle.raw_io.proofs.reading.read_range.Goals as goal
@@ -79,3 +79,19 @@ returns-clause-gives g c =
     let long = c.loop-done.invariant.long in
     let test = c.loop-done-test.false in
     read_whole c.args.unit c.args.part c.args.at c.loop-done.done c.args.into.now c.loop-done.into old new (λ lt. absurd (omega (arith, long, test, lt))) c.loop-done.invariant.so
+
+pub returns-in_err-size-clause-keeps : goal.returns-in_err-size-clause-keeps
+returns-in_err-size-clause-keeps g c =
+    let joined = keeps_join g.P.Packs.tells g.P.Packs.faults g.T.Sink.tells g.T.Sink.faults c.args.subsystem.now c.loop-done.subsystem c.read_piece.new.subsystem c.args.packs.now c.loop-done.packs
+    c.read_piece.new.packs c.args.trace.now c.loop-done.trace c.read_piece.new.trace (Some c.in_err-size.field-0.0) c.loop-done.invariant.keeps c.in_err-size.ensures.keeps in
+    keeps_err g.P.Packs.tells g.P.Packs.faults g.T.Sink.tells g.T.Sink.faults c.args.subsystem.now c.read_piece.new.subsystem c.args.packs.now c.read_piece.new.packs c.args.trace.now c.read_piece.new.trace
+    c.from_residual.result c.in_err-size.field-0.0 c.from_residual.ensures.1 joined.outstanding joined.never_again joined.never_again_trace joined.causes
+
+pub returns-then-size-piece-clause-keeps : goal.returns-then-size-piece-clause-keeps
+returns-then-size-piece-clause-keeps g c =
+    keeps_join g.P.Packs.tells g.P.Packs.faults g.T.Sink.tells g.T.Sink.faults c.args.subsystem.now c.loop-done.subsystem c.read_piece.new.subsystem c.args.packs.now c.loop-done.packs
+    c.read_piece.new.packs c.args.trace.now c.loop-done.trace c.read_piece.new.trace None c.loop-done.invariant.keeps c.in_ok-size.ensures.keeps
+
+pub returns-clause-keeps : goal.returns-clause-keeps
+returns-clause-keeps g c =
+    c.loop-done.invariant.keeps

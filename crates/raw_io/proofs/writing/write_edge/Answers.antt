@@ -1,8 +1,8 @@
-use Rattle.std.proofs.Common.{refl, sym, subst}
+use Rattle.std.proofs.Common.{◌*◌, ◌≤◌, None, Some, refl, sym, ap, ◌∙◌, subst, arith}
 use Rattle.blocking_io.specs.FrontsPasses.{Stage}
 use Rattle.blocking_io.specs.Sites.{site, kind_at}
 use Rattle.raw_io.specs.Pieces.{PutsPiece}
-use Rattle.blocking_io.proofs.Sites.{on_err, kind_stays}
+use Rattle.blocking_io.proofs.Sites.{on_err, kind_stays, keeps_err, keeps_join}
 use Rattle.raw_io.proofs.WritePieces.{stops_read, puts_none, one_read, other_bytes, puts_edge, stops_edge}
 use Rattle.raw_io.proofs.writing.write_edge.Goals as goal
 
@@ -50,3 +50,56 @@ returns-clause-puts g c =
     (c.in_ok-get_blocks.ensures.keeps.units refl c.args.piece.request.unit c.requires.may.unit_is)
     (record { packs = c.in_ok-written.ensures.keeps.never_again; trace = c.in_ok-written.ensures.keeps.never_again_trace })
     (one_read c.args.piece c.in_ok-get_blocks.field-0 _ c.get_blocks.new.into old mid c.requires.one c.if-branch-eq0.false c.in_ok-get_blocks.ensures.gives) c.in_ok-written.written c.in_ok-written.ensures.puts)
+
+pub get_blocks-requires-clause-blocks : goal.get_blocks-requires-clause-blocks
+get_blocks-requires-clause-blocks g c =
+    let blocks = c.requires.piece.inside in
+    record { id = blocks.id; some = blocks.some; few = blocks.few; last = blocks.last; offset = blocks.offset; inside = blocks.inside }
+
+pub returns-in_err-get_blocks-clause-keeps : goal.returns-in_err-get_blocks-clause-keeps
+returns-in_err-get_blocks-clause-keeps g c =
+    let keeps = c.in_err-get_blocks.ensures.keeps in
+    keeps_err g.P.Packs.tells g.P.Packs.faults g.T.Sink.tells g.T.Sink.faults c.args.subsystem.now c.get_blocks.new.subsystem c.args.packs.now c.get_blocks.new.packs c.args.trace.now c.get_blocks.new.trace
+    c.from_residual.result c.in_err-get_blocks.field-0.0 c.from_residual.ensures.1 keeps.outstanding keeps.never_again keeps.never_again_trace keeps.causes
+
+pub returns-then-branch-eq0-clause-keeps : goal.returns-then-branch-eq0-clause-keeps
+returns-then-branch-eq0-clause-keeps g c =
+    c.in_ok-get_blocks.ensures.keeps
+
+pub put_blocks-requires-clause-may : goal.put_blocks-requires-clause-may
+put_blocks-requires-clause-may g c =
+    record {
+      ready = c.in_ok-get_blocks.ensures.keeps.ready refl;
+      room = subst (λ n. 1 ≤ n) (sym c.in_ok-get_blocks.ensures.keeps.outstanding) c.requires.may.room;
+      unit_is = c.in_ok-get_blocks.ensures.keeps.units refl c.args.piece.request.unit c.requires.may.unit_is;
+    }
+
+pub put_blocks-requires-clause-writes : goal.put_blocks-requires-clause-writes
+put_blocks-requires-clause-writes g c =
+    c.requires.piece.write_is
+
+pub put_blocks-requires-clause-size : goal.put_blocks-requires-clause-size
+put_blocks-requires-clause-size g c =
+    c.merge.array_long ∙ sym (ap (λ n. 512 * n) c.requires.one)
+
+pub returns-in_err-written-clause-keeps : goal.returns-in_err-written-clause-keeps
+returns-in_err-written-clause-keeps g c =
+    let joined = keeps_join g.P.Packs.tells g.P.Packs.faults g.T.Sink.tells g.T.Sink.faults c.args.subsystem.now c.get_blocks.new.subsystem c.put_blocks.new.subsystem c.args.packs.now c.get_blocks.new.packs
+    c.put_blocks.new.packs c.args.trace.now c.get_blocks.new.trace c.put_blocks.new.trace (Some c.in_err-written.field-0.0) c.in_ok-get_blocks.ensures.keeps c.in_err-written.ensures.keeps in
+    keeps_err g.P.Packs.tells g.P.Packs.faults g.T.Sink.tells g.T.Sink.faults c.args.subsystem.now c.put_blocks.new.subsystem c.args.packs.now c.put_blocks.new.packs c.args.trace.now c.put_blocks.new.trace
+    c.from_residual-in_err-written.result c.in_err-written.field-0.0 c.from_residual-in_err-written.ensures.1 joined.outstanding joined.never_again joined.never_again_trace joined.causes
+
+pub bytes_among-requires-clause-skip : goal.bytes_among-requires-clause-skip
+bytes_among-requires-clause-skip g c =
+    c.requires.piece.cut.skip
+
+pub bytes_among-requires-clause-few : goal.bytes_among-requires-clause-few
+bytes_among-requires-clause-few g c =
+    let few = c.in_ok-written.ensures.puts.few in
+    let most = c.requires.piece.inside.few in
+    omega (arith, few, most)
+
+pub returns-clause-keeps : goal.returns-clause-keeps
+returns-clause-keeps g c =
+    keeps_join g.P.Packs.tells g.P.Packs.faults g.T.Sink.tells g.T.Sink.faults c.args.subsystem.now c.get_blocks.new.subsystem c.put_blocks.new.subsystem c.args.packs.now c.get_blocks.new.packs
+    c.put_blocks.new.packs c.args.trace.now c.get_blocks.new.trace c.put_blocks.new.trace None c.in_ok-get_blocks.ensures.keeps c.in_ok-written.ensures.keeps

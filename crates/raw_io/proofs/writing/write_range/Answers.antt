@@ -1,7 +1,7 @@
-use Rattle.std.proofs.Common.{◌+◌, ◌-◌, take, drop, refl, arith, None}
+use Rattle.std.proofs.Common.{◌+◌, ◌-◌, take, drop, refl, arith, None, Some}
 use Rattle.blocking_io.specs.FrontsPasses.{Stage}
 use Rattle.blocking_io.specs.Sites.{site}
-use Rattle.blocking_io.proofs.Sites.{on_err, keeps_none, keeps_join}
+use Rattle.blocking_io.proofs.Sites.{on_err, keeps_none, keeps_err, keeps_join}
 use Rattle.raw_io.proofs.WriteRanges.{written_none, written_whole, piece_of, turn_written, write_more, write_ends, write_stops}
 use Rattle.raw_io.proofs.writing.write_range.Goals as goal
 
@@ -67,3 +67,19 @@ returns-clause-puts g c =
     let new : Stage = site g.P.Packs.tells g.P.Packs.held g.T.Sink.tells g.T.Sink.taken c.loop-done.subsystem.world c.loop-done.packs c.loop-done.trace in
     let test = c.loop-done-test.false in
     written_whole c.args.unit c.args.part c.args.at c.loop-done.done c.args.from.now old new (λ lt. absurd (omega (arith, test, lt))) c.loop-done.invariant.so
+
+pub returns-in_err-size-clause-keeps : goal.returns-in_err-size-clause-keeps
+returns-in_err-size-clause-keeps g c =
+    let joined = keeps_join g.P.Packs.tells g.P.Packs.faults g.T.Sink.tells g.T.Sink.faults c.args.subsystem.now c.loop-done.subsystem c.write_piece.new.subsystem c.args.packs.now c.loop-done.packs
+    c.write_piece.new.packs c.args.trace.now c.loop-done.trace c.write_piece.new.trace (Some c.in_err-size.field-0.0) c.loop-done.invariant.keeps c.in_err-size.ensures.keeps in
+    keeps_err g.P.Packs.tells g.P.Packs.faults g.T.Sink.tells g.T.Sink.faults c.args.subsystem.now c.write_piece.new.subsystem c.args.packs.now c.write_piece.new.packs c.args.trace.now c.write_piece.new.trace
+    c.from_residual.result c.in_err-size.field-0.0 c.from_residual.ensures.1 joined.outstanding joined.never_again joined.never_again_trace joined.causes
+
+pub returns-then-size-piece-clause-keeps : goal.returns-then-size-piece-clause-keeps
+returns-then-size-piece-clause-keeps g c =
+    keeps_join g.P.Packs.tells g.P.Packs.faults g.T.Sink.tells g.T.Sink.faults c.args.subsystem.now c.loop-done.subsystem c.write_piece.new.subsystem c.args.packs.now c.loop-done.packs
+    c.write_piece.new.packs c.args.trace.now c.loop-done.trace c.write_piece.new.trace None c.loop-done.invariant.keeps c.in_ok-size.ensures.keeps
+
+pub returns-clause-keeps : goal.returns-clause-keeps
+returns-clause-keeps g c =
+    c.loop-done.invariant.keeps

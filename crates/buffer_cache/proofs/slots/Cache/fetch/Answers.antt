@@ -12,7 +12,7 @@ pub returns-in_err-fetch_block-clause-stops : goal.returns-in_err-fetch_block-cl
 returns-in_err-fetch_block-clause-stops g c =
     let old : Stage = site g.P.Packs.tells g.P.Packs.held g.T.Sink.tells g.T.Sink.taken c.args.subsystem.now.world c.args.packs.now c.args.trace.now in
     let new : Stage = site g.P.Packs.tells g.P.Packs.held g.T.Sink.tells g.T.Sink.taken c.fetch_block.new.subsystem.world c.fetch_block.new.packs c.fetch_block.new.trace in
-    on_err c.from_residual.result _ (λ t tables fit. holds_untouched 0 0 None c.args.self.now old new (c.in_err-fetch_block.ensures.stops t tables))
+    on_err c.from_residual.result (IfTold c.args.self.now old new (Holds 0 0 None c.args.self.now old new)) (λ t tables fit. holds_untouched 0 0 None c.args.self.now old new (c.in_err-fetch_block.ensures.stops t tables))
 
 pub make_room-requires-clause-may : goal.make_room-requires-clause-may
 make_room-requires-clause-may g c =
@@ -57,3 +57,30 @@ returns-then-not-branch-clause-may g c =
       room = subst (λ n. 1 ≤ n) (sym c.in_ok-fetch_block.ensures.keeps.outstanding) c.requires.may.room;
       entries = all_data old mid c.args.self.now.entries c.in_ok-fetch_block.ensures.fetches.asks.goes.setup (c.in_ok-fetch_block.ensures.keeps.units refl) c.requires.may.entries;
     }
+
+pub fetch_block-requires-clause-may : goal.fetch_block-requires-clause-may
+fetch_block-requires-clause-may g c = record { ready = c.requires.may.ready; room = c.requires.may.room; unit_is = c.requires.block.unit_is }
+
+pub returns-in_err-fetch_block-clause-keeps : goal.returns-in_err-fetch_block-clause-keeps
+returns-in_err-fetch_block-clause-keeps g c =
+    let keeps = c.in_err-fetch_block.ensures.keeps in
+    keeps_err g.P.Packs.tells g.P.Packs.faults g.T.Sink.tells g.T.Sink.faults c.args.subsystem.now c.fetch_block.new.subsystem c.args.packs.now c.fetch_block.new.packs c.args.trace.now c.fetch_block.new.trace
+    c.from_residual.result c.in_err-fetch_block.field-0.0 c.from_residual.ensures.1 keeps.outstanding keeps.never_again keeps.never_again_trace keeps.causes
+
+pub returns-then-not-branch-clause-fetches : goal.returns-then-not-branch-clause-fetches
+returns-then-not-branch-clause-fetches g c =
+    let old : Stage = site g.P.Packs.tells g.P.Packs.held g.T.Sink.tells g.T.Sink.taken c.args.subsystem.now.world c.args.packs.now c.args.trace.now in
+    let mid : Stage = site g.P.Packs.tells g.P.Packs.held g.T.Sink.tells g.T.Sink.taken c.fetch_block.new.subsystem.world c.fetch_block.new.packs c.fetch_block.new.trace in
+    let fetches = subst (λ b. Fetches c.args.line c.args.unit c.args.block b c.fetch_block.new.into old mid) c.if-not-branch.true c.in_ok-fetch_block.ensures.fetches in
+    record { state = refl; asks = fetches.asks; told = fetches.told }
+
+pub returns-then-not-branch-clause-keeps : goal.returns-then-not-branch-clause-keeps
+returns-then-not-branch-clause-keeps g c = c.in_ok-fetch_block.ensures.keeps
+
+pub returns-clause-may : goal.returns-clause-may
+returns-clause-may g c = c.in_ok-make_room.ensures.may
+
+pub returns-clause-keeps : goal.returns-clause-keeps
+returns-clause-keeps g c =
+    keeps_join g.P.Packs.tells g.P.Packs.faults g.T.Sink.tells g.T.Sink.faults c.args.subsystem.now c.fetch_block.new.subsystem c.make_room.new.subsystem c.args.packs.now c.fetch_block.new.packs
+    c.make_room.new.packs c.args.trace.now c.fetch_block.new.trace c.make_room.new.trace None c.in_ok-fetch_block.ensures.keeps c.in_ok-make_room.ensures.keeps

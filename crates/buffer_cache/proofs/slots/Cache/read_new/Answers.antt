@@ -6,8 +6,8 @@ use Rattle.buffer_cache.specs.Passes.{site}
 use Rattle.trace_laws.specs.Entries.{State, entry_of}
 use Rattle.buffer_cache.specs.Asks.{IsData}
 use Rattle.buffer_cache.specs.Calls.{Fetched}
-use Rattle.buffer_cache.proofs.Stays.{data_stays, room_none, put_data}
-use Rattle.buffer_cache.proofs.Wholes.{read_unusable, read_usable, holds_read}
+use Rattle.buffer_cache.proofs.Stays.{data_stays, holds_more, room_none, put_data}
+use Rattle.buffer_cache.proofs.Wholes.{read_unusable, read_usable, holds_read, keeps_stopped, never_stopped}
 use Rattle.buffer_cache.proofs.slots.Cache.read_new.Goals as goal
 
 pub returns-then-not-branch-clause-reads : goal.returns-then-not-branch-clause-reads
@@ -60,3 +60,29 @@ returns-clause-may g c =
           (put_data mid.world (not c.insert.result) c.args.unit c.args.block c.fetch.new.into false c.fetch.new.self
           (data_stays old mid c.args.unit c.args.block c.in_ok-fetch.ensures.fetches.asks.goes.setup (c.in_ok-fetch.ensures.keeps.units refl) c.requires.block) c.in_ok-fetch.ensures.may.entries);
     }
+
+pub returns-in_err-fetch-clause-reads : goal.returns-in_err-fetch-clause-reads
+returns-in_err-fetch-clause-reads g c = never_stopped c.from_residual.result c.in_err-fetch.field-0.0 c.from_residual.ensures.1
+
+pub returns-in_err-fetch-clause-holds : goal.returns-in_err-fetch-clause-holds
+returns-in_err-fetch-clause-holds g c =
+    let old : Stage = site g.P.Packs.tells g.P.Packs.held g.T.Sink.tells g.T.Sink.taken c.args.subsystem.now.world c.args.packs.now c.args.trace.now in
+    let new : Stage = site g.P.Packs.tells g.P.Packs.held g.T.Sink.tells g.T.Sink.taken c.fetch.new.subsystem.world c.fetch.new.packs c.fetch.new.trace in
+    λ t tables fit. holds_more c.args.unit c.args.block None c.args.self.now old new (c.in_err-fetch.ensures.stops t tables fit)
+
+pub returns-in_err-fetch-clause-may : goal.returns-in_err-fetch-clause-may
+returns-in_err-fetch-clause-may g c = never_stopped c.from_residual.result c.in_err-fetch.field-0.0 c.from_residual.ensures.1
+
+pub returns-in_err-fetch-clause-keeps : goal.returns-in_err-fetch-clause-keeps
+returns-in_err-fetch-clause-keeps g c =
+    keeps_stopped g.P.Packs.tells g.P.Packs.faults g.T.Sink.tells g.T.Sink.faults c.args.subsystem.now c.fetch.new.subsystem c.args.packs.now c.fetch.new.packs c.args.trace.now c.fetch.new.trace
+    c.from_residual.result c.in_err-fetch.field-0.0 c.from_residual.ensures.1 c.in_err-fetch.ensures.keeps
+
+pub returns-then-not-branch-clause-may : goal.returns-then-not-branch-clause-may
+returns-then-not-branch-clause-may g c = λ e. c.in_ok-fetch.ensures.may
+
+pub returns-then-not-branch-clause-keeps : goal.returns-then-not-branch-clause-keeps
+returns-then-not-branch-clause-keeps g c = c.in_ok-fetch.ensures.keeps
+
+pub returns-clause-keeps : goal.returns-clause-keeps
+returns-clause-keeps g c = c.in_ok-fetch.ensures.keeps

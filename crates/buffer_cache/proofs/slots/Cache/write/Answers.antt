@@ -1,12 +1,13 @@
-use Rattle.std.proofs.Common.{sym, ◌∙◌, subst}
-use Rattle.std.specs.Prelude.{Some}
+use Rattle.std.proofs.Common.{◌≡◌, inl, refl, sym, ◌∙◌, subst}
+use Rattle.std.specs.Prelude.{None, Some}
 use Rattle.std.specs.List.{AllByRecursion}
 use Rattle.buffer_cache.specs.Passes.{Stage}
-use Rattle.buffer_cache.specs.Passes.{site}
-use Rattle.trace_laws.specs.Entries.{State}
+use Rattle.buffer_cache.specs.Passes.{setup_at, site}
+use Rattle.buffer_cache.proofs.Passes.{keeps_none, others_none}
+use Rattle.trace_laws.specs.Entries.{State, entry_of}
 use Rattle.buffer_cache.specs.Asks.{IsData}
-use Rattle.buffer_cache.specs.Calls.{IfTold, Holds}
-use Rattle.buffer_cache.proofs.Stays.{no_entry, some_entry, change_data}
+use Rattle.buffer_cache.specs.Calls.{MayUse, IfTold, Holds, Writes, is_done}
+use Rattle.buffer_cache.proofs.Stays.{never_some, no_entry, some_entry, change_data}
 use Rattle.buffer_cache.proofs.Wholes.{write_entry, not_changed}
 use Rattle.buffer_cache.proofs.slots.Cache.write.Goals as goal
 
@@ -31,3 +32,42 @@ returns-clause-holds g c =
     let none = no_entry c.args.unit c.args.block c.args.self.now.entries (sym c.if-change.false ∙ c.change.ensures.found) in
     subst (λ (s : State). IfTold s old new (Holds c.args.unit c.args.block (Some c.args.from.now) s old new))
     (c.change.ensures.changes ∙ not_changed c.args.unit c.args.block c.args.from.now c.args.self.now none) c.write_new.ensures.holds
+
+pub returns-then-change-clause-holds : goal.returns-then-change-clause-holds
+returns-then-change-clause-holds g c =
+    let old : Stage = site g.P.Packs.tells g.P.Packs.held g.T.Sink.tells g.T.Sink.taken c.args.subsystem.now.world c.args.packs.now c.args.trace.now in
+    λ t tables fit. record { each = λ u b. inl refl; others = others_none (setup_at old) }
+
+pub returns-then-change-clause-no_call : goal.returns-then-change-clause-no_call
+returns-then-change-clause-no_call g c = λ some. (refl, (refl, refl))
+
+pub returns-then-change-clause-keeps : goal.returns-then-change-clause-keeps
+returns-then-change-clause-keeps g c = keeps_none g.P.Packs.tells g.P.Packs.faults g.T.Sink.tells g.T.Sink.faults c.args.subsystem.now c.args.packs.now c.args.trace.now c.requires.may.ready
+
+pub write_new-requires-clause-may : goal.write_new-requires-clause-may
+write_new-requires-clause-may g c =
+    let none = no_entry c.args.unit c.args.block c.args.self.now.entries (sym c.if-change.false ∙ c.change.ensures.found) in
+    subst (λ (s : State). MayUse s c.args.subsystem.now) (sym (c.change.ensures.changes ∙ not_changed c.args.unit c.args.block c.args.from.now c.args.self.now none)) c.requires.may
+
+pub write_new-requires-clause-new : goal.write_new-requires-clause-new
+write_new-requires-clause-new g c =
+    let none = no_entry c.args.unit c.args.block c.args.self.now.entries (sym c.if-change.false ∙ c.change.ensures.found) in
+    subst (λ (s : State). entry_of c.args.unit c.args.block s.entries ≡ None) (sym (c.change.ensures.changes ∙ not_changed c.args.unit c.args.block c.args.from.now c.args.self.now none)) none
+
+pub returns-clause-writes : goal.returns-clause-writes
+returns-clause-writes g c =
+    let old : Stage = site g.P.Packs.tells g.P.Packs.held g.T.Sink.tells g.T.Sink.taken c.args.subsystem.now.world c.args.packs.now c.args.trace.now in
+    let new : Stage = site g.P.Packs.tells g.P.Packs.held g.T.Sink.tells g.T.Sink.taken c.write_new.new.subsystem.world c.write_new.new.packs c.write_new.new.trace in
+    let none = no_entry c.args.unit c.args.block c.args.self.now.entries (sym c.if-change.false ∙ c.change.ensures.found) in
+    λ e. subst (λ (s : State). Writes c.args.line c.args.unit c.args.block (is_done c.write_new.result) c.args.from.now s c.write_new.new.self old new) (c.change.ensures.changes ∙ not_changed c.args.unit c.args.block c.args.from.now c.args.self.now none) (c.write_new.ensures.writes e)
+
+pub returns-clause-no_call : goal.returns-clause-no_call
+returns-clause-no_call g c =
+    let none = no_entry c.args.unit c.args.block c.args.self.now.entries (sym c.if-change.false ∙ c.change.ensures.found) in
+    λ some. absurd (never_some c.args.unit c.args.block c.args.self.now.entries none some)
+
+pub returns-clause-may : goal.returns-clause-may
+returns-clause-may g c = c.write_new.ensures.may
+
+pub returns-clause-keeps : goal.returns-clause-keeps
+returns-clause-keeps g c = c.write_new.ensures.keeps

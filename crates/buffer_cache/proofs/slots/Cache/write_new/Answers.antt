@@ -5,8 +5,8 @@ use Rattle.buffer_cache.specs.Passes.{site}
 use Rattle.buffer_cache.proofs.Passes.{keeps_join}
 use Rattle.trace_laws.specs.Entries.{State, entry_of}
 use Rattle.buffer_cache.specs.Calls.{Fetched}
-use Rattle.buffer_cache.proofs.Stays.{data_stays, room_none}
-use Rattle.buffer_cache.proofs.Wholes.{write_unusable, write_usable, holds_write, holds_stored, keeps_stopped}
+use Rattle.buffer_cache.proofs.Stays.{data_stays, holds_more, room_none}
+use Rattle.buffer_cache.proofs.Wholes.{write_unusable, write_usable, holds_write, holds_stored, keeps_stopped, never_stopped}
 use Rattle.buffer_cache.proofs.slots.Cache.write_new.Goals as goal
 
 pub returns-then-not-branch-clause-writes : goal.returns-then-not-branch-clause-writes
@@ -75,3 +75,38 @@ pub returns-clause-keeps : goal.returns-clause-keeps
 returns-clause-keeps g c =
     keeps_join g.P.Packs.tells g.P.Packs.faults g.T.Sink.tells g.T.Sink.faults c.args.subsystem.now c.fetch.new.subsystem c.place.new.subsystem c.args.packs.now c.fetch.new.packs
     c.place.new.packs c.args.trace.now c.fetch.new.trace c.place.new.trace None c.in_ok-fetch.ensures.keeps c.in_ok-place.ensures.keeps
+
+pub returns-in_err-fetch-clause-writes : goal.returns-in_err-fetch-clause-writes
+returns-in_err-fetch-clause-writes g c = never_stopped c.from_residual.result c.in_err-fetch.field-0.0 c.from_residual.ensures.1
+
+pub returns-in_err-fetch-clause-holds : goal.returns-in_err-fetch-clause-holds
+returns-in_err-fetch-clause-holds g c =
+    let old : Stage = site g.P.Packs.tells g.P.Packs.held g.T.Sink.tells g.T.Sink.taken c.args.subsystem.now.world c.args.packs.now c.args.trace.now in
+    let new : Stage = site g.P.Packs.tells g.P.Packs.held g.T.Sink.tells g.T.Sink.taken c.fetch.new.subsystem.world c.fetch.new.packs c.fetch.new.trace in
+    λ t tables fit. holds_more c.args.unit c.args.block (Some c.args.from.now) c.args.self.now old new (c.in_err-fetch.ensures.stops t tables fit)
+
+pub returns-in_err-fetch-clause-may : goal.returns-in_err-fetch-clause-may
+returns-in_err-fetch-clause-may g c = never_stopped c.from_residual.result c.in_err-fetch.field-0.0 c.from_residual.ensures.1
+
+pub returns-in_err-fetch-clause-keeps : goal.returns-in_err-fetch-clause-keeps
+returns-in_err-fetch-clause-keeps g c =
+    keeps_stopped g.P.Packs.tells g.P.Packs.faults g.T.Sink.tells g.T.Sink.faults c.args.subsystem.now c.fetch.new.subsystem c.args.packs.now c.fetch.new.packs c.args.trace.now c.fetch.new.trace
+    c.from_residual.result c.in_err-fetch.field-0.0 c.from_residual.ensures.1 c.in_err-fetch.ensures.keeps
+
+pub returns-then-not-branch-clause-may : goal.returns-then-not-branch-clause-may
+returns-then-not-branch-clause-may g c = λ e. c.in_ok-fetch.ensures.may
+
+pub returns-then-not-branch-clause-keeps : goal.returns-then-not-branch-clause-keeps
+returns-then-not-branch-clause-keeps g c = c.in_ok-fetch.ensures.keeps
+
+pub place-requires-clause-may : goal.place-requires-clause-may
+place-requires-clause-may g c = c.in_ok-fetch.ensures.may
+
+pub returns-in_err-place-clause-writes : goal.returns-in_err-place-clause-writes
+returns-in_err-place-clause-writes g c = never_stopped c.from_residual-in_err-place.result c.in_err-place.field-0.0 c.from_residual-in_err-place.ensures.1
+
+pub returns-in_err-place-clause-may : goal.returns-in_err-place-clause-may
+returns-in_err-place-clause-may g c = never_stopped c.from_residual-in_err-place.result c.in_err-place.field-0.0 c.from_residual-in_err-place.ensures.1
+
+pub returns-clause-may : goal.returns-clause-may
+returns-clause-may g c = λ e. c.in_ok-place.ensures.may
