@@ -2,6 +2,7 @@
 use Rattle.std.proofs.Common.{◌≡◌, ℕ, List, refl, sym, ap, ◌∙◌, Option, Some, None}
 use Rattle.std.specs.Prelude.{slice_set, unwrap_or}
 use Rattle.std.proofs.lemmas.List.{set-get_or}
+use Rattle.hardware_table.specs.Noise.{Book}
 use Rattle.driver_machine.specs.World.{World, UnitView, AdapterView, Held, no_held, unit_at, adapter_at, slot_at, held_in, slot_in_hand, adapter_of, new_adapter_view}
 use Rattle.driver_machine.specs.Acts.{scene_of, with_scene}
 use Rattle.driver_machine.specs.Guards.{InHand}
@@ -56,3 +57,16 @@ pub by_held : (old mid : State) (u p : ℕ) (v : UnitView) (h : Held)
     → mid ≡ record old { world = record old.world { units = slice_set old.world.units u v; slots = slice_set old.world.slots p (Some h) } }
     → mid ≡ record old { world = with_scene old.world u p (record (scene_of old.world u) { unit = v; held = h }) }
 by_held old mid u p v h is = is ∙ ap (λ (w : World). record old { world = w }) (unit_held old.world u p v h)
+
+-- WHERE ONE PART of what is inside CHANGES it alone changes
+pub units_inside : (inside now : State) (after : List UnitView) (f : List UnitView → List UnitView) → inside ≡ now → after ≡ f inside.world.units
+    → record inside { world = record inside.world { units = after } } ≡ record now { world = record now.world { units = f now.world.units } }
+units_inside inside now after f same changed =
+    ap (λ (us : List UnitView). record inside { world = record inside.world { units = us } }) changed
+    ∙ ap (λ (s : State). record s { world = record s.world { units = f s.world.units } }) same
+
+pub book_inside : (inside now : State) (after : Book) (f : Book → Book) → inside ≡ now → after ≡ f inside.world.book
+    → record inside { world = record inside.world { book = after } } ≡ record now { world = record now.world { book = f now.world.book } }
+book_inside inside now after f same changed =
+    ap (λ (b : Book). record inside { world = record inside.world { book = b } }) changed
+    ∙ ap (λ (s : State). record s { world = record s.world { book = f s.world.book } }) same

@@ -1,5 +1,5 @@
 -- Units are set up one after another.
-use Rattle.std.proofs.Common.{◌≡◌, ℕ, zero, suc, ◌+◌, ◌<◌, List, [], ◌∷◌, drop, length, get_or, sym, ap, ◌∙◌, arith}
+use Rattle.std.proofs.Common.{◌≡◌, ℕ, zero, suc, ◌+◌, ◌<◌, ◌≤◌, List, [], ◌∷◌, drop, length, get_or, sym, ap, ◌∙◌, arith}
 use Rattle.std.specs.Prelude.{Contains, slice_set}
 use Rattle.driver_machine.specs.World.{UnitView, Setup, new_unit, set_up}
 use Rattle.hp_core.specs.declared.start.UnitSetup.{UnitSetup}
@@ -24,3 +24,10 @@ contained (y ∷ xs) (suc i) x lt is = let c = contained xs i x (omega (arith, l
 -- and is one of the 32
 pub unit_small : (xs : List UnitSetup) (i : ℕ) (x : UnitSetup) → ((s : Setup) → Contains (setups_of xs) s → s.unit < 32) → i < length xs → x ≡ get_or xs i x → x.unit < 32
 unit_small xs i x small lt is = small (setup_of x) (contained xs i x lt is)
+
+-- where none is left all are set up
+pub all_set : (xs : List UnitSetup) (i : ℕ) (units rest : List UnitView) → length xs ≤ i → set_up (setups_of (drop i xs)) units ≡ rest → units ≡ rest
+all_set [] zero units rest end is = is
+all_set [] (suc i) units rest end is = is
+all_set (y ∷ xs) zero units rest end is = absurd (omega (arith, end))
+all_set (y ∷ xs) (suc i) units rest end is = all_set xs i units rest (omega (arith, end)) is

@@ -84,7 +84,10 @@ pub(crate) fn needed(count: u32, offset: u32, last: u32) -> u32
 fn sent(put: Result<(), SinkFailed>) -> Result<(), Stop>
     ensures { MatchResult put (λ x. result ≡ Ok x) (λ _. result ≡ Err stop.Sink) }
 {
-    put.map_err(|_| Stop::Sink)
+    match put {
+        Ok(()) => Ok(()),
+        Err(_) => Err(Stop::Sink),
+    }
 }
 
 impl Core {

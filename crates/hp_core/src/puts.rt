@@ -8,8 +8,8 @@ ghost use Rattle.hardware_table.specs.Functions.{performed};
 ghost use Rattle.hardware_table.specs.Events.{arrived, attention_cleared};
 ghost use Rattle.hardware_table.specs.Adapter.{attention_raised, attention_lowered, completed};
 ghost use Rattle.mba_adapter.specs.Loaded.{loaded_buffer};
-ghost use Rattle.transfer_engine.specs.State.{IsJob, begun, segment_of, moved_on, forwarded, failures_after};
-ghost use Rattle.transfer_engine.specs.Calls.{entry_for, step_for};
+ghost use Rattle.transfer_engine.specs.State.{IsJob, begun, segment_of, failures_after};
+ghost use Rattle.transfer_engine.specs.Calls.{step_for};
 ghost use Rattle.driver_machine.specs.declared.Task.TheVariants as task;
 ghost use Rattle.driver_machine.specs.declared.Phase.TheVariants as phase;
 ghost use Rattle.driver_machine.specs.declared.RetryStep.TheVariants as retry_step;
@@ -163,22 +163,6 @@ impl Core {
         self.channels[usize::from(u / 8)].wait(u);
     }
 
-    /// The blocks behind so many come next.
-    pub(crate) fn put_go_on(&mut self, u: u8, moved: u32)
-        requires unit { u < length self.old.world.units }
-        requires begun { (unit_at self.old.world u).transfer ≡ Some (transfer_of (unit_at self.old.world u)) }
-        requires some { 1 ≤ moved }
-        requires moved { moved ≤ (segment_of (transfer_of (unit_at self.old.world u))).count }
-        requires left { (transfer_of (unit_at self.old.world u)).done + moved < (transfer_of (unit_at self.old.world u)).job.count }
-        ensures { self.new ≡ record self.old {
-          world = record self.old.world {
-            units = slice_set self.old.world.units u (with_transfer (Some (moved_on ((transfer_of (unit_at self.old.world u)).done + moved) (transfer_of (unit_at self.old.world u)))) task.Command (unit_at self.old.world u));
-          };
-        } }
-    {
-        self.units.go_on(u, moved);
-    }
-
     /// A try failed.
     pub(crate) fn put_retry(&mut self, u: u8, moved: u32) -> (u32, u32, Task)
         requires unit { u < length self.old.world.units }
@@ -194,22 +178,6 @@ impl Core {
         } }
     {
         self.units.retry(u, moved)
-    }
-
-    /// The replacement of a sector comes next.
-    pub(crate) fn put_forward(&mut self, u: u8, moved: u32, index: u8)
-        requires unit { u < length self.old.world.units }
-        requires begun { (unit_at self.old.world u).transfer ≡ Some (transfer_of (unit_at self.old.world u)) }
-        requires kind { (transfer_of (unit_at self.old.world u)).job.kind ≡ (unit_at self.old.world u).drive.kind }
-        requires moved { moved < (segment_of (transfer_of (unit_at self.old.world u))).count }
-        requires entry { entry_for moved (unit_at self.old.world u).table (transfer_of (unit_at self.old.world u)) ≡ Some index }
-        ensures { self.new ≡ record self.old {
-          world = record self.old.world {
-            units = slice_set self.old.world.units u (with_transfer (Some (forwarded moved index (transfer_of (unit_at self.old.world u)))) task.Command (unit_at self.old.world u));
-          };
-        } }
-    {
-        self.units.forward(u, moved, index);
     }
 
     /// The data interrupt is taken: the registers show why the transfer ended.

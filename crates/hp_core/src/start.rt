@@ -32,7 +32,10 @@ pub struct UnitSetup {
 fn copy_of(table: &Option<BadTable>) -> Option<BadTable>
     ensures { result ≡ table.now }
 {
-    table.as_ref().map(BadTable::copy)
+    match table {
+        Some(table) => Some(table.copy()),
+        None => None,
+    }
 }
 
 /// A unit as its setup says.
@@ -86,8 +89,12 @@ fn book_and_answers(
     ensures book { IfOk result (λ v. v.0 ≡ empty_book noises) }
     ensures answers { IfOk result (λ v. v.1 ≡ record { made = []; most = min outstanding 16384 + 1 }) }
 {
-    let book = NoiseBook::new(alloc, noises)?;
-    let answers = Answers::new(alloc, outstanding.min(16384) + 1)?;
+    let Ok(book) = NoiseBook::new(alloc, noises) else {
+        return Err(NoMemory);
+    };
+    let Ok(answers) = Answers::new(alloc, outstanding.min(16384) + 1) else {
+        return Err(NoMemory);
+    };
     Ok((book, answers))
 }
 
@@ -96,8 +103,12 @@ fn gather_and_slots(alloc: Global, outstanding: u32) -> Result<(Gather, Slots), 
     ensures gather { IfOk result (λ v. v.0 ≡ []) }
     ensures slots { IfOk result (λ v. v.1 ≡ replicate (min outstanding 16384) None) }
 {
-    let gather = Gather::new(alloc, TRACE_ROOM)?;
-    let slots = Slots::new(alloc, outstanding)?;
+    let Ok(gather) = Gather::new(alloc, TRACE_ROOM) else {
+        return Err(NoMemory);
+    };
+    let Ok(slots) = Slots::new(alloc, outstanding) else {
+        return Err(NoMemory);
+    };
     Ok((gather, slots))
 }
 
@@ -110,8 +121,12 @@ impl Tables {
         ensures gather { IfOk result (λ v. v.gather ≡ []) }
         ensures slots { IfOk result (λ v. v.slots ≡ replicate (min outstanding 16384) None) }
     {
-        let (book, answers) = book_and_answers(alloc, outstanding, noises)?;
-        let (gather, slots) = gather_and_slots(alloc, outstanding)?;
+        let Ok((book, answers)) = book_and_answers(alloc, outstanding, noises) else {
+            return Err(NoMemory);
+        };
+        let Ok((gather, slots)) = gather_and_slots(alloc, outstanding) else {
+            return Err(NoMemory);
+        };
         Ok(Tables {
             book,
             answers,

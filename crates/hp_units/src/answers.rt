@@ -40,7 +40,10 @@ impl Answers {
         ensures some { IfSome result (λ made. self.now.made ≡ made ∷ drop 1 self.now.made) }
         ensures none { IfNone result (self.now.made ≡ []) }
     {
-        self.waiting.front().copied()
+        match self.waiting.front() {
+            Some(made) => Some(*made),
+            None => None,
+        }
     }
 
     /// An answer waits.

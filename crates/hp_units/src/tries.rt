@@ -105,10 +105,14 @@ pub(crate) fn step_in(
         ≡ step ∷ drop (taken + 1) (steps_of (unwrap_or (option_map state_of transfer.now) no_transfer))) }
     ensures none { IfNone result (drop taken (steps_of (unwrap_or (option_map state_of transfer.now) no_transfer)) ≡ []) }
 {
-    let transfer = transfer.as_ref()?;
-    let cylinder = cylinder_of(transfer, kind);
-    let step = step_behind(transfer.failures(), !write);
-    step_at(cylinder, step, taken)
+    match transfer {
+        Some(transfer) => {
+            let cylinder = cylinder_of(transfer, kind);
+            let step = step_behind(transfer.failures(), !write);
+            step_at(cylinder, step, taken)
+        }
+        None => None,
+    }
 }
 
 /// The cylinder with which the segment begins.

@@ -1,14 +1,16 @@
 -- Laws of the bytes that go into a buffer block by block.
-use Rattle.std.proofs.Common.{◌≡◌, ℕ, zero, suc, ◌+◌, ◌-◌, ◌*◌, ◌<◌, min, nat_lt, Bool, true, false, List, [], ◌∷◌, ◌++◌, take, drop, length, replicate, refl, sym, ap, ◌∙◌, subst, arith}
+use Rattle.std.proofs.Common.{◌≡◌, ℕ, zero, suc, ◌+◌, ◌-◌, ◌*◌, ◌<◌, ◌≤◌, min, nat_lt, Bool, true, false, List, [], ◌∷◌, ◌++◌, take, drop, length, replicate, refl, sym, ap, ◌∙◌, subst, arith}
 use Rattle.std.proofs.lemmas.Bool.{ltb-true, ltb-false}
 use Rattle.std.proofs.lemmas.List.{drop-drop, drop-replicate, length-take, length-drop, take_more_set, take_all}
 use Rattle.main_memory.specs.Bytes.{front, filled}
 use Rattle.main_memory.proofs.ByteLaws.{front-filled}
-use Rattle.main_memory.specs.Blocks.{Loan, IsLoan, size_at, size_of}
+use Rattle.main_memory.specs.Frames.{frames_needed}
+use Rattle.main_memory.specs.Blocks.{Loan, IsLoan, size_at, size_of, blocks_from}
 use Rattle.main_memory.specs.Memory.{Memory, IsMemory, IsLent, AreApart, blocks_of}
 use Rattle.main_memory.proofs.BlockLaws.{length-blocks_from, by_size}
 use Rattle.driver_machine.specs.World.{pieces}
-use Rattle.request_slots.specs.Lending.{Stores}
+use Rattle.request_slots.specs.Lending.{HasLent, Stores}
+use Rattle.request_slots.specs.declared.asked.Asked.{Asked}
 
 pub pieces-more : (n : ℕ) (bytes : List ℕ) → pieces (suc n) bytes ≡ pieces n bytes ++ take 512 (drop (512 * n) bytes) ∷ []
 pieces-more zero bytes =
@@ -103,3 +105,29 @@ pub filled_all : {old new : Memory} {loan : Loan} {bytes : List ℕ} (k : ℕ) �
 filled_all {old} {new} {loan} {bytes} k filled all =
     sym (take_all loan.count (blocks_of loan new) (omega (arith, length-blocks_from loan new.bytes 0 loan.count)))
     ∙ subst (λ (n : ℕ). take n (blocks_of loan new) ≡ pieces n bytes) all filled.front
+
+-- A BUFFER THAT WAS LENT, and what was stored in it
+pub has_lent : {old lent new : Memory} {loan : Loan} {asked : Asked} → loan ≡ record { frames = take (frames_needed asked.count asked.offset asked.last) old.free; offset = asked.offset; count = asked.count; last = asked.last }
+    → lent ≡ record old { free = drop (frames_needed asked.count asked.offset asked.last) old.free }
+    → frames_needed asked.count asked.offset asked.last ≤ length old.free → IsLoan loan → IsLent lent loan
+    → ((other : Loan) → IsLent old other → AreApart loan other) → ((other : Loan) → IsLent old other → IsLent lent other)
+    → ((other : Loan) → IsLoan other → IsLent lent other → AreApart loan other → blocks_of other new ≡ blocks_of other lent)
+    → ((other : Loan) → IsLent lent other → IsLent new other) → new.free ≡ lent.free → IsMemory new → HasLent old new loan asked
+has_lent {old} {lent} {new} {loan} {asked} is taken room shape own apart others blocks still free sound = record {
+  shape = shape;
+  is = record {
+    count = ap (λ (l : Loan). l.count) is;
+    offset = ap (λ (l : Loan). l.offset) is;
+    last = ap (λ (l : Loan). l.last) is;
+  };
+  lent = still loan own;
+  apart = apart;
+  others = λ other was. still other (others other was);
+  blocks = λ other whole was. blocks other whole (others other was) (apart other was) ∙ ap (λ (m : Memory). blocks_from other m.bytes 0 other.count) taken;
+  free =
+      let needed : ℕ = frames_needed asked.count asked.offset asked.last in
+      let left : new.free ≡ drop needed old.free = free ∙ ap (λ (m : Memory). m.free) taken in
+      let frames : loan.frames ≡ take needed old.free = ap (λ (l : Loan). l.frames) is in
+      omega (arith, ap length left, ap length frames, length-drop needed old.free, length-take needed old.free, room);
+  sound = sound;
+}

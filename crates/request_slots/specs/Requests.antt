@@ -1,5 +1,5 @@
 -- Slots and the requests in them, as contracts see them.
-use Rattle.std.specs.Prelude.{◌≡◌, ℕ, ◌+◌, ◌-◌, ◌*◌, ◌<◌, ◌≤◌, if◌then◌else◌, true, false, List, [], ◌∷◌, length, slice_index_or, Option, None, Some, unwrap_or, Contains}
+use Rattle.std.specs.Prelude.{◌≡◌, ℕ, ◌+◌, ◌-◌, ◌*◌, ◌<◌, if◌then◌else◌, true, false, List, [], ◌∷◌, length, slice_index_or, Option, None, Some, unwrap_or, Contains}
 use Rattle.main_memory.specs.Blocks.{IsShape, IsLoan, size_at}
 use Rattle.driver_machine.specs.World.{Held, no_held, count_of, frames_of, block_in, pieces}
 use Rattle.request_slots.specs.declared.asked.Asked.{Asked}

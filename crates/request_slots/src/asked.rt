@@ -2,7 +2,7 @@
 
 /// What is asked: a read or a write of `count` blocks of a unit from block `first` of its pack on, from 1 to 127, the last one
 /// of `last` bytes, from 1 to 512. Its buffer begins at place `offset` of its first frame, from 0 to 511.
-#[derive(Clone, Copy, Debug, PartialEq, Eq)]
+#[derive(Clone, Copy)]
 pub struct Asked {
     pub id: u32,
     pub unit: u8,

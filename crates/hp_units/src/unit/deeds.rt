@@ -21,12 +21,45 @@ ghost use Rattle.driver_machine.specs.Due.{task_for};
 use super::DiskUnit;
 use crate::tries::{continued, failures_at, forwarded_to, tried};
 use bitflags::Flags;
+use drive_model::Drive;
 use drive_registers::{Function, Of, offset_word};
 use driver_machine::{Phase, RetryStep, Task};
 use hardware_table::{Moved, Register};
 use hp_interrupts::{DataCause, verdict_of};
 use pack_geometry::{Place, place_of, sector_word};
 use transfer_engine::{Job, Transfer, begin};
+
+/// Writes the desired cylinder and address.
+fn address(drive: &mut Drive, place: Place)
+    requires cylinder { place.cylinder < 65536 }
+    requires track { place.track < 256 }
+    requires sector { place.sector < 256 }
+    ensures { drive.new ≡ addressed place drive.old }
+{
+    drive.write_register(Register::Dc, place.cylinder as u16);
+    drive.write_register(Register::Da, sector_word(place));
+}
+
+/// Begins a step of a retry.
+fn go_step(drive: &mut Drive, step: RetryStep)
+    requires cylinder { (cylinder : ℕ) → step ≡ retry_step.Seek cylinder → cylinder < 65536 }
+    requires ready { is_ready drive.old.work ≡ true }
+    requires online { drive.old.online ≡ true }
+    ensures { drive.new ≡ stepping step drive.old }
+{
+    match step {
+        RetryStep::Recalibrate => drive.go(Function::Recal),
+        RetryStep::Seek { cylinder } => {
+            drive.write_register(Register::Dc, cylinder as u16);
+            drive.go(Function::Seek);
+        }
+        RetryStep::Offset { code } => {
+            let word = Of::FMT22.bits() | offset_word(code);
+            drive.write_register(Register::Of, word);
+            drive.go(Function::Offset);
+        }
+    }
+}
 
 impl DiskUnit {
     /// A request joins, by its slot and its first block.
@@ -40,18 +73,6 @@ impl DiskUnit {
     {
         let place = place_of(self.kind(), first);
         self.queue.insert(slot, place.cylinder);
-    }
-
-    /// Writes the desired cylinder and address.
-    fn address(&mut self, place: Place)
-        requires cylinder { place.cylinder < 65536 }
-        requires track { place.track < 256 }
-        requires sector { place.sector < 256 }
-        ensures { self.new ≡ with_drive (addressed place) self.old }
-    {
-        self.drive
-            .write_register(Register::Dc, place.cylinder as u16);
-        self.drive.write_register(Register::Da, sector_word(place));
     }
 
     /// The positioning that is under way ends.
@@ -81,35 +102,15 @@ impl DiskUnit {
         requires online { self.old.drive.online ≡ true }
         ensures { self.new ≡ record (going_to (phase.Positioning 0) (searching target sector) self.old) { transfer = Some (begun job) } }
     {
-        self.address(Place {
+        let place = Place {
             cylinder: target.cylinder,
             track: target.track,
             sector,
-        });
+        };
+        address(&mut self.drive, place);
         self.drive.go(Function::Search);
         self.phase = Phase::Positioning { taken: 0 };
         self.transfer = Some(Transfer::Direct(begin(job)));
-    }
-
-    /// Begins a step of a retry on the drive.
-    fn go_step(&mut self, step: RetryStep)
-        requires cylinder { (cylinder : ℕ) → step ≡ retry_step.Seek cylinder → cylinder < 65536 }
-        requires ready { is_ready self.old.drive.work ≡ true }
-        requires online { self.old.drive.online ≡ true }
-        ensures { self.new ≡ with_drive (stepping step) self.old }
-    {
-        match step {
-            RetryStep::Recalibrate => self.drive.go(Function::Recal),
-            RetryStep::Seek { cylinder } => {
-                self.drive.write_register(Register::Dc, cylinder as u16);
-                self.drive.go(Function::Seek);
-            }
-            RetryStep::Offset { code } => {
-                let word = Of::FMT22.bits() | offset_word(code);
-                self.drive.write_register(Register::Of, word);
-                self.drive.go(Function::Offset);
-            }
-        }
     }
 
     /// Issues RECAL, SEEK or OFFSET, a step of a retry; so many are then taken.
@@ -119,7 +120,7 @@ impl DiskUnit {
         requires online { self.old.drive.online ≡ true }
         ensures { self.new ≡ going_to (phase.Positioning taken) (stepping step) self.old }
     {
-        self.go_step(step);
+        go_step(&mut self.drive, step);
         self.phase = Phase::Positioning { taken };
     }
 
@@ -131,7 +132,7 @@ impl DiskUnit {
         ensures { self.new ≡ going_to phase.Transferring (transferring write block) self.old }
     {
         let place = place_of(self.kind(), block);
-        self.address(place);
+        address(&mut self.drive, place);
         self.drive.go(if write {
             Function::Write
         } else {

@@ -32,18 +32,18 @@ none-behind : {A : Type 0} (r : Option A) (xs : List A) (n : ℕ) → r ≡ slic
 none-behind (Some x) xs n same = tt
 none-behind None xs n same = nothing-behind xs n same
 
-read : (c : goal.After-step_at) → c.step_at.result ≡ slice_get (steps_of (state_of c.in_ok-transfer.transfer.now)) c.args.taken
+read : (c : goal.After-step_at) → c.step_at.result ≡ slice_get (steps_of (state_of c.in-Some.transfer)) c.args.taken
 read c =
-    let writes = ap (λ (o : Option Transfer). (unwrap_or (option_map state_of o) no_transfer).job.write) c.in_ok-transfer.ensures.value ∙ c.requires.write in
-    steps_read (state_of c.in_ok-transfer.transfer.now) _ _ _ c.args.write _ _ writes c.cylinder_of-cylinder.ensures c.failures.ensures.failures c.step_behind-step.ensures c.step_at.ensures
+    let writes = ap (λ (o : Option Transfer). (unwrap_or (option_map state_of o) no_transfer).job.write) (sym c.in-Some.is) ∙ c.requires.write in
+    steps_read (state_of c.in-Some.transfer) _ _ _ c.args.write _ _ writes c.cylinder_of-cylinder.ensures c.failures.ensures.failures c.step_behind-step.ensures c.step_at.ensures
 
-pub returns-clause-some : goal.returns-clause-some
-returns-clause-some c =
+pub returns-in-Some-clause-some : goal.returns-in-Some-clause-some
+returns-in-Some-clause-some c =
     subst (λ o. IfSome c.step_at.result (λ step. drop c.args.taken (steps_of (unwrap_or (option_map state_of o) no_transfer))
-    ≡ step ∷ drop (c.args.taken + 1) (steps_of (unwrap_or (option_map state_of o) no_transfer)))) c.in_ok-transfer.ensures.value
-    (read-in-front c.step_at.result (steps_of (state_of c.in_ok-transfer.transfer.now)) c.args.taken (read c))
+    ≡ step ∷ drop (c.args.taken + 1) (steps_of (unwrap_or (option_map state_of o) no_transfer)))) (sym c.in-Some.is)
+    (read-in-front c.step_at.result (steps_of (state_of c.in-Some.transfer)) c.args.taken (read c))
 
-pub returns-clause-none : goal.returns-clause-none
-returns-clause-none c =
-    subst (λ o. IfNone c.step_at.result (drop c.args.taken (steps_of (unwrap_or (option_map state_of o) no_transfer)) ≡ [])) c.in_ok-transfer.ensures.value
-    (none-behind c.step_at.result (steps_of (state_of c.in_ok-transfer.transfer.now)) c.args.taken (read c))
+pub returns-in-Some-clause-none : goal.returns-in-Some-clause-none
+returns-in-Some-clause-none c =
+    subst (λ o. IfNone c.step_at.result (drop c.args.taken (steps_of (unwrap_or (option_map state_of o) no_transfer)) ≡ [])) (sym c.in-Some.is)
+    (none-behind c.step_at.result (steps_of (state_of c.in-Some.transfer)) c.args.taken (read c))

@@ -1,4 +1,4 @@
-use Rattle.std.proofs.Common.{◌≡◌, ◌≢◌, ℕ, Bool, Some, refl, sym, ap, ◌∙◌, subst}
+use Rattle.std.proofs.Common.{◌≡◌, ◌≢◌, ◌+◌, ℕ, Bool, Some, refl, sym, ap, ◌∙◌, subst}
 use Rattle.retry_offsets.specs.declared.Step.{Step}
 use Rattle.retry_offsets.specs.declared.Step.TheVariants as retry
 use Rattle.retry_offsets.specs.Schedule.{step_after}
@@ -28,7 +28,9 @@ state_in (Forwarded u) t = refl
 state_in (Continued u) t = refl
 
 pub returns-in-Ok-clause-next : goal.returns-in-Ok-clause-next
-returns-in-Ok-clause-next c = cc (c.in-Ok.ensures.retry.1)
+returns-in-Ok-clause-next c =
+    c.task_of.ensures ∙ ap (λ (s : Step). task_for s (c.done.result + c.args.moved)) c.in-Ok.ensures.retry.1
+    ∙ ap (λ (d : ℕ). task_for (step_for c.args.moved (state_of c.args.transfer)) (d + c.args.moved)) c.done.ensures.done
 
 pub returns-in-Err-clause-next : goal.returns-in-Err-clause-next
 returns-in-Err-clause-next c =
@@ -40,3 +42,6 @@ returns-in-Ok-clause-transfer c =
     let there : Some (state_of c.in-Ok.transfer) ≡ Some (failed c.args.moved (state_of c.args.transfer)) = ap (λ (t : Transfer). Some (state_of t)) c.in-Ok.ensures.retry.0 ∙ ap Some (state_in c.args.transfer _) in
     there ∙ still_there c.in-Ok.step _ c.args.moved (state_of c.args.transfer) c.in-Ok.ensures.never_last
     ∙ ap (λ (task : Task). transfer_tried task c.args.moved (state_of c.args.transfer)) (sym c.task_of.ensures)
+
+pub returns-in-Err-clause-transfer : goal.returns-in-Err-clause-transfer
+returns-in-Err-clause-transfer c = refl

@@ -1,28 +1,25 @@
-use Rattle.std.proofs.Common.{◌≡◌, ℕ, take, drop, length, ap, ◌∙◌, arith}
-use Rattle.std.proofs.lemmas.List.{length-take, length-drop}
-use Rattle.main_memory.specs.Frames.{frames_needed}
-use Rattle.main_memory.specs.Blocks.{Loan, blocks_from}
-use Rattle.main_memory.specs.Memory.{Memory}
+use Rattle.std.proofs.Common.{refl, ap, ◌∙◌}
+use Rattle.main_memory.specs.Blocks.{Loan}
+use Rattle.driver_machine.specs.World.{pieces}
+use Rattle.request_slots.proofs.FillLaws.{has_lent}
 use Rattle.request_slots.proofs.fill.lend_filled.Goals as goal
 
+pub returns-then-not-asked-clause-lent : goal.returns-then-not-asked-clause-lent
+returns-then-not-asked-clause-lent c =
+    has_lent c.in-Ok.ensures.buffer c.in-Ok.ensures.memory c.requires.room c.in-Ok.ensures.lent.0 c.in-Ok.ensures.lent.1 c.in-Ok.ensures.apart c.in-Ok.ensures.others (λ other shape was apart. refl) (λ other was. was) refl c.in-Ok.ensures.sound
+
+pub fill-requires-clause-shape : goal.fill-requires-clause-shape
+fill-requires-clause-shape c = c.in-Ok.ensures.lent.0
+
+pub fill-requires-clause-lent : goal.fill-requires-clause-lent
+fill-requires-clause-lent c = c.in-Ok.ensures.lent.1
+
+pub fill-requires-clause-sound : goal.fill-requires-clause-sound
+fill-requires-clause-sound c = c.in-Ok.ensures.sound
+
 pub returns-clause-lent : goal.returns-clause-lent
-returns-clause-lent c = record {
-  shape = c.in-Ok.ensures.lent.0;
-  is = record {
-    count = ap (λ (l : Loan). l.count) c.in-Ok.ensures.buffer;
-    offset = ap (λ (l : Loan). l.offset) c.in-Ok.ensures.buffer;
-    last = ap (λ (l : Loan). l.last) c.in-Ok.ensures.buffer;
-  };
-  lent = c.fill.ensures.lent c.in-Ok.buffer c.in-Ok.ensures.lent.1;
-  apart = c.in-Ok.ensures.apart;
-  others = λ other lent. c.fill.ensures.lent other (c.in-Ok.ensures.others other lent);
-  blocks = λ other shape lent.
-      c.fill.ensures.others other shape (c.in-Ok.ensures.others other lent) (c.in-Ok.ensures.apart other lent)
-      ∙ ap (λ (m : Memory). blocks_from other m.bytes 0 other.count) c.in-Ok.ensures.memory;
-  free =
-      let needed : ℕ = frames_needed c.args.asked.count c.args.asked.offset c.args.asked.last in
-      let left : c.fill.new.memory.free ≡ drop needed c.args.memory.now.free = c.fill.ensures.free ∙ ap (λ (m : Memory). m.free) c.in-Ok.ensures.memory in
-      let frames : c.in-Ok.buffer.frames ≡ take needed c.args.memory.now.free = ap (λ (l : Loan). l.frames) c.in-Ok.ensures.buffer in
-      omega (arith, ap length left, ap length frames, length-drop needed c.args.memory.now.free, length-take needed c.args.memory.now.free, c.requires.room);
-  sound = c.fill.ensures.sound;
-}
+returns-clause-lent c =
+    has_lent c.in-Ok.ensures.buffer c.in-Ok.ensures.memory c.requires.room c.in-Ok.ensures.lent.0 c.in-Ok.ensures.lent.1 c.in-Ok.ensures.apart c.in-Ok.ensures.others c.fill.ensures.others c.fill.ensures.lent c.fill.ensures.free c.fill.ensures.sound
+
+pub returns-clause-content : goal.returns-clause-content
+returns-clause-content c = λ on. c.fill.ensures.held ∙ ap (λ (l : Loan). pieces l.count c.args.bytes.now) c.in-Ok.ensures.buffer

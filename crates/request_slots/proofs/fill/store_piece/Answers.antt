@@ -1,4 +1,4 @@
-use Rattle.std.proofs.Common.{ap, ◌∙◌, subst}
+use Rattle.std.proofs.Common.{ap, ◌∙◌, subst, arith}
 use Rattle.main_memory.specs.Bytes.{front}
 use Rattle.main_memory.specs.Blocks.{size_at}
 use Rattle.request_slots.specs.Lending.{Stores}
@@ -29,3 +29,18 @@ returns-in-None c =
       lent = c.store-in-None.ensures.lent;
       sound = c.store-in-None.ensures.sound;
     })
+
+pub store-requires-clause-lent : goal.store-requires-clause-lent
+store-requires-clause-lent c = c.requires.lent
+
+pub store-requires-clause-inside : goal.store-requires-clause-inside
+store-requires-clause-inside c = c.requires.inside
+
+pub store-requires-in-None-clause-lent : goal.store-requires-in-None-clause-lent
+store-requires-in-None-clause-lent c = c.requires.lent
+
+pub store-requires-in-None-clause-inside : goal.store-requires-in-None-clause-inside
+store-requires-in-None-clause-inside c = c.requires.inside
+
+pub block_at-block-requires : goal.block_at-block-requires
+block_at-block-requires c = omega (arith, c.requires.inside, c.requires.whole)

@@ -27,3 +27,9 @@ returns-clause-size g c = rw (← c.requires.slot, ← own g c, ← c.self.view_
 
 pub returns-clause-failure : goal.returns-clause-failure
 returns-clause-failure g c = rw (← c.requires.slot, ← own g c, ← c.self.view_is) c.move_sector.ensures.failure
+
+pub returns-clause-units : goal.returns-clause-units
+returns-clause-units g c = rw (← own g c, ← c.self.view_is) c.move_sector.ensures.units
+
+pub returns-clause-others : goal.returns-clause-others
+returns-clause-others g c = (ap (λ (s : State). s.world.frames) c.self.view_is, ap (λ (s : State). s.world.answers) c.self.view_is, ap (λ (s : State). s.kept) c.self.view_is)

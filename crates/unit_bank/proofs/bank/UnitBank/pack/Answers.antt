@@ -1,9 +1,15 @@
 use Rattle.std.proofs.Common.{◌≡◌, true, sym, subst}
-use Rattle.hardware_table.specs.Drive.{is_ready}
 use Rattle.driver_machine.specs.World.{UnitView}
+use Rattle.hardware_table.specs.Drive.{is_ready}
+use Rattle.hardware_table.specs.Functions.{performed}
+use Rattle.driver_machine.specs.Acts.{with_drive}
+use Rattle.drive_registers.specs.declared.Function.TheVariants.{Pack as PackFunction}
 use Rattle.unit_bank.specs.Row.{unit_in}
-use Rattle.unit_bank.proofs.Rows.{old_unit, others_at}
+use Rattle.unit_bank.proofs.Rows.{alone, old_unit, others_at}
 use Rattle.unit_bank.proofs.bank.UnitBank.pack.Goals as goal
+
+pub returns : goal.returns
+returns c = alone _ _ _ _ _ _ _ (with_drive (performed PackFunction)) c.from.ensures c.self.view_is c.requires.unit c.index_mut.ensures.value c.pack.ensures
 
 pub pack-requires : goal.pack-requires
 pack-requires c =
