@@ -8,7 +8,6 @@ use Rattle.trace_replay.specs.Script.{Statement, Declares, Plays, Line, drives_i
 use Rattle.driver_machine.specs.World.{Setup}
 use Rattle.run_laws.specs.Steps.{tables_in, AreSetFor}
 use Rattle.run_laws.proofs.Attached.{AreAttached, HasDrive, attached_more, attached_still, drive_there, set_for_script}
-use Rattle.unit_attaching.specs.Attaching.{IsSet}
 use Rattle.unit_attaching.specs.Lengths.{NamesTooLong}
 use Rattle.unit_attaching.proofs.AttachLaws.{AreTold, set_up_as, told_more, told_still}
 use Rattle.cached_script.specs.declared.statement.Line.{Line as Said}

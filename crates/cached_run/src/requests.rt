@@ -2,7 +2,6 @@
 ghost use Rattle.std.specs.Prelude.{◌≡◌, ◌+◌, ◌≤◌, ℕ, List, None, Some, [], IfOk, OnOk, OnErr, length};
 ghost use Rattle.pack_geometry.specs.Geometry.{limit_of};
 ghost use Rattle.partitions.specs.Partitions.{admission, first_of};
-ghost use Rattle.driver_machine.specs.Guards.{IsSetUp};
 ghost use Rattle.driver_answers.specs.Outcome.{stop_in};
 ghost use Rattle.buffer_cache.specs.Passes.{kind_at, map_at};
 ghost use Rattle.buffer_cache.specs.Passes.{site, Keeps};

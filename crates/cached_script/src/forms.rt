@@ -1,4 +1,4 @@
-ghost use Rattle.std.specs.Prelude.{◌≡◌, ◌≤◌, ◌∷◌, IfOk};
+ghost use Rattle.std.specs.Prelude.{◌≡◌};
 ghost use Rattle.script_lines.specs.Fields.{and_then, some_or};
 ghost use Rattle.script_lines.specs.Known.{new_unit_field, unit_field};
 ghost use Rattle.script_lines.specs.Words.{named};

@@ -3,9 +3,8 @@ ghost use Rattle.script_lines.specs.declared.kinds.ScriptKind.{ScriptKind};
 ghost use Rattle.script_reader.specs.Lines.{lines_of};
 ghost use Rattle.cached_script.specs.declared.statement.Line.{Line};
 ghost use Rattle.cached_script.specs.Formed.{IsScript};
-ghost use Rattle.cached_script.specs.Kinds.{kind_of};
 ghost use Rattle.cached_script.specs.Knowing.{known_in, LearnsFrom};
-ghost use Rattle.cached_script.specs.Scripts.{known_of, more, line_says, Spells, IsRefused, Refuses};
+ghost use Rattle.cached_script.specs.Scripts.{more, line_says, Spells, IsRefused, Refuses};
 ghost use Rattle.cached_script.specs.Reading.{reading, Finds};
 
 use crate::forms::entry;

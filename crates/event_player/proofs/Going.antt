@@ -1,12 +1,12 @@
 -- A run goes on call by call, with the answers that are taken behind each call.
-use Rattle.std.proofs.Common.{◌≡◌, inl, ℕ, ◌*◌, ◌<◌, ◌≤◌, List, [], ◌∷◌, ◌++◌, Option, Some, None, refl, sym, ap, subst, arith, ◌∙◌}
+use Rattle.std.proofs.Common.{◌≡◌, inl, ℕ, ◌*◌, ◌<◌, ◌≤◌, List, [], ◌∷◌, ◌++◌, Option, Some, None, sym, ap, subst, arith, ◌∙◌}
 use Rattle.pack_geometry.specs.Pack.{Pack}
 use Rattle.pack_geometry.specs.TableSpelling.{Table}
 use Rattle.subsystem_spec.specs.Requests.{Request}
 use Rattle.trace_replay.specs.Moments.{Moment}
 use Rattle.trace_replay.specs.Causes.{AsksSome}
 use Rattle.trace_replay.specs.Script as says
-use Rattle.trace_replay.specs.Script.{Script, Input, Statement, Declares, Plays, Line, Numbered, drives_of, inputs_before}
+use Rattle.trace_replay.specs.Script.{Script, Input, Plays, Line, Numbered, drives_of, inputs_before}
 use Rattle.trace_replay.specs.Packs.{surface_of}
 use Rattle.trace_replay.specs.Replay.{Replay, after_moments}
 use Rattle.trace_replay.specs.Runs.{start_of}

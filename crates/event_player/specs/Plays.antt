@@ -1,11 +1,9 @@
 -- What a script comes to that was played to its end.
-use Rattle.std.specs.Prelude.{◌≡◌, ℕ, ◌<◌, ◌≤◌, ◌*◌, Bool, IsTrue, List, ◌∷◌, ◌++◌, length, Option, Some}
-use Rattle.pack_geometry.specs.declared.DriveKind.{DriveKind}
-use Rattle.pack_geometry.specs.Geometry.{block_count}
+use Rattle.std.specs.Prelude.{◌≡◌, ℕ, Bool, IsTrue, List, ◌++◌, Option}
 use Rattle.pack_geometry.specs.Pack.{Pack}
 use Rattle.pack_geometry.specs.TableSpelling.{Table}
 use Rattle.trace_replay.specs.Moments.{Moment}
-use Rattle.trace_replay.specs.Script.{Script, Line, Declares, drives_in, drives_of}
+use Rattle.trace_replay.specs.Script.{Script}
 use Rattle.trace_replay.specs.Runs.{IsLegalRun, start_of}
 use Rattle.trace_replay.specs.Text.{trace_text}
 use Rattle.run_laws.specs.StopsPasses.{AreAsLong}

@@ -1,7 +1,6 @@
 -- What a run of `cached` comes to, by the status that it ends with.
 use Rattle.std.specs.Prelude.{◌≡◌, ℕ, Bool, IsTrue, List, []}
 use Rattle.pack_geometry.specs.Pack.{Pack}
-use Rattle.trace_replay.specs.Script.{Script}
 use Rattle.cached_script.specs.Scripts.{Script as Lines, Spells, IsRefused}
 use Rattle.cached_script.specs.Meaning.{meaning_of}
 use Rattle.cached_run.specs.Theorem.{CachedPlays, CachedLeaves}

@@ -1,7 +1,5 @@
-use Rattle.std.proofs.Common.{ℕ, Bool, List, [], ◌++◌, ◌≡◌, refl, ap, sym, subst, ◌∙◌, IfErr, append-nil}
+use Rattle.std.proofs.Common.{ℕ, List, [], ◌++◌, ◌≡◌, refl, ap, sym, subst, ◌∙◌, append-nil}
 use Rattle.std.specs.Prelude.{Result, Ok, Err}
-use Rattle.pack_geometry.specs.Pack.{Pack}
-use Rattle.trace_replay.specs.Script.{Script}
 use Rattle.script_reader.specs.Meaning.{meaning_of}
 use Rattle.answer_lines.specs.Counting.{tally_by}
 use Rattle.answer_lines.specs.declared.tally.Tally.{Tally}
