@@ -1,7 +1,7 @@
 use Rattle.std.proofs.Common.{rules, not, ◌==◌, ◌∙◌}
 use Rattle.arrayvec.proofs.ArrayVecLemmas.{filter-from_retain}
-use Rattle.hp_units.proofs.Leaves.{without-from-filter}
-use Rattle.hp_units.proofs.channel.Channel.leave.Goals as goal
+use Rattle.driver_queues.proofs.Leaves.{without-from-filter}
+use Rattle.driver_queues.proofs.channel.Channel.leave.Goals as goal
 
 pub returns : goal.returns
 returns c =

@@ -17,7 +17,7 @@ pub struct Answers {
 impl Model for Answers {
     ghost use Rattle.std.specs.Prelude.{◌≤◌};
     ghost use Rattle.std.specs.VecDeque.{deque_capacity};
-    ghost use Rattle.hp_units.specs.Queues.{AnswerQueue};
+    ghost use Rattle.driver_queues.specs.Queues.{AnswerQueue};
 
     ghost Value = { AnswerQueue };
 
