@@ -1,4 +1,2 @@
-pub mod BookLaws
-pub mod EntryLaws
 pub mod FailLaws
 pub mod MoveLaws

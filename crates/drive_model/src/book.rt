@@ -2,9 +2,9 @@
 ghost use Rattle.std.specs.Prelude.{◌≡◌, ◌≤◌, ◌<◌, IfOk};
 ghost use Rattle.hardware_table.specs.Noise.{empty_book, book_armed, book_struck, strikes};
 
-use crate::live::Live;
 use fire_code::Noise;
 use hardware_table::NoiseSpan;
+use live_noise::Live;
 use outside_traits::traits::NoMemory;
 use std::alloc::Global;
 use std::marker::Model;

@@ -4,17 +4,14 @@
 //! What is proved: Each call of `Drive` is its row of the hardware table (`self.new ≡` row `self.old`), the refusals that set
 //! IAE, WLE or ILF among them; the drive status is computed by the table of bits and stored nowhere. `move_sector`: the verdict
 //! by the five rules in their order, with the pack's mark, the noise that strikes, the bytes that move and the registers; a
-//! failure of the packs leaves drive, book and window as they were. `NoiseBook::strike` is exact: the oldest live noise of that
-//! unit and block decides.
+//! failure of the packs leaves drive, book and window as they were. `NoiseBook::strike` is that of `live_noise`.
 //!
 //! Only tested, in `drive_rows`: worked values, beside their proofs.
 #![tactic(auto)]
 
 mod book;
 mod drive;
-mod entries;
 mod laws;
-mod live;
 
 pub use book::NoiseBook;
 pub use drive::Drive;

@@ -14,11 +14,11 @@ ghost use Rattle.fire_code.specs.Verdict.{Judges};
 
 use crate::book::NoiseBook;
 use crate::drive::Drive;
-use crate::live::Live;
 use bitflags::Flags;
 use drive_registers::{Er1, Er2};
 use fire_code::{Check, Verdict, apply, data_law, judge_noise};
 use hardware_table::{FaultKind, Moved, Work};
+use live_noise::Live;
 use main_memory::Window;
 use outside_traits::traits::{Packs, StoreFailed};
 use pack_geometry::{DriveKind, blocks, geometry_of, place_of, sector_word};

@@ -1,8 +1,8 @@
 use Rattle.std.proofs.Common.{nat_lt, rules}
 use Rattle.std.proofs.lemmas.List.Sorted.{IsPartitionPoint-from_clause, IsPartitionedBy-ltb}
-use Rattle.drive_model.specs.declared.entries.Entry.{Entry}
-use Rattle.drive_model.specs.Book.{number_of}
-use Rattle.drive_model.proofs.entries.count_below.Goals as goal
+use Rattle.live_noise.specs.declared.entries.Entry.{Entry}
+use Rattle.live_noise.specs.Book.{number_of}
+use Rattle.live_noise.proofs.entries.count_below.Goals as goal
 
 pub returns-clause-point : goal.returns-clause-point
 returns-clause-point c =

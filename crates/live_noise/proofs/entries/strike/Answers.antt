@@ -1,7 +1,7 @@
 use Rattle.std.proofs.Common.{◌∙◌, sym, ap}
-use Rattle.drive_model.specs.Book.{live_of}
-use Rattle.drive_model.proofs.BookLaws.{nowhere_oldest, nowhere_after, first_oldest, first_after, slot_inside, slots_used}
-use Rattle.drive_model.proofs.entries.strike.Goals as goal
+use Rattle.live_noise.specs.Book.{live_of}
+use Rattle.live_noise.proofs.BookLaws.{nowhere_oldest, nowhere_after, first_oldest, first_after, slot_inside, slots_used}
+use Rattle.live_noise.proofs.entries.strike.Goals as goal
 
 pub returns-in_err-i-clause-oldest : goal.returns-in_err-i-clause-oldest
 returns-in_err-i-clause-oldest c = λ noises.

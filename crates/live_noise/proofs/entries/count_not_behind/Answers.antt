@@ -1,9 +1,9 @@
 use Rattle.std.proofs.Common.{not, rules}
 use Rattle.std.proofs.lemmas.List.Sorted.{IsPartitionPoint-from_clause}
-use Rattle.drive_model.specs.declared.entries.Entry.{Entry}
-use Rattle.drive_model.specs.Book.{is_entry_behind}
-use Rattle.drive_model.proofs.EntryLaws.{parted_behind}
-use Rattle.drive_model.proofs.entries.count_not_behind.Goals as goal
+use Rattle.live_noise.specs.declared.entries.Entry.{Entry}
+use Rattle.live_noise.specs.Book.{is_entry_behind}
+use Rattle.live_noise.proofs.EntryLaws.{parted_behind}
+use Rattle.live_noise.proofs.entries.count_not_behind.Goals as goal
 
 pub returns-clause-point : goal.returns-clause-point
 returns-clause-point c =

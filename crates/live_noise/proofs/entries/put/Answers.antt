@@ -1,6 +1,6 @@
 use Rattle.std.proofs.Common.{arith, ◌∙◌}
-use Rattle.drive_model.proofs.EntryLaws.{put_behind, put_in_order, when_ok}
-use Rattle.drive_model.proofs.entries.put.Goals as goal
+use Rattle.live_noise.proofs.EntryLaws.{put_behind, put_in_order, when_ok}
+use Rattle.live_noise.proofs.entries.put.Goals as goal
 
 pub returns-clause-items : goal.returns-clause-items
 returns-clause-items c =

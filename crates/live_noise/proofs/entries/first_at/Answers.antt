@@ -1,6 +1,6 @@
 use Rattle.std.proofs.Common.{arith, sym}
-use Rattle.drive_model.proofs.EntryLaws.{none_found}
-use Rattle.drive_model.proofs.entries.first_at.Goals as goal
+use Rattle.live_noise.proofs.EntryLaws.{none_found}
+use Rattle.live_noise.proofs.entries.first_at.Goals as goal
 
 pub returns-then-not-is_at : goal.returns-then-not-is_at
 returns-then-not-is_at c =

@@ -5,13 +5,14 @@ ghost use Rattle.hardware_table.specs.Noise.{empty_book, book_armed, book_struck
 use crate::entries::{Entry, is_spent, noise_in, put, strike};
 use fire_code::Noise;
 use hardware_table::NoiseSpan;
-use outside_traits::traits::NoMemory;
+use no_memory::NoMemory;
 use std::alloc::Global;
 use std::marker::Model;
 
-/// The noise that is live, with how much was armed of how much that may be.
+/// The noise that is live, with how much was armed of how much that may be. A strike finds its noise by a binary search on the unit
+/// and the block.
 #[derive(Drop)]
-pub(crate) struct Live {
+pub struct Live {
     entries: Vec<Entry>,
     noises: Vec<Noise>,
     armed: u32,
@@ -24,7 +25,7 @@ impl Model for Live {
 
     ghost Value = { Book };
 
-    ghost use Rattle.drive_model.specs.Book.{live_of, IsKept};
+    ghost use Rattle.live_noise.specs.Book.{live_of, IsKept};
 
     ghost view = { λ b. record { live = live_of b.noises.items b.entries.items; armed = b.armed; capacity = b.capacity } };
 
@@ -41,8 +42,8 @@ fn reserve<T: Drop>(alloc: Global, capacity: u32) -> Result<Vec<T>, NoMemory>
 }
 
 impl Live {
-    /// No noise, with the memory for all that may be armed.
-    pub(crate) fn new(alloc: Global, capacity: u32) -> Result<Live, NoMemory>
+    /// No noise, with the memory for all that may be armed, so that no later call takes any. `NoMemory` where it is not to be had.
+    pub fn new(alloc: Global, capacity: u32) -> Result<Live, NoMemory>
         requires { capacity ≤ 4096 }
         ensures { IfOk result (λ live. live ≡ empty_book capacity) }
     {
@@ -56,8 +57,8 @@ impl Live {
         })
     }
 
-    /// Arms noise at a sector.
-    pub(crate) fn arm(&mut self, unit: u8, block: u32, noise: Noise, span: NoiseSpan)
+    /// Arms noise at a sector: it is live until it has struck so often, or until the sector is read with the offset that ends it.
+    pub fn arm(&mut self, unit: u8, block: u32, noise: Noise, span: NoiseSpan)
         requires { self.old.armed < self.old.capacity }
         ensures { self.new ≡ book_armed (record { unit = unit; block = block; span = span; places = noise }) self.old }
     {
@@ -78,8 +79,9 @@ impl Live {
         );
     }
 
-    /// The noise that strikes a read of a sector with this word in the offset register, which is used by it.
-    pub(crate) fn strike(&mut self, unit: u8, block: u32, of: u16) -> Option<Noise>
+    /// The noise that strikes a read of a sector with this word in the offset register, which is used by it. None exactly where no
+    /// live noise is there, or where the word's offset ends the oldest one.
+    pub fn strike(&mut self, unit: u8, block: u32, of: u16) -> Option<Noise>
         ensures noise { result ≡ strikes unit block of self.old.live }
         ensures book { self.new ≡ book_struck unit block of self.old }
     {

@@ -1,6 +1,6 @@
 use Rattle.std.proofs.Common.{arith, sym, ◌∙◌}
-use Rattle.drive_model.proofs.EntryLaws.{used_in_place}
-use Rattle.drive_model.proofs.entries.use_at.Goals as goal
+use Rattle.live_noise.proofs.EntryLaws.{used_in_place}
+use Rattle.live_noise.proofs.entries.use_at.Goals as goal
 
 pub returns-in-Some-clause-items : goal.returns-in-Some-clause-items
 returns-in-Some-clause-items c =

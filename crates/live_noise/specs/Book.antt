@@ -4,7 +4,7 @@ use Rattle.std.specs.List.{slice_index_or}
 use Rattle.std.specs.List.Sorted.{IsNonDecreasingBy}
 use Rattle.hardware_table.specs.declared.NoiseSpan.{NoiseSpan}
 use Rattle.hardware_table.specs.Noise.{LiveNoise, sector_number, span_left}
-use Rattle.drive_model.specs.declared.entries.Entry.{Entry}
+use Rattle.live_noise.specs.declared.entries.Entry.{Entry}
 
 -- the noise of an entry
 abbrev pub noise_of : List (List ℕ) → Entry → LiveNoise

@@ -2,8 +2,8 @@
 ghost use Rattle.std.specs.Prelude.{◌≡◌, ◌≤◌, ◌<◌, ◌+◌, ◌^◌, Some, slice_get, length, MatchOption, IfSome, ℕ, List, All, option_map, vec_len, vec_capacity, true, false, not, nat_lt};
 ghost use Rattle.std.specs.List.Sorted.{IsPartitionPoint};
 ghost use Rattle.hardware_table.specs.Noise.{sector_number, is_ended_by, span_left, is_spent, flips, oldest, after_strike};
-ghost use Rattle.drive_model.specs.declared.entries.Entry.{Entry};
-ghost use Rattle.drive_model.specs.Book.{noise_of, live_of, number_of, is_entry_at, is_entry_behind, AreInOrder, IsFirst, IsNowhere, with_entry, with_used};
+ghost use Rattle.live_noise.specs.declared.entries.Entry.{Entry};
+ghost use Rattle.live_noise.specs.Book.{noise_of, live_of, number_of, is_entry_at, is_entry_behind, AreInOrder, IsFirst, IsNowhere, with_entry, with_used};
 
 use drive_registers::{OFFSET_CODE, offset_word};
 use fire_code::Noise;

@@ -10,8 +10,8 @@ use Rattle.hardware_table.specs.declared.NoiseSpan.{NoiseSpan}
 use Rattle.std.specs.List.Sorted.{IsPartitionPoint, IsPartitionedBy}
 use Rattle.std.proofs.lemmas.Bool.Decides.{nat_tests}
 use Rattle.hardware_table.specs.Noise.{sector_number, span_left}
-use Rattle.drive_model.specs.declared.entries.Entry.{Entry}
-use Rattle.drive_model.specs.Book.{number_of, is_entry_at, is_entry_behind, AreInOrder, IsNowhere, with_entry, with_used}
+use Rattle.live_noise.specs.declared.entries.Entry.{Entry}
+use Rattle.live_noise.specs.Book.{number_of, is_entry_at, is_entry_behind, AreInOrder, IsNowhere, with_entry, with_used}
 
 -- what does not stand behind a number stands in front
 pub parted_behind : (entries : List Entry) → (number : ℕ) → AreInOrder entries

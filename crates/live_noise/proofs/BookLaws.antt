@@ -6,8 +6,8 @@ use Rattle.std.proofs.lemmas.List.{get_or_append_left}
 use Rattle.std.proofs.lemmas.List.Elements.{All-append, All-take, All-drop, All-filter}
 use Rattle.hardware_table.specs.declared.NoiseSpan.{NoiseSpan}
 use Rattle.hardware_table.specs.Noise.{LiveNoise, Book, is_behind, is_spent, sector_number, with_noise, span_left, noise_left, oldest, after_strike}
-use Rattle.drive_model.specs.declared.entries.Entry.{Entry}
-use Rattle.drive_model.specs.Book.{noise_of, live_of, number_of, is_entry_at, is_entry_behind, IsFirst, IsNowhere, with_entry, with_used, entry_left}
+use Rattle.live_noise.specs.declared.entries.Entry.{Entry}
+use Rattle.live_noise.specs.Book.{noise_of, live_of, number_of, is_entry_at, is_entry_behind, IsFirst, IsNowhere, with_entry, with_used, entry_left}
 
 at : {P : Type 0} → (b : Bool) → (b ≡ true → P) → (b ≡ false → P) → P
 at {P} b one other = (elim b as (λ v. (v ≡ true → P) → (v ≡ false → P) → P) [ true ↦ λ t f. t refl | false ↦ λ t f. f refl ]) one other
