@@ -1,5 +1,5 @@
 pub mod LoadLaws
-mod PlayLaws
+pub mod PlayLaws
 pub mod SoFar
 mod Standing
 mod TheRunLaws
