@@ -9,10 +9,10 @@ use Rattle.trace_replay.specs.Script.{Script}
 use Rattle.driver_answers.specs.declared.outcome.Stop.{Stop}
 use Rattle.driver_answers.specs.declared.outcome.Stop.TheVariants as stop
 use Rattle.buffer_cache.specs.Passes.{HasCauses}
-use Rattle.unit_attaching.specs.declared.fault.PlayFault.{PlayFault}
-use Rattle.unit_attaching.specs.declared.fault.PlayFault.TheVariants as fault
+use Rattle.play_faults.specs.declared.fault.PlayFault.{PlayFault}
+use Rattle.play_faults.specs.declared.fault.PlayFault.TheVariants as fault
 use Rattle.run_laws.specs.Stops.{Took}
-use Rattle.unit_attaching.specs.Faults.{from_stop, IsBefore, IsLongFor}
+use Rattle.play_faults.specs.Faults.{from_stop, IsBefore, IsLongFor}
 use Rattle.cached_run.specs.Faults.{IsCaused}
 use Rattle.cached_run.specs.Theorem.{CachedStops, CachedLeaves}
 

@@ -11,7 +11,6 @@ mod Goings
 mod ScriptLines
 mod Whole
 mod Starts
-mod Attachings
 mod Causes
 mod Playing
 mod Keepings

@@ -4,5 +4,4 @@ pub mod Leaving
 pub mod Saying
 pub mod Faults
 pub mod Going
-pub mod Attaching
 pub mod Lines

@@ -1,6 +1,6 @@
 -- The lines of a script of the cache, one by one.
-use Rattle.std.specs.Prelude.{◌≡◌, ℕ, ◌≤◌, List, [], length, map, take}
-use Rattle.trace_replay.specs.Script.{Line, Numbered, inputs_before, with_input}
+use Rattle.std.specs.Prelude.{◌≡◌, ℕ, ◌≤◌, List, [], length}
+use Rattle.trace_replay.specs.Script.{Numbered, inputs_before, with_input}
 use Rattle.driver_machine.specs.World.{World}
 use Rattle.driver_machine.specs.Guards.{IsSetUp}
 use Rattle.cached_script.specs.declared.statement.Asked.{Asked}
@@ -8,12 +8,9 @@ use Rattle.cached_script.specs.declared.statement.Statement.{Statement}
 use Rattle.cached_script.specs.declared.statement.Statement.TheVariants as says
 use Rattle.cached_script.specs.declared.statement.Line.{Line as Said}
 use Rattle.cached_script.specs.Scripts as cached
-use Rattle.cached_script.specs.Meaning.{line_of, statement_of}
+use Rattle.cached_script.specs.Meaning.{lines_before, statement_of}
 
--- those before one, and their inputs
-abbrev pub lines_before : cached.Script → ℕ → List Line
-lines_before s i = map line_of (take i s.lines)
-
+-- the inputs of those before one
 abbrev pub inputs_till : cached.Script → ℕ → List Numbered
 inputs_till s i = inputs_before [] (lines_before s i)
 

@@ -13,9 +13,9 @@ use Rattle.trace_laws.specs.Machine.{Blocks}
 use Rattle.trace_laws.specs.LegalAnswers.{AreLegal, all_claimed}
 use Rattle.trace_laws.specs.Laws.{HoldMap, RestStays}
 use Rattle.run_laws.specs.Stops.{Took}
-use Rattle.unit_attaching.specs.Faults.{IsUnplayed}
-use Rattle.unit_attaching.specs.declared.fault.PlayFault.{PlayFault}
-use Rattle.unit_attaching.specs.declared.fault.PlayFault.TheVariants as faults
+use Rattle.run_laws.specs.Stops.{IsUnplayed}
+use Rattle.play_faults.specs.declared.fault.PlayFault.{PlayFault}
+use Rattle.play_faults.specs.declared.fault.PlayFault.TheVariants as faults
 use Rattle.cached_run.specs.Answers.{Replacement, answers_of, map_of_inputs, text_of, replacements_of, after}
 
 -- what the packs hold, with these tables

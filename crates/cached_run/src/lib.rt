@@ -3,7 +3,6 @@
 #![tactic(auto)]
 
 mod answers;
-mod attaching;
 mod desk;
 mod lines;
 mod play;
@@ -11,4 +10,4 @@ mod requests;
 mod transfers;
 
 pub use play::play_cached;
-pub use unit_attaching::PlayFault as CachedPlayFault;
+pub use play_faults::PlayFault as CachedPlayFault;

@@ -7,23 +7,23 @@ ghost use Rattle.buffer_cache.specs.Passes.{site};
 ghost use Rattle.buffer_cache.specs.Calls.{MayUse};
 ghost use Rattle.run_laws.specs.Steps.{AreUnits};
 ghost use Rattle.run_laws.specs.Stops.{took};
-ghost use Rattle.unit_attaching.specs.Faults.{AreUntouched, HaveTold};
-ghost use Rattle.unit_attaching.specs.Lengths.{IsTooLong};
-ghost use Rattle.unit_attaching.specs.Faults.{IsBefore, IsPlaying, IsLongFor, Rise};
+ghost use Rattle.play_faults.specs.Faults.{AreUntouched, HaveTold};
+ghost use Rattle.play_faults.specs.Lengths.{IsTooLong};
+ghost use Rattle.play_faults.specs.Faults.{IsBefore, IsPlaying, IsLongFor, Rise};
 ghost use Rattle.cached_run.specs.Faults.{IsCaused};
 ghost use Rattle.cached_run.specs.Going.{scene, IsFar, HaltsScript};
 ghost use Rattle.cached_run.specs.Lines.{IsRoomy};
 ghost use Rattle.cached_script.specs.Meaning.{meaning_of};
 ghost use Rattle.cached_run.specs.Theorem.{CachedPlays, CachedLeaves};
 
-use crate::attaching::attach_units;
 use crate::desk::Desk;
 use crate::lines::{play_line, play_sync};
 use buffer_cache::{Cache, Subsystem};
 use cached_script::CachedScript;
 use outside_traits::traits::{Packs, Sink};
+use play_faults::PlayFault;
 use std::alloc::Global;
-use unit_attaching::PlayFault;
+use unit_attaching::attach_cached;
 
 /// Plays the lines of a script over units that are set up for it, and behind the last line a sync, whose number is the number of
 /// lines plus one.
@@ -91,7 +91,7 @@ pub fn play_cached<P: Packs, O: Sink, T: Sink>(
     ensures untouched { IsBefore result → AreUntouched (P.tells packs.new) (P.held packs.old) (P.held packs.new) out.old out.new trace.old trace.new }
 {
     script.law();
-    let units = attach_units(alloc, script, packs)?;
+    let units = attach_cached(alloc, script, packs)?;
     let mut desk = Desk::new(alloc)?;
     let mut cache = Cache::new(alloc, capacity)?;
     let mut subsystem = Subsystem::new(alloc, units.as_slice(), 1, 0)?;

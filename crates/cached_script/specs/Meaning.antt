@@ -1,6 +1,6 @@
 -- What a script of the cache means: the lines that the driver's rules speak of. A request is for whole blocks of partition `c`, and a sync
 -- is a drain, at which no request is outstanding.
-use Rattle.std.specs.Prelude.{ℕ, ◌*◌, List, map, replicate, Option, None, Some}
+use Rattle.std.specs.Prelude.{ℕ, ◌*◌, List, map, take, replicate, Option, None, Some}
 use Rattle.partitions.specs.declared.Part.TheVariants.{C}
 use Rattle.subsystem_spec.specs.Requests.{Request}
 use Rattle.trace_replay.specs.Script.{Submit, Drain, Statement, Declares, Plays, Line, Script}
@@ -32,3 +32,7 @@ line_of line = record { number = line.number; statement = statement_of line.stat
 
 abbrev pub meaning_of : cached.Script → Script
 meaning_of s = record { lines = map line_of s.lines; count = s.count }
+
+-- the lines before one, as they are meant
+abbrev pub lines_before : cached.Script → ℕ → List Line
+lines_before s i = map line_of (take i s.lines)

@@ -1,8 +1,1 @@
-pub mod Playing
-pub mod Plays
-pub mod Saying
-pub mod Steps
-pub mod Calls
-pub mod Answering
-pub mod Stops
 pub mod Passes

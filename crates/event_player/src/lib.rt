@@ -8,19 +8,13 @@
 //! what they leave by the write-ahead rule of `run_laws`: how far the script came, where text was last sent, what each sink took
 //! of it, and the packs after it. Of a run, and of one that
 //! stopped at the packs, what images have beyond all writes stayed (`reach`), and each is as long as the blocks that were written
-//! make it (`long`). Inside: what each line does is said for any run so far (`GoesOn`), with what is counted of it and how it keeps
-//! the rule (`IsAhead`), so that a script's run is put together line by line, and a drain event by event.
+//! make it (`long`).
 //!
 //! Only tested, in `hpsim_rows`: that memory suffices.
 #![tactic(auto)]
 
-mod answers;
-mod calls;
 mod counting;
-mod desk;
-mod drains;
 pub mod play;
-mod player;
 
 pub use hp_core::UnitSetup;
 pub use run_laws::stops::next_block_law;

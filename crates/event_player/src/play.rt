@@ -10,27 +10,25 @@ ghost use Rattle.trace_replay.specs.Script.{drives_of};
 ghost use Rattle.hp_core.specs.Setups.{setups_of};
 ghost use Rattle.run_laws.specs.Steps.{tables_in, AreSetFor};
 ghost use Rattle.answer_lines.specs.Counting.{tally_by};
-ghost use Rattle.event_player.specs.Plays.{Tallied};
-ghost use Rattle.unit_attaching.specs.Lengths.{IsTooLong};
-ghost use Rattle.unit_attaching.specs.Faults.{IsPlaying, IsBefore, IsLongFor, AreUntouched, HaveTold, Rise};
-ghost use Rattle.event_player.specs.Playing.{counted, one_request};
-ghost use Rattle.event_player.specs.Calls.{MayGoOn, IsPlayed};
-ghost use Rattle.event_player.specs.Steps.{stage, Ready, PlaysScript, HasCauses};
-ghost use Rattle.event_player.specs.Stops.{StopsScript, Leaves};
-ghost use Rattle.unit_attaching.specs.declared.fault.PlayFault.TheVariants.{TooLong, Store};
+ghost use Rattle.event_lines.specs.Plays.{Tallied};
+ghost use Rattle.play_faults.specs.Lengths.{IsTooLong};
+ghost use Rattle.play_faults.specs.Faults.{IsPlaying, IsBefore, IsLongFor, AreUntouched, HaveTold, Rise};
+ghost use Rattle.event_lines.specs.Playing.{counted, one_request};
+ghost use Rattle.event_lines.specs.Calls.{MayGoOn, IsPlayed};
+ghost use Rattle.event_lines.specs.Steps.{stage, Ready, PlaysScript, HasCauses};
+ghost use Rattle.event_lines.specs.Stops.{StopsScript, Leaves};
+ghost use Rattle.play_faults.specs.declared.fault.PlayFault.TheVariants.{TooLong, Store};
 ghost use Rattle.run_laws.specs.Stops.{took, TakesRest};
 
 use crate::counting::{count_noises, count_requests};
-use crate::desk::Desk;
-use crate::drains::drain;
-use crate::player::play_line;
 pub use answer_lines::Tally;
+use event_lines::{Desk, drain, play_line};
 use outside_traits::traits::{Packs, Sink};
+pub use play_faults::PlayFault;
 use run_laws::stops::{Subsystem, UnitSetup};
 use script_reader::meaning::meaning_law;
 use script_reader::{Script, read_back_law};
 use std::alloc::{AllocError, Global};
-pub use unit_attaching::PlayFault;
 use unit_attaching::attach_units;
 
 /// How many bytes the longest write brings: 127 blocks.

@@ -5,7 +5,7 @@ use Rattle.std.specs.List.{list_any}
 use Rattle.std.proofs.lemmas.Bool.{eq-eqb}
 use Rattle.trace_replay.specs.Moments.{Answered}
 use Rattle.trace_laws.specs.LegalAnswers.{times_answered}
-use Rattle.event_player.specs.Playing.{counted, one_request}
+use Rattle.event_lines.specs.Playing.{counted, one_request}
 use Rattle.trace_replay.specs.Script.{AreApart, Line, Statement, Declares, Plays, Submit, ArriveAt, MoveAt, AttendTo, Drain, Turn, Noise, Arm, SetOnline, SetLocked, with_id, ids_of}
 
 false-true : false ≡ true → ⊥

@@ -20,12 +20,12 @@ use Rattle.trace_laws.specs.LegalAnswers.{AreNoAliases}
 use Rattle.trace_laws.specs.Promises.{Promises}
 use Rattle.answer_lines.specs.declared.tally.Tally.{Tally}
 use Rattle.event_player.proofs.Passes.{legal_runs_are_one}
-use Rattle.unit_attaching.specs.declared.fault.PlayFault.{PlayFault}
-use Rattle.unit_attaching.specs.declared.fault.PlayFault.TheVariants as faults
-use Rattle.event_player.specs.Playing.{counted, one_request}
-use Rattle.event_player.specs.Plays.{Tallied}
+use Rattle.play_faults.specs.declared.fault.PlayFault.{PlayFault}
+use Rattle.play_faults.specs.declared.fault.PlayFault.TheVariants as faults
+use Rattle.event_lines.specs.Playing.{counted, one_request}
+use Rattle.event_lines.specs.Plays.{Tallied}
 use Rattle.event_player.specs.Passes.{Took, StopsAtSink}
-use Rattle.event_player.specs.Stops.{Leaves, StopsPlaying}
+use Rattle.event_lines.specs.Stops.{Leaves, StopsPlaying}
 use Rattle.hp_exercise.specs.Bounds.{HasShortNoise}
 use Rattle.hp_exercise.specs.Exercise.{script_text}
 use Rattle.hp_exercise.specs.Statements.{script_statements}

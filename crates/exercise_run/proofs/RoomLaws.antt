@@ -9,11 +9,11 @@ use Rattle.pack_geometry.proofs.PackLaws.{length-grown}
 use Rattle.outside_traits.specs.Causes.{Rose}
 use Rattle.trace_replay.specs.Script.{Script, drives_of}
 use Rattle.driver_answers.specs.Outcome.{IsNextBlock}
-use Rattle.unit_attaching.specs.declared.fault.PlayFault.{PlayFault}
-use Rattle.unit_attaching.specs.declared.fault.PlayFault.TheVariants as faults
+use Rattle.play_faults.specs.declared.fault.PlayFault.{PlayFault}
+use Rattle.play_faults.specs.declared.fault.PlayFault.TheVariants as faults
 use Rattle.event_player.specs.Passes.{writes_next}
 use Rattle.event_player.specs.Passes.{Took}
-use Rattle.event_player.specs.Stops.{Leaves}
+use Rattle.event_lines.specs.Stops.{Leaves}
 use Rattle.exercise_run.specs.Room.{AreEmpty, IsOutside, faults_of, room_on, with_outside}
 use Rattle.exercise_run.specs.Exercises.{exercise_script}
 use Rattle.exercise_run.specs.declared.packs.Outside.{Outside}

@@ -11,10 +11,10 @@ use Rattle.script_reader.specs.Meaning.{meaning}
 use Rattle.trace_replay.specs.Script.{Script, inputs_of}
 use Rattle.trace_laws.specs.LegalAnswers.{AreNoAliases}
 use Rattle.answer_lines.specs.declared.tally.Tally.{Tally}
-use Rattle.unit_attaching.specs.declared.fault.PlayFault.TheVariants as faults
-use Rattle.event_player.specs.Plays.{Tallied}
+use Rattle.play_faults.specs.declared.fault.PlayFault.TheVariants as faults
+use Rattle.event_lines.specs.Plays.{Tallied}
 use Rattle.event_player.specs.Passes.{Took}
-use Rattle.event_player.specs.Stops.{StopsPlaying}
+use Rattle.event_lines.specs.Stops.{StopsPlaying}
 use Rattle.hp_exercise.specs.Exercise.{script_text}
 use Rattle.hp_exercise.specs.Statements.{script_statements}
 use Rattle.trace_laws.specs.Promises.{Promises}

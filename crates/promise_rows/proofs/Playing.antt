@@ -18,7 +18,7 @@ use Rattle.trace_laws.specs.Promises.{Promises}
 use Rattle.answer_lines.specs.AnswerText.{out_text, said_text}
 use Rattle.answer_lines.specs.Blocks as blocks
 use Rattle.answer_lines.specs.declared.tally.Tally.{Tally}
-use Rattle.event_player.specs.Plays.{Plays}
+use Rattle.event_lines.specs.Plays.{Plays}
 use Rattle.promise_rows.specs.Playing.{AlwaysAFault, AnswersKeptBack, BlockBeforeItsEvent, BlockBehindAStop, BlockOfNoUnit, NoiseLineUncounted, ShortLastBlockWhole}
 
 -- A COUNT that did not rise

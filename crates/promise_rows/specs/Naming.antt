@@ -11,11 +11,11 @@ use Rattle.trace_replay.specs.Script.{Script, Input, Numbered, Submit, Drain, dr
 use Rattle.trace_laws.specs.Drains.{event_by}
 use Rattle.trace_laws.specs.Promises.{Promises}
 use Rattle.driver_trace.specs.Lengths.{length_behind}
-use Rattle.unit_attaching.specs.declared.fault.PlayFault.TheVariants as faults
-use Rattle.event_player.specs.Plays.{Plays}
-use Rattle.unit_attaching.specs.Lengths.{NamesTooLong}
+use Rattle.play_faults.specs.declared.fault.PlayFault.TheVariants as faults
+use Rattle.event_lines.specs.Plays.{Plays}
+use Rattle.play_faults.specs.Lengths.{NamesTooLong}
 use Rattle.run_laws.specs.Stops.{IsEventOver, Took, StopsAtSink}
-use Rattle.event_player.specs.Stops.{StopsPlaying}
+use Rattle.event_lines.specs.Stops.{StopsPlaying}
 use Rattle.script_commands.specs.SoFar.{Keeps}
 
 -- A LATER UNIT NAMED: the image of a unit that a line before declares is too long, and another unit is named.

@@ -13,7 +13,7 @@ use Rattle.trace_replay.specs.Moments.{Moment, Played}
 use Rattle.trace_replay.specs.Script.{Script, Noise, drives_of, ids_of}
 use Rattle.answer_lines.specs.AnswerText.{answer_text}
 use Rattle.answer_lines.specs.declared.tally.Tally.{Tally}
-use Rattle.event_player.specs.Plays.{Tallied}
+use Rattle.event_lines.specs.Plays.{Tallied}
 use Rattle.run_laws.specs.Stops.{StopsAtSink}
 use Rattle.script_commands.specs.Headline.{Headline}
 

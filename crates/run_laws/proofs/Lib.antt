@@ -19,3 +19,4 @@ pub mod Writing
 pub mod StopsEvents
 pub mod Ahead
 pub mod StopsPasses
+pub mod LineLaws

@@ -1,5 +1,5 @@
 -- The lines of a call write nothing, unless it is the move of a write.
-use Rattle.std.proofs.Common.{◌≡◌, ◌⊎◌, inl, inr, ℕ, ◌<◌, Bool, true, false, ◌&&◌, not, List, [], ◌∷◌, ◌++◌, refl, sym, ap, subst, ◌∙◌}
+use Rattle.std.proofs.Common.{◌≡◌, ◌⊎◌, inl, inr, ℕ, Bool, true, false, ◌&&◌, not, List, [], ◌∷◌, ◌++◌, refl, sym, ap, subst, ◌∙◌}
 use Rattle.std.specs.Prelude.{if◌then◌else◌}
 use Rattle.std.proofs.lemmas.Bool.{false≢true}
 use Rattle.hardware_table.specs.declared.Moved.{Moved}
@@ -7,7 +7,7 @@ use Rattle.hardware_table.specs.declared.Work.TheVariants.{Ready, Transfer}
 use Rattle.hardware_table.specs.Adapter.{next_block}
 use Rattle.hardware_table.specs.Drive.{DriveState, is_writing}
 use Rattle.hardware_table.specs.Moves.{was_written, has_bytes}
-use Rattle.trace_replay.specs.Moments.{Moment, Played}
+use Rattle.trace_replay.specs.Moments.{Played}
 use Rattle.trace_replay.specs.Script as script
 use Rattle.trace_replay.specs.Script.{Input}
 use Rattle.trace_replay.specs.Events.{Event}
@@ -25,7 +25,6 @@ use Rattle.driver_trace.specs.Within.{ShowsAll}
 use Rattle.driver_trace.proofs.Starting.{set_up}
 use Rattle.driver_trace.proofs.Sectors.{IsNoMove, event_quiet, submission_quiet}
 use Rattle.run_laws.specs.Writing.{WriteNothing, EventsWriteNothing, FirstEventsWriteNothing, LaterEventsWriteNothing, SubmissionsWriteNothing, EmptyDrainsWriteNothing}
-use Rattle.hp_driver.specs.Subsystem.{writes_by}
 use Rattle.run_laws.proofs.Writing.{quiet_write_nothing}
 
 -- A TRANSFER that reads writes nothing.

@@ -108,3 +108,9 @@ pub record StopsAtStore (script : Script) (tables : ℕ → Option Table) (first
   pub reach : StaysBeyond script tables first left
   pub lines : TakesRest trace (trace_text sent) (trace_text done)
   pub answers : TakesRest out (out_text sent) (out_text done)
+
+-- nothing was played, as the packs failed when a unit was attached
+pub record IsUnplayed (first left : ℕ → Pack) (out trace : Took) : Type 0 where
+  pub packs : left ≡ first
+  pub unsaid : out.after ≡ out.before
+  pub untold : trace.after ≡ trace.before

@@ -19,8 +19,8 @@ use Rattle.trace_laws.proofs.Commands.{ends_are_bounded}
 use Rattle.trace_laws.specs.LegalAnswers.{ids_asked, with_asked}
 use Rattle.trace_laws.specs.Stands.{AreGiven}
 use Rattle.trace_laws.proofs.MachineRuns.{each_beginning, script_ids}
-use Rattle.unit_attaching.specs.declared.fault.PlayFault.{PlayFault}
-use Rattle.unit_attaching.specs.declared.fault.PlayFault.TheVariants as faults
+use Rattle.play_faults.specs.declared.fault.PlayFault.{PlayFault}
+use Rattle.play_faults.specs.declared.fault.PlayFault.TheVariants as faults
 use Rattle.driver_answers.specs.Outcome.{IsNextBlock}
 use Rattle.event_player.specs.Passes.{HasNext, NextBlocksShow}
 use Rattle.event_player.specs.Passes.{ShowsAll}
@@ -28,7 +28,7 @@ use Rattle.event_player.specs.Passes.{writes_next}
 use Rattle.event_player.specs.Passes.{AreBehind, WritesAhead}
 use Rattle.event_player.specs.Passes.{CameTo, Took}
 use Rattle.event_player.proofs.Passes.{rules_hold, behind_more}
-use Rattle.event_player.specs.Stops.{StopsPlaying}
+use Rattle.event_lines.specs.Stops.{StopsPlaying}
 use Rattle.trace_laws.specs.Beginnings.{IsBegun, BeginningsKeep, NextBlocksKeep, PromisesSoFar}
 use Rattle.script_commands.specs.SoFar.{KeepsSoFar, HoldSoFar, Holds, Keeps}
 use Rattle.script_commands.proofs.Standing.{FoundBehind, found_behind}

@@ -14,11 +14,11 @@ use Rattle.trace_laws.specs.Commands.{commands_in}
 use Rattle.driver_answers.specs.Outcome.{IsFront}
 use Rattle.answer_lines.specs.AnswerText.{out_text, answer_line}
 use Rattle.trace_laws.specs.Laws.{HasBegun}
-use Rattle.unit_attaching.specs.declared.fault.PlayFault.{PlayFault}
-use Rattle.unit_attaching.specs.declared.fault.PlayFault.TheVariants as faults
+use Rattle.play_faults.specs.declared.fault.PlayFault.{PlayFault}
+use Rattle.play_faults.specs.declared.fault.PlayFault.TheVariants as faults
 use Rattle.event_player.specs.Passes.{SaysOneSector}
 use Rattle.event_player.specs.Passes.{Took}
-use Rattle.event_player.specs.Stops.{StopsPlaying}
+use Rattle.event_lines.specs.Stops.{StopsPlaying}
 use Rattle.trace_laws.specs.Beginnings.{PromisesSoFar}
 
 -- OF THE MOMENTS SO FAR: their answers are those of the block machine to the lines that were played, and the replay behind them stands

@@ -12,9 +12,9 @@ use Rattle.cached_script.specs.declared.statement.Line.{Line}
 use Rattle.cached_script.specs.declared.statement.Statement.TheVariants as says
 use Rattle.cached_script.specs.Formed.{IsScript}
 use Rattle.run_laws.specs.Stops.{Took}
-use Rattle.unit_attaching.specs.declared.fault.PlayFault.TheVariants.{Sink}
+use Rattle.play_faults.specs.declared.fault.PlayFault.TheVariants.{Sink}
 use Rattle.cached_run.specs.Answers.{after, answer_to, first_by, map_of_inputs, met_by, replacements_of}
-use Rattle.unit_attaching.specs.Faults.{Rise}
+use Rattle.play_faults.specs.Faults.{Rise}
 use Rattle.cached_run.specs.Going.{Halts, IsFar, Scene}
 use Rattle.cached_run.specs.Theorem.{CachedPlays, CachedStops, contents}
 

@@ -22,12 +22,12 @@ use Rattle.driver_machine.specs.World.{Setup}
 use Rattle.run_laws.specs.Steps.{tables_in, AreSetFor}
 use Rattle.run_laws.proofs.Attached as one
 use Rattle.run_laws.proofs.Attached.{IsSetupOf, AreAttached, HasDrive, attached_more, attached_still, is_first, drive_there, drives_same, drives-append, first_none, first_some, none_or_some, set_for_script}
-use Rattle.unit_attaching.specs.declared.fault.PlayFault.{PlayFault}
-use Rattle.unit_attaching.specs.declared.fault.PlayFault.TheVariants as faults
-use Rattle.unit_attaching.specs.Lengths.{IsTooLong, NamesTooLong}
-use Rattle.unit_attaching.specs.Faults.{IsLongFor}
+use Rattle.play_faults.specs.declared.fault.PlayFault.{PlayFault}
+use Rattle.play_faults.specs.declared.fault.PlayFault.TheVariants as faults
+use Rattle.play_faults.specs.Lengths.{IsTooLong, NamesTooLong}
+use Rattle.play_faults.specs.Faults.{IsLongFor}
 use Rattle.unit_attaching.specs.Attaching.{IsSet, IsFoundLong, HasRoom, Adds, RefusesLine}
-use Rattle.unit_attaching.proofs.LineLaws.{lines_before, lines_more, lines_all, lines_parted}
+use Rattle.run_laws.proofs.LineLaws.{lines_before, lines_more, lines_all, lines_parted}
 
 -- LINES AND SETUPS that go together, over packs that tell: each image fits, and each table is that of its pack
 pub record AreTold (packs : ℕ → Pack) (lines : List Line) (setups : List Setup) : Type 0 where

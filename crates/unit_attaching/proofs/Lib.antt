@@ -1,2 +1,3 @@
-pub mod LineLaws
 pub mod AttachLaws
+pub mod CachedLines
+pub mod CachedLaws

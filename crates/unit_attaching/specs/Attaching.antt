@@ -9,8 +9,8 @@ use Rattle.script_lines.specs.declared.statement.Statement.{Statement}
 use Rattle.script_lines.specs.declared.statement.Statement.TheVariants as says
 use Rattle.driver_machine.specs.World.{Setup}
 use Rattle.driver_machine.specs.Sound.{IsTableFor}
-use Rattle.unit_attaching.specs.declared.fault.PlayFault.{PlayFault}
-use Rattle.unit_attaching.specs.declared.fault.PlayFault.TheVariants as faults
+use Rattle.play_faults.specs.declared.fault.PlayFault.{PlayFault}
+use Rattle.play_faults.specs.declared.fault.PlayFault.TheVariants as faults
 
 -- A UNIT'S SETUP: its table is for its kind, and where the packs tell, its image fits, and the table is that of its pack.
 pub record IsSet (tells : Bool) (packs : ℕ → Pack) (unit : ℕ) (kind : DriveKind) (s : Setup) : Type 0 where

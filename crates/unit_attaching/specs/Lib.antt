@@ -1,3 +1,2 @@
-pub mod Lengths
-pub mod Faults
 pub mod Attaching
+pub mod Cached

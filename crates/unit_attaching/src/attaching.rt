@@ -11,15 +11,15 @@ ghost use Rattle.trace_replay.specs.Script.{drives_of};
 ghost use Rattle.hp_core.specs.Setups.{setup_of, setups_of};
 ghost use Rattle.run_laws.specs.Steps.{tables_in, AreSetFor};
 ghost use Rattle.unit_attaching.specs.Attaching.{IsSet, IsFoundLong, HasRoom, Adds, RefusesLine};
-ghost use Rattle.unit_attaching.specs.Faults.{IsLongFor};
-ghost use Rattle.unit_attaching.specs.Lengths.{IsTooLong};
+ghost use Rattle.play_faults.specs.Faults.{IsLongFor};
+ghost use Rattle.play_faults.specs.Lengths.{IsTooLong};
 
-use crate::fault::PlayFault;
 use bad144_table::{BadTable, entries};
 use drive_model::Drive;
 use mba_autoconf::{AttachFault, attach};
 use outside_traits::traits::Packs;
 use pack_geometry::DriveKind;
+use play_faults::PlayFault;
 use run_laws::stops::UnitSetup;
 use script_reader::meaning::meaning_law;
 use script_reader::{Script, Statement, Stored};
@@ -40,7 +40,7 @@ fn table_law(table: &Option<BadTable>)
 /// Attaches a unit, one of the 32, with the table of its pack. The packs stay.
 ///
 /// TooLong comes where its image has more bytes than the blocks of its drive, and Store only where the packs' count of faults rose.
-pub fn attach_unit<P: Packs>(
+pub(crate) fn attach_unit<P: Packs>(
     unit: u8,
     kind: DriveKind,
     packs: &mut P,

@@ -37,7 +37,7 @@ returns-clause-plays g c =
     let tables = tables_in (setups_of c.in_ok-units.units.items) in
     let old = g.P.Packs.held c.args.packs.now in
     let new = g.P.Packs.held c.play_lines.new.packs in
-    let first : Scene = scene g.P.Packs.tells g.P.Packs.held g.O.Sink.tells g.O.Sink.taken g.O.Sink.faults g.T.Sink.tells g.T.Sink.taken c.in_ok-subsystem.subsystem.world c.attach_units.new.packs c.args.out.now c.args.trace.now in
+    let first : Scene = scene g.P.Packs.tells g.P.Packs.held g.O.Sink.tells g.O.Sink.taken g.O.Sink.faults g.T.Sink.tells g.T.Sink.taken c.in_ok-subsystem.subsystem.world c.attach_cached.new.packs c.args.out.now c.args.trace.now in
     let now : Scene = scene g.P.Packs.tells g.P.Packs.held g.O.Sink.tells g.O.Sink.taken g.O.Sink.faults g.T.Sink.tells g.T.Sink.taken c.play_lines.new.subsystem.world c.play_lines.new.packs c.play_lines.new.out c.play_lines.new.trace in
     let out : Took = took g.O.Sink.tells g.O.Sink.taken g.O.Sink.faults c.args.out.now c.play_lines.new.out in
     on_ok_map c.play_lines.result (λ plays t.
@@ -57,7 +57,7 @@ returns-clause-stopped g c =
     let tables = tables_in (setups_of c.in_ok-units.units.items) in
     let old = g.P.Packs.held c.args.packs.now in
     let new = g.P.Packs.held c.play_lines.new.packs in
-    let first : Scene = scene g.P.Packs.tells g.P.Packs.held g.O.Sink.tells g.O.Sink.taken g.O.Sink.faults g.T.Sink.tells g.T.Sink.taken c.in_ok-subsystem.subsystem.world c.attach_units.new.packs c.args.out.now c.args.trace.now in
+    let first : Scene = scene g.P.Packs.tells g.P.Packs.held g.O.Sink.tells g.O.Sink.taken g.O.Sink.faults g.T.Sink.tells g.T.Sink.taken c.in_ok-subsystem.subsystem.world c.attach_cached.new.packs c.args.out.now c.args.trace.now in
     let now : Scene = scene g.P.Packs.tells g.P.Packs.held g.O.Sink.tells g.O.Sink.taken g.O.Sink.faults g.T.Sink.tells g.T.Sink.taken c.play_lines.new.subsystem.world c.play_lines.new.packs c.play_lines.new.out c.play_lines.new.trace in
     let out : Took = took g.O.Sink.tells g.O.Sink.taken g.O.Sink.faults c.args.out.now c.play_lines.new.out in
     leaves_as (IsTrue (g.P.Packs.tells c.play_lines.new.packs)) c.play_lines.result (meaning_of s) old new out (took g.T.Sink.tells g.T.Sink.taken g.T.Sink.faults c.args.trace.now c.play_lines.new.trace)

@@ -3,7 +3,7 @@ use Rattle.trace_laws.specs.Rest.{HasTables}
 use Rattle.buffer_cache.specs.Passes.{setup_at}
 use Rattle.buffer_cache.specs.Passes.{site}
 use Rattle.buffer_cache.specs.Calls.{MayUse}
-use Rattle.unit_attaching.specs.Faults.{HaveTold}
+use Rattle.play_faults.specs.Faults.{HaveTold}
 use Rattle.cached_run.specs.Going.{scene, IsFar}
 use Rattle.cached_run.specs.Lines.{inputs_till, IsRoomy, KeepsUnits}
 use Rattle.cached_run.proofs.play.play_lines.Given as goal

@@ -6,7 +6,7 @@ use Rattle.script_reader.specs.Meaning.{meaning_of}
 use Rattle.hp_exercise.specs.Exercise.{script_text}
 use Rattle.outside_traits.specs.Causes.{Rose}
 use Rattle.answer_lines.specs.declared.tally.Tally.{Tally}
-use Rattle.unit_attaching.specs.declared.fault.PlayFault.{PlayFault}
+use Rattle.play_faults.specs.declared.fault.PlayFault.{PlayFault}
 use Rattle.exercise_run.specs.Room.{faults_of}
 use Rattle.exercise_run.specs.Exercises.{exercise_script}
 use Rattle.exercise_run.proofs.ExerciseLaws.{cut_short_for, exercised_for, is_exercise, never_refused, one_meaning}

@@ -2,7 +2,7 @@ use Rattle.std.proofs.Common.{◌≡◌, ◌≤◌, IsTrue}
 use Rattle.hp_core.specs.Setups.{setups_of}
 use Rattle.run_laws.proofs.Attached.{AreAttached}
 use Rattle.unit_attaching.proofs.AttachLaws.{AreTold}
-use Rattle.unit_attaching.proofs.LineLaws.{lines_before}
+use Rattle.run_laws.proofs.LineLaws.{lines_before}
 use Rattle.unit_attaching.proofs.attaching.attach_units.Given as goal
 
 -- the units of the lines before were attached, and the packs are as they were

@@ -1,0 +1,61 @@
+use Rattle.std.proofs.Common.{Some, None, refl, ap, subst, sym}
+use Rattle.driver_machine.specs.World.{World}
+use Rattle.run_laws.specs.StopsPasses.{input_of}
+use Rattle.run_laws.specs.StopsPasses.{State, Comes}
+use Rattle.driver_answers.specs.Waiting.{waiting}
+use Rattle.answer_lines.specs.declared.tally.Tally.{Tally}
+use Rattle.answer_lines.specs.Counting.{Counts}
+use Rattle.play_faults.specs.declared.fault.PlayFault.TheVariants as faults
+use Rattle.play_faults.specs.Faults.{from_stop}
+use Rattle.event_lines.specs.Saying.{side}
+use Rattle.event_lines.specs.Steps.{PlaysEvent, waiting_text}
+use Rattle.event_lines.proofs.Saying.{by_sides, is_said}
+use Rattle.event_lines.proofs.Calling.{event_done, event_unsaid, event_halted, event_unsent}
+use Rattle.event_lines.proofs.Halting.{err_is}
+use Rattle.event_lines.proofs.calls.happen.Goals as goal
+
+pub returns-clause-plays : goal.returns-clause-plays
+returns-clause-plays g c =
+    let said = c.in_ok-say_answers.ensures in
+    let sends = c.in_ok-send_ahead.ensures in
+    subst (λ (w : World). PlaysEvent c.args.number (input_of c.args.event)
+    (by_sides c.args.subsystem.now.world (g.P.Packs.tells c.args.packs.now) (g.P.Packs.held c.args.packs.now) (side g.O.Sink.tells g.O.Sink.taken g.O.Sink.faults c.args.out.now c.args.desk.now.gather) (side g.T.Sink.tells g.T.Sink.taken g.T.Sink.faults c.args.trace.now c.args.subsystem.now.kept) c.args.desk.now.tally)
+    (by_sides w (g.P.Packs.tells c.event.new.packs) (g.P.Packs.held c.event.new.packs) (side g.O.Sink.tells g.O.Sink.taken g.O.Sink.faults c.say_answers.new.out c.say_answers.new.desk.gather)
+    (side g.T.Sink.tells g.T.Sink.taken g.T.Sink.faults c.say_answers.new.trace c.say_answers.new.subsystem.kept) c.say_answers.new.desk.tally)) (sym (ap (λ (s : State). s.world) said.taken))
+    (event_done g.P.Packs.tells g.P.Packs.held g.T.Sink.tells g.T.Sink.taken g.T.Sink.faults c.args.packs.now c.event.new.packs c.send_ahead.new.trace c.event.new.trace c.args.number (input_of c.args.event)
+    c.args.subsystem.now.world c.event.new.self.world c.send_ahead.new.subsystem.kept c.event.new.self.kept
+    (side g.O.Sink.tells g.O.Sink.taken g.O.Sink.faults c.args.out.now c.args.desk.now.gather) (side g.O.Sink.tells g.O.Sink.taken g.O.Sink.faults c.send_ahead.new.out c.send_ahead.new.desk.gather) (side g.T.Sink.tells g.T.Sink.taken g.T.Sink.faults c.args.trace.now c.args.subsystem.now.kept)
+    c.args.desk.now.tally _ refl c.in_ok-send_ahead.ensures.sends c.in_ok-event.ensures.never_again_trace
+    c.law.ensures.sound (c.law.ensures.work c.requires.ready.going) c.requires.ready.none_waits
+    (subst (λ (w : World). Comes g.P.Packs.tells g.P.Packs.held g.T.Sink.tells g.T.Sink.taken c.args.packs.now c.event.new.packs c.send_ahead.new.trace c.event.new.trace c.args.number (input_of c.args.event) w c.event.new.self.world c.send_ahead.new.subsystem.kept c.event.new.self.kept None) (ap (λ (s : State). s.world) sends.same) c.in_ok-event.ensures.does)
+    (side g.O.Sink.tells g.O.Sink.taken g.O.Sink.faults c.say_answers.new.out c.say_answers.new.desk.gather) (side g.T.Sink.tells g.T.Sink.taken g.T.Sink.faults c.say_answers.new.trace c.say_answers.new.subsystem.kept) c.say_answers.new.desk.tally _ refl said.says
+    (subst (λ (tally : Tally). Counts (waiting c.event.new.self.world) (waiting_text c.event.new.self.world) tally c.say_answers.new.desk.tally) sends.tally said.counts))
+
+pub returns-in_err-send_ahead-clause-stops : goal.returns-in_err-send_ahead-clause-stops
+returns-in_err-send_ahead-clause-stops g c =
+    err_is _ c.from_residual.result faults.Sink c.from_residual.ensures.1
+    (event_unsent c.args.number (input_of c.args.event) c.args.subsystem.now.world c.send_ahead.new.subsystem.world (g.P.Packs.tells c.args.packs.now) (g.P.Packs.held c.args.packs.now)
+    (side g.O.Sink.tells g.O.Sink.taken g.O.Sink.faults c.args.out.now c.args.desk.now.gather) (side g.O.Sink.tells g.O.Sink.taken g.O.Sink.faults c.send_ahead.new.out c.send_ahead.new.desk.gather) (side g.T.Sink.tells g.T.Sink.taken g.T.Sink.faults c.args.trace.now c.args.subsystem.now.kept)
+    (side g.T.Sink.tells g.T.Sink.taken g.T.Sink.faults c.send_ahead.new.trace c.send_ahead.new.subsystem.kept) c.args.desk.now.tally c.send_ahead.new.desk.tally _ c.in_err-send_ahead.ensures.sends)
+
+pub returns-in_err-event-clause-stops : goal.returns-in_err-event-clause-stops
+returns-in_err-event-clause-stops g c =
+    err_is _ c.from_residual-in_err-event.result (from_stop c.in_err-event.field-0.0) c.from_residual-in_err-event.ensures.1
+    (event_halted g.P.Packs.tells g.P.Packs.held g.T.Sink.tells g.T.Sink.taken g.T.Sink.faults c.args.packs.now c.event.new.packs c.send_ahead.new.trace c.event.new.trace c.args.number (input_of c.args.event)
+    c.args.subsystem.now.world c.event.new.self.world c.send_ahead.new.subsystem.kept c.event.new.self.kept
+    (side g.O.Sink.tells g.O.Sink.taken g.O.Sink.faults c.args.out.now c.args.desk.now.gather) (side g.O.Sink.tells g.O.Sink.taken g.O.Sink.faults c.send_ahead.new.out c.send_ahead.new.desk.gather) (side g.T.Sink.tells g.T.Sink.taken g.T.Sink.faults c.args.trace.now c.args.subsystem.now.kept)
+    c.args.desk.now.tally _ refl c.in_ok-send_ahead.ensures.sends c.in_err-event.ensures.never_again_trace
+    c.event.new.self.world c.send_ahead.new.desk.tally c.in_err-event.field-0.0 (λ is. ap g.P.Packs.held (c.in_err-event.ensures.still is)) c.law.ensures.noise
+    (subst (λ (w : World). Comes g.P.Packs.tells g.P.Packs.held g.T.Sink.tells g.T.Sink.taken c.args.packs.now c.event.new.packs c.send_ahead.new.trace c.event.new.trace c.args.number (input_of c.args.event) w c.event.new.self.world c.send_ahead.new.subsystem.kept c.event.new.self.kept (Some c.in_err-event.field-0.0)) (ap (λ (s : State). s.world) c.in_ok-send_ahead.ensures.same) c.in_err-event.ensures.does))
+
+pub returns-in_err-say_answers-clause-stops : goal.returns-in_err-say_answers-clause-stops
+returns-in_err-say_answers-clause-stops g c =
+    err_is _ c.from_residual-in_err-say_answers.result faults.Sink c.from_residual-in_err-say_answers.ensures.1
+    (event_unsaid g.P.Packs.tells g.P.Packs.held g.T.Sink.tells g.T.Sink.taken g.T.Sink.faults c.args.packs.now c.event.new.packs c.send_ahead.new.trace c.event.new.trace c.args.number (input_of c.args.event)
+    c.args.subsystem.now.world c.event.new.self.world c.send_ahead.new.subsystem.kept c.event.new.self.kept
+    (side g.O.Sink.tells g.O.Sink.taken g.O.Sink.faults c.args.out.now c.args.desk.now.gather) (side g.O.Sink.tells g.O.Sink.taken g.O.Sink.faults c.send_ahead.new.out c.send_ahead.new.desk.gather) (side g.T.Sink.tells g.T.Sink.taken g.T.Sink.faults c.args.trace.now c.args.subsystem.now.kept)
+    c.args.desk.now.tally _ refl c.in_ok-send_ahead.ensures.sends c.in_ok-event.ensures.never_again_trace
+    c.law.ensures.sound (c.law.ensures.work c.requires.ready.going) c.requires.ready.none_waits
+    (subst (λ (w : World). Comes g.P.Packs.tells g.P.Packs.held g.T.Sink.tells g.T.Sink.taken c.args.packs.now c.event.new.packs c.send_ahead.new.trace c.event.new.trace c.args.number (input_of c.args.event) w c.event.new.self.world c.send_ahead.new.subsystem.kept c.event.new.self.kept None) (ap (λ (s : State). s.world) c.in_ok-send_ahead.ensures.same) c.in_ok-event.ensures.does)
+    c.say_answers.new.subsystem.world (side g.O.Sink.tells g.O.Sink.taken g.O.Sink.faults c.say_answers.new.out c.say_answers.new.desk.gather) (side g.T.Sink.tells g.T.Sink.taken g.T.Sink.faults c.say_answers.new.trace c.say_answers.new.subsystem.kept) c.say_answers.new.desk.tally
+    (λ is. ap g.P.Packs.held (c.in_ok-event.ensures.still is)) c.law.ensures.noise (is_said c.in_err-say_answers.ensures.says))

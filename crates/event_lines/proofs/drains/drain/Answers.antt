@@ -1,0 +1,100 @@
+use Rattle.std.proofs.Common.{refl, rules, ap, sym, append_assoc, ◌∙◌}
+use Rattle.run_laws.specs.StopsPasses.{input_of}
+use Rattle.trace_replay.specs.Moments.{Idle}
+use Rattle.trace_replay.specs.Text.{moment_text}
+use Rattle.run_laws.specs.StopsPasses.{State}
+use Rattle.event_lines.specs.Saying.{side}
+use Rattle.event_lines.specs.Steps.{Stage, stage}
+use Rattle.event_lines.proofs.Saying.{told_passes, passes_all}
+use Rattle.event_lines.proofs.Draining.{drain_plays, drain_nothing}
+use Rattle.event_lines.proofs.Rooms.{drain_brings, brings_both}
+use Rattle.event_lines.proofs.Inputs.{plays_none}
+use Rattle.event_lines.proofs.drains.drain.Goals as goal
+use Rattle.play_faults.specs.declared.fault.PlayFault.TheVariants as faults
+use Rattle.event_lines.proofs.Halting.{err_is, idle_halts, first_halts, rest_halts}
+
+pub returns-in_default-clause-played : goal.returns-in_default-clause-played
+returns-in_default-clause-played g c = record {
+  plays =
+      let old : Stage = stage g.P.Packs.tells g.P.Packs.held g.O.Sink.tells g.O.Sink.taken g.T.Sink.tells g.T.Sink.taken c.args.subsystem.now c.args.packs.now c.args.out.now c.args.trace.now c.args.desk.now.gather c.args.desk.now.tally in
+      let new : Stage = stage g.P.Packs.tells g.P.Packs.held g.O.Sink.tells g.O.Sink.taken g.T.Sink.tells g.T.Sink.taken c.idle.new.self c.args.packs.now c.args.out.now c.idle.new.trace c.args.desk.now.gather c.args.desk.now.tally in
+      λ t. drain_nothing c.args.number old new c.in_default.ensures.over (ap (λ (s : State). s.world) c.idle.ensures.same) refl refl (λ s. refl)
+      (λ s. c.in_ok-idle.ensures.gathers.bytes s ∙ sym (append_assoc (g.T.Sink.taken c.args.trace.now) c.args.subsystem.now.kept (moment_text (Idle c.args.number))))
+      (passes_all (λ s. refl) (λ s. c.in_ok-idle.ensures.gathers.bytes s ∙ sym (append_assoc (g.T.Sink.taken c.args.trace.now) c.args.subsystem.now.kept (moment_text (Idle c.args.number))))
+      (told_passes g.T.Sink.tells g.T.Sink.taken g.T.Sink.faults c.args.trace.now c.idle.new.trace c.args.subsystem.now.kept c.idle.new.self.kept (moment_text (Idle c.args.number)) _
+      c.args.subsystem.now.world c.idle.new.self.world _ _ _ _ _ _ (side g.O.Sink.tells g.O.Sink.taken g.O.Sink.faults c.args.out.now c.args.desk.now.gather) c.in_ok-idle.ensures.gathers));
+  stops = search rules;
+  told = search rules;
+  requests = search rules;
+}
+
+pub go_on-requires : goal.go_on-requires
+go_on-requires g c =
+    let goes = c.in_ok-happen.ensures.goes in
+    record { ready = record { going = goes.going; none_waits = plays_none c.in_ok-happen.ensures.plays.plays } }
+
+pub returns-clause-played : goal.returns-clause-played
+returns-clause-played g c = record {
+  plays =
+      let happens = c.in_ok-happen.ensures in
+      let goes = c.in_ok-go_on.ensures in
+      let old : Stage = stage g.P.Packs.tells g.P.Packs.held g.O.Sink.tells g.O.Sink.taken g.T.Sink.tells g.T.Sink.taken c.args.subsystem.now c.args.packs.now c.args.out.now c.args.trace.now c.args.desk.now.gather c.args.desk.now.tally in
+      let mid : Stage = stage g.P.Packs.tells g.P.Packs.held g.O.Sink.tells g.O.Sink.taken g.T.Sink.tells g.T.Sink.taken c.happen.new.subsystem c.happen.new.packs c.happen.new.out c.happen.new.trace c.happen.new.desk.gather c.happen.new.desk.tally in
+      let new : Stage = stage g.P.Packs.tells g.P.Packs.held g.O.Sink.tells g.O.Sink.taken g.T.Sink.tells g.T.Sink.taken c.go_on.new.subsystem c.go_on.new.packs c.go_on.new.out c.go_on.new.trace c.go_on.new.desk.gather c.go_on.new.desk.tally in
+      λ t. drain_plays c.args.number (input_of c.in-Some.first) old mid new (goes.played.told.never_again t) c.in-Some.ensures.next c.requires.ready.none_waits c.requires.few
+      happens.plays (goes.played.plays t);
+  stops = search rules;
+  told = search rules;
+  requests = search rules;
+}
+
+pub returns-clause-brings : goal.returns-clause-brings
+returns-clause-brings g c =
+    let old : Stage = stage g.P.Packs.tells g.P.Packs.held g.O.Sink.tells g.O.Sink.taken g.T.Sink.tells g.T.Sink.taken c.args.subsystem.now c.args.packs.now c.args.out.now c.args.trace.now c.args.desk.now.gather c.args.desk.now.tally in
+    let mid : Stage = stage g.P.Packs.tells g.P.Packs.held g.O.Sink.tells g.O.Sink.taken g.T.Sink.tells g.T.Sink.taken c.happen.new.subsystem c.happen.new.packs c.happen.new.out c.happen.new.trace c.happen.new.desk.gather c.happen.new.desk.tally in
+    brings_both c.args.subsystem.now.world c.happen.new.subsystem.world c.go_on.new.subsystem.world
+    (drain_brings c.args.number (input_of c.in-Some.first) old mid c.in-Some.ensures.next c.in_ok-happen.ensures.plays) c.in_ok-go_on.ensures.brings
+
+pub returns-in_err-idle-clause-played : goal.returns-in_err-idle-clause-played
+returns-in_err-idle-clause-played g c = record {
+  plays = search rules;
+  stops =
+      let old : Stage = stage g.P.Packs.tells g.P.Packs.held g.O.Sink.tells g.O.Sink.taken g.T.Sink.tells g.T.Sink.taken c.args.subsystem.now c.args.packs.now c.args.out.now c.args.trace.now c.args.desk.now.gather c.args.desk.now.tally in
+      let new : Stage = stage g.P.Packs.tells g.P.Packs.held g.O.Sink.tells g.O.Sink.taken g.T.Sink.tells g.T.Sink.taken c.idle.new.self c.args.packs.now c.args.out.now c.idle.new.trace c.args.desk.now.gather c.args.desk.now.tally in
+      err_is _ c.from_residual.result faults.Sink c.from_residual.ensures.1
+      (λ t. idle_halts c.args.number old new c.in_default.ensures.over refl
+      (told_passes g.T.Sink.tells g.T.Sink.taken g.T.Sink.faults c.args.trace.now c.idle.new.trace c.args.subsystem.now.kept c.idle.new.self.kept (moment_text (Idle c.args.number)) _
+      c.args.subsystem.now.world c.idle.new.self.world _ _ _ _ _ _ (side g.O.Sink.tells g.O.Sink.taken g.O.Sink.faults c.args.out.now c.args.desk.now.gather) c.in_err-idle.ensures.gathers));
+  told = search rules;
+  requests = search rules;
+}
+
+pub returns-in_err-happen-clause-played : goal.returns-in_err-happen-clause-played
+returns-in_err-happen-clause-played g c = record {
+  plays = search rules;
+  stops =
+      let happens = c.in_err-happen.ensures in
+      let old : Stage = stage g.P.Packs.tells g.P.Packs.held g.O.Sink.tells g.O.Sink.taken g.T.Sink.tells g.T.Sink.taken c.args.subsystem.now c.args.packs.now c.args.out.now c.args.trace.now c.args.desk.now.gather c.args.desk.now.tally in
+      let new : Stage = stage g.P.Packs.tells g.P.Packs.held g.O.Sink.tells g.O.Sink.taken g.T.Sink.tells g.T.Sink.taken c.happen.new.subsystem c.happen.new.packs c.happen.new.out c.happen.new.trace c.happen.new.desk.gather c.happen.new.desk.tally in
+      err_is _ c.from_residual-in_err-happen.result c.in_err-happen.field-0.0 c.from_residual-in_err-happen.ensures.1
+      (λ t. first_halts c.args.number c.in_err-happen.field-0.0 (input_of c.in-Some.first) old new c.in-Some.ensures.next c.in-Some.ensures.there
+      c.requires.ready.none_waits happens.stops t);
+  told = search rules;
+  requests = search rules;
+}
+
+pub returns-in_err-go_on-clause-played : goal.returns-in_err-go_on-clause-played
+returns-in_err-go_on-clause-played g c = record {
+  plays = search rules;
+  stops =
+      let happens = c.in_ok-happen.ensures in
+      let goes = c.in_err-go_on.ensures in
+      let old : Stage = stage g.P.Packs.tells g.P.Packs.held g.O.Sink.tells g.O.Sink.taken g.T.Sink.tells g.T.Sink.taken c.args.subsystem.now c.args.packs.now c.args.out.now c.args.trace.now c.args.desk.now.gather c.args.desk.now.tally in
+      let mid : Stage = stage g.P.Packs.tells g.P.Packs.held g.O.Sink.tells g.O.Sink.taken g.T.Sink.tells g.T.Sink.taken c.happen.new.subsystem c.happen.new.packs c.happen.new.out c.happen.new.trace c.happen.new.desk.gather c.happen.new.desk.tally in
+      let new : Stage = stage g.P.Packs.tells g.P.Packs.held g.O.Sink.tells g.O.Sink.taken g.T.Sink.tells g.T.Sink.taken c.go_on.new.subsystem c.go_on.new.packs c.go_on.new.out c.go_on.new.trace c.go_on.new.desk.gather c.go_on.new.desk.tally in
+      err_is _ c.from_residual-in_err-go_on.result c.in_err-go_on.field-0.0 c.from_residual-in_err-go_on.ensures.1
+      (λ t. rest_halts c.args.number c.in_err-go_on.field-0.0 (input_of c.in-Some.first) old mid new (goes.played.told.never_again t) c.in-Some.ensures.next
+      c.requires.ready.none_waits happens.plays (goes.played.stops t));
+  told = search rules;
+  requests = search rules;
+}

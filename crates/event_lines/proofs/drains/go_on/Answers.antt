@@ -1,0 +1,86 @@
+use Rattle.std.proofs.Common.{rules, ◌∙◌}
+use Rattle.run_laws.specs.StopsPasses.{input_of}
+use Rattle.event_lines.specs.Steps.{Stage, stage}
+use Rattle.event_lines.proofs.Draining.{draining_starts, draining_next, draining_over, draining_never}
+use Rattle.event_lines.proofs.Rooms.{drain_brings, still_brings, brings_both}
+use Rattle.event_lines.proofs.Inputs.{plays_none}
+use Rattle.event_lines.proofs.drains.go_on.Goals as goal
+use Rattle.event_lines.proofs.Halting.{err_is, draining_halts}
+
+pub loop-turn-init : goal.loop-turn-init
+loop-turn-init g c =
+    let old : Stage = stage g.P.Packs.tells g.P.Packs.held g.O.Sink.tells g.O.Sink.taken g.T.Sink.tells g.T.Sink.taken c.args.subsystem.now c.args.packs.now c.args.out.now c.args.trace.now c.args.desk.now.gather c.args.desk.now.tally in
+    record {
+      told = record { never_again = λ t. t; never_again_out = λ t. t; never_again_trace = λ t. t };
+      later = search rules;
+      later_out = search rules;
+      later_trace = search rules;
+      ready = c.requires.ready;
+      outstanding = search rules;
+      requests = search rules;
+      brings = still_brings c.args.subsystem.now.world;
+      plays = λ t. draining_starts c.args.number old;
+    }
+
+pub returns-in_default-clause-played : goal.returns-in_default-clause-played
+returns-in_default-clause-played g c = record {
+  plays =
+      let old : Stage = stage g.P.Packs.tells g.P.Packs.held g.O.Sink.tells g.O.Sink.taken g.T.Sink.tells g.T.Sink.taken c.args.subsystem.now c.args.packs.now c.args.out.now c.args.trace.now c.args.desk.now.gather c.args.desk.now.tally in
+      let now : Stage = stage g.P.Packs.tells g.P.Packs.held g.O.Sink.tells g.O.Sink.taken g.T.Sink.tells g.T.Sink.taken c.loop-turn.subsystem c.loop-turn.packs c.loop-turn.out c.loop-turn.trace c.loop-turn.desk.gather c.loop-turn.desk.tally in
+      λ t. draining_over c.args.number c.loop-turn.turn old now c.in_default.ensures.over (c.loop-turn.invariant.plays t);
+  stops = search rules;
+  told = c.loop-turn.invariant.told;
+  requests = c.loop-turn.invariant.requests;
+}
+
+pub loop-turn-preserved : goal.loop-turn-preserved
+loop-turn-preserved g c =
+    let so = c.loop-turn.invariant in
+    let happens = c.in_ok-happen.ensures in
+    let old : Stage = stage g.P.Packs.tells g.P.Packs.held g.O.Sink.tells g.O.Sink.taken g.T.Sink.tells g.T.Sink.taken c.args.subsystem.now c.args.packs.now c.args.out.now c.args.trace.now c.args.desk.now.gather c.args.desk.now.tally in
+    let mid : Stage = stage g.P.Packs.tells g.P.Packs.held g.O.Sink.tells g.O.Sink.taken g.T.Sink.tells g.T.Sink.taken c.loop-turn.subsystem c.loop-turn.packs c.loop-turn.out c.loop-turn.trace c.loop-turn.desk.gather c.loop-turn.desk.tally in
+    let new : Stage = stage g.P.Packs.tells g.P.Packs.held g.O.Sink.tells g.O.Sink.taken g.T.Sink.tells g.T.Sink.taken c.happen.new.subsystem c.happen.new.packs c.happen.new.out c.happen.new.trace c.happen.new.desk.gather c.happen.new.desk.tally in
+    record {
+      told = record {
+        never_again = λ t. so.told.never_again (happens.told.never_again t);
+        never_again_out = λ t. so.told.never_again_out (happens.told.never_again_out t);
+        never_again_trace = λ t. so.told.never_again_trace (happens.told.never_again_trace t);
+      };
+      later = search rules;
+      later_out = search rules;
+      later_trace = search rules;
+      ready = record { going = happens.goes.going; none_waits = plays_none happens.plays.plays };
+      outstanding = happens.goes.outstanding ∙ so.outstanding;
+      requests = happens.requests ∙ so.requests;
+      brings = brings_both c.args.subsystem.now.world c.loop-turn.subsystem.world c.happen.new.subsystem.world so.brings
+          (drain_brings c.args.number (input_of c.in-Some.event) mid new c.in-Some.ensures.next happens.plays);
+      plays = λ t. draining_next c.args.number c.loop-turn.turn (input_of c.in-Some.event) old mid new t c.in-Some.ensures.next
+          so.ready.none_waits happens.plays (so.plays (happens.told.never_again t));
+    }
+
+pub returns-clause-played : goal.returns-clause-played
+returns-clause-played g c = record {
+  plays =
+      let old : Stage = stage g.P.Packs.tells g.P.Packs.held g.O.Sink.tells g.O.Sink.taken g.T.Sink.tells g.T.Sink.taken c.args.subsystem.now c.args.packs.now c.args.out.now c.args.trace.now c.args.desk.now.gather c.args.desk.now.tally in
+      let now : Stage = stage g.P.Packs.tells g.P.Packs.held g.O.Sink.tells g.O.Sink.taken g.T.Sink.tells g.T.Sink.taken c.loop-turn.subsystem c.loop-turn.packs c.loop-turn.out c.loop-turn.trace c.loop-turn.desk.gather c.loop-turn.desk.tally in
+      λ t. draining_never c.args.number c.loop-turn.turn old now c.loop-turn-test.false (c.loop-turn.invariant.plays t);
+  stops = search rules;
+  told = c.loop-turn.invariant.told;
+  requests = c.loop-turn.invariant.requests;
+}
+
+pub returns-in_err-happen-clause-played : goal.returns-in_err-happen-clause-played
+returns-in_err-happen-clause-played g c = record {
+  plays = search rules;
+  stops =
+      let so = c.loop-turn.invariant in
+      let happens = c.in_err-happen.ensures in
+      let old : Stage = stage g.P.Packs.tells g.P.Packs.held g.O.Sink.tells g.O.Sink.taken g.T.Sink.tells g.T.Sink.taken c.args.subsystem.now c.args.packs.now c.args.out.now c.args.trace.now c.args.desk.now.gather c.args.desk.now.tally in
+      let mid : Stage = stage g.P.Packs.tells g.P.Packs.held g.O.Sink.tells g.O.Sink.taken g.T.Sink.tells g.T.Sink.taken c.loop-turn.subsystem c.loop-turn.packs c.loop-turn.out c.loop-turn.trace c.loop-turn.desk.gather c.loop-turn.desk.tally in
+      let new : Stage = stage g.P.Packs.tells g.P.Packs.held g.O.Sink.tells g.O.Sink.taken g.T.Sink.tells g.T.Sink.taken c.happen.new.subsystem c.happen.new.packs c.happen.new.out c.happen.new.trace c.happen.new.desk.gather c.happen.new.desk.tally in
+      err_is _ c.from_residual.result c.in_err-happen.field-0.0 c.from_residual.ensures.1
+      (λ t. draining_halts c.args.number c.loop-turn.turn c.in_err-happen.field-0.0 (input_of c.in-Some.event) old mid new
+      c.in-Some.ensures.next c.in-Some.ensures.there so.ready.none_waits (so.plays (happens.told.never_again t)) happens.stops t);
+  told = record { never_again = λ t. c.loop-turn.invariant.told.never_again (c.in_err-happen.ensures.told.never_again t); never_again_out = λ t. c.loop-turn.invariant.told.never_again_out (c.in_err-happen.ensures.told.never_again_out t); never_again_trace = λ t. c.loop-turn.invariant.told.never_again_trace (c.in_err-happen.ensures.told.never_again_trace t) };
+  requests = c.in_err-happen.ensures.requests ∙ c.loop-turn.invariant.requests;
+}
