@@ -20,7 +20,7 @@ use Rattle.cached_script.specs.Formed.{IsWell, AreWell, IsScript}
 use Rattle.cached_script.specs.Meaning.{statement_of, line_of, lines_before, meaning_of}
 
 -- ---- the units that lines declare, as the reader knows them and as they are meant
-abbrev Has : Option DriveKind → Type 0
+abbrev pub Has : Option DriveKind → Type 0
 Has o = (k : DriveKind) × (o ≡ Some k)
 
 none_step : (u : ℕ) (st : Says) (before rest : Option DriveKind) → kind_after u st before ≡ None → rest ≡ None → (before ≡ None) × (declared_by (statement_of st) u rest ≡ None)
