@@ -1,7 +1,6 @@
 -- Moments that write nothing leave the packs, and how long images are.
 use Rattle.std.proofs.Common.{◌≡◌, ℕ, Bool, true, false, ◌==◌, ◌&&◌, List, [], ◌∷◌, ◌++◌, refl, sym, ap, ◌∙◌}
 use Rattle.std.specs.Prelude.{if◌then◌else◌, length}
-use Rattle.pack_geometry.specs.Pack as model
 use Rattle.hardware_table.specs.Drive.{DriveState}
 use Rattle.hardware_table.specs.Moves.{was_read, was_written}
 use Rattle.subsystem_spec.specs.Requests.{Request}
