@@ -34,7 +34,7 @@ impl Model for BadTable {
 
 /// Why a place is not added: its block is at or above the data limit, it is listed already at an index, or the table
 /// has 126 entries.
-#[derive(Debug, Drop, PartialEq, Eq, Error)]
+#[derive(Debug, Drop, Error)]
 pub enum InsertFault {
     #[error("reserved")]
     Reserved,

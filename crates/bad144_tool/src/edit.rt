@@ -11,7 +11,7 @@ use pack_geometry::{DriveKind, copy_block, replacement};
 
 /// How a block is added to a table: whether its bytes are copied to its replacement (else that gets zeros), and whether
 /// it is marked.
-#[derive(Clone, Copy, PartialEq, Eq)]
+#[derive(Clone, Copy)]
 pub struct AddWay {
     pub copy: bool,
     pub mark: bool,

@@ -3,7 +3,7 @@ use outside_traits::traits::{SinkFailed, StoreFailed};
 use thiserror::Error;
 
 /// Why a call of the tool did not do what it was asked.
-#[derive(Debug, Drop, PartialEq, Eq, Error)]
+#[derive(Debug, Drop, Error)]
 pub enum ToolFault {
     /// No copy of the table is unmarked and spells one.
     #[error("no table")]

@@ -6,7 +6,7 @@ ghost use Rattle.blocking_io.specs.Given.{reached_by};
 use hp_driver::{AnswerKind, Cause};
 
 /// How far a request came.
-#[derive(Clone, Copy, PartialEq, Eq)]
+#[derive(Clone, Copy)]
 pub enum Reached {
     /// All its blocks were read or written.
     All,

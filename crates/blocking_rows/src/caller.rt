@@ -103,7 +103,7 @@ pub fn write_then_read<P: Packs, T: Sink>(
         packs,
         trace,
     )?;
-    Ok(written == Reached::All && read == Reached::All)
+    Ok(matches!((written, read), (Reached::All, Reached::All)))
 }
 
 /// Writes bytes to partition `a` of unit 0, from a place on, and reads what is there then.

@@ -3,7 +3,7 @@ use crate::Stop;
 use thiserror::Error;
 
 /// Why a block was not read or written through the cache.
-#[derive(Clone, Copy, Debug, PartialEq, Eq, Drop, Error)]
+#[derive(Clone, Copy, Debug, Drop, Error)]
 pub enum CacheFault {
     /// The block can't be used. Nothing was done.
     #[error("the block can't be used")]

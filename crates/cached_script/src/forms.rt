@@ -13,7 +13,7 @@ use pack_geometry::DriveKind;
 use script_lines::{ScriptKind, is_word, next_byte, next_count, next_kind, next_number};
 
 /// The first words of lines.
-#[derive(Clone, Copy, PartialEq, Eq)]
+#[derive(Clone, Copy)]
 pub(crate) enum Verb {
     Unit,
     Read,

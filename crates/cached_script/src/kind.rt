@@ -6,7 +6,7 @@ use std::alloc::AllocFailed;
 use thiserror::Error;
 
 /// What is wrong with a line.
-#[derive(Clone, Copy, Debug, PartialEq, Eq)]
+#[derive(Clone, Copy, Debug)]
 pub enum CachedKind {
     /// A word is not one that may stand there, a field is missing, or one is left over.
     Word,
@@ -71,7 +71,7 @@ impl CachedKind {
 }
 
 /// Why a script was not read.
-#[derive(Clone, Copy, Debug, PartialEq, Eq, Error)]
+#[derive(Clone, Copy, Debug, Error)]
 pub enum CachedRefusal {
     /// There was no memory.
     #[error("there is no memory")]

@@ -24,7 +24,7 @@ use std::alloc::Global;
 use std::marker::Model;
 
 /// A request that waits: its number, and the cylinder of its first block.
-#[derive(Clone, Copy, PartialEq, Eq)]
+#[derive(Clone, Copy)]
 pub struct Waiter {
     pub number: u32,
     pub cylinder: u32,

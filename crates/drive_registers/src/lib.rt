@@ -15,7 +15,7 @@ mod bits;
 pub use bits::{Ds, Er1, Er2, Of};
 
 /// What a drive can be told to do.
-#[derive(Clone, Copy, PartialEq, Eq)]
+#[derive(Clone, Copy)]
 pub enum Function {
     /// Nothing.
     Nop,

@@ -118,7 +118,8 @@ fn is_too_long(packs: &mut Copies, kind: DriveKind, length: u64) -> bool {
     let Err(fault) = attach(&mut drive, packs, 3) else {
         return false;
     };
-    fault == AttachFault::TooLong { length } && packs.asked == 0
+    let is_told = matches!(fault, AttachFault::TooLong { length: told } if told == length);
+    is_told && packs.asked == 0
 }
 
 // Whether packs as long as an image may be are attached with this table, and those that are a byte longer are refused.

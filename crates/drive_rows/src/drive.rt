@@ -132,7 +132,10 @@ fn tries(
         (Moved::Marked, DriveKind::Rm03 | DriveKind::Rm05) => (0, 0o100000),
         _ => words,
     };
-    drive.move_sector(packs, 4, 0, book, window) == Ok(verdict)
+    let Ok(found) = drive.move_sector(packs, 4, 0, book, window) else {
+        return false;
+    };
+    found == verdict
         && drive.read_register(Register::Er1) == er1
         && drive.read_register(Register::Er2) == er2
 }

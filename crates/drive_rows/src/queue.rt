@@ -37,7 +37,7 @@ fn is_served(waiter: Option<Waiter>, row: &Order, i: u32) -> bool
 
 /// Whether a queue has them in their order, and gives them so.
 fn serves(queue: &mut SortQueue, row: &Order) -> bool {
-    if queue.len() != row.0 || queue.head() != queue.nth(0) {
+    if queue.len() != row.0 || !is_served(queue.head(), row, 0) {
         return false;
     }
     for i in 0..6u32 {
@@ -74,11 +74,15 @@ fn takes_last(alloc: Global) -> bool {
         return false;
     };
     queue.insert(65_535, 1023);
-    let last = Waiter {
-        number: 65_535,
-        cylinder: 1023,
-    };
-    queue.take_head() == Some(last) && queue.take_head().is_none()
+    let last = queue.take_head();
+    let is_last = matches!(
+        last,
+        Some(Waiter {
+            number: 65_535,
+            cylinder: 1023
+        })
+    );
+    is_last && queue.take_head().is_none()
 }
 
 #[test]

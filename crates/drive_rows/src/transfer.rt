@@ -31,12 +31,6 @@ fn following(transfer: Transfer, end: End, table: &BadTable) -> Option<Transfer>
     }
 }
 
-const REST: Segment = Segment {
-    block: 1001,
-    skip: 2,
-    count: 2,
-};
-
 // A read of blocks 999 to 1002 of an RP06: block, skip and count of each segment, the failures at its first sector, and
 // how it ends. Block 1000 is listed and goes to the first replacement, which fails once; block 1001 then fails to the
 // end.
@@ -47,11 +41,17 @@ static SEGMENTS: [((u32, u32, u32), u32, End); 4] = [
     ((1001, 2, 2), 0, End::Failed(0)),
 ];
 
+// Whether these are the next segment's block, skip and count.
+fn is_at(transfer: &Transfer, wanted: (u32, u32, u32)) -> bool {
+    let segment = transfer.segment();
+    (segment.block, segment.skip, segment.count) == wanted
+}
+
 // Whether the rest is retried 26 times more, and the next failure ends the read behind two blocks.
 fn is_used_up(begun: Transfer) -> bool {
     let mut transfer = begun;
     for failures in 1..27 {
-        if transfer.segment() != REST || transfer.failures() != failures {
+        if !is_at(&transfer, (1001, 2, 2)) || transfer.failures() != failures {
             return false;
         }
         match transfer.on_fault(0) {
@@ -72,10 +72,9 @@ fn follows(table: &BadTable) -> bool {
         write: false,
     }));
     for row in &SEGMENTS {
-        let ((block, skip, count), failures, end) = *row;
-        let segment = Segment { block, skip, count };
-        if transfer.segment() != segment
-            || transfer.done() != skip
+        let (wanted, failures, end) = *row;
+        if !is_at(&transfer, wanted)
+            || transfer.done() != wanted.1
             || transfer.failures() != failures
         {
             return false;
@@ -95,7 +94,7 @@ fn is_forwarded() -> bool {
         track: 7,
         sector: 10,
     };
-    insert(&mut table, listed) == Ok(0) && follows(&table)
+    matches!(insert(&mut table, listed), Ok(0)) && follows(&table)
 }
 
 #[test]

@@ -11,7 +11,7 @@ ghost use Rattle.driver_answers.specs.Outcome.{OneThenOther, StoppedBefore, Noth
 use thiserror::Error;
 
 /// What stopped a call: the packs failed, or the trace.
-#[derive(Clone, Copy, Debug, PartialEq, Eq, Error)]
+#[derive(Clone, Copy, Debug, Error)]
 pub enum Stop {
     /// A call of the packs failed.
     #[error("the packs failed")]

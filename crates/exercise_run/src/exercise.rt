@@ -18,7 +18,7 @@ use thiserror::Error;
 use trace_laws::promises::promises_law;
 
 /// Why an exercise was not played, or not printed.
-#[derive(Clone, Copy, Debug, PartialEq, Eq, Error)]
+#[derive(Clone, Copy, Debug, Error)]
 pub enum ExerciseFault {
     /// There was no memory. Nothing was played.
     #[error("there is no memory")]

@@ -18,7 +18,7 @@ ghost use Rattle.hardware_table.specs.Adapter.{AdapterState, IsAdapter, IsLoaded
 use drive_registers::OffsetCode;
 
 /// The registers of a drive.
-#[derive(Clone, Copy, PartialEq, Eq)]
+#[derive(Clone, Copy)]
 pub enum Register {
     /// Control: the code of the last function, without GO.
     Cs1,
@@ -103,7 +103,7 @@ pub struct Armed {
 }
 
 /// How long noise lives.
-#[derive(Clone, Copy, PartialEq, Eq)]
+#[derive(Clone, Copy)]
 pub enum NoiseSpan {
     /// For so many strikes.
     Times(u32),

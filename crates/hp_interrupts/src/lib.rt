@@ -22,7 +22,7 @@ use hardware_table::{FaultKind, Moved};
 
 /// The registers that are read at a data interrupt: the drive's error registers and its two ECC registers, and
 /// whether the adapter shows data late.
-#[derive(Clone, Copy, PartialEq, Eq)]
+#[derive(Clone, Copy)]
 pub struct TransferRegs {
     pub er1: u16,
     pub er2: u16,

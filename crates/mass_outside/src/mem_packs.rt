@@ -19,7 +19,7 @@ pub enum PackOp {
 }
 
 /// A call that is to fail.
-#[derive(Clone, Copy, PartialEq, Eq)]
+#[derive(Clone, Copy)]
 pub struct FailCall {
     pub op: PackOp,
     /// The number of the call among those of its operation, counted from 1.

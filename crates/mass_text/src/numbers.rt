@@ -6,7 +6,7 @@ ghost use Rattle.mass_text.specs.Numbers.{base_of, number_of, numeral, first_oth
 use thiserror::Error;
 
 /// The base in which a number is written.
-#[derive(Clone, Copy, PartialEq, Eq)]
+#[derive(Clone, Copy)]
 pub enum Radix {
     Octal,
     Decimal,

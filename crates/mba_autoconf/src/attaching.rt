@@ -30,7 +30,7 @@ pub struct Attached {
 }
 
 /// Why a pack is not attached.
-#[derive(Debug, Drop, PartialEq, Eq, Error)]
+#[derive(Debug, Drop, Error)]
 pub enum AttachFault {
     /// The image has more bytes than the drive's blocks.
     #[error("the image has {length} bytes")]

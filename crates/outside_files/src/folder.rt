@@ -6,7 +6,7 @@ use std::alloc::{AllocError, Global};
 use std::io;
 
 /// The two files of a unit.
-#[derive(Clone, Copy, PartialEq, Eq)]
+#[derive(Clone, Copy)]
 pub enum Part {
     /// The bytes of its blocks.
     Image,

@@ -186,13 +186,13 @@ fn packs_in_files(rt: HostRuntime) {
 
 /// Whether packs find no file of unit 19 where it was missing before, but make one and open it where they write, which stays open.
 fn stays_missing<P: Packs>(rt: &HostRuntime, packs: &mut P) -> bool {
-    packs.length(19) == Ok(0)
+    matches!(packs.length(19), Ok(0))
         && is_done(rt, Write(&[1; 512]), "hp19.dsk")
-        && packs.length(19) == Ok(0)
+        && matches!(packs.length(19), Ok(0))
         && packs.write(19, 1, &[2; 512]).is_ok()
-        && packs.length(19) == Ok(1024)
+        && matches!(packs.length(19), Ok(1024))
         && is_done(rt, Remove, "hp19.dsk")
-        && packs.length(19) == Ok(1024)
+        && matches!(packs.length(19), Ok(1024))
 }
 
 /// A file that is made behind our back is out of scope; it is not found where it was missing before.

@@ -6,17 +6,17 @@ pub use no_memory::NoMemory;
 use thiserror::Error;
 
 /// A source's call failed. It gave no byte.
-#[derive(Clone, Copy, Debug, PartialEq, Eq, Error)]
+#[derive(Clone, Copy, Debug, Error)]
 #[error("the source failed")]
 pub struct SourceFailed;
 
 /// A sink's call failed. It took no byte.
-#[derive(Clone, Copy, Debug, PartialEq, Eq, Error)]
+#[derive(Clone, Copy, Debug, Error)]
 #[error("the sink failed")]
 pub struct SinkFailed;
 
 /// A call on the packs failed.
-#[derive(Clone, Copy, Debug, PartialEq, Eq, Error)]
+#[derive(Clone, Copy, Debug, Error)]
 #[error("the packs failed")]
 pub struct StoreFailed;
 

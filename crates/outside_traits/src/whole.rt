@@ -18,7 +18,7 @@ pub fn write_all<O: Sink>(out: &mut O, from: &[u8]) -> Result<(), SinkFailed>
 }
 
 /// Why a source was not read to its end.
-#[derive(Clone, Copy, Debug, PartialEq, Eq, Error)]
+#[derive(Clone, Copy, Debug, Error)]
 pub enum ReadAllFault {
     /// There was no memory for its bytes.
     #[error("there is no memory")]

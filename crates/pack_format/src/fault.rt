@@ -3,7 +3,7 @@ use outside_traits::traits::{NoMemory, StoreFailed};
 use thiserror::Error;
 
 /// Why a pack was not formatted.
-#[derive(Debug, Drop, PartialEq, Eq, Error)]
+#[derive(Debug, Drop, Error)]
 pub enum FormatFault {
     /// There was no memory. Nothing was written.
     #[error("there is no memory")]

@@ -14,7 +14,7 @@ use pack_geometry::{DriveKind, blocks, copy_block, data_limit};
 use std::alloc::Global;
 
 /// What formatting a pack came to.
-#[derive(Clone, Copy, PartialEq, Eq)]
+#[derive(Clone, Copy)]
 pub struct FormatReport {
     /// How many data blocks are marked, and so listed.
     pub bad: u8,

@@ -23,7 +23,7 @@ pub enum DriveKind {
 }
 
 /// How many cylinders a drive has, tracks a cylinder, and sectors of 512 bytes a track.
-#[derive(Clone, Copy, PartialEq, Eq)]
+#[derive(Clone, Copy)]
 pub struct Geometry {
     pub cylinders: u32,
     pub tracks: u32,

@@ -96,7 +96,7 @@ fn takes_anew(alloc: Global, row: &Written) -> bool {
 
 /// Whether a sink that never fails takes what is put.
 fn takes_all() -> bool {
-    SureSink::new().write(b"abc") == Ok(3)
+    matches!(SureSink::new().write(b"abc"), Ok(3))
 }
 
 #[test]

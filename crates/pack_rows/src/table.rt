@@ -66,10 +66,10 @@ fn is_read(bytes: &[u8; 512]) -> bool {
 // Whether two entries are put in order, and nothing else, and are written so.
 fn keeps_two() -> bool {
     let mut table = empty_table(DriveKind::Rp06, 7);
-    let is_so = insert(&mut table, LISTED) == Ok(0)
-        && insert(&mut table, BEFORE) == Ok(0)
-        && insert(&mut table, LISTED) == Err(InsertFault::Listed(1))
-        && insert(&mut table, RESERVED) == Err(InsertFault::Reserved)
+    let is_so = matches!(insert(&mut table, LISTED), Ok(0))
+        && matches!(insert(&mut table, BEFORE), Ok(0))
+        && matches!(insert(&mut table, LISTED), Err(InsertFault::Listed(1)))
+        && matches!(insert(&mut table, RESERVED), Err(InsertFault::Reserved))
         && position(&table, LISTED) == Some(1)
         && position(&table, RESERVED).is_none();
     let mut bytes = [0; 512];
@@ -89,7 +89,7 @@ fn keeps_wide() -> bool {
         track: 12,
         sector: 8,
     };
-    let is_so = insert(&mut wide, listed) == Ok(0);
+    let is_so = matches!(insert(&mut wide, listed), Ok(0));
     let mut bytes = [0; 512];
     write_table(&wide, &mut bytes);
     is_so && bytes[8..12] == [0x01, 0x00, 0x08, 0x0c]

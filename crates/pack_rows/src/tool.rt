@@ -61,9 +61,12 @@ fn is_made(packs: &mut MemPacks) -> bool {
 /// Whether all is so where write `n` of those that add the block fails.
 fn is_stopped(packs: &mut MemPacks, n: u64) -> bool {
     is_made(packs)
-        && add(packs, 0, DriveKind::Rm03, 999, WAY) == Err(ToolFault::Store)
-        && moved(packs) == Ok(n.saturating_sub(1).min(10))
-        && packs.marked(0, 999) == Ok(false)
+        && matches!(
+            add(packs, 0, DriveKind::Rm03, 999, WAY),
+            Err(ToolFault::Store)
+        )
+        && moved(packs).is_ok_and(|count| count == n.saturating_sub(1).min(10))
+        && matches!(packs.marked(0, 999), Ok(false))
 }
 
 /// The writes that fail: each turn makes the table by 5 and 10 times 6 writes, fills 11 replacements, and then adds the block.
@@ -201,7 +204,7 @@ fn names_1000(bytes: &[u8; 512]) -> bool {
 fn is_added(packs: &mut Sparse) -> bool {
     let is_made = fresh(packs, 0, DriveKind::Rm05, 3).is_ok()
         && packs.blocks[..5] == [500_352, 500_354, 500_356, 500_358, 500_360];
-    if !is_made || add(packs, 0, DriveKind::Rm05, 1000, WAY) != Ok(0) {
+    if !is_made || !matches!(add(packs, 0, DriveKind::Rm05, 1000, WAY), Ok(0)) {
         return false;
     }
     for k in 0..5usize {

@@ -58,7 +58,7 @@ fn is_whole(written: &[Written]) -> bool {
 fn whole(alloc: Global) -> Option<CutPacks> {
     let mut packs = cut(alloc, 0, Wrong::Fails);
     let result = run(alloc, &mut packs);
-    if result == Ok(FormatReport { bad: 2 })
+    if matches!(result, Ok(FormatReport { bad: 2 }))
         && packs.calls == CALLS
         && is_whole(packs.written.as_slice())
     {
@@ -71,7 +71,7 @@ fn whole(alloc: Global) -> Option<CutPacks> {
 fn stops(alloc: Global, whole: &CutPacks, number: u64, wrong: Wrong) -> bool {
     let mut packs = cut(alloc, number, wrong);
     let result = run(alloc, &mut packs);
-    result == Err(FormatFault::Store) && packs.calls == number && packs.is_front(whole)
+    matches!(result, Err(FormatFault::Store)) && packs.calls == number && packs.is_front(whole)
 }
 
 /// Calls of a whole run: the first one, how many, and by which steps. The steps are odd, so that marks and reads take turns.
@@ -137,11 +137,25 @@ fn calls_at_the_last_blocks_fail(rt: HostRuntime) {
     all_stop(&rt, rt.alloc(), &[(CALLS - 47, 48, 1)]);
 }
 
-/// Whether a run that this call leads astray ends with that fault behind so many calls, and has written just what a whole run has by then.
-fn differs(alloc: Global, whole: &CutPacks, number: u64, calls: u64, fault: FormatFault) -> bool {
+/// A byte that came back otherwise: its block, its place there, what was written and what was read.
+type Other = (u32, u16, u8, u8);
+
+/// Whether a run that this call leads astray ends with that byte behind so many calls, and has written just what a whole run has by then.
+fn differs(alloc: Global, whole: &CutPacks, number: u64, calls: u64, other: Other) -> bool {
     let mut packs = cut(alloc, number, Wrong::Lies);
     let result = run(alloc, &mut packs);
-    result == Err(fault) && packs.calls == calls && packs.is_front(whole)
+    let is_told = match result {
+        Err(
+            FormatFault::Differs {
+                block,
+                at,
+                wrote,
+                read,
+            },
+        ) => (block, at, wrote, read) == other,
+        _ => false,
+    };
+    is_told && packs.calls == calls && packs.is_front(whole)
 }
 
 /// Whether runs end so at a write that writes nothing, at a mark behind it, so that nothing comes back, and at another byte that does.
@@ -154,16 +168,10 @@ fn ends_at(alloc: Global, whole: &CutPacks, written: &Written) -> bool {
         written.call.saturating_add(1),
         written.call.saturating_add(2),
     );
-    let fault = |at: u16, wrote: u8, read: u8| FormatFault::Differs {
-        block,
-        at,
-        wrote,
-        read,
-    };
     stops(alloc, whole, write, Wrong::FailsBehind)
-        && differs(alloc, whole, write, read, fault(0, wrote, had))
-        && differs(alloc, whole, mark, mark, fault(0, wrote, !wrote))
-        && differs(alloc, whole, read, read, fault(511, last, !last))
+        && differs(alloc, whole, write, read, (block, 0, wrote, had))
+        && differs(alloc, whole, mark, mark, (block, 0, wrote, !wrote))
+        && differs(alloc, whole, read, read, (block, 511, last, !last))
 }
 
 /// The first write at which runs do not so end, by its call; 0 where they do at each.

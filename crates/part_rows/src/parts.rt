@@ -25,8 +25,8 @@ fn admits(kind: DriveKind, part: Part, block: u32, count: u32, wanted: Admission
 
 fn has_names() -> bool {
     let range = part_range(Rm03, Part::F);
-    part_of(b'g') == Some(Part::G)
-        && part_of(b'i') == None
+    matches!(part_of(b'g'), Some(Part::G))
+        && part_of(b'i').is_none()
         && (range.first, range.size) == (121440, 10080)
 }
 

@@ -13,7 +13,7 @@ ghost use Rattle.partitions.specs.Partitions.{letter_of, size_of, cylinder_of, f
 use pack_geometry::{DriveKind, data_limit, geometry_of};
 
 /// A drive's partitions.
-#[derive(Clone, Copy, PartialEq, Eq)]
+#[derive(Clone, Copy)]
 pub enum Part {
     A,
     B,

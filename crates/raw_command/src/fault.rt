@@ -7,7 +7,7 @@ use std::alloc::AllocError;
 use thiserror::Error;
 
 /// Why a transfer did not come to all its bytes, or was not told.
-#[derive(Clone, Copy, Debug, PartialEq, Eq, Error)]
+#[derive(Clone, Copy, Debug, Error)]
 pub enum TransferFault {
     /// There was no memory. Nothing was transferred.
     #[error("there is no memory")]

@@ -3,7 +3,7 @@ use blocking_io::Stop;
 use thiserror::Error;
 
 /// Why a raw transfer did not come to all its bytes.
-#[derive(Clone, Copy, Debug, PartialEq, Eq, Drop, Error)]
+#[derive(Clone, Copy, Debug, Drop, Error)]
 pub enum RawFault {
     /// Its range reaches beyond the partition. Nothing was done.
     #[error("the range reaches beyond the partition")]

@@ -20,7 +20,7 @@ use thiserror::Error;
 const LONGEST: usize = 16_777_216;
 
 /// Why a script was not loaded.
-#[derive(Clone, Copy, Debug, PartialEq, Eq, Error)]
+#[derive(Clone, Copy, Debug, Error)]
 pub enum LoadFault {
     /// There was no memory.
     #[error("there is no memory")]

@@ -1,5 +1,5 @@
 /// The first words of lines.
-#[derive(Clone, Copy, PartialEq, Eq)]
+#[derive(Clone, Copy)]
 pub enum Verb {
     Unit,
     Read,

@@ -15,7 +15,7 @@ use pack_geometry::{DriveKind, place_of, sector_word};
 
 /// A sector's header: the cylinder and the bits above it that say whether the sector is good, and
 /// `track * 256 + sector`.
-#[derive(Clone, Copy, PartialEq, Eq)]
+#[derive(Clone, Copy)]
 pub struct Header {
     pub cylinder_word: u16,
     pub sector_word: u16,

@@ -1,6 +1,6 @@
 // How a request is answered.
 /// Why a request ended with an error.
-#[derive(Clone, Copy, PartialEq, Eq)]
+#[derive(Clone, Copy)]
 pub enum Cause {
     /// It reaches beyond its partition.
     Partition,
@@ -17,7 +17,7 @@ pub enum Cause {
 }
 
 /// How a request ended.
-#[derive(Clone, Copy, PartialEq, Eq)]
+#[derive(Clone, Copy)]
 pub enum AnswerKind {
     /// All its blocks, `count` of them, were read; the last one has `last` bytes.
     ReadOk { count: u32, last: u32 },
@@ -30,7 +30,7 @@ pub enum AnswerKind {
 }
 
 /// The answer to a request: its id, the number of the line at which it ended, and how.
-#[derive(Clone, Copy, PartialEq, Eq)]
+#[derive(Clone, Copy)]
 pub struct Answer {
     pub id: u32,
     pub at: u64,

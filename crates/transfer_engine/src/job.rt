@@ -14,7 +14,7 @@ pub struct Job {
 
 /// What one transfer command moves: the first sector on the pack, the first block in the request's buffer, and how
 /// many of each.
-#[derive(Clone, Copy, PartialEq, Eq)]
+#[derive(Clone, Copy)]
 pub struct Segment {
     pub block: u32,
     pub skip: u32,

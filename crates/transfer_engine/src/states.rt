@@ -74,7 +74,7 @@ pub enum Next {
 }
 
 /// A marked sector has no replacement: it is a replacement itself, or its place is not listed.
-#[derive(Debug, Drop, PartialEq, Eq, Error)]
+#[derive(Debug, Drop, Error)]
 #[error("unforwarded after {done} blocks")]
 pub struct Unforwarded {
     /// How many first blocks of the request are done.
@@ -82,7 +82,7 @@ pub struct Unforwarded {
 }
 
 /// The tries at one physical sector are used up.
-#[derive(Debug, Drop, PartialEq, Eq, Error)]
+#[derive(Debug, Drop, Error)]
 #[error("exhausted after {done} blocks")]
 pub struct Exhausted {
     /// How many first blocks of the request are done.
