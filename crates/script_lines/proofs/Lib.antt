@@ -5,4 +5,5 @@ pub mod FieldLaws
 pub mod KnownLaws
 pub mod PlacesLaws
 pub mod WholeLaws
+pub mod NoiseLaws
 pub mod TailLaws

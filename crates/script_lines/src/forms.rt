@@ -56,16 +56,6 @@ fn start(known: &Known, fields: &mut Fields) -> Result<Request, ScriptKind>
     })
 }
 
-/// The end of a line.
-fn end(fields: &mut Fields) -> Result<(), ScriptKind>
-    ensures { Parses (ends tt) fields.old result fields.new }
-{
-    match fields.next() {
-        Some(_) => Err(ScriptKind::Word),
-        None => Ok(()),
-    }
-}
-
 /// A number, with no field behind it.
 fn alone(value: u16, fields: &mut Fields) -> Result<u16, ScriptKind>
     ensures { Parses (ends value) fields.old result fields.new }
@@ -84,8 +74,10 @@ fn last(word: &[u8], fields: &mut Fields) -> Result<u16, ScriptKind>
     if !is_word(word, b"last".as_slice()) {
         return Err(ScriptKind::Word);
     }
-    let last = next_number(fields, 1, 512)?;
-    alone(last as u16, fields)
+    match next_number(fields, 1, 512) {
+        Ok(last) => alone(last as u16, fields),
+        Err(kind) => Err(kind),
+    }
 }
 
 /// `[last M]`, at the end of a line.
@@ -116,7 +108,10 @@ fn offset_and_last(fields: &mut Fields) -> Result<(u16, u16), ScriptKind>
     match fields.next() {
         None => Ok((0, 512)),
         Some(word) if is_word(word, b"off".as_slice()) => behind_off(fields),
-        Some(word) => Ok((0, last(word, fields)?)),
+        Some(word) => match last(word, fields) {
+            Ok(last) => Ok((0, last)),
+            Err(kind) => Err(kind),
+        },
     }
 }
 
@@ -124,12 +119,14 @@ fn offset_and_last(fields: &mut Fields) -> Result<(u16, u16), ScriptKind>
 fn tail(start: &Request, fields: &mut Fields) -> Result<Request, ScriptKind>
     ensures { Parses (tail_form start.now) fields.old result fields.new }
 {
-    let (offset, last) = offset_and_last(fields)?;
-    Ok(Request {
-        offset,
-        last,
-        ..*start
-    })
+    match offset_and_last(fields) {
+        Ok((offset, last)) => Ok(Request {
+            offset,
+            last,
+            ..*start
+        }),
+        Err(kind) => Err(kind),
+    }
 }
 
 /// `DIGITS`, behind `hex`, on the line that stands at `span`.
@@ -137,8 +134,10 @@ fn spelled(count: u32, span: Span, fields: &mut Fields) -> Result<Content<Span>,
     requires { count ≤ 127 }
     ensures { Parses (mapped (content_by {C = List ℕ} (λ _. span)) (next (field (digits_field count)) (λ digits. gives (Content.Hex digits)))) fields.old result fields.new }
 {
-    digits(count, fields)?;
-    Ok(Content::Hex(span))
+    match digits(count, fields) {
+        Ok(()) => Ok(Content::Hex(span)),
+        Err(kind) => Err(kind),
+    }
 }
 
 /// `fill HH`, `seq N` or `hex DIGITS`, of which the first word was read, on the line that stands at `span`.
@@ -187,22 +186,6 @@ fn noise_span(fields: &mut Fields) -> Result<NoiseSpan, ScriptKind>
     }
 }
 
-/// A unit that was declared.
-fn unit(known: &Known, fields: &mut Fields) -> Result<u8, ScriptKind>
-    ensures { Parses (unit_number_form (known_in known.now)) fields.old result fields.new }
-{
-    let (unit, _) = old_unit(known, fields)?;
-    Ok(unit)
-}
-
-/// An adapter.
-fn adapter(fields: &mut Fields) -> Result<u8, ScriptKind>
-    ensures { Parses adapter_form fields.old result fields.new }
-{
-    let adapter = next_number(fields, 0, 3)?;
-    Ok(adapter as u8)
-}
-
 fn unit_line(known: &Known, fields: &mut Fields) -> Result<Read, ScriptKind>
     ensures { (span : Span) → Parses (mapped (read_of span) (unit_form (known_in known.now))) fields.old result fields.new }
 {
@@ -242,19 +225,21 @@ fn noise_line(known: &Known, fields: &mut Fields) -> Result<Struck, ScriptKind>
     let (unit, kind) = old_unit(known, fields)?;
     let block = next_number(fields, 0, blocks(kind) - 1)?;
     let span = noise_span(fields)?;
-    let places = places(fields)?;
-    Ok(Struck {
-        unit,
-        block,
-        span,
-        places,
-    })
+    match places(fields) {
+        Ok(places) => Ok(Struck {
+            unit,
+            block,
+            span,
+            places,
+        }),
+        Err(kind) => Err(kind),
+    }
 }
 
 fn fault_line(known: &Known, fields: &mut Fields) -> Result<Read, ScriptKind>
     ensures { (span : Span) → Parses (mapped (read_of span) (fault_form (known_in known.now))) fields.old result fields.new }
 {
-    let unit = unit(known, fields)?;
+    let (unit, _) = old_unit(known, fields)?;
     let what = fault(fields)?;
     let times = next_number(fields, 1, 1000)?;
     Ok(Statement::Fault { unit, what, times })
@@ -276,8 +261,10 @@ fn of_unit(verb: Verb, unit: u8) -> Read
 fn unit_alone(known: &Known, verb: Verb, fields: &mut Fields) -> Result<Read, ScriptKind>
     ensures { (span : Span) → Parses (mapped (λ u. read_of span (of_unit verb u)) (unit_number_form (known_in known.now))) fields.old result fields.new }
 {
-    let unit = unit(known, fields)?;
-    Ok(of_unit(verb, unit))
+    match old_unit(known, fields) {
+        Ok((unit, _)) => Ok(of_unit(verb, unit)),
+        Err(kind) => Err(kind),
+    }
 }
 
 /// What a line says of an adapter alone, by its word.
@@ -293,8 +280,10 @@ fn of_adapter(verb: Verb, adapter: u8) -> Read
 fn adapter_alone(verb: Verb, fields: &mut Fields) -> Result<Read, ScriptKind>
     ensures { (span : Span) → Parses (mapped (λ a. read_of span (of_adapter verb a)) adapter_form) fields.old result fields.new }
 {
-    let adapter = adapter(fields)?;
-    Ok(of_adapter(verb, adapter))
+    match next_number(fields, 0, 3) {
+        Ok(adapter) => Ok(of_adapter(verb, adapter as u8)),
+        Err(kind) => Err(kind),
+    }
 }
 
 /// What the fields behind a word say, where it is no noise.
@@ -331,31 +320,24 @@ fn too_late(known: &Known, verb: Verb) -> Option<ScriptKind>
 }
 
 /// What was read, where no field is left.
-fn ended(read: Read, fields: &mut Fields) -> Result<Read, ScriptKind>
-    ensures { result ≡ none_left (read, fields.old) }
+fn ended(read: Read, fields: &mut Fields) -> Result<Read, LineFault>
+    ensures { Answers result (none_left (read, fields.old)) }
 {
     match fields.next() {
-        Some(_) => Err(ScriptKind::Word),
+        Some(_) => Err(LineFault::Kind(ScriptKind::Word)),
         None => Ok(read),
     }
 }
 
 /// What all the fields behind a word say, where it is no noise.
-fn whole(known: &Known, verb: Verb, span: Span, fields: &mut Fields) -> Result<Read, ScriptKind>
+fn whole(known: &Known, verb: Verb, span: Span, fields: &mut Fields) -> Result<Read, LineFault>
     requires { verb ≢ Verb.Noise }
-    ensures { result ≡ changed (read_of span) (whole (form_of (known_in known.now) verb) fields.old) }
+    ensures { Answers result (changed (read_of span) (whole (form_of (known_in known.now) verb) fields.old)) }
 {
-    let read = form(known, verb, span, fields)?;
-    ended(read, fields)
-}
-
-/// What all the fields behind the word of a noise say.
-fn whole_noise(known: &Known, fields: &mut Fields) -> Result<Struck, ScriptKind>
-    ensures { changed struck_as result ≡ whole (noise_form (known_in known.now)) fields.old }
-{
-    let struck = noise_line(known, fields)?;
-    end(fields)?;
-    Ok(struck)
+    match form(known, verb, span, fields) {
+        Ok(read) => ended(read, fields),
+        Err(kind) => Err(LineFault::Kind(kind)),
+    }
 }
 
 /// A noise whose places are put where they stay.
@@ -368,28 +350,25 @@ fn held(alloc: Global, struck: Struck) -> Result<Read, LineFault>
         span,
         places,
     } = struck;
-    let places = Held::new(alloc, places).map_err(|_| LineFault::Memory)?;
-    Ok(Statement::Noise {
-        unit,
-        block,
-        span,
-        places,
-    })
+    match Held::new(alloc, places) {
+        Ok(places) => Ok(Statement::Noise {
+            unit,
+            block,
+            span,
+            places,
+        }),
+        Err(_) => Err(LineFault::Memory),
+    }
 }
 
 /// What all the fields behind the word of a noise say, with its places where they stay.
 fn noise(alloc: Global, known: &Known, fields: &mut Fields) -> Result<Read, LineFault>
     ensures { (span : Span) → Answers result (changed (read_of span) (whole (noise_form (known_in known.now)) fields.old)) }
 {
-    let struck = whole_noise(known, fields).map_err(LineFault::Kind)?;
-    held(alloc, struck)
-}
-
-/// What was read, where memory is not needed.
-fn plain(read: Result<Read, ScriptKind>) -> Result<Read, LineFault>
-    ensures { Answers result read }
-{
-    read.map_err(LineFault::Kind)
+    match noise_line(known, fields) {
+        Ok(struck) => held(alloc, struck),
+        Err(kind) => Err(LineFault::Kind(kind)),
+    }
 }
 
 /// What all the fields behind any word say.
@@ -404,7 +383,7 @@ fn all_fields(
 {
     match verb {
         Verb::Noise => noise(alloc, known, fields),
-        _ => plain(whole(known, verb, span, fields)),
+        _ => whole(known, verb, span, fields),
     }
 }
 

@@ -32,8 +32,10 @@ pub struct Known {
 fn unit_number(field: &[u8]) -> Result<u8, ScriptKind>
     ensures { result ≡ number_field 0 31 field.now }
 {
-    let unit = number_field(field, 0, 31)?;
-    Ok(unit as u8)
+    match number_field(field, 0, 31) {
+        Ok(unit) => Ok(unit as u8),
+        Err(kind) => Err(kind),
+    }
 }
 
 impl Known {
@@ -85,10 +87,12 @@ impl Known {
     pub(crate) fn new_unit_field(&self, field: &[u8]) -> Result<u8, ScriptKind>
         ensures { result ≡ new_unit_field (known_in self.now) field.now }
     {
-        let unit = unit_number(field)?;
-        match self.kind(unit) {
-            Some(_) => Err(ScriptKind::UnitTwice),
-            None => Ok(unit),
+        match unit_number(field) {
+            Ok(unit) => match self.kind(unit) {
+                Some(_) => Err(ScriptKind::UnitTwice),
+                None => Ok(unit),
+            },
+            Err(kind) => Err(kind),
         }
     }
 
@@ -96,9 +100,13 @@ impl Known {
     pub(crate) fn unit_field(&self, field: &[u8]) -> Result<(u8, DriveKind), ScriptKind>
         ensures { result ≡ unit_field (known_in self.now) field.now }
     {
-        let unit = unit_number(field)?;
-        let kind = self.kind(unit).ok_or(ScriptKind::UnitUnknown)?;
-        Ok((unit, kind))
+        match unit_number(field) {
+            Ok(unit) => match self.kind(unit) {
+                Some(kind) => Ok((unit, kind)),
+                None => Err(ScriptKind::UnitUnknown),
+            },
+            Err(kind) => Err(kind),
+        }
     }
 
     /// Whether an id was used.
@@ -113,11 +121,10 @@ impl Known {
     pub(crate) fn id_field(&self, field: &[u8]) -> Result<u32, ScriptKind>
         ensures { result ≡ id_field (known_in self.now) field.now }
     {
-        let id = number_field(field, 0, u32::MAX)?;
-        if self.is_used(id) {
-            return Err(ScriptKind::IdTwice);
+        match number_field(field, 0, u32::MAX) {
+            Ok(id) if self.is_used(id) => Err(ScriptKind::IdTwice),
+            result => result,
         }
-        Ok(id)
     }
 
     /// Takes in that a unit is of a kind.
@@ -151,8 +158,10 @@ impl Known {
             self.next = number + 1;
             return Ok(());
         }
-        self.ids.insert(id)?;
-        Ok(())
+        match self.ids.insert(id) {
+            Ok(_) => Ok(()),
+            Err(failed) => Err(failed),
+        }
     }
 
     /// Takes an id in, and that a request came.

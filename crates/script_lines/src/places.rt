@@ -3,7 +3,7 @@ ghost use Rattle.script_lines.specs.Fields.{and_then};
 ghost use Rattle.script_lines.specs.Places.{ahead};
 ghost use Rattle.script_lines.specs.Forms.{noise_or, places_form, Parses};
 
-use crate::{ScriptKind, need, place_field};
+use crate::{ScriptKind, place_field};
 use arrayvec::ArrayVec;
 use fire_code::Noise;
 use mass_text::Fields;
@@ -32,7 +32,11 @@ fn places_from(first: u16, fields: &mut Fields) -> Result<Noise, ScriptKind>
 pub fn places(fields: &mut Fields) -> Result<Noise, ScriptKind>
     ensures { Parses places_form fields.old result fields.new }
 {
-    let text = need(fields)?;
-    let first = place_field(text)?;
-    places_from(first, fields)
+    match fields.next() {
+        Some(text) => match place_field(text) {
+            Ok(first) => places_from(first, fields),
+            Err(kind) => Err(kind),
+        },
+        None => Err(ScriptKind::Word),
+    }
 }

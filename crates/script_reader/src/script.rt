@@ -1,4 +1,4 @@
-ghost use Rattle.std.specs.Prelude.{◌≡◌, ◌⊎◌, ◌<◌, ◌≤◌, ◌+◌, ℕ, List, Ok, Some, IfOk, IfErr, OnOk, length, map, []};
+ghost use Rattle.std.specs.Prelude.{◌≡◌, ◌⊎◌, ◌<◌, ◌≤◌, ◌+◌, ℕ, List, Ok, Some, IfOk, IfErr, OnOk, length, map, [], ◌∷◌, ◌++◌};
 ghost use Rattle.std.specs.Option.{option_map};
 ghost use Rattle.script_lines.specs.declared.kinds.ScriptKind.{ScriptKind};
 ghost use Rattle.script_lines.specs.declared.verbs.Verb.{Verb};
@@ -59,11 +59,13 @@ fn entry(
 ) -> Result<Option<Read>, LineFault>
     ensures { Answers result (changed (option_map (read_of span)) (entry all_verbs (known_in known.now) fields.old)) }
 {
-    let Some(word) = fields.next() else {
-        return Ok(None);
-    };
-    let verb = verb(word).map_err(LineFault::Kind)?;
-    some_read(said(alloc, known, verb, span, fields))
+    match fields.next() {
+        Some(word) => match verb(word) {
+            Ok(verb) => some_read(said(alloc, known, verb, span, fields)),
+            Err(kind) => Err(LineFault::Kind(kind)),
+        },
+        None => Ok(None),
+    }
 }
 
 /// What line number `number` says, at `span` of the text; None where it is passed over.
@@ -121,6 +123,21 @@ fn kept(read: Read) -> Statement<Span, Box<Noise>>
     }
 }
 
+/// Puts line number `number` behind the others.
+fn put_behind(
+    number: u32,
+    statement: Statement<Span, Box<Noise>>,
+    lines: &mut Vec<Stored>,
+) -> Result<(), ReadFault>
+    ensures put { OnOk result (lines.new.items ≡ lines.old.items ++ record { number = number; statement = statement } ∷ []) }
+    ensures err { IfErr result (λ fault. fault ≡ ReadFault.Memory) }
+{
+    match lines.push(Line { number, statement }) {
+        Ok(()) => Ok(()),
+        Err(_) => Err(ReadFault::Memory),
+    }
+}
+
 /// Stores what was read of line number `number`.
 fn store(
     number: u32,
@@ -136,10 +153,10 @@ fn store(
     ensures noises { OnOk result ((known_in known.new).noises ≤ (known_in known.old).noises + 1) }
     ensures err { IfErr result (λ fault. fault ≡ ReadFault.Memory) }
 {
-    known.learn(&read)?;
-    let statement = kept(read);
-    lines.push(Line { number, statement })?;
-    Ok(())
+    match known.learn(&read) {
+        Ok(()) => put_behind(number, kept(read), lines),
+        Err(_) => Err(ReadFault::Memory),
+    }
 }
 
 /// Stores what was read of line number `number`, where it says something.
@@ -170,15 +187,20 @@ struct Lines {
     next: u32,
 }
 
-/// Reads the lines of a text.
-fn read_lines(alloc: Global, text: &[u8]) -> Result<Lines, ReadFault>
-    requires { length text.now ≤ 16777216 }
-    ensures ok { IfOk result (λ read. reading all_verbs [] 1 (lines_of text.now) ≡ Ok (record { lines = map (seen text.now) read.lines.items; next = read.next })) }
-    ensures some { IfOk result (λ read. 0 < read.next) }
+/// Reads the lines of a text behind nothing, and gives the number of the line behind the last.
+fn read_into(
+    alloc: Global,
+    text: &[u8],
+    known: &mut Known,
+    lines: &mut Vec<Stored>,
+) -> Result<u32, ReadFault>
+    requires short { length text.now ≤ 16777216 }
+    requires known { known_in known.old ≡ known_of {D = List ℕ} {N = List ℕ} [] }
+    requires none { lines.old.items ≡ [] }
+    ensures ok { IfOk result (λ next. reading all_verbs [] 1 (lines_of text.now) ≡ Ok (record { lines = map (seen text.now) lines.new.items; next = next })) }
+    ensures some { IfOk result (λ next. 0 < next) }
     ensures err { IfErr result (λ fault. Finds fault (reading all_verbs [] 1 (lines_of text.now))) }
 {
-    let mut lines = Vec::new(alloc);
-    let mut known = Known::new(alloc);
     let mut number = 1;
     let mut rest = text;
     'lines: while !rest.is_empty() {
@@ -189,8 +211,8 @@ fn read_lines(alloc: Global, text: &[u8]) -> Result<Lines, ReadFault>
             start: start as u32,
             end: (start + line.len()) as u32,
         };
-        match line_says(alloc, &known, number, span, line) {
-            Ok(read) => store_some(number, read, &mut known, &mut lines)?,
+        match line_says(alloc, known, number, span, line) {
+            Ok(read) => store_some(number, read, known, lines)?,
             Err(LineFault::Kind(kind)) => {
                 return Err(ReadFault::Refused {
                     line: u64::from(number),
@@ -202,10 +224,22 @@ fn read_lines(alloc: Global, text: &[u8]) -> Result<Lines, ReadFault>
         number += 1;
         rest = after;
     }
-    Ok(Lines {
-        lines,
-        next: number,
-    })
+    Ok(number)
+}
+
+/// Reads the lines of a text.
+fn read_lines(alloc: Global, text: &[u8]) -> Result<Lines, ReadFault>
+    requires { length text.now ≤ 16777216 }
+    ensures ok { IfOk result (λ read. reading all_verbs [] 1 (lines_of text.now) ≡ Ok (record { lines = map (seen text.now) read.lines.items; next = read.next })) }
+    ensures some { IfOk result (λ read. 0 < read.next) }
+    ensures err { IfErr result (λ fault. Finds fault (reading all_verbs [] 1 (lines_of text.now))) }
+{
+    let mut lines = Vec::new(alloc);
+    let mut known = Known::new(alloc);
+    match read_into(alloc, text, &mut known, &mut lines) {
+        Ok(next) => Ok(Lines { lines, next }),
+        Err(fault) => Err(fault),
+    }
 }
 
 /// A script: its text, its lines that say something, and how many lines it has in all.
@@ -238,12 +272,14 @@ pub fn read_script(alloc: Global, bytes: Vec<u8>) -> Result<Script, ReadFault>
             kind: ScriptKind::ScriptLong,
         });
     }
-    let read = read_lines(alloc, bytes.as_slice())?;
-    Ok(Script {
-        text: bytes,
-        lines: read.lines,
-        count: read.next - 1,
-    })
+    match read_lines(alloc, bytes.as_slice()) {
+        Ok(read) => Ok(Script {
+            text: bytes,
+            lines: read.lines,
+            count: read.next - 1,
+        }),
+        Err(fault) => Err(fault),
+    }
 }
 
 impl Script {

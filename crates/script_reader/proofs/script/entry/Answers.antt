@@ -1,4 +1,4 @@
-use Rattle.std.proofs.Common.{List, ℕ, sym, subst, ◌∙◌, Option, Result, Ok, Some}
+use Rattle.std.proofs.Common.{List, ℕ, sym, subst, Option, Result, Ok, Some}
 use Rattle.std.specs.Option.{option_map}
 use Rattle.script_lines.specs.declared.fault.LineFault.{LineFault}
 use Rattle.script_lines.specs.declared.kinds.ScriptKind.{ScriptKind}
@@ -11,14 +11,13 @@ use Rattle.script_lines.specs.Renamed.{read_of}
 use Rattle.script_lines.specs.Struck.{Answers}
 use Rattle.script_lines.specs.Knowing.{known_in}
 use Rattle.script_lines.specs.Words.{all_verbs}
-use Rattle.script_lines.proofs.Results.{ok_before}
 use Rattle.script_reader.proofs.EntryLaws.{entry_of, some_answers}
 use Rattle.script_reader.proofs.script.entry.Goals as goal
 
-pub returns : goal.returns
-returns c =
-    let line = changed (read_of c.args.span) (said (known_in c.args.known.now) c.in_ok-verb.verb c.next.new.self) in
+pub returns-in-Ok : goal.returns-in-Ok
+returns-in-Ok c =
+    let line = changed (read_of c.args.span) (said (known_in c.args.known.now) c.in-Ok.verb c.next.new.self) in
     subst (λ (r : Result (Option (Statement Span (List ℕ))) LineFault). Answers r (changed (option_map (read_of c.args.span)) (entry all_verbs (known_in c.args.known.now) c.args.fields.now))) (sym c.some_read.ensures)
     (subst (λ (s : Result (Option (Statement Span (List ℕ))) ScriptKind). Answers (and_then c.said.result (λ r. Ok (Some r))) s)
-    (sym (entry_of c.args.span all_verbs (known_in c.args.known.now) c.args.fields.now c.in-Some.word.now c.next.new.self c.in_ok-verb.verb c.in-Some.ensures (sym c.verb.ensures ∙ ok_before LineFault c.verb.result c.in_ok-verb.verb c.in_ok-verb.ensures.cases)))
+    (sym (entry_of c.args.span all_verbs (known_in c.args.known.now) c.args.fields.now c.in-Some.word.now c.next.new.self c.in-Ok.verb c.in-Some.ensures (sym c.in-Ok.ensures)))
     (some_answers c.said.result line c.said.ensures))

@@ -5,7 +5,7 @@ use Rattle.script_reader.specs.Lines.{lines_of}
 use Rattle.script_reader.specs.Reading.{reading}
 use Rattle.script_reader.specs.Stored.{seen}
 use Rattle.script_lines.specs.Words.{all_verbs}
-use Rattle.script_reader.proofs.script.read_lines.Given as goal
+use Rattle.script_reader.proofs.script.read_into.Given as goal
 
 -- what is left, behind the lines so far, is read as all of it is
 abbrev pub invariant-lines : goal.invariant-lines

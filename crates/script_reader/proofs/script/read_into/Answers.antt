@@ -7,7 +7,7 @@ use Rattle.script_reader.specs.Reading.{reading}
 use Rattle.script_reader.specs.Stored.{seen}
 use Rattle.script_lines.specs.Words.{all_verbs}
 use Rattle.script_reader.proofs.ReaderLaws.{gone, behind, there, front_short, none_left}
-use Rattle.script_reader.proofs.script.read_lines.Goals as goal
+use Rattle.script_reader.proofs.script.read_into.Goals as goal
 
 pub lines-preserved : goal.lines-preserved
 lines-preserved c =
