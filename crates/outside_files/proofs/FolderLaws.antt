@@ -12,7 +12,7 @@ use Rattle.std.proofs.Math.Seq.{take-add, take-append-add}
 use Rattle.outside_traits.proofs.TakenLaws.{rest_whole}
 use Rattle.pack_geometry.specs.Pack.{Pack, grown, window, with_window, with_pack, with_block, with_written}
 use Rattle.pack_geometry.proofs.PackLaws.{length-grown, get_or-window, get_or-with_window_here, get_or-with_window_before, get_or-with_window_after}
-use Rattle.outside_files.specs.Folder.{file_of, with_file, put_at, with_put, IsFilled, IsTorn}
+use Rattle.outside_files.specs.Folder.{file_number, file_of, with_file, put_at, with_put, IsFilled, IsTorn}
 use Rattle.outside_files.specs.declared.folder.Part.{Part}
 use Rattle.outside_files.specs.declared.folder.Part.TheVariants.{Image, Marks}
 use borrow.Rule.Slice.PartMut.{put_mid, post_of}
@@ -278,3 +278,8 @@ one_whole tells old new unit part at byte true true back torn = refl
 one_whole tells old new unit part at byte false false back torn = refl
 one_whole tells old new unit part at byte true false back torn = sym (back refl)
 one_whole tells old new unit part at byte false true back torn = let h : IsTorn tells old new unit part at (byte ∷ []) = torn refl refl in absurd (omega (arith, h.some, h.few))
+
+-- each file of the 32 units has a place among 64
+pub has_place : (unit : ℕ) (part : Part) (number count : ℕ) → unit < 32 → number ≡ file_number unit part → 64 ≤ count → number < count
+has_place unit Image number count h is room = omega (arith, h, is, room)
+has_place unit Marks number count h is room = omega (arith, h, is, room)

@@ -1,4 +1,4 @@
-ghost use Rattle.std.specs.Prelude.{◌≡◌, ◌<◌, ◌≤◌, OnOk, vec_len};
+ghost use Rattle.std.specs.Prelude.{◌≡◌, ◌<◌, ◌≤◌, IfOk, OnOk, vec_len};
 
 use crate::folder::{PackFolder, Part};
 use crate::streams::some_taken;
@@ -14,6 +14,34 @@ enum Known<F> {
     Nothing,
     Missing,
     Open(F),
+}
+
+impl<F: Drop> Known<F> {
+    /// What an opening tells of a file: one that is not there is missing, unless it was to be made.
+    fn by_opening(answer: io::Result<F>, create: bool) -> io::Result<Known<F>> {
+        match answer {
+            Ok(file) => Ok(Known::Open(file)),
+            Err(error) if !create && error.kind() == ErrorKind::NotFound => Ok(Known::Missing),
+            Err(error) => Err(error),
+        }
+    }
+
+    /// Whether the file is yet to be opened, or to be made.
+    fn is_to_be_opened(&self, create: bool) -> bool {
+        match self {
+            Known::Nothing => true,
+            Known::Missing => create,
+            Known::Open(_) => false,
+        }
+    }
+
+    /// The file, where it is open.
+    fn file(&self) -> Option<&F> {
+        match self {
+            Known::Open(file) => Some(file),
+            _ => None,
+        }
+    }
 }
 
 /// The files `hpU.dsk` (image) and `hpU.bad` (marks) of the working folder, for unit U in decimal. A missing file is made at
@@ -39,6 +67,11 @@ fn is_forbidden(kind: ErrorKind) -> bool {
     kind == ErrorKind::PermissionDenied || kind == ErrorKind::ReadOnlyFilesystem
 }
 
+/// The length of an open file.
+fn length_in_bytes<F: OpenFile>(file: &F) -> io::Result<u64> {
+    Ok(file.metadata()?.len())
+}
+
 impl<R: Files + AllocGlobal> OsFolder<R> {
     /// The working folder. It opens nothing.
     pub fn new(rt: R) -> OsFolder<R>
@@ -51,11 +84,7 @@ impl<R: Files + AllocGlobal> OsFolder<R> {
     /// Opens a file, or finds that it is missing where it is not to be made.
     fn open(&self, unit: u8, part: Part, create: bool) -> io::Result<Known<R::File>> {
         let name = part.name(self.rt.alloc(), unit)?;
-        match open_file(&self.rt, name.as_str(), create) {
-            Ok(file) => Ok(Known::Open(file)),
-            Err(error) if error.kind() == ErrorKind::NotFound && !create => Ok(Known::Missing),
-            Err(error) => Err(error),
-        }
+        Known::by_opening(open_file(&self.rt, name.as_str(), create), create)
     }
 
     /// Makes room for what is known of each file.
@@ -67,21 +96,25 @@ impl<R: Files + AllocGlobal> OsFolder<R> {
         Ok(())
     }
 
-    /// A file, opened where it is not, unless it is known to be missing and is not to be made; none where it is missing.
-    fn find(&mut self, unit: u8, part: Part, create: bool) -> io::Result<Option<&R::File>>
+    /// Opens a file where it is not open, unless it is known to be missing and is not to be made, and answers its number.
+    fn look_up(&mut self, unit: u8, part: Part, create: bool) -> io::Result<usize>
         requires { unit < 32 }
+        ensures { IfOk result (λ number. number < vec_len self.new.files) }
     {
         self.make_room()?;
         let number = part.number(unit);
-        let known = &self.files[number];
-        if matches!(known, Known::Nothing) || create && matches!(known, Known::Missing) {
+        if self.files[number].is_to_be_opened(create) {
             self.files[number] = self.open(unit, part, create)?;
         }
-        let files = &self.files;
-        match &files[number] {
-            Known::Open(file) => Ok(Some(file)),
-            _ => Ok(None),
-        }
+        Ok(number)
+    }
+
+    /// A file, opened where it is not; none where it is missing.
+    fn find(&mut self, unit: u8, part: Part, create: bool) -> io::Result<Option<&R::File>>
+        requires { unit < 32 }
+    {
+        let number = self.look_up(unit, part, create)?;
+        Ok(self.files[number].file())
     }
 }
 
@@ -99,7 +132,7 @@ where
     fn length(&mut self, unit: u8, part: Part) -> io::Result<u64> {
         match self.find(unit, part, false)? {
             None => Ok(0),
-            Some(file) => Ok(file.metadata()?.len()),
+            Some(file) => length_in_bytes(file),
         }
     }
 

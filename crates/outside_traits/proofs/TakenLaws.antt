@@ -43,3 +43,7 @@ taken_with old came left piece new count limit e f h = omega (arith, h, ap lengt
 
 pub taken_at_end : (old came left piece new : List ℕ) (count limit : ℕ) → old ≡ came ++ left → left ≡ take count piece ++ new → count ≡ 0 → length came ≤ limit + 1 → length old ≤ length new + limit + 1
 taken_at_end old came left piece new count limit e f none h = taken_with old came left piece new count limit e f (omega (arith, none, h))
+
+-- the end of a source leaves what came of it
+pub told_at_end : (old came left piece new : List ℕ) (count : ℕ) → old ≡ came ++ left → left ≡ take count piece ++ new → count ≡ 0 → old ≡ came ++ new
+told_at_end old came left piece new count e f none = e ∙ ap (λ (xs : List ℕ). came ++ xs) (f ∙ ap (λ n. take n piece ++ new) none)
