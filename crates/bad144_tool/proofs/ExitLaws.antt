@@ -1,5 +1,5 @@
 -- What the exits of calls that may fail say.
-use Rattle.std.proofs.Common.{◌≡◌, ◌≤◌, ◌*◌, ◌+◌, ℕ, Bool, false, true, Option, None, Some, Result, Ok, Err, IsErr, refl, sym, subst, ◌∙◌, arith}
+use Rattle.std.proofs.Common.{◌≡◌, ◌≤◌, ◌<◌, ◌*◌, ◌+◌, ℕ, Bool, false, true, Option, None, Some, Result, Ok, Err, IsErr, refl, sym, subst, ◌∙◌, arith}
 use Rattle.std.specs.Prelude.{IfErr, IfOk, IfSome, OnOk, IsErrAnd, IsErrOf, ok_or}
 use borrow.Author.Count.{below_more}
 use Rattle.pack_geometry.specs.declared.DriveKind.{DriveKind}
@@ -10,7 +10,7 @@ use Rattle.pack_geometry.specs.Geometry.{replacement_at}
 use Rattle.pack_geometry.specs.Pack.{Pack, is_marked}
 use Rattle.pack_geometry.specs.PackTable.{IsTableOf}
 use Rattle.pack_geometry.specs.TableSpelling.{Table}
-use Rattle.bad144_tool.specs.Adding.{AreFree, Before, Fits, HasNone, HasTable}
+use Rattle.bad144_tool.specs.Adding.{AreFree, Before, Fits, HasNone, HasTable, IsFirstMarked}
 use Rattle.bad144_tool.specs.Faults.{IsAddFault, IsCounted, IsFreshFault, IsListFault, IsMarkFault, IsSpareFault, IsWhy, Leaves, LeavesMarks, from_insert}
 use Rattle.bad144_tool.specs.Marking as marking
 use Rattle.bad144_tool.specs.declared.edit.AddWay.{AddWay}
@@ -208,6 +208,21 @@ le_then first second = omega (arith, first, second)
 pub fits_length : (n long blocks count all : ℕ) → n ≤ 512 * blocks → blocks ≡ count → count ≡ all → n ≡ long → long ≤ 512 * all
 fits_length n long blocks count all within same is told = omega arith
 
+pub longer : (n blocks count all : ℕ) → 512 * blocks < n → blocks ≡ count → count ≡ all → 512 * all < n
+longer n blocks count all above same is = omega arith
+
+pub long_is_not_store : (n : ℕ) → TooLong n ≡ Store → ⊥
+long_is_not_store n is = cc
+
+pub store_is_not_spare : (j : ℕ) → Store ≡ Spare j → ⊥
+store_is_not_spare j is = cc
+
+pub spare_is_not_store : (j : ℕ) → Spare j ≡ Store → ⊥
+spare_is_not_store j is = cc
+
+pub none_before : (kind : DriveKind) (pack : Pack) (i : ℕ) → AreFree kind pack i i
+none_before kind pack i = λ k from to. absurd (omega arith)
+
 -- one more replacement was looked at, and is unmarked
 pub free_more : (kind : DriveKind) (unit i j n block : ℕ) (on : Bool) (old mid : ℕ → Pack) → mid ≡ old → n ≡ j → block ≡ replacement_at kind n
     → on ≡ is_marked (mid unit) block → on ≡ false → AreFree kind (old unit) i j → AreFree kind (old unit) i (j + 1)
@@ -216,3 +231,16 @@ free_more kind unit i j n block on old mid same number at told off free = λ k f
   where
     here : is_marked (old unit) (replacement_at kind j) ≡ false
     here = cc
+
+-- the first one that is marked
+pub first_marked : (kind : DriveKind) (unit i end j n block named : ℕ) (on : Bool) (old mid : ℕ → Pack) → mid ≡ old → n ≡ j → block ≡ replacement_at kind n
+    → on ≡ is_marked (mid unit) block → on ≡ true → i ≤ j → j < end → AreFree kind (old unit) i j → IsErrOf {T = Unit {0}} (Err (Spare j)) (Spare named)
+    → IsFirstMarked kind (old unit) i end named
+first_marked kind unit i end j n block named on old mid same number at told marked from to free is =
+    subst (IsFirstMarked kind (old unit) i end) (one is) (record { from = from; to = to; before = free; marked = here })
+  where
+    here : is_marked (old unit) (replacement_at kind j) ≡ true
+    here = cc
+
+    one : IsErrOf {T = Unit {0}} (Err (Spare j)) (Spare named) → j ≡ named
+    one e = cc

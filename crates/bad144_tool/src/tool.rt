@@ -6,7 +6,7 @@ ghost use Rattle.bad144_tool.specs.Adding.{Adds, AreFree, Fits, HasTable, IsFirs
 ghost use Rattle.bad144_tool.specs.Changes.{IsCutShort, with_changes};
 ghost use Rattle.bad144_tool.specs.Edit.{copies};
 ghost use Rattle.bad144_tool.specs.Faults.{IsAddFault, IsCounted, IsFreshFault, IsListFault, IsMarkFault, IsSpareFault, IsWhy, Leaves};
-ghost use Rattle.bad144_tool.specs.Texts.{Lists, ListsFront, entry_lines, list_text, table_line as the_line};
+ghost use Rattle.bad144_tool.specs.Texts.{Lists, ListsFront, entry_lines, list_text, no_table_line as the_none, table_line as the_line};
 
 use crate::edit::{AddWay, write_copies, write_edit};
 use crate::fault::ToolFault;
@@ -190,6 +190,14 @@ fn write_entries<O: Sink>(table: &BadTable, kind: DriveKind, out: &mut O) -> Res
     Ok(())
 }
 
+/// Writes the line for a pack that has no table.
+fn write_none<O: Sink>(out: &mut O) -> Result<(), SinkFailed>
+    ensures { Puts O.tells O.taken O.faults out.old out.new result the_none }
+{
+    write_all(out, no_table_line().as_bytes())
+}
+
+/// Writes the line that begins the list of a table.
 fn write_head<O: Sink>(table: &BadTable, out: &mut O) -> Result<(), SinkFailed>
     ensures { Puts O.tells O.taken O.faults out.old out.new result (the_line table.now) }
 {
@@ -215,7 +223,7 @@ fn write_list<O: Sink>(
     ensures { Puts O.tells O.taken O.faults out.old out.new result (list_text kind table.now) }
 {
     match table {
-        None => write_all(out, no_table_line().as_bytes()),
+        None => write_none(out),
         Some(table) => write_table(table, kind, out),
     }
 }

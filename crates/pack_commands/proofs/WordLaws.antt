@@ -1,10 +1,11 @@
 -- The words of a command, one by one.
-use Rattle.std.proofs.Common.{◌≡◌, ℕ, ◌<◌, ◌≤◌, ◌-◌, Bool, true, false, List, [], ◌∷◌, map, take, drop, length, length-drop, get_or, None, sym, ap, ◌∙◌, arith}
+use Rattle.std.proofs.Common.{◌≡◌, ℕ, ◌<◌, ◌≤◌, ◌-◌, Bool, true, false, List, [], ◌∷◌, map, take, drop, length, length-drop, get_or, Option, None, refl, sym, ap, ◌∙◌, arith}
 use Rattle.std.proofs.lemmas.List.{take_all}
 use Rattle.std.specs.Prelude.{if◌then◌else◌, codes}
 use Rattle.std.specs.Str.{bytes_eq}
 use Rattle.command_parts.specs.Fields.{kind_named, unit_named}
-use Rattle.pack_commands.specs.Commands.{add_named, command_named, dumped_named, lone_named, long_named, numbered_named, one_more_named, tool_named, way_named, worded_named}
+use Rattle.pack_commands.specs.Commands.{add_named, bare_named, command_named, dumped_named, format_named, lone_named, long_named, numbered_named, one_more_named, pack_named, serial_named, tool_named, way_named, worded_named}
+use Rattle.pack_commands.specs.declared.words.Command.{Command}
 
 -- the words from one on
 pub behind : {A : Type 0} (n : ℕ) (words : List A) → take (length words - n) (drop n words) ≡ drop n words
@@ -65,6 +66,26 @@ module _ {A : Type 0} (f : A → List ℕ) where
   many_more verb unit kind word [] some other = absurd (omega (arith, some))
   many_more verb unit kind word (x ∷ words) some other =
       sym (ap (λ (b : Bool). if b then add_named (unit_named unit) (kind_named kind) word (way_named (f x ∷ map f words)) else None) other)
+
+  -- no words behind
+  pub none_more : (verb unit kind word : List ℕ) (words : List A) → length words < 1 → bytes_eq verb (codes "add") ≡ false
+      → worded_named verb unit kind word ≡ one_more_named verb unit kind word (map f words)
+  none_more verb unit kind word [] few other =
+      sym (ap (λ (b : Bool). if b then add_named (unit_named unit) (kind_named kind) word (way_named []) else worded_named verb unit kind word) other)
+  none_more verb unit kind word (x ∷ words) few other = absurd (omega (arith, few))
+
+  pub bare : (verb unit kind : List ℕ) (words : List A) → length words < 1 → bare_named verb unit kind ≡ tool_named verb unit kind (map f words)
+  bare verb unit kind [] few = refl
+  bare verb unit kind (x ∷ words) few = absurd (omega (arith, few))
+
+  pub formats : (unit kind serial : List ℕ) (words : List A) → length words < 1
+      → format_named (unit_named unit) (kind_named kind) (serial_named serial) ≡ pack_named unit kind serial (map f words)
+  formats unit kind serial [] few = refl
+  formats unit kind serial (x ∷ words) few = absurd (omega (arith, few))
+
+  pub formats_none : (unit kind serial : List ℕ) (words : List A) → 1 ≤ length words → ◌≡◌ {A = Option Command} None (pack_named unit kind serial (map f words))
+  formats_none unit kind serial [] some = absurd (omega (arith, some))
+  formats_none unit kind serial (x ∷ words) some = refl
 
 -- a block is added, whatever words say how
 pub added : (verb unit kind word : List ℕ) (words : List (List ℕ)) → bytes_eq verb (codes "add") ≡ true

@@ -1,6 +1,8 @@
-use Rattle.std.proofs.Common.{ap, length, sym, ◌∙◌}
+use Rattle.std.proofs.Common.{ap, length, subst, sym, ◌∙◌}
 use Rattle.main_memory.specs.Blocks.{Loan, bytes_in, span_of}
 use Rattle.main_memory.specs.Bytes.{filled}
+use Rattle.main_memory.specs.Memory.{IsLent}
+use Rattle.block_tests.specs.Stations.{IsFrame}
 use Rattle.block_tests.proofs.ExitLaws.{cause_ok, cause_on, no_value, not_done}
 use Rattle.block_tests.proofs.MoveLaws.{free_again, read_failed, read_polls}
 use Rattle.block_tests.proofs.PollLaws.{on_err}
@@ -35,3 +37,28 @@ returns g c =
       never_again = polled.never_again;
       cause = cause_ok _ polled.cause.later;
     }
+
+pub frame-frame-requires : goal.frame-frame-requires
+frame-frame-requires g c = c.requires.rest.frame
+
+pub poll-requires : goal.poll-requires
+poll-requires g c = record {
+  unit = c.requires.unit;
+  block = c.requires.block;
+  rest = record {
+    drive = c.requires.rest.drive;
+    free = c.requires.rest.free;
+    frame = c.frame-frame.ensures.frame;
+    lent = c.frame-frame.ensures.lent;
+    quiet = c.requires.rest.quiet;
+  };
+}
+
+pub give_back-requires : goal.give_back-requires
+give_back-requires g c = subst (λ (frame : Loan). IsLent c.poll.new.self.memory frame) (sym c.in_ok-polled.ensures.frame) c.in_ok-polled.ensures.rest.1
+
+pub take-requires : goal.take-requires
+take-requires g c = record {
+  frame = subst (λ (frame : Loan). IsFrame frame) (sym c.in_ok-polled.ensures.frame) c.frame-frame.ensures.frame;
+  lent = subst (λ (frame : Loan). IsLent c.poll.new.self.memory frame) (sym c.in_ok-polled.ensures.frame) c.in_ok-polled.ensures.rest.1;
+}

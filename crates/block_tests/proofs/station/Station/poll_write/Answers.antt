@@ -1,5 +1,6 @@
-use Rattle.std.proofs.Common.{ap, length, sym, ◌∙◌}
+use Rattle.std.proofs.Common.{ap, length, subst, sym, ◌∙◌}
 use Rattle.main_memory.specs.Blocks.{Loan}
+use Rattle.main_memory.specs.Memory.{IsLent}
 use Rattle.block_tests.proofs.ExitLaws.{cause_ok, cause_on, no_value, not_done}
 use Rattle.block_tests.proofs.MoveLaws.{free_again, write_failed, write_polls}
 use Rattle.block_tests.proofs.PollLaws.{on_err}
@@ -33,3 +34,25 @@ returns g c =
       never_again = polled.never_again;
       cause = cause_ok _ polled.cause.later;
     }
+
+pub frame-frame-requires : goal.frame-frame-requires
+frame-frame-requires g c = c.requires.rest.frame
+
+pub poll-requires : goal.poll-requires
+poll-requires g c = record {
+  unit = c.requires.unit;
+  block = c.requires.block;
+  rest = record {
+    drive = c.requires.rest.drive;
+    free = c.requires.rest.free;
+    frame = c.frame-frame.ensures.frame;
+    lent = c.put.ensures.lent;
+    quiet = c.requires.rest.quiet;
+  };
+}
+
+pub give_back-requires : goal.give_back-requires
+give_back-requires g c = subst (λ (frame : Loan). IsLent c.poll.new.self.memory frame) (sym c.in_ok-polled.ensures.frame) c.in_ok-polled.ensures.rest.1
+
+pub put-requires : goal.put-requires
+put-requires g c = record { frame = c.frame-frame.ensures.frame; lent = c.frame-frame.ensures.lent }
