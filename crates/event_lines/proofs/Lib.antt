@@ -19,3 +19,4 @@ pub mod Contexts
 pub mod Halting
 pub mod Saying
 pub mod Calling
+pub mod Causing

@@ -12,7 +12,8 @@ use std::alloc::Global;
 /// How many bytes of answers are gathered at most.
 const ANSWER_ROOM: u32 = 32_768;
 
-/// Text that is gathered for a sink, the tally of the run so far, and room for a block and for its line, of either form.
+/// Text that is gathered for a sink, the tally of the run so far, and room for a block and for its line, of either form. Up to 32,768
+/// bytes of answers are gathered before they are sent; a block has 512 bytes.
 #[derive(Drop)]
 pub struct Desk {
     pub gather: Gather,
@@ -23,7 +24,7 @@ pub struct Desk {
 }
 
 impl Desk {
-    /// A desk at which nothing is gathered yet, and none of so many requests is answered.
+    /// A desk at which nothing is gathered yet, and none of so many requests is answered. Fails only where memory for the answers lacks.
     pub fn new(alloc: Global, requests: u64) -> Result<Desk, NoMemory>
         ensures gather { IfOk result (λ desk. desk.gather ≡ []) }
         ensures tally { IfOk result (λ desk. desk.tally ≡ tally_by requests [] []) }

@@ -37,7 +37,9 @@ fn go_on<P: Packs, O: Sink, T: Sink>(
     Ok(())
 }
 
-/// A drain at a line: events happen until no request is outstanding, or it finds nothing to do.
+/// A drain at a line: events happen until no request is outstanding, or it finds nothing to do. `number` is that of the line, which the
+/// trace tells. Fails with `Store` where a call on the packs failed, and with `Sink` where one of a sink did, whose count of faults then
+/// rose; never with `Memory` or `TooLong`.
 pub fn drain<P: Packs, O: Sink, T: Sink>(
     subsystem: &mut Subsystem,
     number: u64,

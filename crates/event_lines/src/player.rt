@@ -194,7 +194,10 @@ fn play_other<P: Packs, O: Sink, T: Sink>(
     }
 }
 
-/// A line of a script. `room` has a place for each byte of the longest write.
+/// Plays a line of a script: its request is submitted, its event happens, its noise is said and armed, or its drain runs to its end,
+/// each with the answers behind it; a line that declares a drive does nothing. `room` has a place for each byte of the longest write,
+/// 65,024 of them. Fails with `Store` where a call on the packs failed, and with `Sink` where one of a sink did, whose count of faults
+/// then rose; never with `Memory` or `TooLong`.
 pub fn play_line<P: Packs, O: Sink, T: Sink>(
     script: &Script,
     subsystem: &mut Subsystem,

@@ -1,4 +1,4 @@
-use Rattle.std.proofs.Common.{rules, ℕ, [], List, take, refl, ◌≡◌, ap, subst}
+use Rattle.std.proofs.Common.{ℕ, [], List, take, refl, ◌≡◌, ap, subst, ◌∙◌}
 use Rattle.std.specs.Box.{box_value}
 use Rattle.std.proofs.lemmas.Result.{on_ok_weaker}
 use Rattle.hp_events.specs.declared.drain.Event.TheVariants as event
@@ -16,6 +16,7 @@ use Rattle.event_lines.proofs.Ahead.{IsOpened}
 use Rattle.event_lines.proofs.Inputs.{with_said, at_said}
 use Rattle.event_lines.proofs.Saying.{is_said, said_passes, opened_said}
 use Rattle.event_lines.proofs.Statements.{request_plays, request_brings, event_plays, event_line_brings, drain_line, drain_line_brings, read_says, write_says, noise_says, drain_says, renumbered}
+use Rattle.event_lines.proofs.Causing.{same, never_ok, sink_causes, causes_behind}
 use Rattle.event_lines.proofs.player.play_other.Goals as goal
 use Rattle.play_faults.specs.declared.fault.PlayFault.TheVariants as faults
 use Rattle.event_lines.proofs.Halting.{if_err, err_is, event_halts, noise_halts, request_halts, drain_halts}
@@ -43,8 +44,8 @@ returns-in-Read-clause-played g c = record {
       (λ fault stops t. request_halts c.from-number.result c.args.line.now.number c.from-number.ensures line c.args.subsystem.now old refl c.requires.ready.none_waits c.requires.may
       fault (asked request []) new at (stops (g.P.Packs.tells c.args.packs.now) (g.P.Packs.held c.args.packs.now)))
       asks.stops;
-  told = search rules;
-  requests = search rules;
+  told = record { never_again = λ t. t; never_again_out = c.ask.ensures.never_again_out; never_again_trace = c.ask.ensures.never_again_trace };
+  requests = c.ask.ensures.requests;
 }
 
 pub returns-in-Read-clause-brings : goal.returns-in-Read-clause-brings
@@ -83,8 +84,8 @@ returns-in-Write-clause-played g c = record {
       (λ fault stops t. request_halts c.from-number.result c.args.line.now.number c.from-number.ensures line c.args.subsystem.now old refl c.requires.ready.none_waits c.requires.may
       fault (asked request bytes) new at (stops (g.P.Packs.tells c.args.packs.now) (g.P.Packs.held c.args.packs.now)))
       asks.stops;
-  told = search rules;
-  requests = search rules;
+  told = record { never_again = λ t. t; never_again_out = c.ask-in-Write.ensures.never_again_out; never_again_trace = c.ask-in-Write.ensures.never_again_trace };
+  requests = c.ask-in-Write.ensures.requests;
 }
 
 pub returns-in-Write-clause-brings : goal.returns-in-Write-clause-brings
@@ -138,8 +139,12 @@ returns-in_ok-say_noise-in-Noise-clause-played g c = record {
       (λ fault stops t. event_halts c.from-number.result c.args.line.now.number c.from-number.ensures line c.args.subsystem.now old refl c.requires.ready.none_waits c.requires.may
       fault (event.Noise noise.unit noise.block c.copy.result noise.span) now new at opened t (subst (λ (st : Stage). EventStops c.from-number.result (NoiseInput live) fault st new) its stops))
       c.happen.ensures.stops;
-  told = search rules;
-  requests = search rules;
+  told = record {
+    never_again = c.happen.ensures.told.never_again;
+    never_again_out = λ t. c.in_ok-say_noise-in-Noise.ensures.never_again (c.happen.ensures.told.never_again_out t);
+    never_again_trace = λ t. c.in_ok-say_noise-in-Noise.ensures.never_again_trace (c.happen.ensures.told.never_again_trace t);
+  };
+  requests = c.happen.ensures.requests ∙ c.in_ok-say_noise-in-Noise.ensures.requests;
 }
 
 pub returns-in_ok-say_noise-in-Noise-clause-brings : goal.returns-in_ok-say_noise-in-Noise-clause-brings
@@ -172,8 +177,8 @@ returns-in-Drain-clause-played g c = record {
       if_err _ _ c.drain.result
       (λ fault stops t. drain_halts c.from-number.result c.args.line.now.number line fault old new c.from-number.ensures at (stops t))
       c.drain.ensures.played.stops;
-  told = search rules;
-  requests = search rules;
+  told = c.drain.ensures.played.told;
+  requests = c.drain.ensures.played.requests;
 }
 
 pub returns-in-Drain-clause-brings : goal.returns-in-Drain-clause-brings
@@ -185,7 +190,7 @@ returns-in-Drain-clause-brings g c =
 
 pub returns-in_err-say_noise-in-Noise-clause-played : goal.returns-in_err-say_noise-in-Noise-clause-played
 returns-in_err-say_noise-in-Noise-clause-played g c = record {
-  plays = search rules;
+  plays = never_ok _ c.from_residual.result c.from_residual.ensures.0;
   stops =
       let says_it = c.in_err-say_noise-in-Noise.ensures in
       let old : Stage = stage g.P.Packs.tells g.P.Packs.held g.O.Sink.tells g.O.Sink.taken g.T.Sink.tells g.T.Sink.taken c.args.subsystem.now c.args.packs.now c.args.out.now c.args.trace.now c.args.desk.now.gather c.args.desk.now.tally in
@@ -198,6 +203,34 @@ returns-in_err-say_noise-in-Noise-clause-played g c = record {
       new noise.unit noise.block (box_value noise.places) noise.span at refl
       (said_passes c.args.subsystem.now.world c.say_noise.new.subsystem.world (g.P.Packs.tells c.args.packs.now) (g.P.Packs.tells c.args.packs.now) (g.P.Packs.held c.args.packs.now) (g.P.Packs.held c.args.packs.now)
       c.args.desk.now.tally c.say_noise.new.desk.tally _ _ _ _ _ (is_said (says_it.says (record { unit = noise.unit; block = noise.block; span = noise.span; places = box_value noise.places }) cc))));
-  told = search rules;
-  requests = search rules;
+  told = record { never_again = λ t. t; never_again_out = c.in_err-say_noise-in-Noise.ensures.never_again; never_again_trace = c.in_err-say_noise-in-Noise.ensures.never_again_trace };
+  requests = c.in_err-say_noise-in-Noise.ensures.requests;
 }
+
+pub returns-in-Read-clause-goes : goal.returns-in-Read-clause-goes
+returns-in-Read-clause-goes g c = c.ask.ensures.goes
+
+pub returns-in-Write-clause-goes : goal.returns-in-Write-clause-goes
+returns-in-Write-clause-goes g c = c.ask-in-Write.ensures.goes
+
+pub returns-in-Drain-clause-goes : goal.returns-in-Drain-clause-goes
+returns-in-Drain-clause-goes g c = c.drain.ensures.goes
+
+pub returns-in-Drain-clause-causes : goal.returns-in-Drain-clause-causes
+returns-in-Drain-clause-causes g c = c.drain.ensures.causes
+
+pub returns-in_err-say_noise-in-Noise-clause-brings : goal.returns-in_err-say_noise-in-Noise-clause-brings
+returns-in_err-say_noise-in-Noise-clause-brings g c = never_ok _ c.from_residual.result c.from_residual.ensures.0
+
+pub returns-in_err-say_noise-in-Noise-clause-goes : goal.returns-in_err-say_noise-in-Noise-clause-goes
+returns-in_err-say_noise-in-Noise-clause-goes g c = never_ok _ c.from_residual.result c.from_residual.ensures.0
+
+pub returns-in_err-say_noise-in-Noise-clause-causes : goal.returns-in_err-say_noise-in-Noise-clause-causes
+returns-in_err-say_noise-in-Noise-clause-causes g c =
+    sink_causes c.from_residual.result (g.P.Packs.faults c.args.packs.now) (g.P.Packs.faults c.args.packs.now) (g.O.Sink.faults c.args.out.now) (g.O.Sink.faults c.say_noise.new.out) (g.T.Sink.faults c.args.trace.now) (g.T.Sink.faults c.say_noise.new.trace)
+    c.from_residual.ensures.1 (same _) c.in_err-say_noise-in-Noise.ensures.later c.in_err-say_noise-in-Noise.ensures.later_trace c.in_err-say_noise-in-Noise.ensures.failed
+
+pub returns-in_ok-say_noise-in-Noise-clause-causes : goal.returns-in_ok-say_noise-in-Noise-clause-causes
+returns-in_ok-say_noise-in-Noise-clause-causes g c =
+    causes_behind c.happen.result (g.P.Packs.faults c.args.packs.now) (g.P.Packs.faults c.args.packs.now) (g.P.Packs.faults c.happen.new.packs) (g.O.Sink.faults c.args.out.now) (g.O.Sink.faults c.say_noise.new.out) (g.O.Sink.faults c.happen.new.out)
+    (g.T.Sink.faults c.args.trace.now) (g.T.Sink.faults c.say_noise.new.trace) (g.T.Sink.faults c.happen.new.trace) (same _) c.in_ok-say_noise-in-Noise.ensures.later c.in_ok-say_noise-in-Noise.ensures.later_trace c.happen.ensures.causes
