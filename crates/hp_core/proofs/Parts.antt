@@ -50,11 +50,13 @@ pub unit_channel_slot : (inside now : State) (units : List UnitView) (slots : Li
     (p q : ℕ) (h : Held → Held) → inside ≡ now → i ≡ a → p ≡ q → a < length now.world.adapters → old ≡ slice_index_or inside.world.adapters i old
     → units ≡ f inside.world.units → v ≡ g (held_in inside.world p) old → slots ≡ slice_set inside.world.slots p (Some (h (held_in inside.world p)))
     → record inside { world = record inside.world { units = units; adapters = slice_set inside.world.adapters i v; slots = slots } }
-    ≡ record now { world = record now.world {
-      units = f now.world.units;
-      adapters = slice_set now.world.adapters a (g (held_in now.world q) (adapter_at now.world a));
-      slots = slice_set now.world.slots q (Some (h (held_in now.world q)));
-    } }
+    ≡ record now {
+      world = record now.world {
+        units = f now.world.units;
+        adapters = slice_set now.world.adapters a (g (held_in now.world q) (adapter_at now.world a));
+        slots = slice_set now.world.slots q (Some (h (held_in now.world q)));
+      };
+    }
 unit_channel_slot inside now units slots f a i old v g p q h same place at lt own changed made put =
     let here : v ≡ g (held_in inside.world p) (adapter_at now.world a) =
     made ∙ ap (g (held_in inside.world p)) (adapter_here a i now.world inside.world.adapters old place (ap (λ (s : State). s.world.adapters) same) lt own) in
