@@ -2,6 +2,7 @@ pub mod Telling
 pub mod Scenes
 pub mod Deeds
 pub mod Places
+pub mod Parts
 pub mod Rooms
 pub mod Tries
 pub mod Joining
