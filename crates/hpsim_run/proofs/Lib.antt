@@ -1,2 +1,3 @@
 mod CachedRuns
+mod CommandLaws
 mod TransferLaws
