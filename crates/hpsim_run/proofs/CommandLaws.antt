@@ -1,15 +1,17 @@
 -- What a run comes to, by the command that the words name.
-use Rattle.std.proofs.Common.{◌≡◌, ◌⊎◌, inl, inr, ℕ, ◌<◌, false, true, Option, None, Some, refl, sym, ap, subst, ◌∙◌, arith}
+use Rattle.std.proofs.Common.{◌≡◌, ◌⊎◌, inl, inr, ℕ, Bool, IsTrue, false, true, if◌then◌else◌, ◌==◌, Option, None, Some, refl, sym, ap, subst, ◌∙◌}
 use Rattle.pack_geometry.specs.declared.DriveKind.{DriveKind}
 use Rattle.outside_traits.specs.Causes.{Rose}
 use Rattle.bad144_tool.specs.declared.edit.AddWay.{AddWay}
 use Rattle.command_parts.specs.declared.words.Transfer.{Transfer}
 use Rattle.command_parts.specs.Outside.{HasItsCause, Outside}
+use Rattle.command_parts.specs.Lines.{Told}
 use Rattle.command_parts.specs.Statuses.{status_code}
 use Rattle.command_parts.specs.declared.status.Status.{Status}
 use Rattle.command_parts.specs.declared.status.Status.TheVariants as status
 use Rattle.pack_commands.specs.Formats.{IsFormatCode, RunsFormat}
 use Rattle.pack_commands.specs.Tools.{RunsAdd, RunsFresh, RunsList, RunsMark}
+use Rattle.pack_commands.specs.Words.{usage_text}
 use Rattle.pack_commands.specs.declared.words.Command.{Command}
 use Rattle.pack_commands.specs.declared.words.Command.TheVariants.{Play, ListTable, AddBlock, FreshTable, MarkBlocks, Exercise, Cached, FormatPack, TransferBytes}
 use Rattle.raw_command.specs.Endings.{RunsTransfer}
@@ -129,55 +131,115 @@ clauses_of ends = record {
   leaves = ends.leaves;
 }
 
+-- a number that passes a test is none that fails it
+never : (test : ℕ → Bool) (code n : ℕ) → test code ≡ false → code ≡ n → test n ≡ true → ⊥
+never test code n fails e passes = other (sym passes ∙ ap test (sym e) ∙ fails)
+  where
+    other : true ≡ false → ⊥
+    other e = cc
+
+-- words that are no command
+no_command : (one : Command) → None ≡ Some one → ⊥
+no_command one e = cc
+
+pub usage_ends : {S P O T : Type 0} {command : Option Command} {code : ℕ} {old new : Outside} {source : S} {packs : P} {out out' : O} {trace : T}
+    → None ≡ command → code ≡ 2 → (IsTrue new.out_tells → Told old.said new.said usage_text old.out_faults new.out_faults)
+    → Clauses command code old new source source packs packs out out' trace trace
+usage_ends {code} {old} {new} {source} {packs} {out} {out'} {trace} named e told =
+    subst (λ (k : Option Command). Clauses k code old new source source packs packs out out' trace trace) named
+    (subst (λ (m : ℕ). Clauses None m old new source source packs packs out out' trace trace) (sym e) (record {
+      play = λ e. absurd (no_command _ e);
+      cached = λ capacity e. absurd (no_command _ e);
+      tool = record {
+        list = λ unit kind e. absurd (no_command _ e);
+        add = λ unit block kind way e. absurd (no_command _ e);
+        fresh = λ unit serial kind e. absurd (no_command _ e);
+        mark = λ unit kind e. absurd (no_command _ e);
+        format = λ unit serial kind e. absurd (no_command _ e);
+      };
+      exercise = λ number e. absurd (no_command _ e);
+      transfer = λ transfer e. absurd (no_command _ e);
+      statuses = record {
+        none = λ e. refl;
+        play = λ e. absurd (no_command _ e);
+        list = λ unit kind e. absurd (no_command _ e);
+        add = λ unit block kind way e. absurd (no_command _ e);
+        fresh = λ unit serial kind e. absurd (no_command _ e);
+        mark = λ unit kind e. absurd (no_command _ e);
+        exercise = λ number e. absurd (no_command _ e);
+        cached = λ capacity e. absurd (no_command _ e);
+        format = λ unit serial kind e. absurd (no_command _ e);
+        transfer = λ transfer e. absurd (no_command _ e);
+      };
+      usage = record { exactly = (λ e. refl, λ e. refl); told = λ e t. told t };
+      causes = record { source = λ e. absurd (apart 2 4 e refl refl); sink = λ e. absurd (apart 2 5 e refl refl); store = λ e. absurd (apart 2 6 e refl refl) };
+      leaves = record {
+        unread = λ e. refl;
+        untraced_tool = λ e. refl;
+        exercise_packs = λ number e. refl;
+        silent = λ e. elim e [
+          | inl is ↦ absurd (apart 2 4 is refl refl)
+          | inr is ↦ absurd (apart 2 9 is refl refl)
+        ];
+        untouched = λ e. refl;
+        untraced = λ e. refl;
+      };
+    }))
+  where
+    apart : (code n : ℕ) → code ≡ n → (n == 2) ≡ false → (code == 2) ≡ true → ⊥
+    apart code n e other same = never (λ (m : ℕ). m == 2) n code other (sym e) same
+
 some_not_none : (command : Command) → Some command ≡ None → ⊥
 some_not_none command e = cc
 
 -- ---- the numbers that a command never ends with
-play_code : (code : ℕ) → IsPlayCode code → code ≡ 2 → ⊥
-play_code code (inl is) e = omega arith
-play_code code (inr (inl is)) e = omega arith
-play_code code (inr (inr (inl is))) e = omega arith
-play_code code (inr (inr (inr (inl is)))) e = omega arith
-play_code code (inr (inr (inr (inr (inl is))))) e = omega arith
-play_code code (inr (inr (inr (inr (inr (inl is)))))) e = omega arith
-play_code code (inr (inr (inr (inr (inr (inr is)))))) e = omega arith
+abbrev is_low : ℕ → Bool
+is_low n = if n == 2 then true else (if n == 3 then true else n == 4)
 
-change_low : (code n : ℕ) → IsChangeCode code → code ≡ n → 0 < n → n < 5 → ⊥
-change_low code n (inl is) e low high = omega arith
-change_low code n (inr (inl is)) e low high = omega arith
-change_low code n (inr (inr (inl is))) e low high = omega arith
-change_low code n (inr (inr (inr (inl is)))) e low high = omega arith
-change_low code n (inr (inr (inr (inr is)))) e low high = omega arith
+abbrev no_change : ℕ → Bool
+no_change n = if n == 9 then true else is_low n
+
+abbrev no_exercise : ℕ → Bool
+no_exercise n = if n == 6 then true else (if n == 7 then true else is_low n)
+
+play_code : (code : ℕ) → IsPlayCode code → (code == 2) ≡ false
+play_code code (inl is) = ap (λ (n : ℕ). n == 2) is
+play_code code (inr (inl is)) = ap (λ (n : ℕ). n == 2) is
+play_code code (inr (inr (inl is))) = ap (λ (n : ℕ). n == 2) is
+play_code code (inr (inr (inr (inl is)))) = ap (λ (n : ℕ). n == 2) is
+play_code code (inr (inr (inr (inr (inl is))))) = ap (λ (n : ℕ). n == 2) is
+play_code code (inr (inr (inr (inr (inr (inl is)))))) = ap (λ (n : ℕ). n == 2) is
+play_code code (inr (inr (inr (inr (inr (inr is)))))) = ap (λ (n : ℕ). n == 2) is
+
+change_code : (code : ℕ) → IsChangeCode code → no_change code ≡ false
+change_code code (inl is) = ap (λ (n : ℕ). no_change n) is
+change_code code (inr (inl is)) = ap (λ (n : ℕ). no_change n) is
+change_code code (inr (inr (inl is))) = ap (λ (n : ℕ). no_change n) is
+change_code code (inr (inr (inr (inl is)))) = ap (λ (n : ℕ). no_change n) is
+change_code code (inr (inr (inr (inr is)))) = ap (λ (n : ℕ). no_change n) is
+
+change_low : (code : ℕ) → IsChangeCode code → (n : ℕ) → code ≡ n → is_low n ≡ true → ⊥
+change_low code is n e low = never (λ (n : ℕ). no_change n) code n (change_code code is) e (cases (n == 9) low)
+  where
+    cases : (nine : Bool) {low : Bool} → low ≡ true → (if nine then true else low) ≡ true
+    cases true low = refl
+    cases false low = low
 
 change_nine : (code : ℕ) → IsChangeCode code → code ≡ 9 → ⊥
-change_nine code (inl is) e = omega arith
-change_nine code (inr (inl is)) e = omega arith
-change_nine code (inr (inr (inl is))) e = omega arith
-change_nine code (inr (inr (inr (inl is)))) e = omega arith
-change_nine code (inr (inr (inr (inr is)))) e = omega arith
+change_nine code is e = never (λ (n : ℕ). no_change n) code 9 (change_code code is) e refl
 
-format_low : (code n : ℕ) → IsFormatCode code → code ≡ n → 0 < n → n < 5 → ⊥
-format_low code n (inl is) e low high = omega arith
-format_low code n (inr (inl is)) e low high = omega arith
-format_low code n (inr (inr (inl is))) e low high = omega arith
-format_low code n (inr (inr (inr (inl is)))) e low high = omega arith
-format_low code n (inr (inr (inr (inr (inl is))))) e low high = omega arith
-format_low code n (inr (inr (inr (inr (inr is))))) e low high = omega arith
+format_code : (code : ℕ) → IsFormatCode code → is_low code ≡ false
+format_code code (inl is) = ap (λ (n : ℕ). is_low n) is
+format_code code (inr (inl is)) = ap (λ (n : ℕ). is_low n) is
+format_code code (inr (inr (inl is))) = ap (λ (n : ℕ). is_low n) is
+format_code code (inr (inr (inr (inl is)))) = ap (λ (n : ℕ). is_low n) is
+format_code code (inr (inr (inr (inr (inl is))))) = ap (λ (n : ℕ). is_low n) is
+format_code code (inr (inr (inr (inr (inr is))))) = ap (λ (n : ℕ). is_low n) is
 
-exercise_code : (code n : ℕ) → IsExerciseCode code → code ≡ n → 0 < n → n < 5 → ⊥
-exercise_code code n (inl is) e low high = omega arith
-exercise_code code n (inr (inl is)) e low high = omega arith
-exercise_code code n (inr (inr is)) e low high = omega arith
-
-exercise_six : (code : ℕ) → IsExerciseCode code → code ≡ 6 → ⊥
-exercise_six code (inl is) e = omega arith
-exercise_six code (inr (inl is)) e = omega arith
-exercise_six code (inr (inr is)) e = omega arith
-
-exercise_seven : (code : ℕ) → IsExerciseCode code → code ≡ 7 → ⊥
-exercise_seven code (inl is) e = omega arith
-exercise_seven code (inr (inl is)) e = omega arith
-exercise_seven code (inr (inr is)) e = omega arith
+exercise_code : (code : ℕ) → IsExerciseCode code → no_exercise code ≡ false
+exercise_code code (inl is) = ap (λ (n : ℕ). no_exercise n) is
+exercise_code code (inr (inl is)) = ap (λ (n : ℕ). no_exercise n) is
+exercise_code code (inr (inr is)) = ap (λ (n : ℕ). no_exercise n) is
 
 wider : (code : ℕ) → IsToolCode code → IsChangeCode code
 wider code (inl is) = inl is
@@ -186,58 +248,45 @@ wider code (inr (inr (inl is))) = inr (inr (inl is))
 wider code (inr (inr (inr is))) = inr (inr (inr (inl is)))
 
 -- ---- the status that has a number
+abbrev status_at : ℕ → Status
+status_at n =
+    if n == 0 then status.Done else (if n == 2 then status.Usage else (if n == 3 then status.Refused else (if n == 4 then status.SourceFailed else (if n == 5 then status.SinkFailed else (if n == 6 then status.PacksFailed else (if n == 7 then status.TooLong else (if n == 8 then status.ToolRefused else (if n == 9 then status.OutOfMemory else (if n == 10 then status.TransferRefused else (status.FormatRefused))))))))))
+
+status_of_code : (s : Status) → status_at (status_code s) ≡ s
+status_of_code status.Done = refl
+status_of_code status.Usage = refl
+status_of_code status.Refused = refl
+status_of_code status.SourceFailed = refl
+status_of_code status.SinkFailed = refl
+status_of_code status.PacksFailed = refl
+status_of_code status.TooLong = refl
+status_of_code status.ToolRefused = refl
+status_of_code status.OutOfMemory = refl
+status_of_code status.TransferRefused = refl
+status_of_code status.FormatRefused = refl
+
 sink_is : (s : Status) → status_code s ≡ 5 → s ≡ status.SinkFailed
-sink_is status.SinkFailed e = refl
-sink_is status.Done e = absurd (omega arith)
-sink_is status.Usage e = absurd (omega arith)
-sink_is status.Refused e = absurd (omega arith)
-sink_is status.SourceFailed e = absurd (omega arith)
-sink_is status.PacksFailed e = absurd (omega arith)
-sink_is status.TooLong e = absurd (omega arith)
-sink_is status.ToolRefused e = absurd (omega arith)
-sink_is status.OutOfMemory e = absurd (omega arith)
-sink_is status.TransferRefused e = absurd (omega arith)
-sink_is status.FormatRefused e = absurd (omega arith)
+sink_is s e = sym (status_of_code s) ∙ ap (λ (n : ℕ). status_at n) e
 
 store_is : (s : Status) → status_code s ≡ 6 → s ≡ status.PacksFailed
-store_is status.PacksFailed e = refl
-store_is status.Done e = absurd (omega arith)
-store_is status.Usage e = absurd (omega arith)
-store_is status.Refused e = absurd (omega arith)
-store_is status.SourceFailed e = absurd (omega arith)
-store_is status.SinkFailed e = absurd (omega arith)
-store_is status.TooLong e = absurd (omega arith)
-store_is status.ToolRefused e = absurd (omega arith)
-store_is status.OutOfMemory e = absurd (omega arith)
-store_is status.TransferRefused e = absurd (omega arith)
-store_is status.FormatRefused e = absurd (omega arith)
+store_is s e = sym (status_of_code s) ∙ ap (λ (n : ℕ). status_at n) e
 
 memory_is : (s : Status) → status_code s ≡ 9 → s ≡ status.OutOfMemory
-memory_is status.OutOfMemory e = refl
-memory_is status.Done e = absurd (omega arith)
-memory_is status.Usage e = absurd (omega arith)
-memory_is status.Refused e = absurd (omega arith)
-memory_is status.SourceFailed e = absurd (omega arith)
-memory_is status.SinkFailed e = absurd (omega arith)
-memory_is status.PacksFailed e = absurd (omega arith)
-memory_is status.TooLong e = absurd (omega arith)
-memory_is status.ToolRefused e = absurd (omega arith)
-memory_is status.TransferRefused e = absurd (omega arith)
-memory_is status.FormatRefused e = absurd (omega arith)
+memory_is s e = sym (status_of_code s) ∙ ap (λ (n : ℕ). status_at n) e
 
 module _ {S P O T : Type 0} {old new : Outside} {source : S} {packs packs' : P} {out out' : O} {trace : T} where
   -- a tool, which reads no source and tells no trace
   tool_ends : (command : Command) (s : Status) → Does (Some command) (status_code s) old new → IsCode (Some command) (status_code s)
-      → ((n : ℕ) → status_code s ≡ n → 0 < n → n < 5 → ⊥) → ((number : ℕ) → Some command ≡ Some (Exercise number) → ⊥)
+      → ((n : ℕ) → status_code s ≡ n → is_low n ≡ true → ⊥) → ((number : ℕ) → Some command ≡ Some (Exercise number) → ⊥)
       → (s ≡ status.SinkFailed → Rose old.out_faults new.out_faults) → (s ≡ status.PacksFailed → Rose old.packs_faults new.packs_faults)
       → (status_code s ≡ 9 → out' ≡ out) → Ends (Some command) (status_code s) old new source source packs packs' out out' trace trace
   tool_ends command s does code low other sink store silent = record {
     does = does;
     is_code = code;
-    not_usage = λ e. low 2 e (omega arith) (omega arith);
+    not_usage = λ e. low 2 e refl;
     some = some_not_none command;
     causes = record {
-      source = λ e. absurd (low 4 e (omega arith) (omega arith));
+      source = λ e. absurd (low 4 e refl);
       sink = λ e. inl (sink (sink_is s e));
       store = λ e. store (store_is s e);
     };
@@ -246,13 +295,13 @@ module _ {S P O T : Type 0} {old new : Outside} {source : S} {packs packs' : P} 
       untraced_tool = λ _. refl;
       exercise_packs = λ number e. absurd (other number e);
       silent = λ e. elim e [
-        | inl four ↦ absurd (low 4 four (omega arith) (omega arith))
+        | inl four ↦ absurd (low 4 four refl)
         | inr nine ↦ silent nine
       ];
       untouched = λ e. elim e [
-        | inl two ↦ absurd (low 2 two (omega arith) (omega arith))
-        | inr (inl three) ↦ absurd (low 3 three (omega arith) (omega arith))
-        | inr (inr four) ↦ absurd (low 4 four (omega arith) (omega arith))
+        | inl two ↦ absurd (low 2 two refl)
+        | inr (inl three) ↦ absurd (low 3 three refl)
+        | inr (inr four) ↦ absurd (low 4 four refl)
       ];
       untraced = λ _. refl;
     };
@@ -263,13 +312,13 @@ module _ {S P O T : Type 0} {old new : Outside} {source : S} {packs packs' : P} 
       → Ends (Some (ListTable unit kind)) (status_code s) old new source source packs packs' out out' trace trace
   list_ends unit kind s does sink store =
       let code = wider _ does.statuses in
-      tool_ends (ListTable unit kind) s does does.statuses (λ n e low high. change_low _ n code e low high) (λ number e. cc) sink store (λ e. absurd (change_nine _ code e))
+      tool_ends (ListTable unit kind) s does does.statuses (change_low _ code) (λ number e. cc) sink store (λ e. absurd (change_nine _ code e))
 
   pub add_ends : (unit block : ℕ) (kind : DriveKind) (way : AddWay) (s : Status) → Does (Some (AddBlock unit kind block way)) (status_code s) old new
       → (s ≡ status.SinkFailed → Rose old.out_faults new.out_faults) → (s ≡ status.PacksFailed → Rose old.packs_faults new.packs_faults)
       → Ends (Some (AddBlock unit kind block way)) (status_code s) old new source source packs packs' out out' trace trace
   add_ends unit block kind way s does sink store =
-      tool_ends (AddBlock unit kind block way) s does does.statuses (λ n e low high. change_low _ n does.statuses e low high) (λ number e. cc) sink store
+      tool_ends (AddBlock unit kind block way) s does does.statuses (change_low _ does.statuses) (λ number e. cc) sink store
       (λ e. absurd (change_nine _ does.statuses e))
 
   pub fresh_ends : (unit serial : ℕ) (kind : DriveKind) (s : Status) → Does (Some (FreshTable unit kind serial)) (status_code s) old new
@@ -277,20 +326,20 @@ module _ {S P O T : Type 0} {old new : Outside} {source : S} {packs packs' : P} 
       → Ends (Some (FreshTable unit kind serial)) (status_code s) old new source source packs packs' out out' trace trace
   fresh_ends unit serial kind s does sink store =
       let code = wider _ does.statuses in
-      tool_ends (FreshTable unit kind serial) s does does.statuses (λ n e low high. change_low _ n code e low high) (λ number e. cc) sink store (λ e. absurd (change_nine _ code e))
+      tool_ends (FreshTable unit kind serial) s does does.statuses (change_low _ code) (λ number e. cc) sink store (λ e. absurd (change_nine _ code e))
 
   pub mark_ends : (unit : ℕ) (kind : DriveKind) (s : Status) → Does (Some (MarkBlocks unit kind)) (status_code s) old new
       → (s ≡ status.SinkFailed → Rose old.out_faults new.out_faults) → (s ≡ status.PacksFailed → Rose old.packs_faults new.packs_faults)
       → Ends (Some (MarkBlocks unit kind)) (status_code s) old new source source packs packs' out out' trace trace
   mark_ends unit kind s does sink store =
-      tool_ends (MarkBlocks unit kind) s does does.statuses (λ n e low high. change_low _ n does.statuses e low high) (λ number e. cc) sink store
+      tool_ends (MarkBlocks unit kind) s does does.statuses (change_low _ does.statuses) (λ number e. cc) sink store
       (λ e. absurd (change_nine _ does.statuses e))
 
   pub format_ends : (unit serial : ℕ) (kind : DriveKind) (s : Status) → Does (Some (FormatPack unit kind serial)) (status_code s) old new
       → (s ≡ status.SinkFailed → Rose old.out_faults new.out_faults) → (s ≡ status.PacksFailed → Rose old.packs_faults new.packs_faults)
       → (s ≡ status.OutOfMemory → out' ≡ out) → Ends (Some (FormatPack unit kind serial)) (status_code s) old new source source packs packs' out out' trace trace
   format_ends unit serial kind s does sink store silent =
-      tool_ends (FormatPack unit kind serial) s does does.statuses (λ n e low high. format_low _ n does.statuses e low high) (λ number e. cc) sink store
+      tool_ends (FormatPack unit kind serial) s does does.statuses (λ n e low. never (λ (n : ℕ). is_low n) _ n (format_code _ does.statuses) e low) (λ number e. cc) sink store
       (λ e. silent (memory_is s e))
 
 -- the exercise, which reads no source and touches no packs
@@ -300,29 +349,29 @@ pub exercise_ends : {S P O T : Type 0} {old new : Outside} {source : S} {packs :
     → (s ≡ status.OutOfMemory → out' ≡ out) → (s ≡ status.OutOfMemory → trace' ≡ trace)
     → Ends (Some (Exercise number)) (status_code s) old new source source packs packs out out' trace trace'
 exercise_ends number s does sink silent untraced =
-    let never = λ (n : ℕ) (e : status_code s ≡ n) (low : 0 < n) (high : n < 5). exercise_code _ n does.statuses e low high in record {
+    let apart = λ (n : ℕ) (e : status_code s ≡ n) (passes : no_exercise n ≡ true). never (λ (n : ℕ). no_exercise n) _ n (exercise_code _ does.statuses) e passes in record {
       does = does;
       is_code = does.statuses;
-      not_usage = λ e. never 2 e (omega arith) (omega arith);
+      not_usage = λ e. apart 2 e refl;
       some = some_not_none (Exercise number);
       causes = record {
-        source = λ e. absurd (never 4 e (omega arith) (omega arith));
+        source = λ e. absurd (apart 4 e refl);
         sink = λ e. sink (sink_is s e);
-        store = λ e. absurd (exercise_six _ does.statuses e);
+        store = λ e. absurd (apart 6 e refl);
       };
       leaves = record {
         unread = λ _. refl;
         untraced_tool = λ e. absurd (told e);
         exercise_packs = λ _ _. refl;
         silent = λ e. elim e [
-          | inl four ↦ absurd (never 4 four (omega arith) (omega arith))
+          | inl four ↦ absurd (apart 4 four refl)
           | inr nine ↦ silent (memory_is s nine)
         ];
         untouched = λ _. refl;
         untraced = λ e. elim e [
-          | inl three ↦ absurd (never 3 three (omega arith) (omega arith))
-          | inr (inl four) ↦ absurd (never 4 four (omega arith) (omega arith))
-          | inr (inr (inl seven)) ↦ absurd (exercise_seven _ does.statuses seven)
+          | inl three ↦ absurd (apart 3 three refl)
+          | inr (inl four) ↦ absurd (apart 4 four refl)
+          | inr (inr (inl seven)) ↦ absurd (apart 7 seven refl)
           | inr (inr (inr nine)) ↦ untraced (memory_is s nine)
         ];
       };
@@ -337,7 +386,7 @@ module _ {S P O T : Type 0} {code : ℕ} {old new : Outside} {source source' : S
   play_ends runs causes leaves = record {
     does = runs;
     is_code = runs.script.statuses;
-    not_usage = play_code code runs.script.statuses;
+    not_usage = λ e. never (λ (n : ℕ). n == 2) code 2 (play_code code runs.script.statuses) e refl;
     some = some_not_none Play;
     causes = causes;
     leaves = leaves;
@@ -349,7 +398,7 @@ module _ {S P O T : Type 0} {code : ℕ} {old new : Outside} {source source' : S
   cached_ends capacity runs causes leaves = record {
     does = runs;
     is_code = runs.script.statuses;
-    not_usage = play_code code runs.script.statuses;
+    not_usage = λ e. never (λ (n : ℕ). n == 2) code 2 (play_code code runs.script.statuses) e refl;
     some = some_not_none (Cached capacity);
     causes = causes;
     leaves = leaves;

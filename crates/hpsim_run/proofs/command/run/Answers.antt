@@ -1,5 +1,11 @@
-use Rattle.hpsim_run.proofs.CommandLaws.{add_ends, cached_ends, clauses_of, ends_at, exercise_ends, format_ends, fresh_ends, list_ends, mark_ends, play_ends, transfer_ends}
+use Rattle.hpsim_run.proofs.CommandLaws.{add_ends, cached_ends, clauses_of, ends_at, exercise_ends, format_ends, fresh_ends, list_ends, mark_ends, play_ends, transfer_ends, usage_ends}
+use Rattle.script_commands.proofs.PlayLaws.{told_of}
 use Rattle.hpsim_run.proofs.command.run.Goals as goal
+
+pub returns-in-None : goal.returns-in-None
+returns-in-None g c =
+    usage_ends c.in-None.ensures.named c.code.ensures
+    (told_of c.write_all.result _ _ _ _ _ _ _ _ c.as_bytes.ensures.text c.usage.ensures c.write_all.ensures.bytes c.write_all.ensures.front c.write_all.ensures.cause)
 
 pub returns-in-Some-Play : goal.returns-in-Some-Play
 returns-in-Some-Play g c =
