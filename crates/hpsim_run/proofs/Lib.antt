@@ -1,2 +1,4 @@
+mod CachedLeft
 mod CachedRuns
+mod CommandLaws
 mod TransferLaws

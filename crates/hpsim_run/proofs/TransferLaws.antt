@@ -28,7 +28,7 @@ four_code : (code n : ℕ) → code ≡ n → (2 ≡ n) ⊎ (3 ≡ n) → code �
 four_code code n e (inl two) is = omega (arith, e, two, is)
 four_code code n e (inr three) is = omega (arith, e, three, is)
 
-no_code : (transfer : Transfer) (code n : ℕ) → code ≡ n → (2 ≡ n) ⊎ (3 ≡ n) → IsTransferCode transfer code → ⊥
+pub no_code : (transfer : Transfer) (code n : ℕ) → code ≡ n → (2 ≡ n) ⊎ (3 ≡ n) → IsTransferCode transfer code → ⊥
 no_code (Read target size) code n e which is = read_code code n e which is
 no_code (Write writing) code n e which (inl is) = read_code code n e which is
 no_code (Write writing) code n e which (inr is) = four_code code n e which is

@@ -4,4 +4,5 @@ pub mod SoFar
 mod Standing
 mod TheRunLaws
 mod PlayRuns
+pub mod ScriptLeft
 pub mod ScriptRuns

@@ -7,6 +7,7 @@ use Rattle.script_reader.specs.Meaning.{meaning}
 use Rattle.script_commands.specs.Headline.{Means}
 use Rattle.script_commands.proofs.PlayLaws.{told_of, told_from, refused_parts, refusal_is, long_parts, long_before, sink_plays, left_by, err_is}
 use Rattle.script_commands.proofs.PlayRuns.{one_meaning, runs_done, runs_sink, runs_store, unplayed}
+use Rattle.script_commands.proofs.ScriptLeft.{leaves_long, leaves_played, leaves_refused, leaves_unread, no_cause, play_is, sink_cause, source_cause, store_cause}
 use Rattle.script_commands.proofs.ScriptRuns.{memory_apart, refused_apart, too_long_apart, unread_apart, script_memory, script_refused, script_too_long, script_unread}
 use Rattle.script_commands.proofs.SoFar.{keeps}
 use Rattle.script_commands.proofs.play.run_play.Goals as goal
@@ -77,3 +78,45 @@ returns-in-Err-Failed-clause-runs g c = unplayed unread_apart (script_unread _ o
 
 pub returns-in-Err-Memory-clause-runs : goal.returns-in-Err-Memory-clause-runs
 returns-in-Err-Memory-clause-runs g c = unplayed memory_apart (script_memory _ one_meaning _ _ c.in-Err-Memory.ensures.taken (λ t. refl))
+
+pub returns-in-Err-Refused-clause-causes : goal.returns-in-Err-Refused-clause-causes
+returns-in-Err-Refused-clause-causes g c = no_cause 3 refl
+
+pub returns-in-Err-Refused-clause-leaves : goal.returns-in-Err-Refused-clause-leaves
+returns-in-Err-Refused-clause-leaves g c = leaves_refused play_is
+
+pub returns-in-Ok-play-clause-causes : goal.returns-in-Ok-play-clause-causes
+returns-in-Ok-play-clause-causes g c = no_cause 0 refl
+
+pub returns-in-Ok-play-clause-leaves : goal.returns-in-Ok-play-clause-leaves
+returns-in-Ok-play-clause-leaves g c = leaves_played play_is 0 refl refl refl
+
+pub returns-in-Err-TooLong-clause-causes : goal.returns-in-Err-TooLong-clause-causes
+returns-in-Err-TooLong-clause-causes g c = no_cause 7 refl
+
+pub returns-in-Err-TooLong-clause-leaves : goal.returns-in-Err-TooLong-clause-leaves
+returns-in-Err-TooLong-clause-leaves g c = leaves_long play_is (c.in-Err-TooLong.ensures.untouched (long_before _ _ _ c.in-Err-TooLong.field-0-is)).untraced
+
+pub returns-in-Err-Sink-clause-causes : goal.returns-in-Err-Sink-clause-causes
+returns-in-Err-Sink-clause-causes g c = sink_cause (c.in-Err-Sink.ensures.causes.sink (err_is c.in-Err-Sink.field-0-is))
+
+pub returns-in-Err-Sink-clause-leaves : goal.returns-in-Err-Sink-clause-leaves
+returns-in-Err-Sink-clause-leaves g c = leaves_played play_is 5 refl refl refl
+
+pub returns-in-Err-Store-clause-causes : goal.returns-in-Err-Store-clause-causes
+returns-in-Err-Store-clause-causes g c = store_cause (c.in-Err-Store.ensures.causes.store (err_is c.in-Err-Store.field-0-is))
+
+pub returns-in-Err-Store-clause-leaves : goal.returns-in-Err-Store-clause-leaves
+returns-in-Err-Store-clause-leaves g c = leaves_played play_is 6 refl refl refl
+
+pub returns-in-Err-Failed-clause-causes : goal.returns-in-Err-Failed-clause-causes
+returns-in-Err-Failed-clause-causes g c = source_cause (c.in-Err-Failed.ensures.failed (err_is c.in-Err-Failed.field-0-is))
+
+pub returns-in-Err-Failed-clause-leaves : goal.returns-in-Err-Failed-clause-leaves
+returns-in-Err-Failed-clause-leaves g c = leaves_unread play_is 4
+
+pub returns-in-Err-Memory-clause-causes : goal.returns-in-Err-Memory-clause-causes
+returns-in-Err-Memory-clause-causes g c = no_cause 9 refl
+
+pub returns-in-Err-Memory-clause-leaves : goal.returns-in-Err-Memory-clause-leaves
+returns-in-Err-Memory-clause-leaves g c = leaves_unread play_is 9
