@@ -91,8 +91,10 @@ pub fn play_cached<P: Packs, O: Sink, T: Sink>(
     ensures untouched { IsBefore result → AreUntouched (P.tells packs.new) (P.held packs.old) (P.held packs.new) out.old out.new trace.old trace.new }
 {
     script.law();
-    let units = attach_cached(alloc, script, packs)?;
-    let mut bench = Bench::new(alloc, units.as_slice(), capacity)?;
+    let mut bench = {
+        let units = attach_cached(alloc, script, packs)?;
+        Bench::new(alloc, units.as_slice(), capacity)?
+    };
     play_lines(
         script,
         &mut bench.cache,
