@@ -3,6 +3,7 @@
 #![tactic(auto)]
 
 mod answers;
+mod bench;
 mod desk;
 mod lines;
 mod play;

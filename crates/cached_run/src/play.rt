@@ -16,6 +16,7 @@ ghost use Rattle.cached_run.specs.Lines.{IsRoomy};
 ghost use Rattle.cached_script.specs.Meaning.{meaning_of};
 ghost use Rattle.cached_run.specs.Theorem.{CachedPlays, CachedLeaves};
 
+use crate::bench::Bench;
 use crate::desk::Desk;
 use crate::lines::{play_line, play_sync};
 use buffer_cache::{Cache, Subsystem};
@@ -56,8 +57,7 @@ fn play_lines<P: Packs, O: Sink, T: Sink>(
     for line in script.lines() {
         play_line(line, cache, subsystem, desk, packs, out, trace)?;
     }
-    play_sync(number, cache, subsystem, packs, trace)?;
-    Ok(())
+    play_sync(number, cache, subsystem, packs, trace)
 }
 
 /// Plays a script line by line through a cache of so many blocks, from 1 to 4,096, and behind its last line a sync, whose number is the
@@ -91,15 +91,15 @@ pub fn play_cached<P: Packs, O: Sink, T: Sink>(
     ensures untouched { IsBefore result → AreUntouched (P.tells packs.new) (P.held packs.old) (P.held packs.new) out.old out.new trace.old trace.new }
 {
     script.law();
-    let units = attach_cached(alloc, script, packs)?;
-    let mut desk = Desk::new(alloc)?;
-    let mut cache = Cache::new(alloc, capacity)?;
-    let mut subsystem = Subsystem::new(alloc, units.as_slice(), 1, 0)?;
+    let mut bench = {
+        let units = attach_cached(alloc, script, packs)?;
+        Bench::new(alloc, units.as_slice(), capacity)?
+    };
     play_lines(
         script,
-        &mut cache,
-        &mut subsystem,
-        &mut desk,
+        &mut bench.cache,
+        &mut bench.subsystem,
+        &mut bench.desk,
         packs,
         out,
         trace,

@@ -1,9 +1,8 @@
-use Rattle.std.proofs.Common.{◌+◌, IsTrue, length, refl, ap}
+use Rattle.std.proofs.Common.{◌+◌, IsTrue, length, refl}
 use Rattle.trace_replay.specs.Script.{Drain}
 use Rattle.hp_core.specs.Setups.{setups_of}
 use Rattle.run_laws.specs.Stops.{Took, took}
 use Rattle.run_laws.specs.Steps.{tables_in}
-use Rattle.trace_laws.specs.Entries.{State}
 use Rattle.cached_run.specs.Going.{Scene, scene}
 use Rattle.cached_run.specs.Lines.{inputs_till}
 use Rattle.cached_script.specs.Meaning.{meaning_of}
@@ -15,19 +14,19 @@ use Rattle.cached_run.proofs.play.play_cached.Goals as goal
 
 pub play_lines-requires-clause-units : goal.play_lines-requires-clause-units
 play_lines-requires-clause-units g c =
-    made_units (meaning_of c.args.script.now) c.in_ok-units.units.items c.as_slice.result.now c.in_ok-subsystem.subsystem c.as_slice.ensures.value c.in_ok-units.ensures.set c.in_ok-subsystem.ensures
+    made_units (meaning_of c.args.script.now) c.in_ok-units.units.items c.as_slice.result.now c.in_ok-bench.bench.subsystem c.as_slice.ensures.value c.in_ok-units.ensures.set c.in_ok-bench.ensures.subsystem
 
 pub play_lines-requires-clause-may : goal.play_lines-requires-clause-may
 play_lines-requires-clause-may g c =
-    made_may (meaning_of c.args.script.now) c.in_ok-units.units.items c.as_slice.result.now c.in_ok-subsystem.subsystem c.as_slice.ensures.value c.in_ok-units.ensures.set c.in_ok-subsystem.ensures c.in_ok-cache.cache (ap (λ (s : State). s.entries) c.in_ok-cache.ensures)
+    made_may (meaning_of c.args.script.now) c.in_ok-units.units.items c.as_slice.result.now c.in_ok-bench.bench.subsystem c.as_slice.ensures.value c.in_ok-units.ensures.set c.in_ok-bench.ensures.subsystem c.in_ok-bench.bench.cache c.in_ok-bench.ensures.cache
 
 pub play_lines-requires-clause-desk : goal.play_lines-requires-clause-desk
 play_lines-requires-clause-desk g c =
-    record { none = c.in_ok-desk.ensures.gather; room = c.in_ok-desk.ensures.blocks }
+    c.in_ok-bench.ensures.desk
 
 pub play_lines-requires-clause-empty : goal.play_lines-requires-clause-empty
 play_lines-requires-clause-empty g c =
-    ap (λ (s : State). s.entries) c.in_ok-cache.ensures
+    c.in_ok-bench.ensures.cache
 
 pub returns-clause-plays : goal.returns-clause-plays
 returns-clause-plays g c =
@@ -37,14 +36,14 @@ returns-clause-plays g c =
     let tables = tables_in (setups_of c.in_ok-units.units.items) in
     let old = g.P.Packs.held c.args.packs.now in
     let new = g.P.Packs.held c.play_lines.new.packs in
-    let first : Scene = scene g.P.Packs.tells g.P.Packs.held g.O.Sink.tells g.O.Sink.taken g.O.Sink.faults g.T.Sink.tells g.T.Sink.taken c.in_ok-subsystem.subsystem.world c.attach_cached.new.packs c.args.out.now c.args.trace.now in
+    let first : Scene = scene g.P.Packs.tells g.P.Packs.held g.O.Sink.tells g.O.Sink.taken g.O.Sink.faults g.T.Sink.tells g.T.Sink.taken c.in_ok-bench.bench.subsystem.world c.attach_cached.new.packs c.args.out.now c.args.trace.now in
     let now : Scene = scene g.P.Packs.tells g.P.Packs.held g.O.Sink.tells g.O.Sink.taken g.O.Sink.faults g.T.Sink.tells g.T.Sink.taken c.play_lines.new.subsystem.world c.play_lines.new.packs c.play_lines.new.out c.play_lines.new.trace in
     let out : Took = took g.O.Sink.tells g.O.Sink.taken g.O.Sink.faults c.args.out.now c.play_lines.new.out in
     on_ok_map c.play_lines.result (λ plays t.
     let t' = lines.told.never_again t in
     let read = units.tables t' in
-    let set = made_setup (meaning_of c.args.script.now) c.in_ok-units.units.items c.as_slice.result.now c.in_ok-subsystem.subsystem c.as_slice.ensures.value c.in_ok-units.ensures.set c.in_ok-subsystem.ensures first.site.held old (units.same t') read in
-    let has = made_tables (meaning_of c.args.script.now) c.in_ok-units.units.items c.as_slice.result.now c.in_ok-subsystem.subsystem c.as_slice.ensures.value c.in_ok-units.ensures.set c.in_ok-subsystem.ensures first.site.held old (units.same t') read in
+    let set = made_setup (meaning_of c.args.script.now) c.in_ok-units.units.items c.as_slice.result.now c.in_ok-bench.bench.subsystem c.as_slice.ensures.value c.in_ok-units.ensures.set c.in_ok-bench.ensures.subsystem first.site.held old (units.same t') read in
+    let has = made_tables (meaning_of c.args.script.now) c.in_ok-units.units.items c.as_slice.result.now c.in_ok-bench.bench.subsystem c.as_slice.ensures.value c.in_ok-units.ensures.set c.in_ok-bench.ensures.subsystem first.site.held old (units.same t') read in
     whole_plays (meaning_of s) tables old new first now set refl read (inputs_till s (length s.lines)) (record { line = s.count + 1; input = Drain }) c.play_lines.new.cache out
     (inputs_all s (length s.lines) (same (length s.lines))) refl (all_asked_well s c.law.ensures) (plays t has) refl refl refl)
     lines.plays
@@ -57,15 +56,15 @@ returns-clause-stopped g c =
     let tables = tables_in (setups_of c.in_ok-units.units.items) in
     let old = g.P.Packs.held c.args.packs.now in
     let new = g.P.Packs.held c.play_lines.new.packs in
-    let first : Scene = scene g.P.Packs.tells g.P.Packs.held g.O.Sink.tells g.O.Sink.taken g.O.Sink.faults g.T.Sink.tells g.T.Sink.taken c.in_ok-subsystem.subsystem.world c.attach_cached.new.packs c.args.out.now c.args.trace.now in
+    let first : Scene = scene g.P.Packs.tells g.P.Packs.held g.O.Sink.tells g.O.Sink.taken g.O.Sink.faults g.T.Sink.tells g.T.Sink.taken c.in_ok-bench.bench.subsystem.world c.attach_cached.new.packs c.args.out.now c.args.trace.now in
     let now : Scene = scene g.P.Packs.tells g.P.Packs.held g.O.Sink.tells g.O.Sink.taken g.O.Sink.faults g.T.Sink.tells g.T.Sink.taken c.play_lines.new.subsystem.world c.play_lines.new.packs c.play_lines.new.out c.play_lines.new.trace in
     let out : Took = took g.O.Sink.tells g.O.Sink.taken g.O.Sink.faults c.args.out.now c.play_lines.new.out in
     leaves_as (IsTrue (g.P.Packs.tells c.play_lines.new.packs)) c.play_lines.result (meaning_of s) old new out (took g.T.Sink.tells g.T.Sink.taken g.T.Sink.faults c.args.trace.now c.play_lines.new.trace)
     (on_err_map c.play_lines.result (λ stops t.
     let t' = lines.told.never_again t in
     let read = units.tables t' in
-    let set = made_setup (meaning_of c.args.script.now) c.in_ok-units.units.items c.as_slice.result.now c.in_ok-subsystem.subsystem c.as_slice.ensures.value c.in_ok-units.ensures.set c.in_ok-subsystem.ensures first.site.held old (units.same t') read in
-    let has = made_tables (meaning_of c.args.script.now) c.in_ok-units.units.items c.as_slice.result.now c.in_ok-subsystem.subsystem c.as_slice.ensures.value c.in_ok-units.ensures.set c.in_ok-subsystem.ensures first.site.held old (units.same t') read in
+    let set = made_setup (meaning_of c.args.script.now) c.in_ok-units.units.items c.as_slice.result.now c.in_ok-bench.bench.subsystem c.as_slice.ensures.value c.in_ok-units.ensures.set c.in_ok-bench.ensures.subsystem first.site.held old (units.same t') read in
+    let has = made_tables (meaning_of c.args.script.now) c.in_ok-units.units.items c.as_slice.result.now c.in_ok-bench.bench.subsystem c.as_slice.ensures.value c.in_ok-units.ensures.set c.in_ok-bench.ensures.subsystem first.site.held old (units.same t') read in
     whole_stops (meaning_of s) tables old new first now set refl read out (stops t has) refl refl refl refl refl)
     lines.stops)
 

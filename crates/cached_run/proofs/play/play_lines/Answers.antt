@@ -1,12 +1,12 @@
 use Rattle.std.proofs.Common.{◌≡◌, ◌<◌, ◌≤◌, ◌+◌, ℕ, suc, List, [], ◌∷◌, ◌++◌, length, map, drop, sym, ap, ◌∙◌, subst, arith}
-use Rattle.std.specs.Prelude.{Ok, slice_index_or}
+use Rattle.std.specs.Prelude.{slice_index_or}
 use Rattle.trace_replay.specs.Script.{Numbered, Drain, inputs_before, inputs_of}
 use Rattle.buffer_cache.proofs.Passes.{on_err}
 use Rattle.cached_script.specs.declared.statement.Line.{Line as Said}
 use Rattle.cached_run.specs.Going.{Scene, scene, IsFar, syncs_at}
 use Rattle.cached_run.specs.Lines.{inputs_till, input_at}
 use Rattle.cached_script.specs.Meaning.{line_of, meaning_of}
-use Rattle.cached_run.proofs.Causes.{same, caused_more, more_caused}
+use Rattle.cached_run.proofs.Causes.{same, caused_more, more_caused, on_ok_map, on_err_map}
 use Rattle.cached_run.proofs.Playing.{halts_script}
 use Rattle.unit_attaching.proofs.CachedLines.{blank, item_is, number_is}
 use Rattle.cached_run.proofs.ScriptLines.{may_play, inputs_next, inputs_split, inputs_all}
@@ -105,8 +105,8 @@ returns-in_err-play_line-clause-causes g c =
     more_caused c.from_residual.result _ (g.P.Packs.faults c.args.packs.now) (g.P.Packs.faults c.loop-line.packs) (g.P.Packs.faults c.play_line.new.packs) (g.O.Sink.faults c.args.out.now) (g.O.Sink.faults c.loop-line.out) (g.O.Sink.faults c.play_line.new.out) (g.T.Sink.faults c.args.trace.now) (g.T.Sink.faults c.loop-line.trace) (g.T.Sink.faults c.play_line.new.trace)
     c.from_residual.ensures.1 c.loop-line.invariant.later c.loop-line.invariant.later_out c.loop-line.invariant.later_trace c.in_err-play_line.ensures.causes
 
-pub returns-in_err-play_sync-clause-stops : goal.returns-in_err-play_sync-clause-stops
-returns-in_err-play_sync-clause-stops g c =
+pub returns-clause-stops : goal.returns-clause-stops
+returns-clause-stops g c =
     let first : Scene = scene g.P.Packs.tells g.P.Packs.held g.O.Sink.tells g.O.Sink.taken g.O.Sink.faults g.T.Sink.tells g.T.Sink.taken c.args.subsystem.now.world c.args.packs.now c.args.out.now c.args.trace.now in
     let here : Scene = scene g.P.Packs.tells g.P.Packs.held g.O.Sink.tells g.O.Sink.taken g.O.Sink.faults g.T.Sink.tells g.T.Sink.taken c.loop-line.subsystem.world c.loop-line.packs c.loop-line.out c.loop-line.trace in
     let new : Scene = scene g.P.Packs.tells g.P.Packs.held g.O.Sink.tells g.O.Sink.taken g.O.Sink.faults g.T.Sink.tells g.T.Sink.taken c.play_sync.new.subsystem.world c.play_sync.new.packs c.loop-line.out c.play_sync.new.trace in
@@ -116,22 +116,10 @@ returns-in_err-play_sync-clause-stops g c =
     let number : ℕ = c.from-number.result + 1 in
     let same : number ≡ s.count + 1 = ap (λ n. n + 1) (c.from-number.ensures ∙ c.count.ensures) in
     let split : inputs_of (meaning_of s) ≡ inputs_till s i ++ syncs_at number = inputs_all s i all ∙ ap (λ n. inputs_till s i ++ syncs_at n) (sym same) in
-    on_err c.from_residual-in_err-play_sync.result _ (λ t tables.
+    on_err_map c.play_sync.result (λ halts t tables.
     halts_script (meaning_of s) (inputs_till s i) (syncs_at number) [] c.loop-line.cache first here new split
-    (c.loop-line.invariant.far ((c.in_err-play_sync.ensures.told (g.O.Sink.tells c.loop-line.out)).never_again t) tables) (c.in_err-play_sync.ensures.halts t (g.O.Sink.tells c.loop-line.out) (g.O.Sink.taken c.loop-line.out) (g.O.Sink.faults c.loop-line.out)))
-
-pub returns-in_err-play_sync-clause-told : goal.returns-in_err-play_sync-clause-told
-returns-in_err-play_sync-clause-told g c =
-    record {
-      never_again = λ t. c.loop-line.invariant.told.never_again ((c.in_err-play_sync.ensures.told (g.O.Sink.tells c.loop-line.out)).never_again t);
-      never_again_out = λ t. c.loop-line.invariant.told.never_again_out ((c.in_err-play_sync.ensures.told (g.O.Sink.tells c.loop-line.out)).never_again_out t);
-      never_again_trace = λ t. c.loop-line.invariant.told.never_again_trace ((c.in_err-play_sync.ensures.told (g.O.Sink.tells c.loop-line.out)).never_again_trace t);
-    }
-
-pub returns-in_err-play_sync-clause-causes : goal.returns-in_err-play_sync-clause-causes
-returns-in_err-play_sync-clause-causes g c =
-    more_caused c.from_residual-in_err-play_sync.result _ (g.P.Packs.faults c.args.packs.now) (g.P.Packs.faults c.loop-line.packs) (g.P.Packs.faults c.play_sync.new.packs) (g.O.Sink.faults c.args.out.now) (g.O.Sink.faults c.loop-line.out) (g.O.Sink.faults c.loop-line.out) (g.T.Sink.faults c.args.trace.now) (g.T.Sink.faults c.loop-line.trace) (g.T.Sink.faults c.play_sync.new.trace)
-    c.from_residual-in_err-play_sync.ensures.1 c.loop-line.invariant.later c.loop-line.invariant.later_out c.loop-line.invariant.later_trace (c.in_err-play_sync.ensures.causes (g.O.Sink.faults c.loop-line.out))
+    (c.loop-line.invariant.far ((c.play_sync.ensures.told (g.O.Sink.tells c.loop-line.out)).never_again t) tables) (halts t (g.O.Sink.tells c.loop-line.out) (g.O.Sink.taken c.loop-line.out) (g.O.Sink.faults c.loop-line.out)))
+    c.play_sync.ensures.halts
 
 pub returns-clause-plays : goal.returns-clause-plays
 returns-clause-plays g c =
@@ -143,17 +131,18 @@ returns-clause-plays g c =
     let number : ℕ = c.from-number.result + 1 in
     let same : number ≡ s.count + 1 = ap (λ n. n + 1) (c.from-number.ensures ∙ c.count.ensures) in
     let split : inputs_of (meaning_of s) ≡ inputs_till s i ++ syncs_at number = inputs_all s i all ∙ ap (λ n. inputs_till s i ++ syncs_at n) (sym same) in
-    λ t tables. subst (λ (z : List Numbered). IsFar first z c.play_sync.new.cache new) (sym split)
-    (c.in_ok-play_sync.ensures.goes t (g.O.Sink.tells c.loop-line.out) (g.O.Sink.taken c.loop-line.out) (g.O.Sink.faults c.loop-line.out) first (inputs_till s i) (c.loop-line.invariant.far ((c.in_ok-play_sync.ensures.told (g.O.Sink.tells c.loop-line.out)).never_again t) tables))
+    on_ok_map c.play_sync.result (λ goes t tables. subst (λ (z : List Numbered). IsFar first z c.play_sync.new.cache new) (sym split)
+    (goes t (g.O.Sink.tells c.loop-line.out) (g.O.Sink.taken c.loop-line.out) (g.O.Sink.faults c.loop-line.out) first (inputs_till s i) (c.loop-line.invariant.far ((c.play_sync.ensures.told (g.O.Sink.tells c.loop-line.out)).never_again t) tables)))
+    c.play_sync.ensures.goes
 
 pub returns-clause-told : goal.returns-clause-told
 returns-clause-told g c =
     record {
-      never_again = λ t. c.loop-line.invariant.told.never_again ((c.in_ok-play_sync.ensures.told (g.O.Sink.tells c.loop-line.out)).never_again t);
-      never_again_out = λ t. c.loop-line.invariant.told.never_again_out ((c.in_ok-play_sync.ensures.told (g.O.Sink.tells c.loop-line.out)).never_again_out t);
-      never_again_trace = λ t. c.loop-line.invariant.told.never_again_trace ((c.in_ok-play_sync.ensures.told (g.O.Sink.tells c.loop-line.out)).never_again_trace t);
+      never_again = λ t. c.loop-line.invariant.told.never_again ((c.play_sync.ensures.told (g.O.Sink.tells c.loop-line.out)).never_again t);
+      never_again_out = λ t. c.loop-line.invariant.told.never_again_out ((c.play_sync.ensures.told (g.O.Sink.tells c.loop-line.out)).never_again_out t);
+      never_again_trace = λ t. c.loop-line.invariant.told.never_again_trace ((c.play_sync.ensures.told (g.O.Sink.tells c.loop-line.out)).never_again_trace t);
     }
 
 pub returns-clause-causes : goal.returns-clause-causes
 returns-clause-causes g c =
-    caused_more (Ok tt) c.loop-line.invariant.later c.loop-line.invariant.later_out c.loop-line.invariant.later_trace (c.in_ok-play_sync.ensures.causes (g.O.Sink.faults c.loop-line.out))
+    caused_more c.play_sync.result c.loop-line.invariant.later c.loop-line.invariant.later_out c.loop-line.invariant.later_trace (c.play_sync.ensures.causes (g.O.Sink.faults c.loop-line.out))

@@ -1,7 +1,10 @@
-use Rattle.std.proofs.Common.{refl, arith}
-use Rattle.std.specs.Prelude.{None}
+use Rattle.std.proofs.Common.{Option, Some, refl, ap, subst, arith}
+use Rattle.std.specs.Prelude.{None, Err}
 use Rattle.buffer_cache.specs.Passes.{Stage}
-use Rattle.buffer_cache.specs.Passes.{site}
+use Rattle.buffer_cache.specs.Passes.{site, Keeps}
+use Rattle.buffer_cache.specs.Calls.{stop_of}
+use Rattle.buffer_cache.specs.declared.fault.CacheFault.{CacheFault}
+use Rattle.driver_answers.specs.declared.outcome.Stop.{Stop}
 use Rattle.buffer_cache.proofs.Passes.{keeps_none, keeps_join}
 use Rattle.cached_run.proofs.Keepings.{setup_none, setup_more, setup_asked, data_at, not_stopped}
 use Rattle.cached_run.proofs.Writings.{written_none, written_more, written_all, written_end, written_stops}
@@ -47,6 +50,24 @@ returns-in-Err-Unusable-clause-writes g c =
     written_end c.args.line c.args.unit c.args.first c.args.count c.loop-k.k c.args.from.now c.args.cache.now c.loop-k.cache c.write.new.self old mid new c.loop-k-test.true
     c.loop-k.invariant.setup c.in-Err-Unusable.ensures.keeps.never_again c.loop-k.invariant.so_far (c.in-Err-Unusable.ensures.writes (not_stopped (Unit {0}) c.in-Err-Unusable.field-0 c.in-Err-Unusable.field-0-is)) c.in-Err-Unusable.ensures.holds
 
+pub returns-in-Err-Unusable-clause-setup : goal.returns-in-Err-Unusable-clause-setup
+returns-in-Err-Unusable-clause-setup g c =
+    let old : Stage = site g.P.Packs.tells g.P.Packs.held g.T.Sink.tells g.T.Sink.taken c.args.subsystem.now.world c.args.packs.now c.args.trace.now in
+    let mid : Stage = site g.P.Packs.tells g.P.Packs.held g.T.Sink.tells g.T.Sink.taken c.loop-k.subsystem.world c.loop-k.packs c.loop-k.trace in
+    let new : Stage = site g.P.Packs.tells g.P.Packs.held g.T.Sink.tells g.T.Sink.taken c.write.new.subsystem.world c.write.new.packs c.write.new.trace in
+    let writes = c.in-Err-Unusable.ensures.writes (not_stopped (Unit {0}) c.in-Err-Unusable.field-0 c.in-Err-Unusable.field-0-is) in
+    setup_more old mid new c.in-Err-Unusable.ensures.keeps.never_again c.loop-k.invariant.setup (setup_asked mid new writes.asks)
+
+pub returns-in-Err-Unusable-clause-may : goal.returns-in-Err-Unusable-clause-may
+returns-in-Err-Unusable-clause-may g c =
+    c.in-Err-Unusable.ensures.may (not_stopped (Unit {0}) c.in-Err-Unusable.field-0 c.in-Err-Unusable.field-0-is)
+
+pub returns-in-Err-Unusable-clause-keeps : goal.returns-in-Err-Unusable-clause-keeps
+returns-in-Err-Unusable-clause-keeps g c =
+    keeps_join g.P.Packs.tells g.P.Packs.faults g.T.Sink.tells g.T.Sink.faults c.args.subsystem.now c.loop-k.subsystem c.write.new.subsystem c.args.packs.now c.loop-k.packs c.write.new.packs
+    c.args.trace.now c.loop-k.trace c.write.new.trace None c.loop-k.invariant.keeps
+    (subst (λ (z : Option Stop). Keeps g.P.Packs.tells g.P.Packs.faults g.T.Sink.tells g.T.Sink.faults c.loop-k.subsystem c.write.new.subsystem c.loop-k.packs c.write.new.packs c.loop-k.trace c.write.new.trace z) (not_stopped (Unit {0}) c.in-Err-Unusable.field-0 c.in-Err-Unusable.field-0-is) c.in-Err-Unusable.ensures.keeps)
+
 pub returns-in-Err-Stop-clause-stops : goal.returns-in-Err-Stop-clause-stops
 returns-in-Err-Stop-clause-stops g c =
     let old : Stage = site g.P.Packs.tells g.P.Packs.held g.T.Sink.tells g.T.Sink.taken c.args.subsystem.now.world c.args.packs.now c.args.trace.now in
@@ -55,6 +76,12 @@ returns-in-Err-Stop-clause-stops g c =
     written_stops c.args.unit c.args.first c.args.count c.loop-k.k c.args.from.now c.args.cache.now c.loop-k.cache old mid new c.loop-k-test.true
     c.loop-k.invariant.setup c.in-Err-Stop.ensures.keeps.never_again c.loop-k.invariant.so_far c.in-Err-Stop.ensures.holds
 
+pub returns-in-Err-Stop-clause-keeps : goal.returns-in-Err-Stop-clause-keeps
+returns-in-Err-Stop-clause-keeps g c =
+    keeps_join g.P.Packs.tells g.P.Packs.faults g.T.Sink.tells g.T.Sink.faults c.args.subsystem.now c.loop-k.subsystem c.write.new.subsystem c.args.packs.now c.loop-k.packs c.write.new.packs
+    c.args.trace.now c.loop-k.trace c.write.new.trace (Some c.in-Err-Stop.stop) c.loop-k.invariant.keeps
+    (subst (λ (z : Option Stop). Keeps g.P.Packs.tells g.P.Packs.faults g.T.Sink.tells g.T.Sink.faults c.loop-k.subsystem c.write.new.subsystem c.loop-k.packs c.write.new.packs c.loop-k.trace c.write.new.trace z) (ap (λ (z : CacheFault). stop_of {A = Unit {0}} (Err z)) c.in-Err-Stop.field-0-is) c.in-Err-Stop.ensures.keeps)
+
 pub returns-clause-writes : goal.returns-clause-writes
 returns-clause-writes g c =
     let old : Stage = site g.P.Packs.tells g.P.Packs.held g.T.Sink.tells g.T.Sink.taken c.args.subsystem.now.world c.args.packs.now c.args.trace.now in
@@ -62,3 +89,15 @@ returns-clause-writes g c =
     let end = c.loop-k.auto.k-end in
     let over = c.loop-k-test.false in
     written_all c.args.unit c.args.first c.args.count c.loop-k.k c.args.from.now c.args.cache.now c.loop-k.cache old new (omega (arith, end, over)) c.loop-k.invariant.so_far
+
+pub returns-clause-setup : goal.returns-clause-setup
+returns-clause-setup g c =
+    c.loop-k.invariant.setup
+
+pub returns-clause-may : goal.returns-clause-may
+returns-clause-may g c =
+    c.loop-k.invariant.may
+
+pub returns-clause-keeps : goal.returns-clause-keeps
+returns-clause-keeps g c =
+    c.loop-k.invariant.keeps

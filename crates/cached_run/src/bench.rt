@@ -1,0 +1,41 @@
+// What a script is played with.
+ghost use Rattle.std.specs.Prelude.{◌≡◌, ◌≤◌, [], false, IfOk};
+ghost use Rattle.driver_machine.specs.World.{new_world};
+ghost use Rattle.driver_answers.specs.Passes.{AreSetups};
+ghost use Rattle.hp_core.specs.Setups.{setups_of};
+ghost use Rattle.cached_run.specs.Lines.{IsRoomy};
+
+use crate::desk::Desk;
+use buffer_cache::{Cache, Subsystem};
+use hp_core::UnitSetup;
+use outside_traits::traits::NoMemory;
+use std::alloc::Global;
+
+/// The driver of a script's units, which takes one request at a time, with a cache before it and the desk for its answers.
+#[derive(Drop)]
+pub(crate) struct Bench {
+    pub(crate) subsystem: Subsystem,
+    pub(crate) cache: Cache,
+    pub(crate) desk: Desk,
+}
+
+impl Bench {
+    /// A new driver for these units, an empty cache of so many blocks, and an empty desk.
+    pub(crate) fn new(alloc: Global, units: &[UnitSetup], capacity: u32) -> Result<Bench, NoMemory>
+        requires setups { AreSetups (setups_of units.now) }
+        requires some { 1 ≤ capacity }
+        requires most { capacity ≤ 4096 }
+        ensures subsystem { IfOk result (λ bench. bench.subsystem ≡ record { world = new_world (setups_of units.now) 1 0; outstanding = 1; failed = false; kept = [] }) }
+        ensures cache { IfOk result (λ bench. bench.cache.entries ≡ []) }
+        ensures desk { IfOk result (λ bench. IsRoomy bench.desk.gather bench.desk.blocks.items) }
+    {
+        let desk = Desk::new(alloc)?;
+        let cache = Cache::new(alloc, capacity)?;
+        let subsystem = Subsystem::new(alloc, units, 1, 0)?;
+        Ok(Bench {
+            subsystem,
+            cache,
+            desk,
+        })
+    }
+}
