@@ -1,6 +1,6 @@
 -- WHAT A TRANSFER ENDS WITH, from what its parts answer.
 use Rattle.std.proofs.Common.{◌≡◌, ◌⊎◌, inl, inr, ℕ, ◌+◌, ◌<◌, ◌≤◌, Bool, false, IsTrue, List, [], ◌++◌, take, length, Ok, Err, refl, sym, ap, subst, ◌∙◌, arith, append-nil, length-append}
-use Rattle.std.specs.Prelude.{Some, Result, IsErrAnd, OnOk, OnErr, ◌*◌, ◌↔◌}
+use Rattle.std.specs.Prelude.{Some, Result, IsErrAnd, OnOk, OnErr, ◌*◌}
 use Rattle.std.proofs.Math.Seq.{take-length}
 use Rattle.std.proofs.lemmas.List.{length-take-le}
 use Rattle.partitions.specs.declared.Part.{Part}
@@ -125,9 +125,6 @@ within (Dump unit kind) n inside = elim (less_or n 8388608) [ inl le ↦ le | in
 pub false_is : (b : Bool) → b ≡ false → IsTrue b → ⊥
 false_is b e t = grind (arith, e, t)
 
-pub not_beyond : (w : Writing) (b : Bool) (n m k : ℕ) → (IsTrue b ↔ IsBeyond w n) → b ≡ false → n ≡ k → m ≡ k → ¬ (IsBeyond w m)
-not_beyond w b n m k iff e one two is = false_is b e (iff.1 (subst (λ (x : ℕ). IsBeyond w x) (two ∙ sym one) is))
-
 pub took_so : (w : Writing) (from items : List ℕ) (limit : ℕ) (old new : Outside) → from ≡ items → (IsTrue new.source_tells → old.left ≡ items ++ new.left)
     → (IsTrue new.source_tells → (new.left ≡ []) ⊎ (limit < length items)) → limit ≡ limit_of w → ¬ (IsBeyond w (length from)) → Took w from old new
 took_so w from items limit old new e all end is inside =
@@ -139,6 +136,11 @@ took_so w from items limit old new e all end is inside =
       ];
       inside = inside;
     }
+
+-- a limit that is the writing's, of the bytes that were taken
+pub limited : (left : List ℕ) (limit its : ℕ) (from items : List ℕ) → from ≡ items → limit ≡ its → (left ≡ []) ⊎ (limit < length items) → (left ≡ []) ⊎ (its < length from)
+limited left limit its from items same e end =
+    subst (λ (xs : List ℕ). (left ≡ []) ⊎ (its < length xs)) (sym same) (subst (λ (n : ℕ). (left ≡ []) ⊎ (n < length items)) e end)
 
 -- what is not printed
 silent_text : (unit : ℕ) (f : TransferFault) → IsSilent f → fault_text unit f ≡ []
