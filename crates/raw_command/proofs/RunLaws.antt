@@ -125,14 +125,13 @@ within (Dump unit kind) n inside = elim (less_or n 8388608) [ inl le ↦ le | in
 pub false_is : (b : Bool) → b ≡ false → IsTrue b → ⊥
 false_is b e t = grind (arith, e, t)
 
-pub took_so : (w : Writing) (from items : List ℕ) (limit : ℕ) (old new : Outside) → from ≡ items → (IsTrue new.source_tells → old.left ≡ items ++ new.left)
-    → (IsTrue new.source_tells → (new.left ≡ []) ⊎ (limit < length items)) → limit ≡ limit_of w → ¬ (IsBeyond w (length from)) → Took w from old new
-took_so w from items limit old new e all end is inside =
-    let few : length from ≤ limit_of w = within w (length from) inside in
-    let same : length from ≡ length items = ap (λ (xs : List ℕ). length xs) e in record {
+pub took_so : (w : Writing) (from : List ℕ) (old new : Outside) → (IsTrue new.source_tells → old.left ≡ from ++ new.left)
+    → (IsTrue new.source_tells → (new.left ≡ []) ⊎ (limit_of w < length from)) → ¬ (IsBeyond w (length from)) → Took w from old new
+took_so w from old new all end inside =
+    let few : length from ≤ limit_of w = within w (length from) inside in record {
       read = λ t. elim (end t) [
-        | inl none ↦ (all t ∙ ap (λ (xs : List ℕ). items ++ xs) none ∙ append-nil items ∙ sym e, none)
-        | inr more ↦ absurd (omega (arith, more, few, same, is))
+        | inl none ↦ (all t ∙ ap (λ (xs : List ℕ). from ++ xs) none ∙ append-nil from, none)
+        | inr more ↦ absurd (omega (arith, more, few))
       ];
       inside = inside;
     }

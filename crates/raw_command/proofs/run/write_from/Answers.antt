@@ -3,7 +3,7 @@ use Rattle.std.proofs.Common.{inr, refl, ap, length, Some, Err, subst, sym, ◌�
 use Rattle.outside_traits.specs.Puts.{TakesFront}
 use Rattle.pack_geometry.specs.declared.DriveKind.{DriveKind}
 use Rattle.command_parts.specs.Outside.{outside}
-use Rattle.raw_command.specs.Endings.{IsBeyond, kind_of, limit_of, target_for, unit_of}
+use Rattle.raw_command.specs.Endings.{IsBeyond, kind_of, target_for, unit_of}
 use Rattle.raw_command.specs.Faults.{code_of, done_by}
 use Rattle.raw_command.specs.declared.fault.TransferFault.{TransferFault}
 use Rattle.raw_command.specs.declared.fault.TransferFault.TheVariants as fault
@@ -19,7 +19,7 @@ returns-in-Ok-write_all-clause-ends g c tells tells' left left' faults faults' a
     record {
       from = c.args.from.now;
       writes = record {
-        took = took_so c.args.writing c.args.from.now _ (limit_of c.args.writing) _ _ refl all end refl inside;
+        took = took_so c.args.writing c.args.from.now _ _ all end inside;
         written = c.in-Ok.ensures.writes _ refl;
       };
       told = λ t. c.in-Ok-write_all.ensures.bytes t ∙ ap (λ (text : List ℕ). g.O.Sink.taken c.args.out.now ++ text) (c.as_bytes.ensures.text ∙ c.done_line.ensures);
@@ -31,7 +31,7 @@ returns-in-Err-write_all-clause-ends g c tells tells' left left' faults faults' 
     inr (record {
       from = c.args.from.now;
       writes = record {
-        took = took_so c.args.writing c.args.from.now _ (limit_of c.args.writing) _ _ refl all end refl inside;
+        took = took_so c.args.writing c.args.from.now _ _ all end inside;
         written = c.in-Ok.ensures.writes _ refl;
       };
       rose = c.in-Err-write_all.ensures.cause.failed;
@@ -48,7 +48,7 @@ returns-in-Err-clause-ends g c tells tells' left left' faults faults' all end =
     let e = c.in-Err.ensures in
     let r = c.refuse-in-Err.ensures in
     let inside : ¬ (IsBeyond c.args.writing (length c.args.from.now)) = λ is. false_is c.is_beyond.result c.if-is_beyond.false (c.is_beyond.ensures.1 is) in
-    let took = took_so w from _ (limit_of c.args.writing) _ _ refl all end refl inside in
+    let took = took_so w from _ _ all end inside in
     let told : IsTrue (g.O.Sink.tells c.refuse-in-Err.new.out) → Told (g.O.Sink.taken c.args.out.now) (g.O.Sink.taken c.refuse-in-Err.new.out) (fault_text (unit_of w) f) (g.O.Sink.faults c.args.out.now) (g.O.Sink.faults c.refuse-in-Err.new.out) =
     λ t. subst (λ (u : ℕ). Told (g.O.Sink.taken c.args.out.now) (g.O.Sink.taken c.refuse-in-Err.new.out) (fault_text u f) (g.O.Sink.faults c.args.out.now) (g.O.Sink.faults c.refuse-in-Err.new.out))
     c.unit-in-Err.ensures (r.told t) in
