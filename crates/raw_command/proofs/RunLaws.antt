@@ -1,6 +1,6 @@
 -- WHAT A TRANSFER ENDS WITH, from what its parts answer.
 use Rattle.std.proofs.Common.{◌≡◌, ◌⊎◌, inl, inr, ℕ, ◌+◌, ◌<◌, ◌≤◌, Bool, false, IsTrue, List, [], ◌++◌, take, length, Ok, Err, refl, sym, ap, subst, ◌∙◌, arith, append-nil, length-append}
-use Rattle.std.specs.Prelude.{Some, Result, OnOk, OnErr, ◌*◌, ◌↔◌}
+use Rattle.std.specs.Prelude.{Some, Result, IsErrAnd, OnOk, OnErr, ◌*◌}
 use Rattle.std.proofs.Math.Seq.{take-length}
 use Rattle.std.proofs.lemmas.List.{length-take-le}
 use Rattle.partitions.specs.declared.Part.{Part}
@@ -12,13 +12,16 @@ use Rattle.trace_laws.specs.Bytes.{IsOutside}
 use Rattle.driver_answers.specs.declared.outcome.Stop.TheVariants as stopped
 use Rattle.command_parts.specs.Lines.{Told}
 use Rattle.command_parts.specs.Outside.{HasItsCause, Outside}
-use Rattle.raw_command.specs.Endings.{GivesAll, GivesCut, GivesFront, IsBeyond, IsTooLong, IsUntouched, ReadEnds, Stays, Took, WriteEnds, bytes_for, fault_text, kind_of, limit_of, target_for, unit_of}
-use Rattle.raw_command.specs.Faults.{Answer, IsReadCode, IsBefore, IsOfUnit, IsSilent, code_of, stop_of}
+use Rattle.raw_command.specs.Endings.{GivesAll, GivesCut, GivesFront, IsBeyond, IsRefused, IsTooLong, IsUntouched, Ends, ReadEnds, Stays, Took, WriteEnds, bytes_for, fault_text, kind_of, limit_of, target_for, unit_of}
+use Rattle.raw_command.specs.Faults.{Answer, IsReadCode, IsTransferCode, IsBefore, IsOfUnit, IsSilent, code_of, stop_of}
 use Rattle.raw_command.specs.Transfers.{HasRead, LeftRead, LeftWritten}
 use Rattle.raw_command.specs.Units.{IsFoundLong}
 use Rattle.raw_command.specs.declared.fault.TransferFault.{TransferFault}
 use Rattle.raw_command.specs.declared.fault.TransferFault.TheVariants as fault
 use Rattle.command_parts.specs.declared.words.Target.{Target}
+use Rattle.command_parts.specs.Words.{reads_source}
+use Rattle.command_parts.specs.declared.words.Transfer.{Transfer}
+use Rattle.command_parts.specs.declared.words.Transfer.TheVariants.{Read, Write}
 use Rattle.command_parts.specs.declared.words.Writing.{Writing}
 use Rattle.command_parts.specs.declared.words.Writing.TheVariants.{Raw, Dump}
 
@@ -64,7 +67,20 @@ write_fault {from = from} fault.Sink took is front left = inl (is.sink refl, rec
 write_fault fault.Source took is front left = absurd is.only
 write_fault fault.Outside took is front left = absurd is.only
 
+-- a read that is refused, or for which there is no memory
+pub read_outside : (t : Target) (size : ℕ) {old new : Outside} {why : TransferFault} → why ≡ fault.Outside → IsOutside t.kind t.part t.at size → IsRefused t.unit fault.Outside old new
+    → ReadEnds t size (Err why) old new
+read_outside t size {old = old} {new = new} e outside is = subst (λ (f : TransferFault). ReadEnds t size (Err f) old new) (sym e) (outside, is)
+
+pub read_memory : (t : Target) (size : ℕ) (old : Outside) (answer : Answer) → IsErrAnd answer (λ e. e ≡ fault.Memory) → ¬ (IsOutside t.kind t.part t.at size) → ReadEnds t size answer old old
+read_memory t size old (Ok value) e inside = absurd e
+read_memory t size old (Err f) e inside =
+    subst (λ (f : TransferFault). ReadEnds t size (Err f) old old) (sym e) (inside, record { packs = λ t. refl; trace = refl; out = refl })
+
 -- ---- WHAT STAYS, by the answer
+pub stays_same : {P O T : Type 0} {packs : P} {out : O} {trace : T} (code : ℕ) → Stays code packs packs out out trace trace
+stays_same code = record { untouched = λ e. refl; silent = λ e. refl; untraced = λ e. refl }
+
 module _ {P O T : Type 0} {packs packs' : P} {out out' : O} {trace trace' : T} where
   -- where a status is none of these
   pub stays_by : (code : ℕ) → (code ≡ 4 → ⊥) → (code ≡ 7 → ⊥) → (code ≡ 9 → ⊥) → Stays code packs packs' out out' trace trace'
@@ -106,23 +122,24 @@ pub within : (w : Writing) (n : ℕ) → ¬ (IsBeyond w n) → n ≤ limit_of w
 within (Raw t) n inside = elim (less_or n 16777216) [ inl le ↦ le | inr more ↦ absurd (inside (inl more)) ]
 within (Dump unit kind) n inside = elim (less_or n 8388608) [ inl le ↦ le | inr more ↦ absurd (inside more) ]
 
-false_is : (b : Bool) → b ≡ false → IsTrue b → ⊥
+pub false_is : (b : Bool) → b ≡ false → IsTrue b → ⊥
 false_is b e t = grind (arith, e, t)
 
-pub not_beyond : (w : Writing) (b : Bool) (n m k : ℕ) → (IsTrue b ↔ IsBeyond w n) → b ≡ false → n ≡ k → m ≡ k → ¬ (IsBeyond w m)
-not_beyond w b n m k iff e one two is = false_is b e (iff.1 (subst (λ (x : ℕ). IsBeyond w x) (two ∙ sym one) is))
-
-pub took_so : (w : Writing) (from items : List ℕ) (limit : ℕ) (old new : Outside) → from ≡ items → (IsTrue new.source_tells → old.left ≡ items ++ new.left)
-    → (IsTrue new.source_tells → (new.left ≡ []) ⊎ (limit < length items)) → limit ≡ limit_of w → ¬ (IsBeyond w (length from)) → Took w from old new
-took_so w from items limit old new e all end is inside =
-    let few : length from ≤ limit_of w = within w (length from) inside in
-    let same : length from ≡ length items = ap (λ (xs : List ℕ). length xs) e in record {
+pub took_so : (w : Writing) (from : List ℕ) (old new : Outside) → (IsTrue new.source_tells → old.left ≡ from ++ new.left)
+    → (IsTrue new.source_tells → (new.left ≡ []) ⊎ (limit_of w < length from)) → ¬ (IsBeyond w (length from)) → Took w from old new
+took_so w from old new all end inside =
+    let few : length from ≤ limit_of w = within w (length from) inside in record {
       read = λ t. elim (end t) [
-        | inl none ↦ (all t ∙ ap (λ (xs : List ℕ). items ++ xs) none ∙ append-nil items ∙ sym e, none)
-        | inr more ↦ absurd (omega (arith, more, few, same, is))
+        | inl none ↦ (all t ∙ ap (λ (xs : List ℕ). from ++ xs) none ∙ append-nil from, none)
+        | inr more ↦ absurd (omega (arith, more, few))
       ];
       inside = inside;
     }
+
+-- a limit that is the writing's, of the bytes that were taken
+pub limited : (left : List ℕ) (limit its : ℕ) (from items : List ℕ) → from ≡ items → limit ≡ its → (left ≡ []) ⊎ (limit < length items) → (left ≡ []) ⊎ (its < length from)
+limited left limit its from items same e end =
+    subst (λ (xs : List ℕ). (left ≡ []) ⊎ (its < length xs)) (sym same) (subst (λ (n : ℕ). (left ≡ []) ⊎ (n < length items)) e end)
 
 -- what is not printed
 silent_text : (unit : ℕ) (f : TransferFault) → IsSilent f → fault_text unit f ≡ []
@@ -238,3 +255,30 @@ write_causes w (Err (fault.Unusable done)) ends = no_cause (λ e. omega (arith, 
 write_causes w (Err fault.Store) ends = record { source = λ e. absurd (omega (arith, e)); sink = λ e. absurd (omega (arith, e)); store = λ e. ends.0 }
 write_causes w (Err fault.Sink) ends = record { source = λ e. absurd (omega (arith, e)); sink = λ e. written_rose w ends; store = λ e. absurd (omega (arith, e)) }
 write_causes w (Err fault.Source) ends = record { source = λ e. ends.0; sink = λ e. absurd (omega (arith, e)); store = λ e. absurd (omega (arith, e)) }
+
+-- ---- THE TRANSFER, by the two cases
+pub read_is : (transfer : Transfer) (t : Target) (size : ℕ) (answer : Answer) (old new : Outside) → transfer ≡ Read t size → ReadEnds t size answer old new → Ends transfer answer old new
+read_is transfer t size answer old new e ends = subst (λ (x : Transfer). Ends x answer old new) (sym e) ends
+
+pub write_is : (transfer : Transfer) (w : Writing) (answer : Answer) (old new : Outside) → transfer ≡ Write w → WriteEnds w answer old new
+    → (IsTrue new.source_tells → length old.left ≤ length new.left + limit_of w + 1) → Ends transfer answer old new
+write_is transfer w answer old new e ends taken = subst (λ (x : Transfer). Ends x answer old new) (sym e) (ends, taken)
+
+write_status : (answer : Answer) → IsReadCode (code_of answer) ⊎ (code_of answer ≡ 4)
+write_status (Ok value) = inl (inl refl)
+write_status (Err fault.Outside) = inl (inr (inr (inr (inr (inr refl)))))
+write_status (Err fault.Memory) = inl (inr (inr (inr (inr (inl refl)))))
+write_status (Err (fault.TooLong n)) = inl (inr (inr (inr (inl refl))))
+write_status (Err (fault.Unusable done)) = inl (inr (inr (inr (inr (inr refl)))))
+write_status (Err fault.Store) = inl (inr (inr (inl refl)))
+write_status (Err fault.Sink) = inl (inr (inl refl))
+write_status (Err fault.Source) = inr refl
+
+pub write_code : (transfer : Transfer) (w : Writing) (answer : Answer) → transfer ≡ Write w → IsTransferCode transfer (code_of answer)
+write_code transfer w answer e = subst (λ (x : Transfer). IsTransferCode x (code_of answer)) (sym e) (write_status answer)
+
+pub write_reads : (transfer : Transfer) (w : Writing) → transfer ≡ Write w → reads_source transfer ≡ false → ⊥
+write_reads transfer w e none = its (subst (λ (x : Transfer). reads_source x ≡ false) e none)
+  where
+    its : reads_source (Write w) ≡ false → ⊥
+    its same = cc

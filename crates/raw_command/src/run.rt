@@ -1,5 +1,5 @@
 // Transfers from a source, or to a sink.
-ghost use Rattle.std.specs.Prelude.{◌≡◌, ◌↔◌, ◌+◌, ◌*◌, ◌≤◌, ◌<◌, ℕ, Bool, false, IsTrue, List, IfOk, length, vec_len};
+ghost use Rattle.std.specs.Prelude.{◌≡◌, ◌↔◌, ◌⊎◌, ◌+◌, ◌*◌, ◌≤◌, ◌<◌, ◌++◌, ℕ, Bool, false, IsTrue, List, [], IfOk, length, vec_len};
 ghost use Rattle.partitions.specs.Partitions.{size_of};
 ghost use Rattle.command_parts.specs.Lines.{Told};
 ghost use Rattle.command_parts.specs.Outside.{HasItsCause, outside};
@@ -135,6 +135,36 @@ fn run_read<P: Packs, O: Sink, T: Sink>(
     read_to(alloc, target, bytes.as_mut_slice(), packs, out, trace)
 }
 
+/// Writes the bytes that were read of a source to a unit, and tells how many they are.
+fn write_from<P: Packs, O: Sink, T: Sink>(
+    alloc: Global,
+    writing: Writing,
+    from: &[u8],
+    packs: &mut P,
+    out: &mut O,
+    trace: &mut T,
+) -> Result<(), TransferFault>
+    requires placed { IsPlaced writing }
+    ensures ends { (tells tells' : Bool) → (left left' : List ℕ) → (faults faults' : ℕ) → (IsTrue tells' → left ≡ from.now ++ left')
+        → (IsTrue tells' → (left' ≡ []) ⊎ (limit_of writing < length from.now)) → WriteEnds writing result
+        (outside (λ (_ : Unit {0}). tells) (λ _. left) (λ _. faults) P.tells P.held P.faults O.tells O.taken O.faults T.tells T.taken T.faults tt packs.old out.old trace.old)
+        (outside (λ (_ : Unit {0}). tells') (λ _. left') (λ _. faults') P.tells P.held P.faults O.tells O.taken O.faults T.tells T.taken T.faults tt packs.new out.new trace.new) }
+    ensures stays { Stays (code_of result) packs.old packs.new out.old out.new trace.old trace.new }
+{
+    if is_beyond(writing, from.len()) {
+        return Err(refuse(out, unit(writing), TransferFault::Outside));
+    }
+    match put(alloc, writing, from, packs, trace) {
+        Ok(()) => {
+            match write_all(out, done_line(writing, from.len()).as_bytes()) {
+                Ok(()) => Ok(()),
+                Err(_) => Err(TransferFault::Sink),
+            }
+        }
+        Err(fault) => Err(refuse(out, unit(writing), fault)),
+    }
+}
+
 /// Reads the source to its end, or to one byte more than may be written, and writes its bytes to a unit.
 fn run_write<S: Source, P: Packs, O: Sink, T: Sink>(
     alloc: Global,
@@ -152,18 +182,7 @@ fn run_write<S: Source, P: Packs, O: Sink, T: Sink>(
     ensures stays { Stays (code_of result) packs.old packs.new out.old out.new trace.old trace.new }
 {
     let from = read_all(alloc, source, limit(writing))?;
-    if is_beyond(writing, from.len()) {
-        return Err(refuse(out, unit(writing), TransferFault::Outside));
-    }
-    match put(alloc, writing, from.as_slice(), packs, trace) {
-        Ok(()) => {
-            match write_all(out, done_line(writing, from.len()).as_bytes()) {
-                Ok(()) => Ok(()),
-                Err(_) => Err(TransferFault::Sink),
-            }
-        }
-        Err(fault) => Err(refuse(out, unit(writing), fault)),
-    }
+    write_from(alloc, writing, from.as_slice(), packs, out, trace)
 }
 
 /// Transfers bytes of a partition: reads them and gives them to `out`, or writes those of the source, and tells how many; the lines of its
