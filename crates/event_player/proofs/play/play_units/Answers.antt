@@ -1,9 +1,8 @@
-use Rattle.std.proofs.Common.{ℕ, List, [], ◌++◌, ◌≡◌, ◌≤◌, ◌⊎◌, inl, inr, refl, ap, sym, subst, ◌∙◌, append-nil, arith, IsTrue, Bool}
+use Rattle.std.proofs.Common.{ℕ, List, [], ◌++◌, ◌≡◌, ◌≤◌, inl, inr, refl, ap, sym, subst, ◌∙◌, append-nil, arith}
 use Rattle.std.specs.Prelude.{Result, Ok, Err, IfOk, IfErr, OnOk, IsErrOf}
 use Rattle.script_reader.specs.Meaning.{meaning_of}
 use Rattle.answer_lines.specs.Counting.{tally_by}
 use Rattle.answer_lines.specs.declared.tally.Tally.{Tally}
-use Rattle.outside_traits.specs.Causes.{Rose}
 use Rattle.play_faults.specs.declared.fault.PlayFault.{PlayFault}
 use Rattle.play_faults.specs.declared.fault.PlayFault.TheVariants as fault
 use Rattle.play_faults.specs.Faults.{IsBefore, Rise}
