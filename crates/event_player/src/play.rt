@@ -101,22 +101,22 @@ fn play_lines<P: Packs, O: Sink, T: Sink>(
 
 /// Where the packs failed all that is kept is sent, lines first, whatever comes of it.
 fn send_rest<O: Sink, T: Sink>(
-    fault: PlayFault,
+    played: Result<Tally, PlayFault>,
     subsystem: &mut Subsystem,
     desk: &mut Desk,
     out: &mut O,
     trace: &mut T,
 )
-    ensures lines { fault ≡ Store → TakesRest (took T.tells T.taken T.faults trace.old trace.new) [] subsystem.old.kept }
-    ensures answers { fault ≡ Store → TakesRest (took O.tells O.taken O.faults out.old out.new) [] desk.old.gather }
-    ensures same { (fault ≡ Store → ⊥) → (out.new ≡ out.old) × (trace.new ≡ trace.old) }
+    ensures lines { IsErrOf played Store → TakesRest (took T.tells T.taken T.faults trace.old trace.new) [] subsystem.old.kept }
+    ensures answers { IsErrOf played Store → TakesRest (took O.tells O.taken O.faults out.old out.new) [] desk.old.gather }
+    ensures same { (IsErrOf played Store → ⊥) → (out.new ≡ out.old) × (trace.new ≡ trace.old) }
     ensures never_again { IsTrue (O.tells out.new) → IsTrue (O.tells out.old) }
     ensures never_again_trace { IsTrue (T.tells trace.new) → IsTrue (T.tells trace.old) }
     ensures later { O.faults out.old ≤ O.faults out.new }
     ensures later_trace { T.faults trace.old ≤ T.faults trace.new }
     ensures tally { desk.new.tally ≡ desk.old.tally }
 {
-    if let PlayFault::Store = fault {
+    if let Err(PlayFault::Store) = played {
         let _ = subsystem.send(trace);
         let _ = desk.gather.flush(out);
     }
@@ -150,7 +150,7 @@ fn play_units<P: Packs, O: Sink, T: Sink>(
     let noises = count_noises(script);
     let mut bench = Bench::new(alloc, u64::from(requests))?;
     let mut subsystem = Subsystem::new(alloc, units, requests, noises)?;
-    match play_lines(
+    let played = play_lines(
         script,
         &mut subsystem,
         bench.room.as_mut_slice(),
@@ -158,13 +158,9 @@ fn play_units<P: Packs, O: Sink, T: Sink>(
         packs,
         out,
         trace,
-    ) {
-        Ok(tally) => Ok(tally),
-        Err(fault) => {
-            send_rest(fault, &mut subsystem, &mut bench.desk, out, trace);
-            Err(fault)
-        }
-    }
+    );
+    send_rest(played, &mut subsystem, &mut bench.desk, out, trace);
+    played
 }
 
 /// Plays a script line by line, and behind its last line a drain, whose number is the number of lines plus one. Its lines are kept for

@@ -1,12 +1,13 @@
 -- Laws of attaching: behind some lines of a script its units are set up, their images fit, and their tables are those of their packs.
 use Rattle.std.proofs.Common.{◌≡◌, inl, inr, ℕ, suc, ◌+◌, ◌*◌, ◌<◌, ◌≤◌, Bool, true, false, IsTrue, List, [], ◌∷◌, ◌++◌, length, map, drop, refl, sym, ap, subst, ◌∙◌, arith, Option, Some, None}
-use Rattle.std.specs.Prelude.{if◌then◌else◌, ◌==◌, slice_index_or, Box, Result, Ok, Err, IfErr}
+use Rattle.std.specs.Prelude.{if◌then◌else◌, ◌==◌, slice_index_or, Box, Result, Ok, Err, IfErr, IfOk, OnOk}
 use Rattle.std.specs.Result.{IsErrAnd}
 use Rattle.std.specs.Box.{box_value}
 use Rattle.std.specs.declared.alloc.Global.{Global}
 use Rattle.std.proofs.lemmas.Bool.{eqb-true}
 use Rattle.std.proofs.lemmas.Option.{none-some}
 use Rattle.std.proofs.Math.Seq.{drop-cons}
+use Rattle.outside_traits.specs.Causes.{Rose}
 use Rattle.pack_geometry.specs.declared.DriveKind.{DriveKind}
 use Rattle.pack_geometry.specs.Geometry.{block_count}
 use Rattle.pack_geometry.specs.Pack.{Pack}
@@ -226,6 +227,30 @@ module _ (s : Stored) (i : ℕ) (line : Kept) (lt : i < length s.lines) (is : li
 pub at_fault : {T : Type 0} (result : Result T PlayFault) {fault : PlayFault} (P : PlayFault → Type 0) → IsErrAnd result (λ x. x ≡ fault) → P fault → IfErr result P
 at_fault (Ok v) P is p = tt
 at_fault (Err x) P is p = subst P (sym is) p
+
+-- where a fault is handed on there is no value, and it is the same fault
+pub not_given : {T : Type 0} (Q : T → Type 0) (result : Result T PlayFault) (fault : PlayFault) → IsErrAnd result (λ x. x ≡ fault) → IfOk result Q
+not_given Q (Ok v) fault is = absurd is
+not_given Q (Err x) fault is = tt
+
+pub not_ok : {T : Type 0} (P : Type 0) (result : Result T PlayFault) (fault : PlayFault) → IsErrAnd result (λ x. x ≡ fault) → OnOk result P
+not_ok P (Ok v) fault is = absurd is
+not_ok P (Err x) fault is = tt
+
+err_same : {T : Type 0} {a b : PlayFault} → ◌≡◌ {A = Result T PlayFault} (Err a) (Err b) → a ≡ b
+err_same is = cc
+
+pub fault_from : {T U : Type 0} (result : Result T PlayFault) {fault : PlayFault} (other : PlayFault) → IsErrAnd result (λ x. x ≡ fault) → result ≡ Err other
+    → ◌≡◌ {A = Result U PlayFault} (Err fault) (Err other)
+fault_from (Ok v) other is e = absurd is
+fault_from (Err x) other is e = ap Err (sym is ∙ err_same e)
+
+-- a count that rises further
+pub later_from : (a b c : ℕ) → a ≤ b → b ≤ c → a ≤ c
+later_from a b c le more = omega (arith, le, more)
+
+pub rose_from : (a b c : ℕ) → a ≤ b → Rose b c → Rose a c
+rose_from a b c le rose = omega (arith, le, rose)
 
 -- BEHIND THE LAST LINE
 pub attached_all : (s : Stored) (i : ℕ) (setups : List Setup) → length s.lines ≤ i → AreAttached (lines_before s i) setups → AreSetFor (meaning_of s) (tables_in setups) setups

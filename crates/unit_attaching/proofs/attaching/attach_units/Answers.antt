@@ -1,7 +1,8 @@
 use Rattle.std.proofs.Common.{◌≡◌, ◌<◌, ◌≤◌, length, subst, ◌∙◌, slice_index_or, List, arith}
 use Rattle.script_reader.specs.Stored.{Kept}
 use Rattle.hp_core.specs.Setups.{setups_of}
-use Rattle.unit_attaching.proofs.AttachLaws.{room_at, attached_at, told_at_line, long_at, at_fault, attached_all}
+use Rattle.play_faults.specs.declared.fault.PlayFault.TheVariants as faults
+use Rattle.unit_attaching.proofs.AttachLaws.{room_at, attached_at, told_at_line, long_at, at_fault, attached_all, told_all, not_given, not_ok, fault_from, later_from, rose_from}
 use Rattle.unit_attaching.proofs.attaching.attach_units.Goals as goal
 
 pub attach_line-requires : goal.attach_line-requires
@@ -39,21 +40,48 @@ loop-line-preserved g c =
       later = omega (arith, later_before, later_step);
     }
 
-pub returns-in_err-attach_line-clause-too_long : goal.returns-in_err-attach_line-clause-too_long
-returns-in_err-attach_line-clause-too_long g c =
+pub returns-in_err-attach_line : goal.returns-in_err-attach_line
+returns-in_err-attach_line g c =
     let s = c.args.script.now in
     let i = c.loop-line.line-index in
     let line = c.line-item.result in
     let lt : i < length s.lines = subst (λ (xs : List Kept). i < length xs) c.lines-line-items.ensures c.loop-line-test.true in
     let is : line ≡ slice_index_or s.lines i line = subst (λ (xs : List Kept). line ≡ slice_index_or xs i line) c.lines-line-items.ensures c.line-item.is in
     let units = (c.meaning_law.ensures.read s.text s c.requires.good).units in
-    at_fault _ _ c.from_residual.ensures.1
-    (long_at s i line lt is (g.P.Packs.tells c.attach_line.new.packs) (g.P.Packs.held c.loop-line.packs) (g.P.Packs.held c.args.packs.now) _ _ units
-    (λ t. c.loop-line.invariant.same (c.in_err-attach_line.ensures.never_again t)) (λ t. c.loop-line.invariant.told (c.in_err-attach_line.ensures.never_again t))
-    c.in_err-attach_line.ensures.refuses)
+    let before = c.loop-line.invariant in
+    let step = c.in_err-attach_line.ensures in
+    record {
+      set = not_given _ _ _ c.from_residual.ensures.1;
+      tables = not_given _ _ _ c.from_residual.ensures.1;
+      fits = not_ok _ _ _ c.from_residual.ensures.1;
+      too_long = at_fault _ _ c.from_residual.ensures.1
+          (long_at s i line lt is (g.P.Packs.tells c.attach_line.new.packs) (g.P.Packs.held c.loop-line.packs) (g.P.Packs.held c.args.packs.now) _ _ units
+          (λ t. c.loop-line.invariant.same (c.in_err-attach_line.ensures.never_again t)) (λ t. c.loop-line.invariant.told (c.in_err-attach_line.ensures.never_again t))
+          c.in_err-attach_line.ensures.refuses);
+      same = λ t. step.same t ∙ before.same (step.never_again t);
+      never_again = λ t. before.never_again (step.never_again t);
+      later = later_from _ _ _ before.later step.later;
+      store = λ e. rose_from _ _ _ before.later (step.store (fault_from _ faults.Store c.from_residual.ensures.1 e));
+      no_sink = λ e. step.no_sink (fault_from _ faults.Sink c.from_residual.ensures.1 e);
+    }
 
 pub returns-clause-set : goal.returns-clause-set
 returns-clause-set g c =
     let s = c.args.script.now in
     let all : length s.lines ≤ c.loop-line.line-index = subst (λ (xs : List Kept). length xs ≤ c.loop-line.line-index) c.lines-line-items.ensures c.loop-line-test.false in
     attached_all s c.loop-line.line-index (setups_of c.loop-line.units.items) all c.loop-line.invariant.attached
+
+pub returns-clause-tables : goal.returns-clause-tables
+returns-clause-tables g c =
+    let s = c.args.script.now in
+    let all : length s.lines ≤ c.loop-line.line-index = subst (λ (xs : List Kept). length xs ≤ c.loop-line.line-index) c.lines-line-items.ensures c.loop-line-test.false in
+    λ t. (told_all s c.loop-line.line-index (g.P.Packs.held c.args.packs.now) (setups_of c.loop-line.units.items) all (c.loop-line.invariant.told t)).tables
+
+pub returns-clause-same : goal.returns-clause-same
+returns-clause-same g c = c.loop-line.invariant.same
+
+pub returns-clause-never_again : goal.returns-clause-never_again
+returns-clause-never_again g c = c.loop-line.invariant.never_again
+
+pub returns-clause-later : goal.returns-clause-later
+returns-clause-later g c = c.loop-line.invariant.later
