@@ -8,7 +8,6 @@ mod runs;
 mod shows;
 mod stops;
 mod sweeps;
-mod texts;
 
 pub use directives::perform;
 pub use row_packs::RowPacks;

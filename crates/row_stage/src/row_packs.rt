@@ -41,13 +41,16 @@ fn put_in(track: &mut Vec<u8>, from: usize, bytes: &[u8; 512]) -> Result<(), All
     Ok(())
 }
 
-/// A copy of all tracks.
-fn copy_of(alloc: Global, tracks: &[Vec<u8>]) -> Result<Vec<Vec<u8>>, AllocError> {
-    let mut copies = Vec::new(alloc);
+/// Puts a copy of each track behind others.
+fn add_copies(
+    copies: &mut Vec<Vec<u8>>,
+    alloc: Global,
+    tracks: &[Vec<u8>],
+) -> Result<(), AllocError> {
     for track in tracks {
         copies.push(Vec::from_slice(alloc, track.as_slice())?)?;
     }
-    Ok(copies)
+    Ok(())
 }
 
 impl RowPacks {
@@ -66,17 +69,18 @@ impl RowPacks {
 
     /// A copy, of which these calls fail.
     pub(crate) fn copy(&self, fails: [u64; 8]) -> Result<RowPacks, NoMemory> {
-        let tracks = copy_of(self.alloc, self.tracks.as_slice())?;
-        let marks = Vec::from_slice(self.alloc, self.marks.as_slice())?;
-        Ok(RowPacks {
-            alloc: self.alloc,
-            tracks,
-            marks,
-            rooms: self.rooms,
-            lengths: self.lengths,
-            fails,
-            calls: [0; 8],
-        })
+        let mut packs = RowPacks::new(self.alloc);
+        packs.take_copies(self)?;
+        packs.rooms = self.rooms;
+        packs.lengths = self.lengths;
+        packs.fails = fails;
+        Ok(packs)
+    }
+
+    /// Copies the tracks and marks of other packs to these, which have none.
+    fn take_copies(&mut self, other: &RowPacks) -> Result<(), AllocError> {
+        add_copies(&mut self.tracks, self.alloc, other.tracks.as_slice())?;
+        self.marks.extend_from_slice(other.marks.as_slice())
     }
 
     /// From now on these calls fail.
@@ -118,15 +122,20 @@ impl RowPacks {
         block: u32,
         bytes: &[u8; 512],
     ) -> Result<(), AllocError> {
-        let alloc = self.alloc;
         let (track, from) = place_of(unit, block);
-        for _ in self.tracks.len()..track.saturating_add(1) {
-            self.tracks.push(Vec::new(alloc))?;
-        }
+        self.extend_to(track)?;
         if let Some(track) = self.tracks.get_mut(track) {
             put_in(track, from, bytes)?;
         }
         self.set_length(unit, 512 * u64::from(block) + 512, true);
+        Ok(())
+    }
+
+    /// Adds empty tracks until there is one with this number.
+    fn extend_to(&mut self, track: usize) -> Result<(), AllocError> {
+        for _ in self.tracks.len()..track.saturating_add(1) {
+            self.tracks.push(Vec::new(self.alloc))?;
+        }
         Ok(())
     }
 
@@ -135,9 +144,22 @@ impl RowPacks {
         self.marks.contains(&(unit, block))
     }
 
+    /// Which of the marks is that of a block; how many they are where none is.
+    fn mark_of(&self, unit: u8, block: u32) -> usize {
+        for (at, marked) in self.marks.iter().enumerate() {
+            if *marked == (unit, block) {
+                return at;
+            }
+        }
+        self.marks.len()
+    }
+
     /// Marks a block, or takes its mark.
     pub(crate) fn mark(&mut self, unit: u8, block: u32, on: bool) -> Result<(), AllocError> {
-        self.marks.retain(|marked| *marked != (unit, block));
+        let at = self.mark_of(unit, block);
+        if at < self.marks.len() {
+            self.marks.remove(at);
+        }
         if on {
             self.marks.push((unit, block))?;
         }

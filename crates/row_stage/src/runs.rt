@@ -3,7 +3,7 @@ use crate::row_packs::RowPacks;
 use crate::stops::Watch;
 use mass_outside::mem_streams::{MemSink, MemSource};
 use outside_traits::traits::NoMemory;
-use std::alloc::Global;
+use std::alloc::{AllocError, Global};
 
 /// A program that runs the words of a command over packs, source and sinks, and answers its status.
 pub trait Program {
@@ -32,7 +32,7 @@ pub(crate) enum Operation {
 }
 
 /// The operations with their names.
-pub(crate) const OPERATIONS: [(&str, Operation); 8] = [
+pub(crate) static OPERATIONS: [(&str, Operation); 8] = [
     ("source", Operation::Source),
     ("out", Operation::Out),
     ("trace", Operation::Trace),
@@ -56,6 +56,13 @@ pub(crate) const NONE: Faults = Faults {
     fails: [0; 8],
     out_room: 20_000,
     trace_room: 40_000,
+};
+
+/// No call fails, and nothing can be said.
+const NO_ROOM: Faults = Faults {
+    fails: [0; 8],
+    out_room: 0,
+    trace_room: 0,
 };
 
 impl Faults {
@@ -82,6 +89,19 @@ pub(crate) struct Ran {
     pub(crate) trace: MemSink,
 }
 
+impl Ran {
+    /// A run that is still to come, with these faults.
+    fn new(alloc: Global, faults: Faults) -> Result<Ran, NoMemory> {
+        let out = sink_of(alloc, faults.out_room, faults.of(Operation::Out))?;
+        let trace = sink_of(alloc, faults.trace_room, faults.of(Operation::Trace))?;
+        Ok(Ran {
+            status: 0,
+            out,
+            trace,
+        })
+    }
+}
+
 /// What stands for the next steps of a row: packs, source, faults and watched blocks, the answer behind the sync, and what the last
 /// run came to.
 #[derive(Drop)]
@@ -98,11 +118,7 @@ pub struct Stage {
 impl Stage {
     /// A stage where nothing stands.
     pub fn new(alloc: Global) -> Result<Stage, NoMemory> {
-        let ran = Ran {
-            status: 0,
-            out: sink_of(alloc, 0, 0)?,
-            trace: sink_of(alloc, 0, 0)?,
-        };
+        let ran = Ran::new(alloc, NO_ROOM)?;
         Ok(Stage {
             alloc,
             packs: RowPacks::new(alloc),
@@ -124,16 +140,28 @@ impl Stage {
     }
 }
 
-/// The words of a line, where `""` is an empty one.
-fn words_of(alloc: Global, line: &str) -> Result<Vec<String>, NoMemory> {
-    let mut words = Vec::new(alloc);
+/// Puts a word behind others, where `""` is an empty one.
+fn add_word(words: &mut Vec<String>, alloc: Global, word: &str) -> Result<(), AllocError> {
+    let word = if word == "\"\"" { "" } else { word };
+    words.push(String::from_str(alloc, word)?)?;
+    Ok(())
+}
+
+/// Puts the words of a line behind others.
+fn add_words(words: &mut Vec<String>, alloc: Global, line: &str) -> Result<(), AllocError> {
     if line.is_empty() {
-        return Ok(words);
+        return Ok(());
     }
     for word in line.split(' ') {
-        let word = if word == "\"\"" { "" } else { word };
-        words.push(String::from_str(alloc, word)?)?;
+        add_word(words, alloc, word)?;
     }
+    Ok(())
+}
+
+/// The words of a line.
+fn words_of(alloc: Global, line: &str) -> Result<Vec<String>, AllocError> {
+    let mut words = Vec::new(alloc);
+    add_words(&mut words, alloc, line)?;
     Ok(words)
 }
 
@@ -158,11 +186,40 @@ pub(crate) fn run_line<P: Program>(
     packs: &mut RowPacks,
     faults: Faults,
 ) -> Result<Ran, NoMemory> {
-    let words = words_of(alloc, line)?;
+    let mut ran = Ran::new(alloc, faults)?;
     let mut source = source_of(alloc, source, faults.of(Operation::Source))?;
-    let mut out = sink_of(alloc, faults.out_room, faults.of(Operation::Out))?;
-    let mut trace = sink_of(alloc, faults.trace_room, faults.of(Operation::Trace))?;
-    let words = words.as_slice();
-    let status = program.run(alloc, words, &mut source, packs, &mut out, &mut trace);
-    Ok(Ran { status, out, trace })
+    run_into(program, alloc, line, &mut source, packs, &mut ran)?;
+    Ok(ran)
+}
+
+/// Runs the words of a line over packs and a source, and puts down what the run comes to.
+fn run_into<P: Program>(
+    program: &P,
+    alloc: Global,
+    line: &str,
+    source: &mut MemSource,
+    packs: &mut RowPacks,
+    ran: &mut Ran,
+) -> Result<(), AllocError> {
+    let words = words_of(alloc, line)?;
+    ran.status = program.run(
+        alloc,
+        words.as_slice(),
+        source,
+        packs,
+        &mut ran.out,
+        &mut ran.trace,
+    );
+    Ok(())
+}
+
+/// The status of the words of a line over packs, where no call fails.
+pub(crate) fn status_of<P: Program>(
+    program: &P,
+    alloc: Global,
+    line: &str,
+    source: &[u8],
+    packs: &mut RowPacks,
+) -> Result<u8, NoMemory> {
+    Ok(run_line(program, alloc, line, source, packs, NONE)?.status)
 }

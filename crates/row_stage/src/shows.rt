@@ -1,7 +1,8 @@
 // What is shown of a run, and of what it left.
 use crate::runs::Stage;
-use crate::texts::{
-    add_all, add_number, holds, piece_of, show_runs, small_number, span, split, times,
+use row_texts::{
+    add, add_between, add_line, add_number, holds, piece_of, show_runs, small_number, span, split,
+    times,
 };
 use std::alloc::AllocError;
 
@@ -13,15 +14,12 @@ pub(crate) fn show(
     rest: &str,
 ) -> Result<(), AllocError> {
     match verb {
-        "@trace" => {
-            add_all(page, &["trace\n"])?;
-            show_text(page, stage.text("trace"))
-        }
+        "@trace" => show_trace(page, stage.text("trace")),
         "@commands" => show_commands(page, stage.text("trace")),
         "@show" => show_blocks(stage, page, rest),
         "@size" => show_size(page, rest, stage.text(rest)),
         "@has" | "@times" | "@begins" | "@front" => compare(stage, page, verb, rest),
-        _ => add_all(page, &["unknown: ", verb, "\n"]),
+        _ => add_between(page, "unknown: ", verb, "\n"),
     }
 }
 
@@ -39,20 +37,32 @@ pub(crate) fn show_text(page: &mut Vec<u8>, text: &[u8]) -> Result<(), AllocErro
         return page.extend_from_slice(text);
     }
     show_runs(page, text)?;
-    add_all(page, &["\n"])
+    add(page, "\n")
+}
+
+/// Shows a trace.
+fn show_trace(page: &mut Vec<u8>, trace: &[u8]) -> Result<(), AllocError> {
+    add(page, "trace\n")?;
+    show_text(page, trace)
+}
+
+/// Shows a line of a trace, where it reads or writes sectors.
+fn show_command(page: &mut Vec<u8>, line: &[u8]) -> Result<(), AllocError> {
+    if holds(line, b" rcom ") || holds(line, b" wcom ") {
+        return page.extend_from_slice(line);
+    }
+    Ok(())
 }
 
 /// Shows those lines of a trace that read or write sectors.
 fn show_commands(page: &mut Vec<u8>, trace: &[u8]) -> Result<(), AllocError> {
-    add_all(page, &["commands\n"])?;
+    add(page, "commands\n")?;
     let mut from = 0usize;
     for (at, byte) in trace.iter().enumerate() {
         if *byte == b'\n' {
-            let line = trace.get(from..at.saturating_add(1)).unwrap_or(b"");
-            if holds(line, b" rcom ") || holds(line, b" wcom ") {
-                page.extend_from_slice(line)?;
-            }
-            from = at.saturating_add(1);
+            let end = at.saturating_add(1);
+            show_command(page, trace.get(from..end).unwrap_or(b""))?;
+            from = end;
         }
     }
     Ok(())
@@ -62,10 +72,20 @@ fn show_commands(page: &mut Vec<u8>, trace: &[u8]) -> Result<(), AllocError> {
 fn show_blocks(stage: &Stage, page: &mut Vec<u8>, rest: &str) -> Result<(), AllocError> {
     let (unit, list) = split(rest);
     for blocks in list.split(' ') {
-        let (first, end) = span(blocks);
-        for block in first..end {
-            show_block(stage, page, unit, block)?;
-        }
+        show_span(stage, page, unit, span(blocks))?;
+    }
+    Ok(())
+}
+
+/// Shows what the blocks of a range hold, and which of them are marked.
+fn show_span(
+    stage: &Stage,
+    page: &mut Vec<u8>,
+    unit: &str,
+    blocks: (u32, u32),
+) -> Result<(), AllocError> {
+    for block in blocks.0..blocks.1 {
+        show_block(stage, page, unit, block)?;
     }
     Ok(())
 }
@@ -73,22 +93,27 @@ fn show_blocks(stage: &Stage, page: &mut Vec<u8>, rest: &str) -> Result<(), Allo
 /// Shows what a block of a unit holds, and whether it is marked.
 fn show_block(stage: &Stage, page: &mut Vec<u8>, unit: &str, block: u32) -> Result<(), AllocError> {
     let number = small_number(unit);
-    add_all(page, &["block ", unit])?;
-    add_number(page, " ", u64::from(block), ":")?;
+    add_between(page, "block ", unit, " ")?;
+    add_number(page, "", u64::from(block), ":")?;
     show_runs(page, &stage.packs.block(number, block))?;
     let is_marked = stage.packs.is_marked(number, block);
-    add_all(page, &[if is_marked { " marked\n" } else { "\n" }])
+    add(page, if is_marked { " marked\n" } else { "\n" })
 }
 
-/// Shows how many bytes a text has, and their sum modulo 2^32.
-fn show_size(page: &mut Vec<u8>, name: &str, text: &[u8]) -> Result<(), AllocError> {
+/// The sum of bytes modulo 2^32.
+fn sum_of(text: &[u8]) -> u32 {
     let mut sum = 0u32;
     for byte in text {
         sum = sum.wrapping_add(u32::from(*byte));
     }
-    add_all(page, &[name])?;
+    sum
+}
+
+/// Shows how many bytes a text has, and their sum modulo 2^32.
+fn show_size(page: &mut Vec<u8>, name: &str, text: &[u8]) -> Result<(), AllocError> {
+    add(page, name)?;
     add_number(page, " ", text.len() as u64, " sum ")?;
-    add_number(page, "", u64::from(sum), "\n")
+    add_number(page, "", u64::from(sum_of(text)), "\n")
 }
 
 /// What a text is to a piece.
@@ -102,16 +127,34 @@ fn relation(verb: &str, text: &[u8], piece: &[u8]) -> &'static str {
 }
 
 /// Shows what a text is to a piece, or how often it stands there.
+fn show_relation(
+    page: &mut Vec<u8>,
+    verb: &str,
+    text: &[u8],
+    piece: &[u8],
+) -> Result<(), AllocError> {
+    if verb == "@times" {
+        return add_number(page, " has ", times(text, piece), " of ");
+    }
+    add(page, relation(verb, text, piece))
+}
+
+/// Shows what a text is to a piece, or how often it stands there, with both their names.
 fn compare(stage: &Stage, page: &mut Vec<u8>, verb: &str, rest: &str) -> Result<(), AllocError> {
     let (name, piece) = split(rest);
+    add(page, name)?;
+    show_relation_of(stage, page, verb, name, piece)?;
+    add_line(page, piece)
+}
+
+/// Shows what the text with a name is to a piece, or how often it stands there.
+fn show_relation_of(
+    stage: &Stage,
+    page: &mut Vec<u8>,
+    verb: &str,
+    name: &str,
+    piece: &str,
+) -> Result<(), AllocError> {
     let bytes = piece_of(stage.alloc, piece)?;
-    let bytes = bytes.as_slice();
-    let text = stage.text(name);
-    add_all(page, &[name])?;
-    if verb == "@times" {
-        add_number(page, " has ", times(text, bytes), " of ")?;
-    } else {
-        add_all(page, &[relation(verb, text, bytes)])?;
-    }
-    add_all(page, &[piece, "\n"])
+    show_relation(page, verb, stage.text(name), bytes.as_slice())
 }

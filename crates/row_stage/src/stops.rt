@@ -1,8 +1,8 @@
 // Runs in which each call of each operation fails in turn.
 use crate::row_packs::RowPacks;
-use crate::runs::{NONE, OPERATIONS, Operation, Program, Ran, Stage, run_line};
-use crate::texts::{add_all, add_number, holds, times};
+use crate::runs::{NONE, OPERATIONS, Operation, Program, Ran, Stage, run_line, status_of};
 use outside_traits::traits::NoMemory;
+use row_texts::{add, add_between, add_number, holds, times};
 use std::alloc::AllocError;
 
 /// What a watched block is to hold in a run that stops, beside a run that does not.
@@ -147,15 +147,9 @@ fn amiss_again<P: Program>(
     line: &str,
 ) -> Result<&'static str, NoMemory> {
     packs.fail(NONE.fails);
-    let again = run_line(
-        program,
-        stage.alloc,
-        line,
-        stage.source.as_slice(),
-        packs,
-        NONE,
-    )?;
-    if again.status == 0 && are_same(stage, &whole.packs, packs) {
+    let source = stage.source.as_slice();
+    let status = status_of(program, stage.alloc, line, source, packs)?;
+    if status == 0 && are_same(stage, &whole.packs, packs) {
         return Ok("");
     }
     Ok("it ends otherwise where it is run again")
@@ -180,13 +174,30 @@ fn stopped_at<P: Program>(
     let source = stage.source.as_slice();
     let mut left = run_apart(program, stage, line, source, operation, number)?;
     if left.ran.status == 0 {
-        return Ok(if is_whole(stage, whole, &left) {
-            "done"
-        } else {
-            "it goes on and ends otherwise"
-        });
+        return Ok(end_of(stage, whole, &left));
     }
-    match amiss(stage, whole, &left, line, wanted(operation)) {
+    amiss_of(program, stage, whole, &mut left, line, wanted(operation))
+}
+
+/// What a run came to that does not stop.
+fn end_of(stage: &Stage, whole: &Left, left: &Left) -> &'static str {
+    if is_whole(stage, whole, left) {
+        "done"
+    } else {
+        "it goes on and ends otherwise"
+    }
+}
+
+/// What does not hold of a run that stopped, nor of the same command once more over the packs that it left; "" where all does.
+fn amiss_of<P: Program>(
+    program: &P,
+    stage: &Stage,
+    whole: &Left,
+    left: &mut Left,
+    line: &str,
+    wanted: u8,
+) -> Result<&'static str, NoMemory> {
+    match amiss(stage, whole, left, line, wanted) {
         "" => amiss_again(program, stage, whole, &mut left.packs, line),
         word => Ok(word),
     }
@@ -214,13 +225,40 @@ fn each_call<P: Program>(
 /// Shows an operation of which calls are made, and what does not hold where one of them fails.
 fn show_stop(page: &mut Vec<u8>, name: &str, count: u64, word: &str) -> Result<(), AllocError> {
     if count > 0 {
-        add_all(page, &[" ", name])?;
+        add_between(page, " ", name, "")?;
     }
-    if !word.is_empty() {
-        add_number(page, " ", count, ": ")?;
-        add_all(page, &[word, ","])?;
+    if word.is_empty() {
+        return Ok(());
+    }
+    add_number(page, " ", count, ": ")?;
+    add_between(page, "", word, ",")
+}
+
+/// Runs a command with each call of each operation failing in turn, and shows the operations of which calls are made.
+fn show_stops<P: Program>(
+    program: &P,
+    stage: &Stage,
+    page: &mut Vec<u8>,
+    whole: &Left,
+    line: &str,
+) -> Result<(), NoMemory> {
+    for (name, operation) in &OPERATIONS {
+        let (count, word) = each_call(program, stage, whole, line, *operation)?;
+        show_stop(page, name, count, word)?;
     }
     Ok(())
+}
+
+/// The same behind the whole run.
+fn show_stops_of<P: Program>(
+    program: &P,
+    stage: &Stage,
+    page: &mut Vec<u8>,
+    line: &str,
+) -> Result<(), NoMemory> {
+    let source = stage.source.as_slice();
+    let whole = run_apart(program, stage, line, source, Operation::Source, 0)?;
+    show_stops(program, stage, page, &whole, line)
 }
 
 /// Runs a command with each call of each operation failing in turn, and shows the operations of which calls are made. What does not
@@ -231,20 +269,8 @@ pub(crate) fn stops<P: Program>(
     page: &mut Vec<u8>,
     line: &str,
 ) -> Result<(), NoMemory> {
-    let whole = run_apart(
-        program,
-        stage,
-        line,
-        stage.source.as_slice(),
-        Operation::Source,
-        0,
-    )?;
-    add_all(page, &["each call fails in turn:"])?;
-    for (name, operation) in OPERATIONS {
-        let (count, word) = each_call(program, stage, &whole, line, operation)?;
-        show_stop(page, name, count, word)?;
-    }
-    add_all(page, &["\n"])?;
+    add(page, "each call fails in turn:")?;
+    show_stops_of(program, stage, page, line)?;
     stage.source.clear();
-    Ok(())
+    Ok(add(page, "\n")?)
 }

@@ -1,10 +1,11 @@
 // A run, and runs one after another.
 use crate::directives::operation;
-use crate::runs::{NONE, Program, Stage, run_line};
+use crate::runs::{Operation, Program, Stage, run_line, status_of};
 use crate::shows::show_text;
 use crate::stops::run_apart;
-use crate::texts::{add_all, add_number, add_numbered, number, split, times};
 use outside_traits::traits::NoMemory;
+use row_texts::{add, add_number, add_numbered, number, split, times};
+use std::alloc::AllocError;
 
 /// Runs a command over the packs of the stage with its source, which is taken, and shows its status and what it prints.
 pub(crate) fn play<P: Program>(
@@ -19,10 +20,20 @@ pub(crate) fn play<P: Program>(
     let source = stage.source.as_slice();
     stage.ran = run_line(program, alloc, line, source, &mut stage.packs, faults)?;
     stage.source.clear();
-    add_all(page, &[line])?;
+    Ok(show_ran(stage, page, is_shown, line)?)
+}
+
+/// Shows the status of the last run and what it prints.
+fn show_ran(
+    stage: &Stage,
+    page: &mut Vec<u8>,
+    is_shown: bool,
+    line: &str,
+) -> Result<(), AllocError> {
+    add(page, line)?;
     add_number(page, ": status ", u64::from(stage.ran.status), "\n")?;
     if is_shown {
-        show_text(page, stage.ran.out.taken())?;
+        return show_text(page, stage.ran.out.taken());
     }
     Ok(())
 }
@@ -37,7 +48,7 @@ fn numbered<P: Program>(
     let mut bytes = Vec::new(stage.alloc);
     add_numbered(&mut bytes, line, number)?;
     let line = std::str::from_utf8(bytes.as_slice()).unwrap_or("");
-    Ok(run_line(program, stage.alloc, line, b"", &mut stage.packs, NONE)?.status)
+    status_of(program, stage.alloc, line, b"", &mut stage.packs)
 }
 
 /// Runs a command for each of so many numbers from a first one on, and shows how many of them come to status 0.
@@ -55,8 +66,25 @@ pub(crate) fn each<P: Program>(
             done = done.saturating_add(1);
         }
     }
-    add_all(page, &[line])?;
+    add(page, line)?;
     Ok(add_number(page, ": status 0 for ", done, " numbers\n")?)
+}
+
+/// The status of a command of which a call fails, and how often a word stands in its trace.
+fn counted<P: Program>(
+    program: &P,
+    stage: &Stage,
+    line: &str,
+    word: &str,
+    operation: Operation,
+    number: u64,
+) -> Result<(u8, u64), NoMemory> {
+    let source = stage.source.as_slice();
+    let left = run_apart(program, stage, line, source, operation, number)?;
+    Ok((
+        left.ran.status,
+        times(left.ran.trace.taken(), word.as_bytes()),
+    ))
 }
 
 /// Runs a command with each call of an operation of the packs failing in turn, until none does, and shows how often a word stands in the
@@ -69,20 +97,31 @@ pub(crate) fn counts<P: Program>(
 ) -> Result<(), NoMemory> {
     let (name, rest) = split(rest);
     let (word, line) = split(rest);
-    add_all(page, &[word])?;
+    add(page, word)?;
     let mut next = 0u64;
     for number in 1..1000u64 {
-        let source = stage.source.as_slice();
-        let left = run_apart(program, stage, line, source, operation(name), number)?;
-        if left.ran.status == 0 {
+        let (status, count) = counted(program, stage, line, word, operation(name), number)?;
+        if status == 0 {
             break;
         }
-        if left.ran.status == 6 && times(left.ran.trace.taken(), word.as_bytes()) == next {
+        if status == 6 && count == next {
             add_number(page, " ", next, "")?;
             next = next.saturating_add(1);
         }
     }
-    Ok(add_all(page, &["\n"])?)
+    Ok(add(page, "\n")?)
+}
+
+/// The status of a command with a front of the source.
+fn status_of_front<P: Program>(
+    program: &P,
+    stage: &Stage,
+    line: &str,
+    end: usize,
+) -> Result<u8, NoMemory> {
+    let front = stage.source.get(..end).unwrap_or(b"");
+    let left = run_apart(program, stage, line, front, Operation::Source, 0)?;
+    Ok(left.ran.status)
 }
 
 /// Runs a command with each front of the source, and shows how many come to status 0 or 3, and how many to another one.
@@ -95,9 +134,8 @@ pub(crate) fn fronts<P: Program>(
     let mut good = 0u64;
     let mut other = 0u64;
     for end in 0..stage.source.len() {
-        let front = stage.source.get(..end).unwrap_or(b"");
-        let left = run_apart(program, stage, line, front, operation("source"), 0)?;
-        if left.ran.status == 0 || left.ran.status == 3 {
+        let status = status_of_front(program, stage, line, end)?;
+        if status == 0 || status == 3 {
             good = good.saturating_add(1);
         } else {
             other = other.saturating_add(1);
