@@ -2,7 +2,7 @@
 ghost use Rattle.std.specs.Prelude.{⊤};
 ghost use Rattle.drive_registers.specs.Bits.{status_names, first_error_names, second_error_names, offset_names};
 
-use bitflags::{Flag, Flags, bitflag_items};
+use bitflags::{Flag, Flags};
 
 /// The drive status register.
 #[derive(Clone, Copy, PartialEq, Eq)]
@@ -20,62 +20,162 @@ pub struct Er2(u16);
 #[derive(Clone, Copy, PartialEq, Eq)]
 pub struct Of(u16);
 
-bitflag_items! {
-    impl Ds: u16 {
-        /// Attention: raised and not cleared.
-        const ATA = 0o100000;
-        /// Composite error: an error register is not zero.
-        const ERR = 0o40000;
-        /// Positioning in progress.
-        const PIP = 0o20000;
-        /// Medium on line.
-        const MOL = 0o10000;
-        /// Write locked.
-        const WRL = 0o4000;
-        /// Drive present.
-        const DPR = 0o400;
-        /// Drive ready: neither a positioning nor a transfer is under way.
-        const DRY = 0o200;
-        /// Volume valid.
-        const VV = 0o100;
-    }
+impl Ds {
+    /// Attention: raised and not cleared.
+    pub const ATA: Ds = Ds(0o100000);
+    /// Composite error: an error register is not zero.
+    pub const ERR: Ds = Ds(0o40000);
+    /// Positioning in progress.
+    pub const PIP: Ds = Ds(0o20000);
+    /// Medium on line.
+    pub const MOL: Ds = Ds(0o10000);
+    /// Write locked.
+    pub const WRL: Ds = Ds(0o4000);
+    /// Drive present.
+    pub const DPR: Ds = Ds(0o400);
+    /// Drive ready: neither a positioning nor a transfer is under way.
+    pub const DRY: Ds = Ds(0o200);
+    /// Volume valid.
+    pub const VV: Ds = Ds(0o100);
 
-    impl Er1: u16 {
-        /// Data check.
-        const DCK = 0o100000;
-        /// Unsafe.
-        const UNS = 0o40000;
-        /// Operation incomplete.
-        const OPI = 0o20000;
-        /// Drive timing error.
-        const DTE = 0o10000;
-        /// Write lock error.
-        const WLE = 0o4000;
-        /// Invalid address error.
-        const IAE = 0o2000;
-        /// Header check (CRC) error.
-        const HCRC = 0o400;
-        /// Header compare error.
-        const HCE = 0o200;
-        /// Hard error: the check can't correct the data.
-        const ECH = 0o100;
-        /// Format error.
-        const FER = 0o20;
-        /// Illegal function.
-        const ILF = 0o1;
-    }
+    /// Each bit with its name.
+    const NAMES: [Flag<Ds>; 8] = [
+        Flag {
+            name: "ATA",
+            value: Ds::ATA,
+        },
+        Flag {
+            name: "ERR",
+            value: Ds::ERR,
+        },
+        Flag {
+            name: "PIP",
+            value: Ds::PIP,
+        },
+        Flag {
+            name: "MOL",
+            value: Ds::MOL,
+        },
+        Flag {
+            name: "WRL",
+            value: Ds::WRL,
+        },
+        Flag {
+            name: "DPR",
+            value: Ds::DPR,
+        },
+        Flag {
+            name: "DRY",
+            value: Ds::DRY,
+        },
+        Flag {
+            name: "VV",
+            value: Ds::VV,
+        },
+    ];
+}
 
-    impl Er2: u16 {
-        /// Bad sector error.
-        const BSE = 0o100000;
-        /// Seek incomplete.
-        const SKI = 0o40000;
-    }
+impl Er1 {
+    /// Data check.
+    pub const DCK: Er1 = Er1(0o100000);
+    /// Unsafe.
+    pub const UNS: Er1 = Er1(0o40000);
+    /// Operation incomplete.
+    pub const OPI: Er1 = Er1(0o20000);
+    /// Drive timing error.
+    pub const DTE: Er1 = Er1(0o10000);
+    /// Write lock error.
+    pub const WLE: Er1 = Er1(0o4000);
+    /// Invalid address error.
+    pub const IAE: Er1 = Er1(0o2000);
+    /// Header check (CRC) error.
+    pub const HCRC: Er1 = Er1(0o400);
+    /// Header compare error.
+    pub const HCE: Er1 = Er1(0o200);
+    /// Hard error: the check can't correct the data.
+    pub const ECH: Er1 = Er1(0o100);
+    /// Format error.
+    pub const FER: Er1 = Er1(0o20);
+    /// Illegal function.
+    pub const ILF: Er1 = Er1(0o1);
 
-    impl Of: u16 {
-        /// The 16-bit format.
-        const FMT22 = 0o10000;
-    }
+    /// Each bit with its name.
+    const NAMES: [Flag<Er1>; 11] = [
+        Flag {
+            name: "DCK",
+            value: Er1::DCK,
+        },
+        Flag {
+            name: "UNS",
+            value: Er1::UNS,
+        },
+        Flag {
+            name: "OPI",
+            value: Er1::OPI,
+        },
+        Flag {
+            name: "DTE",
+            value: Er1::DTE,
+        },
+        Flag {
+            name: "WLE",
+            value: Er1::WLE,
+        },
+        Flag {
+            name: "IAE",
+            value: Er1::IAE,
+        },
+        Flag {
+            name: "HCRC",
+            value: Er1::HCRC,
+        },
+        Flag {
+            name: "HCE",
+            value: Er1::HCE,
+        },
+        Flag {
+            name: "ECH",
+            value: Er1::ECH,
+        },
+        Flag {
+            name: "FER",
+            value: Er1::FER,
+        },
+        Flag {
+            name: "ILF",
+            value: Er1::ILF,
+        },
+    ];
+}
+
+impl Er2 {
+    /// Bad sector error.
+    pub const BSE: Er2 = Er2(0o100000);
+    /// Seek incomplete.
+    pub const SKI: Er2 = Er2(0o40000);
+
+    /// Each bit with its name.
+    const NAMES: [Flag<Er2>; 2] = [
+        Flag {
+            name: "BSE",
+            value: Er2::BSE,
+        },
+        Flag {
+            name: "SKI",
+            value: Er2::SKI,
+        },
+    ];
+}
+
+impl Of {
+    /// The 16-bit format.
+    pub const FMT22: Of = Of(0o10000);
+
+    /// Each bit with its name.
+    const NAMES: [Flag<Of>; 1] = [Flag {
+        name: "FMT22",
+        value: Of::FMT22,
+    }];
 }
 
 impl Flags for Ds {
@@ -88,7 +188,7 @@ impl Flags for Ds {
     ghost set_of = { λ register. register.0 };
 
     fn flags<'a>() -> &'a [Flag<Ds>] {
-        Ds::FLAGS
+        &Ds::NAMES
     }
 
     fn bits(&self) -> u16 {
@@ -110,7 +210,7 @@ impl Flags for Er1 {
     ghost set_of = { λ register. register.0 };
 
     fn flags<'a>() -> &'a [Flag<Er1>] {
-        Er1::FLAGS
+        &Er1::NAMES
     }
 
     fn bits(&self) -> u16 {
@@ -132,7 +232,7 @@ impl Flags for Er2 {
     ghost set_of = { λ register. register.0 };
 
     fn flags<'a>() -> &'a [Flag<Er2>] {
-        Er2::FLAGS
+        &Er2::NAMES
     }
 
     fn bits(&self) -> u16 {
@@ -154,7 +254,7 @@ impl Flags for Of {
     ghost set_of = { λ register. register.0 };
 
     fn flags<'a>() -> &'a [Flag<Of>] {
-        Of::FLAGS
+        &Of::NAMES
     }
 
     fn bits(&self) -> u16 {
