@@ -32,7 +32,7 @@ a block `A` or blocks `A-B`, HH a byte in hexadecimal digits, RUNS are bytes as 
     @counts OPERATION WORD COMMAND ..
                              runs a command with each call of an operation failing in turn, and shows how often a word is traced then
     @stops WORD ..           runs a command with each call of each operation failing in turn, and says whether each run stops as it
-                             should (`src/stops.rt`), by the blocks that are watched: `@told U BLOCKS PIECE`, where the trace has the
+                             should (`stops.rt` of `row_stage`), by the blocks that are watched: `@told U BLOCKS PIECE`, where the trace has the
                              piece once the block is written; `@order U BLOCKS`, written one after another; `@left U BLOCKS HH .. | HH ..`,
                              which hold one of these bytes throughout, one behind the bar where `@answer PIECE` was printed
 """

@@ -3,8 +3,8 @@
 #![tactic(auto)]
 
 use hpsim_run::run;
-use mass_outside::mem_streams::{MemSink, MemSource};
-use row_stage::{Program, RowPacks, Stage, perform};
+use row_stage::{Program, RowPacks, RowSink, RowSource, Stage, perform};
+use row_texts::Text;
 use std::alloc::Global;
 use std::io;
 use std::io::Write;
@@ -17,10 +17,10 @@ impl Program for Simulator {
         &self,
         alloc: Global,
         words: &[String],
-        source: &mut MemSource,
+        source: &mut RowSource<'_>,
         packs: &mut RowPacks,
-        out: &mut MemSink,
-        trace: &mut MemSink,
+        out: &mut RowSink,
+        trace: &mut RowSink,
     ) -> u8 {
         run(alloc, words, source, packs, out, trace)
     }
@@ -28,11 +28,11 @@ impl Program for Simulator {
 
 fn main(rt: HostRuntime) -> anyhow::Result<()> {
     let text = io::read_to_string(rt.alloc(), rt.reader())?;
-    let mut stage = Stage::new(rt.alloc())?;
-    let mut page = Vec::new(rt.alloc());
+    let mut stage = Stage::new(rt.alloc());
+    let mut page = Text::new(rt.alloc());
     for line in text.as_str().lines() {
         perform(&Simulator, &mut stage, &mut page, line)?;
-        io::writer(&rt).write_all(page.as_slice())?;
+        io::writer(&rt).write_all(page.bytes())?;
         page.clear();
     }
     Ok(())

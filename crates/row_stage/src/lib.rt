@@ -4,11 +4,17 @@
 
 mod directives;
 mod row_packs;
-mod runs;
+mod scenes;
 mod shows;
+mod stage;
 mod stops;
+mod streams;
 mod sweeps;
+mod verbs;
+mod watches;
 
 pub use directives::perform;
 pub use row_packs::RowPacks;
-pub use runs::{Program, Stage};
+pub use scenes::Program;
+pub use stage::Stage;
+pub use streams::{RowSink, RowSource};

@@ -1,192 +1,150 @@
-// The packs of a row: those blocks are kept that were written to.
-ghost use Rattle.std.specs.Prelude.{◌<◌, ◌^◌};
+// The packs of a row.
+use crate::scenes::{Operation, is_last};
+use outside_traits::traits::{Packs, StoreFailed};
+use std::alloc::Global;
 
-use crate::runs::Operation;
-use outside_traits::traits::{NoMemory, Packs, StoreFailed};
-use std::alloc::{AllocError, Global};
+/// A block, and whether it is marked.
+#[derive(Clone, Copy)]
+pub(crate) struct Block {
+    pub(crate) bytes: [u8; 512],
+    pub(crate) is_marked: bool,
+}
 
-/// The packs of 32 units. Of each operation the call with this number fails, from 1, and those that write or mark where there is no
-/// room. They tell nothing.
+/// A block that nothing was done to.
+const EMPTY: Block = Block {
+    bytes: [0; 512],
+    is_marked: false,
+};
+
+/// The place of a track that has none.
+const NOWHERE: usize = usize::MAX;
+
+/// What a unit has.
+#[derive(Clone, Copy)]
+pub(crate) struct Unit {
+    /// How many blocks can be written and marked.
+    pub(crate) room: u64,
+    /// How long its image is.
+    pub(crate) length: u64,
+}
+
+/// The packs of 32 units. Those calls fail that are to fail, and those that write or mark where there is no room. They tell nothing.
+/// Where memory runs out they lack what found no room, and are short from then on.
 #[derive(Drop)]
 pub struct RowPacks {
-    alloc: Global,
-    /// 32 blocks each where one of them was written to.
-    tracks: Vec<Vec<u8>>,
-    marks: Vec<(u8, u32)>,
-    /// How many blocks of each unit can be written and marked.
-    rooms: [u32; 32],
-    /// How long the image of each unit is.
-    lengths: [u64; 32],
+    /// The tracks with a block that something was done to, 32 blocks each.
+    blocks: Vec<Block>,
+    /// Where each track begins among them.
+    tracks: Vec<usize>,
+    pub(crate) units: [Unit; 32],
+    /// Which of the calls to come of each operation fails, from 1.
     fails: [u64; 8],
-    calls: [u64; 8],
+    pub(crate) has_set_marks: bool,
+    pub(crate) is_short: bool,
 }
 
-/// Where a block is kept: the number of its track, and the place of its first byte there.
-fn place_of(unit: u8, block: u32) -> (usize, usize)
-    ensures { result.1 < 2 ^ 32 }
-{
-    let track = (unit as usize) * 16_384 + (block as usize) / 32;
-    (track, (block as usize) % 32 * 512)
-}
-
-/// Writes a block to its track.
-fn put_in(track: &mut Vec<u8>, from: usize, bytes: &[u8; 512]) -> Result<(), AllocError>
-    requires { from < 2 ^ 32 }
-{
-    track.resize(32 * 512, 0)?;
-    if from + 512 <= track.len() {
-        let kept = track.as_mut_slice();
-        kept[from..from + 512].copy_from_slice(bytes);
-    }
-    Ok(())
-}
-
-/// Puts a copy of each track behind others.
-fn add_copies(
-    copies: &mut Vec<Vec<u8>>,
-    alloc: Global,
-    tracks: &[Vec<u8>],
-) -> Result<(), AllocError> {
-    for track in tracks {
-        copies.push(Vec::from_slice(alloc, track.as_slice())?)?;
-    }
-    Ok(())
+/// The number of the track of a block.
+fn track_of(unit: u8, block: u32) -> usize {
+    (unit as usize) * 16_384 + (block as usize) / 32
 }
 
 impl RowPacks {
     /// Packs that hold nothing, and have no room.
     pub(crate) fn new(alloc: Global) -> RowPacks {
         RowPacks {
-            alloc,
+            blocks: Vec::new(alloc),
             tracks: Vec::new(alloc),
-            marks: Vec::new(alloc),
-            rooms: [0; 32],
-            lengths: [0; 32],
+            units: [Unit { room: 0, length: 0 }; 32],
             fails: [0; 8],
-            calls: [0; 8],
+            has_set_marks: false,
+            is_short: false,
         }
     }
 
-    /// A copy, of which these calls fail.
-    pub(crate) fn copy(&self, fails: [u64; 8]) -> Result<RowPacks, NoMemory> {
-        let mut packs = RowPacks::new(self.alloc);
-        packs.take_copies(self)?;
-        packs.rooms = self.rooms;
-        packs.lengths = self.lengths;
-        packs.fails = fails;
-        Ok(packs)
-    }
-
-    /// Copies the tracks and marks of other packs to these, which have none.
-    fn take_copies(&mut self, other: &RowPacks) -> Result<(), AllocError> {
-        add_copies(&mut self.tracks, self.alloc, other.tracks.as_slice())?;
-        self.marks.extend_from_slice(other.marks.as_slice())
+    /// From now on these packs hold what other ones do.
+    pub(crate) fn copy(&mut self, other: &RowPacks) {
+        self.blocks.clear();
+        self.tracks.clear();
+        let blocks = self.blocks.extend_from_slice(other.blocks.as_slice());
+        let tracks = self.tracks.extend_from_slice(other.tracks.as_slice());
+        self.is_short |= blocks.is_err();
+        self.is_short |= tracks.is_err();
+        let units = other.units;
+        self.units = units;
     }
 
     /// From now on these calls fail.
     pub(crate) fn fail(&mut self, fails: [u64; 8]) {
         self.fails = fails;
-        self.calls = [0; 8];
+        self.has_set_marks = false;
     }
 
-    /// So many blocks of a unit can be written and marked.
-    pub(crate) fn set_room(&mut self, unit: u8, blocks: u32) {
-        if let Some(room) = self.rooms.get_mut(unit as usize) {
-            *room = blocks;
+    /// Which of the blocks a block is, if it is one of them.
+    fn place_of(&self, unit: u8, block: u32) -> usize {
+        let track = self.tracks.get(track_of(unit, block)).copied();
+        track.unwrap_or(NOWHERE).saturating_add(block as usize % 32)
+    }
+
+    /// A block.
+    pub(crate) fn block(&self, unit: u8, block: u32) -> Block {
+        let place = self.place_of(unit, block);
+        self.blocks.get(place).copied().unwrap_or(EMPTY)
+    }
+
+    /// Adds a track, behind which no other one was added.
+    fn add_track(&mut self, track: usize) {
+        let first = self.blocks.len();
+        let count = self.tracks.len().max(track.saturating_add(1));
+        let blocks = self.blocks.resize(first.saturating_add(32), EMPTY);
+        let tracks = self.tracks.resize(count, NOWHERE);
+        self.is_short |= blocks.is_err();
+        self.is_short |= tracks.is_err();
+        if let Some(place) = self.tracks.get_mut(track) {
+            *place = first;
         }
     }
 
-    /// The image of a unit is so long at least, or just so long.
-    pub(crate) fn set_length(&mut self, unit: u8, length: u64, is_least: bool) {
-        if let Some(kept) = self.lengths.get_mut(unit as usize) {
-            *kept = if is_least { length.max(*kept) } else { length };
+    /// Keeps a block.
+    fn keep(&mut self, unit: u8, block: u32, kept: Block) {
+        if self.place_of(unit, block) == NOWHERE {
+            self.add_track(track_of(unit, block));
         }
-    }
-
-    /// What a block holds.
-    pub(crate) fn block(&self, unit: u8, block: u32) -> [u8; 512] {
-        let mut bytes = [0u8; 512];
-        let (track, from) = place_of(unit, block);
-        if let Some(track) = self.tracks.get(track) {
-            if from + 512 <= track.len() {
-                bytes.copy_from_slice(&track.as_slice()[from..from + 512]);
-            }
+        let place = self.place_of(unit, block);
+        if let Some(block) = self.blocks.get_mut(place) {
+            *block = kept;
         }
-        bytes
     }
 
     /// Writes to a block, and extends the image to its end.
-    pub(crate) fn put(
-        &mut self,
-        unit: u8,
-        block: u32,
-        bytes: &[u8; 512],
-    ) -> Result<(), AllocError> {
-        let (track, from) = place_of(unit, block);
-        self.extend_to(track)?;
-        if let Some(track) = self.tracks.get_mut(track) {
-            put_in(track, from, bytes)?;
-        }
-        self.set_length(unit, 512 * u64::from(block) + 512, true);
-        Ok(())
-    }
-
-    /// Adds empty tracks until there is one with this number.
-    fn extend_to(&mut self, track: usize) -> Result<(), AllocError> {
-        for _ in self.tracks.len()..track.saturating_add(1) {
-            self.tracks.push(Vec::new(self.alloc))?;
-        }
-        Ok(())
-    }
-
-    /// Whether a block is marked.
-    pub(crate) fn is_marked(&self, unit: u8, block: u32) -> bool {
-        self.marks.contains(&(unit, block))
-    }
-
-    /// Which of the marks is that of a block; how many they are where none is.
-    fn mark_of(&self, unit: u8, block: u32) -> usize {
-        for (at, marked) in self.marks.iter().enumerate() {
-            if *marked == (unit, block) {
-                return at;
-            }
-        }
-        self.marks.len()
+    pub(crate) fn put(&mut self, unit: u8, block: u32, bytes: &[u8; 512]) {
+        let is_marked = self.block(unit, block).is_marked;
+        let bytes = *bytes;
+        self.keep(unit, block, Block { bytes, is_marked });
+        let end = 512 * u64::from(block) + 512;
+        let length = self.units[unit as usize % 32].length;
+        self.units[unit as usize % 32].length = length.max(end);
     }
 
     /// Marks a block, or takes its mark.
-    pub(crate) fn mark(&mut self, unit: u8, block: u32, on: bool) -> Result<(), AllocError> {
-        let at = self.mark_of(unit, block);
-        if at < self.marks.len() {
-            self.marks.remove(at);
-        }
-        if on {
-            self.marks.push((unit, block))?;
+    pub(crate) fn mark(&mut self, unit: u8, block: u32, is_marked: bool) {
+        let bytes = self.block(unit, block).bytes;
+        self.keep(unit, block, Block { bytes, is_marked });
+    }
+
+    /// Makes a call, which fails where it is one that is to fail.
+    fn called(&mut self, operation: Operation) -> Result<(), StoreFailed> {
+        if is_last(&mut self.fails[operation as usize]) {
+            return Err(StoreFailed);
         }
         Ok(())
     }
 
-    /// Whether the same blocks are marked as on other packs.
-    pub(crate) fn has_marks_of(&self, other: &RowPacks) -> bool {
-        self.marks.as_slice() == other.marks.as_slice()
-    }
-
-    /// Whether there is room for a block.
-    fn has_room(&self, unit: u8, block: u32) -> bool {
-        block < self.rooms.get(unit as usize).copied().unwrap_or(0)
-    }
-
-    /// Counts a call, and fails where it is one that is to fail.
-    fn called(&mut self, operation: Operation) -> Result<(), StoreFailed> {
-        let mut number = 0;
-        if let Some(calls) = self.calls.get_mut(operation as usize) {
-            *calls = calls.saturating_add(1);
-            number = *calls;
+    /// The same where a block is to be changed, for which there may be no room.
+    fn called_at(&mut self, operation: Operation, unit: u8, block: u32) -> Result<(), StoreFailed> {
+        if u64::from(block) < self.units[unit as usize % 32].room {
+            return self.called(operation);
         }
-        match self.fails.get(operation as usize) {
-            Some(fail) if *fail == number => Err(StoreFailed),
-            _ => Ok(()),
-        }
+        Err(StoreFailed)
     }
 }
 
@@ -203,33 +161,31 @@ impl Packs for RowPacks {
 
     fn length(&mut self, unit: u8) -> Result<u64, StoreFailed> {
         self.called(Operation::Length)?;
-        Ok(self.lengths.get(unit as usize).copied().unwrap_or(0))
+        Ok(self.units[unit as usize % 32].length)
     }
 
     fn read(&mut self, unit: u8, block: u32, into: &mut [u8; 512]) -> Result<(), StoreFailed> {
         self.called(Operation::Read)?;
-        *into = self.block(unit, block);
+        let bytes = self.block(unit, block).bytes;
+        *into = bytes;
         Ok(())
     }
 
     fn write(&mut self, unit: u8, block: u32, from: &[u8; 512]) -> Result<(), StoreFailed> {
-        self.called(Operation::Write)?;
-        if !self.has_room(unit, block) || self.put(unit, block, from).is_err() {
-            return Err(StoreFailed);
-        }
+        self.called_at(Operation::Write, unit, block)?;
+        self.put(unit, block, from);
         Ok(())
     }
 
     fn marked(&mut self, unit: u8, block: u32) -> Result<bool, StoreFailed> {
         self.called(Operation::Marked)?;
-        Ok(self.is_marked(unit, block))
+        Ok(self.block(unit, block).is_marked)
     }
 
     fn set_mark(&mut self, unit: u8, block: u32, on: bool) -> Result<(), StoreFailed> {
-        self.called(Operation::SetMark)?;
-        if !self.has_room(unit, block) || self.mark(unit, block, on).is_err() {
-            return Err(StoreFailed);
-        }
+        self.called_at(Operation::SetMark, unit, block)?;
+        self.mark(unit, block, on);
+        self.has_set_marks = true;
         Ok(())
     }
 }

@@ -1,9 +1,9 @@
-//! What rows are written with: numbers, ranges of blocks, bytes as runs, and pieces of text. What puts bytes behind others fails only where
-//! there is no memory. For tests alone: that it does no harm and ends is all that is proved.
+//! What rows are written with: numbers, ranges of blocks, bytes as runs, and pieces of text. A text that finds no memory remembers it, so
+//! that one question at the end is enough. For tests alone: that it does no harm and ends is all that is proved.
 #![tactic(auto)]
 
 use itoa::Buffer;
-use std::alloc::{AllocError, Global};
+use std::alloc::Global;
 
 /// The first word of a text, and what stands behind the blank after it.
 pub fn split(text: &str) -> (&str, &str) {
@@ -29,45 +29,13 @@ pub fn span(text: &str) -> (u32, u32) {
 }
 
 /// A byte in hexadecimal digits; 0 where it is none.
-pub fn hex_byte(text: &str) -> u8 {
+fn hex_byte(text: &str) -> u8 {
     u8::from_str_radix(text, 16).unwrap_or(0)
-}
-
-/// Puts a run `N*HH` behind bytes.
-fn add_one_run(bytes: &mut Vec<u8>, run: &str) -> Result<(), AllocError> {
-    let (count, byte) = run.split_once('*').unwrap_or(("0", run));
-    let size = bytes.len().saturating_add(number(count) as usize);
-    bytes.resize(size, hex_byte(byte))
-}
-
-/// Puts runs `N*HH` with blanks between them behind bytes.
-pub fn add_runs(bytes: &mut Vec<u8>, runs: &str) -> Result<(), AllocError> {
-    for run in runs.split(' ') {
-        add_one_run(bytes, run)?;
-    }
-    Ok(())
 }
 
 /// A hexadecimal digit.
 fn digit(value: u8) -> u8 {
-    match value {
-        0..=9 => b'0' + value,
-        10..=15 => b'a' + (value - 10),
-        _ => b'0',
-    }
-}
-
-/// Puts a byte as two hexadecimal digits behind bytes.
-fn add_hex(bytes: &mut Vec<u8>, byte: u8) -> Result<(), AllocError> {
-    bytes.extend_from_slice(&[digit(byte / 16), digit(byte % 16)])
-}
-
-/// Puts the digits of a block behind bytes: its first byte is this one, and each other one is higher by one.
-fn add_rising(bytes: &mut Vec<u8>, first: u8) -> Result<(), AllocError> {
-    for before in 0..512u16 {
-        add_hex(bytes, first.wrapping_add((before % 256) as u8))?;
-    }
-    Ok(())
+    b"0123456789abcdef"[value as usize % 16]
 }
 
 /// The byte that one of a text stands for: `|` for LF and `^` for CR.
@@ -79,102 +47,140 @@ fn meant(byte: u8) -> u8 {
     }
 }
 
-/// Puts a text behind bytes, in which `|` stands for LF and `^` for CR.
-fn add_text(bytes: &mut Vec<u8>, text: &str) -> Result<(), AllocError> {
-    for byte in text.as_bytes() {
-        bytes.push(meant(*byte))?;
-    }
-    Ok(())
+/// Bytes that are put one behind the other. Where memory runs out they lack what found no room, and are short from then on.
+#[derive(Drop)]
+pub struct Text {
+    bytes: Vec<u8>,
+    is_short: bool,
 }
 
-/// Puts a text behind bytes, before which `N}` may stand for the digits of a block.
-fn add_part(bytes: &mut Vec<u8>, part: &str) -> Result<(), AllocError> {
-    let Some((first, rest)) = part.split_once('}') else {
-        return add_text(bytes, part);
-    };
-    add_rising(bytes, small_number(first))?;
-    add_text(bytes, rest)
-}
-
-/// Puts a piece of text behind bytes: besides, `{N}` stands for the digits of a block whose bytes rise from N on.
-pub fn add_piece(bytes: &mut Vec<u8>, piece: &str) -> Result<(), AllocError> {
-    for part in piece.split('{') {
-        add_part(bytes, part)?;
-    }
-    Ok(())
-}
-
-/// The bytes of a piece of text.
-pub fn piece_of(alloc: Global, piece: &str) -> Result<Vec<u8>, AllocError> {
-    let mut bytes = Vec::new(alloc);
-    add_piece(&mut bytes, piece)?;
-    Ok(bytes)
-}
-
-/// Puts a text behind bytes.
-pub fn add(bytes: &mut Vec<u8>, text: &str) -> Result<(), AllocError> {
-    bytes.extend_from_slice(text.as_bytes())
-}
-
-/// Puts a text behind bytes, between two others.
-pub fn add_between(
-    bytes: &mut Vec<u8>,
-    before: &str,
-    text: &str,
-    behind: &str,
-) -> Result<(), AllocError> {
-    add(bytes, before)?;
-    add(bytes, text)?;
-    add(bytes, behind)
-}
-
-/// Puts a line behind bytes.
-pub fn add_line(bytes: &mut Vec<u8>, line: &str) -> Result<(), AllocError> {
-    add(bytes, line)?;
-    add(bytes, "\n")
-}
-
-/// Puts a text, a number and another text behind bytes.
-pub fn add_number(
-    bytes: &mut Vec<u8>,
-    before: &str,
-    number: u64,
-    behind: &str,
-) -> Result<(), AllocError> {
-    let mut buffer = Buffer::new();
-    add_between(bytes, before, buffer.format(number), behind)
-}
-
-/// Puts a text behind bytes, in which `%` stands for a number.
-pub fn add_numbered(bytes: &mut Vec<u8>, text: &str, number: u64) -> Result<(), AllocError> {
-    match text.split_once('%') {
-        Some((before, behind)) => add_number(bytes, before, number, behind),
-        None => add(bytes, text),
-    }
-}
-
-/// Puts a blank and a run behind bytes, where it is not empty.
-fn add_run(bytes: &mut Vec<u8>, count: u64, byte: u8) -> Result<(), AllocError> {
-    if count == 0 {
-        return Ok(());
-    }
-    add_number(bytes, " ", count, "*")?;
-    add_hex(bytes, byte)
-}
-
-/// Puts some bytes as runs behind others, each with a blank before it.
-pub fn show_runs(page: &mut Vec<u8>, bytes: &[u8]) -> Result<(), AllocError> {
-    let mut count = 0u64;
-    let mut last = 0u8;
-    for byte in bytes {
-        if *byte != last {
-            add_run(page, count, last)?;
-            count = 0;
+impl Text {
+    /// A text that is empty.
+    pub fn new(alloc: Global) -> Text {
+        Text {
+            bytes: Vec::new(alloc),
+            is_short: false,
         }
-        last = *byte;
-        count = count.saturating_add(1);
     }
-    add_run(page, count, last)
+
+    /// Its bytes.
+    pub fn bytes(&self) -> &[u8] {
+        self.bytes.as_slice()
+    }
+
+    /// Whether bytes found no room.
+    pub fn is_short(&self) -> bool {
+        self.is_short
+    }
+
+    /// Takes all bytes away.
+    pub fn clear(&mut self) {
+        self.bytes.clear();
+    }
+
+    /// Puts bytes behind it.
+    pub fn add_bytes(&mut self, bytes: &[u8]) {
+        let added = self.bytes.extend_from_slice(bytes);
+        self.is_short |= added.is_err();
+    }
+
+    /// Puts a text behind it.
+    pub fn add(&mut self, text: &str) {
+        self.add_bytes(text.as_bytes());
+    }
+
+    /// Puts a text behind it, between two others.
+    pub fn add_between(&mut self, before: &str, text: &str, behind: &str) {
+        self.add(before);
+        self.add(text);
+        self.add(behind);
+    }
+
+    /// Puts a text, a number and another text behind it.
+    pub fn add_number(&mut self, before: &str, number: u64, behind: &str) {
+        let mut buffer = Buffer::new();
+        self.add_between(before, buffer.format(number), behind);
+    }
+
+    /// Puts a text behind it, in which `%` stands for a number.
+    pub fn add_numbered(&mut self, text: &str, number: u64) {
+        match text.split_once('%') {
+            Some((before, behind)) => self.add_number(before, number, behind),
+            None => self.add(text),
+        }
+    }
+
+    /// Puts a run `N*HH` behind it, or a byte `HH`.
+    fn add_run(&mut self, run: &str) {
+        let (count, byte) = run.split_once('*').unwrap_or(("1", run));
+        let size = self.bytes.len().saturating_add(number(count) as usize);
+        let added = self.bytes.resize(size, hex_byte(byte));
+        self.is_short |= added.is_err();
+    }
+
+    /// Puts runs `N*HH` and bytes `HH` with blanks between them behind it.
+    pub fn add_runs(&mut self, runs: &str) {
+        for run in runs.split(' ') {
+            if !run.is_empty() {
+                self.add_run(run);
+            }
+        }
+    }
+
+    /// Puts a byte as two hexadecimal digits behind it.
+    fn add_hex(&mut self, byte: u8) {
+        self.add_bytes(&[digit(byte / 16), digit(byte)]);
+    }
+
+    /// Puts the digits of a block behind it: its first byte is this one, and each other one is higher by one.
+    fn add_rising(&mut self, first: u8) {
+        for before in 0..512u16 {
+            self.add_hex(first.wrapping_add((before % 256) as u8));
+        }
+    }
+
+    /// Puts a text behind it, in which `|` stands for LF and `^` for CR.
+    fn add_meant(&mut self, text: &str) {
+        for byte in text.as_bytes() {
+            self.add_bytes(&[meant(*byte)]);
+        }
+    }
+
+    /// Puts a text behind it, before which `N}` may stand for the digits of a block.
+    fn add_part(&mut self, part: &str) {
+        match part.split_once('}') {
+            Some((first, rest)) => {
+                self.add_rising(small_number(first));
+                self.add_meant(rest);
+            }
+            None => self.add_meant(part),
+        }
+    }
+
+    /// Puts a piece of text behind it: besides, `{N}` stands for the digits of a block whose bytes rise from N on.
+    pub fn add_piece(&mut self, piece: &str) {
+        for part in piece.split('{') {
+            self.add_part(part);
+        }
+    }
+
+    /// Puts a blank and so many times a byte as a run behind it.
+    fn show_run(&mut self, count: u64, byte: u8) {
+        self.add_number(" ", count, "*");
+        self.add_hex(byte);
+    }
+
+    /// Puts some bytes as runs behind it, each with a blank before it.
+    pub fn show_runs(&mut self, bytes: &[u8]) {
+        let mut count = 0u64;
+        for (at, byte) in bytes.iter().enumerate() {
+            count = count.saturating_add(1);
+            if bytes.get(at.saturating_add(1)) != Some(byte) {
+                self.show_run(count, *byte);
+                count = 0;
+            }
+        }
+    }
 }
 
 /// Whether a piece stands in a text at a place.
@@ -182,7 +188,7 @@ fn stands_at(text: &[u8], place: usize, piece: &[u8]) -> bool {
     text.get(place..).unwrap_or(b"").starts_with(piece)
 }
 
-/// How often a piece stands in a text.
+/// How often a piece, which is not empty, stands in a text.
 pub fn times(text: &[u8], piece: &[u8]) -> u64 {
     let first = piece.first().copied().unwrap_or(0);
     let mut count = 0u64;
@@ -194,13 +200,7 @@ pub fn times(text: &[u8], piece: &[u8]) -> u64 {
     count
 }
 
-/// Whether a piece stands in a text.
+/// Whether a piece, which is not empty, stands in a text.
 pub fn holds(text: &[u8], piece: &[u8]) -> bool {
-    let first = piece.first().copied().unwrap_or(0);
-    for (place, byte) in text.iter().enumerate() {
-        if *byte == first && stands_at(text, place, piece) {
-            return true;
-        }
-    }
-    piece.is_empty()
+    times(text, piece) > 0
 }
