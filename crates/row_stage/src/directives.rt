@@ -2,7 +2,7 @@
 // each other line is one of the source.
 use crate::row_packs::RowPacks;
 use crate::scenes::{Program, operation_of};
-use crate::shows::{compare, show_blocks, show_commands, show_size, show_times, show_trace};
+use crate::shows::{compare, show_block, show_commands, show_size, show_trace};
 use crate::stage::Stage;
 use crate::stops::stops;
 use crate::sweeps::{counts, each, fronts, play};
@@ -20,15 +20,17 @@ pub fn perform<P: Program>(
     line: &str,
 ) -> Result<(), NoMemory> {
     let (word, rest) = split(line);
-    match verb_of(word) {
+    let verb = verb_of(word);
+    match verb {
         Verb::Run(is_shown) => play(program, stage, page, is_shown, rest),
         Verb::Each => each(program, stage, page, rest),
         Verb::Stops => stops(program, stage, page, rest),
         Verb::Counts => counts(program, stage, page, rest),
         Verb::Fronts => fronts(program, stage, page, rest),
         Verb::Row => begin(stage, page, rest),
+        Verb::Show | Verb::Mark(_) => go_over(&mut stage.scene.packs, page, verb, rest),
         Verb::Line => stage.source.add_between("", line, "\n"),
-        verb => {
+        _ => {
             arrange(stage, verb, rest);
             show(stage, page, verb, rest);
         }
@@ -51,7 +53,6 @@ fn arrange(stage: &mut Stage, verb: Verb, rest: &str) {
         Verb::Answer => stage.answer.add_piece(rest),
         Verb::Watch(rule) => add_watches(stage, rule, rest),
         Verb::Unit | Verb::Length => set_unit(&mut stage.scene.packs, verb, rest),
-        Verb::Mark(on) => mark_blocks(&mut stage.scene.packs, rest, on),
         Verb::Block => put_blocks(stage, rest),
         _ => {}
     }
@@ -62,9 +63,7 @@ fn show(stage: &Stage, page: &mut Text, verb: Verb, rest: &str) {
     match verb {
         Verb::Trace => show_trace(page, stage.scene.trace.taken()),
         Verb::Commands => show_commands(page, stage.scene.trace.taken()),
-        Verb::Show => show_blocks(stage, page, rest),
         Verb::Size => show_size(page, rest, stage.text(rest)),
-        Verb::Times => show_times(stage, page, rest),
         Verb::Compare(relation) => compare(stage, page, relation, rest),
         _ => {}
     }
@@ -144,14 +143,22 @@ fn put_blocks(stage: &mut Stage, rest: &str) {
     }
 }
 
-/// Marks blocks, or takes their marks.
-fn mark_blocks(packs: &mut RowPacks, rest: &str, on: bool) {
+/// Marks a block, takes its mark or shows what it holds.
+fn go_to(packs: &mut RowPacks, page: &mut Text, verb: Verb, unit: u8, block: u32) {
+    match verb {
+        Verb::Mark(on) => packs.mark(unit, block, on),
+        _ => show_block(packs, page, unit, block),
+    }
+}
+
+/// The same for each block of a list.
+fn go_over(packs: &mut RowPacks, page: &mut Text, verb: Verb, rest: &str) {
     let (unit, list) = split(rest);
     let unit = small_number(unit);
     for blocks in list.split(' ') {
         let blocks = span(blocks);
         for block in blocks.0..blocks.1 {
-            packs.mark(unit, block, on);
+            go_to(packs, page, verb, unit, block);
         }
     }
 }

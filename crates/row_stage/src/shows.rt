@@ -1,6 +1,7 @@
 // What is shown of a run, and of what it left.
+use crate::row_packs::RowPacks;
 use crate::stage::Stage;
-use row_texts::{Text, holds, small_number, span, split, times};
+use row_texts::{Text, holds, split, times};
 
 /// Shows lines of text, or as runs what ends otherwise.
 pub(crate) fn show_text(page: &mut Text, text: &[u8]) {
@@ -33,21 +34,10 @@ pub(crate) fn show_commands(page: &mut Text, trace: &[u8]) {
     }
 }
 
-/// Shows what the blocks of a list hold, and which of them are marked.
-pub(crate) fn show_blocks(stage: &Stage, page: &mut Text, rest: &str) {
-    let (unit, list) = split(rest);
-    for blocks in list.split(' ') {
-        let blocks = span(blocks);
-        for block in blocks.0..blocks.1 {
-            show_block(stage, page, unit, block);
-        }
-    }
-}
-
 /// Shows what a block of a unit holds, and whether it is marked.
-fn show_block(stage: &Stage, page: &mut Text, unit: &str, number: u32) {
-    let block = stage.scene.packs.block(small_number(unit), number);
-    page.add_between("block ", unit, " ");
+pub(crate) fn show_block(packs: &RowPacks, page: &mut Text, unit: u8, number: u32) {
+    let block = packs.block(unit, number);
+    page.add_number("block ", u64::from(unit), " ");
     page.add_number("", u64::from(number), ":");
     page.show_runs(&block.bytes);
     page.add(if block.is_marked { " marked\n" } else { "\n" });
@@ -69,12 +59,13 @@ pub(crate) fn show_size(page: &mut Text, name: &str, text: &[u8]) {
     page.add_number("", u64::from(sum_of(text)), "\n");
 }
 
-/// What a text may be to a piece.
+/// What is asked of a text and a piece.
 #[derive(Clone, Copy)]
 pub(crate) enum Relation {
     Has,
     Begins,
     IsFront,
+    Times,
 }
 
 /// The words for what a text is to a piece.
@@ -87,22 +78,21 @@ fn words_for(relation: Relation, text: &[u8], piece: &[u8]) -> &'static str {
     }
 }
 
-/// Shows what a text is to a piece, with both their names.
+/// Shows what a text is to a piece, or how often it stands there.
+fn show_relation(page: &mut Text, relation: Relation, text: &[u8], piece: &[u8]) {
+    if matches!(relation, Relation::Times) {
+        page.add_number(" has ", times(text, piece), " of ");
+    } else {
+        page.add(words_for(relation, text, piece));
+    }
+}
+
+/// The same with both their names.
 pub(crate) fn compare(stage: &Stage, page: &mut Text, relation: Relation, rest: &str) {
     let (name, line) = split(rest);
     let mut piece = Text::new(stage.alloc);
     piece.add_piece(line);
     page.add(name);
-    page.add(words_for(relation, stage.text(name), piece.bytes()));
-    page.add_between("", line, "\n");
-}
-
-/// Shows how often a piece stands in a text, with both their names.
-pub(crate) fn show_times(stage: &Stage, page: &mut Text, rest: &str) {
-    let (name, line) = split(rest);
-    let mut piece = Text::new(stage.alloc);
-    piece.add_piece(line);
-    page.add(name);
-    page.add_number(" has ", times(stage.text(name), piece.bytes()), " of ");
+    show_relation(page, relation, stage.text(name), piece.bytes());
     page.add_between("", line, "\n");
 }

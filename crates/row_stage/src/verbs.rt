@@ -29,7 +29,6 @@ pub(crate) enum Verb {
     Commands,
     Show,
     Size,
-    Times,
     Compare(Relation),
     /// It is one of the source.
     Line,
@@ -63,7 +62,7 @@ static VERBS: [(&str, Verb); 30] = [
     ("@commands", Verb::Commands),
     ("@show", Verb::Show),
     ("@size", Verb::Size),
-    ("@times", Verb::Times),
+    ("@times", Verb::Compare(Relation::Times)),
     ("@has", Verb::Compare(Relation::Has)),
     ("@begins", Verb::Compare(Relation::Begins)),
     ("@front", Verb::Compare(Relation::IsFront)),
