@@ -1,7 +1,7 @@
 use mass_outside::mem_streams::MemSink;
 use outside_traits::traits::{Sink, SinkFailed};
 use outside_traits::*;
-use std::alloc::{AllocError, Global};
+use std::alloc::Global;
 
 /// Pieces of these sizes are put to a sink with so much room, whose call of a number fails: whether all went well, and how
 /// many bytes came.
@@ -39,15 +39,6 @@ fn put_pieces<T: Sink>(
     gather.flush(sink)
 }
 
-/// The text whose pieces are put.
-fn text(alloc: Global) -> Result<Vec<u8>, AllocError> {
-    let mut text = Vec::new(alloc);
-    for i in 0..20000u32 {
-        text.push((i % 251) as u8)?;
-    }
-    Ok(text)
-}
-
 /// Whether the pieces of a row come to what it says, and nothing is kept.
 fn comes(gather: &mut Gather, sink: &mut MemSink, text: &[u8], row: &Row) -> bool {
     let (sizes, _, _, well, came) = row;
@@ -59,33 +50,25 @@ fn comes(gather: &mut Gather, sink: &mut MemSink, text: &[u8], row: &Row) -> boo
 
 /// The same of a new sink and a new gather.
 fn comes_anew(alloc: Global, text: &[u8], row: &Row) -> bool {
-    let Ok(mut gather) = Gather::new(alloc, 16384) else {
-        return false;
-    };
     let Ok(fail) = Vec::from_slice(alloc, &[row.2]) else {
         return false;
     };
-    match MemSink::new(alloc, row.1, fail) {
-        Ok(mut sink) => comes(&mut gather, &mut sink, text, row),
+    let Ok(mut sink) = MemSink::new(alloc, row.1, fail) else {
+        return false;
+    };
+    match Gather::new(alloc, 16384) {
+        Ok(mut gather) => comes(&mut gather, &mut sink, text, row),
         Err(_) => false,
     }
 }
 
-/// The number of the first row that does not hold, or theirs; the first where there is no memory.
-fn first_wrong(alloc: Global) -> usize {
-    let Ok(text) = text(alloc) else {
-        return 0;
-    };
-    for (i, row) in ROWS.iter().enumerate() {
-        if !comes_anew(alloc, text.as_slice(), row) {
-            return i;
-        }
-    }
-    ROWS.len()
-}
-
 #[test]
 fn pieces(rt: HostRuntime) {
-    let wrong = first_wrong(rt.alloc());
-    assert!(rt; wrong == ROWS.len(), "{wrong}");
+    let mut text = [0u8; 20000];
+    for (i, byte) in text.iter_mut().enumerate() {
+        *byte = (i % 251) as u8;
+    }
+    for row in &ROWS {
+        assert!(rt; comes_anew(rt.alloc(), &text, row));
+    }
 }

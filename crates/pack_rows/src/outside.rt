@@ -59,7 +59,7 @@ fn gives_all(alloc: Global) -> bool {
 #[test]
 fn sources_in_memory(rt: HostRuntime) {
     for row in &PIECES {
-        assert!(rt; gives_pieces(rt.alloc(), row), "{}", row.0);
+        assert!(rt; gives_pieces(rt.alloc(), row));
     }
     assert!(rt; gives_all(rt.alloc()));
 }
@@ -76,59 +76,52 @@ static WRITTEN: [Written; 5] = [
 ];
 
 /// Whether a sink takes these.
-fn takes(sink: &mut MemSink, text: &[u8]) -> bool {
-    let _ = write_all(sink, b"ab");
-    let _ = write_all(sink, b"cd");
-    sink.taken() == text
-}
-
-/// The same of a new sink.
-fn takes_anew(alloc: Global, row: &Written) -> bool {
-    let (fail, room, text) = *row;
-    let Ok(fail) = Vec::from_slice(alloc, &[fail]) else {
+fn takes(alloc: Global, row: &Written) -> bool {
+    let (number, room, text) = *row;
+    let Ok(fail) = Vec::from_slice(alloc, &[number]) else {
         return false;
     };
-    match MemSink::new(alloc, room, fail) {
-        Ok(mut sink) => takes(&mut sink, text),
-        Err(_) => false,
-    }
-}
-
-/// Whether a sink that never fails takes what is put.
-fn takes_all() -> bool {
-    matches!(SureSink::new().write(b"abc"), Ok(3))
+    let Ok(mut sink) = MemSink::new(alloc, room, fail) else {
+        return false;
+    };
+    let _ = write_all(&mut sink, b"ab");
+    let _ = write_all(&mut sink, b"cd");
+    sink.taken() == text
 }
 
 #[test]
 fn sinks_in_memory(rt: HostRuntime) {
     for row in &WRITTEN {
-        assert!(rt; takes_anew(rt.alloc(), row), "{}", row.1);
+        assert!(rt; takes(rt.alloc(), row));
     }
-    assert!(rt; takes_all());
+    // One that never fails.
+    assert!(rt; matches!(SureSink::new().write(b"abc"), Ok(3)));
 }
 
-/// An image of unit 3 with 700 bytes 255, these marks and room for so many blocks.
-pub(crate) fn images(alloc: Global, marks: &[u8], blocks: u32) -> Result<Vec<Image>, NoMemory> {
-    let bytes = Vec::from_slice(alloc, &[0xFF; 700])?;
-    let marks = Vec::from_slice(alloc, marks)?;
+/// An image, and for how many blocks it has room.
+pub(crate) struct Held {
+    pub(crate) unit: u8,
+    pub(crate) bytes: &'static [u8],
+    pub(crate) marks: &'static [u8],
+    pub(crate) blocks: u32,
+}
+
+fn images(alloc: Global, held: &Held) -> Result<Vec<Image>, NoMemory> {
+    let bytes = Vec::from_slice(alloc, held.bytes)?;
+    let marks = Vec::from_slice(alloc, held.marks)?;
     let image = Image {
-        unit: 3,
+        unit: held.unit,
         bytes,
         marks,
-        blocks,
+        blocks: held.blocks,
     };
     Ok(Vec::from_array(alloc, [image])?)
 }
 
-/// The call of an operation with this number, which is to fail.
-pub(crate) fn failing(op: PackOp, number: u64) -> FailCall {
-    FailCall { op, number }
-}
-
-/// Packs with that image, a mark on block 1 and room for four blocks, with one call that fails.
-fn packs(alloc: Global, op: PackOp, number: u64) -> Result<MemPacks, NoMemory> {
-    let fail = Vec::from_slice(alloc, &[failing(op, number)])?;
-    MemPacks::new(alloc, images(alloc, &[0, 7], 4)?, fail)
+/// Packs with an image, and calls that fail.
+pub(crate) fn packs(alloc: Global, held: &Held, fails: &[FailCall]) -> Result<MemPacks, NoMemory> {
+    let fail = Vec::from_slice(alloc, fails)?;
+    MemPacks::new(alloc, images(alloc, held)?, fail)
 }
 
 /// A reader of std whose call of one number, counted from 1, fails.
@@ -174,16 +167,6 @@ impl<'a> Write for ShortWriter<'a> {
     }
 }
 
-/// Whether a reader gives these pieces.
-fn reads_pieces(row: &Pieces) -> bool {
-    let mut source = StdSource::new(FailingReader {
-        rest: b"abc",
-        calls: 0,
-        fail: row.0,
-    });
-    pieces(&mut source) == row.1
-}
-
 /// How much a writer takes a call, which call fails, whether all is taken, and what is.
 type Taken = (usize, u8, bool, &'static [u8]);
 
@@ -196,11 +179,10 @@ static TAKEN: [Taken; 5] = [
 ];
 
 /// Whether such a writer takes that.
-fn writes(alloc: Global, row: &Taken) -> bool {
+fn writes(taken: &mut Vec<u8>, row: &Taken) -> bool {
     let (most, fail, done, text) = *row;
-    let mut taken = Vec::new(alloc);
     let mut sink = StdSink::new(ShortWriter {
-        taken: &mut taken,
+        taken,
         most,
         calls: 0,
         fail,
@@ -211,11 +193,16 @@ fn writes(alloc: Global, row: &Taken) -> bool {
 
 #[test]
 fn streams_of_std(rt: HostRuntime) {
-    for row in &PIECES {
-        assert!(rt; reads_pieces(row), "{}", row.0);
+    for (fail, counts) in &PIECES {
+        let reader = FailingReader {
+            rest: b"abc",
+            calls: 0,
+            fail: *fail,
+        };
+        assert!(rt; pieces(&mut StdSource::new(reader)) == *counts);
     }
     for row in &TAKEN {
-        assert!(rt; writes(rt.alloc(), row), "{}", row.0);
+        assert!(rt; writes(&mut Vec::new(rt.alloc()), row));
     }
 }
 
@@ -264,31 +251,28 @@ pub(crate) fn first_other<P: Packs>(packs: &mut P, calls: &[(u8, Call, Option<u6
     calls.len()
 }
 
-/// The operation of a call.
-fn operation(call: Call) -> PackOp {
-    match call {
-        Call::Length => PackOp::Length,
-        Call::Read(_) => PackOp::Read,
-        Call::Write(_, _) => PackOp::Write,
-        Call::Marked(_) => PackOp::Marked,
-        Call::Mark(_, _) => PackOp::SetMark,
-    }
-}
-
 /// A call of each operation.
-static EACH: [Call; 5] = [
-    Call::Length,
-    Call::Read(0),
-    Call::Write(3, 5),
-    Call::Marked(1),
-    Call::Mark(2, true),
+static EACH: [(Call, PackOp); 5] = [
+    (Call::Length, PackOp::Length),
+    (Call::Read(0), PackOp::Read),
+    (Call::Write(3, 5), PackOp::Write),
+    (Call::Marked(1), PackOp::Marked),
+    (Call::Mark(2, true), PackOp::SetMark),
 ];
 
+/// Unit 3 has 700 bytes 255, a mark on block 1 and room for four blocks.
+static FOUR: Held = Held {
+    unit: 3,
+    bytes: &[0xFF; 700],
+    marks: &[0, 7],
+    blocks: 4,
+};
+
 /// Whether the second of three calls of each operation fails where it is of this one, and no other call.
-fn fails_second(packs: &mut MemPacks, op: PackOp) -> bool {
+fn fails_second(packs: &mut MemPacks, failing: PackOp) -> bool {
     for number in 1..4u64 {
-        for call in &EACH {
-            let fails = number == 2 && operation(*call) == op;
+        for (call, op) in &EACH {
+            let fails = number == 2 && *op == failing;
             if answer(packs, 3, *call).is_none() != fails {
                 return false;
             }
@@ -299,7 +283,7 @@ fn fails_second(packs: &mut MemPacks, op: PackOp) -> bool {
 
 /// The same of new packs.
 fn fails_anew(alloc: Global, op: PackOp) -> bool {
-    match packs(alloc, op, 2) {
+    match packs(alloc, &FOUR, &[FailCall { op, number: 2 }]) {
         Ok(mut packs) => fails_second(&mut packs, op),
         Err(_) => false,
     }
@@ -307,12 +291,12 @@ fn fails_anew(alloc: Global, op: PackOp) -> bool {
 
 #[test]
 fn second_call_fails(rt: HostRuntime) {
-    for call in &EACH {
-        assert!(rt; fails_anew(rt.alloc(), operation(*call)));
+    for (_, op) in &EACH {
+        assert!(rt; fails_anew(rt.alloc(), *op));
     }
 }
 
-/// What calls on packs in memory answer: unit 3 has an image of 700 bytes 255, a mark on block 1 and room for four blocks.
+/// What calls on packs in memory answer.
 static MEMORY: [(u8, Call, Option<u64>); 12] = [
     (3, Call::Write(4, 5), None),
     (3, Call::Mark(4, true), None),
@@ -328,21 +312,33 @@ static MEMORY: [(u8, Call, Option<u64>); 12] = [
     (3, Call::Length, Some(1536)),
 ];
 
-/// The first of these calls that answers something else, or how many they are; the first where there is no memory.
-fn other_in_memory(alloc: Global) -> usize {
-    match packs(alloc, PackOp::Length, 9) {
-        Ok(mut packs) => first_other(&mut packs, &MEMORY),
+/// The first of these calls that packs in memory answer otherwise, or how many they are; the first where there is no memory.
+pub(crate) fn other_in_memory(
+    alloc: Global,
+    held: &Held,
+    fails: &[FailCall],
+    calls: &[(u8, Call, Option<u64>)],
+) -> usize {
+    match packs(alloc, held, fails) {
+        Ok(mut packs) => first_other(&mut packs, calls),
         Err(_) => 0,
     }
 }
 
 #[test]
 fn packs_in_memory(rt: HostRuntime) {
-    let other = other_in_memory(rt.alloc());
-    assert!(rt; other == MEMORY.len(), "{other}");
+    assert!(rt; other_in_memory(rt.alloc(), &FOUR, &[], &MEMORY) == MEMORY.len());
 }
 
-/// What calls on packs that never fail answer: unit 3 has an image of 700 bytes 255, and two blocks.
+/// Two blocks of packs that never fail.
+static TWO: Held = Held {
+    unit: 3,
+    bytes: &[0xFF; 700],
+    marks: &[],
+    blocks: 2,
+};
+
+/// What calls on these answer.
 static SURE: [(u8, Call, Option<u64>); 12] = [
     (3, Call::Length, Some(700)),
     (3, Call::Read(1), Some(0xFF00)),
@@ -360,7 +356,7 @@ static SURE: [(u8, Call, Option<u64>); 12] = [
 
 /// The same of these.
 fn other_sure(alloc: Global) -> usize {
-    let Ok(images) = images(alloc, &[], 2) else {
+    let Ok(images) = images(alloc, &TWO) else {
         return 0;
     };
     match SurePacks::new(alloc, images) {
@@ -371,6 +367,5 @@ fn other_sure(alloc: Global) -> usize {
 
 #[test]
 fn sure_packs(rt: HostRuntime) {
-    let other = other_sure(rt.alloc());
-    assert!(rt; other == SURE.len(), "{other}");
+    assert!(rt; other_sure(rt.alloc()) == SURE.len());
 }

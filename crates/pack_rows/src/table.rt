@@ -32,7 +32,7 @@ fn is_refused(bytes: &[u8; 512], wanted: &TableFault) -> bool {
 fn table_faults(rt: HostRuntime) {
     assert!(rt; is_refused(&[0; 512], &TableFault::Order(1)));
     for row in &FAULTS {
-        assert!(rt; is_refused(&changed(row.0, row.1), &row.2), "{}", row.0);
+        assert!(rt; is_refused(&changed(row.0, row.1), &row.2));
     }
 }
 

@@ -1,5 +1,3 @@
-ghost use Rattle.std.specs.Prelude.{◌≤◌, length};
-
 use NumberFault::{Digit, Empty, Large};
 use Radix::{Decimal, Hex, Octal};
 use mass_text::*;
@@ -31,28 +29,18 @@ static NUMBERS: [Number; 14] = [
     ("g", Hex, ALL, Err(Digit(0))),
 ];
 
-fn is_number(row: &Number) -> bool {
-    number(row.0.as_bytes(), row.1, row.2) == row.3
-}
-
-static FIELDS: [&str; 4] = ["read", "007", "c", "5"];
-
-fn has_fields() -> bool {
-    let mut fields = Fields::new(b"\t read 007  c\t5 ");
-    for wanted in &FIELDS {
-        if fields.next() != Some(wanted.as_bytes()) {
-            return false;
-        }
-    }
-    fields.next().is_none()
-}
+// The fields of a line, and that there are no more.
+static FIELDS: [Option<&[u8]>; 5] = [Some(b"read"), Some(b"007"), Some(b"c"), Some(b"5"), None];
 
 #[test]
 fn numbers_and_fields(rt: HostRuntime) {
-    for row in &NUMBERS {
-        assert!(rt; is_number(row), "{}", row.0);
+    for (text, radix, most, wanted) in &NUMBERS {
+        assert!(rt; number(text.as_bytes(), *radix, *most) == *wanted);
     }
-    assert!(rt; has_fields());
+    let mut fields = Fields::new(b"\t read 007  c\t5 ");
+    for wanted in &FIELDS {
+        assert!(rt; fields.next() == *wanted);
+    }
 }
 
 // A number and a block, as a line of an answer has them.
@@ -67,27 +55,12 @@ fn line_of(value: u64, radix: Radix, bytes: &[u8; 512]) -> LineBuf {
     line
 }
 
-// The front of a block, as the line of an answer has it.
-fn front_of(bytes: &[u8]) -> LineBuf
-    requires some { 1 ≤ length bytes.now }
-    requires few { length bytes.now ≤ 512 }
-{
-    content_law();
-    let mut line = LineBuf::new();
-    line.put_bytes(bytes);
-    line
-}
-
 static LINES: [(u64, Radix, &str); 4] = [
     (0, Decimal, "blk 0 fill a5"),
     (340669, Decimal, "blk 340669 fill a5"),
     (1025, Octal, "blk 2001 fill a5"),
     (48879, Hex, "blk beef fill a5"),
 ];
-
-fn is_line(row: &(u64, Radix, &str)) -> bool {
-    line_of(row.0, row.1, &[0xa5; 512]).as_bytes() == row.2.as_bytes()
-}
 
 static FRONTS: [(&[u8], &str); 4] = [
     (b"\x07", "fill 07"),
@@ -97,9 +70,14 @@ static FRONTS: [(&[u8], &str); 4] = [
 ];
 
 // Whether the front of a block is told so; false of one with no byte, or too many.
-fn is_front(row: &(&[u8], &str)) -> bool {
-    let (bytes, wanted) = *row;
-    !bytes.is_empty() && bytes.len() <= 512 && front_of(bytes).as_bytes() == wanted.as_bytes()
+fn is_front(bytes: &[u8], wanted: &str) -> bool {
+    if bytes.is_empty() || bytes.len() > 512 {
+        return false;
+    }
+    content_law();
+    let mut line = LineBuf::new();
+    line.put_bytes(bytes);
+    line.as_bytes() == wanted.as_bytes()
 }
 
 // Whether all digits of a block are told.
@@ -113,11 +91,11 @@ fn is_whole() -> bool {
 
 #[test]
 fn lines(rt: HostRuntime) {
-    for row in &LINES {
-        assert!(rt; is_line(row), "{}", row.2);
+    for (value, radix, wanted) in &LINES {
+        assert!(rt; line_of(*value, *radix, &[0xa5; 512]).as_bytes() == wanted.as_bytes());
     }
-    for row in &FRONTS {
-        assert!(rt; is_front(row), "{}", row.1);
+    for (bytes, wanted) in &FRONTS {
+        assert!(rt; is_front(bytes, wanted));
     }
     assert!(rt; is_whole());
 }

@@ -1,27 +1,23 @@
-use crate::outside::failing;
+use crate::outside::{Held, packs};
 use bad144_tool::{AddWay, ToolFault, add, fresh, list};
 use mass_outside::mem_packs::{FailCall, MemPacks, PackOp};
 use mass_outside::mem_streams::MemSink;
-use mass_outside::slots::Image;
-use outside_traits::traits::{NoMemory, Packs, StoreFailed};
+use outside_traits::traits::{Packs, StoreFailed};
 use pack_geometry::{DriveKind, replacement};
-use std::alloc::{AllocError, Global};
+use std::alloc::Global;
 
 const WAY: AddWay = AddWay {
     copy: false,
     mark: true,
 };
 
-/// Unit 0 with an empty image, of which no copy of a table is there yet.
-fn packs(alloc: Global, fail: Vec<FailCall>) -> Result<MemPacks, NoMemory> {
-    let image = Image {
-        unit: 0,
-        bytes: Vec::new(alloc),
-        marks: Vec::new(alloc),
-        blocks: 131_680,
-    };
-    MemPacks::new(alloc, Vec::from_array(alloc, [image])?, fail)
-}
+/// An empty image of unit 0, of which no copy of a table is there yet.
+static EMPTY: Held = Held {
+    unit: 0,
+    bytes: &[],
+    marks: &[],
+    blocks: 131_680,
+};
 
 /// How many of replacements 1 to 10 of the RM03 hold what the one before held: 1 for replacement 0, and so on.
 fn moved(packs: &mut MemPacks) -> Result<u64, StoreFailed> {
@@ -65,27 +61,24 @@ fn is_stopped(packs: &mut MemPacks, n: u64) -> bool {
             add(packs, 0, DriveKind::Rm03, 999, WAY),
             Err(ToolFault::Store)
         )
-        && moved(packs).is_ok_and(|count| count == n.saturating_sub(1).min(10))
+        && matches!(moved(packs), Ok(count) if count == n.saturating_sub(1).min(10))
         && matches!(packs.marked(0, 999), Ok(false))
 }
 
-/// The writes that fail: each turn makes the table by 5 and 10 times 6 writes, fills 11 replacements, and then adds the block.
-fn each_write(alloc: Global) -> Result<Vec<FailCall>, AllocError> {
-    let mut fail = Vec::new(alloc);
-    let mut number = 0u64;
-    for n in 1..=16u64 {
-        number = number.saturating_add(76 + n);
-        fail.push(failing(PackOp::Write, number))?;
-    }
-    Ok(fail)
-}
-
 /// The first write where it is not so, or 17; 0 where there is no memory.
+///
+/// Each turn makes the table by 5 and 10 times 6 writes, fills 11 replacements, and then adds the block by up to 16.
 fn first_wrong(alloc: Global) -> u64 {
-    let Ok(fail) = each_write(alloc) else {
-        return 0;
-    };
-    let Ok(mut packs) = packs(alloc, fail) else {
+    let mut fails = [FailCall {
+        op: PackOp::Write,
+        number: 0,
+    }; 16];
+    let mut number = 0u64;
+    for (i, fail) in fails.iter_mut().enumerate() {
+        number = number.saturating_add(77).saturating_add(i as u64);
+        fail.number = number;
+    }
+    let Ok(mut packs) = packs(alloc, &EMPTY, &fails) else {
         return 0;
     };
     for n in 1..=16u64 {
@@ -100,8 +93,7 @@ fn first_wrong(alloc: Global) -> u64 {
 /// write were done, from the last replacement down, and the block is not marked.
 #[test]
 fn each_write_fails_in_turn(rt: HostRuntime) {
-    let wrong = first_wrong(rt.alloc());
-    assert!(rt; wrong == 17, "{wrong}");
+    assert!(rt; first_wrong(rt.alloc()) == 17);
 }
 
 /// Whether the lists are printed before and behind a table with one entry.
@@ -117,7 +109,7 @@ fn is_listed(packs: &mut MemPacks, out: &mut MemSink) -> bool {
 
 /// The same of new packs and a new sink.
 fn is_listed_anew(alloc: Global) -> bool {
-    let Ok(mut packs) = packs(alloc, Vec::new(alloc)) else {
+    let Ok(mut packs) = packs(alloc, &EMPTY, &[]) else {
         return false;
     };
     match MemSink::new(alloc, 200, Vec::new(alloc)) {
@@ -144,8 +136,12 @@ struct Sparse {
 
 impl Sparse {
     fn place(&self, block: u32) -> Option<usize> {
-        let used = self.used.min(8);
-        self.blocks[..used].iter().position(|kept| *kept == block)
+        for at in 0..self.used.min(8) {
+            if self.blocks[at] == block {
+                return Some(at);
+            }
+        }
+        None
     }
 }
 
@@ -224,6 +220,5 @@ fn rm05_table(rt: HostRuntime) {
         used: 0,
         marked: 0,
     };
-    let is_so = is_added(&mut packs);
-    assert!(rt; is_so);
+    assert!(rt; is_added(&mut packs));
 }

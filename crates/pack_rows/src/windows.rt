@@ -1,6 +1,6 @@
-use crate::outside::{Call, failing, first_other, images};
-use mass_outside::mem_packs::{MemPacks, PackOp};
-use outside_traits::traits::{NoMemory, Packs, StoreFailed};
+use crate::outside::{Call, Held, first_other, other_in_memory, packs};
+use mass_outside::mem_packs::{FailCall, MemPacks, PackOp};
+use outside_traits::traits::{Packs, StoreFailed};
 use outside_traits::wide_packs::WidePacks;
 use pack_windows::window_packs::WindowPacks;
 use std::alloc::Global;
@@ -102,29 +102,31 @@ static CALLS: [(u8, Call, Option<u64>); 33] = [
     (4, Call::Marked(1), Some(0)),
 ];
 
-/// Packs for these calls, of which a read fails by its number too, or none where that is 0.
-fn packs(alloc: Global, read: u64) -> Result<MemPacks, NoMemory> {
-    let fails = [
-        failing(PackOp::Write, 3),
-        failing(PackOp::SetMark, 2),
-        failing(PackOp::Read, read),
-    ];
-    let fail = Vec::from_slice(alloc, &fails)?;
-    let marks = [0, 1, 0, 0, 0, 0, 0, 0, 0, 1];
-    MemPacks::new(alloc, images(alloc, &marks, 40)?, fail)
-}
+static IMAGE: Held = Held {
+    unit: 3,
+    bytes: &[0xFF; 700],
+    marks: &[0, 1, 0, 0, 0, 0, 0, 0, 0, 1],
+    blocks: 40,
+};
 
-/// The first call that answers something else, or how many they are; the first where there is no memory.
-fn other_alone(alloc: Global) -> usize {
-    match packs(alloc, 0) {
-        Ok(mut packs) => first_other(&mut packs, &CALLS),
-        Err(_) => 0,
-    }
-}
+const WRITE: FailCall = FailCall {
+    op: PackOp::Write,
+    number: 3,
+};
 
-/// The same behind windows.
-fn other_behind(alloc: Global, read: u64) -> usize {
-    let Ok(packs) = packs(alloc, read) else {
+const MARK: FailCall = FailCall {
+    op: PackOp::SetMark,
+    number: 2,
+};
+
+/// The first call that answers something else behind windows, where a read fails too, by its number; or how many they are. The first
+/// where there is no memory.
+fn other_behind(alloc: Global, number: u64) -> usize {
+    let read = FailCall {
+        op: PackOp::Read,
+        number,
+    };
+    let Ok(packs) = packs(alloc, &IMAGE, &[WRITE, MARK, read]) else {
         return 0;
     };
     match WindowPacks::new(alloc, BlockForBlock { packs }) {
@@ -135,7 +137,7 @@ fn other_behind(alloc: Global, read: u64) -> usize {
 
 #[test]
 fn packs_behind_windows(rt: HostRuntime) {
-    assert!(rt; other_alone(rt.alloc()) == CALLS.len());
+    assert!(rt; other_in_memory(rt.alloc(), &IMAGE, &[WRITE, MARK], &CALLS) == CALLS.len());
     // The first and the second read ahead fail, and the block is read alone.
     assert!(rt; other_behind(rt.alloc(), 4) == CALLS.len());
     assert!(rt; other_behind(rt.alloc(), 11) == CALLS.len());
