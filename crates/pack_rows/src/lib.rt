@@ -5,7 +5,11 @@
 #[cfg(test)]
 mod answers;
 #[cfg(test)]
+mod files;
+#[cfg(test)]
 mod gather;
+#[cfg(test)]
+mod guarded;
 #[cfg(test)]
 mod outside;
 #[cfg(test)]

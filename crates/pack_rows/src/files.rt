@@ -1,43 +1,24 @@
 // The packs in the files of the working folder, and a sink that makes its file.
 use crate::guarded::Guarded;
+use crate::outside::{Call, first_other};
 use Deed::{Holds, IsMissing, MakeFolder, Remove, RemoveFolder, Write};
 use mass_outside::file_sink::FileSink;
 use mass_outside::files::FilePacks;
-use mass_outside::traits::{Packs, StoreFailed};
-use mass_outside::whole::write_all;
+use mass_outside::os_folder::OsFolder;
+use outside_traits::whole::write_all;
 use pack_windows::window_packs::WindowPacks;
 use std::fs;
-use std::test::Fail;
 
-/// A call on packs.
-#[derive(Clone, Copy)]
-enum Call {
-    Length,
-    Read(u32),
-    Write(u32, u8),
-    Marked(u32),
-    Mark(u32, bool),
+/// Packs in the files of the working folder.
+type FolderPacks<'a> = FilePacks<OsFolder<&'a HostRuntime>>;
+
+fn folder_packs(rt: &HostRuntime) -> FolderPacks<'_> {
+    FilePacks::new(rt)
 }
 
-/// 256 times the first byte, and the last byte.
-fn edges(block: &[u8; 512]) -> u64 {
-    256 * u64::from(block[0]) + u64::from(block[511])
-}
-
-/// What a call answers. Reading answers 256 times the first byte, and the last byte, of a buffer that held 7s before; writing 0.
-fn answer<P: Packs>(packs: &mut P, unit: u8, call: Call) -> Option<u64> {
-    let unit = unit.min(31);
-    let held = if matches!(call, Call::Read(_)) { 7 } else { 0 };
-    let mut block = [held; 512];
-    let done = match call {
-        Call::Length => return packs.length(unit).ok(),
-        Call::Marked(at) => return packs.marked(unit, at).ok().map(u64::from),
-        Call::Read(at) => packs.read(unit, at, &mut block),
-        Call::Write(at, byte) => packs.write(unit, at, &[byte; 512]),
-        Call::Mark(at, on) => packs.set_mark(unit, at, on),
-    };
-    done.ok()?;
-    Some(edges(&block))
+/// The first call of a list that these answer otherwise, or its length.
+fn first_in_folder(packs: &mut FolderPacks<'_>, calls: &[(u8, Call, Option<u64>)]) -> usize {
+    first_other(packs, calls)
 }
 
 /// What calls on the packs of files answer. Unit 28 has an image of 700 bytes 255 and the marks 0, 7 and 1, the image
@@ -109,16 +90,6 @@ static SHUT: [(u8, Call, Option<u64>); 6] = [
     (29, Call::Length, None),
 ];
 
-/// The first call of a list that answers something else, or its length.
-fn first_other<P: Packs>(packs: &mut P, calls: &[(u8, Call, Option<u64>)]) -> usize {
-    for (i, (unit, call, want)) in calls.iter().enumerate() {
-        if answer(packs, *unit, *call) != *want {
-            return i;
-        }
-    }
-    calls.len()
-}
-
 /// What is done to a file or a folder, or asked of it.
 #[derive(Clone, Copy)]
 enum Deed {
@@ -144,10 +115,10 @@ fn is_done(rt: &HostRuntime, deed: Deed, name: &str) -> bool {
     }
 }
 
-/// Whether it is done to each of these, or is so of each.
-fn are_done(rt: &HostRuntime, deed: Deed, names: &[&str]) -> bool {
-    for name in names {
-        if !is_done(rt, deed, name) {
+/// Whether each is done, or is so.
+fn are_done(rt: &HostRuntime, deeds: &[(Deed, &str)]) -> bool {
+    for (deed, name) in deeds {
+        if !is_done(rt, *deed, name) {
             return false;
         }
     }
@@ -160,46 +131,62 @@ fn first_guarded(rt: &HostRuntime, reads: bool, calls: &[(u8, Call, Option<u64>)
     first_other(&mut FilePacks::new((Guarded { rt, reads }, alloc)), calls)
 }
 
+/// What is made before these calls.
+static MADE: [(Deed, &str); 5] = [
+    (Write(&[0xFF; 700]), "hp28.dsk"),
+    (Write(&[0, 7, 1]), "hp28.bad"),
+    (MakeFolder, "hp27.dsk"),
+    (Write(b""), "hp25.dsk"),
+    (Write(b""), "hp25.bad"),
+];
+
+/// What is so behind them.
+static LEFT: [(Deed, &str); 11] = [
+    (Holds(&[0, 0, 1, 0, 1]), "hp28.bad"),
+    (IsMissing, "hp29.dsk"),
+    (IsMissing, "hp29.bad"),
+    (IsMissing, "hp27.bad"),
+    (RemoveFolder, "hp27.dsk"),
+    (Remove, "hp28.dsk"),
+    (Remove, "hp28.bad"),
+    (Remove, "hp26.dsk"),
+    (Remove, "hp26.bad"),
+    (Remove, "hp25.dsk"),
+    (Remove, "hp25.bad"),
+];
+
 #[test]
 fn packs_in_files(rt: HostRuntime) {
-    let are_made = are_done(&rt, Write(&[0xFF; 700]), &["hp28.dsk"])
-        && are_done(&rt, Write(&[0, 7, 1]), &["hp28.bad"])
-        && are_done(&rt, MakeFolder, &["hp27.dsk"])
-        && are_done(&rt, Write(b""), &["hp25.dsk", "hp25.bad"]);
+    let are_made = are_done(&rt, &MADE);
     let firsts = [
-        first_other(&mut FilePacks::new(&rt), &FILES),
+        first_in_folder(&mut folder_packs(&rt), &FILES),
         first_guarded(&rt, true, &READ_ONLY),
         first_guarded(&rt, false, &SHUT),
     ];
-    let are_left = are_done(&rt, Holds(&[0, 0, 1, 0, 1]), &["hp28.bad"])
-        && are_done(&rt, IsMissing, &["hp29.dsk", "hp29.bad", "hp27.bad"])
-        && are_done(&rt, RemoveFolder, &["hp27.dsk"])
-        && are_done(
-            &rt,
-            Remove,
-            &["hp28.dsk", "hp28.bad", "hp26.dsk", "hp26.bad"],
-        )
-        && are_done(&rt, Remove, &["hp25.dsk", "hp25.bad"]);
-    let lengths = [FILES.len(), READ_ONLY.len(), SHUT.len()];
-    assert!(rt; are_made && firsts == lengths && are_left, "{firsts:?}");
+    let are_left = are_done(&rt, &LEFT);
+    assert!(rt; are_made && firsts == [FILES.len(), READ_ONLY.len(), SHUT.len()] && are_left);
 }
 
+/// What packs answer of unit 19, whose file was missing before.
+static MISSING: [(u8, Call, Option<u64>); 3] = [
+    (19, Call::Length, Some(0)),
+    (19, Call::Write(1, 2), Some(0)),
+    (19, Call::Length, Some(1024)),
+];
+
 /// Whether packs find no file of unit 19 where it was missing before, but make one and open it where they write, which stays open.
-fn stays_missing<P: Packs>(rt: &HostRuntime, packs: &mut P) -> bool {
-    matches!(packs.length(19), Ok(0))
+fn stays_missing(rt: &HostRuntime, packs: &mut FolderPacks<'_>) -> bool {
+    first_in_folder(packs, &MISSING[..1]) == 1
         && is_done(rt, Write(&[1; 512]), "hp19.dsk")
-        && matches!(packs.length(19), Ok(0))
-        && packs.write(19, 1, &[2; 512]).is_ok()
-        && matches!(packs.length(19), Ok(1024))
+        && first_in_folder(packs, &MISSING) == 3
         && is_done(rt, Remove, "hp19.dsk")
-        && matches!(packs.length(19), Ok(1024))
+        && first_in_folder(packs, &MISSING[2..]) == 1
 }
 
 /// A file that is made behind our back is out of scope; it is not found where it was missing before.
 #[test]
 fn missing_until_written(rt: HostRuntime) {
-    let is_so = stays_missing(&rt, &mut FilePacks::new(&rt));
-    assert!(rt; is_so);
+    assert!(rt; stays_missing(&rt, &mut folder_packs(&rt)));
 }
 
 /// Whether a sink takes two lines.
@@ -208,15 +195,19 @@ fn takes_lines(rt: &HostRuntime) -> bool {
     write_all(&mut file, b"idle 1\n").is_ok() && write_all(&mut file, b"idle 2\n").is_ok()
 }
 
+/// What a sink leaves, and a folder in place of it.
+static TRACE: [(Deed, &str); 3] = [
+    (Holds(b"idle 1\nidle 2\n"), "hp.trace"),
+    (Remove, "hp.trace"),
+    (MakeFolder, "hp.trace"),
+];
+
 #[test]
 fn file_sink(rt: HostRuntime) {
     let is_made = is_done(&rt, Write(b"an older and longer text"), "hp.trace")
         && takes_lines(&rt)
-        && is_done(&rt, Holds(b"idle 1\nidle 2\n"), "hp.trace")
-        && is_done(&rt, Remove, "hp.trace");
-    let is_refused = is_done(&rt, MakeFolder, "hp.trace")
-        && !takes_lines(&rt)
-        && is_done(&rt, RemoveFolder, "hp.trace");
+        && are_done(&rt, &TRACE);
+    let is_refused = !takes_lines(&rt) && is_done(&rt, RemoveFolder, "hp.trace");
     assert!(rt; is_made && is_refused);
 }
 
@@ -246,22 +237,51 @@ static AGAIN: [(u8, Call, Option<u64>); 3] = [
     (23, Call::Read(70), Some(0x0606)),
 ];
 
-/// The first call of each of the two lists that answers something else, or its length.
-fn firsts_behind(rt: &HostRuntime) -> Result<[usize; 2], Fail> {
-    let mut packs = WindowPacks::new(rt.alloc(), FilePacks::new(rt))?;
-    let first = first_other(&mut packs, &AHEAD);
-    let mut again = WindowPacks::new(rt.alloc(), FilePacks::new(rt))?;
-    Ok([first, first_other(&mut again, &AGAIN)])
+/// Packs in files behind windows.
+type Behind<'a> = WindowPacks<FolderPacks<'a>>;
+
+fn behind(rt: &HostRuntime) -> Option<Behind<'_>> {
+    match WindowPacks::new(rt.alloc(), folder_packs(rt)) {
+        Ok(packs) => Some(packs),
+        Err(_) => None,
+    }
 }
 
+/// The first call of a list that these answer otherwise, or its length.
+fn first_behind(packs: &mut Behind<'_>, calls: &[(u8, Call, Option<u64>)]) -> usize {
+    first_other(packs, calls)
+}
+
+/// The same of each of the two lists; the first where there is no memory.
+fn firsts_behind(rt: &HostRuntime) -> [usize; 2] {
+    let Some(mut packs) = behind(rt) else {
+        return [0; 2];
+    };
+    let first = first_behind(&mut packs, &AHEAD);
+    match behind(rt) {
+        Some(mut again) => [first, first_behind(&mut again, &AGAIN)],
+        None => [0; 2],
+    }
+}
+
+/// What is made before these calls.
+static AHEAD_MADE: [(Deed, &str); 2] = [
+    (Write(&[0xFF; 700]), "hp24.dsk"),
+    (Write(&[0, 7, 1]), "hp24.bad"),
+];
+
+/// What is so behind them.
+static AHEAD_LEFT: [(Deed, &str); 4] = [
+    (IsMissing, "hp23.bad"),
+    (Remove, "hp23.dsk"),
+    (Remove, "hp24.dsk"),
+    (Remove, "hp24.bad"),
+];
+
 #[test]
-fn files_behind_windows(rt: HostRuntime) -> Result<(), Fail> {
-    let are_made = is_done(&rt, Write(&[0xFF; 700]), "hp24.dsk")
-        && is_done(&rt, Write(&[0, 7, 1]), "hp24.bad");
-    let firsts = firsts_behind(&rt)?;
-    let are_left = is_done(&rt, IsMissing, "hp23.bad")
-        && are_done(&rt, Remove, &["hp23.dsk", "hp24.dsk", "hp24.bad"]);
-    let lengths = [AHEAD.len(), AGAIN.len()];
-    assert!(rt; are_made && firsts == lengths && are_left, "{firsts:?}");
-    Ok(())
+fn files_behind_windows(rt: HostRuntime) {
+    let are_made = are_done(&rt, &AHEAD_MADE);
+    let firsts = firsts_behind(&rt);
+    let are_left = are_done(&rt, &AHEAD_LEFT);
+    assert!(rt; are_made && firsts == [AHEAD.len(), AGAIN.len()] && are_left);
 }
