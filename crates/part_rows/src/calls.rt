@@ -3,7 +3,6 @@ use crate::cut_packs::{CutPacks, SURVEYED, Written, Wrong, cut};
 use pack_format::{FormatFault, FormatReport, format};
 use pack_geometry::DriveKind;
 use std::alloc::Global;
-use std::process::Abort;
 
 /// Formats these packs.
 fn run(alloc: Global, packs: &mut CutPacks) -> Result<FormatReport, FormatFault> {
@@ -14,7 +13,7 @@ fn run(alloc: Global, packs: &mut CutPacks) -> Result<FormatReport, FormatFault>
 const CALLS: u64 = 526_403;
 
 /// What a whole run writes: the blocks, by the byte that each begins with.
-const WRITES: [(u32, u8); 15] = [
+static WRITES: [(u32, u8); 15] = [
     (0, 0xa5),
     (0, 0x00),
     (65_760, 0xa5),
@@ -32,26 +31,27 @@ const WRITES: [(u32, u8); 15] = [
     (131_656, 0x09),
 ];
 
-/// The table with the serial number 9 that lists blocks 5 and 160.
-fn table() -> [u8; 512] {
+/// What a block holds: the table with the serial number 9 that lists blocks 5 and 160, or such bytes.
+fn content_of(first: u8) -> [u8; 512] {
+    if first != 9 {
+        return [first; 512];
+    }
     let mut bytes = [0xff; 512];
     bytes[..16].copy_from_slice(&[9, 0, 0, 0, 0, 0, 0, 0, 0, 0, 5, 0, 1, 0, 0, 0]);
     bytes
 }
 
-/// Whether a block was written, with the table or with such bytes.
-fn is_so(written: &Written, block: u32, first: u8) -> bool {
-    let bytes = if first == 9 { table() } else { [first; 512] };
-    written.block == block && written.bytes == bytes
-}
-
 /// Whether all was written, in this order.
 fn is_whole(written: &[Written]) -> bool {
-    written.len() == WRITES.len()
-        && written
-            .iter()
-            .zip(&WRITES)
-            .all(|(it, (block, first))| is_so(it, *block, *first))
+    if written.len() != WRITES.len() {
+        return false;
+    }
+    for (it, (block, first)) in written.iter().zip(&WRITES) {
+        if it.block != *block || it.bytes != content_of(*first) {
+            return false;
+        }
+    }
+    true
 }
 
 /// What a whole run writes, where it ends well with all its calls.
@@ -93,48 +93,44 @@ fn other_stop(alloc: Global, calls: &[Calls]) -> u64 {
     0
 }
 
-fn all_stop(rt: &impl Abort, alloc: Global, calls: &[Calls]) {
-    let other = other_stop(alloc, calls);
-    assert!(rt; other == 0, "{other}");
-}
-
 /// The length, the first reading of two cylinders, and of data blocks from there on.
 #[test]
 fn readings_of_data_fail(rt: HostRuntime) {
-    all_stop(&rt, rt.alloc(), &[(1, 660, 1), (661, 263, 997)]);
+    assert!(rt; other_stop(rt.alloc(), &[(1, 660, 1), (661, 263, 997)]) == 0);
 }
 
 /// The first reading of the last data blocks, the replacements and the copies.
 #[test]
 fn readings_of_replacements_fail(rt: HostRuntime) {
-    all_stop(&rt, rt.alloc(), &[(SURVEYED - 269, 140, 1)]);
+    assert!(rt; other_stop(rt.alloc(), &[(SURVEYED - 269, 140, 1)]) == 0);
 }
 
 #[test]
 fn readings_of_copies_fail(rt: HostRuntime) {
-    all_stop(&rt, rt.alloc(), &[(SURVEYED - 129, 130, 1)]);
+    assert!(rt; other_stop(rt.alloc(), &[(SURVEYED - 129, 130, 1)]) == 0);
 }
 
 /// The tests of the first data block, and of marked ones behind it.
 #[test]
 fn calls_at_the_first_block_fail(rt: HostRuntime) {
-    all_stop(
-        &rt,
-        rt.alloc(),
-        &[(SURVEYED + 1, 16, 1), (SURVEYED + 17, 66, 1_999)],
+    assert!(rt;
+        other_stop(
+            rt.alloc(),
+            &[(SURVEYED + 1, 16, 1), (SURVEYED + 17, 66, 1_999)]
+        ) == 0
     );
 }
 
 /// The tests of the data block in the middle, and of marked ones behind it.
 #[test]
 fn calls_at_the_middle_block_fail(rt: HostRuntime) {
-    all_stop(&rt, rt.alloc(), &[(394_830, 16, 1), (394_847, 33, 3_985)]);
+    assert!(rt; other_stop(rt.alloc(), &[(394_830, 16, 1), (394_847, 33, 3_985)]) == 0);
 }
 
 /// The tests of the last data block and of the replacements, and the writing of the copies.
 #[test]
 fn calls_at_the_last_blocks_fail(rt: HostRuntime) {
-    all_stop(&rt, rt.alloc(), &[(CALLS - 47, 48, 1)]);
+    assert!(rt; other_stop(rt.alloc(), &[(CALLS - 47, 48, 1)]) == 0);
 }
 
 /// A byte that came back otherwise: its block, its place there, what was written and what was read.
@@ -189,6 +185,5 @@ fn other_end(alloc: Global) -> u64 {
 
 #[test]
 fn each_write_comes_back_otherwise(rt: HostRuntime) {
-    let other = other_end(rt.alloc());
-    assert!(rt; other == 0, "{other}");
+    assert!(rt; other_end(rt.alloc()) == 0);
 }

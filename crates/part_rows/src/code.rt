@@ -11,9 +11,9 @@ fn has_check(last: u8, check: u32) -> bool {
 }
 
 // A last byte of zero, one with its highest bit set, and one with the next bit set.
-const CHECKS: [(u8, u32); 3] = [(0, 0), (0x80, 0x00A0_0805), (0x40, 0x0140_100A)];
+static CHECKS: [(u8, u32); 3] = [(0, 0), (0x80, 0x00A0_0805), (0x40, 0x0140_100A)];
 
-const NOISE: [(&[u16], NoiseClass, Verdict); 4] = [
+static NOISE: [(&[u16], NoiseClass, Verdict); 4] = [
     (
         &[4090, 4100],
         NoiseClass::Short,
@@ -35,27 +35,26 @@ const NOISE: [(&[u16], NoiseClass, Verdict); 4] = [
 ];
 
 // Whether noise has this class, and a sector of zeros that it strikes this verdict, by the tables and by the plain program.
-fn strikes(noise: &Noise, class: NoiseClass, verdict: Verdict) -> bool {
+fn strikes(places: &[u16], class: NoiseClass, verdict: Verdict) -> bool {
+    let Some(noise) = Noise::new(places) else {
+        return false;
+    };
     let mut bytes = [0; 512];
-    let check = apply(noise, &mut bytes, Check(0));
+    let check = apply(&noise, &mut bytes, Check(0));
     let remainder = plain::remainder(&bytes, check);
     syndrome(&bytes, check) == remainder
         && judge(&bytes, check) == verdict
         && plain::verdict_of(remainder) == verdict
         && judge_noise(&noise.copy()) == verdict
-        && class_of(noise) == class
+        && class_of(&noise) == class
 }
 
 #[test]
 fn fire_code_values(rt: HostRuntime) {
-    for (last, check) in CHECKS {
-        assert!(rt; has_check(last, check));
+    for (last, check) in &CHECKS {
+        assert!(rt; has_check(*last, *check));
     }
-    for (places, class, verdict) in NOISE {
-        let is_so = match Noise::new(places) {
-            Some(noise) => strikes(&noise, class, verdict),
-            None => false,
-        };
-        assert!(rt; is_so);
+    for (places, class, verdict) in &NOISE {
+        assert!(rt; strikes(places, *class, *verdict));
     }
 }

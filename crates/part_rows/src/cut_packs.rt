@@ -6,7 +6,7 @@ use outside_traits::traits::{Packs, StoreFailed};
 use std::alloc::Global;
 
 /// How a call goes wrong.
-#[derive(Clone, Copy, PartialEq, Eq)]
+#[derive(Clone, Copy)]
 pub(crate) enum Wrong {
     /// It fails, and did nothing.
     Fails,
@@ -17,11 +17,17 @@ pub(crate) enum Wrong {
 }
 
 /// What a call wrote, by its number.
-#[derive(Clone, Copy, PartialEq, Eq)]
+#[derive(Drop)]
 pub(crate) struct Written {
     pub(crate) call: u64,
     pub(crate) block: u32,
     pub(crate) bytes: [u8; 512],
+}
+
+impl Written {
+    fn is(&self, other: &Written) -> bool {
+        self.call == other.call && self.block == other.block && self.bytes == other.bytes
+    }
 }
 
 /// The first reading of all blocks ends with this call: the length, a mark and a read of each of 131,653 blocks, but no read of the two
@@ -56,16 +62,25 @@ impl CutPacks {
         ensures { HasCause self.old.failed self.new.failed result }
     {
         self.calls = self.calls.saturating_add(1);
-        if self.goes(Wrong::Fails) || self.goes(Wrong::FailsBehind) {
+        if matches!(self.wrong_now(), Some(Wrong::Fails | Wrong::FailsBehind)) {
             self.failed = self.failed.saturating_add(1);
             return Err(StoreFailed);
         }
         Ok(())
     }
 
-    /// Whether the call that was counted last goes wrong so.
-    fn goes(&self, wrong: Wrong) -> bool {
-        self.calls == self.number && self.wrong == wrong
+    /// How the call that was counted last goes wrong, if it does.
+    fn wrong_now(&self) -> Option<Wrong> {
+        if self.calls == self.number {
+            Some(self.wrong)
+        } else {
+            None
+        }
+    }
+
+    /// Whether that call lies.
+    fn lies(&self) -> bool {
+        matches!(self.wrong_now(), Some(Wrong::Lies))
     }
 
     /// Whether a block is marked.
@@ -87,16 +102,18 @@ impl CutPacks {
 
     /// Whether just that was written which a whole run writes before the call that goes wrong, and by that call where it did what it was to do.
     pub(crate) fn is_front(&self, whole: &CutPacks) -> bool {
-        let behind = self
-            .number
-            .saturating_add(u64::from(self.wrong == Wrong::FailsBehind));
-        let count = whole.written.iter().filter(|it| it.call < behind).count();
-        self.written.len() == count
-            && self
-                .written
-                .iter()
-                .zip(&whole.written)
-                .all(|(it, other)| it == other)
+        let fails_behind = matches!(self.wrong, Wrong::FailsBehind);
+        let behind = self.number.saturating_add(u64::from(fails_behind));
+        let mut own = self.written.iter();
+        for other in &whole.written {
+            if other.call < behind {
+                match own.next() {
+                    Some(it) if it.is(other) => {}
+                    _ => return false,
+                }
+            }
+        }
+        own.next().is_none()
     }
 
     /// Keeps what is written.
@@ -129,7 +146,7 @@ impl Packs for CutPacks {
     fn read(&mut self, _: u8, block: u32, into: &mut [u8; 512]) -> Result<(), StoreFailed> {
         self.call()?;
         *into = self.content(block);
-        if self.goes(Wrong::Lies) {
+        if self.lies() {
             into[511] = !into[511];
         }
         Ok(())
@@ -137,7 +154,7 @@ impl Packs for CutPacks {
 
     fn write(&mut self, _: u8, block: u32, from: &[u8; 512]) -> Result<(), StoreFailed> {
         let called = self.call();
-        if !self.goes(Wrong::Fails) && !self.goes(Wrong::Lies) {
+        if matches!(self.wrong_now(), None | Some(Wrong::FailsBehind)) {
             self.keep(block, from);
         }
         called
@@ -145,7 +162,7 @@ impl Packs for CutPacks {
 
     fn marked(&mut self, _: u8, block: u32) -> Result<bool, StoreFailed> {
         self.call()?;
-        Ok(self.goes(Wrong::Lies) || self.is_bad(block))
+        Ok(self.lies() || self.is_bad(block))
     }
 
     fn set_mark(&mut self, _: u8, _: u32, _: bool) -> Result<(), StoreFailed> {

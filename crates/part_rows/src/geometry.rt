@@ -3,7 +3,7 @@ use DriveKind::{Rm03, Rm05, Rp06};
 use pack_geometry::{DriveKind, Place, block_of, blocks, copy_block, place_of, replacement};
 
 // Places worked out by hand from the drives' sizes, and the ends of a pack.
-const PLACES: [(DriveKind, u32, u32, u32, u32); 9] = [
+static PLACES: [(DriveKind, u32, u32, u32, u32); 9] = [
     (Rp06, 0, 0, 0, 0),
     (Rp06, 1000, 2, 7, 10),
     (Rp06, 340669, 814, 18, 21),
@@ -29,13 +29,13 @@ fn has_reserved() -> bool {
 
 #[test]
 fn places_and_parts(rt: HostRuntime) {
-    for (kind, block, cylinder, track, sector) in PLACES {
+    for (kind, block, cylinder, track, sector) in &PLACES {
         let place = Place {
-            cylinder,
-            track,
-            sector,
+            cylinder: *cylinder,
+            track: *track,
+            sector: *sector,
         };
-        assert!(rt; is_at(kind, block, place), "block {block}");
+        assert!(rt; is_at(*kind, *block, place));
     }
     assert!(rt; has_reserved());
 }

@@ -4,7 +4,9 @@ use pack_geometry::DriveKind;
 use sector_format::{HeaderFault, header_fault, header_of, raw_sector};
 
 // Headers by the drives' tables, worked out by hand: a block, whether it is marked, its two words, and what they are at fault for.
-const HEADERS: [(DriveKind, u32, bool, u16, u16, Option<HeaderFault>); 6] = [
+type Row = (DriveKind, u32, bool, u16, u16, Option<HeaderFault>);
+
+static HEADERS: [Row; 6] = [
     (Rp06, 1000, false, 0o010002, 0o003412, None),
     (
         Rp06,
@@ -27,18 +29,14 @@ const HEADERS: [(DriveKind, u32, bool, u16, u16, Option<HeaderFault>); 6] = [
     ),
 ];
 
-fn has_header(
-    kind: DriveKind,
-    block: u32,
-    marked: bool,
-    words: (u16, u16),
-    fault: Option<HeaderFault>,
-) -> bool {
+fn has_header(row: &Row) -> bool {
+    let (kind, block, marked, cylinder_word, sector_word, fault) = *row;
     if block >= 131680 {
         return false;
     }
     let header = header_of(kind, block, marked);
-    (header.cylinder_word, header.sector_word) == words
+    header.cylinder_word == cylinder_word
+        && header.sector_word == sector_word
         && header_fault(kind, header, block) == fault
 }
 
@@ -59,8 +57,8 @@ fn keeps_body() -> bool {
 
 #[test]
 fn headers(rt: HostRuntime) {
-    for (kind, block, marked, cylinder_word, sector_word, fault) in HEADERS {
-        assert!(rt; has_header(kind, block, marked, (cylinder_word, sector_word), fault));
+    for row in &HEADERS {
+        assert!(rt; has_header(row));
     }
     assert!(rt; tells_apart() && keeps_body());
 }

@@ -4,7 +4,9 @@ use DriveKind::{Rm03, Rm05, Rp06};
 use pack_geometry::DriveKind;
 use partitions::{Admission, Part, admit, part_of, part_range};
 
-const ENDS: [(DriveKind, Part, u32, u32, Admission); 12] = [
+type End = (DriveKind, Part, u32, u32, Admission);
+
+static ENDS: [End; 12] = [
     (Rp06, Part::C, 340522, 1, Eof),
     (Rp06, Part::C, 340521, 2, Outside),
     (Rp06, Part::H, 0, 1, Eof),
@@ -19,7 +21,8 @@ const ENDS: [(DriveKind, Part, u32, u32, Admission); 12] = [
     (Rm05, Part::G, 450369, 2, Outside),
 ];
 
-fn admits(kind: DriveKind, part: Part, block: u32, count: u32, wanted: Admission) -> bool {
+fn admits(row: &End) -> bool {
+    let (kind, part, block, count, wanted) = *row;
     count >= 1 && count <= 127 && admit(kind, part, block, count) == wanted
 }
 
@@ -32,8 +35,8 @@ fn has_names() -> bool {
 
 #[test]
 fn partition_ends(rt: HostRuntime) {
-    for (kind, part, block, count, wanted) in ENDS {
-        assert!(rt; admits(kind, part, block, count, wanted), "{block} {count}");
+    for row in &ENDS {
+        assert!(rt; admits(row));
     }
     assert!(rt; has_names());
 }

@@ -49,6 +49,6 @@ fn follows(failures: u32, read: Step, write: Step) -> bool
 fn schedule(rt: HostRuntime) {
     for failures in 1..=28 {
         let (read, write) = SCHEDULE[failures as usize - 1];
-        assert!(rt; follows(failures, read, write), "failure {failures}");
+        assert!(rt; follows(failures, read, write));
     }
 }

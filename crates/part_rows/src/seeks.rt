@@ -56,7 +56,7 @@ fn distances(rt: HostRuntime) {
             (sectors - 3, true),
             (sectors - 4, false),
         ] {
-            assert!(rt; is_decided(kind, look, near, search), "{look}");
+            assert!(rt; is_decided(kind, look, near, search));
         }
         assert!(rt; positions(search));
     }
