@@ -27,21 +27,20 @@ hand_at scene r = place_of scene (in_hand r)
 abbrev pub hand_width : Scene → Request → ℕ
 hand_width scene r = place_of scene (ended r) - hand_at scene r
 
-abbrev pub with_bracket : Scene → ℕ → Request → List ℕ → List ℕ
-with_bracket scene y r text =
-    if nat_lt 0 (hand_width scene r)
-    then with_path (codes "k") (route.Bracket (point (hand_at scene r) (add y 11)) (hand_width scene r - 2)) text
-    else text
+abbrev pub with_bracket : ℕ → ℕ → ℕ → List ℕ → List ℕ
+with_bracket x width y text =
+    if nat_lt 0 width then with_path (codes "k") (route.Bracket (point x (add y 11)) (width - 2)) text else text
 
-abbrev pub with_id : Scene → ℕ → Request → List ℕ → List ℕ
-with_id scene y r text =
-    if nat_le (add (width_of r.id) 4) (hand_width scene r)
-    then with_label_number (codes "m") (point (add (hand_at scene r) 2) (add y 5)) r.id text
-    else text
+abbrev pub with_id : ℕ → ℕ → ℕ → ℕ → List ℕ → List ℕ
+with_id x width y id text =
+    if nat_le (add (width_of id) 4) width then with_label_number (codes "m") (point (add x 2) (add y 5)) id text else text
+
+unfoldable pub with_hand : ℕ → ℕ → ℕ → ℕ → List ℕ → List ℕ
+with_hand x width y id = drawn (with_bracket x width y ∷ with_id x width y id ∷ [])
 
 -- those of a unit that are shown
 unfoldable pub with_time : Scene → ℕ → ℕ → List ℕ → Request → List ℕ
-with_time scene unit y text r = if is_of scene.sheet.now unit r then with_id scene y r (with_bracket scene y r text) else text
+with_time scene unit y text r = if is_of scene.sheet.now unit r then with_hand (hand_at scene r) (hand_width scene r) y r.id text else text
 
 unfoldable pub with_in_hand : Scene → ℕ → ℕ → List ℕ → List ℕ
 with_in_hand scene unit y text =
@@ -54,14 +53,19 @@ waiting_in unit column = (drive_at column.drives unit).cell.waiting
 abbrev pub most_of : List ℕ → ℕ
 most_of counts = fold max 0 counts
 
-unfoldable pub with_count_bar : Scene → Stretch → ℕ → ℕ → ℕ → List ℕ → List ℕ
-with_count_bar scene s count most y = drawn
+unfoldable pub with_count_title : Scene → Stretch → ℕ → List ℕ → List ℕ
+with_count_title scene s count = drawn
     (with_group
     ∷ with_span scene.sheet.now s.from s.to
     ∷ with_words (codes ": ")
     ∷ with_number count
     ∷ with_words (codes " asked for")
     ∷ with_end element.Title
+    ∷ [])
+
+unfoldable pub with_count_bar : Scene → Stretch → ℕ → ℕ → ℕ → List ℕ → List ℕ
+with_count_bar scene s count most y = drawn
+    (with_count_title scene s count
     ∷ with_rect (codes "v") (point (x_of scene.frame s.from) (add y 11 - part_of 10 count most)) (width_in scene.frame s) (part_of 10 count most) None
     ∷ with_end element.Group
     ∷ [])
@@ -75,11 +79,14 @@ with_count scene unit most y text s =
 abbrev pub counts_of : Scene → ℕ → List ℕ
 counts_of scene unit = map (waiting_in unit) scene.sheet.now.run.now.columns
 
+unfoldable pub with_counts : Scene → ℕ → ℕ → List ℕ → List ℕ → List ℕ
+with_counts scene unit y counts text =
+    fold (with_count scene unit (most_of counts) y)
+    (with_label_both (codes "q e") (point 150 (add y 8)) (codes "asked for, most ") (most_of counts) text)
+    (stretches_of counts)
+
 unfoldable pub with_waiting : Scene → ℕ → ℕ → List ℕ → List ℕ
-with_waiting scene unit y text =
-    fold (with_count scene unit (most_of (counts_of scene unit)) y)
-    (with_label_both (codes "q e") (point 150 (add y 8)) (codes "asked for, most ") (most_of (counts_of scene unit)) text)
-    (stretches_of (counts_of scene unit))
+with_waiting scene unit y = with_counts scene unit y (counts_of scene unit)
 
 abbrev pub with_requests : Scene → ℕ → ℕ → List ℕ → List ℕ
 with_requests scene unit y text =
@@ -101,12 +108,17 @@ abbrev pub condition_class : Bool → List ℕ
 condition_class true = codes "f"
 condition_class false = codes "j"
 
-unfoldable pub with_condition_bar : Scene → Stretch → Bool → ℕ → List ℕ → List ℕ
-with_condition_bar scene s offline y = drawn
+unfoldable pub with_condition_title : Scene → Stretch → Bool → List ℕ → List ℕ
+with_condition_title scene s offline = drawn
     (with_group
     ∷ with_span scene.sheet.now s.from s.to
     ∷ with_words (condition_words offline)
     ∷ with_end element.Title
+    ∷ [])
+
+unfoldable pub with_condition_bar : Scene → Stretch → Bool → ℕ → List ℕ → List ℕ
+with_condition_bar scene s offline y = drawn
+    (with_condition_title scene s offline
     ∷ with_path (condition_class offline) (route.Across (point (x_of scene.frame s.from) y) (x_of scene.frame s.to))
     ∷ with_end element.Group
     ∷ [])
@@ -123,28 +135,43 @@ with_conditions scene unit offline y text =
 abbrev pub with_way : Scene → Lane → ℕ → List ℕ → List ℕ
 with_way scene lane y text = if nat_lt 0 lane.top then with_arm scene lane y text else text
 
+unfoldable pub with_name : ℕ → List ℕ → ℕ → List ℕ → List ℕ
+with_name unit kind y = drawn
+    (with_label_both (codes "b") (point 16 (add y 25)) (codes "unit ") unit
+    ∷ with_label (codes "q") (point 66 (add y 25)) kind
+    ∷ [])
+
+unfoldable pub with_deeds : Scene → ℕ → ℕ → List ℕ → List ℕ
+with_deeds scene unit y = drawn
+    (with_requests scene unit y
+    ∷ with_ribbon scene unit (add y 12)
+    ∷ with_conditions scene unit true (add y 33)
+    ∷ with_conditions scene unit false (add y 33)
+    ∷ [])
+
 unfoldable pub with_lane : Scene → Lane → ℕ → List ℕ → List ℕ
 with_lane scene lane y = drawn
-    (with_label_both (codes "b") (point 16 (add y 25)) (codes "unit ") lane.unit
-    ∷ with_label (codes "q") (point 66 (add y 25)) lane.kind.now
-    ∷ with_requests scene lane.unit y
-    ∷ with_ribbon scene lane.unit (add y 12)
-    ∷ with_conditions scene lane.unit true (add y 33)
-    ∷ with_conditions scene lane.unit false (add y 33)
+    (with_name lane.unit lane.kind.now y
+    ∷ with_deeds scene lane.unit y
     ∷ with_marks scene lane.unit (add y 35)
     ∷ with_totals scene lane.unit (add y 9)
     ∷ with_way scene lane (add y 71)
     ∷ [])
 
 -- as a group
-unfoldable pub with_unit : Scene → Lane → ℕ → List ℕ → List ℕ
-with_unit scene lane y = drawn
+unfoldable pub with_unit_title : ℕ → List ℕ → List ℕ → List ℕ
+with_unit_title unit kind = drawn
     (with_group
     ∷ with_words (codes "unit ")
-    ∷ with_number lane.unit
+    ∷ with_number unit
     ∷ with_words (codes " ")
-    ∷ with_words lane.kind.now
+    ∷ with_words kind
     ∷ with_end element.Title
+    ∷ [])
+
+unfoldable pub with_unit : Scene → Lane → ℕ → List ℕ → List ℕ
+with_unit scene lane y = drawn
+    (with_unit_title lane.unit lane.kind.now
     ∷ with_lane scene lane y
     ∷ with_end element.Group
     ∷ [])

@@ -4,7 +4,9 @@
 //! they were, and the lines of the run that it tells in tooltips are those that speak of the drive, each once.
 #![tactic(auto)]
 
+mod conditions;
 mod lane;
+mod requests;
 mod totals;
 
 pub use lane::draw_unit;

@@ -1,9 +1,9 @@
 //! The totals of a drive, beside it.
 
 ghost use Rattle.std.specs.Prelude.{◌≡◌, Some, count_by, fold, slice_get, OnOk};
-ghost use Rattle.picture_lanes.specs.Totals.{is_of_unit, is_ok_of_unit, longer, with_total, with_answered, with_times, with_totals};
+ghost use Rattle.picture_lanes.specs.Totals.{is_of_unit, is_ok_of_unit, longer, with_total, with_ok, with_answered, with_events, with_moves, with_times, with_times_in, with_totals};
 
-use drive_pictures::{Drive, Outcome, Request};
+use drive_pictures::{Drive, Outcome, Request, Times};
 use picture_markup::Markup;
 use picture_scene::{Scene, add, at};
 use std::alloc::AllocError;
@@ -77,57 +77,99 @@ fn longest_wait(requests: &[Request], unit: u8) -> u64
 #[tactic(auto, unfolding(crate::specs::Totals::with_total))]
 fn draw_total(
     out: &mut Markup<'_>,
-    scene: &Scene<'_, '_>,
+    beside: u32,
     y: u32,
     number: u64,
     word: &'static str,
 ) -> Result<(), AllocError>
     ensures stands { OnOk result (out.new.stands ≡ out.old.stands) }
-    ensures text { OnOk result (out.new.text ≡ with_total scene.now.frame y number word.now out.old.text) }
+    ensures text { OnOk result (out.new.text ≡ with_total beside y number word.now out.old.text) }
 {
-    let beside = scene.frame.beside;
     out.text_number("m e", at(add(beside, 36), y), number)?;
     out.text("q", at(add(beside, 44), y), word)
+}
+
+/// How many requests of all were answered ok.
+#[tactic(auto, unfolding(crate::specs::Totals::with_ok))]
+fn draw_ok(out: &mut Markup<'_>, beside: u32, y: u32, ok: u64, all: u64) -> Result<(), AllocError>
+    ensures stands { OnOk result (out.new.stands ≡ out.old.stands) }
+    ensures text { OnOk result (out.new.text ≡ with_ok beside y ok all out.old.text) }
+{
+    out.text_number("m e", at(add(beside, 36), y), ok)?;
+    out.text_with("q", at(add(beside, 44), y), "ok, of ", all)
 }
 
 /// How many requests were answered ok, and how long one waited at most.
 #[tactic(auto, unfolding(crate::specs::Totals::with_answered))]
 fn draw_answered(
     out: &mut Markup<'_>,
-    scene: &Scene<'_, '_>,
+    beside: u32,
+    requests: &[Request],
     unit: u8,
     y: u32,
 ) -> Result<(), AllocError>
     ensures stands { OnOk result (out.new.stands ≡ out.old.stands) }
-    ensures text { OnOk result (out.new.text ≡ with_answered scene.now unit y out.old.text) }
+    ensures text { OnOk result (out.new.text ≡ with_answered beside requests.now unit y out.old.text) }
 {
-    let requests = scene.sheet.run.requests();
-    let beside = scene.frame.beside;
     let ok = count_ok(requests, unit) as u64;
     let all = count_all(requests, unit) as u64;
     let longest = longest_wait(requests, unit);
-    out.text_number("m e", at(add(beside, 36), y), ok)?;
-    out.text_with("q", at(add(beside, 44), y), "ok, of ", all)?;
-    draw_total(out, scene, add(y, 13), longest, "events queued at most")
+    draw_ok(out, beside, y, ok, all)?;
+    draw_total(out, beside, add(y, 13), longest, "events queued at most")
+}
+
+/// The events behind which a drive was on its way, was ready, or held its adapter.
+#[tactic(auto, unfolding(crate::specs::Totals::with_events))]
+fn draw_events(out: &mut Markup<'_>, beside: u32, all: Times, y: u32) -> Result<(), AllocError>
+    ensures stands { OnOk result (out.new.stands ≡ out.old.stands) }
+    ensures text { OnOk result (out.new.text ≡ with_events beside y all out.old.text) }
+{
+    draw_total(out, beside, y, all.way, "events on its way")?;
+    draw_total(out, beside, add(y, 13), all.ready, "ready, adapter busy")?;
+    draw_total(out, beside, add(y, 26), all.trans, "transferring")
+}
+
+/// How far a drive moved, and how many requests it served in the order in which they came.
+#[tactic(auto, unfolding(crate::specs::Totals::with_moves))]
+fn draw_moves(
+    out: &mut Markup<'_>,
+    beside: u32,
+    travel: u64,
+    as_asked: u64,
+    y: u32,
+) -> Result<(), AllocError>
+    ensures stands { OnOk result (out.new.stands ≡ out.old.stands) }
+    ensures text { OnOk result (out.new.text ≡ with_moves beside y travel as_asked out.old.text) }
+{
+    draw_total(out, beside, add(y, 39), travel, "cylinders moved over")?;
+    draw_total(out, beside, add(y, 52), as_asked, "in the order asked")
 }
 
 /// What a drive did in the whole run.
 #[tactic(auto, unfolding(crate::specs::Totals::with_times))]
-fn draw_times(
+fn draw_times(out: &mut Markup<'_>, beside: u32, drive: &Drive, y: u32) -> Result<(), AllocError>
+    ensures stands { OnOk result (out.new.stands ≡ out.old.stands) }
+    ensures text { OnOk result (out.new.text ≡ with_times beside y drive.now out.old.text) }
+{
+    let (all, travel, as_asked) = (drive.all, drive.arm.travel, drive.queue.as_asked);
+    draw_events(out, beside, all, y)?;
+    draw_moves(out, beside, travel, as_asked, y)
+}
+
+/// What a drive did in the whole run, where there is one.
+fn draw_times_of(
     out: &mut Markup<'_>,
-    scene: &Scene<'_, '_>,
-    drive: &Drive,
+    beside: u32,
+    drive: Option<&Drive>,
     y: u32,
 ) -> Result<(), AllocError>
     ensures stands { OnOk result (out.new.stands ≡ out.old.stands) }
-    ensures text { OnOk result (out.new.text ≡ with_times scene.now.frame y drive.now out.old.text) }
+    ensures text { OnOk result (out.new.text ≡ with_times_in beside y drive.entry out.old.text) }
 {
-    let (all, travel, as_asked) = (drive.all, drive.arm.travel, drive.queue.as_asked);
-    draw_total(out, scene, y, all.way, "events on its way")?;
-    draw_total(out, scene, add(y, 13), all.ready, "ready, adapter busy")?;
-    draw_total(out, scene, add(y, 26), all.trans, "transferring")?;
-    draw_total(out, scene, add(y, 39), travel, "cylinders moved over")?;
-    draw_total(out, scene, add(y, 52), as_asked, "in the order asked")
+    match drive {
+        Some(drive) => draw_times(out, beside, drive, y),
+        None => Ok(()),
+    }
 }
 
 /// The totals of a drive.
@@ -141,9 +183,8 @@ pub(crate) fn draw_totals(
     ensures stands { OnOk result (out.new.stands ≡ out.old.stands) }
     ensures text { OnOk result (out.new.text ≡ with_totals scene.now unit y out.old.text) }
 {
-    draw_answered(out, scene, unit, y)?;
-    match scene.sheet.run.drives().get(usize::from(unit)) {
-        Some(drive) => draw_times(out, scene, drive, add(y, 26)),
-        None => Ok(()),
-    }
+    let beside = scene.frame.beside;
+    let drive = scene.sheet.run.drives().get(usize::from(unit));
+    draw_answered(out, beside, scene.sheet.run.requests(), unit, y)?;
+    draw_times_of(out, beside, drive, add(y, 26))
 }

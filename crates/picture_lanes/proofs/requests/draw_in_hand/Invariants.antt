@@ -1,6 +1,6 @@
 use Rattle.std.proofs.Common.{◌≡◌, take, fold}
 use Rattle.picture_lanes.specs.Lanes.{with_time}
-use Rattle.picture_lanes.proofs.lane.draw_in_hand.Given as goal
+use Rattle.picture_lanes.proofs.requests.draw_in_hand.Given as goal
 
 abbrev pub invariant-loop-request : goal.invariant-loop-request
 invariant-loop-request l = record {
