@@ -13,6 +13,8 @@ use Rattle.picture_markup.specs.declared.pieces.Sign.{Sign}
 use Rattle.picture_markup.specs.declared.pieces.Sign.TheVariants as sign
 use Rattle.picture_markup.specs.declared.pieces.Piece.{Piece}
 use Rattle.picture_markup.specs.declared.pieces.Piece.TheVariants as piece
+use Rattle.picture_markup.specs.declared.render.Part.{Part}
+use Rattle.picture_markup.specs.declared.render.Part.TheVariants as part
 use Rattle.picture_markup.specs.Nesting.{Drawn, blank, drawn}
 use Rattle.picture_markup.specs.Places.{coordinates, are_low}
 
@@ -51,6 +53,14 @@ with_leg letter n text = with_place n (text ++ letter)
 
 abbrev pub with_point : List ℕ → Point → List ℕ → List ℕ
 with_point letter p text = with_leg (codes " ") p.y (with_leg letter p.x text)
+
+-- A PART OF AN ELEMENT
+abbrev pub with_part : List ℕ → Part → List ℕ
+with_part text (part.Words words) = text ++ words.now
+with_part text (part.Class class) = with_class class.now text
+with_part text (part.Key key n) = with_key key.now n text
+with_part text (part.Leg letter n) = with_leg letter.now n text
+with_part text (part.Point letter p) = with_point letter.now p text
 
 -- THE WAY OF A SIGN from its point on, and of a path
 abbrev pub way_of : Sign → List ℕ

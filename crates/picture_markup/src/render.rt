@@ -1,7 +1,8 @@
 //! The text of the pieces of a drawing.
 
 ghost use Rattle.std.specs.Prelude.{◌≡◌, ◌++◌, fold, slice_range, codes, decimal, IfOk, OnOk};
-ghost use Rattle.picture_markup.specs.Elements.{with_byte, with_words, with_place, with_class, with_key, with_leg, with_point, way_of, with_route, with_fill, name_of, with_rect, with_circle, with_path, with_next, with_points, with_polyline, svg_front, svg_back, with_svg, with_start, with_end, with_piece, text_of};
+ghost use Rattle.picture_markup.specs.declared.pieces.Route.TheVariants.{TwoAcross};
+ghost use Rattle.picture_markup.specs.Elements.{with_byte, with_words, with_place, with_class, with_key, with_leg, with_point, with_part, way_of, with_route, with_fill, name_of, with_rect, with_circle, with_path, with_next, with_points, with_polyline, svg_front, svg_back, with_svg, with_start, with_end, with_piece, text_of};
 
 use crate::pieces::{Element, Piece, Point, Route, Sign, Start};
 use itoa::Buffer;
@@ -96,6 +97,39 @@ fn put_point(out: &mut Vec<u8>, letter: &str, point: Point) -> Result<(), AllocE
     put_leg(out, " ", point.y)
 }
 
+/// A part of an element: words as they are, its class, an attribute, a letter of a path with a coordinate, or with a point.
+#[derive(Clone, Copy)]
+enum Part<'a> {
+    Words(&'a str),
+    Class(&'a str),
+    Key(&'a str, u32),
+    Leg(&'a str, u32),
+    Point(&'a str, Point),
+}
+
+/// Puts a part.
+fn put_part(out: &mut Vec<u8>, part: Part<'_>) -> Result<(), AllocError>
+    ensures { OnOk result (out.new.items ≡ with_part out.old.items part.entry) }
+{
+    match part {
+        Part::Words(words) => put(out, words),
+        Part::Class(class) => put_class(out, class),
+        Part::Key(key, place) => put_key(out, key, place),
+        Part::Leg(letter, place) => put_leg(out, letter, place),
+        Part::Point(letter, point) => put_point(out, letter, point),
+    }
+}
+
+/// Puts parts, one behind another.
+fn put_parts(out: &mut Vec<u8>, parts: &[Part<'_>]) -> Result<(), AllocError>
+    ensures { OnOk result (out.new.items ≡ fold with_part out.old.items parts.now) }
+{
+    for part in parts.iter() {
+        put_part(out, *part)?;
+    }
+    Ok(())
+}
+
 /// The way of a sign from its point on.
 fn way_of(sign: Sign) -> &'static str
     ensures { result.now ≡ way_of sign }
@@ -107,47 +141,40 @@ fn way_of(sign: Sign) -> &'static str
     }
 }
 
+/// Puts a way from a point to another column, and so a second time, lower.
+fn put_two(out: &mut Vec<u8>, from: Point, to: u32, lower: u32) -> Result<(), AllocError>
+    ensures { OnOk result (out.new.items ≡ with_route (TwoAcross from to lower) out.old.items) }
+{
+    let second = Point {
+        x: from.x,
+        y: lower,
+    };
+    put_parts(
+        out,
+        &[
+            Part::Point("M", from),
+            Part::Leg("H", to),
+            Part::Point("M", second),
+            Part::Leg("H", to),
+        ],
+    )
+}
+
 /// Puts the way of a path.
 fn put_route(out: &mut Vec<u8>, route: Route) -> Result<(), AllocError>
     ensures { OnOk result (out.new.items ≡ with_route route out.old.items) }
 {
     match route {
-        Route::Across { from, to } => {
-            put_point(out, "M", from)?;
-            put_leg(out, "H", to)
-        }
-        Route::TwoAcross { from, to, lower } => {
-            put_point(out, "M", from)?;
-            put_leg(out, "H", to)?;
-            put_point(
-                out,
-                "M",
-                Point {
-                    x: from.x,
-                    y: lower,
-                },
-            )?;
-            put_leg(out, "H", to)
-        }
-        Route::Down { from, to } => {
-            put_point(out, "M", from)?;
-            put_leg(out, "V", to)
-        }
-        Route::Line { from, to } => {
-            put_point(out, "M", from)?;
-            put_point(out, "L", to)
-        }
+        Route::Across { from, to } => put_parts(out, &[Part::Point("M", from), Part::Leg("H", to)]),
+        Route::TwoAcross { from, to, lower } => put_two(out, from, to, lower),
+        Route::Down { from, to } => put_parts(out, &[Part::Point("M", from), Part::Leg("V", to)]),
+        Route::Line { from, to } => put_parts(out, &[Part::Point("M", from), Part::Point("L", to)]),
         Route::Bracket { from, width } => {
-            put_point(out, "M", from)?;
-            put_leg(out, "v-4h", width)
+            put_parts(out, &[Part::Point("M", from), Part::Leg("v-4h", width)])
         }
-        Route::Tick { from } => {
-            put_point(out, "M", from)?;
-            put(out, "v12")
-        }
+        Route::Tick { from } => put_parts(out, &[Part::Point("M", from), Part::Words("v12")]),
         Route::Sign { from, sign } => {
-            put_point(out, "M", from)?;
-            put(out, way_of(sign))
+            put_parts(out, &[Part::Point("M", from), Part::Words(way_of(sign))])
         }
     }
 }
@@ -176,10 +203,15 @@ fn put_svg(out: &mut Vec<u8>, width: u32, height: u32) -> Result<(), AllocError>
     ensures { OnOk result (out.new.items ≡ with_svg width height out.old.items) }
 {
     put_front(out)?;
-    put_key(out, "width", width)?;
-    put_key(out, "height", height)?;
-    put_leg(out, " viewBox=\"0 0 ", width)?;
-    put_leg(out, " ", height)?;
+    put_parts(
+        out,
+        &[
+            Part::Key("width", width),
+            Part::Key("height", height),
+            Part::Leg(" viewBox=\"0 0 ", width),
+            Part::Leg(" ", height),
+        ],
+    )?;
     put_back(out)
 }
 
@@ -194,20 +226,26 @@ fn put_start(out: &mut Vec<u8>, start: Start) -> Result<(), AllocError>
         Start::Title => put(out, "<title>"),
         Start::Caption => put(out, "<title id=\"t\">"),
         Start::Desc => put(out, "<desc id=\"d\">"),
-        Start::Text { class, x, y } => {
-            put(out, "<text")?;
-            put_class(out, class)?;
-            put_key(out, "x", x)?;
-            put_key(out, "y", y)?;
-            put(out, ">")
-        }
-        Start::Upwards { x, y } => {
-            put(out, "<text")?;
-            put_class(out, "m")?;
-            put_leg(out, " transform=\"translate(", x)?;
-            put_leg(out, " ", y)?;
-            put(out, ")rotate(-90)\">")
-        }
+        Start::Text { class, x, y } => put_parts(
+            out,
+            &[
+                Part::Words("<text"),
+                Part::Class(class),
+                Part::Key("x", x),
+                Part::Key("y", y),
+                Part::Words(">"),
+            ],
+        ),
+        Start::Upwards { x, y } => put_parts(
+            out,
+            &[
+                Part::Words("<text"),
+                Part::Class("m"),
+                Part::Leg(" transform=\"translate(", x),
+                Part::Leg(" ", y),
+                Part::Words(")rotate(-90)\">"),
+            ],
+        ),
     }
 }
 
@@ -230,11 +268,14 @@ fn put_fill(out: &mut Vec<u8>, fill: Option<&'static str>) -> Result<(), AllocEr
     ensures { OnOk result (out.new.items ≡ with_fill (name_of fill.entry) out.old.items) }
 {
     match fill {
-        Some(name) => {
-            put(out, " fill=\"url(#")?;
-            put(out, name)?;
-            put(out, ")\"")
-        }
+        Some(name) => put_parts(
+            out,
+            &[
+                Part::Words(" fill=\"url(#"),
+                Part::Words(name),
+                Part::Words(")\""),
+            ],
+        ),
         None => Ok(()),
     }
 }
@@ -251,12 +292,17 @@ fn put_rect(
 ) -> Result<(), AllocError>
     ensures { OnOk result (out.new.items ≡ with_rect class.now corner width height (name_of fill.entry) out.old.items) }
 {
-    put(out, "<rect")?;
-    put_class(out, class)?;
-    put_key(out, "x", corner.x)?;
-    put_key(out, "y", corner.y)?;
-    put_key(out, "width", width)?;
-    put_key(out, "height", height)?;
+    put_parts(
+        out,
+        &[
+            Part::Words("<rect"),
+            Part::Class(class),
+            Part::Key("x", corner.x),
+            Part::Key("y", corner.y),
+            Part::Key("width", width),
+            Part::Key("height", height),
+        ],
+    )?;
     put_fill(out, fill)?;
     put(out, "/>\n")
 }
@@ -266,12 +312,17 @@ fn put_rect(
 fn put_circle(out: &mut Vec<u8>, class: &str, middle: Point, radius: u32) -> Result<(), AllocError>
     ensures { OnOk result (out.new.items ≡ with_circle class.now middle radius out.old.items) }
 {
-    put(out, "<circle")?;
-    put_class(out, class)?;
-    put_key(out, "cx", middle.x)?;
-    put_key(out, "cy", middle.y)?;
-    put_key(out, "r", radius)?;
-    put(out, "/>\n")
+    put_parts(
+        out,
+        &[
+            Part::Words("<circle"),
+            Part::Class(class),
+            Part::Key("cx", middle.x),
+            Part::Key("cy", middle.y),
+            Part::Key("r", radius),
+            Part::Words("/>\n"),
+        ],
+    )
 }
 
 /// Puts a path.
@@ -279,9 +330,14 @@ fn put_circle(out: &mut Vec<u8>, class: &str, middle: Point, radius: u32) -> Res
 fn put_path(out: &mut Vec<u8>, class: &str, route: Route) -> Result<(), AllocError>
     ensures { OnOk result (out.new.items ≡ with_path class.now route out.old.items) }
 {
-    put(out, "<path")?;
-    put_class(out, class)?;
-    put(out, " d=\"")?;
+    put_parts(
+        out,
+        &[
+            Part::Words("<path"),
+            Part::Class(class),
+            Part::Words(" d=\""),
+        ],
+    )?;
     put_route(out, route)?;
     put(out, "\"/>\n")
 }
@@ -290,8 +346,7 @@ fn put_path(out: &mut Vec<u8>, class: &str, route: Route) -> Result<(), AllocErr
 fn put_next(out: &mut Vec<u8>, point: Point) -> Result<(), AllocError>
     ensures { OnOk result (out.new.items ≡ with_next out.old.items point) }
 {
-    put_leg(out, " ", point.x)?;
-    put_leg(out, ",", point.y)
+    put_parts(out, &[Part::Leg(" ", point.x), Part::Leg(",", point.y)])
 }
 
 /// Puts points behind others.
@@ -311,8 +366,7 @@ fn put_points(out: &mut Vec<u8>, points: &[Point]) -> Result<(), AllocError>
     match points {
         [] => Ok(()),
         [first, rest @ ..] => {
-            put_leg(out, "", first.x)?;
-            put_leg(out, ",", first.y)?;
+            put_parts(out, &[Part::Leg("", first.x), Part::Leg(",", first.y)])?;
             put_rest(out, rest)
         }
     }
@@ -323,9 +377,14 @@ fn put_points(out: &mut Vec<u8>, points: &[Point]) -> Result<(), AllocError>
 fn put_polyline(out: &mut Vec<u8>, class: &str, points: &[Point]) -> Result<(), AllocError>
     ensures { OnOk result (out.new.items ≡ with_polyline class.now points.now out.old.items) }
 {
-    put(out, "<polyline")?;
-    put_class(out, class)?;
-    put(out, " points=\"")?;
+    put_parts(
+        out,
+        &[
+            Part::Words("<polyline"),
+            Part::Class(class),
+            Part::Words(" points=\""),
+        ],
+    )?;
     put_points(out, points)?;
     put(out, "\"/>\n")
 }
@@ -343,8 +402,7 @@ fn points_from(points: &[Point], from: usize, to: usize) -> &[Point]
 fn put_fixed(out: &mut Vec<u8>, text: &str) -> Result<(), AllocError>
     ensures { OnOk result (out.new.items ≡ out.old.items ++ text.now ++ codes "\n") }
 {
-    put(out, text)?;
-    put(out, "\n")
+    put_parts(out, &[Part::Words(text), Part::Words("\n")])
 }
 
 /// Puts a piece.
