@@ -78,13 +78,18 @@ is_named scene s = scene.sheet.now.window.per == 1 && nat_le 14 (width_in scene.
 abbrev pub held_height : Scene → Column → ℕ → ℕ
 held_height scene column adapter = part_of 16 (held_in scene.lanes.now adapter column) column.head.events
 
-unfoldable pub with_held_bar : Scene → Stretch → Column → ℕ → ℕ → List ℕ → List ℕ
-with_held_bar scene s column adapter y = drawn
+unfoldable pub with_held_title : Scene → Stretch → Column → ℕ → List ℕ → List ℕ
+with_held_title scene s column adapter = drawn
     (with_group
     ∷ with_span scene.sheet.now s.from s.to
     ∷ with_words (codes ": held by unit ")
     ∷ with_holders scene.lanes.now column adapter
     ∷ with_end element.Title
+    ∷ [])
+
+unfoldable pub with_held_bar : Scene → Stretch → Column → ℕ → ℕ → List ℕ → List ℕ
+with_held_bar scene s column adapter y = drawn
+    (with_held_title scene s column adapter
     ∷ with_rect (codes "r") (point (left_of scene s) (add y 17 - held_height scene column adapter)) (width_in scene.frame s) (held_height scene column adapter) (Some (codes "m"))
     ∷ with_unit (is_named scene s) scene s (first_holder scene.lanes.now column adapter) y
     ∷ with_end element.Group
@@ -98,10 +103,12 @@ with_hold_in scene adapter y s (Some column) text =
 unfoldable pub with_hold : Scene → ℕ → ℕ → List ℕ → Stretch → List ℕ
 with_hold scene adapter y text s = with_hold_in scene adapter y s (slice_get scene.sheet.now.run.now.columns s.from) text
 
+abbrev pub held_stretches : List Lane → ℕ → List Column → List Stretch
+held_stretches lanes adapter columns = stretches_of (numbered (is_same_held lanes adapter) 0 columns)
+
 unfoldable pub with_holds : Scene → ℕ → ℕ → List ℕ → List ℕ
 with_holds scene adapter y text =
-    fold (with_hold scene adapter y) text
-    (stretches_of (numbered (is_same_held scene.lanes.now adapter) 0 scene.sheet.now.run.now.columns))
+    fold (with_hold scene adapter y) text (held_stretches scene.lanes.now adapter scene.sheet.now.run.now.columns)
 
 -- THE BAR OF HOW MANY POSITION, at most
 unfoldable pub together_in : ℕ → Column → ℕ
@@ -114,14 +121,19 @@ with_many false scene s count y text = text
 abbrev pub count_height : ℕ → ℕ
 count_height count = add 2 (times 2 (small count))
 
-unfoldable pub with_count_bar : Scene → Stretch → ℕ → ℕ → List ℕ → List ℕ
-with_count_bar scene s count y = drawn
+unfoldable pub with_count_title : Scene → Stretch → ℕ → List ℕ → List ℕ
+with_count_title scene s count = drawn
     (with_group
     ∷ with_span scene.sheet.now s.from s.to
     ∷ with_words (codes ": ")
     ∷ with_number count
     ∷ with_words (codes " positioning")
     ∷ with_end element.Title
+    ∷ [])
+
+unfoldable pub with_count_bar : Scene → Stretch → ℕ → ℕ → List ℕ → List ℕ
+with_count_bar scene s count y = drawn
+    (with_count_title scene s count
     ∷ with_rect (codes "n") (point (left_of scene s) (add y 40 - count_height count)) (width_in scene.frame s) (count_height count) None
     ∷ with_many (nat_le 8 (width_in scene.frame s)) scene s count (add y 38 - count_height count)
     ∷ with_end element.Group
@@ -149,15 +161,23 @@ more_held scene adapter sum column = plus sum (held_in scene.lanes.now adapter c
 abbrev pub all_held : Scene → ℕ → ℕ
 all_held scene adapter = fold (more_held scene adapter) 0 scene.sheet.now.run.now.columns
 
-unfoldable pub with_beside : Scene → ℕ → ℕ → List ℕ → List ℕ
-with_beside scene adapter y = drawn
+unfoldable pub with_names : ℕ → ℕ → ℕ → List ℕ → List ℕ
+with_names right adapter y = drawn
     (with_label_both (codes "b") (point 16 (add y 13)) (codes "adapter ") adapter
     ∷ with_label (codes "q e") (point 150 (add y 13)) (codes "held by unit")
     ∷ with_label (codes "q e") (point 150 (add y 36)) (codes "positioning")
-    ∷ with_path (codes "g") (route.TwoAcross (point 160 (add y 17)) scene.frame.right (add y 40))
-    ∷ with_label_number (codes "m e") (point (add scene.frame.beside 36) (add y 13)) (all_held scene adapter)
-    ∷ with_label (codes "q") (point (add scene.frame.beside 44) (add y 13)) (codes "events held")
+    ∷ with_path (codes "g") (route.TwoAcross (point 160 (add y 17)) right (add y 40))
     ∷ [])
+
+unfoldable pub with_sum : ℕ → ℕ → ℕ → List ℕ → List ℕ
+with_sum beside sum y = drawn
+    (with_label_number (codes "m e") (point (add beside 36) (add y 13)) sum
+    ∷ with_label (codes "q") (point (add beside 44) (add y 13)) (codes "events held")
+    ∷ [])
+
+unfoldable pub with_beside : Scene → ℕ → ℕ → List ℕ → List ℕ
+with_beside scene adapter y = drawn
+    (with_names scene.frame.right adapter y ∷ with_sum scene.frame.beside (all_held scene adapter) y ∷ [])
 
 -- AN ADAPTER
 unfoldable pub with_adapter : Scene → ℕ → ℕ → List ℕ → List ℕ

@@ -42,14 +42,18 @@ words_in (Some words) = words.now
 abbrev pub words_at : Sheet → ℕ → List ℕ
 words_at sheet column = words_in (slice_get sheet.texts.now column)
 
--- upwards over the first of its columns, in a picture so high
-unfoldable pub with_line : Scene → ℕ → ℕ → List ℕ → List ℕ
-with_line scene column height = drawn
-    (with_path (codes "g") (route.Down (point (x_of scene.frame column) 278) (height - 16))
-    ∷ with_start (start.Upwards (add (x_of scene.frame column) 4) 272)
-    ∷ with_line_words (column_at scene.sheet.now column).head (words_at scene.sheet.now column)
+-- upwards at a place, in a picture so high; and over the first of its columns
+unfoldable pub with_line : ℕ → Head → List ℕ → ℕ → List ℕ → List ℕ
+with_line x head words height = drawn
+    (with_path (codes "g") (route.Down (point x 278) (height - 16))
+    ∷ with_start (start.Upwards (add x 4) 272)
+    ∷ with_line_words head words
     ∷ with_end element.Text
     ∷ [])
+
+abbrev pub with_line_at : Scene → ℕ → ℕ → List ℕ → List ℕ
+with_line_at scene column height =
+    with_line (x_of scene.frame column) (column_at scene.sheet.now column).head (words_at scene.sheet.now column) height
 
 -- THE COLUMNS OF A LINE, if they are several
 unfoldable pub with_bar : Frame → Stretch → List ℕ → List ℕ
@@ -62,17 +66,19 @@ with_bar frame s text =
 unfoldable pub with_stretch : Scene → ℕ → Row → Stretch → Row
 with_stretch scene height row s =
     if nat_le row.free (x_of scene.frame s.from)
-    then record { free = add (x_of scene.frame s.from) 12; text = with_line scene s.from height (with_bar scene.frame s row.text) }
+    then record { free = add (x_of scene.frame s.from) 12; text = with_line_at scene s.from height (with_bar scene.frame s row.text) }
     else record { free = row.free; text = with_bar scene.frame s row.text }
 
 abbrev pub line_of : Column → ℕ
 line_of column = column.head.line
 
+unfoldable pub with_stretches : Scene → ℕ → List Stretch → List ℕ → List ℕ
+with_stretches scene height stretches text = (fold (with_stretch scene height) (record { free = 0; text = text }) stretches).text
+
 unfoldable pub with_lines : Scene → ℕ → List ℕ → List ℕ
 with_lines scene height text =
-    (fold (with_stretch scene height)
-    (record { free = 0; text = with_label (codes "q e") (point 150 272) (codes "line of the script") text })
-    (stretches_of (map line_of scene.sheet.now.run.now.columns))).text
+    with_stretches scene height (stretches_of (map line_of scene.sheet.now.run.now.columns))
+    (with_label (codes "q e") (point 150 272) (codes "line of the script") text)
 
 -- THE NUMBERS OF THE EVENTS below them: of each column the first event, from 1, where there is room
 unfoldable pub with_event : Scene → ℕ → Row → ℕ → Row

@@ -1,14 +1,17 @@
-//! An adapter: who holds it, and how many of its drives position.
+//! An adapter, and who holds it.
 
-ghost use Rattle.std.specs.Prelude.{◌≡◌, Some, map, IfOk, OnOk};
+ghost use Rattle.std.specs.Prelude.{◌≡◌, Some, fold, IfOk, OnOk};
+ghost use Rattle.picture_markup.specs.Nesting.{started};
+ghost use Rattle.picture_markup.specs.declared.pieces.Element.TheVariants.{Group};
 ghost use Rattle.picture_scene.specs.Stretches.{next_number, numbered};
-ghost use Rattle.picture_axes.specs.Adapters.{is_on, held_by, holds, with_held, held_in, is_same_held, comma, with_holder, with_holders, first_with, first_holder, middle_of, with_unit, with_held_bar, with_hold_in, with_hold, with_holds, together_in, together_at, with_many, with_count_bar, with_count, with_counts, all_held, with_beside, with_adapter};
+ghost use Rattle.picture_axes.specs.Adapters.{is_on, held_by, holds, with_held, held_in, is_same_held, comma, with_holder, with_holders, first_with, first_holder, middle_of, with_unit, with_held_title, with_held_bar, with_hold_in, with_hold, held_stretches, with_holds, all_held, with_names, with_sum, with_beside, with_adapter};
 
+use crate::positioning::draw_together;
 use drive_pictures::plus;
 use picture_markup::{Markup, Route};
 use picture_scene::{
     LABEL, LEFT, Lane, Scene, Stretch, add, at, begin_span, cell_at, end_group, end_title, part_of,
-    small, stretches, sub, times,
+    stretches, sub,
 };
 use picture_sheet::holding;
 use run_picture::Column;
@@ -176,7 +179,7 @@ fn first_holder(column: &Column, lanes: &[Lane], adapter: u8) -> u8
 }
 
 /// The middle of a stretch.
-fn middle_of(scene: &Scene<'_, '_>, stretch: Stretch) -> u32
+pub(crate) fn middle_of(scene: &Scene<'_, '_>, stretch: Stretch) -> u32
     ensures { result ≡ middle_of scene.now stretch }
 {
     add(scene.frame.x(stretch.from), scene.width(stretch) / 2)
@@ -202,6 +205,24 @@ fn draw_unit(
     }
 }
 
+/// The group of who holds the adapter begins, with its tooltip.
+#[tactic(auto, unfolding(crate::specs::Adapters::with_held_title))]
+fn begin_holder(
+    out: &mut Markup<'_>,
+    scene: &Scene<'_, '_>,
+    column: &Column,
+    stretch: Stretch,
+    adapter: u8,
+) -> Result<(), AllocError>
+    ensures stands { OnOk result (out.new.stands ≡ started Group out.old.stands) }
+    ensures text { OnOk result (out.new.text ≡ with_held_title scene.now stretch column.now adapter out.old.text) }
+{
+    begin_span(out, scene, stretch.from, stretch.to)?;
+    out.word(": held by unit ")?;
+    put_holders(out, scene.lanes, column, adapter)?;
+    end_title(out)
+}
+
 /// The bar of who holds the adapter.
 #[tactic(auto, unfolding(crate::specs::Adapters::with_held_bar))]
 fn draw_holder(
@@ -220,10 +241,7 @@ fn draw_holder(
     let height = part_of(16, sum, column.head.events);
     let corner = at(scene.frame.x(stretch.from), sub(add(y, 17), height));
     let unit = first_holder(column, scene.lanes, adapter);
-    begin_span(out, scene, stretch.from, stretch.to)?;
-    out.word(": held by unit ")?;
-    put_holders(out, scene.lanes, column, adapter)?;
-    end_title(out)?;
+    begin_holder(out, scene, column, stretch, adapter)?;
     out.rect("r", corner, width, height, Some("m"))?;
     let named = scene.sheet.is_by_event() && width >= 14;
     draw_unit(out, scene, stretch, unit, y, named)?;
@@ -267,6 +285,36 @@ fn draw_hold_over(
     }
 }
 
+/// The stretches in which the same drives hold the adapter as often.
+fn held_stretches(
+    alloc: Global,
+    columns: &[Column],
+    lanes: &[Lane],
+    adapter: u8,
+) -> Result<Vec<Stretch>, AllocError>
+    ensures { IfOk result (λ stretches. stretches.items ≡ held_stretches lanes.now adapter columns.now) }
+{
+    let keys = held_keys(alloc, columns, lanes, adapter)?;
+    stretches(alloc, keys.as_slice())
+}
+
+/// The bars over some stretches of who holds the adapter.
+fn draw_holds(
+    out: &mut Markup<'_>,
+    scene: &Scene<'_, '_>,
+    stretches: &[Stretch],
+    adapter: u8,
+    y: u32,
+) -> Result<(), AllocError>
+    ensures stands { OnOk result (out.new.stands ≡ out.old.stands) }
+    ensures text { OnOk result (out.new.text ≡ fold (with_hold scene.now adapter y) out.old.text stretches.now) }
+{
+    for stretch in stretches.iter() {
+        draw_hold_over(out, scene, *stretch, adapter, y)?;
+    }
+    Ok(())
+}
+
 /// The bars of who holds the adapter.
 #[tactic(auto, unfolding(crate::specs::Adapters::with_holds))]
 fn draw_held(
@@ -279,133 +327,8 @@ fn draw_held(
     ensures stands { OnOk result (out.new.stands ≡ out.old.stands) }
     ensures text { OnOk result (out.new.text ≡ with_holds scene.now adapter y out.old.text) }
 {
-    let keys = held_keys(alloc, scene.columns(), scene.lanes, adapter)?;
-    for stretch in stretches(alloc, keys.as_slice())?.iter() {
-        draw_hold_over(out, scene, *stretch, adapter, y)?;
-    }
-    Ok(())
-}
-
-/// How many drives of an adapter position in a column, at most.
-#[tactic(auto, unfolding(crate::specs::Adapters::together_in))]
-fn together(column: &Column, adapter: u8) -> u64
-    ensures { result ≡ together_in adapter column.now }
-{
-    match column.head.together.get(usize::from(adapter)) {
-        Some(count) => *count as u64,
-        None => 0,
-    }
-}
-
-/// The same, one a column.
-fn together_keys(alloc: Global, columns: &[Column], adapter: u8) -> Result<Vec<u64>, AllocError>
-    ensures { IfOk result (λ keys. keys.items ≡ map (together_in adapter) columns.now) }
-{
-    let mut keys = Vec::new(alloc);
-    for column in columns.iter() {
-        keys.push(together(column, adapter))?;
-    }
-    Ok(keys)
-}
-
-/// The number in a bar, where there is room.
-fn draw_many(
-    out: &mut Markup<'_>,
-    scene: &Scene<'_, '_>,
-    stretch: Stretch,
-    count: u64,
-    y: u32,
-    roomy: bool,
-) -> Result<(), AllocError>
-    ensures stands { OnOk result (out.new.stands ≡ out.old.stands) }
-    ensures text { OnOk result (out.new.text ≡ with_many roomy scene.now stretch count y out.old.text) }
-{
-    if roomy {
-        out.text_number("m b c", at(middle_of(scene, stretch), y), count)
-    } else {
-        Ok(())
-    }
-}
-
-/// The bar of how many drives position.
-#[tactic(auto, unfolding(crate::specs::Adapters::with_count_bar))]
-fn draw_count_bar(
-    out: &mut Markup<'_>,
-    scene: &Scene<'_, '_>,
-    stretch: Stretch,
-    count: u64,
-    y: u32,
-) -> Result<(), AllocError>
-    ensures stands { OnOk result (out.new.stands ≡ out.old.stands) }
-    ensures text { OnOk result (out.new.text ≡ with_count_bar scene.now stretch count y out.old.text) }
-{
-    let width = scene.width(stretch);
-    let height = add(2, times(2, small(count)));
-    let corner = at(scene.frame.x(stretch.from), sub(add(y, 40), height));
-    begin_span(out, scene, stretch.from, stretch.to)?;
-    out.word(": ")?;
-    out.number(count)?;
-    out.word(" positioning")?;
-    end_title(out)?;
-    out.rect("n", corner, width, height, None)?;
-    draw_many(
-        out,
-        scene,
-        stretch,
-        count,
-        sub(add(y, 38), height),
-        width >= 8,
-    )?;
-    end_group(out)
-}
-
-/// How many drives of an adapter position in the first column of a stretch, at most.
-fn together_at(scene: &Scene<'_, '_>, stretch: Stretch, adapter: u8) -> u64
-    ensures { result ≡ together_at scene.now adapter stretch }
-{
-    match scene.columns().get(stretch.from) {
-        Some(column) => together(column, adapter),
-        None => 0,
-    }
-}
-
-/// The bar of how many drives position, if one does.
-#[tactic(auto, unfolding(crate::specs::Adapters::with_count))]
-fn draw_count(
-    out: &mut Markup<'_>,
-    scene: &Scene<'_, '_>,
-    stretch: Stretch,
-    adapter: u8,
-    y: u32,
-) -> Result<(), AllocError>
-    ensures stands { OnOk result (out.new.stands ≡ out.old.stands) }
-    ensures text { OnOk result (out.new.text ≡ with_count scene.now adapter y out.old.text stretch) }
-{
-    let count = together_at(scene, stretch, adapter);
-    if count > 0 {
-        draw_count_bar(out, scene, stretch, count, y)
-    } else {
-        Ok(())
-    }
-}
-
-/// The bars of how many drives position.
-#[tactic(auto, unfolding(crate::specs::Adapters::with_counts))]
-fn draw_together(
-    alloc: Global,
-    out: &mut Markup<'_>,
-    scene: &Scene<'_, '_>,
-    adapter: u8,
-    y: u32,
-) -> Result<(), AllocError>
-    ensures stands { OnOk result (out.new.stands ≡ out.old.stands) }
-    ensures text { OnOk result (out.new.text ≡ with_counts scene.now adapter y out.old.text) }
-{
-    let keys = together_keys(alloc, scene.columns(), adapter)?;
-    for stretch in stretches(alloc, keys.as_slice())?.iter() {
-        draw_count(out, scene, *stretch, adapter, y)?;
-    }
-    Ok(())
+    let held = held_stretches(alloc, scene.columns(), scene.lanes, adapter)?;
+    draw_holds(out, scene, held.as_slice(), adapter, y)
 }
 
 /// The events of the run behind which a drive of the adapter holds it, of those that are shown.
@@ -419,6 +342,35 @@ fn all_held(scene: &Scene<'_, '_>, adapter: u8) -> u64
     sum
 }
 
+/// The names of an adapter and of its bars, and its bounds.
+#[tactic(auto, unfolding(crate::specs::Adapters::with_names))]
+fn draw_names(out: &mut Markup<'_>, adapter: u8, right: u32, y: u32) -> Result<(), AllocError>
+    ensures stands { OnOk result (out.new.stands ≡ out.old.stands) }
+    ensures text { OnOk result (out.new.text ≡ with_names right adapter y out.old.text) }
+{
+    let line = add(y, 13);
+    let route = Route::TwoAcross {
+        from: at(LEFT, add(y, 17)),
+        to: right,
+        lower: add(y, 40),
+    };
+    out.text_with("b", at(16, line), "adapter ", u64::from(adapter))?;
+    out.text("q e", at(LABEL, line), "held by unit")?;
+    out.text("q e", at(LABEL, add(y, 36)), "positioning")?;
+    out.path("g", route)
+}
+
+/// The events behind which an adapter is held, beside it.
+#[tactic(auto, unfolding(crate::specs::Adapters::with_sum))]
+fn draw_sum(out: &mut Markup<'_>, beside: u32, sum: u64, y: u32) -> Result<(), AllocError>
+    ensures stands { OnOk result (out.new.stands ≡ out.old.stands) }
+    ensures text { OnOk result (out.new.text ≡ with_sum beside sum y out.old.text) }
+{
+    let line = add(y, 13);
+    out.text_number("m e", at(add(beside, 36), line), sum)?;
+    out.text("q", at(add(beside, 44), line), "events held")
+}
+
 /// The words beside an adapter, and its bounds.
 #[tactic(auto, unfolding(crate::specs::Adapters::with_beside))]
 fn draw_words(
@@ -430,19 +382,8 @@ fn draw_words(
     ensures stands { OnOk result (out.new.stands ≡ out.old.stands) }
     ensures text { OnOk result (out.new.text ≡ with_beside scene.now adapter y out.old.text) }
 {
-    let beside = scene.frame.beside;
-    let route = Route::TwoAcross {
-        from: at(LEFT, add(y, 17)),
-        to: scene.frame.right,
-        lower: add(y, 40),
-    };
-    let sum = all_held(scene, adapter);
-    out.text_with("b", at(16, add(y, 13)), "adapter ", u64::from(adapter))?;
-    out.text("q e", at(LABEL, add(y, 13)), "held by unit")?;
-    out.text("q e", at(LABEL, add(y, 36)), "positioning")?;
-    out.path("g", route)?;
-    out.text_number("m e", at(add(beside, 36), add(y, 13)), sum)?;
-    out.text("q", at(add(beside, 44), add(y, 13)), "events held")
+    draw_names(out, adapter, scene.frame.right, y)?;
+    draw_sum(out, scene.frame.beside, all_held(scene, adapter), y)
 }
 
 /// An adapter, above its drives.

@@ -1,7 +1,8 @@
 //! The script's lines above the columns, and the events below them.
 
 ghost use Rattle.std.specs.Prelude.{◌≡◌, map, IfOk, OnOk};
-ghost use Rattle.picture_axes.specs.Axes.{with_idle, with_line_words, words_at, with_line, with_bar, with_stretch, line_of, with_lines, with_event, with_events};
+ghost use Rattle.picture_scene.specs.Stretches.{stretches_of};
+ghost use Rattle.picture_axes.specs.Axes.{with_idle, with_line_words, words_at, with_line, with_bar, with_stretch, with_stretches, line_of, with_lines, with_event, with_events};
 
 use drive_pictures::plus;
 use picture_markup::{Element, Markup, Route, Start};
@@ -52,25 +53,25 @@ fn words_at<'a>(scene: &Scene<'_, 'a>, column: usize) -> &'a [u8]
     }
 }
 
-/// A line of the script over the first of its columns.
+/// A line of the script, upwards at a place.
 #[tactic(auto, unfolding(crate::specs::Axes::with_line))]
 fn draw_line<'a>(
     out: &mut Markup<'a>,
-    scene: &Scene<'_, 'a>,
-    column: usize,
+    x: u32,
+    head: &Head,
+    words: &'a [u8],
     height: u32,
 ) -> Result<(), AllocError>
     ensures stands { OnOk result (out.new.stands ≡ out.old.stands) }
-    ensures text { OnOk result (out.new.text ≡ with_line scene.now column height out.old.text) }
+    ensures text { OnOk result (out.new.text ≡ with_line x head.now words.now height out.old.text) }
 {
-    let x = scene.frame.x(column);
     let from = at(x, AXIS + 2);
     let to = sub(height, 16);
     out.path("g", Route::Down { from, to })?;
     let x = add(x, 4);
     let y = AXIS - 4;
     out.start(Start::Upwards { x, y })?;
-    put_words(out, &scene.head(column), words_at(scene, column))?;
+    put_words(out, head, words)?;
     out.end(Element::Text)
 }
 
@@ -104,7 +105,8 @@ fn draw_stretch<'a>(
     let x = scene.frame.x(stretch.from);
     draw_bar(out, scene, stretch)?;
     if x >= free {
-        draw_line(out, scene, stretch.from, height)?;
+        let head = scene.head(stretch.from);
+        draw_line(out, x, &head, words_at(scene, stretch.from), height)?;
         Ok(add(x, 12))
     } else {
         Ok(free)
@@ -122,6 +124,32 @@ fn line_keys(alloc: Global, columns: &[Column]) -> Result<Vec<u64>, AllocError>
     Ok(keys)
 }
 
+/// The stretches of columns of the same line.
+fn line_stretches(alloc: Global, columns: &[Column]) -> Result<Vec<Stretch>, AllocError>
+    ensures { IfOk result (λ stretches. stretches.items ≡ stretches_of (map line_of columns.now)) }
+{
+    let keys = line_keys(alloc, columns)?;
+    stretches(alloc, keys.as_slice())
+}
+
+/// The lines over some stretches, where there is room.
+#[tactic(auto, unfolding(crate::specs::Axes::with_stretches))]
+fn draw_stretches<'a>(
+    out: &mut Markup<'a>,
+    scene: &Scene<'_, 'a>,
+    stretches: &[Stretch],
+    height: u32,
+) -> Result<(), AllocError>
+    ensures stands { OnOk result (out.new.stands ≡ out.old.stands) }
+    ensures text { OnOk result (out.new.text ≡ with_stretches scene.now height stretches.now out.old.text) }
+{
+    let mut free = 0;
+    for stretch in stretches.iter() {
+        free = draw_stretch(out, scene, *stretch, height, free)?;
+    }
+    Ok(())
+}
+
 /// The script, written upwards over the first column of each of its lines, where there is room.
 #[tactic(auto, unfolding(crate::specs::Axes::with_lines))]
 pub fn draw_lines<'a>(
@@ -134,12 +162,8 @@ pub fn draw_lines<'a>(
     ensures text { OnOk result (out.new.text ≡ with_lines scene.now height out.old.text) }
 {
     out.text("q e", at(LABEL, AXIS - 4), "line of the script")?;
-    let keys = line_keys(alloc, scene.columns())?;
-    let mut free = 0;
-    for stretch in stretches(alloc, keys.as_slice())?.iter() {
-        free = draw_stretch(out, scene, *stretch, height, free)?;
-    }
-    Ok(())
+    let lines = line_stretches(alloc, scene.columns())?;
+    draw_stretches(out, scene, lines.as_slice(), height)
 }
 
 /// The number of a column's first event, where there is room; and from where there is room behind it.

@@ -11,6 +11,7 @@
 
 mod adapter;
 mod axes;
+mod positioning;
 
 pub use adapter::draw_adapter;
 pub use axes::{draw_events, draw_lines};
