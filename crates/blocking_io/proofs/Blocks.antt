@@ -11,8 +11,8 @@ use Rattle.driver_machine.specs.declared.Made.{Made}
 use Rattle.driver_machine.specs.World.{World, Held, held_in, slot_at, block_in}
 use Rattle.driver_machine.specs.Refusals.{refuses}
 use Rattle.driver_machine.specs.Sound.{Sound, SlotOk, IsGiven, IsMade}
-use Rattle.driver_invariant.proofs.SlotsLists.{Contains-first}
-use Rattle.driver_answers.specs.Waiting.{blocks_for}
+use Rattle.driver_laws.proofs.invariant.SlotsLists.{Contains-first}
+use Rattle.driver_laws.specs.answers.Waiting.{blocks_for}
 use Rattle.hp_driver.specs.Subsystem.{IsOldest}
 use Rattle.blocking_io.specs.Taking.{blocks_of, oldest_blocks, IsOldestKind, HasBlock}
 

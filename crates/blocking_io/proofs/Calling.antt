@@ -9,13 +9,13 @@ use Rattle.trace_replay.specs.Text.{trace_text}
 use Rattle.driver_machine.specs.World.{World}
 use Rattle.driver_machine.specs.Lines.{lines_of_all}
 use Rattle.driver_machine.specs.Events.{submit_acts, event_acts}
-use Rattle.driver_answers.specs.Waiting.{waiting, all_taken}
+use Rattle.driver_laws.specs.answers.Waiting.{waiting, all_taken}
 use Rattle.driver_machine.specs.Acts.{Tried}
-use Rattle.driver_answers.specs.Outcome.{Does, IsFront}
-use Rattle.driver_answers.specs.declared.outcome.Stop.{Stop}
-use Rattle.driver_answers.specs.declared.outcome.Stop.TheVariants as stop
-use Rattle.driver_answers.proofs.Joined.{front_more, front_of_front}
-use Rattle.driver_trace.specs.Noises.{AllFlip}
+use Rattle.driver_laws.specs.answers.Outcome.{Does, IsFront}
+use Rattle.driver_laws.specs.declared.answers.outcome.Stop.{Stop}
+use Rattle.driver_laws.specs.declared.answers.outcome.Stop.TheVariants as stop
+use Rattle.driver_laws.proofs.answers.Joined.{front_more, front_of_front}
+use Rattle.driver_laws.specs.shown.Noises.{AllFlip}
 use Rattle.hp_driver.specs.Subsystem.{Submits, Comes, State, seen, IsThere, is_move, writes_by}
 use Rattle.hp_driver.proofs.Sent.{whole_sent, front_told}
 use Rattle.blocking_io.specs.Given.{Given, gives_all}

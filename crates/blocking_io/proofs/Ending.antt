@@ -7,21 +7,21 @@ use Rattle.trace_replay.specs.Script as script
 use Rattle.trace_replay.specs.Script.{IsThere}
 use Rattle.trace_replay.specs.Text.{trace_text, moment_text}
 use Rattle.trace_replay.specs.Replay.{Replay, IsOver}
-use Rattle.trace_laws.specs.Calm.{IsGood, IsCalm}
-use Rattle.trace_laws.specs.Stands.{Setup}
+use Rattle.driver_laws.specs.rules.Calm.{IsGood, IsCalm}
+use Rattle.driver_laws.specs.rules.Stands.{Setup}
 use Rattle.driver_machine.specs.World.{World, unit_at}
 use Rattle.driver_machine.specs.Acts.{Nothing}
 use Rattle.driver_machine.specs.Events.{next_event}
 use Rattle.driver_machine.specs.Guards.{IsSetUp}
 use Rattle.driver_machine.specs.Sound.{Sound, AtWork}
 use Rattle.driver_machine.specs.Runs.{NoneOutstanding}
-use Rattle.driver_trace.specs.RunsRuns.{Stay}
-use Rattle.driver_trace.specs.Calls.{Stands}
-use Rattle.driver_trace.proofs.DrainsLaws.{drain_left, none_outstanding}
-use Rattle.trace_laws.specs.Sessions.{IsSession, behind, behind_all, waited, told_in}
-use Rattle.trace_laws.specs.Rest.{HasTables}
-use Rattle.trace_laws.specs.Waited.{map_of, answer_in, with_packs, IsAskable, IsWaitedFor, IsAnswered, AreLeftBy}
-use Rattle.trace_laws.proofs.WaitedLaws.{waited_is_answered, all_rest_again, packs_hold_map}
+use Rattle.driver_laws.specs.shown.RunsRuns.{Stay}
+use Rattle.driver_laws.specs.shown.Calls.{Stands}
+use Rattle.driver_laws.proofs.shown.DrainsLaws.{drain_left, none_outstanding}
+use Rattle.driver_laws.specs.rules.Sessions.{IsSession, behind, behind_all, waited, told_in}
+use Rattle.driver_laws.specs.rules.Rest.{HasTables}
+use Rattle.driver_laws.specs.rules.Waited.{map_of, answer_in, with_packs, IsAskable, IsWaitedFor, IsAnswered, AreLeftBy}
+use Rattle.driver_laws.proofs.rules.WaitedLaws.{waited_is_answered, all_rest_again, packs_hold_map}
 use Rattle.hp_driver.specs.Passes.{IsQuiet, kind_if, setup_of, rested, StandsQuiet}
 use Rattle.hp_driver.specs.Passes.{IsOpen, GoesTo}
 use Rattle.hp_driver.proofs.Passes.{quiet_rests}

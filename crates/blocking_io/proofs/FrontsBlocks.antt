@@ -10,16 +10,16 @@ use Rattle.partitions.specs.declared.Admission.TheVariants.{Inside}
 use Rattle.partitions.specs.Partitions.{first_of, size_of, admission}
 use Rattle.subsystem_spec.specs.Requests.{Request, IsRequest, Answer, ReadOk, WriteOk}
 use Rattle.trace_replay.specs.Moments.{Moment}
-use Rattle.trace_laws.specs.Machine.{Blocks, kind_of, bytes_of_first, blocks_done, blocks_after, done_in}
-use Rattle.trace_laws.specs.Stands.{Setup}
-use Rattle.trace_laws.proofs.Blocks.{read_blocks}
+use Rattle.driver_laws.specs.rules.Machine.{Blocks, kind_of, bytes_of_first, blocks_done, blocks_after, done_in}
+use Rattle.driver_laws.specs.rules.Stands.{Setup}
+use Rattle.driver_laws.proofs.rules.Blocks.{read_blocks}
 use Rattle.driver_machine.specs.Guards.{IsSetUp}
 use Rattle.driver_machine.specs.Sound.{Sound, AtWork}
-use Rattle.driver_answers.specs.declared.outcome.Stop.{Stop}
-use Rattle.trace_laws.specs.Rest.{HasTables}
-use Rattle.trace_laws.specs.Waited.{unusable_or, first_unusable, answer_by, answer_of, answer_at, map_at as map_met, first_in, met_in, answer_in, map_behind}
-use Rattle.trace_laws.specs.Laid.{laid}
-use Rattle.trace_laws.specs.Pieces.{Reaches}
+use Rattle.driver_laws.specs.declared.answers.outcome.Stop.{Stop}
+use Rattle.driver_laws.specs.rules.Rest.{HasTables}
+use Rattle.driver_laws.specs.rules.Waited.{unusable_or, first_unusable, answer_by, answer_of, answer_at, map_at as map_met, first_in, met_in, answer_in, map_behind}
+use Rattle.driver_laws.specs.rules.Laid.{laid}
+use Rattle.driver_laws.specs.rules.Pieces.{Reaches}
 use Rattle.blocking_io.specs.FrontsPasses.{All, AtEnd, Before, IsMapped, IsQuiet, Outside, Reached, Stage, Stops, bytes_by, reached_by, setup_at}
 use Rattle.blocking_io.specs.Fronts.{HoldsFront, StoppedHoldsFront}
 use Rattle.blocking_io.specs.Sites.{IsUntouched, kind_at, left_map, map_at}

@@ -21,28 +21,28 @@ use Rattle.trace_replay.specs.Conversation.{Progress, is_waiting}
 use Rattle.trace_replay.specs.Replay.{Replay, UnitSeen, hand_of, Submission, Refused, Joined, AreLeft, after_moment}
 use Rattle.trace_replay.proofs.Histories.{Fits, Open, CleanFits}
 use Rattle.trace_replay.proofs.Kept.{IsHeld}
-use Rattle.trace_laws.specs.Consistent.{IsConsistent}
-use Rattle.trace_laws.proofs.Consistency.{moments_consistent}
+use Rattle.driver_laws.specs.rules.Consistent.{IsConsistent}
+use Rattle.driver_laws.proofs.rules.Consistency.{moments_consistent}
 use Rattle.blocking_io.specs.Passes.{IsNextSector, with_next}
-use Rattle.trace_laws.specs.Machine.{Blocks, Machine, idle, request_of, without, kind_of, meets, AreUsable, MayAnswer, blocks_after, blocks_done, done_in, after_answer, Steps}
-use Rattle.trace_laws.specs.Machine.{submitted as machine_submitted}
-use Rattle.trace_laws.specs.Stands.{Setup, home_at, home_in, held_at, HandStands, IsOutstanding, QueueStands, StandsFor, is_sure_among, sure_claims}
-use Rattle.trace_laws.proofs.Blocks.{begun_blocks, read_blocks}
-use Rattle.trace_laws.proofs.Beginnings.{steps_join}
-use Rattle.trace_laws.proofs.Hands.{written_more}
-use Rattle.trace_laws.proofs.Homes.{home_is, homes_differ, tried_home}
-use Rattle.trace_laws.proofs.MachineUnits.{Keeps}
-use Rattle.trace_laws.proofs.MachineRuns.{home_marks, left_at, room_at, below_count}
+use Rattle.driver_laws.specs.rules.Machine.{Blocks, Machine, idle, request_of, without, kind_of, meets, AreUsable, MayAnswer, blocks_after, blocks_done, done_in, after_answer, Steps}
+use Rattle.driver_laws.specs.rules.Machine.{submitted as machine_submitted}
+use Rattle.driver_laws.specs.rules.Stands.{Setup, home_at, home_in, held_at, HandStands, IsOutstanding, QueueStands, StandsFor, is_sure_among, sure_claims}
+use Rattle.driver_laws.proofs.rules.Blocks.{begun_blocks, read_blocks}
+use Rattle.driver_laws.proofs.rules.Beginnings.{steps_join}
+use Rattle.driver_laws.proofs.rules.Hands.{written_more}
+use Rattle.driver_laws.proofs.rules.Homes.{home_is, homes_differ, tried_home}
+use Rattle.driver_laws.proofs.rules.MachineUnits.{Keeps}
+use Rattle.driver_laws.proofs.rules.MachineRuns.{home_marks, left_at, room_at, below_count}
 use Rattle.driver_machine.specs.World.{World, unit_at}
 use Rattle.driver_machine.specs.Guards.{IsSetUp}
-use Rattle.driver_answers.specs.declared.outcome.Stop.{Stop}
-use Rattle.driver_answers.specs.declared.outcome.Stop.TheVariants.{Store, Sink}
-use Rattle.trace_laws.specs.Sessions.{Part, IsPart, IsSession, behind, behind_all}
-use Rattle.trace_laws.specs.Rest.{HasTables}
-use Rattle.trace_laws.specs.Waited.{map_of, first_in, with_packs, IsAskable}
-use Rattle.trace_laws.proofs.Parts.{PartStep, part_step}
-use Rattle.trace_laws.proofs.Cleans.{done_moves_clean}
-use Rattle.trace_laws.proofs.Restful.{rest_keeps, rest_stands}
+use Rattle.driver_laws.specs.declared.answers.outcome.Stop.{Stop}
+use Rattle.driver_laws.specs.declared.answers.outcome.Stop.TheVariants.{Store, Sink}
+use Rattle.driver_laws.specs.rules.Sessions.{Part, IsPart, IsSession, behind, behind_all}
+use Rattle.driver_laws.specs.rules.Rest.{HasTables}
+use Rattle.driver_laws.specs.rules.Waited.{map_of, first_in, with_packs, IsAskable}
+use Rattle.driver_laws.proofs.rules.Parts.{PartStep, part_step}
+use Rattle.driver_laws.proofs.rules.Cleans.{done_moves_clean}
+use Rattle.driver_laws.proofs.rules.Restful.{rest_keeps, rest_stands}
 use Rattle.blocking_io.specs.Passes.{kind_if, setup_of, rested, StandsQuiet}
 use Rattle.blocking_io.proofs.Passes.{played_consistent}
 use Rattle.blocking_io.proofs.Passes.{quiet_rests}

@@ -8,16 +8,16 @@ use Rattle.trace_replay.specs.Moments.{Moment}
 use Rattle.trace_replay.specs.Text.{trace_text, moment_text}
 use Rattle.trace_replay.specs.Packs.{Surface}
 use Rattle.trace_replay.specs.Replay.{Replay, AreLeft}
-use Rattle.trace_laws.specs.Beginnings.{with_next}
-use Rattle.trace_laws.specs.Stands.{Setup}
-use Rattle.driver_answers.specs.Outcome.{IsFront}
-use Rattle.driver_answers.specs.declared.outcome.Stop.{Stop}
-use Rattle.driver_answers.specs.declared.outcome.Stop.TheVariants.{Store, Sink}
-use Rattle.driver_answers.proofs.Joined.{front_more, front_of_front}
-use Rattle.driver_trace.specs.RunsRuns.{Stay}
-use Rattle.driver_trace.specs.NextBlock.{HasNext}
-use Rattle.trace_laws.specs.Sessions.{Part, IsSession, behind, behind_all, waited, told_in}
-use Rattle.trace_laws.specs.Waited.{with_packs}
+use Rattle.driver_laws.specs.rules.Beginnings.{with_next}
+use Rattle.driver_laws.specs.rules.Stands.{Setup}
+use Rattle.driver_laws.specs.answers.Outcome.{IsFront}
+use Rattle.driver_laws.specs.declared.answers.outcome.Stop.{Stop}
+use Rattle.driver_laws.specs.declared.answers.outcome.Stop.TheVariants.{Store, Sink}
+use Rattle.driver_laws.proofs.answers.Joined.{front_more, front_of_front}
+use Rattle.driver_laws.specs.shown.RunsRuns.{Stay}
+use Rattle.driver_laws.specs.shown.NextBlock.{HasNext}
+use Rattle.driver_laws.specs.rules.Sessions.{Part, IsSession, behind, behind_all, waited, told_in}
+use Rattle.driver_laws.specs.rules.Waited.{with_packs}
 use Rattle.hp_driver.specs.Passes.{StandsQuiet}
 use Rattle.blocking_io.specs.Calls.{Stage}
 use Rattle.blocking_io.specs.Asking.{setup_at}

@@ -5,8 +5,8 @@ use Rattle.std.proofs.Math.Nat.{min-le_left, min-le_right}
 use Rattle.std.proofs.lemmas.List.{take_all}
 use Rattle.std.proofs.Math.ListN.{drop_of_length-le}
 use Rattle.driver_machine.specs.World.{bytes_in}
-use Rattle.trace_laws.specs.Laid.{laid, laid_at}
-use Rattle.trace_laws.proofs.Ranges.{laid_over_none, laid_more}
+use Rattle.driver_laws.specs.rules.Laid.{laid, laid_at}
+use Rattle.driver_laws.proofs.rules.Ranges.{laid_over_none, laid_more}
 
 pub laid_none : (into : List ℕ) → laid [] into ≡ into
 laid_none into = refl

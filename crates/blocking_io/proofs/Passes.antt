@@ -2,4 +2,4 @@
 pub use Rattle.hp_driver.proofs.Passes.{played_consistent}
 pub use Rattle.hp_driver.proofs.Passes.{new_is_quiet}
 pub use Rattle.hp_driver.proofs.Passes.{quiet_rests}
-pub use Rattle.trace_laws.proofs.Few.{done_few}
+pub use Rattle.driver_laws.proofs.rules.Few.{done_few}

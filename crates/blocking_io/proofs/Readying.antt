@@ -6,11 +6,11 @@ use Rattle.outside_traits.specs.Causes.{Rose}
 use Rattle.driver_machine.specs.World.{World, Held, slot_at}
 use Rattle.driver_machine.specs.Sound.{Sound}
 use Rattle.driver_machine.specs.Runs.{NoneOutstanding}
-use Rattle.driver_answers.specs.declared.outcome.Stop.{Stop}
-use Rattle.driver_answers.specs.declared.outcome.Stop.TheVariants.{Store, Sink}
-use Rattle.driver_answers.specs.Outcome.{stop_in}
-use Rattle.driver_answers.specs.Counts.{in_use}
-use Rattle.driver_answers.proofs.Slots.{none_ended}
+use Rattle.driver_laws.specs.declared.answers.outcome.Stop.{Stop}
+use Rattle.driver_laws.specs.declared.answers.outcome.Stop.TheVariants.{Store, Sink}
+use Rattle.driver_laws.specs.answers.Outcome.{stop_in}
+use Rattle.driver_laws.specs.answers.Counts.{in_use}
+use Rattle.driver_laws.proofs.answers.Slots.{none_ended}
 use Rattle.hp_driver.specs.Passes.{HasCauses}
 use Rattle.subsystem_spec.specs.declared.request.Request.{Request}
 use Rattle.hp_driver.specs.Subsystem.{State, IsAsked}

@@ -4,8 +4,8 @@ use Rattle.std.proofs.Common.{◌≡◌, ℕ, Bool, true, false, List, [], ◌++
 use Rattle.std.specs.Prelude.{if◌then◌else◌}
 use Rattle.std.proofs.lemmas.List.{append_cancel_right}
 use Rattle.outside_traits.specs.Puts.{TakesFront}
-use Rattle.driver_answers.specs.Outcome.{IsFront}
-use Rattle.driver_answers.proofs.Joined.{front_more, front_of_front}
+use Rattle.driver_laws.specs.answers.Outcome.{IsFront}
+use Rattle.driver_laws.proofs.answers.Joined.{front_more, front_of_front}
 
 -- ---- A FRONT OF A TEXT was taken: it begins with what was taken before, and is a front of all.
 pub begins_taken : (before after text : List ℕ) → TakesFront before after text → IsFront before after

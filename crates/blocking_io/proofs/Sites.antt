@@ -9,15 +9,15 @@ use Rattle.pack_geometry.specs.Content.{bytes_at}
 use Rattle.pack_geometry.specs.TableSpelling.{Table}
 use Rattle.pack_geometry.specs.Homes.{home_of, content_at}
 use Rattle.pack_geometry.proofs.PackLaws.{length-block_at}
-use Rattle.trace_laws.specs.Machine.{kind_of}
-use Rattle.trace_laws.specs.Stands.{Setup, home_at}
-use Rattle.trace_laws.proofs.MachineRuns.{home_marks}
+use Rattle.driver_laws.specs.rules.Machine.{kind_of}
+use Rattle.driver_laws.specs.rules.Stands.{Setup, home_at}
+use Rattle.driver_laws.proofs.rules.MachineRuns.{home_marks}
 use Rattle.driver_machine.specs.World.{World, unit_at}
 use Rattle.driver_machine.specs.Guards.{IsSetUp}
-use Rattle.driver_answers.specs.declared.outcome.Stop.{Stop}
-use Rattle.driver_answers.specs.declared.outcome.Stop.TheVariants.{Store, Sink}
-use Rattle.driver_answers.specs.Outcome.{stop_in}
-use Rattle.trace_laws.specs.Waited.{map_of, with_packs}
+use Rattle.driver_laws.specs.declared.answers.outcome.Stop.{Stop}
+use Rattle.driver_laws.specs.declared.answers.outcome.Stop.TheVariants.{Store, Sink}
+use Rattle.driver_laws.specs.answers.Outcome.{stop_in}
+use Rattle.driver_laws.specs.rules.Waited.{map_of, with_packs}
 use Rattle.blocking_io.specs.FrontsPasses.{HasCauses, IsReady, Stage, State, kind_if, setup_at, setup_of}
 use Rattle.blocking_io.specs.Fronts.{OthersStay}
 use Rattle.blocking_io.specs.Sites.{IsUnchanged, IsUntouched, Keeps, kind_at, left_map}

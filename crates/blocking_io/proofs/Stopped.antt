@@ -12,29 +12,29 @@ use Rattle.trace_replay.specs.Script.{Input}
 use Rattle.trace_replay.specs.Text.{trace_text, moment_text}
 use Rattle.trace_replay.specs.Events.{Event, is_no_line}
 use Rattle.trace_replay.specs.Replay.{Replay, next_wish, act_drained, drained, are_at_work, WorkMay, AreLeft, after_moment, after_moments}
-use Rattle.trace_laws.specs.Beginnings.{QuietMomentsKeep}
+use Rattle.driver_laws.specs.rules.Beginnings.{QuietMomentsKeep}
 use Rattle.driver_machine.specs.World.{World}
 use Rattle.driver_machine.specs.Acts.{Act, Nothing, Tried, after_all}
 use Rattle.driver_machine.specs.Lines.{lines_of_all}
 use Rattle.driver_machine.specs.Events.{submit_acts, event_acts, next_event}
 use Rattle.driver_machine.specs.Sound.{Sound, AtWork}
 use Rattle.driver_machine.specs.Runs.{Works, MayCome}
-use Rattle.driver_invariant.proofs.Calls.{event_works}
-use Rattle.driver_invariant.proofs.Sound.{sound_after}
-use Rattle.driver_answers.specs.Packs.{packs_after_all}
-use Rattle.driver_answers.specs.Outcome.{IsFront}
-use Rattle.driver_answers.specs.declared.outcome.Stop.{Stop}
-use Rattle.driver_answers.specs.declared.outcome.Stop.TheVariants.{Store, Sink}
-use Rattle.driver_answers.proofs.Joined.{front_of_front}
-use Rattle.driver_trace.specs.Calls.{Ends, IsSurfaceOf}
-use Rattle.driver_trace.proofs.DrainsLaws.{GoesOn, drain_begins, drain_goes_on, drain_between}
-use Rattle.driver_trace.proofs.Inputted.{lines_play_nothing}
+use Rattle.driver_laws.proofs.invariant.Calls.{event_works}
+use Rattle.driver_laws.proofs.invariant.Sound.{sound_after}
+use Rattle.driver_laws.specs.answers.Packs.{packs_after_all}
+use Rattle.driver_laws.specs.answers.Outcome.{IsFront}
+use Rattle.driver_laws.specs.declared.answers.outcome.Stop.{Stop}
+use Rattle.driver_laws.specs.declared.answers.outcome.Stop.TheVariants.{Store, Sink}
+use Rattle.driver_laws.proofs.answers.Joined.{front_of_front}
+use Rattle.driver_laws.specs.shown.Calls.{Ends, IsSurfaceOf}
+use Rattle.driver_laws.proofs.shown.DrainsLaws.{GoesOn, drain_begins, drain_goes_on, drain_between}
+use Rattle.driver_laws.proofs.shown.Inputted.{lines_play_nothing}
 use Rattle.hp_driver.proofs.Passes.{event_fronts}
-use Rattle.driver_trace.specs.RunsRuns.{Stay}
-use Rattle.driver_trace.specs.NextBlock.{NextBlocksShow}
-use Rattle.driver_trace.proofs.Sectors.{submission_quiet}
-use Rattle.trace_laws.specs.Sessions.{MayPlay, IsPart, behind, behind_all, told_in, waited}
-use Rattle.trace_laws.specs.Waited.{with_packs}
+use Rattle.driver_laws.specs.shown.RunsRuns.{Stay}
+use Rattle.driver_laws.specs.shown.NextBlock.{NextBlocksShow}
+use Rattle.driver_laws.proofs.shown.Sectors.{submission_quiet}
+use Rattle.driver_laws.specs.rules.Sessions.{MayPlay, IsPart, behind, behind_all, told_in, waited}
+use Rattle.driver_laws.specs.rules.Waited.{with_packs}
 use Rattle.hp_driver.specs.Passes.{setup_of, StandsQuiet}
 use Rattle.hp_driver.specs.Passes.{GoesTo, DrainsFrom}
 use Rattle.hp_driver.proofs.Passes.{quiet_opens, quiet_submits, drains_begin, drains_continue, drains_find_nothing}

@@ -9,8 +9,8 @@ use Rattle.driver_machine.specs.World.{World}
 use Rattle.driver_machine.specs.Acts.{Taken, after, after_all}
 use Rattle.driver_machine.specs.Lines.{answer_told}
 use Rattle.driver_machine.specs.Sound.{Sound}
-use Rattle.driver_answers.specs.Waiting.{told_by, waiting, takings, all_taken, TakingDrops}
-use Rattle.driver_answers.proofs.Taking.{some_first, nothing_taken}
+use Rattle.driver_laws.specs.answers.Waiting.{told_by, waiting, takings, all_taken, TakingDrops}
+use Rattle.driver_laws.proofs.answers.Taking.{some_first, nothing_taken}
 use Rattle.hp_driver.specs.Subsystem.{State, IsOldest}
 use Rattle.blocking_io.specs.declared.reached.Reached.{Reached}
 use Rattle.blocking_io.specs.Given.{Given, gives_all, reached_by, bytes_by}

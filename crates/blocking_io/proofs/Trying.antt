@@ -8,24 +8,24 @@ use Rattle.trace_replay.specs.Moments.{Moment}
 use Rattle.trace_replay.specs.Script as says
 use Rattle.trace_replay.specs.Script.{Input}
 use Rattle.trace_replay.specs.Replay.{Replay, Follows, AreLeft, after_moments}
-use Rattle.trace_laws.specs.Beginnings.{QuietMomentsKeep}
+use Rattle.driver_laws.specs.rules.Beginnings.{QuietMomentsKeep}
 use Rattle.driver_machine.specs.World.{World, unit_of, adapter_at}
 use Rattle.driver_machine.specs.Acts.{Act, Nothing, Tried, Sector}
 use Rattle.driver_machine.specs.Lines.{lines_of_all}
 use Rattle.driver_machine.specs.Events.{event_acts, can_move, in_hand, or_nothing}
 use Rattle.driver_machine.specs.Sound.{Sound}
 use Rattle.driver_machine.specs.Runs.{Run, MayCome}
-use Rattle.driver_invariant.proofs.Deeds.{deed_at}
-use Rattle.driver_answers.specs.Packs.{ReadAll, packs_after_all}
-use Rattle.driver_answers.specs.Outcome.{IsNextBlock}
-use Rattle.driver_answers.specs.declared.outcome.Stop.TheVariants.{Store}
-use Rattle.driver_trace.specs.Calls.{IsReadOf}
-use Rattle.driver_trace.specs.Noises.{AllFlip}
-use Rattle.driver_trace.specs.Within.{ShowsAll}
+use Rattle.driver_laws.proofs.invariant.Deeds.{deed_at}
+use Rattle.driver_laws.specs.answers.Packs.{ReadAll, packs_after_all}
+use Rattle.driver_laws.specs.answers.Outcome.{IsNextBlock}
+use Rattle.driver_laws.specs.declared.answers.outcome.Stop.TheVariants.{Store}
+use Rattle.driver_laws.specs.shown.Calls.{IsReadOf}
+use Rattle.driver_laws.specs.shown.Noises.{AllFlip}
+use Rattle.driver_laws.specs.shown.Within.{ShowsAll}
 use Rattle.hp_driver.proofs.Passes.{event_fronts}
-use Rattle.driver_trace.specs.RunsRuns.{AreDeclared}
-use Rattle.driver_trace.proofs.Sectors.{IsNoMove, event_quiet}
-use Rattle.driver_trace.specs.NextBlock.{NextBlocksShow}
+use Rattle.driver_laws.specs.shown.RunsRuns.{AreDeclared}
+use Rattle.driver_laws.proofs.shown.Sectors.{IsNoMove, event_quiet}
+use Rattle.driver_laws.specs.shown.NextBlock.{NextBlocksShow}
 use Rattle.hp_driver.specs.Subsystem.{IsThere, is_move}
 use Rattle.hp_driver.proofs.Moves.{one_act, tried_by_rules, read_from}
 use Rattle.blocking_io.specs.Calls.{Stage, EventTellsFront, MoveFails}

@@ -10,7 +10,7 @@ use Rattle.trace_replay.specs.Script as script
 use Rattle.trace_replay.specs.Script.{Input}
 use Rattle.trace_replay.specs.Text.{trace_text, moment_text}
 use Rattle.trace_replay.specs.Replay.{Replay}
-use Rattle.trace_laws.specs.Stands.{Setup}
+use Rattle.driver_laws.specs.rules.Stands.{Setup}
 use Rattle.driver_machine.specs.World.{World, unit_at}
 use Rattle.driver_machine.specs.Acts.{Act, Taken, after, after_all}
 use Rattle.driver_machine.specs.Lines.{lines_of_all}
@@ -18,15 +18,15 @@ use Rattle.driver_machine.specs.Events.{submit_acts, event_acts, next_event}
 use Rattle.driver_machine.specs.Guards.{IsSetUp}
 use Rattle.driver_machine.specs.Sound.{Sound, AtWork}
 use Rattle.driver_machine.specs.Runs.{Run}
-use Rattle.driver_answers.specs.Packs.{packs_after_all}
-use Rattle.driver_answers.proofs.Units.{setups_stay}
-use Rattle.driver_answers.proofs.Waiting.{events_alone, submissions_alone}
-use Rattle.driver_trace.specs.RunsRuns.{AreDeclared, Stay}
-use Rattle.driver_trace.proofs.RunsLaws.{runs_keep}
-use Rattle.driver_trace.proofs.Inputted.{lines_play_nothing}
-use Rattle.trace_laws.specs.Sessions.{Part, MayPlay, IsPart, behind}
-use Rattle.trace_laws.specs.Waited.{with_packs}
-use Rattle.trace_laws.proofs.WaitedLaws.{answers_append}
+use Rattle.driver_laws.specs.answers.Packs.{packs_after_all}
+use Rattle.driver_laws.proofs.answers.Units.{setups_stay}
+use Rattle.driver_laws.proofs.answers.Waiting.{events_alone, submissions_alone}
+use Rattle.driver_laws.specs.shown.RunsRuns.{AreDeclared, Stay}
+use Rattle.driver_laws.proofs.shown.RunsLaws.{runs_keep}
+use Rattle.driver_laws.proofs.shown.Inputted.{lines_play_nothing}
+use Rattle.driver_laws.specs.rules.Sessions.{Part, MayPlay, IsPart, behind}
+use Rattle.driver_laws.specs.rules.Waited.{with_packs}
+use Rattle.driver_laws.proofs.rules.WaitedLaws.{answers_append}
 use Rattle.hp_driver.specs.Passes.{IsQuiet, kind_if, setup_of, StandsQuiet}
 use Rattle.hp_driver.specs.Passes.{IsOpen, GoesTo, DrainsFrom}
 use Rattle.hp_driver.proofs.Passes.{quiet_opens, quiet_submits, drains_begin, drains_continue, takings_open, takings_drain}
@@ -34,9 +34,9 @@ use Rattle.hp_driver.proofs.Passes.{setup_stays}
 use Rattle.hp_driver.proofs.Passes.{Waits, Drains, Fewer, first_fewer, later_fewer, waits_taken, drains_taken}
 use Rattle.hp_driver.proofs.Passes.{submitted_waits}
 use Rattle.blocking_io.specs.Given.{Given, gives, gives_all}
-use Rattle.driver_answers.specs.Waiting.{takings, all_taken}
+use Rattle.driver_laws.specs.answers.Waiting.{takings, all_taken}
 use Rattle.blocking_io.specs.Calls.{Stage, GivesSubmission, GivesEvent}
-use Rattle.driver_answers.proofs.Taking.{taken_by, none_waits}
+use Rattle.driver_laws.proofs.answers.Taking.{taken_by, none_waits}
 
 -- ---- answers one list behind the other
 gives_append : (xs ys : List Answered) (g : Given) → gives_all (xs ++ ys) g ≡ gives_all ys (gives_all xs g)

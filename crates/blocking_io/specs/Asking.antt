@@ -6,12 +6,12 @@ use Rattle.subsystem_spec.specs.Requests.{IsRequest}
 use Rattle.trace_replay.specs.Moments.{Moment}
 use Rattle.trace_replay.specs.Text.{trace_text}
 use Rattle.trace_replay.specs.Replay.{Replay, IsOver}
-use Rattle.trace_laws.specs.Stands.{Setup, home_in}
+use Rattle.driver_laws.specs.rules.Stands.{Setup, home_in}
 use Rattle.driver_machine.specs.Guards.{IsSetUp}
-use Rattle.driver_trace.specs.RunsRuns.{Stay}
-use Rattle.trace_laws.specs.Sessions.{IsSession, behind_all, waited}
-use Rattle.trace_laws.specs.Rest.{HasTables}
-use Rattle.trace_laws.specs.Waited.{map_of, answer_in, map_behind, with_packs}
+use Rattle.driver_laws.specs.shown.RunsRuns.{Stay}
+use Rattle.driver_laws.specs.rules.Sessions.{IsSession, behind_all, waited}
+use Rattle.driver_laws.specs.rules.Rest.{HasTables}
+use Rattle.driver_laws.specs.rules.Waited.{map_of, answer_in, map_behind, with_packs}
 use Rattle.hp_driver.specs.Passes.{IsQuiet, setup_of, StandsQuiet}
 use Rattle.subsystem_spec.specs.declared.request.Request.{Request}
 use Rattle.hp_driver.specs.Subsystem.{State, asked}

@@ -3,9 +3,9 @@ use Rattle.std.specs.Prelude.{◌≡◌, ◌≢◌, ℕ, ◌+◌, ◌<◌, ◌�
 use Rattle.pack_geometry.specs.declared.DriveKind.{DriveKind}
 use Rattle.partitions.specs.Partitions.{first_of, size_of}
 use Rattle.subsystem_spec.specs.Requests.{Request}
-use Rattle.trace_laws.specs.Machine.{blocks_done, bytes_of_first}
-use Rattle.trace_laws.specs.Laid.{laid}
-use Rattle.trace_laws.specs.Pieces.{Reaches}
+use Rattle.driver_laws.specs.rules.Machine.{blocks_done, bytes_of_first}
+use Rattle.driver_laws.specs.rules.Laid.{laid}
+use Rattle.driver_laws.specs.rules.Pieces.{Reaches}
 use Rattle.blocking_io.specs.FrontsPasses.{All, AtEnd, Before, Outside, Reached, Stage, setup_at}
 use Rattle.blocking_io.specs.Fronts.{OthersStay}
 use Rattle.blocking_io.specs.Sites.{IsUnchanged, kind_at, left_map, map_at}

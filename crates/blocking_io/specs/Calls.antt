@@ -12,13 +12,13 @@ use Rattle.driver_machine.specs.Lines.{lines_of_all}
 use Rattle.driver_machine.specs.Events.{refusal_of, submit_acts, event_acts}
 use Rattle.driver_machine.specs.Guards.{IsHeldFor}
 use Rattle.driver_machine.specs.Runs.{Run, MaySubmit, MayCome}
-use Rattle.driver_answers.specs.Packs.{ReadAll, packs_after_all}
-use Rattle.driver_answers.specs.Outcome.{IsFront, IsNextBlock}
-use Rattle.driver_answers.specs.declared.outcome.Stop.{Stop}
-use Rattle.driver_answers.specs.declared.outcome.Stop.TheVariants.{Store, Sink}
-use Rattle.driver_answers.specs.Waiting.{waiting, all_taken}
-use Rattle.driver_trace.specs.Calls.{IsReadOf}
-use Rattle.driver_trace.specs.Noises.{AllFlip}
+use Rattle.driver_laws.specs.answers.Packs.{ReadAll, packs_after_all}
+use Rattle.driver_laws.specs.answers.Outcome.{IsFront, IsNextBlock}
+use Rattle.driver_laws.specs.declared.answers.outcome.Stop.{Stop}
+use Rattle.driver_laws.specs.declared.answers.outcome.Stop.TheVariants.{Store, Sink}
+use Rattle.driver_laws.specs.answers.Waiting.{waiting, all_taken}
+use Rattle.driver_laws.specs.shown.Calls.{IsReadOf}
+use Rattle.driver_laws.specs.shown.Noises.{AllFlip}
 use Rattle.hp_driver.specs.Subsystem.{State, IsThere, is_move}
 use Rattle.blocking_io.specs.declared.reached.Reached.{Reached}
 use Rattle.blocking_io.specs.Given.{Given, gives_all}

@@ -5,16 +5,16 @@ use Rattle.pack_geometry.specs.declared.DriveKind.{DriveKind}
 use Rattle.pack_geometry.specs.Geometry.{block_count}
 use Rattle.pack_geometry.specs.Pack.{Pack, block_at}
 use Rattle.subsystem_spec.specs.Requests.{Request, IsRequest}
-use Rattle.trace_laws.specs.Machine.{blocks_done}
-use Rattle.trace_laws.specs.Stands.{Setup, home_in}
+use Rattle.driver_laws.specs.rules.Machine.{blocks_done}
+use Rattle.driver_laws.specs.rules.Stands.{Setup, home_in}
 use Rattle.driver_machine.specs.Guards.{IsSetUp}
 use Rattle.driver_machine.specs.Sound.{Sound, AtWork}
-use Rattle.driver_answers.specs.declared.outcome.Stop.{Stop}
+use Rattle.driver_laws.specs.declared.answers.outcome.Stop.{Stop}
 use Rattle.blocking_io.specs.Passes.{Stay}
-use Rattle.trace_laws.specs.Rest.{HasTables}
-use Rattle.trace_laws.specs.Sessions.{waited, told_in}
-use Rattle.trace_laws.specs.Waited.{map_of, first_in, answer_in, with_packs}
-use Rattle.trace_laws.specs.Cleans.{MovedClean, done_by}
+use Rattle.driver_laws.specs.rules.Rest.{HasTables}
+use Rattle.driver_laws.specs.rules.Sessions.{waited, told_in}
+use Rattle.driver_laws.specs.rules.Waited.{map_of, first_in, answer_in, with_packs}
+use Rattle.driver_laws.specs.rules.Cleans.{MovedClean, done_by}
 use Rattle.blocking_io.specs.Passes.{IsQuiet}
 use Rattle.blocking_io.specs.Calls.{Stage}
 use Rattle.blocking_io.specs.Asking.{setup_at, Answers}

@@ -3,11 +3,11 @@ use Rattle.std.specs.Prelude.{◌≡◌, ℕ, IsTrue, List, ◌++◌}
 use Rattle.subsystem_spec.specs.Requests.{Request}
 use Rattle.trace_replay.specs.Text.{trace_text}
 use Rattle.trace_replay.specs.Replay.{Replay}
-use Rattle.driver_answers.specs.declared.outcome.Stop.{Stop}
-use Rattle.driver_trace.specs.RunsRuns.{Stay}
-use Rattle.trace_laws.specs.Sessions.{Part, IsSession, behind_all, waited, told_in}
-use Rattle.trace_laws.specs.Rest.{HasTables}
-use Rattle.trace_laws.specs.Waited.{with_packs}
+use Rattle.driver_laws.specs.declared.answers.outcome.Stop.{Stop}
+use Rattle.driver_laws.specs.shown.RunsRuns.{Stay}
+use Rattle.driver_laws.specs.rules.Sessions.{Part, IsSession, behind_all, waited, told_in}
+use Rattle.driver_laws.specs.rules.Rest.{HasTables}
+use Rattle.driver_laws.specs.rules.Waited.{with_packs}
 use Rattle.hp_driver.specs.Passes.{StandsQuiet}
 use Rattle.blocking_io.specs.Calls.{Stage}
 use Rattle.blocking_io.specs.Asking.{setup_at, Answers}

@@ -2,11 +2,11 @@
 use Rattle.std.specs.Prelude.{◌≡◌, ℕ, ◌≤◌, Bool, IsTrue, List, [], Option, None}
 use Rattle.pack_geometry.specs.declared.DriveKind.{DriveKind}
 use Rattle.pack_geometry.specs.Pack.{Pack}
-use Rattle.trace_laws.specs.Machine.{Blocks}
+use Rattle.driver_laws.specs.rules.Machine.{Blocks}
 use Rattle.driver_machine.specs.World.{World, unit_at}
 use Rattle.driver_machine.specs.Guards.{IsSetUp}
-use Rattle.driver_answers.specs.declared.outcome.Stop.{Stop}
-use Rattle.trace_laws.specs.Waited.{map_of, with_packs}
+use Rattle.driver_laws.specs.declared.answers.outcome.Stop.{Stop}
+use Rattle.driver_laws.specs.rules.Waited.{map_of, with_packs}
 use Rattle.blocking_io.specs.FrontsPasses.{Before, HasCauses, IsReady, Stage, State, setup_at, stage}
 use Rattle.blocking_io.specs.Fronts.{OthersStay}
 

@@ -3,7 +3,7 @@ use Rattle.std.specs.Prelude.{◌≡◌, ℕ, ◌≤◌, List, [], ◌∷◌, le
 use Rattle.subsystem_spec.specs.declared.answers.AnswerKind.{AnswerKind}
 use Rattle.driver_machine.specs.declared.Made.{Made}
 use Rattle.driver_machine.specs.World.{World}
-use Rattle.driver_answers.specs.Waiting.{blocks_for}
+use Rattle.driver_laws.specs.answers.Waiting.{blocks_for}
 use Rattle.hp_driver.specs.Subsystem.{IsOldest, Reads}
 
 -- the blocks that the request of the oldest one has

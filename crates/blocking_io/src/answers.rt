@@ -3,13 +3,13 @@ ghost use Rattle.std.specs.Prelude.{◌≡◌, ◌+◌, ◌*◌, ◌==◌, ◌<�
 ghost use Rattle.subsystem_spec.specs.declared.answers.AnswerKind.TheVariants.{ReadOk};
 ghost use Rattle.driver_machine.specs.World.{bytes_in};
 ghost use Rattle.driver_machine.specs.Lines.{answer_told};
-ghost use Rattle.driver_answers.specs.Waiting.{waiting, all_taken};
+ghost use Rattle.driver_laws.specs.answers.Waiting.{waiting, all_taken};
 ghost use Rattle.blocking_io.specs.Given.{bytes_by, gives_all};
-ghost use Rattle.trace_laws.specs.Laid.{laid, laid_at};
+ghost use Rattle.driver_laws.specs.rules.Laid.{laid, laid_at};
 ghost use Rattle.blocking_io.specs.Taking.{oldest_blocks, IsOldestKind, HasBlock};
 
 use crate::reached::{Reached, reached_by};
-use driver_answers::answers::taken_law;
+use driver_laws::answers::answers::taken_law;
 use hp_driver::{AnswerKind, Subsystem};
 
 /// Lays bytes over others, as far as there is room.

@@ -4,9 +4,9 @@ ghost use Rattle.pack_geometry.specs.Pack.{Pack};
 ghost use Rattle.outside_traits.specs.Causes.{HasCause};
 ghost use Rattle.trace_replay.specs.Moments.{Idle};
 ghost use Rattle.trace_replay.specs.Text.{moment_text};
-ghost use Rattle.driver_answers.specs.Outcome.{IsFront, stop_in};
+ghost use Rattle.driver_laws.specs.answers.Outcome.{IsFront, stop_in};
 ghost use Rattle.hp_driver.specs.Passes.{HasCauses};
-ghost use Rattle.hp_driver.specs.Passes.{input_of};
+ghost use Rattle.hp_driver.specs.Inputs.{input_of};
 ghost use Rattle.hp_driver.specs.Subsystem.{asked, IsAsked, IsThere, writes_by};
 ghost use Rattle.blocking_io.specs.declared.reached.Reached.TheVariants.{Before};
 ghost use Rattle.blocking_io.specs.Calls.{stage, telling, GivesSubmission, GivesEvent, SubmissionStops, EventStops, SaysText, SendsRest};
@@ -15,11 +15,11 @@ ghost use Rattle.blocking_io.specs.Stopping.{Stops};
 
 use crate::answers::take_answers;
 use crate::reached::Reached;
-use driver_trace::runs::next_block_law;
+use driver_laws::rules::promises::beginnings_law;
+use driver_laws::shown::runs::next_block_law;
 use hp_driver::{Event, Request, Stop, Subsystem};
 use outside_traits::traits::{Packs, Sink};
 use outside_traits::whole::write_all;
-use trace_laws::promises::beginnings_law;
 use trace_lines::idle;
 
 /// Submits a request at a line, with the bytes of a write. Its lines are kept.

@@ -8,7 +8,7 @@ ghost use Rattle.raw_io.specs.Passes.{MayTransfer};
 use bad144_table::{BadTable, entries};
 use blocking_io::{Reached, ask_read, ask_write};
 use drive_model::Drive;
-use driver_trace::quiet::rests_law;
+use driver_laws::shown::quiet::rests_law;
 use hp_driver::{Request, Stop, Subsystem, UnitSetup};
 use mba_autoconf::attach;
 use outside_traits::traits::{Packs, Sink};

@@ -5,16 +5,16 @@ use Rattle.std.proofs.lemmas.Bool.Decides.{eqb_tells}
 use Rattle.partitions.specs.declared.Part.TheVariants.{C}
 use Rattle.partitions.specs.Partitions.{first_of}
 use Rattle.subsystem_spec.specs.Requests.{Request}
-use Rattle.trace_laws.specs.Machine.{blocks_done}
-use Rattle.trace_laws.specs.Sessions.{waited}
-use Rattle.trace_laws.specs.Rest.{HasTables}
+use Rattle.driver_laws.specs.rules.Machine.{blocks_done}
+use Rattle.driver_laws.specs.rules.Sessions.{waited}
+use Rattle.driver_laws.specs.rules.Rest.{HasTables}
 use Rattle.blocking_io.specs.FrontsPasses.{Stage, setup_at, Answers, GoesOn, AnswersReach}
 use Rattle.blocking_io.specs.Sites.{kind_at, map_at, left_map}
 use Rattle.blocking_io.specs.Blocks.{blocks_reached, ReadsOnce, PutsBlocks, PutsFront}
 use Rattle.blocking_io.proofs.FrontsBlocks.{plain, few_reached, read_once_of, puts_of}
 use Rattle.blocking_io.proofs.Sites.{map_long}
-use Rattle.trace_laws.specs.Requests.{reads, writes, behind_one}
-use Rattle.trace_laws.proofs.Requested.{read_leaves}
+use Rattle.driver_laws.specs.rules.Requests.{reads, writes, behind_one}
+use Rattle.driver_laws.proofs.rules.Requested.{read_leaves}
 use Rattle.buffer_cache.specs.Asks.{IsData, Asks, Fetches, LeftBy}
 use Rattle.buffer_cache.proofs.Maps.{first_c, are_blocks, other_unit, write_one, stop_one, read_one}
 

@@ -1,12 +1,12 @@
 -- Requests one behind the other.
 use Rattle.std.proofs.Common.{◌≡◌, ℕ, List, [], ◌∷◌, ◌++◌, refl, sym, ap, ◌∙◌, subst, append-nil, append_assoc}
 use Rattle.subsystem_spec.specs.Requests.{Request}
-use Rattle.trace_laws.specs.Sessions.{waited}
+use Rattle.driver_laws.specs.rules.Sessions.{waited}
 use Rattle.blocking_io.specs.FrontsPasses.{Stage, setup_at, GoesOn, StillTell, SessionsJoin}
 use Rattle.blocking_io.specs.Sites.{map_at}
 use Rattle.blocking_io.proofs.Sites.{others_none, others_over}
-use Rattle.trace_laws.specs.Requests.{behind}
-use Rattle.trace_laws.proofs.Requested.{behind_more}
+use Rattle.driver_laws.specs.rules.Requests.{behind}
+use Rattle.driver_laws.proofs.rules.Requested.{behind_more}
 use Rattle.buffer_cache.specs.Asks.{Waited, requests_of, parts_of, Asks}
 
 pub asks_none : (line : ℕ) (s : Stage) → Asks line [] s s

@@ -9,16 +9,16 @@ use Rattle.pack_geometry.specs.Geometry.{limit_of}
 use Rattle.partitions.specs.declared.Part.TheVariants.{C}
 use Rattle.partitions.specs.Partitions.{first_of, size_of}
 use Rattle.trace_replay.specs.Packs.{sector_of_block}
-use Rattle.trace_laws.specs.Machine.{Blocks, bytes_or_none, blocks_done, bytes_of_first}
-use Rattle.trace_laws.proofs.Blocks.{begun_blocks, block_done, other_blocks}
-use Rattle.trace_laws.specs.Pieces.{Reaches}
-use Rattle.trace_laws.specs.Laid.{laid}
-use Rattle.trace_laws.proofs.Ranges.{laid_long}
-use Rattle.trace_laws.proofs.Replaced.{sector_whole}
+use Rattle.driver_laws.specs.rules.Machine.{Blocks, bytes_or_none, blocks_done, bytes_of_first}
+use Rattle.driver_laws.proofs.rules.Blocks.{begun_blocks, block_done, other_blocks}
+use Rattle.driver_laws.specs.rules.Pieces.{Reaches}
+use Rattle.driver_laws.specs.rules.Laid.{laid}
+use Rattle.driver_laws.proofs.rules.Ranges.{laid_long}
+use Rattle.driver_laws.proofs.rules.Replaced.{sector_whole}
 use Rattle.driver_machine.specs.World.{World}
 use Rattle.blocking_io.specs.Blocks.{AreBlocks}
 use Rattle.blocking_io.specs.Sites.{kind_at}
-use Rattle.trace_laws.specs.Requests.{one_block, reads, writes, Map, written_over, behind_one}
+use Rattle.driver_laws.specs.rules.Requests.{one_block, reads, writes, Map, written_over, behind_one}
 use Rattle.buffer_cache.specs.Asks.{IsData, found_bytes}
 
 -- ---- partition `c` is all data blocks

@@ -8,10 +8,10 @@ use Rattle.std.specs.List.{AllByRecursion, IsDistinct}
 use Rattle.std.proofs.lemmas.Bool.Decides.{nat_tests}
 use Rattle.std.proofs.lemmas.Option.{none-some, same_Some}
 use Rattle.lru.specs.LruCache.{LruCache, lru_cache, last_entry, promoted, put_entries}
-use Rattle.trace_laws.specs.declared.cached.Entry.{Entry}
-use Rattle.trace_laws.specs.Entries.{entry_of, others, AreApart, in_front, rewritten, fronted, changed_in_front, if_changed, to_write_back, unchanged, last_unchanged}
-use Rattle.trace_laws.proofs.Lookups.{IsKey, is_key}
-use Rattle.trace_laws.proofs.Rooms.{snoc, snoc_some, one_less, take_front, drop_front, get_behind, take_all}
+use Rattle.driver_laws.specs.declared.rules.cached.Entry.{Entry}
+use Rattle.driver_laws.specs.rules.Entries.{entry_of, others, AreApart, in_front, rewritten, fronted, changed_in_front, if_changed, to_write_back, unchanged, last_unchanged}
+use Rattle.driver_laws.proofs.rules.Lookups.{IsKey, is_key}
+use Rattle.driver_laws.proofs.rules.Rooms.{snoc, snoc_some, one_less, take_front, drop_front, get_behind, take_all}
 use Rattle.buffer_cache.specs.declared.entry.Key.{Key}
 use Rattle.buffer_cache.specs.declared.entry.Held.{Held}
 use Rattle.buffer_cache.specs.Views.{nothing, is_at, entry_with, entry_at, entries_of, Misses, AreSlots, IsKept, state_of, slot_or, free_slot, bytes_over}

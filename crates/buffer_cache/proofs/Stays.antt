@@ -5,8 +5,8 @@ use Rattle.std.specs.List.{AllByRecursion}
 use Rattle.pack_geometry.specs.Geometry.{limit_of}
 use Rattle.driver_machine.specs.World.{World}
 use Rattle.driver_machine.specs.Guards.{IsSetUp}
-use Rattle.trace_laws.specs.Rest.{HasTables}
-use Rattle.trace_laws.specs.Waited.{map_of, with_packs}
+use Rattle.driver_laws.specs.rules.Rest.{HasTables}
+use Rattle.driver_laws.specs.rules.Waited.{map_of, with_packs}
 use Rattle.buffer_cache.specs.Passes.{Stage}
 use Rattle.buffer_cache.specs.Passes.{setup_at}
 use Rattle.buffer_cache.specs.Passes.{StillTell, SessionsJoin}
@@ -14,14 +14,14 @@ use Rattle.buffer_cache.specs.Passes.{map_at, left_map, IsUntouched}
 use Rattle.buffer_cache.proofs.Passes.{others_over, left_over}
 use Rattle.buffer_cache.proofs.Passes.{kind_stays}
 use Rattle.subsystem_spec.specs.Requests.{Request}
-use Rattle.trace_laws.specs.declared.cached.Entry.{Entry}
-use Rattle.trace_laws.specs.Requests.{Map, reads, behind_one, behind}
-use Rattle.trace_laws.specs.Entries.{State, is_of, entry_of, IsCache, in_front, rewritten, unchanged, last_unchanged, written_last, to_write_back, with_room, put, write_backs}
-use Rattle.trace_laws.specs.Calls.{entry, read_done, write_done}
-use Rattle.trace_laws.proofs.Lookups.{none_misses, misses_none, found_all, others_all}
-use Rattle.trace_laws.specs.Contents.{AllFit, Gives, Takes, IsOne, AreOne}
-use Rattle.trace_laws.specs.CachedLaws.{IsFoundIn, ReadKeeps, WriteKeeps}
-use Rattle.trace_laws.proofs.Requested.{read_same}
+use Rattle.driver_laws.specs.declared.rules.cached.Entry.{Entry}
+use Rattle.driver_laws.specs.rules.Requests.{Map, reads, behind_one, behind}
+use Rattle.driver_laws.specs.rules.Entries.{State, is_of, entry_of, IsCache, in_front, rewritten, unchanged, last_unchanged, written_last, to_write_back, with_room, put, write_backs}
+use Rattle.driver_laws.specs.rules.Calls.{entry, read_done, write_done}
+use Rattle.driver_laws.proofs.rules.Lookups.{none_misses, misses_none, found_all, others_all}
+use Rattle.driver_laws.specs.rules.Contents.{AllFit, Gives, Takes, IsOne, AreOne}
+use Rattle.driver_laws.specs.rules.CachedLaws.{IsFoundIn, ReadKeeps, WriteKeeps}
+use Rattle.driver_laws.proofs.rules.Requested.{read_same}
 use Rattle.buffer_cache.specs.Asks.{IsData, Asks, Fetches, LeftBy}
 use Rattle.buffer_cache.proofs.Joins.{asks_join}
 use Rattle.buffer_cache.specs.Calls.{IfTold, Fetched, Reads, Writes, Holds}

@@ -5,18 +5,18 @@ use Rattle.std.specs.List.{AllByRecursion}
 use Rattle.std.proofs.lemmas.List.{length-set, map-append}
 use Rattle.lru.specs.LruCache.{LruCache}
 use Rattle.driver_machine.specs.World.{World}
-use Rattle.trace_laws.specs.Rest.{HasTables}
+use Rattle.driver_laws.specs.rules.Rest.{HasTables}
 use Rattle.buffer_cache.specs.Passes.{Stage}
 use Rattle.buffer_cache.specs.Passes.{setup_at}
 use Rattle.buffer_cache.specs.Passes.{StillTell, SessionsJoin}
 use Rattle.buffer_cache.specs.Passes.{map_at}
-use Rattle.trace_laws.specs.declared.cached.Entry.{Entry}
-use Rattle.trace_laws.specs.Requests.{writes}
-use Rattle.trace_laws.specs.Contents.{Flushes}
-use Rattle.trace_laws.specs.CachedLaws.{SyncWrites}
-use Rattle.trace_laws.specs.Entries.{State, AreApart, IsCache, if_changed, unchanged, write_backs, written_back}
-use Rattle.trace_laws.proofs.Lookups.{all_parts}
-use Rattle.trace_laws.proofs.Ones.{IsFound, each_found, back_one, backs_one, none_one}
+use Rattle.driver_laws.specs.declared.rules.cached.Entry.{Entry}
+use Rattle.driver_laws.specs.rules.Requests.{writes}
+use Rattle.driver_laws.specs.rules.Contents.{Flushes}
+use Rattle.driver_laws.specs.rules.CachedLaws.{SyncWrites}
+use Rattle.driver_laws.specs.rules.Entries.{State, AreApart, IsCache, if_changed, unchanged, write_backs, written_back}
+use Rattle.driver_laws.proofs.rules.Lookups.{all_parts}
+use Rattle.driver_laws.proofs.rules.Ones.{IsFound, each_found, back_one, backs_one, none_one}
 use Rattle.buffer_cache.specs.Asks.{IsData, Asks, LeftBy}
 use Rattle.buffer_cache.proofs.Joins.{asks_join}
 use Rattle.buffer_cache.specs.declared.entry.Key.{Key}

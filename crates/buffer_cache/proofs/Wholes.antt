@@ -2,22 +2,22 @@
 use Rattle.std.proofs.Common.{◌≡◌, ℕ, Bool, true, false, IsTrue, List, [], ◌∷◌, Option, None, Some, sym, ap, ◌∙◌, subst}
 use Rattle.std.specs.Prelude.{if◌then◌else◌, Result, Ok, Err, IsErrAnd}
 use Rattle.std.proofs.lemmas.Option.{none-some}
-use Rattle.driver_answers.specs.declared.outcome.Stop.{Stop}
+use Rattle.driver_laws.specs.declared.answers.outcome.Stop.{Stop}
 use Rattle.buffer_cache.specs.Passes.{State as Driver}
 use Rattle.buffer_cache.specs.Passes.{Keeps}
-use Rattle.trace_laws.specs.Rest.{HasTables}
+use Rattle.driver_laws.specs.rules.Rest.{HasTables}
 use Rattle.buffer_cache.specs.Passes.{Stage}
 use Rattle.buffer_cache.specs.Passes.{setup_at}
 use Rattle.buffer_cache.specs.Passes.{StillTell, SessionsJoin}
 use Rattle.buffer_cache.specs.Passes.{map_at}
-use Rattle.trace_laws.specs.declared.cached.Entry.{Entry}
-use Rattle.trace_laws.specs.Requests.{Map, reads, writes, behind}
-use Rattle.trace_laws.specs.Entries.{State, IsCache, entry_of, in_front, rewritten, fronted, changed_in_front, to_write_back, put, write_backs}
-use Rattle.trace_laws.specs.Calls.{Done, entry, read_by, read_done, write_by, write_done}
-use Rattle.trace_laws.specs.Contents.{AreOne}
-use Rattle.trace_laws.specs.CachedLaws.{ReadKeeps, WriteKeeps, ReadLeavesOne, WriteLeavesOne}
-use Rattle.trace_laws.proofs.Ones.{each_found, none_one, last_one, own_one}
-use Rattle.trace_laws.proofs.Requested.{read_same}
+use Rattle.driver_laws.specs.declared.rules.cached.Entry.{Entry}
+use Rattle.driver_laws.specs.rules.Requests.{Map, reads, writes, behind}
+use Rattle.driver_laws.specs.rules.Entries.{State, IsCache, entry_of, in_front, rewritten, fronted, changed_in_front, to_write_back, put, write_backs}
+use Rattle.driver_laws.specs.rules.Calls.{Done, entry, read_by, read_done, write_by, write_done}
+use Rattle.driver_laws.specs.rules.Contents.{AreOne}
+use Rattle.driver_laws.specs.rules.CachedLaws.{ReadKeeps, WriteKeeps, ReadLeavesOne, WriteLeavesOne}
+use Rattle.driver_laws.proofs.rules.Ones.{each_found, none_one, last_one, own_one}
+use Rattle.driver_laws.proofs.rules.Requested.{read_same}
 use Rattle.buffer_cache.specs.Asks.{Asks, LeftBy}
 use Rattle.buffer_cache.proofs.Joins.{asks_none, asks_join}
 use Rattle.buffer_cache.specs.declared.fault.CacheFault.{CacheFault}

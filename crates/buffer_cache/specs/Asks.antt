@@ -5,12 +5,12 @@ use Rattle.subsystem_spec.specs.Requests.{Request}
 use Rattle.trace_replay.specs.Moments.{Moment}
 use Rattle.driver_machine.specs.World.{World}
 use Rattle.driver_machine.specs.Guards.{IsSetUp}
-use Rattle.trace_laws.specs.Sessions.{Part, waited}
-use Rattle.trace_laws.specs.Rest.{HasTables}
+use Rattle.driver_laws.specs.rules.Sessions.{Part, waited}
+use Rattle.driver_laws.specs.rules.Rest.{HasTables}
 use Rattle.blocking_io.specs.FrontsPasses.{Stage, setup_at, GoesOn}
 use Rattle.blocking_io.specs.Fronts.{OthersStay}
 use Rattle.blocking_io.specs.Sites.{kind_at, map_at, left_map}
-use Rattle.trace_laws.specs.Requests.{reads, behind_one, behind}
+use Rattle.driver_laws.specs.rules.Requests.{reads, behind_one, behind}
 
 -- A DATA BLOCK of a unit that is set up
 pub record IsData (w : World) (unit block : ℕ) : Type 0 where

@@ -1,18 +1,18 @@
 -- WHAT THE CALLS OF THE CACHE COME TO, over the driver and the packs.
 use Rattle.std.specs.Prelude.{◌≡◌, ℕ, ◌≤◌, Bool, true, false, if◌then◌else◌, IsTrue, List, [], ◌∷◌, Option, None, Some, Result, Ok, Err}
 use Rattle.std.specs.List.{AllByRecursion}
-use Rattle.driver_answers.specs.declared.outcome.Stop.{Stop}
-use Rattle.trace_laws.specs.Rest.{HasTables}
+use Rattle.driver_laws.specs.declared.answers.outcome.Stop.{Stop}
+use Rattle.driver_laws.specs.rules.Rest.{HasTables}
 use Rattle.buffer_cache.specs.Passes.{Stage}
 use Rattle.buffer_cache.specs.Passes.{setup_at, IsReady}
 use Rattle.buffer_cache.specs.Passes.{State as Driver}
 use Rattle.buffer_cache.specs.Passes.{OthersStay}
 use Rattle.buffer_cache.specs.Passes.{map_at, left_map}
-use Rattle.trace_laws.specs.declared.cached.Entry.{Entry}
-use Rattle.trace_laws.specs.Entries.{State, to_write_back, with_room, write_backs, put, flushed, written_back}
-use Rattle.trace_laws.specs.Requests.{reads, writes}
-use Rattle.trace_laws.specs.Calls.{entry, read_done, write_done}
-use Rattle.trace_laws.specs.Contents.{AllFit, Gives, Takes, Flushes, IsOne}
+use Rattle.driver_laws.specs.declared.rules.cached.Entry.{Entry}
+use Rattle.driver_laws.specs.rules.Entries.{State, to_write_back, with_room, write_backs, put, flushed, written_back}
+use Rattle.driver_laws.specs.rules.Requests.{reads, writes}
+use Rattle.driver_laws.specs.rules.Calls.{entry, read_done, write_done}
+use Rattle.driver_laws.specs.rules.Contents.{AllFit, Gives, Takes, Flushes, IsOne}
 use Rattle.buffer_cache.specs.Asks.{IsData, Asks, found_bytes}
 use Rattle.buffer_cache.specs.declared.fault.CacheFault.{CacheFault}
 use Rattle.buffer_cache.specs.declared.fault.CacheFault.TheVariants as fault

@@ -1,12 +1,12 @@
 // One block is read or written.
 ghost use Rattle.std.specs.Prelude.{◌≡◌, ◌≤◌, ◌∷◌, [], true, IsTrue, IfOk, OnOk, OnErr, if◌then◌else◌};
 ghost use Rattle.partitions.specs.declared.Part.TheVariants.{C};
-ghost use Rattle.driver_answers.specs.Outcome.{stop_in};
-ghost use Rattle.trace_laws.specs.Rest.{HasTables};
+ghost use Rattle.driver_laws.specs.answers.Outcome.{stop_in};
+ghost use Rattle.driver_laws.specs.rules.Rest.{HasTables};
 ghost use Rattle.blocking_io.specs.FrontsPasses.{setup_at};
 ghost use Rattle.blocking_io.specs.Sites.{site, Keeps, MayTransfer, IsUntouched};
 ghost use Rattle.blocking_io.specs.Blocks.{blocks_reached};
-ghost use Rattle.trace_laws.specs.Requests.{writes};
+ghost use Rattle.driver_laws.specs.rules.Requests.{writes};
 ghost use Rattle.buffer_cache.specs.Asks.{IsData, Asks, Fetches, LeftBy};
 
 use blocking_io::{

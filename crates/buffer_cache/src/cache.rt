@@ -1,6 +1,6 @@
 // A block is read or written through the cache.
 ghost use Rattle.std.specs.Prelude.{◌≡◌, ◌≤◌, IsSome, None, Some};
-ghost use Rattle.trace_laws.specs.Entries.{entry_of};
+ghost use Rattle.driver_laws.specs.rules.Entries.{entry_of};
 ghost use Rattle.buffer_cache.specs.Passes.{site, Keeps};
 ghost use Rattle.buffer_cache.specs.Asks.{IsData};
 ghost use Rattle.buffer_cache.specs.Calls.{MayUse, Holds, IfTold, Reads, Writes, stop_of, given_by, is_done};
@@ -8,8 +8,8 @@ ghost use Rattle.buffer_cache.specs.Calls.{MayUse, Holds, IfTold, Reads, Writes,
 use crate::Subsystem;
 use crate::fault::CacheFault;
 use crate::slots::Cache;
+use driver_laws::rules::cached::cache_law;
 use outside_traits::traits::{Packs, Sink};
-use trace_laws::cached::cache_law;
 
 impl Cache {
     /// Reads a data block of a unit through the cache, at a line from 1 on. A block that is an entry comes to the front, and nothing else is

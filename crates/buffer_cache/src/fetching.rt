@@ -1,8 +1,8 @@
 // A block that is no entry is read, and room is made for it.
 ghost use Rattle.std.specs.Prelude.{◌≡◌, ◌≤◌, ◌∷◌, Some, None, IfOk, IfErr, OnOk, OnErr};
-ghost use Rattle.driver_answers.specs.Outcome.{stop_in};
-ghost use Rattle.trace_laws.specs.Entries.{with_room, to_write_back, write_backs, entry_of};
-ghost use Rattle.trace_laws.specs.Requests.{reads};
+ghost use Rattle.driver_laws.specs.answers.Outcome.{stop_in};
+ghost use Rattle.driver_laws.specs.rules.Entries.{with_room, to_write_back, write_backs, entry_of};
+ghost use Rattle.driver_laws.specs.rules.Requests.{reads};
 ghost use Rattle.buffer_cache.specs.Passes.{site, Keeps};
 ghost use Rattle.buffer_cache.specs.Asks.{IsData, Asks};
 ghost use Rattle.buffer_cache.specs.Calls.{MayUse, Holds, IfTold, Fetched, stop_of};

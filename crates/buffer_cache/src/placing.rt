@@ -1,10 +1,10 @@
 // A block that is no entry is read or written.
 ghost use Rattle.std.specs.Prelude.{◌≡◌, ◌≤◌, IsTrue, None, Some, OnOk, OnErr};
-ghost use Rattle.driver_answers.specs.Outcome.{stop_in};
-ghost use Rattle.trace_laws.specs.Rest.{HasTables};
+ghost use Rattle.driver_laws.specs.answers.Outcome.{stop_in};
+ghost use Rattle.driver_laws.specs.rules.Rest.{HasTables};
 ghost use Rattle.buffer_cache.specs.Passes.{setup_at};
-ghost use Rattle.trace_laws.specs.Entries.{entry_of};
-ghost use Rattle.trace_laws.specs.Requests.{writes};
+ghost use Rattle.driver_laws.specs.rules.Entries.{entry_of};
+ghost use Rattle.driver_laws.specs.rules.Requests.{writes};
 ghost use Rattle.buffer_cache.specs.Passes.{site, Keeps};
 ghost use Rattle.buffer_cache.specs.Asks.{IsData, LeftBy};
 ghost use Rattle.buffer_cache.specs.Calls.{MayUse, Holds, IfTold, Placed, Reads, Writes, stop_of, given_by, is_done};
@@ -12,8 +12,8 @@ ghost use Rattle.buffer_cache.specs.Calls.{MayUse, Holds, IfTold, Placed, Reads,
 use crate::fault::CacheFault;
 use crate::slots::Cache;
 use crate::{Stop, Subsystem, sessions_law, store_block};
+use driver_laws::rules::cached::cache_law;
 use outside_traits::traits::{Packs, Sink};
-use trace_laws::cached::cache_law;
 
 impl Cache {
     /// Reads a block that is no entry, and puts it in front where it can be used.

@@ -2,17 +2,17 @@
 ghost use Rattle.std.specs.Prelude.{◌≡◌, ◌≤◌, ◌<◌, not, None, IfOk, option_map, is_some, length};
 ghost use Rattle.std.specs.Map.{lookup};
 ghost use Rattle.lru.specs.LruCache.{lru_cache, last_entry, promoted};
-ghost use Rattle.trace_laws.specs.Entries.{empty_cache, IsCache, entry_of, fronted, changed_in_front, if_changed, to_write_back, last_unchanged, put};
-ghost use Rattle.trace_laws.specs.Calls.{entry};
+ghost use Rattle.driver_laws.specs.rules.Entries.{empty_cache, IsCache, entry_of, fronted, changed_in_front, if_changed, to_write_back, last_unchanged, put};
+ghost use Rattle.driver_laws.specs.rules.Calls.{entry};
 ghost use Rattle.buffer_cache.specs.Views.{is_at, entry_at, IsKept, free_slot, bytes_over};
 
 use crate::entry::{Held, Key};
+use driver_laws::rules::cached::Entry;
 use lru::LruCache;
 use outside_traits::traits::NoMemory;
 use std::alloc::Global;
 use std::marker::Model;
 use std::num::NonZeroUsize;
-use trace_laws::cached::Entry;
 
 /// A cache of blocks with delayed writes. A contract sees its entries, the most recent first, how many there may be, and how many insertions
 /// memory refused.
@@ -24,7 +24,7 @@ pub struct Cache {
 }
 
 impl Model for Cache {
-    ghost use Rattle.trace_laws.specs.Entries.{State};
+    ghost use Rattle.driver_laws.specs.rules.Entries.{State};
     ghost use Rattle.buffer_cache.specs.Views.{state_of, IsKept};
 
     ghost Value = { State };

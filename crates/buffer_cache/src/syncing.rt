@@ -1,11 +1,11 @@
 // Every changed entry is written back.
 ghost use Rattle.std.specs.Prelude.{◌≡◌, ◌≤◌, false, IsTrue, Some, None, OnOk, OnErr, map, length};
-ghost use Rattle.driver_answers.specs.Outcome.{stop_in};
-ghost use Rattle.trace_laws.specs.Rest.{HasTables};
+ghost use Rattle.driver_laws.specs.answers.Outcome.{stop_in};
+ghost use Rattle.driver_laws.specs.rules.Rest.{HasTables};
 ghost use Rattle.buffer_cache.specs.Passes.{setup_at};
 ghost use Rattle.buffer_cache.specs.Passes.{site, Keeps, MayTransfer};
-ghost use Rattle.trace_laws.specs.Requests.{writes};
-ghost use Rattle.trace_laws.specs.Entries.{unchanged, if_changed, write_backs, written_back};
+ghost use Rattle.driver_laws.specs.rules.Requests.{writes};
+ghost use Rattle.driver_laws.specs.rules.Entries.{unchanged, if_changed, write_backs, written_back};
 ghost use Rattle.buffer_cache.specs.Asks.{IsData, Asks, LeftBy};
 ghost use Rattle.buffer_cache.specs.Views.{entry_with, entries_of, state_of, IsKept};
 ghost use Rattle.buffer_cache.specs.Calls.{MayUse, Holds, IfTold, Syncs};
@@ -13,9 +13,9 @@ ghost use Rattle.buffer_cache.specs.Calls.{MayUse, Holds, IfTold, Syncs};
 use crate::entry::{Held, Key};
 use crate::slots::Cache;
 use crate::{Stop, Subsystem, sessions_law, store_block};
+use driver_laws::rules::cached::cache_law;
 use lru::LruCache;
 use outside_traits::traits::{Packs, Sink};
-use trace_laws::cached::cache_law;
 
 /// Writes an entry back, where it was changed.
 fn write_back<P: Packs, T: Sink>(

@@ -9,9 +9,9 @@ use Rattle.subsystem_spec.specs.declared.answers.AnswerKind.TheVariants as answe
 use Rattle.subsystem_spec.specs.declared.answers.Cause.TheVariants as cause
 use Rattle.buffer_cache.specs.Passes.{Stage}
 use Rattle.buffer_cache.specs.Passes.{map_at}
-use Rattle.trace_laws.specs.Requests.{Map}
-use Rattle.trace_laws.specs.Entries.{State}
-use Rattle.trace_laws.specs.Contents.{cached}
+use Rattle.driver_laws.specs.rules.Requests.{Map}
+use Rattle.driver_laws.specs.rules.Entries.{State}
+use Rattle.driver_laws.specs.rules.Contents.{cached}
 use Rattle.buffer_cache.specs.Calls.{IfTold}
 use Rattle.cached_script.specs.declared.statement.Asked.{Asked}
 use Rattle.cached_run.specs.Answers.{Replacement, replaced_with}

@@ -6,13 +6,13 @@ use Rattle.outside_traits.specs.Causes.{Rose}
 use Rattle.outside_traits.proofs.GatherLaws.{rose_more}
 use Rattle.pack_geometry.specs.Pack.{Pack}
 use Rattle.trace_replay.specs.Script.{Script}
-use Rattle.driver_answers.specs.declared.outcome.Stop.{Stop}
-use Rattle.driver_answers.specs.declared.outcome.Stop.TheVariants as stop
+use Rattle.driver_laws.specs.declared.answers.outcome.Stop.{Stop}
+use Rattle.driver_laws.specs.declared.answers.outcome.Stop.TheVariants as stop
 use Rattle.buffer_cache.specs.Passes.{HasCauses}
-use Rattle.play_faults.specs.declared.fault.PlayFault.{PlayFault}
-use Rattle.play_faults.specs.declared.fault.PlayFault.TheVariants as fault
-use Rattle.run_laws.specs.Stops.{Took}
-use Rattle.play_faults.specs.Faults.{from_stop, IsBefore, IsLongFor}
+use Rattle.script_runs.specs.declared.fault.PlayFault.{PlayFault}
+use Rattle.script_runs.specs.declared.fault.PlayFault.TheVariants as fault
+use Rattle.script_runs.specs.Stops.{Took}
+use Rattle.script_runs.specs.Faults.{from_stop, IsBefore, IsLongFor}
 use Rattle.cached_run.specs.Faults.{IsCaused}
 use Rattle.cached_run.specs.Theorem.{CachedStops, CachedLeaves}
 

@@ -1,9 +1,9 @@
 -- How many blocks come before the first that can't be used.
 use Rattle.std.proofs.Common.{◌≡◌, ℕ, zero, suc, ◌+◌, ◌<◌, ◌≤◌, List, Option, None, Some, refl, sym, ap, ◌∙◌, subst, arith}
 use Rattle.std.specs.Prelude.{IsSome}
-use Rattle.trace_laws.specs.Machine.{Blocks}
-use Rattle.trace_laws.specs.Requests.{Map}
-use Rattle.trace_laws.specs.Waited.{unusable_or, first_unusable}
+use Rattle.driver_laws.specs.rules.Machine.{Blocks}
+use Rattle.driver_laws.specs.rules.Requests.{Map}
+use Rattle.driver_laws.specs.rules.Waited.{unusable_or, first_unusable}
 use Rattle.cached_run.specs.Answers.{usable_of}
 use Rattle.cached_run.specs.Leaving.{usable_in}
 

@@ -9,23 +9,23 @@ use Rattle.pack_geometry.specs.declared.DriveKind.TheVariants.{Rp06}
 use Rattle.subsystem_spec.specs.Requests.{Request}
 use Rattle.subsystem_spec.specs.declared.answers.AnswerKind.{AnswerKind}
 use Rattle.trace_replay.specs.Script.{Submit, Drain, Numbered}
-use Rattle.trace_laws.specs.Machine.{Blocks, kind_of}
-use Rattle.trace_laws.specs.Stands.{Setup}
+use Rattle.driver_laws.specs.rules.Machine.{Blocks, kind_of}
+use Rattle.driver_laws.specs.rules.Stands.{Setup}
 use Rattle.driver_machine.specs.World.{unit_at}
 use Rattle.driver_machine.specs.Guards.{IsSetUp}
-use Rattle.trace_laws.specs.Rest.{HasTables}
-use Rattle.trace_laws.specs.Waited.{map_of, with_packs}
+use Rattle.driver_laws.specs.rules.Rest.{HasTables}
+use Rattle.driver_laws.specs.rules.Waited.{map_of, with_packs}
 use Rattle.answer_lines.specs.AnswerText.{answer_text}
 use Rattle.buffer_cache.specs.Passes.{Stage}
 use Rattle.buffer_cache.specs.Passes.{setup_at}
 use Rattle.buffer_cache.specs.Passes.{kind_if}
 use Rattle.buffer_cache.specs.Passes.{kind_at, map_at, left_map}
 use Rattle.buffer_cache.proofs.Passes.{others_over, left_over, map_long}
-use Rattle.trace_laws.specs.Requests.{Map}
-use Rattle.trace_laws.specs.declared.cached.Entry.{Entry}
-use Rattle.trace_laws.specs.Entries.{State, is_of, entry_of, unchanged}
-use Rattle.trace_laws.specs.Contents.{bytes_or, cached, Fits, AllFit, Flushes}
-use Rattle.trace_laws.proofs.Lookups.{IsKey, is_key, found_key, found_all}
+use Rattle.driver_laws.specs.rules.Requests.{Map}
+use Rattle.driver_laws.specs.declared.rules.cached.Entry.{Entry}
+use Rattle.driver_laws.specs.rules.Entries.{State, is_of, entry_of, unchanged}
+use Rattle.driver_laws.specs.rules.Contents.{bytes_or, cached, Fits, AllFit, Flushes}
+use Rattle.driver_laws.proofs.rules.Lookups.{IsKey, is_key, found_key, found_all}
 use Rattle.buffer_cache.specs.Calls.{IfTold, Holds, Syncs}
 use Rattle.cached_run.specs.Answers.{Replacement, answer_with, answers_of, map_of_inputs, text_of, replaced_with, replacements_of, after}
 use Rattle.cached_run.specs.Theorem.{IsAfter, EndsWithSync, HasNoSync}

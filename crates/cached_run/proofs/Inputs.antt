@@ -10,10 +10,10 @@ use Rattle.subsystem_spec.specs.Requests.{Request, ReadOk, WriteOk}
 use Rattle.trace_replay.specs.Script.{Input, Submit, ArriveAt, MoveAt, AttendTo, Drain, Turn, Noise, Arm, SetOnline, SetLocked, Numbered}
 use Rattle.trace_replay.specs.Moments.{Answered}
 use Rattle.trace_replay.specs.Packs.{sector_of_block}
-use Rattle.trace_laws.specs.Machine.{Blocks, bytes_of_first, blocks_done, blocks_after, done_in}
-use Rattle.trace_laws.proofs.Blocks.{begun_blocks, read_blocks, block_done, other_blocks}
+use Rattle.driver_laws.specs.rules.Machine.{Blocks, bytes_of_first, blocks_done, blocks_after, done_in}
+use Rattle.driver_laws.proofs.rules.Blocks.{begun_blocks, read_blocks, block_done, other_blocks}
 use Rattle.answer_lines.specs.AnswerText.{answer_text}
-use Rattle.trace_laws.specs.Waited.{first_unusable, answer_by, answer_at, map_at}
+use Rattle.driver_laws.specs.rules.Waited.{first_unusable, answer_by, answer_at, map_at}
 use Rattle.cached_run.specs.Answers.{met_by, first_by, with_answer, map_by, answers_of, map_of_inputs, text_of, replaced, usable_of, replaced_at, replaced_by, replacements_of, with_replacement, after}
 use Rattle.cached_run.proofs.Replacings.{after_more, same_map}
 

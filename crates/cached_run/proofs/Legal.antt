@@ -12,11 +12,11 @@ use Rattle.trace_replay.specs.Moments.{Answered}
 use Rattle.trace_replay.specs.Service.{frames_needed}
 use Rattle.trace_replay.specs.Packs.{size_of_block, sector_of_block}
 use Rattle.trace_replay.specs.Replay.{submission_by}
-use Rattle.trace_laws.specs.Machine.{Blocks, Machine, idle, without, meets, submitted, answers_at_once, after_input, answers_of_input, AreUsable, bytes_or_none, bytes_of_first, blocks_done, blocks_after, done_in, MayAnswer, Step, Steps}
-use Rattle.trace_laws.specs.LegalAnswers.{AnswersAt, AnswersTo, all_claimed}
-use Rattle.trace_laws.proofs.Blocks.{sector_full}
+use Rattle.driver_laws.specs.rules.Machine.{Blocks, Machine, idle, without, meets, submitted, answers_at_once, after_input, answers_of_input, AreUsable, bytes_or_none, bytes_of_first, blocks_done, blocks_after, done_in, MayAnswer, Step, Steps}
+use Rattle.driver_laws.specs.rules.LegalAnswers.{AnswersAt, AnswersTo, all_claimed}
+use Rattle.driver_laws.proofs.rules.Blocks.{sector_full}
 use Rattle.buffer_cache.proofs.Passes.{none_unusable, first_is}
-use Rattle.trace_laws.specs.Waited.{first_unusable, answer_by, answer_at, map_at}
+use Rattle.driver_laws.specs.rules.Waited.{first_unusable, answer_by, answer_at, map_at}
 use Rattle.cached_run.specs.Answers.{met_by, first_by, answer_to, map_after, with_answer, map_by, answers_of, map_of_inputs}
 
 -- ---- frames are there: a request has 129 at the most

@@ -2,7 +2,7 @@
 use Rattle.std.proofs.Common.{◌≡◌, ℕ, ◌≤◌, List, [], ◌∷◌, ◌++◌, sym, ap, ◌∙◌, subst, append-nil}
 use Rattle.trace_replay.specs.Script.{Numbered, Script, with_input, inputs_of}
 use Rattle.driver_machine.specs.World.{World}
-use Rattle.trace_laws.specs.Entries.{State}
+use Rattle.driver_laws.specs.rules.Entries.{State}
 use Rattle.cached_script.specs.declared.statement.Statement.{Statement as Says}
 use Rattle.cached_script.specs.declared.statement.Line.{Line as Said}
 use Rattle.cached_run.specs.Going.{Scene, IsFar, GoesOn, Halts, HaltsScript}

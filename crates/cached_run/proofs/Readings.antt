@@ -3,13 +3,13 @@ use Rattle.std.proofs.Common.{◌≡◌, ◌≢◌, inl, inr, ℕ, ◌+◌, ◌<
 use Rattle.std.specs.Prelude.{IsSome, slice_index_or, slice_set}
 use Rattle.std.proofs.lemmas.List.{get_or-set_same, get_or-set_other}
 use Rattle.std.proofs.lemmas.Bool.Decides.{eqb_tells}
-use Rattle.trace_laws.specs.Rest.{HasTables}
+use Rattle.driver_laws.specs.rules.Rest.{HasTables}
 use Rattle.buffer_cache.specs.Passes.{Stage}
 use Rattle.buffer_cache.specs.Passes.{setup_at}
 use Rattle.buffer_cache.specs.Passes.{map_at}
-use Rattle.trace_laws.specs.Requests.{Map}
-use Rattle.trace_laws.specs.Entries.{State}
-use Rattle.trace_laws.specs.Contents.{cached, AllFit, Gives}
+use Rattle.driver_laws.specs.rules.Requests.{Map}
+use Rattle.driver_laws.specs.rules.Entries.{State}
+use Rattle.driver_laws.specs.rules.Contents.{cached, AllFit, Gives}
 use Rattle.buffer_cache.specs.Calls.{IfTold, Reads, Holds}
 use Rattle.cached_run.specs.Leaving.{Leaves, KeepsSetup, AreRead, Does}
 use Rattle.cached_run.proofs.Firsts.{all_usable, some_usable}

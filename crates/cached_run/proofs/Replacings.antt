@@ -1,7 +1,7 @@
 -- Replacements, one behind the other.
 use Rattle.std.proofs.Common.{◌≡◌, ℕ, zero, suc, ◌+◌, ◌≤◌, List, [], ◌∷◌, ◌++◌, length, take, refl, ap, arith}
 use Rattle.std.proofs.Math.Seq.{take-append-add}
-use Rattle.trace_laws.specs.Machine.{Blocks}
+use Rattle.driver_laws.specs.rules.Machine.{Blocks}
 use Rattle.cached_run.specs.Answers.{Replacement, with_replacement, after}
 
 pub after_more : (xs ys : List Replacement) (map : ℕ → Blocks) → after (xs ++ ys) map ≡ after ys (after xs map)

@@ -15,13 +15,13 @@ use Rattle.subsystem_spec.specs.declared.answers.AnswerKind.TheVariants as answe
 use Rattle.subsystem_spec.specs.declared.answers.Cause.{Cause}
 use Rattle.subsystem_spec.specs.declared.answers.Cause.TheVariants as cause
 use Rattle.trace_replay.specs.Packs.{sector_of_block}
-use Rattle.trace_laws.specs.Machine.{Blocks, bytes_or_none, bytes_of_first}
-use Rattle.trace_laws.specs.Waited.{first_unusable, answer_by, answer_at}
+use Rattle.driver_laws.specs.rules.Machine.{Blocks, bytes_or_none, bytes_of_first}
+use Rattle.driver_laws.specs.rules.Waited.{first_unusable, answer_by, answer_at}
 use Rattle.answer_lines.specs.AnswerText.{answer_line, answer_text, block_texts}
 use Rattle.answer_lines.specs.Blocks.{joined, AreBlocks}
 use Rattle.answer_lines.proofs.TextLaws.{blocks_said}
 use Rattle.buffer_cache.proofs.Passes.{first_is}
-use Rattle.trace_laws.specs.Requests.{Map}
+use Rattle.driver_laws.specs.rules.Requests.{Map}
 use Rattle.cached_script.specs.declared.statement.Asked.{Asked}
 use Rattle.cached_run.specs.Answers.{answer_with, replaced, usable_of, replaced_at, replaced_with}
 use Rattle.cached_run.specs.Leaving.{AreRead, usable_in, spread}

@@ -6,9 +6,9 @@ use Rattle.std.proofs.lemmas.List.{take_all, length-replicate}
 use Rattle.subsystem_spec.specs.Requests.{IsRequest}
 use Rattle.trace_replay.specs.Script.{Statement, Declares, Plays, Numbered, Drain, drives_in, with_input, inputs_before, inputs_of}
 use Rattle.driver_machine.specs.World.{World}
-use Rattle.run_laws.specs.Steps.{AreUnits}
-use Rattle.run_laws.proofs.Attached.{drives-append, first_some}
-use Rattle.run_laws.proofs.LineLaws.{inputs_append, inputs_end}
+use Rattle.script_runs.specs.Steps.{AreUnits}
+use Rattle.script_runs.proofs.Attached.{drives-append, first_some}
+use Rattle.script_runs.proofs.LineLaws.{inputs_append, inputs_end}
 use Rattle.cached_script.specs.declared.statement.Asked.{Asked}
 use Rattle.cached_script.specs.declared.statement.Statement.{Statement as Says}
 use Rattle.cached_script.specs.declared.statement.Statement.TheVariants as says
@@ -17,7 +17,7 @@ use Rattle.cached_script.specs.Scripts as cached
 use Rattle.cached_script.specs.Scripts.{known_of}
 use Rattle.cached_script.specs.Formed.{IsAsked, IsWell, AreWell, IsScript}
 use Rattle.cached_script.specs.Meaning.{filled, request_of, statement_of, line_of, lines_before, meaning_of}
-use Rattle.unit_attaching.proofs.CachedLines.{some_declared, here_is, lines_more, lines_split}
+use Rattle.script_runs.proofs.CachedLines.{some_declared, here_is, lines_more, lines_split}
 use Rattle.cached_run.specs.Lines.{inputs_till, input_at, MayAsk, MayPlay, KeepsUnits}
 use Rattle.cached_run.proofs.Legal.{AreAskedWell}
 

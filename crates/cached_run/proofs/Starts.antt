@@ -8,7 +8,7 @@ use Rattle.pack_geometry.specs.Pack.{Pack}
 use Rattle.pack_geometry.specs.TableSpelling.{Table}
 use Rattle.pack_geometry.specs.PackTable.{IsTableAt, AreTablesOf}
 use Rattle.trace_replay.specs.Script.{Script, drives_of}
-use Rattle.trace_laws.specs.Rest.{HasTables}
+use Rattle.driver_laws.specs.rules.Rest.{HasTables}
 use Rattle.driver_machine.specs.World.{World, UnitView, Setup as UnitSetup, new_unit, new_world, unit_at}
 use Rattle.driver_machine.specs.Guards.{IsSetUp}
 use Rattle.buffer_cache.specs.Passes.{State as Driver}
@@ -18,15 +18,15 @@ use Rattle.buffer_cache.proofs.Passes.{new_is_quiet}
 use Rattle.buffer_cache.specs.Passes.{setup_at}
 use Rattle.buffer_cache.specs.Passes.{map_at}
 use Rattle.std.specs.List.{AllByRecursion}
-use Rattle.trace_laws.specs.declared.cached.Entry.{Entry}
+use Rattle.driver_laws.specs.declared.rules.cached.Entry.{Entry}
 use Rattle.buffer_cache.specs.Asks.{IsData}
-use Rattle.trace_laws.specs.Entries.{State}
-use Rattle.trace_laws.specs.Contents.{cached, AllFit}
+use Rattle.driver_laws.specs.rules.Entries.{State}
+use Rattle.driver_laws.specs.rules.Contents.{cached, AllFit}
 use Rattle.buffer_cache.specs.Calls.{MayUse}
-use Rattle.hp_core.specs.declared.start.UnitSetup.{UnitSetup as Made}
-use Rattle.hp_core.specs.Setups.{setups_of}
-use Rattle.run_laws.specs.Steps.{tables_in, AreUnits, AreSetFor}
-use Rattle.run_laws.proofs.Attached.{below_or_not, unit_beyond}
+use Rattle.script_runs.specs.UnitSetup.{UnitSetup as Made}
+use Rattle.script_runs.specs.Setups.{setups_of}
+use Rattle.script_runs.specs.Steps.{tables_in, AreUnits, AreSetFor}
+use Rattle.script_runs.proofs.Attached.{below_or_not, unit_beyond}
 use Rattle.cached_run.specs.Going.{Scene, IsFar}
 use Rattle.cached_run.proofs.Whole.{setup_for}
 

@@ -13,18 +13,18 @@ use Rattle.pack_geometry.specs.PackTable.{IsTableAt, AreTablesOf, places_of}
 use Rattle.pack_geometry.proofs.HomeLaws.{home_below}
 use Rattle.pack_geometry.proofs.PackTableLaws.{table_room, table_same}
 use Rattle.trace_replay.specs.Script.{Script, Numbered, Drain, drives_of, inputs_of}
-use Rattle.trace_laws.specs.Machine.{Blocks}
-use Rattle.trace_laws.specs.Laws.{RestStays}
-use Rattle.trace_laws.specs.LegalAnswers.{AreLegal, all_claimed}
-use Rattle.trace_laws.specs.Stands.{Setup, home_at, home_in}
-use Rattle.trace_laws.specs.Rest.{HasTables}
-use Rattle.trace_laws.specs.Waited.{map_of, with_packs}
+use Rattle.driver_laws.specs.rules.Machine.{Blocks}
+use Rattle.driver_laws.specs.rules.Laws.{RestStays}
+use Rattle.driver_laws.specs.rules.LegalAnswers.{AreLegal, all_claimed}
+use Rattle.driver_laws.specs.rules.Stands.{Setup, home_at, home_in}
+use Rattle.driver_laws.specs.rules.Rest.{HasTables}
+use Rattle.driver_laws.specs.rules.Waited.{map_of, with_packs}
 use Rattle.buffer_cache.specs.Passes.{setup_at}
 use Rattle.buffer_cache.specs.Passes.{OthersStay}
 use Rattle.buffer_cache.specs.Passes.{map_at, left_map}
 use Rattle.buffer_cache.proofs.Passes.{map_long}
-use Rattle.trace_laws.specs.Entries.{State}
-use Rattle.run_laws.specs.Stops.{Took}
+use Rattle.driver_laws.specs.rules.Entries.{State}
+use Rattle.script_runs.specs.Stops.{Took}
 use Rattle.cached_run.specs.Answers.{answers_of, map_of_inputs, text_of, replacements_of, after}
 use Rattle.cached_run.specs.Theorem.{contents, CachedPlays, IsAfter, EndsWithSync, HasNoSync, AreParted, CachedStops}
 use Rattle.cached_run.specs.Going.{Scene, drives_at, blocks_at, IsFar, HaltsScript}

@@ -8,16 +8,16 @@ use Rattle.pack_geometry.specs.Pack as model
 use Rattle.pack_geometry.specs.Content.{bytes_at}
 use Rattle.pack_geometry.specs.TableSpelling.{Table}
 use Rattle.pack_geometry.specs.Homes.{home_of, content_at}
-use Rattle.trace_laws.proofs.MachineRuns.{home_marks}
+use Rattle.driver_laws.proofs.rules.MachineRuns.{home_marks}
 use Rattle.buffer_cache.specs.Passes.{Stage}
 use Rattle.buffer_cache.specs.Passes.{setup_at}
 use Rattle.buffer_cache.specs.Passes.{OthersStay}
 use Rattle.buffer_cache.specs.Passes.{map_at, left_map}
-use Rattle.trace_laws.specs.declared.cached.Entry.{Entry}
-use Rattle.trace_laws.specs.Requests.{Map}
-use Rattle.trace_laws.specs.Entries.{State, entry_of}
-use Rattle.trace_laws.specs.Contents.{bytes_or, cached, Fits, AllFit, IsOne, Takes}
-use Rattle.trace_laws.proofs.Lookups.{IsKey, is_key, found_key, found_all}
+use Rattle.driver_laws.specs.declared.rules.cached.Entry.{Entry}
+use Rattle.driver_laws.specs.rules.Requests.{Map}
+use Rattle.driver_laws.specs.rules.Entries.{State, entry_of}
+use Rattle.driver_laws.specs.rules.Contents.{bytes_or, cached, Fits, AllFit, IsOne, Takes}
+use Rattle.driver_laws.proofs.rules.Lookups.{IsKey, is_key, found_key, found_all}
 use Rattle.buffer_cache.specs.Calls.{IfTold, Writes, Holds}
 use Rattle.cached_run.specs.Answers.{Replacement, with_replacement, after}
 use Rattle.cached_run.specs.Leaving.{IsLeft, Leaves, Makes, KeepsSetup, Does, usable_in, spread}

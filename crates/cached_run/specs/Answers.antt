@@ -9,8 +9,8 @@ use Rattle.subsystem_spec.specs.Requests.{Request, Answer, first_block}
 use Rattle.trace_replay.specs.Script.{Input, Submit, Numbered}
 use Rattle.trace_replay.specs.Moments.{Answered}
 use Rattle.trace_replay.specs.Packs.{sector_of_block}
-use Rattle.trace_laws.specs.Machine.{Blocks, kind_of}
-use Rattle.trace_laws.specs.Waited.{first_unusable, answer_at, map_at}
+use Rattle.driver_laws.specs.rules.Machine.{Blocks, kind_of}
+use Rattle.driver_laws.specs.rules.Waited.{first_unusable, answer_at, map_at}
 use Rattle.answer_lines.specs.AnswerText.{answer_text}
 
 -- what a request meets, and its first block

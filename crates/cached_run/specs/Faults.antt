@@ -1,8 +1,8 @@
 -- Where playing stopped.
 use Rattle.std.specs.Prelude.{ℕ, Result, IsErrOf}
-use Rattle.play_faults.specs.Faults.{Rise}
-use Rattle.play_faults.specs.declared.fault.PlayFault.{PlayFault}
-use Rattle.play_faults.specs.declared.fault.PlayFault.TheVariants as fault
+use Rattle.script_runs.specs.Faults.{Rise}
+use Rattle.script_runs.specs.declared.fault.PlayFault.{PlayFault}
+use Rattle.script_runs.specs.declared.fault.PlayFault.TheVariants as fault
 
 -- in playing nothing else stops it
 pub record IsCaused {T : Type 0} (packs packs' out out' trace trace' : ℕ) (result : Result T PlayFault) : Type 0 where

@@ -3,17 +3,17 @@ use Rattle.std.specs.Prelude.{◌≡◌, ◌⊎◌, ℕ, ◌+◌, ◌<◌, ◌�
 use Rattle.pack_geometry.specs.Geometry.{limit_of}
 use Rattle.driver_machine.specs.World.{World}
 use Rattle.driver_machine.specs.Guards.{IsSetUp}
-use Rattle.trace_laws.specs.Rest.{HasTables}
-use Rattle.trace_laws.specs.Waited.{with_packs}
+use Rattle.driver_laws.specs.rules.Rest.{HasTables}
+use Rattle.driver_laws.specs.rules.Waited.{with_packs}
 use Rattle.buffer_cache.specs.Passes.{Stage}
 use Rattle.buffer_cache.specs.Passes.{setup_at}
 use Rattle.buffer_cache.specs.Passes.{OthersStay}
 use Rattle.buffer_cache.specs.Passes.{kind_at, map_at, left_map}
-use Rattle.trace_laws.specs.declared.cached.Entry.{Entry}
-use Rattle.trace_laws.specs.Requests.{Map}
-use Rattle.trace_laws.specs.Entries.{State}
-use Rattle.trace_laws.specs.Contents.{cached, AllFit}
-use Rattle.trace_laws.specs.Waited.{first_unusable}
+use Rattle.driver_laws.specs.declared.rules.cached.Entry.{Entry}
+use Rattle.driver_laws.specs.rules.Requests.{Map}
+use Rattle.driver_laws.specs.rules.Entries.{State}
+use Rattle.driver_laws.specs.rules.Contents.{cached, AllFit}
+use Rattle.driver_laws.specs.rules.Waited.{first_unusable}
 use Rattle.cached_run.specs.Answers.{Replacement, usable_of, after}
 
 -- A BLOCK HOLDS what it held, or what was cached after some of these replacements.

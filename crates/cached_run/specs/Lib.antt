@@ -5,3 +5,7 @@ pub mod Saying
 pub mod Faults
 pub mod Going
 pub mod Lines
+pub use Rattle.buffer_cache.specs.Asks
+pub use Rattle.buffer_cache.specs.Passes
+pub use Rattle.buffer_cache.specs.Calls
+pub use Rattle.script_runs.specs.Stops

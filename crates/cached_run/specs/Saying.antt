@@ -1,7 +1,7 @@
 -- What is said of an answer, with the blocks that a read gave.
 use Rattle.std.specs.Prelude.{◌≡◌, ℕ, ◌≤◌, nat_lt, if◌then◌else◌, List, [], ◌++◌, length, take, Some}
 use Rattle.pack_geometry.specs.declared.DriveKind.{DriveKind}
-use Rattle.trace_laws.specs.Machine.{Blocks}
+use Rattle.driver_laws.specs.rules.Machine.{Blocks}
 use Rattle.subsystem_spec.specs.Requests.{Request}
 use Rattle.subsystem_spec.specs.Answers.{answer_of}
 use Rattle.subsystem_spec.specs.declared.answers.AnswerKind.{AnswerKind}

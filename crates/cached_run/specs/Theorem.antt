@@ -9,13 +9,13 @@ use Rattle.pack_geometry.specs.TableSpelling.{Table}
 use Rattle.pack_geometry.specs.PackTable.{AreTablesOf}
 use Rattle.pack_geometry.specs.Homes.{contents_of}
 use Rattle.trace_replay.specs.Script.{Drain, Numbered, Script, drives_of, inputs_of}
-use Rattle.trace_laws.specs.Machine.{Blocks}
-use Rattle.trace_laws.specs.LegalAnswers.{AreLegal, all_claimed}
-use Rattle.trace_laws.specs.Laws.{HoldMap, RestStays}
-use Rattle.run_laws.specs.Stops.{Took}
-use Rattle.run_laws.specs.Stops.{IsUnplayed}
-use Rattle.play_faults.specs.declared.fault.PlayFault.{PlayFault}
-use Rattle.play_faults.specs.declared.fault.PlayFault.TheVariants as faults
+use Rattle.driver_laws.specs.rules.Machine.{Blocks}
+use Rattle.driver_laws.specs.rules.LegalAnswers.{AreLegal, all_claimed}
+use Rattle.driver_laws.specs.rules.Laws.{HoldMap, RestStays}
+use Rattle.script_runs.specs.Stops.{Took}
+use Rattle.script_runs.specs.Stops.{IsUnplayed}
+use Rattle.script_runs.specs.declared.fault.PlayFault.{PlayFault}
+use Rattle.script_runs.specs.declared.fault.PlayFault.TheVariants as faults
 use Rattle.cached_run.specs.Answers.{Replacement, answers_of, map_of_inputs, text_of, replacements_of, after}
 
 -- what the packs hold, with these tables

@@ -1,14 +1,14 @@
 // What a script is played with.
 ghost use Rattle.std.specs.Prelude.{◌≡◌, ◌≤◌, [], false, IfOk};
 ghost use Rattle.driver_machine.specs.World.{new_world};
-ghost use Rattle.driver_answers.specs.Passes.{AreSetups};
-ghost use Rattle.hp_core.specs.Setups.{setups_of};
+ghost use Rattle.driver_laws.specs.answers.Passes.{AreSetups};
+ghost use Rattle.script_runs.specs.Setups.{setups_of};
 ghost use Rattle.cached_run.specs.Lines.{IsRoomy};
 
 use crate::desk::Desk;
 use buffer_cache::{Cache, Subsystem};
-use hp_core::UnitSetup;
 use outside_traits::traits::NoMemory;
+use script_runs::stops::UnitSetup;
 use std::alloc::Global;
 
 /// The driver of a script's units, which takes one request at a time, with a cache before it and the desk for its answers.

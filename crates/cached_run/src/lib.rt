@@ -11,4 +11,4 @@ mod requests;
 mod transfers;
 
 pub use play::play_cached;
-pub use play_faults::PlayFault as CachedPlayFault;
+pub use script_runs::PlayFault as CachedPlayFault;

@@ -3,7 +3,7 @@ ghost use Rattle.std.specs.Prelude.{◌≤◌, ℕ, Bool, None, Some, [], ◌∷
 ghost use Rattle.trace_replay.specs.Script.{Submit};
 ghost use Rattle.buffer_cache.specs.Passes.{site};
 ghost use Rattle.buffer_cache.specs.Calls.{MayUse};
-ghost use Rattle.play_faults.specs.Faults.{HaveTold};
+ghost use Rattle.script_runs.specs.Faults.{HaveTold};
 ghost use Rattle.cached_run.specs.Faults.{IsCaused};
 ghost use Rattle.cached_run.specs.Going.{scene, GoesOn, Halts, SyncGoesOn, SyncHalts};
 ghost use Rattle.cached_run.specs.Lines.{MayAsk, MayPlay, IsRoomy, KeepsUnits, input_at};
@@ -15,7 +15,7 @@ use crate::requests::{read_asked, write_asked};
 use buffer_cache::{Cache, Subsystem};
 use cached_script::{Asked, Line, Statement};
 use outside_traits::traits::{Packs, Sink};
-use play_faults::PlayFault;
+use script_runs::PlayFault;
 
 /// Plays a read at a line.
 fn play_read<P: Packs, O: Sink, T: Sink>(

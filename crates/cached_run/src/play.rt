@@ -1,15 +1,15 @@
 // A script is played to its end.
 ghost use Rattle.std.specs.Prelude.{◌≡◌, ◌≤◌, ℕ, [], IsTrue, IfErr, OnOk, OnErr};
 ghost use Rattle.trace_replay.specs.Script.{inputs_of};
-ghost use Rattle.trace_laws.specs.Rest.{HasTables};
+ghost use Rattle.driver_laws.specs.rules.Rest.{HasTables};
 ghost use Rattle.buffer_cache.specs.Passes.{setup_at};
 ghost use Rattle.buffer_cache.specs.Passes.{site};
 ghost use Rattle.buffer_cache.specs.Calls.{MayUse};
-ghost use Rattle.run_laws.specs.Steps.{AreUnits};
-ghost use Rattle.run_laws.specs.Stops.{took};
-ghost use Rattle.play_faults.specs.Faults.{AreUntouched, HaveTold};
-ghost use Rattle.play_faults.specs.Lengths.{IsTooLong};
-ghost use Rattle.play_faults.specs.Faults.{IsBefore, IsPlaying, IsLongFor, Rise};
+ghost use Rattle.script_runs.specs.Steps.{AreUnits};
+ghost use Rattle.script_runs.specs.Stops.{took};
+ghost use Rattle.script_runs.specs.Faults.{AreUntouched, HaveTold};
+ghost use Rattle.script_runs.specs.Lengths.{IsTooLong};
+ghost use Rattle.script_runs.specs.Faults.{IsBefore, IsPlaying, IsLongFor, Rise};
 ghost use Rattle.cached_run.specs.Faults.{IsCaused};
 ghost use Rattle.cached_run.specs.Going.{scene, IsFar, HaltsScript};
 ghost use Rattle.cached_run.specs.Lines.{IsRoomy};
@@ -22,9 +22,8 @@ use crate::lines::{play_line, play_sync};
 use buffer_cache::{Cache, Subsystem};
 use cached_script::CachedScript;
 use outside_traits::traits::{Packs, Sink};
-use play_faults::PlayFault;
+use script_runs::{PlayFault, attach_cached};
 use std::alloc::Global;
-use unit_attaching::attach_cached;
 
 /// Plays the lines of a script over units that are set up for it, and behind the last line a sync, whose number is the number of
 /// lines plus one.

@@ -1,14 +1,14 @@
 // The blocks of a request go through the cache, one by one in rising order.
 ghost use Rattle.std.specs.Prelude.{◌≡◌, ◌≤◌, IfOk, OnOk, OnErr, length, []};
-ghost use Rattle.driver_answers.specs.Outcome.{stop_in};
+ghost use Rattle.driver_laws.specs.answers.Outcome.{stop_in};
 ghost use Rattle.buffer_cache.specs.Passes.{map_at};
 ghost use Rattle.buffer_cache.specs.Passes.{site, Keeps};
-ghost use Rattle.trace_laws.specs.Contents.{cached};
+ghost use Rattle.driver_laws.specs.rules.Contents.{cached};
 ghost use Rattle.buffer_cache.specs.Calls.{MayUse, IfTold};
 ghost use Rattle.cached_run.specs.Leaving.{Leaves, KeepsSetup, AreData, AreRead, Does, usable_in, spread};
 
 use buffer_cache::{Cache, CacheFault, Subsystem};
-use driver_answers::outcome::Stop;
+use driver_laws::answers::outcome::Stop;
 use outside_traits::traits::{Packs, Sink};
 
 /// Reads the blocks of a unit from one on, so many: how many come before the first that can't be used.

@@ -3,7 +3,7 @@
 use Rattle.std.specs.Prelude.{ℕ, ◌*◌, List, map, take, replicate, Option, None, Some}
 use Rattle.partitions.specs.declared.Part.TheVariants.{C}
 use Rattle.subsystem_spec.specs.Requests.{Request}
-use Rattle.trace_replay.specs.Script.{Submit, Drain, Statement, Declares, Plays, Line, Script}
+use Rattle.script_lines.specs.Script.{Submit, Drain, Statement, Declares, Plays, Line, Script}
 use Rattle.cached_script.specs.declared.statement.Asked.{Asked}
 use Rattle.cached_script.specs.declared.statement.Statement.{Statement as Said}
 use Rattle.cached_script.specs.declared.statement.Statement.TheVariants as says

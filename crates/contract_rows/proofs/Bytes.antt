@@ -2,9 +2,9 @@
 use Rattle.std.proofs.Common.{ℕ, ◌≡◌, ◌⊎◌, ◌<◌, ◌≤◌, ◌+◌, ◌-◌, ◌&&◌, nat_le, nat_lt, Bool, true, false, Some, refl, ap, arith}
 use Rattle.std.proofs.lemmas.Bool.Decides.{nat_tests}
 use Rattle.main_memory.specs.Bytes.{filled}
-use Rattle.trace_laws.specs.Machine.{Blocks}
+use Rattle.driver_laws.specs.rules.Machine.{Blocks}
 use Rattle.driver_machine.specs.World.{Held, block_in}
-use Rattle.driver_trace.specs.Bytes.{map_done}
+use Rattle.driver_laws.specs.shown.Bytes.{map_done}
 
 is_done : (first done k : ℕ) → k < done → nat_le first (first + k) && nat_lt (first + k) (first + done) ≡ true
 is_done first done k lt = grind (arith, nat_tests)

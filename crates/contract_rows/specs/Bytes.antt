@@ -14,10 +14,10 @@ use Rattle.main_memory.specs.Bytes.{filled}
 use Rattle.ecc_repair.specs.Repaired.{repaired}
 use Rattle.transfer_engine.specs.State.{TransferState}
 use Rattle.subsystem_spec.specs.declared.answers.AnswerKind.TheVariants.{ReadOk}
-use Rattle.trace_laws.specs.Machine.{Blocks}
-use Rattle.trace_laws.specs.Stands.{is_sure_among}
+use Rattle.driver_laws.specs.rules.Machine.{Blocks}
+use Rattle.driver_laws.specs.rules.Stands.{is_sure_among}
 use Rattle.driver_machine.specs.World.{UnitView, Held, block_in}
-use Rattle.driver_trace.specs.Bytes.{asked_of, IsSureFor, HandBears, UnitBears, IsStep}
+use Rattle.driver_laws.specs.shown.Bytes.{asked_of, IsSureFor, HandBears, UnitBears, IsStep}
 
 -- a block that a write has done is not at its home
 abbrev pub WriteNotAtItsHome : Type 0

@@ -7,3 +7,5 @@ pub mod Trials
 pub mod Drives
 pub mod Events
 pub mod Requests
+pub use Rattle.script_lines.specs.declared.statement.Request
+pub use Rattle.trace_lines.specs.declared.telling.Told

@@ -23,4 +23,6 @@ pub use letters::Letter;
 pub use marks::Mark;
 pub use moments::{Moment, Play, begins, is_idle, line_of};
 pub use requests::{Outcome, Request};
+pub use script_lines::Request as Asked;
+pub use trace_lines::Told;
 pub use trials::Trial;

@@ -1,8 +1,8 @@
 -- What each event does, act by act, as a function of the world before it.
 use Rattle.std.specs.Prelude.{ℕ, zero, suc, ◌+◌, ◌*◌, ◌==◌, nat_le, Bool, true, false, not, ◌||◌, ◌&&◌, if◌then◌else◌, List, [], ◌∷◌, ◌++◌, length, Option, Some, None}
-use Rattle.partitions.specs.Partitions.{admission}
-use Rattle.partitions.specs.declared.Admission.{Admission}
-use Rattle.partitions.specs.declared.Admission.TheVariants.{Inside, Eof, Outside}
+use Rattle.subsystem_spec.specs.Partitions.{admission}
+use Rattle.subsystem_spec.specs.Admission.{Admission}
+use Rattle.subsystem_spec.specs.Admission.TheVariants.{Inside, Eof, Outside}
 use Rattle.hardware_table.specs.Drive.{is_positioning}
 use Rattle.hardware_table.specs.Adapter.{next_block}
 use Rattle.disksort.specs.declared.Waiter.{Waiter}

@@ -6,8 +6,8 @@ use Rattle.hardware_table.specs.Events.{times_armed}
 use Rattle.hardware_table.specs.Moves.{IsVerdict, was_read, was_written}
 use Rattle.hardware_table.specs.Noise.{strikes}
 use Rattle.hardware_table.specs.Adapter.{AdapterState, next_block, next_window}
-use Rattle.main_memory.specs.Blocks.{Loan, IsLoan, size_at}
-use Rattle.fire_code.specs.Noise.{IsNoise}
+use Rattle.ecc_repair.specs.Blocks.{Loan, IsLoan, size_at}
+use Rattle.trace_replay.specs.Noise.{IsNoise}
 use Rattle.subsystem_spec.specs.Requests.{Request, first_block}
 use Rattle.trace_replay.specs.Script as script
 use Rattle.trace_replay.specs.Script.{Input, IsSpan}

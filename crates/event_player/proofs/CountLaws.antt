@@ -11,8 +11,8 @@ use Rattle.script_reader.specs.Stored.{Kept, Stored, seen, lines_in}
 use Rattle.script_reader.specs.Meaning.{statement_of, line_of, meaning_of}
 use Rattle.script_reader.specs.Promises.{said_in}
 use Rattle.trace_replay.specs.Script.{Statement, Line}
-use Rattle.run_laws.proofs.LineLaws.{lines_before, lines_more, lines_parted}
-use Rattle.event_lines.specs.Playing.{counted, one_request, one_noise}
+use Rattle.script_runs.proofs.LineLaws.{lines_before, lines_more, lines_parted}
+use Rattle.event_player.specs.Playing.{counted, one_request, one_noise}
 
 -- COUNTS of lines, and of more of them
 counted-append : (one : Statement → ℕ) (xs ys : List Line) → counted one (xs ++ ys) ≡ counted one xs + counted one ys

@@ -1,1 +1,11 @@
 pub mod Passes
+pub mod Playing
+pub mod Plays
+pub mod Saying
+pub mod Steps
+pub mod Calls
+pub mod Answering
+pub mod Stops
+pub use Rattle.script_runs.specs.declared.fault.PlayFault
+pub use Rattle.script_runs.specs.Lengths
+pub use Rattle.script_runs.specs.Faults

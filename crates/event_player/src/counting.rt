@@ -4,7 +4,7 @@ ghost use Rattle.script_reader.specs.Grammar.{Spells};
 ghost use Rattle.script_reader.specs.Stored.{lines_in, seen};
 ghost use Rattle.script_lines.specs.Words.{all_verbs};
 ghost use Rattle.script_reader.specs.Meaning.{meaning_of, statement_of};
-ghost use Rattle.event_lines.specs.Playing.{counted, one_request, one_noise};
+ghost use Rattle.event_player.specs.Playing.{counted, one_request, one_noise};
 
 use script_reader::{Script, Statement, Stored, read_back_law};
 

@@ -16,6 +16,7 @@ ghost use Rattle.hardware_table.specs.Noise.{LiveNoise, IsAmong, noise_at, is_at
 ghost use Rattle.hardware_table.specs.Adapter.{AdapterState, IsAdapter, IsLoaded, bytes_between, registers_used, next_window, step_bytes, new_adapter, loaded, started, stepped, completed};
 
 use drive_registers::OffsetCode;
+pub use fire_code::Noise;
 
 /// The registers of a drive.
 #[derive(Clone, Copy)]

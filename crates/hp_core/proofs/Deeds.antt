@@ -3,7 +3,7 @@ use Rattle.std.proofs.Common.{◌≡◌, inl, inr, ℕ, ◌+◌, ◌*◌, ◌/�
 use Rattle.std.specs.Prelude.{eqb, IsSome, if◌then◌else◌}
 use Rattle.hardware_table.specs.declared.Work.TheVariants as work
 use Rattle.hardware_table.specs.Adapter.{AdapterState, next_block}
-use Rattle.driver_invariant.proofs.Sector.{moved_less}
+use Rattle.driver_laws.proofs.invariant.Sector.{moved_less}
 use Rattle.std.specs.List.{AllByRecursion, IsDistinct, list_any}
 use Rattle.std.proofs.lemmas.Bool.{false≢true, eqb-true, ne_eqb, or_cases}
 use Rattle.std.proofs.lemmas.Map.Steps.{length-le_from_distinct_below}
@@ -14,7 +14,7 @@ use Rattle.pack_geometry.specs.Geometry.{cylinders_of, tracks_of, sectors_of, bl
 use Rattle.hardware_table.specs.declared.Moved.{Moved}
 use Rattle.hardware_table.specs.declared.Moved.TheVariants as verdict
 use Rattle.hardware_table.specs.Drive.{DriveState, is_ready}
-use Rattle.mba_adapter.specs.Loaded.{loaded_buffer}
+use Rattle.request_slots.specs.Loaded.{loaded_buffer}
 use Rattle.request_slots.specs.Steps.{MayStep}
 use Rattle.transfer_engine.specs.declared.job.Job.{Job}
 use Rattle.transfer_engine.specs.declared.job.Segment.{Segment}
@@ -32,14 +32,14 @@ use Rattle.driver_machine.specs.Acts.{Of, Intr, Search, Do, Move, Pack, Dclr, Rt
 use Rattle.driver_machine.specs.Guards.{InHand, IsBusyFor, Allowed}
 use Rattle.driver_machine.specs.Sound.{Sound, Among, Once, IsShown, IsPhase, IsTask, IsEndedAt, IsBurstAt}
 use Rattle.driver_machine.specs.DueFacts.{IsDue, IsAtCommand, IsFailure, IsStep}
-use Rattle.driver_invariant.proofs.Scene.{phase_is, due_of, job_is, block_below, segment_some}
-use Rattle.driver_invariant.proofs.Frame.{scene_ok, held_is, own_held, adapter_of-small}
-use Rattle.driver_invariant.proofs.DeedFacts.{transfer_at}
-use Rattle.driver_invariant.proofs.Search.{searched_inside}
-use Rattle.driver_invariant.proofs.Do.{seek_inside}
-use Rattle.driver_invariant.proofs.Move.{at_command}
-use Rattle.driver_invariant.proofs.End.{calls_still}
-use Rattle.driver_invariant.proofs.Continue.{continue_phase}
+use Rattle.driver_laws.proofs.invariant.Scene.{phase_is, due_of, job_is, block_below, segment_some}
+use Rattle.driver_laws.proofs.invariant.Frame.{scene_ok, held_is, own_held, adapter_of-small}
+use Rattle.driver_laws.proofs.invariant.DeedFacts.{transfer_at}
+use Rattle.driver_laws.proofs.invariant.Search.{searched_inside}
+use Rattle.driver_laws.proofs.invariant.Do.{seek_inside}
+use Rattle.driver_laws.proofs.invariant.Move.{at_command}
+use Rattle.driver_laws.proofs.invariant.End.{calls_still}
+use Rattle.driver_laws.proofs.invariant.Continue.{continue_phase}
 
 -- HOW MANY numbers below n differ: at most n.
 apart_each : (x : ℕ) (xs : List ℕ) → (Among x xs → ⊥) → AllByRecursion (λ y. eqb x y ≡ false) xs

@@ -4,7 +4,7 @@ use Rattle.std.specs.Prelude.{slice_index_or, slice_set}
 use Rattle.std.proofs.lemmas.List.{length-replicate, get_or_default}
 use Rattle.hardware_table.specs.Noise.{Book, empty_book}
 use Rattle.driver_machine.specs.World.{World, UnitView, AdapterView, Held, Setup, no_unit, new_adapter_view, adapter_at, set_up, new_world}
-use Rattle.driver_queues.specs.Queues.{AnswerQueue}
+use Rattle.request_slots.specs.Queues.{AnswerQueue}
 use Rattle.hp_core.specs.State.{State, HasRoom, refused_in}
 
 -- an adapter that is looked at, by its index, is that of the world

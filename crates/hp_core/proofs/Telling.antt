@@ -11,12 +11,12 @@ use Rattle.driver_machine.specs.World.{World}
 use Rattle.driver_machine.specs.Acts.{Act, after}
 use Rattle.driver_machine.specs.Lines.{lines_of, lines_of_all}
 use Rattle.driver_machine.specs.Guards.{Allowed}
-use Rattle.driver_answers.specs.Packs.{Reads, packs_after}
-use Rattle.driver_answers.specs.Outcome.{Site, Acts, IsFront, Outcome, text_after, stop_in}
-use Rattle.driver_answers.specs.Outcome as outcome
-use Rattle.driver_answers.proofs.Joined.{front_same}
-use Rattle.driver_answers.specs.declared.outcome.Stop.{Stop}
-use Rattle.driver_answers.specs.declared.outcome.Stop.TheVariants.{Store, Sink}
+use Rattle.driver_laws.specs.answers.Packs.{Reads, packs_after}
+use Rattle.driver_laws.specs.answers.Outcome.{Site, Acts, IsFront, Outcome, text_after, stop_in}
+use Rattle.driver_laws.specs.answers.Outcome as outcome
+use Rattle.driver_laws.proofs.answers.Joined.{front_same}
+use Rattle.driver_laws.specs.declared.answers.outcome.Stop.{Stop}
+use Rattle.driver_laws.specs.declared.answers.outcome.Stop.TheVariants.{Store, Sink}
 use Rattle.hp_core.specs.State.{State, site}
 use Rattle.hp_core.specs.Done.{Tells, DoesAct, DoesSilently}
 

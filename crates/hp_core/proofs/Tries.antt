@@ -14,15 +14,15 @@ use Rattle.drive_model.specs.Move.{MovesSector, IsOldOrNew}
 use Rattle.driver_machine.specs.World.{World, UnitView, AdapterView, Held, unit_at, adapter_at, held_in, slot_in_hand, adapter_of, drive_of, block_in, with_block_in}
 use Rattle.driver_machine.specs.Acts.{Of, Sector, Tried, with_drive, with_state, after}
 use Rattle.driver_machine.specs.Guards.{InHand, IsBusyFor, Allowed}
-use Rattle.driver_answers.specs.Packs.{Reads, packs_after}
+use Rattle.driver_laws.specs.answers.Packs.{Reads, packs_after}
 use Rattle.hardware_table.specs.declared.Moved.TheVariants.{Clean}
 use Rattle.outside_traits.specs.Gathers.{Gathers}
 use Rattle.trace_replay.specs.Moments as moments
 use Rattle.trace_replay.specs.Text.{moment_text}
-use Rattle.driver_answers.specs.Outcome.{stop_in}
-use Rattle.driver_answers.specs.declared.outcome.Stop.{Stop}
-use Rattle.driver_answers.specs.declared.outcome.Stop.TheVariants.{Store, Sink}
-use Rattle.driver_answers.proofs.Joined.{nothing_done}
+use Rattle.driver_laws.specs.answers.Outcome.{stop_in}
+use Rattle.driver_laws.specs.declared.answers.outcome.Stop.{Stop}
+use Rattle.driver_laws.specs.declared.answers.outcome.Stop.TheVariants.{Store, Sink}
+use Rattle.driver_laws.proofs.answers.Joined.{nothing_done}
 use Rattle.request_slots.specs.declared.asked.Asked.{Asked}
 use Rattle.request_slots.specs.Requests.{asked_of}
 use Rattle.hp_core.specs.State.{State, site}

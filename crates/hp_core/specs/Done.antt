@@ -6,9 +6,9 @@ use Rattle.hardware_table.specs.Adapter.{next_block}
 use Rattle.outside_traits.specs.Gathers.{Gathers}
 use Rattle.driver_machine.specs.World.{World, adapter_at, adapter_of}
 use Rattle.driver_machine.specs.Acts.{Act, Of, Sector, Tried, after}
-use Rattle.driver_answers.specs.Outcome.{Does, Outcome, StopsBefore, stop_in}
-use Rattle.driver_answers.specs.declared.outcome.Stop.{Stop}
-use Rattle.driver_answers.specs.declared.outcome.Stop.TheVariants.{Store, Sink}
+use Rattle.driver_laws.specs.answers.Outcome.{Does, Outcome, StopsBefore, stop_in}
+use Rattle.driver_laws.specs.declared.answers.outcome.Stop.{Stop}
+use Rattle.driver_laws.specs.declared.answers.outcome.Stop.TheVariants.{Store, Sink}
 use Rattle.hp_core.specs.State.{State, site}
 
 -- A line is told: its text is put behind what is kept, and the world stays as it was.

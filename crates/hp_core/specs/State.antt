@@ -3,7 +3,7 @@ use Rattle.std.specs.Prelude.{ℕ, ◌≤◌, ◌+◌, ◌++◌, List, [], ◌�
 use Rattle.pack_geometry.specs.Pack.{Pack}
 use Rattle.driver_machine.specs.declared.Made.{Made}
 use Rattle.driver_machine.specs.World.{World, Held}
-use Rattle.driver_answers.specs.Outcome.{Site}
+use Rattle.driver_laws.specs.answers.Outcome.{Site}
 
 -- the world, and the text of the trace that is still kept
 pub record State : Type 0 where

@@ -5,7 +5,7 @@ ghost use Rattle.driver_machine.specs.Sound.{Sound};
 ghost use Rattle.hp_core.specs.Done.{DoesAct};
 
 use crate::driver::{Core, told_step};
-use driver_answers::outcome::Stop;
+use driver_laws::answers::outcome::Stop;
 use driver_machine::RetryStep;
 use hardware_table::Moved;
 use outside_traits::traits::Sink;

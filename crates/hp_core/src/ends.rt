@@ -10,7 +10,7 @@ ghost use Rattle.hp_core.specs.State.{refused_in};
 ghost use Rattle.hp_core.specs.Done.{DoesAct};
 
 use crate::driver::{Core, needed};
-use driver_answers::outcome::Stop;
+use driver_laws::answers::outcome::Stop;
 use driver_machine::{Answer, AnswerKind, Made};
 use outside_traits::traits::Sink;
 use trace_lines::Told;

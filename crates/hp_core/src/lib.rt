@@ -20,5 +20,6 @@ mod submission;
 mod views;
 
 pub use driver::Core;
-pub use driver_answers::outcome::Stop;
+pub use driver_laws::answers::outcome::Stop;
+pub use request_slots::Asked;
 pub use start::UnitSetup;

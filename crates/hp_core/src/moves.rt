@@ -7,7 +7,7 @@ ghost use Rattle.driver_machine.specs.Sound.{Sound};
 ghost use Rattle.hp_core.specs.Done.{DoesAct};
 
 use crate::driver::Core;
-use driver_answers::outcome::Stop;
+use driver_laws::answers::outcome::Stop;
 use outside_traits::traits::Sink;
 use trace_lines::Told;
 use transfer_engine::Segment;

@@ -7,7 +7,7 @@ ghost use Rattle.hardware_table.specs.declared.Moved.TheVariants as verdict;
 ghost use Rattle.hardware_table.specs.Functions.{performed};
 ghost use Rattle.hardware_table.specs.Events.{arrived, attention_cleared};
 ghost use Rattle.hardware_table.specs.Adapter.{attention_raised, attention_lowered, completed};
-ghost use Rattle.mba_adapter.specs.Loaded.{loaded_buffer};
+ghost use Rattle.request_slots.specs.Loaded.{loaded_buffer};
 ghost use Rattle.transfer_engine.specs.State.{IsJob, begun, segment_of, failures_after};
 ghost use Rattle.transfer_engine.specs.Calls.{step_for};
 ghost use Rattle.driver_machine.specs.declared.Task.TheVariants as task;

@@ -13,7 +13,7 @@ ghost use Rattle.request_slots.specs.Steps.{MayStep, step_site};
 ghost use Rattle.hp_core.specs.Done.{HasUnit, TriesSector};
 
 use crate::driver::Core;
-use driver_answers::outcome::Stop;
+use driver_laws::answers::outcome::Stop;
 use hardware_table::Moved;
 use outside_traits::traits::{Packs, Sink, StoreFailed};
 

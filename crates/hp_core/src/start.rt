@@ -2,20 +2,18 @@
 ghost use Rattle.std.specs.Prelude.{◌≡◌, ◌<◌, ◌≤◌, ◌+◌, [], Contains, min, replicate, IfOk, None};
 ghost use Rattle.hardware_table.specs.Noise.{empty_book};
 ghost use Rattle.driver_machine.specs.World.{Setup, no_unit, new_unit, new_adapter_view, set_up, new_world};
-ghost use Rattle.driver_invariant.specs.Parts.{AreSetups};
+ghost use Rattle.driver_laws.specs.invariant.Parts.{AreSetups};
 ghost use Rattle.hp_core.specs.Setups.{setup_of, setups_of};
 
 use crate::driver::Core;
 use bad144_table::BadTable;
 use drive_model::NoiseBook;
-use driver_queues::{Answers, Channel};
-use hp_units::DiskUnit;
 use outside_traits::Gather;
 use outside_traits::traits::NoMemory;
 use pack_geometry::DriveKind;
-use request_slots::Slots;
+use request_slots::{Answers, Channel, Slots};
 use std::alloc::Global;
-use unit_bank::UnitBank;
+use unit_bank::{DiskUnit, UnitBank};
 
 /// How many bytes of the trace's text are kept at most.
 const TRACE_ROOM: u32 = 65536;

@@ -11,15 +11,15 @@ use Rattle.driver_machine.specs.Acts.{Act, Refuse}
 use Rattle.driver_machine.specs.Events.{refusal_of, submit_by, submit_acts, joined_acts, followed, adapter_start}
 use Rattle.driver_machine.specs.Guards.{IsSetUp, IsFresh, IsNew, IsHeldFor}
 use Rattle.driver_machine.specs.Runs.{MaySubmit}
-use Rattle.driver_invariant.proofs.Calls.{submit_works}
-use Rattle.hp_events.proofs.Passes.{sound_after}
-use Rattle.driver_trace.specs.QuietPasses.{Stop}
-use Rattle.driver_trace.specs.QuietPasses.{stop_in}
-use Rattle.request_slots.specs.declared.asked.Asked.{Asked}
-use Rattle.request_slots.specs.Requests as slots
-use Rattle.hp_events.specs.Passes.{State}
-use Rattle.hp_events.specs.Done.{DoesActs}
-use Rattle.hp_events.specs.Submissions.{MayRefuse}
+use Rattle.driver_laws.proofs.invariant.Calls.{submit_works}
+use Rattle.hp_driver.proofs.Passes.{sound_after}
+use Rattle.driver_laws.specs.declared.answers.outcome.Stop.{Stop}
+use Rattle.driver_laws.specs.shown.QuietPasses.{stop_in}
+use Rattle.hp_driver.specs.Asked.{Asked}
+use Rattle.hp_driver.specs.Requests as slots
+use Rattle.hp_driver.specs.Passes.{State}
+use Rattle.hp_driver.specs.Done.{DoesActs}
+use Rattle.hp_driver.specs.Submissions.{MayRefuse}
 use Rattle.subsystem_spec.specs.declared.request.Request.{Request}
 use Rattle.hp_driver.specs.Subsystem as subsystem
 use Rattle.hp_driver.specs.Subsystem.{asked, Submits, IsAsked}

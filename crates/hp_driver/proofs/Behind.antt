@@ -3,15 +3,15 @@ use Rattle.std.proofs.Common.{◌≡◌, List, length, Option, Some, None, sym, 
 use Rattle.driver_machine.specs.World.{World}
 use Rattle.driver_machine.specs.Acts.{Act, after_all}
 use Rattle.driver_machine.specs.Sound.{Sound}
-use Rattle.driver_invariant.proofs.Sizes.{sizes_all}
+use Rattle.driver_laws.proofs.invariant.Sizes.{sizes_all}
 use Rattle.driver_machine.specs.Runs.{Run}
-use Rattle.driver_invariant.proofs.Leads.{sound_along}
-use Rattle.hp_events.proofs.Passes.{sound_after}
-use Rattle.driver_trace.specs.QuietPasses.{Site, Told, Outcome}
-use Rattle.driver_trace.specs.QuietPasses.{Stop}
-use Rattle.driver_trace.specs.QuietPasses.{Store, Sink}
-use Rattle.driver_trace.specs.QuietPasses.{AllFlip}
-use Rattle.driver_trace.proofs.QuietPasses.{acts_keep_noise}
+use Rattle.driver_laws.proofs.invariant.Leads.{sound_along}
+use Rattle.hp_driver.proofs.Passes.{sound_after}
+use Rattle.driver_laws.specs.shown.QuietPasses.{Site, Told, Outcome}
+use Rattle.driver_laws.specs.declared.answers.outcome.Stop.{Stop}
+use Rattle.driver_laws.specs.declared.answers.outcome.Stop.TheVariants.{Store, Sink}
+use Rattle.driver_laws.specs.shown.QuietPasses.{AllFlip}
+use Rattle.driver_laws.proofs.shown.QuietPasses.{acts_keep_noise}
 
 -- some acts ran, and left this world
 pub record Ran (w now : World) : Type 0 where

@@ -6,20 +6,20 @@ use Rattle.hardware_table.specs.Noise.{LiveNoise}
 use Rattle.subsystem_spec.specs.Requests as told
 use Rattle.subsystem_spec.specs.declared.answers.AnswerKind.TheVariants.{ReadOk}
 use Rattle.trace_replay.specs.Script.{Input}
-use Rattle.trace_laws.specs.Machine.{Blocks}
-use Rattle.trace_laws.specs.Stands.{armed_by, is_sure_among}
+use Rattle.driver_laws.specs.rules.Machine.{Blocks}
+use Rattle.driver_laws.specs.rules.Stands.{armed_by, is_sure_among}
 use Rattle.driver_machine.specs.declared.Made.{Made}
 use Rattle.driver_machine.specs.World.{World, unit_at, held_in}
 use Rattle.driver_machine.specs.Acts.{Act, after_all}
 use Rattle.driver_machine.specs.Events.{submit_acts, event_acts}
 use Rattle.driver_machine.specs.Sound.{Sound}
-use Rattle.driver_trace.specs.QuietPasses.{Stop}
-use Rattle.driver_trace.specs.QuietPasses.{Store, Sink}
-use Rattle.driver_trace.specs.QuietPasses.{Does, StopsAtTrace}
-use Rattle.driver_trace.specs.QuietPasses.{packs_after_all}
-use Rattle.driver_trace.specs.Bytes.{IsSureFor, IsSaid, StepsFrom, AreSteps, Bears}
-use Rattle.driver_trace.proofs.Rests.{rest_bears}
-use Rattle.driver_trace.proofs.QuietCalls.{submissions_bear, events_bear, takings_bear}
+use Rattle.driver_laws.specs.declared.answers.outcome.Stop.{Stop}
+use Rattle.driver_laws.specs.declared.answers.outcome.Stop.TheVariants.{Store, Sink}
+use Rattle.driver_laws.specs.shown.QuietPasses.{Does, StopsAtTrace}
+use Rattle.driver_laws.specs.shown.QuietPasses.{packs_after_all}
+use Rattle.driver_laws.specs.shown.Bytes.{IsSureFor, IsSaid, StepsFrom, AreSteps, Bears}
+use Rattle.driver_laws.proofs.shown.Rests.{rest_bears}
+use Rattle.driver_laws.proofs.shown.QuietCalls.{submissions_bear, events_bear, takings_bear}
 use Rattle.hp_driver.specs.Subsystem.{seen, Submits, Comes}
 use Rattle.hp_driver.specs.Bytes.{KeepsMaps, KeepsMapsIn, GivesOfMaps, HoldsMaps}
 

@@ -8,15 +8,15 @@ use Rattle.trace_replay.specs.Script.{Input}
 use Rattle.driver_machine.specs.Acts.{Act, Change, Tried}
 use Rattle.driver_machine.specs.Events.{event_acts, arrive_acts, attend_acts}
 use Rattle.driver_machine.specs.Runs.{MayCome}
-use Rattle.driver_trace.specs.QuietPasses.{Stop}
-use Rattle.driver_trace.specs.QuietPasses.{IsReadOf}
-use Rattle.hp_events.specs.Passes.{State}
-use Rattle.hp_events.specs.Passes.{DoesSilently}
-use Rattle.hp_events.specs.Done.{DoesActs}
-use Rattle.hp_events.specs.Moves.{DoesMove}
-use Rattle.hp_events.specs.declared.drain.Event.{Event}
-use Rattle.hp_events.specs.declared.drain.Event.TheVariants.{Arrive, Move, Attend}
-use Rattle.hp_events.specs.Inputs.{input_of}
+use Rattle.driver_laws.specs.declared.answers.outcome.Stop.{Stop}
+use Rattle.driver_laws.specs.shown.QuietPasses.{IsReadOf}
+use Rattle.hp_driver.specs.Passes.{State}
+use Rattle.hp_driver.specs.Passes.{DoesSilently}
+use Rattle.hp_driver.specs.Done.{DoesActs}
+use Rattle.hp_driver.specs.Moves.{DoesMove}
+use Rattle.hp_driver.specs.declared.drain.Event.{Event}
+use Rattle.hp_driver.specs.declared.drain.Event.TheVariants.{Arrive, Move, Attend}
+use Rattle.hp_driver.specs.Inputs.{input_of}
 use Rattle.hp_driver.specs.Calls.{Stands, Happens}
 use Rattle.hp_driver.proofs.Calls.{event_does, silent_does}
 use Rattle.hp_driver.proofs.Moved.{moved}

@@ -15,19 +15,19 @@ use Rattle.driver_machine.specs.Acts.{Taken, after}
 use Rattle.driver_machine.specs.Events.{next_event}
 use Rattle.driver_machine.specs.Refusals.{refuses}
 use Rattle.driver_machine.specs.Sound.{Sound, AtWork, IsMade, IsGiven}
-use Rattle.driver_invariant.specs.Parts.{AreSetups}
-use Rattle.driver_invariant.proofs.SlotsLists.{Contains-first}
-use Rattle.driver_invariant.proofs.Starts.{sound_new, rests_new}
+use Rattle.driver_laws.specs.invariant.Parts.{AreSetups}
+use Rattle.driver_laws.proofs.invariant.SlotsLists.{Contains-first}
+use Rattle.driver_laws.proofs.invariant.Starts.{sound_new, rests_new}
 use Rattle.driver_machine.specs.Runs.{CanCome, NoneOutstanding}
-use Rattle.driver_invariant.proofs.Calls.{taken_works}
-use Rattle.driver_invariant.proofs.Next.{next_none, next_can}
-use Rattle.hp_events.proofs.Passes.{sound_after}
-use Rattle.driver_trace.proofs.QuietPasses.{none_at_start}
-use Rattle.hp_events.specs.Passes.State as core
-use Rattle.hp_events.specs.Passes.{DoesSilently}
-use Rattle.hp_events.specs.declared.drain.Event.{Event}
-use Rattle.hp_events.specs.Inputs.{input_of}
-use Rattle.driver_trace.specs.QuietPasses.{DrainsFallFrom}
+use Rattle.driver_laws.proofs.invariant.Calls.{taken_works}
+use Rattle.driver_laws.proofs.invariant.Next.{next_none, next_can}
+use Rattle.hp_driver.proofs.Passes.{sound_after}
+use Rattle.driver_laws.proofs.shown.QuietPasses.{none_at_start}
+use Rattle.hp_driver.specs.Passes.State as core
+use Rattle.hp_driver.specs.Passes.{DoesSilently}
+use Rattle.hp_driver.specs.declared.drain.Event.{Event}
+use Rattle.hp_driver.specs.Inputs.{input_of}
+use Rattle.driver_laws.specs.shown.QuietPasses.{DrainsFallFrom}
 use Rattle.hp_driver.specs.Subsystem.{State, IsKept, IsThere, LeavesFewer, IsOldest, Reads}
 use Rattle.hp_driver.proofs.Behind.{Ran, ran_sound, ran_noise, ran_slots}
 use Rattle.hp_driver.proofs.Calls.{silent_kept}

@@ -9,3 +9,17 @@ mod Asking
 mod Kept
 mod Bytes
 pub mod Passes
+pub mod Joined
+pub mod One
+pub mod Next
+pub mod Chosen
+pub mod Facts
+pub mod Begins
+pub mod Whole
+pub mod Going
+pub mod Lowest
+pub mod Parts
+pub mod Attends
+pub mod Exits
+pub mod Moving
+pub mod Submitting

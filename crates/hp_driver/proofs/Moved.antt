@@ -6,12 +6,12 @@ use Rattle.trace_replay.specs.Script.{MoveAt}
 use Rattle.driver_machine.specs.Events.{move_acts}
 use Rattle.driver_machine.specs.Sound.{AtWork}
 use Rattle.driver_machine.specs.Runs.{MayCome}
-use Rattle.driver_invariant.proofs.Calls.{event_works}
-use Rattle.hp_events.proofs.Passes.{sound_after}
-use Rattle.driver_trace.specs.QuietPasses.{stop_in}
-use Rattle.driver_trace.specs.QuietPasses.{Stop}
-use Rattle.hp_events.specs.Passes.{State}
-use Rattle.hp_events.specs.Moves.{DoesMove}
+use Rattle.driver_laws.proofs.invariant.Calls.{event_works}
+use Rattle.hp_driver.proofs.Passes.{sound_after}
+use Rattle.driver_laws.specs.shown.QuietPasses.{stop_in}
+use Rattle.driver_laws.specs.declared.answers.outcome.Stop.{Stop}
+use Rattle.hp_driver.specs.Passes.{State}
+use Rattle.hp_driver.specs.Moves.{DoesMove}
 use Rattle.hp_driver.specs.Subsystem.{Comes}
 use Rattle.hp_driver.specs.Calls.{Stands, Happens}
 use Rattle.hp_driver.proofs.Bytes.{event_keeps}

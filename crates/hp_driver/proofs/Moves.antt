@@ -9,13 +9,13 @@ use Rattle.driver_machine.specs.Guards.{IsTried}
 use Rattle.driver_machine.specs.Sound.{Sound}
 use Rattle.driver_machine.proofs.DueFacts.{false_true}
 use Rattle.driver_machine.specs.Runs.{Run}
-use Rattle.driver_invariant.proofs.Deeds.{deed_at}
-use Rattle.driver_invariant.proofs.Due.{in_hand_one}
-use Rattle.driver_invariant.proofs.Calls.{IsServing, serving}
-use Rattle.driver_trace.specs.QuietPasses.{ReadAll}
-use Rattle.driver_trace.specs.QuietPasses.{IsReadFrom}
-use Rattle.driver_trace.specs.QuietPasses.{AllFlip}
-use Rattle.driver_trace.proofs.QuietPasses.{strikes_flip}
+use Rattle.driver_laws.proofs.invariant.Deeds.{deed_at}
+use Rattle.driver_laws.proofs.invariant.Due.{in_hand_one}
+use Rattle.driver_laws.proofs.invariant.Calls.{IsServing, serving}
+use Rattle.driver_laws.specs.shown.QuietPasses.{ReadAll}
+use Rattle.driver_laws.specs.shown.QuietPasses.{IsReadFrom}
+use Rattle.driver_laws.specs.shown.QuietPasses.{AllFlip}
+use Rattle.driver_laws.proofs.shown.QuietPasses.{strikes_flip}
 
 busy_too : (b c : Bool) → b && not c ≡ true → b ≡ true
 busy_too true c e = refl

@@ -6,10 +6,10 @@ use Rattle.main_memory.specs.Blocks.{IsLoan}
 use Rattle.main_memory.specs.Frames.{frames_needed}
 use Rattle.driver_machine.specs.World.{World, Held, unit_at}
 use Rattle.driver_machine.specs.Sound.{Sound}
-use Rattle.request_slots.specs.Requests.{frames_lent, HasFree}
-use Rattle.hp_events.specs.Passes.{MayJoin}
-use Rattle.driver_trace.specs.QuietPasses.{in_use}
-use Rattle.driver_trace.proofs.QuietPasses.{free_where_room, all_lent_are_needed}
+use Rattle.hp_driver.specs.Requests.{frames_lent, HasFree}
+use Rattle.hp_driver.specs.Passes.{MayJoin}
+use Rattle.driver_laws.specs.shown.QuietPasses.{in_use}
+use Rattle.driver_laws.proofs.shown.QuietPasses.{free_where_room, all_lent_are_needed}
 use Rattle.subsystem_spec.specs.declared.request.Request.{Request}
 use Rattle.hp_driver.specs.Calls.{MayAsk, asked_at}
 

@@ -2,7 +2,7 @@
 use Rattle.std.proofs.Common.{◌≡◌, ℕ, Bool, IsTrue, List, [], ◌++◌, drop, take, take-append-drop, sym, ap, ◌∙◌}
 use Rattle.std.proofs.lemmas.List.{append_assoc, append-nil}
 use Rattle.outside_traits.specs.Puts.{TakesFront}
-use Rattle.driver_trace.specs.QuietPasses.{IsFront}
+use Rattle.driver_laws.specs.shown.QuietPasses.{IsFront}
 use Rattle.hp_driver.specs.Subsystem.{State}
 
 -- A CALL came to its end, and what it keeps was sent,

@@ -3,16 +3,16 @@ use Rattle.std.specs.Prelude.{◌≡◌, ◌≢◌, ℕ, ◌+◌, ◌<◌, Bool,
 use Rattle.pack_geometry.specs.Pack.{Pack}
 use Rattle.hardware_table.specs.Noise.{LiveNoise}
 use Rattle.trace_replay.specs.Script.{Input}
-use Rattle.trace_laws.specs.Machine.{Blocks}
-use Rattle.trace_laws.specs.Stands.{armed_by, is_sure_among}
+use Rattle.driver_laws.specs.rules.Machine.{Blocks}
+use Rattle.driver_laws.specs.rules.Stands.{armed_by, is_sure_among}
 use Rattle.driver_machine.specs.declared.Made.{Made}
 use Rattle.driver_machine.specs.World.{World, unit_at, held_in, block_in}
 use Rattle.driver_machine.specs.Acts.{Taken, after}
 use Rattle.driver_machine.specs.Sound.{AtWork}
-use Rattle.driver_trace.specs.QuietPasses.{Stop}
-use Rattle.driver_trace.specs.QuietPasses.{Store}
-use Rattle.driver_trace.specs.Bytes.{IsSureFor, asked_of, Bears}
-use Rattle.driver_trace.specs.QuietLaws.{Rests, contents_in, maps_taken}
+use Rattle.driver_laws.specs.declared.answers.outcome.Stop.{Stop}
+use Rattle.driver_laws.specs.declared.answers.outcome.Stop.TheVariants.{Store}
+use Rattle.driver_laws.specs.shown.Bytes.{IsSureFor, asked_of, Bears}
+use Rattle.driver_laws.specs.shown.QuietLaws.{Rests, contents_in, maps_taken}
 use Rattle.hp_driver.specs.Subsystem.{IsOldest, Reads}
 
 -- WITH NOTHING OUTSTANDING the driver stands for what its packs hold, whatever led to it; so does a new one.

@@ -8,14 +8,14 @@ use Rattle.trace_replay.specs.Script.{Input}
 use Rattle.driver_machine.specs.World.{World}
 use Rattle.driver_machine.specs.Guards.{IsSetUp, IsFresh}
 use Rattle.driver_machine.specs.Sound.{Sound, AtWork}
-use Rattle.driver_trace.specs.QuietPasses.{Stop}
-use Rattle.driver_trace.specs.QuietPasses.{Sink}
-use Rattle.driver_trace.specs.QuietPasses.{stop_in}
-use Rattle.request_slots.specs.declared.asked.Asked.{Asked}
-use Rattle.driver_trace.specs.QuietPasses.{in_use}
-use Rattle.driver_trace.specs.QuietPasses.{AllFlip}
-use Rattle.hp_events.specs.Passes.{State}
-use Rattle.hp_events.specs.Passes.{HasCauses}
+use Rattle.driver_laws.specs.declared.answers.outcome.Stop.{Stop}
+use Rattle.driver_laws.specs.declared.answers.outcome.Stop.TheVariants.{Sink}
+use Rattle.driver_laws.specs.shown.QuietPasses.{stop_in}
+use Rattle.hp_driver.specs.Asked.{Asked}
+use Rattle.driver_laws.specs.shown.QuietPasses.{in_use}
+use Rattle.driver_laws.specs.shown.QuietPasses.{AllFlip}
+use Rattle.hp_driver.specs.Passes.{State}
+use Rattle.hp_driver.specs.Passes.{HasCauses}
 use Rattle.subsystem_spec.specs.declared.request.Request.{Request}
 use Rattle.hp_driver.specs.Subsystem.{asked, is_move, Submits, Comes}
 use Rattle.hp_driver.specs.Bytes.{KeepsMaps, KeepsMapsIn}

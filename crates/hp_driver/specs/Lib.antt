@@ -2,3 +2,14 @@ pub mod Subsystem
 pub mod Calls
 pub mod Bytes
 pub mod Passes
+pub mod Done
+pub mod Free
+pub mod Hand
+pub mod Before
+pub mod Moves
+pub mod Submissions
+pub mod Inputs
+pub use Rattle.hp_core.specs.Setups
+pub use Rattle.hp_core.specs.declared.start.UnitSetup
+pub use Rattle.hp_core.specs.Asked
+pub use Rattle.hp_core.specs.Requests

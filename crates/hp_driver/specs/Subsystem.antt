@@ -17,15 +17,15 @@ use Rattle.driver_machine.specs.Events.{refusal_of, submit_acts, event_acts}
 use Rattle.driver_machine.specs.Guards.{IsSetUp, IsHeldFor, MayChange}
 use Rattle.driver_machine.specs.Sound.{Sound, AtWork}
 use Rattle.driver_machine.specs.Runs.{MaySubmit, MayCome}
-use Rattle.driver_trace.specs.QuietPasses.{Stop}
-use Rattle.driver_trace.specs.QuietPasses.{Store, Sink}
-use Rattle.driver_trace.specs.QuietPasses.{Site, Outcome, StopsBefore}
-use Rattle.driver_trace.specs.QuietPasses.{in_use}
-use Rattle.driver_trace.specs.QuietPasses.{IsReadOf}
-use Rattle.driver_trace.specs.QuietPasses.{AllFlip}
-use Rattle.driver_trace.specs.QuietPasses.{IsDraining}
-use Rattle.driver_trace.specs.QuietPasses.{CanStart, AreAsked, Falls}
-use Rattle.hp_events.specs.Moves.{writes_next}
+use Rattle.driver_laws.specs.declared.answers.outcome.Stop.{Stop}
+use Rattle.driver_laws.specs.declared.answers.outcome.Stop.TheVariants.{Store, Sink}
+use Rattle.driver_laws.specs.shown.QuietPasses.{Site, Outcome, StopsBefore}
+use Rattle.driver_laws.specs.shown.QuietPasses.{in_use}
+use Rattle.driver_laws.specs.shown.QuietPasses.{IsReadOf}
+use Rattle.driver_laws.specs.shown.QuietPasses.{AllFlip}
+use Rattle.driver_laws.specs.shown.QuietPasses.{IsDraining}
+use Rattle.driver_laws.specs.shown.QuietPasses.{CanStart, AreAsked, Falls}
+use Rattle.hp_driver.specs.Moves.{writes_next}
 use Rattle.subsystem_spec.specs.declared.request.Request.{Request}
 
 -- its world, how many requests may be outstanding at once, whether one of its calls has failed, and the text of the trace that it keeps

@@ -1,52 +1,151 @@
-// An event, over the core.
-ghost use Rattle.hp_events.specs.Inputs.{input_of};
-ghost use Rattle.hp_driver.specs.Subsystem.{IsThere};
-ghost use Rattle.hp_driver.specs.Calls.{Stands, Happens};
+// What each event does.
+ghost use Rattle.std.specs.Prelude.{◌≡◌, ◌<◌, ◌&&◌};
+ghost use Rattle.driver_machine.specs.World.{adapter_at};
+ghost use Rattle.driver_machine.specs.Events as events;
+ghost use Rattle.driver_machine.specs.Events.{each, drives};
+ghost use Rattle.driver_machine.specs.Sound.{Sound};
+ghost use Rattle.hp_driver.specs.Done.{DoesActs};
+ghost use Rattle.hp_driver.specs.Moves.{DoesMove, writes_next};
 
-use driver_trace::Stop;
-use hp_events::{Core, Event, arrive, attend, move_sector};
+use crate::hand::id_in_hand;
+use crate::turns::{due, start_adapter};
+use driver_machine::Phase;
+use hp_core::{Core, Stop};
 use outside_traits::traits::{Packs, Sink};
 
-/// An event happens at a line of the script.
-pub(crate) fn happen<P: Packs, T: Sink>(
+/// The positioning of a unit's drive ends, where one is under way. Stops where the trace fails.
+pub fn arrive<T: Sink>(core: &mut Core, line: u64, u: u8, trace: &mut T) -> Result<(), Stop>
+    requires sound { Sound core.old.world }
+    requires unit { u < 32 }
+    ensures { DoesActs T.tells T.taken T.faults trace.old trace.new core.old core.new result (events.arrive_acts line u core.old.world) }
+{
+    if !core.is_positioning(u) {
+        return core.nothing(line, trace);
+    }
+    let Some(slot) = core.head(u) else {
+        return Ok(());
+    };
+    let id = core.asked(slot).id;
+    core.arrive(line, u, id, trace)
+}
+
+/// Whether an adapter can move a sector.
+pub(crate) fn moves(core: &Core, a: u8) -> bool
+    requires sound { Sound core.now.world }
+    requires adapter { a < 4 }
+    ensures { result ≡ events.can_move (adapter_at core.now.world a) }
+{
+    core.is_busy(a) && !core.has_completed(a)
+}
+
+/// Whether the next sector that an adapter moves may be written.
+pub fn writes(core: &Core, a: u8) -> bool
+    requires sound { Sound core.now.world }
+    requires adapter { a < 4 }
+    ensures { result ≡ writes_next core.now.world a }
+{
+    moves(core, a) && core.writes(a)
+}
+
+/// Whether an interrupt of an adapter can be delivered.
+pub(crate) fn interrupts(core: &Core, a: u8) -> bool
+    requires sound { Sound core.now.world }
+    requires adapter { a < 4 }
+    ensures { result ≡ events.can_attend (adapter_at core.now.world a) }
+{
+    core.has_completed(a) || core.has_attention(a)
+}
+
+/// Moves one sector of an adapter's transfer, where one is under way. Stops where the packs fail or the trace does.
+pub fn move_sector<P: Packs, T: Sink>(
     core: &mut Core,
     line: u64,
-    event: Event,
+    a: u8,
     packs: &mut P,
     trace: &mut T,
 ) -> Result<(), Stop>
-    requires stands { Stands core.old }
-    requires there { IsThere core.old.world (input_of event) }
-    ensures { Happens P.tells P.held P.faults T.tells T.taken T.faults packs.old packs.new trace.old trace.new core.old core.new result line (input_of event) }
+    requires sound { Sound core.old.world }
+    requires adapter { a < 4 }
+    ensures { DoesMove P.tells P.held P.faults T.tells T.taken T.faults packs.old packs.new trace.old trace.new core.old core.new result line a }
 {
-    match event {
-        Event::Arrive { unit } => arrive(core, line, unit, trace),
-        Event::Move { adapter } => move_sector(core, line, adapter, packs, trace),
-        Event::Attend { adapter } => attend(core, line, adapter, trace),
-        Event::Turn { unit, sector } => {
-            core.turn(unit, sector);
-            Ok(())
-        }
-        Event::Noise {
-            unit,
-            block,
-            noise,
-            span,
-        } => {
-            core.arm_noise(unit, block, noise, span);
-            Ok(())
-        }
-        Event::Fault { unit, kind, times } => {
-            core.arm(unit, kind, times);
-            Ok(())
-        }
-        Event::Online { unit, on } => {
-            core.set_online(unit, on);
-            Ok(())
-        }
-        Event::Lock { unit, on } => {
-            core.set_locked(unit, on);
-            Ok(())
-        }
+    if !moves(core, a) {
+        return core.nothing(line, trace);
     }
+    let u = core.transferring(a);
+    core.sector(line, u, packs, trace)
+}
+
+/// The data interrupt of an adapter is taken, where its completion is up, and what is due behind it is done.
+fn data_interrupt<T: Sink>(core: &mut Core, line: u64, a: u8, trace: &mut T) -> Result<(), Stop>
+    requires sound { Sound core.old.world }
+    requires adapter { a < 4 }
+    ensures { DoesActs T.tells T.taken T.faults trace.old trace.new core.old core.new result (events.data_interrupt line a core.old.world) }
+{
+    if !core.has_completed(a) {
+        return Ok(());
+    }
+    let u = core.transferring(a);
+    let id = id_in_hand(core, u);
+    core.interrupt(line, u, id, trace)?;
+    due(core, line, u, trace)
+}
+
+/// How many steps of a retry are taken when a positioning ends.
+fn steps_taken(phase: Phase) -> u32
+    ensures { result ≡ events.steps_taken phase }
+{
+    match phase {
+        Phase::Positioning { taken } => taken,
+        Phase::Waiting | Phase::Queued | Phase::Transferring | Phase::Due { .. } => 0,
+    }
+}
+
+/// The attention of a drive of an adapter, 0 to 7, is taken, where it is up, and what is due behind it is done.
+fn attention<T: Sink>(
+    core: &mut Core,
+    line: u64,
+    a: u8,
+    drive: u8,
+    trace: &mut T,
+) -> Result<(), Stop>
+    requires sound { Sound core.old.world }
+    requires adapter { a < 4 }
+    requires drive { drive < 8 }
+    ensures { DoesActs T.tells T.taken T.faults trace.old trace.new core.old core.new result (events.attention line a drive core.old.world) }
+{
+    let u = 8 * a + drive;
+    if !core.is_raised(u) {
+        return Ok(());
+    }
+    let id = id_in_hand(core, u);
+    let taken = steps_taken(core.phase(u));
+    core.attend(line, u, id, taken, trace)?;
+    due(core, line, u, trace)
+}
+
+/// The attentions of an adapter's drives are taken, one after another.
+fn attentions<T: Sink>(core: &mut Core, line: u64, a: u8, trace: &mut T) -> Result<(), Stop>
+    requires sound { Sound core.old.world }
+    requires adapter { a < 4 }
+    ensures { DoesActs T.tells T.taken T.faults trace.old trace.new core.old core.new result (each (events.attention line a) drives core.old.world) }
+{
+    for drive in 0..8u8 {
+        attention(core, line, a, drive, trace)?;
+    }
+    Ok(())
+}
+
+/// An adapter's interrupt is delivered, where one is pending: its data interrupt and its drives' attentions, and then the adapter
+/// is started. Stops where the trace fails.
+pub fn attend<T: Sink>(core: &mut Core, line: u64, a: u8, trace: &mut T) -> Result<(), Stop>
+    requires sound { Sound core.old.world }
+    requires adapter { a < 4 }
+    ensures { DoesActs T.tells T.taken T.faults trace.old trace.new core.old core.new result (events.attend_acts line a core.old.world) }
+{
+    if !interrupts(core, a) {
+        return core.nothing(line, trace);
+    }
+    data_interrupt(core, line, a, trace)?;
+    attentions(core, line, a, trace)?;
+    start_adapter(core, line, a, trace)
 }

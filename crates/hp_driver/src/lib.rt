@@ -10,16 +10,32 @@
 //! no call has failed, that no answer waits, and that what is asked for is there. Each call keeps the map of blocks that the driver
 //! stands for with its packs, whatever led to it (`KeepsMaps`, `KeepsMapsIn`, `HoldsMaps`). No call but `new` takes memory.
 //!
+//! What each event does is code over the acts of `hp_core`: `arrive`, `move_sector`, `attend`, the parts of a submission,
+//! what is due at a unit, and an adapter's start. Each comes to the acts of the machine's own function (`DoesActs`, `DoesMove`:
+//! `arrive_acts`, `move_acts`, `attend_acts`, `due_acts`, `adapter_start`), all of them with their text, or the first ones up
+//! to a failure; what writes nothing leaves the packs, also where they fail, and `writes` tells beforehand what may. `next_event` is
+//! the machine's: the lowest unit that can arrive, the lowest adapter that can move, the lowest that can attend.
+//!
 //! Only tested, in `drive_rows`: worked values, beside their proofs.
 #![tactic(auto)]
 
+mod admission;
+mod deeds;
+mod drain;
 mod events;
+mod guards;
+mod hand;
+mod happening;
 mod request;
+mod starts;
 mod submission;
 mod subsystem;
+mod turns;
+mod verdicts;
 
+pub use drain::Event;
+pub use driver_laws::answers::outcome::Stop;
 pub use driver_machine::{Answer, AnswerKind, Cause};
-pub use driver_trace::Stop;
-pub use hp_events::{Event, UnitSetup};
+pub use hp_core::UnitSetup;
 pub use subsystem::Subsystem;
 pub use subsystem_spec::Request;

@@ -12,28 +12,31 @@ ghost use Rattle.driver_machine.specs.Guards.{IsSetUp};
 ghost use Rattle.driver_machine.specs.Acts.{Taken, after};
 ghost use Rattle.driver_machine.specs.Events.{next_event};
 ghost use Rattle.driver_machine.specs.Sound.{Sound, AtWork};
-ghost use Rattle.driver_invariant.specs.Parts.{AreSetups};
+ghost use Rattle.driver_laws.specs.invariant.Parts.{AreSetups};
 ghost use Rattle.driver_machine.specs.Runs.{NoneOutstanding};
-ghost use Rattle.driver_trace.specs.QuietPasses.{AllFlip};
-ghost use Rattle.driver_trace.specs.QuietPasses.{stop_in};
-ghost use Rattle.hp_events.specs.Passes.{HasCauses};
-ghost use Rattle.hp_events.specs.Passes.{setups_of};
-ghost use Rattle.trace_laws.specs.Commands.{CommandsAreBounded};
-ghost use Rattle.hp_events.specs.Inputs.{input_of};
-ghost use Rattle.hp_events.specs.Moves.{writes_next};
+ghost use Rattle.driver_laws.specs.shown.QuietPasses.{AllFlip};
+ghost use Rattle.driver_laws.specs.shown.QuietPasses.{stop_in};
+ghost use Rattle.hp_driver.specs.Passes.{HasCauses};
+ghost use Rattle.hp_driver.specs.Passes.{setups_of};
+ghost use Rattle.driver_laws.specs.rules.Commands.{CommandsAreBounded};
+ghost use Rattle.hp_driver.specs.Inputs.{input_of};
+ghost use Rattle.hp_driver.specs.Moves.{writes_next};
 ghost use Rattle.hp_driver.specs.Bytes.{HoldsMaps, KeepsMaps, KeepsMapsIn};
 ghost use Rattle.hp_driver.specs.Subsystem.{asked, IsAsked, Submits, IsThere, is_move, Comes, LeavesFewer, IsOldest, Reads, sink_in};
 
-use crate::{events, submission};
+use crate::drain::{Event, next_event};
+use crate::events::writes;
+use crate::{admission, happening};
+use driver_laws::answers::outcome::Stop;
+use driver_laws::rules::bounds::commands_law;
+use driver_laws::shown::drains::falls_law;
 use driver_machine::Answer;
-use driver_trace::{Stop, falls_law};
-use hp_events::{Core, Event, UnitSetup};
+use hp_core::{Core, UnitSetup};
 use outside_traits::traits::{NoMemory, Packs, Sink, SinkFailed};
 use pack_geometry::DriveKind;
 use std::alloc::Global;
 use std::marker::Model;
 use subsystem_spec::Request;
-use trace_laws::bounds::commands_law;
 
 /// The disks, their adapters, the requests that are outstanding, and the text of the trace that is kept, at most 64 KiB. Nothing is
 /// allocated once it is made.
@@ -120,7 +123,7 @@ impl Subsystem {
         ensures cause { HasCause (T.faults trace.old) (T.faults trace.new) result }
         ensures bytes { KeepsMaps self.old.world self.new.world }
     {
-        match submission::submit(&mut self.core, line, request, bytes, trace) {
+        match admission::submit(&mut self.core, line, request, bytes, trace) {
             Ok(()) => Ok(()),
             Err(_) => {
                 self.failed = true;
@@ -153,7 +156,7 @@ impl Subsystem {
         ensures causes { HasCauses (P.faults packs.old) (P.faults packs.new) (T.faults trace.old) (T.faults trace.new) (stop_in result) }
         ensures bytes { KeepsMapsIn (P.tells packs.new) (P.held packs.old) (P.held packs.new) (input_of event) self.old.world self.new.world (stop_in result) }
     {
-        match events::happen(&mut self.core, line, event, packs, trace) {
+        match happening::happen(&mut self.core, line, event, packs, trace) {
             Ok(()) => Ok(()),
             Err(stop) => {
                 self.failed = true;
@@ -184,7 +187,7 @@ impl Subsystem {
         requires { adapter < 4 }
         ensures { result ≡ writes_next self.now.world adapter }
     {
-        hp_events::writes(&self.core, adapter)
+        writes(&self.core, adapter)
     }
 
     /// The drain's next event: the lowest unit that can arrive, else the lowest adapter that can move, else the lowest that can
@@ -199,7 +202,7 @@ impl Subsystem {
         ensures falls { IfSome result (λ event. LeavesFewer self.now.world (input_of event)) }
     {
         falls_law();
-        hp_events::next_event(&self.core)
+        next_event(&self.core)
     }
 
     /// The oldest answer that waits. None exactly where none waits.

@@ -7,4 +7,5 @@
 mod tries;
 mod unit;
 
+pub use drive_model::NoiseBook;
 pub use unit::DiskUnit;

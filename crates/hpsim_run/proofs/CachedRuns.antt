@@ -6,13 +6,13 @@ use Rattle.trace_replay.specs.Script.{Script}
 use Rattle.cached_script.specs.declared.statement.Line.{Line}
 use Rattle.cached_script.specs.Scripts.{IsRefused}
 use Rattle.cached_script.proofs.ReadingLaws.{one_script}
-use Rattle.play_faults.specs.Faults.{IsBefore, IsLongFor, IsPlaying}
+use Rattle.script_commands.specs.Faults.{IsBefore, IsLongFor, IsPlaying}
 use Rattle.cached_script.specs.Meaning.{meaning_of}
 use Rattle.cached_run.specs.Theorem.{CachedLeaves}
-use Rattle.play_faults.specs.declared.fault.PlayFault.{PlayFault}
-use Rattle.play_faults.specs.declared.fault.PlayFault.TheVariants as faults
-use Rattle.run_laws.specs.Stops.{Took}
-use Rattle.play_faults.specs.Lengths.{IsTooLong, NamesTooLong}
+use Rattle.script_commands.specs.PlayFault.{PlayFault}
+use Rattle.script_commands.specs.PlayFault.TheVariants as faults
+use Rattle.cached_run.specs.Stops.{Took}
+use Rattle.script_commands.specs.Lengths.{IsTooLong, NamesTooLong}
 use Rattle.command_parts.specs.Outside.{Outside}
 use Rattle.script_commands.specs.Sinks.{out_took, trace_took}
 use Rattle.script_commands.specs.Loading.{MeansCached}

@@ -4,10 +4,10 @@ use Rattle.pack_geometry.specs.Pack.{Pack}
 use Rattle.cached_script.specs.Scripts.{Script as Lines, Spells, IsRefused}
 use Rattle.cached_script.specs.Meaning.{meaning_of}
 use Rattle.cached_run.specs.Theorem.{CachedPlays, CachedLeaves}
-use Rattle.play_faults.specs.declared.fault.PlayFault.{PlayFault}
-use Rattle.play_faults.specs.declared.fault.PlayFault.TheVariants as faults
-use Rattle.run_laws.specs.Stops.{Took}
-use Rattle.play_faults.specs.Lengths.{IsTooLong}
+use Rattle.script_commands.specs.PlayFault.{PlayFault}
+use Rattle.script_commands.specs.PlayFault.TheVariants as faults
+use Rattle.cached_run.specs.Stops.{Took}
+use Rattle.script_commands.specs.Lengths.{IsTooLong}
 use Rattle.command_parts.specs.Outside.{Outside}
 use Rattle.command_parts.specs.Statuses.{status_code}
 use Rattle.command_parts.specs.declared.status.Status.TheVariants.{Done, SinkFailed, PacksFailed}

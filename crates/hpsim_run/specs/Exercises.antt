@@ -1,7 +1,7 @@
 -- What a run of `exercise` has done.
 use Rattle.std.specs.Prelude.{◌≡◌, ◌⊎◌, ℕ, Bool, List}
 use Rattle.outside_traits.specs.Causes.{Rose}
-use Rattle.exercise_run.specs.Exercises.{IsDone, IsStopped}
+use Rattle.script_commands.specs.Exercises.{IsDone, IsStopped}
 
 -- `exercise`: the script of the number was played, and its tally printed; or a sink failed, and it was played so far, or a front of its
 -- four lines was taken; or there was no memory. Where no count rose it is no sink that failed.

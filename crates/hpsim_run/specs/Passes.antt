@@ -4,3 +4,4 @@ pub use Rattle.raw_command.specs.Endings.{WritesAll}
 pub use Rattle.command_parts.specs.declared.words.Writing.{Writing}
 pub use Rattle.pack_commands.specs.Words.{command_of}
 pub use Rattle.pack_commands.specs.declared.words.Command.TheVariants.{Play}
+pub use Rattle.script_commands.specs.Exercises.{IsDone, exercise_script}

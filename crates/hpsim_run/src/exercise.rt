@@ -5,8 +5,8 @@ ghost use Rattle.command_parts.specs.Statuses.{status_code};
 ghost use Rattle.command_parts.specs.declared.status.Status.TheVariants.{OutOfMemory, SinkFailed};
 
 use command_parts::Status;
-use exercise_run::{ExerciseFault, run_exercise as play_number};
 use outside_traits::traits::Sink;
+use script_commands::{ExerciseFault, run_exercise as play_number};
 use std::alloc::Global;
 
 /// Plays the script of a number over packs of its own, and prints its tally.

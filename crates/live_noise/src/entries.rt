@@ -6,8 +6,7 @@ ghost use Rattle.live_noise.specs.declared.entries.Entry.{Entry};
 ghost use Rattle.live_noise.specs.Book.{noise_of, live_of, number_of, is_entry_at, is_entry_behind, AreInOrder, IsFirst, IsNowhere, with_entry, with_used};
 
 use drive_registers::{OFFSET_CODE, offset_word};
-use fire_code::Noise;
-use hardware_table::NoiseSpan;
+use hardware_table::{Noise, NoiseSpan};
 
 /// Noise that is live: how long it still lives, where it strikes, and the number of its places.
 #[derive(Clone, Copy)]

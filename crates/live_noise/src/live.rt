@@ -3,8 +3,7 @@ ghost use Rattle.std.specs.Prelude.{◌≡◌, ◌≤◌, ◌<◌, IfOk, [], vec
 ghost use Rattle.hardware_table.specs.Noise.{empty_book, book_armed, book_struck, strikes};
 
 use crate::entries::{Entry, is_spent, noise_in, put, strike};
-use fire_code::Noise;
-use hardware_table::NoiseSpan;
+use hardware_table::{Noise, NoiseSpan};
 use no_memory::NoMemory;
 use std::alloc::Global;
 use std::marker::Model;

@@ -13,4 +13,5 @@ mod laws;
 mod map;
 
 pub use adapter::{Adapter, Ended};
+pub use drive_model::{Drive, Moved, NoiseBook};
 pub use laws::transfer_law;

@@ -13,10 +13,10 @@ use Rattle.trace_replay.specs.Replay.{after_moments}
 use Rattle.trace_replay.specs.Runs.{start_of}
 use Rattle.trace_replay.specs.Script as says
 use Rattle.trace_replay.specs.Script.{Input, Numbered, drives_of, inputs_of}
-use Rattle.trace_laws.specs.Drains.{event_by}
-use Rattle.driver_trace.specs.Reach.{AsksBelow, AskBelow, TablesBelow}
-use Rattle.run_laws.specs.Stops.{AreOfOneEvent}
-use Rattle.event_lines.proofs.OneEvent.{over_at_last}
+use Rattle.driver_laws.specs.rules.Drains.{event_by}
+use Rattle.driver_laws.specs.shown.Reach.{AsksBelow, AskBelow, TablesBelow}
+use Rattle.script_runs.specs.Stops.{AreOfOneEvent}
+use Rattle.event_player.proofs.OneEvent.{over_at_last}
 use Rattle.promise_rows.specs.Naming.{LaterUnitNamed, FittingLengthNamed, FirstEventUntold, OtherRunByOtherTables, NoneWrites, WritesTo, ReadsLengthen, TwoLinesUnderWay, TwoEventsUnderWay, MarkGoneBehindAFailure, NotAsLongAsWritten}
 
 pub later_unit_named : LaterUnitNamed

@@ -1,8 +1,8 @@
 -- What is promised of the tool and of `exercise` refuses these outcomes.
 use Rattle.std.proofs.Common.{◌≡◌, inl, inr, ℕ, List, [], ◌∷◌, ◌++◌, refl, sym, ap, arith, ◌∙◌}
 use Rattle.std.proofs.lemmas.List.{append_cancel_left, append-nil}
-use Rattle.exercise_run.specs.ExerciseText as exercise
-use Rattle.script_commands.specs.Scripts.{IsPlayCode}
+use Rattle.hpsim_run.specs.ExerciseText as exercise
+use Rattle.hpsim_run.specs.Scripts.{IsPlayCode}
 use Rattle.promise_rows.specs.Others.{DoneWhereTheTextWasNotTaken, FaultThatPrints, HandedInPacksPlayed, PlayedAsRefusedByTheTool}
 
 nothing_more : (taken text : List ℕ) → taken ≡ taken ++ text → text ≡ []

@@ -10,15 +10,15 @@ use Rattle.script_reader.specs.Meaning.{meaning}
 use Rattle.hardware_table.specs.Noise.{LiveNoise}
 use Rattle.trace_replay.specs.Moments.{Moment, Played, Told, Idle, Deed, Search, Seek, Recal, Offset, Centre, Clear, Pack as Packs, Transfer, Arrive, Sector, Intr, Try, Attn, End, Answered, answers_in}
 use Rattle.trace_replay.specs.Script.{Noise, Script, drives_of, ids_of, inputs_of}
-use Rattle.driver_invariant.proofs.SlotsLists.{Contains-none}
-use Rattle.trace_laws.specs.Laws.{HoldMap}
-use Rattle.trace_laws.specs.LastWrites.{left_behind}
-use Rattle.trace_laws.specs.LegalAnswers.{times_answered}
-use Rattle.trace_laws.specs.Promises.{Promises}
+use Rattle.driver_laws.proofs.invariant.SlotsLists.{Contains-none}
+use Rattle.driver_laws.specs.rules.Laws.{HoldMap}
+use Rattle.driver_laws.specs.rules.LastWrites.{left_behind}
+use Rattle.driver_laws.specs.rules.LegalAnswers.{times_answered}
+use Rattle.driver_laws.specs.rules.Promises.{Promises}
 use Rattle.answer_lines.specs.AnswerText.{out_text, said_text}
 use Rattle.answer_lines.specs.Blocks as blocks
 use Rattle.answer_lines.specs.declared.tally.Tally.{Tally}
-use Rattle.event_lines.specs.Plays.{Plays}
+use Rattle.event_player.specs.Plays.{Plays}
 use Rattle.promise_rows.specs.Playing.{AlwaysAFault, AnswersKeptBack, BlockBeforeItsEvent, BlockBehindAStop, BlockOfNoUnit, NoiseLineUncounted, ShortLastBlockWhole}
 
 -- A COUNT that did not rise

@@ -7,10 +7,10 @@ use Rattle.trace_replay.specs.Replay.{Replay, after_moments}
 use Rattle.trace_replay.specs.Runs.{start_of}
 use Rattle.trace_replay.specs.Text.{trace_text, moment_text}
 use Rattle.answer_lines.specs.AnswerText.{out_text}
-use Rattle.driver_answers.specs.Outcome.{IsFront}
-use Rattle.driver_answers.proofs.Joined.{text_append}
-use Rattle.run_laws.specs.Ahead.{IsBetween, lines_told}
-use Rattle.run_laws.specs.Writing.{WriteNothing, was_written_at}
+use Rattle.driver_laws.specs.answers.Outcome.{IsFront}
+use Rattle.driver_laws.proofs.answers.Joined.{text_append}
+use Rattle.script_runs.specs.Ahead.{IsBetween, lines_told}
+use Rattle.script_runs.specs.Writing.{WriteNothing, was_written_at}
 use Rattle.promise_rows.specs.Stopping.{AnswerBeforeItsLine, TwoBlocksAhead, TextDropped, TextSentTwice}
 
 pub nothing_more : (said text : List ℕ) → said ≡ said ++ text → text ≡ []

@@ -4,8 +4,8 @@ use Rattle.command_parts.specs.Outside.{Outside}
 use Rattle.command_parts.specs.Statuses.{status_code}
 use Rattle.command_parts.specs.declared.status.Status.TheVariants.{FormatRefused, TransferRefused}
 use Rattle.hp_exercise.specs.Exercise.{script_text}
-use Rattle.event_lines.specs.Playing.{counted, one_request}
-use Rattle.exercise_run.specs.Exercises.{IsDone, exercise_script}
+use Rattle.event_player.specs.Playing.{counted, one_request}
+use Rattle.hpsim_run.specs.Passes.{IsDone, exercise_script}
 use Rattle.hpsim_run.specs.Passes.{WritesAll, Writing, command_named}
 
 -- A NUMBER BEFORE ITS COMMAND: the words `64 cached` name what `cached 64` does.

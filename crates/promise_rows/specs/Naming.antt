@@ -8,15 +8,15 @@ use Rattle.trace_replay.specs.Moments.{Moment, Played, Told, Deed, played}
 use Rattle.trace_replay.specs.Replay.{after_moments}
 use Rattle.trace_replay.specs.Runs.{IsLegalRun, start_of}
 use Rattle.trace_replay.specs.Script.{Script, Input, Numbered, Submit, Drain, drives_in, drives_of, inputs_of}
-use Rattle.trace_laws.specs.Drains.{event_by}
-use Rattle.trace_laws.specs.Promises.{Promises}
-use Rattle.driver_trace.specs.Lengths.{length_behind}
-use Rattle.play_faults.specs.declared.fault.PlayFault.TheVariants as faults
-use Rattle.event_lines.specs.Plays.{Plays}
-use Rattle.play_faults.specs.Lengths.{NamesTooLong}
-use Rattle.run_laws.specs.Stops.{IsEventOver, Took, StopsAtSink}
-use Rattle.event_lines.specs.Stops.{StopsPlaying}
-use Rattle.script_commands.specs.SoFar.{Keeps}
+use Rattle.driver_laws.specs.rules.Drains.{event_by}
+use Rattle.driver_laws.specs.rules.Promises.{Promises}
+use Rattle.driver_laws.specs.shown.Lengths.{length_behind}
+use Rattle.script_runs.specs.declared.fault.PlayFault.TheVariants as faults
+use Rattle.event_player.specs.Plays.{Plays}
+use Rattle.script_runs.specs.Lengths.{NamesTooLong}
+use Rattle.script_runs.specs.Stops.{IsEventOver, Took, StopsAtSink}
+use Rattle.event_player.specs.Stops.{StopsPlaying}
+use Rattle.hpsim_run.specs.SoFar.{Keeps}
 
 -- A LATER UNIT NAMED: the image of a unit that a line before declares is too long, and another unit is named.
 abbrev pub LaterUnitNamed : Type 0

@@ -13,9 +13,9 @@ use Rattle.trace_replay.specs.Moments.{Moment, Played}
 use Rattle.trace_replay.specs.Script.{Script, Noise, drives_of, ids_of}
 use Rattle.answer_lines.specs.AnswerText.{answer_text}
 use Rattle.answer_lines.specs.declared.tally.Tally.{Tally}
-use Rattle.event_lines.specs.Plays.{Tallied}
-use Rattle.run_laws.specs.Stops.{StopsAtSink}
-use Rattle.script_commands.specs.Headline.{Headline}
+use Rattle.event_player.specs.Plays.{Tallied}
+use Rattle.script_runs.specs.Stops.{StopsAtSink}
+use Rattle.hpsim_run.specs.Headline.{Headline}
 
 -- ALWAYS A FAULT: a fault is answered, and no count rose.
 abbrev pub AlwaysAFault : Type 0

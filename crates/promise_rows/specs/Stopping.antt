@@ -11,9 +11,9 @@ use Rattle.trace_replay.specs.Replay.{after_moments}
 use Rattle.trace_replay.specs.Runs.{start_of}
 use Rattle.trace_replay.specs.Text.{trace_text}
 use Rattle.answer_lines.specs.AnswerText.{out_text}
-use Rattle.run_laws.specs.Writing.{was_written_at}
-use Rattle.run_laws.specs.Ahead.{WritesAhead, TellsAhead}
-use Rattle.run_laws.specs.Stops.{StopsAtStore, Took}
+use Rattle.script_runs.specs.Writing.{was_written_at}
+use Rattle.script_runs.specs.Ahead.{WritesAhead, TellsAhead}
+use Rattle.script_runs.specs.Stops.{StopsAtStore, Took}
 
 -- AN ANSWER BEFORE ITS LINE: of what came late an answer is the first, the trace took nothing more, and `out` did.
 abbrev pub AnswerBeforeItsLine : Type 0

@@ -10,8 +10,8 @@ use Rattle.trace_replay.specs.Moments.{Moment, Played, Told, End}
 use Rattle.trace_replay.specs.Replay.{Joined, submission, after_moments}
 use Rattle.trace_replay.specs.Runs.{start_of}
 use Rattle.trace_replay.specs.Script.{Script, Submit, drives_of}
-use Rattle.trace_laws.specs.Strikes.{AreFewStrikes}
-use Rattle.trace_laws.specs.Promises.{Promises}
+use Rattle.driver_laws.specs.rules.Strikes.{AreFewStrikes}
+use Rattle.driver_laws.specs.rules.Promises.{Promises}
 
 -- FAILED BY FEW STRIKES: a request that joins, whose unit is online and not locked and whose blocks can be used, is answered `fault`, and the
 -- script's faults and noise that shows strike its unit fewer than 28 times.

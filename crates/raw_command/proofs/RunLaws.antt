@@ -8,8 +8,8 @@ use Rattle.partitions.specs.Partitions.{size_of}
 use Rattle.outside_traits.specs.Causes.{HasCause, Rose}
 use Rattle.outside_traits.specs.Puts.{TakesFront}
 use Rattle.pack_geometry.specs.declared.DriveKind.{DriveKind}
-use Rattle.trace_laws.specs.Bytes.{IsOutside}
-use Rattle.driver_answers.specs.declared.outcome.Stop.TheVariants as stopped
+use Rattle.driver_laws.specs.rules.Bytes.{IsOutside}
+use Rattle.driver_laws.specs.declared.answers.outcome.Stop.TheVariants as stopped
 use Rattle.command_parts.specs.Lines.{Told}
 use Rattle.command_parts.specs.Outside.{HasItsCause, Outside}
 use Rattle.raw_command.specs.Endings.{GivesAll, GivesCut, GivesFront, IsBeyond, IsRefused, IsTooLong, IsUntouched, Ends, ReadEnds, Stays, Took, WriteEnds, bytes_for, fault_text, kind_of, limit_of, target_for, unit_of}

@@ -10,17 +10,17 @@ use Rattle.pack_geometry.specs.PackTable.{IsTableOf, IsTableAt}
 use Rattle.pack_geometry.specs.TableSpelling.{Table}
 use Rattle.trace_replay.specs.Packs.{surface_of}
 use Rattle.trace_replay.specs.Replay.{new_replay}
-use Rattle.trace_laws.proofs.Consistency.{starts_consistent}
-use Rattle.trace_laws.specs.Stands.{Setup as Seen, start_over}
-use Rattle.trace_laws.specs.Rest.{HasTables, IsAtRest}
-use Rattle.trace_laws.proofs.Restful.{start_rests}
+use Rattle.driver_laws.proofs.rules.Consistency.{starts_consistent}
+use Rattle.driver_laws.specs.rules.Stands.{Setup as Seen, start_over}
+use Rattle.driver_laws.specs.rules.Rest.{HasTables, IsAtRest}
+use Rattle.driver_laws.proofs.rules.Restful.{start_rests}
 use Rattle.driver_machine.specs.World.{World, UnitView, Setup, no_unit, new_unit, new_world, unit_at}
 use Rattle.driver_machine.specs.Guards.{IsSetUp}
 use Rattle.driver_machine.specs.Sound.{IsTableFor}
-use Rattle.driver_invariant.specs.Parts.{AreSetups}
-use Rattle.driver_invariant.proofs.SlotsLists.{Contains-none, Contains-first, Contains-cases}
-use Rattle.driver_invariant.proofs.Starts.{stands_new, others_new}
-use Rattle.driver_trace.specs.Acts.{AreSetUp}
+use Rattle.driver_laws.specs.invariant.Parts.{AreSetups}
+use Rattle.driver_laws.proofs.invariant.SlotsLists.{Contains-none, Contains-first, Contains-cases}
+use Rattle.driver_laws.proofs.invariant.Starts.{stands_new, others_new}
+use Rattle.driver_laws.specs.shown.Acts.{AreSetUp}
 use Rattle.raw_io.specs.Passes.{IsSoFar, State, kind_if, table_if, setup_of, StandsQuiet, kind_at, MayTransfer}
 use Rattle.raw_io.proofs.Passes.{starts, new_is_quiet}
 use Rattle.raw_command.specs.Units.{at_unit, unit_setup}

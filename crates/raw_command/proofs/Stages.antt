@@ -7,18 +7,18 @@ use Rattle.pack_geometry.specs.Homes.{content_at, content_of, home_of}
 use Rattle.pack_geometry.specs.PackTable.{IsTableOf}
 use Rattle.pack_geometry.specs.TableSpelling.{Table}
 use Rattle.partitions.specs.Partitions.{first_of}
-use Rattle.trace_laws.specs.Machine.{Blocks}
-use Rattle.trace_laws.specs.Stands.{Setup as Seen, home_at, home_in}
-use Rattle.trace_laws.specs.Cleans.{MovedClean}
-use Rattle.trace_laws.specs.Rest.{HasTables}
-use Rattle.trace_laws.specs.Sessions.{told_in}
-use Rattle.trace_laws.specs.Waited.{map_of, with_packs}
+use Rattle.driver_laws.specs.rules.Machine.{Blocks}
+use Rattle.driver_laws.specs.rules.Stands.{Setup as Seen, home_at, home_in}
+use Rattle.driver_laws.specs.rules.Cleans.{MovedClean}
+use Rattle.driver_laws.specs.rules.Rest.{HasTables}
+use Rattle.driver_laws.specs.rules.Sessions.{told_in}
+use Rattle.driver_laws.specs.rules.Waited.{map_of, with_packs}
 use Rattle.driver_machine.specs.World.{World}
 use Rattle.driver_machine.specs.Sound.{IsTableFor}
 use Rattle.raw_io.specs.Passes.{setup_of, StandsQuiet, Stage, setup_at, Reaches, OthersStay, kind_at, map_at, left_map, IsUntouched}
-use Rattle.trace_laws.specs.Bytes.{range, ComesTo, with_range}
-use Rattle.trace_laws.specs.Laid.{laid}
-use Rattle.trace_laws.proofs.Ranges.{laid_short, length_range}
+use Rattle.driver_laws.specs.rules.Bytes.{range, ComesTo, with_range}
+use Rattle.driver_laws.specs.rules.Laid.{laid}
+use Rattle.driver_laws.proofs.rules.Ranges.{laid_short, length_range}
 use Rattle.raw_io.specs.Calls.{ReadsRange, StopsAt, WritesRange}
 use Rattle.raw_io.specs.Pieces.{GivesRange, PutsRange, start_of}
 use Rattle.raw_io.specs.Transfers.{Transfers}

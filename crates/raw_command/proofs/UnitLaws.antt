@@ -7,13 +7,13 @@ use Rattle.outside_traits.specs.Causes.{Rose}
 use Rattle.pack_geometry.specs.declared.DriveKind.{DriveKind}
 use Rattle.pack_geometry.specs.Pack.{Pack}
 use Rattle.pack_geometry.specs.PackTable.{IsTableOf}
-use Rattle.driver_answers.specs.declared.outcome.Stop.{Stop}
-use Rattle.driver_answers.specs.declared.outcome.Stop.TheVariants.{Store, Sink}
+use Rattle.driver_laws.specs.declared.answers.outcome.Stop.{Stop}
+use Rattle.driver_laws.specs.declared.answers.outcome.Stop.TheVariants.{Store, Sink}
 use Rattle.raw_io.specs.Passes.{State, Stage, setup_at, kind_at, IsUntouched, Keeps, MayTransfer, site}
-use Rattle.trace_laws.specs.Rest.{HasTables}
+use Rattle.driver_laws.specs.rules.Rest.{HasTables}
 use Rattle.partitions.specs.declared.Part.{Part}
 use Rattle.partitions.specs.Partitions.{size_of}
-use Rattle.trace_laws.specs.Bytes.{IsOutside}
+use Rattle.driver_laws.specs.rules.Bytes.{IsOutside}
 use Rattle.raw_io.specs.Calls.{StopsAt, done_by as raw_done, stop_of as raw_stop}
 use Rattle.raw_io.specs.Pieces.{GivesRange, PutsRange, start_of}
 use Rattle.raw_io.specs.declared.fault.RawFault.{RawFault}

@@ -5,7 +5,7 @@ use Rattle.pack_geometry.specs.declared.DriveKind.{DriveKind}
 use Rattle.pack_geometry.specs.Pack.{Pack}
 use Rattle.partitions.specs.declared.Part.TheVariants.{B}
 use Rattle.partitions.specs.Partitions.{size_of}
-use Rattle.trace_laws.specs.Bytes.{blocks_for, dumped, dump_place}
+use Rattle.driver_laws.specs.rules.Bytes.{blocks_for, dumped, dump_place}
 use Rattle.raw_command.specs.Endings.{IsBeyond, bytes_for, target_for}
 use Rattle.raw_command.specs.Transfers.{WritesUnit}
 use Rattle.command_parts.specs.Words.{IsPlaced, IsTarget}

@@ -5,7 +5,7 @@ use Rattle.outside_traits.specs.Puts.{TakesFront}
 use Rattle.pack_geometry.specs.declared.DriveKind.{DriveKind}
 use Rattle.pack_geometry.specs.Geometry.{block_count}
 use Rattle.partitions.specs.declared.Part.TheVariants.{B}
-use Rattle.trace_laws.specs.Bytes.{IsOutside, blocks_for, dumped, dump_place}
+use Rattle.driver_laws.specs.rules.Bytes.{IsOutside, blocks_for, dumped, dump_place}
 use Rattle.command_parts.specs.Lines.{Told, too_long_text}
 use Rattle.command_parts.specs.Outside.{Outside}
 use Rattle.raw_command.specs.Faults.{Answer, code_of}

@@ -6,8 +6,8 @@ use Rattle.mba_autoconf.specs.declared.attaching.AttachFault.{AttachFault}
 use Rattle.mba_autoconf.specs.declared.attaching.AttachFault.TheVariants as attach
 use Rattle.raw_io.specs.declared.fault.RawFault.{RawFault}
 use Rattle.raw_io.specs.declared.fault.RawFault.TheVariants as raw
-use Rattle.driver_answers.specs.declared.outcome.Stop.{Stop}
-use Rattle.driver_answers.specs.declared.outcome.Stop.TheVariants as stopped
+use Rattle.driver_laws.specs.declared.answers.outcome.Stop.{Stop}
+use Rattle.driver_laws.specs.declared.answers.outcome.Stop.TheVariants as stopped
 use Rattle.raw_command.specs.declared.fault.TransferFault.{TransferFault}
 use Rattle.raw_command.specs.declared.fault.TransferFault.TheVariants as fault
 use Rattle.command_parts.specs.declared.words.Transfer.{Transfer}

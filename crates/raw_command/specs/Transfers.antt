@@ -8,13 +8,13 @@ use Rattle.pack_geometry.specs.TableSpelling.{Table}
 use Rattle.partitions.specs.Partitions.{first_of}
 use Rattle.trace_replay.specs.Replay.{Replay, IsOver}
 use Rattle.trace_replay.specs.Text.{trace_text}
-use Rattle.trace_laws.specs.Machine.{Blocks}
-use Rattle.trace_laws.specs.Stands.{start_over}
+use Rattle.driver_laws.specs.rules.Machine.{Blocks}
+use Rattle.driver_laws.specs.rules.Stands.{start_over}
 use Rattle.raw_io.specs.Passes.{Stay}
-use Rattle.trace_laws.specs.Sessions.{Part, IsSession, behind_all, told_in}
-use Rattle.trace_laws.specs.Cleans.{MovedClean}
-use Rattle.trace_laws.specs.Bytes.{range, Touches, ComesTo, with_range}
-use Rattle.trace_laws.specs.Pieces.{EndsBlock}
+use Rattle.driver_laws.specs.rules.Sessions.{Part, IsSession, behind_all, told_in}
+use Rattle.driver_laws.specs.rules.Cleans.{MovedClean}
+use Rattle.driver_laws.specs.rules.Bytes.{range, Touches, ComesTo, with_range}
+use Rattle.driver_laws.specs.rules.Pieces.{EndsBlock}
 use Rattle.raw_io.specs.Transfers.{AreWaited}
 use Rattle.mba_autoconf.specs.Attach.{Fits}
 use Rattle.raw_command.specs.Faults.{done_by}

@@ -5,7 +5,7 @@ use Rattle.pack_geometry.specs.Geometry.{block_count}
 use Rattle.pack_geometry.specs.Pack.{Pack}
 use Rattle.pack_geometry.specs.PackTable.{IsTableOf}
 use Rattle.pack_geometry.specs.TableSpelling.{Table}
-use Rattle.trace_laws.specs.Stands.{Setup}
+use Rattle.driver_laws.specs.rules.Stands.{Setup}
 use Rattle.driver_machine.specs.World.{new_world}
 use Rattle.driver_machine.specs.Sound.{IsTableFor}
 use Rattle.raw_io.specs.Passes.{HasCauses, State}

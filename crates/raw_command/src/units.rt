@@ -2,7 +2,7 @@
 ghost use Rattle.std.specs.Prelude.{◌≡◌, ◌+◌, ◌*◌, ◌≤◌, ◌<◌, length};
 ghost use Rattle.partitions.specs.declared.Part.TheVariants.{B};
 ghost use Rattle.partitions.specs.Partitions.{size_of};
-ghost use Rattle.trace_laws.specs.Bytes.{dumped, dump_place};
+ghost use Rattle.driver_laws.specs.rules.Bytes.{dumped, dump_place};
 ghost use Rattle.raw_command.specs.Endings.{IsBeyond, bytes_for, target_for};
 ghost use Rattle.raw_command.specs.Faults.{fault_in, raw_fault};
 ghost use Rattle.raw_command.specs.Transfers.{ReadsUnit, WritesUnit};

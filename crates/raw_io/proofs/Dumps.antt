@@ -1,8 +1,8 @@
 -- Memory that is dumped, piece by piece.
 use Rattle.std.proofs.Common.{◌≡◌, ℕ, ◌+◌, ◌-◌, ◌*◌, ◌≤◌, List, ◌++◌, length, length-append, length-take-le, take, drop, replicate, sym, ap, ◌∙◌, subst, arith}
 use Rattle.std.proofs.lemmas.List.{length-replicate}
-use Rattle.trace_laws.specs.Bytes.{blocks_for, dumped}
-use Rattle.trace_laws.proofs.Dumped.{nulls, padded}
+use Rattle.driver_laws.specs.rules.Bytes.{blocks_for, dumped}
+use Rattle.driver_laws.proofs.rules.Dumped.{nulls, padded}
 
 -- a piece is what is left of the memory there, and zeros
 pub laid_piece : (start size : ℕ) (memory : List ℕ) → start + size ≤ 512 * blocks_for (length memory)

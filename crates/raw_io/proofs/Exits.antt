@@ -5,10 +5,10 @@ use Rattle.pack_geometry.specs.declared.DriveKind.{DriveKind}
 use Rattle.subsystem_spec.specs.Requests.{Answer, EndOfPartition, Failed, IsRequest, NoFrames, OutsidePartition, ReadOk, Request, WriteOk}
 use Rattle.driver_machine.specs.Guards.{IsSetUp}
 use Rattle.driver_machine.specs.Sound.{Sound, AtWork}
-use Rattle.trace_laws.specs.Sessions.{told_in, waited}
-use Rattle.trace_laws.specs.Rest.{HasTables}
-use Rattle.trace_laws.specs.Waited.{answer_in}
-use Rattle.trace_laws.specs.Cleans.{MovedClean, done_by}
+use Rattle.driver_laws.specs.rules.Sessions.{told_in, waited}
+use Rattle.driver_laws.specs.rules.Rest.{HasTables}
+use Rattle.driver_laws.specs.rules.Waited.{answer_in}
+use Rattle.driver_laws.specs.rules.Cleans.{MovedClean, done_by}
 use Rattle.blocking_io.specs.FrontsPasses.{Answers, AnswersReach, GoesOn, IsQuiet, Stage, reached_by, setup_at}
 use Rattle.blocking_io.specs.Fronts.{AnsweredMovesClean}
 use Rattle.blocking_io.specs.Sites.{kind_at}

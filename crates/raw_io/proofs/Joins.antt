@@ -5,10 +5,10 @@ use Rattle.std.proofs.lemmas.List.Elements.{Contains-append_left, Contains-appen
 use Rattle.hardware_table.specs.declared.Moved.TheVariants.{Clean}
 use Rattle.trace_replay.specs.Moments.{Told, Sector}
 use Rattle.partitions.specs.declared.Part.{Part}
-use Rattle.trace_laws.specs.Stands.{Setup, home_in}
-use Rattle.trace_laws.specs.Sessions.{Part as SessionPart, told_in}
-use Rattle.trace_laws.specs.Cleans.{MovedClean}
-use Rattle.trace_laws.specs.Waited.{with_packs}
+use Rattle.driver_laws.specs.rules.Stands.{Setup, home_in}
+use Rattle.driver_laws.specs.rules.Sessions.{Part as SessionPart, told_in}
+use Rattle.driver_laws.specs.rules.Cleans.{MovedClean}
+use Rattle.driver_laws.specs.rules.Waited.{with_packs}
 use Rattle.blocking_io.specs.FrontsPasses.{Stage, setup_at, StillTell, SessionsJoin}
 use Rattle.blocking_io.specs.Fronts.{OthersStay}
 use Rattle.blocking_io.proofs.Sites.{homes_same, others_none, others_over}

@@ -5,7 +5,7 @@ use Rattle.partitions.specs.declared.Part.{Part}
 use Rattle.partitions.specs.Partitions.{size_of}
 use Rattle.blocking_io.specs.FrontsPasses.{asked, Stage, setup_at}
 use Rattle.driver_machine.specs.Guards.{IsSetUp}
-use Rattle.trace_laws.specs.Waited.{with_packs}
+use Rattle.driver_laws.specs.rules.Waited.{with_packs}
 use Rattle.raw_io.specs.declared.pieces.Piece.{Piece}
 use Rattle.blocking_io.specs.Blocks.{AreBlocks}
 use Rattle.blocking_io.specs.Sites.{kind_at}

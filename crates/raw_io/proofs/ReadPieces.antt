@@ -6,23 +6,23 @@ use Rattle.std.proofs.lemmas.Option.{none-some}
 use Rattle.partitions.specs.Partitions.{first_of}
 use Rattle.subsystem_spec.specs.Requests.{Request}
 use Rattle.trace_replay.specs.Packs.{size_of_block}
-use Rattle.trace_laws.specs.Machine.{Blocks, bytes_of_first}
+use Rattle.driver_laws.specs.rules.Machine.{Blocks, bytes_of_first}
 use Rattle.driver_machine.specs.Guards.{IsSetUp}
 use Rattle.blocking_io.specs.FrontsPasses.{asked, Stage, setup_at, StillTell, SessionsJoin}
-use Rattle.trace_laws.specs.Rest.{HasTables}
-use Rattle.trace_laws.specs.Laid.{laid}
+use Rattle.driver_laws.specs.rules.Rest.{HasTables}
+use Rattle.driver_laws.specs.rules.Laid.{laid}
 use Rattle.raw_io.specs.declared.pieces.Piece.{Piece}
-use Rattle.trace_laws.specs.Bytes.{range}
+use Rattle.driver_laws.specs.rules.Bytes.{range}
 use Rattle.blocking_io.specs.Sites.{map_at, IsUntouched}
-use Rattle.trace_laws.specs.Pieces.{Reaches, bytes_among}
+use Rattle.driver_laws.specs.rules.Pieces.{Reaches, bytes_among}
 use Rattle.blocking_io.specs.Blocks.{origin, ReadsOnce}
 use Rattle.raw_io.specs.Blocks.{Reads, GivesBlocks, Gives}
 use Rattle.raw_io.specs.Pieces.{start_at, ReadsPiece, GivesPiece}
-use Rattle.trace_laws.specs.BytesLaws.{IsBlock}
-use Rattle.trace_laws.proofs.Ranges.{laid_short, length_range, range_laid, blocks_range}
+use Rattle.driver_laws.specs.rules.BytesLaws.{IsBlock}
+use Rattle.driver_laws.proofs.rules.Ranges.{laid_short, length_range, range_laid, blocks_range}
 use Rattle.blocking_io.proofs.Sites.{kind_stays, map_long, untouched_behind}
 use Rattle.raw_io.proofs.Joins.{transfers_join, clean_before}
-use Rattle.trace_laws.proofs.WaitedSteps.{among_few, among_fits}
+use Rattle.driver_laws.proofs.rules.WaitedSteps.{among_few, among_fits}
 
 -- ---- a block that can be used has 512 bytes
 pub some_block : (block : Option (List ℕ)) → IsSome block → ((bytes : List ℕ) → block ≡ Some bytes → length bytes ≡ 512) → IsBlock block

@@ -4,22 +4,22 @@ use Rattle.std.proofs.lemmas.Bool.Decides.{eqb_tells}
 use Rattle.partitions.specs.declared.Part.{Part}
 use Rattle.partitions.specs.Partitions.{first_of}
 use Rattle.driver_machine.specs.Guards.{IsSetUp}
-use Rattle.trace_laws.specs.Sessions.{told_in}
-use Rattle.trace_laws.specs.Rest.{HasTables}
-use Rattle.trace_laws.specs.Cleans.{MovedClean}
-use Rattle.trace_laws.specs.Laid.{laid, laid_at}
+use Rattle.driver_laws.specs.rules.Sessions.{told_in}
+use Rattle.driver_laws.specs.rules.Rest.{HasTables}
+use Rattle.driver_laws.specs.rules.Cleans.{MovedClean}
+use Rattle.driver_laws.specs.rules.Laid.{laid, laid_at}
 use Rattle.blocking_io.specs.FrontsPasses.{Stage, setup_at, StillTell, SessionsJoin}
 use Rattle.raw_io.specs.declared.pieces.Piece.{Piece}
-use Rattle.trace_laws.specs.Bytes.{range, Touches, ComesTo}
+use Rattle.driver_laws.specs.rules.Bytes.{range, Touches, ComesTo}
 use Rattle.raw_io.specs.Transfers.{Transfers, AreClean}
 use Rattle.blocking_io.specs.Sites.{kind_at, map_at, IsUntouched, IsUnchanged}
 use Rattle.raw_io.specs.Calls.{ReadsRange}
-use Rattle.trace_laws.specs.Pieces.{Reaches, bytes_among}
+use Rattle.driver_laws.specs.rules.Pieces.{Reaches, bytes_among}
 use Rattle.raw_io.specs.Pieces.{IsCut, IsPiece, start_at, start_of, ReadsPiece, GivesPiece, GivesRange}
-use Rattle.trace_laws.proofs.Ranges.{laid_more, length_range, range_more}
+use Rattle.driver_laws.proofs.rules.Ranges.{laid_more, length_range, range_more}
 use Rattle.raw_io.proofs.Joins.{transfers_none, transfers_for, transfers_join, clean_before, clean_behind}
 use Rattle.blocking_io.proofs.Sites.{untouched_behind, kind_stays}
-use Rattle.trace_laws.proofs.WaitedSteps.{all_among, among_less, among_few, SoFar, starts_so, comes_whole, IsNext, touched_among, so_more, comes_to}
+use Rattle.driver_laws.proofs.rules.WaitedSteps.{all_among, among_less, among_few, SoFar, starts_so, comes_whole, IsNext, touched_among, so_more, comes_to}
 
 -- ---- the next piece of a range
 pub next_of : (unit : ℕ) (part : Part) (write : _) (at size done : ℕ) (p : Piece) → IsPiece unit part write (at + done) (size - done) p → done ≤ size

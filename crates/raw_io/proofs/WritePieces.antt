@@ -5,27 +5,27 @@ use Rattle.std.proofs.lemmas.Bool.Decides.{eqb_tells}
 use Rattle.std.proofs.lemmas.List.{take_all}
 use Rattle.pack_geometry.specs.declared.DriveKind.{DriveKind}
 use Rattle.partitions.specs.Partitions.{first_of}
-use Rattle.trace_laws.specs.Machine.{Blocks, blocks_done}
-use Rattle.trace_laws.proofs.Blocks.{begun_blocks}
+use Rattle.driver_laws.specs.rules.Machine.{Blocks, blocks_done}
+use Rattle.driver_laws.proofs.rules.Blocks.{begun_blocks}
 use Rattle.driver_machine.specs.Guards.{IsSetUp}
 use Rattle.blocking_io.specs.FrontsPasses.{asked, Stage, setup_at, StillTell, SessionsJoin}
 use Rattle.subsystem_spec.specs.declared.request.Request.{Request}
-use Rattle.trace_laws.specs.Rest.{HasTables}
-use Rattle.trace_laws.specs.Laid.{laid_at}
+use Rattle.driver_laws.specs.rules.Rest.{HasTables}
+use Rattle.driver_laws.specs.rules.Laid.{laid_at}
 use Rattle.raw_io.specs.declared.pieces.Piece.{Piece}
-use Rattle.trace_laws.specs.Bytes.{range, with_range}
+use Rattle.driver_laws.specs.rules.Bytes.{range, with_range}
 use Rattle.raw_io.specs.Transfers.{Transfers}
 use Rattle.blocking_io.specs.Blocks.{AreBlocks, PutsBlocks, PutsFront}
 use Rattle.blocking_io.specs.Sites.{map_at, left_map, IsUntouched}
-use Rattle.trace_laws.specs.Pieces.{Reaches, bytes_among}
+use Rattle.driver_laws.specs.rules.Pieces.{Reaches, bytes_among}
 use Rattle.raw_io.specs.Blocks.{GivesBlocks, Gives, Puts}
 use Rattle.raw_io.specs.Pieces.{IsCut, IsWhole, IsWholeOrOne, start_at, Continues, WritesPiece, PutsPiece, StopsPiece}
-use Rattle.trace_laws.specs.BytesLaws.{IsBlock}
-use Rattle.trace_laws.proofs.Ranges.{laid_long, length_range, block_range}
-use Rattle.trace_laws.proofs.Replaced.{whole_written, edge_written}
+use Rattle.driver_laws.specs.rules.BytesLaws.{IsBlock}
+use Rattle.driver_laws.proofs.rules.Ranges.{laid_long, length_range, block_range}
+use Rattle.driver_laws.proofs.rules.Replaced.{whole_written, edge_written}
 use Rattle.raw_io.proofs.Joins.{transfers_join, transfers_wider}
 use Rattle.blocking_io.proofs.Sites.{map_long, left_over, others_over, kind_stays}
-use Rattle.trace_laws.proofs.WaitedSteps.{some_among}
+use Rattle.driver_laws.proofs.rules.WaitedSteps.{some_among}
 use Rattle.raw_io.proofs.ReadPieces.{some_block, whole_size}
 
 written_is : (r : Request) (bytes : List ℕ) → r.write ≡ true → (asked r bytes).written ≡ Some bytes

@@ -4,22 +4,22 @@ use Rattle.std.specs.Prelude.{IsSome}
 use Rattle.std.proofs.lemmas.Bool.Decides.{eqb_tells}
 use Rattle.partitions.specs.declared.Part.{Part}
 use Rattle.partitions.specs.Partitions.{first_of, size_of}
-use Rattle.trace_laws.specs.Machine.{Blocks}
+use Rattle.driver_laws.specs.rules.Machine.{Blocks}
 use Rattle.driver_machine.specs.Guards.{IsSetUp}
-use Rattle.trace_laws.specs.Rest.{HasTables}
-use Rattle.trace_laws.specs.Waited.{with_packs}
+use Rattle.driver_laws.specs.rules.Rest.{HasTables}
+use Rattle.driver_laws.specs.rules.Waited.{with_packs}
 use Rattle.blocking_io.specs.FrontsPasses.{Stage, setup_at, StillTell, SessionsJoin}
 use Rattle.raw_io.specs.declared.pieces.Piece.{Piece}
-use Rattle.trace_laws.specs.Bytes.{ComesTo, with_range}
+use Rattle.driver_laws.specs.rules.Bytes.{ComesTo, with_range}
 use Rattle.raw_io.specs.Transfers.{Transfers}
 use Rattle.blocking_io.specs.Sites.{kind_at, map_at, left_map}
 use Rattle.raw_io.specs.Calls.{WritesRange, StopsAt}
-use Rattle.trace_laws.specs.Pieces.{Reaches, bytes_among, EndsBlock}
+use Rattle.driver_laws.specs.rules.Pieces.{Reaches, bytes_among, EndsBlock}
 use Rattle.raw_io.specs.Pieces.{IsPiece, IsWritten, start_at, start_of, WritesPiece, PutsPiece, StopsPiece, PutsRange}
-use Rattle.trace_laws.proofs.Replaced.{none_replaced, had_some, had_none}
+use Rattle.driver_laws.proofs.rules.Replaced.{none_replaced, had_some, had_none}
 use Rattle.raw_io.proofs.Joins.{transfers_none, transfers_for, transfers_join}
 use Rattle.blocking_io.proofs.Sites.{map_long, left_over, others_over, kind_stays}
-use Rattle.trace_laws.proofs.WaitedSteps.{all_among, fewer_among, among_few, SoFar, starts_so, comes_whole, IsNext, front_or_aligned, so_more, comes_to}
+use Rattle.driver_laws.proofs.rules.WaitedSteps.{all_among, fewer_among, among_few, SoFar, starts_so, comes_whole, IsNext, front_or_aligned, so_more, comes_to}
 use Rattle.raw_io.proofs.Loops.{turn_blocks}
 use Rattle.raw_io.proofs.ReadRanges.{next_of, all_blocks, fewer_blocks}
 

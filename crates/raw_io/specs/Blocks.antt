@@ -1,12 +1,12 @@
 -- WHOLE BLOCKS of a partition, read or written by requests that are waited for.
 use Rattle.std.specs.Prelude.{◌≡◌, ℕ, ◌+◌, ◌*◌, ◌<◌, ◌≤◌, IsTrue, true, false, List}
 use Rattle.subsystem_spec.specs.Requests.{Request}
-use Rattle.trace_laws.specs.Sessions.{told_in}
-use Rattle.trace_laws.specs.Rest.{HasTables}
+use Rattle.driver_laws.specs.rules.Sessions.{told_in}
+use Rattle.driver_laws.specs.rules.Rest.{HasTables}
 use Rattle.blocking_io.specs.FrontsPasses.{Stage, setup_at}
-use Rattle.trace_laws.specs.Laid.{laid}
-use Rattle.trace_laws.specs.Pieces.{Reaches}
-use Rattle.trace_laws.specs.Bytes.{range}
+use Rattle.driver_laws.specs.rules.Laid.{laid}
+use Rattle.driver_laws.specs.rules.Pieces.{Reaches}
+use Rattle.driver_laws.specs.rules.Bytes.{range}
 use Rattle.raw_io.specs.Transfers.{Transfers, AreClean}
 use Rattle.blocking_io.specs.Sites.{IsUnchanged, map_at}
 use Rattle.blocking_io.specs.Blocks.{PutsBlocks, ReadsOnce, origin}

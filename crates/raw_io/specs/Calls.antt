@@ -1,15 +1,15 @@
 -- WHAT A RAW TRANSFER COMES TO, over what the packs hold before.
 use Rattle.std.specs.Prelude.{◌≡◌, ◌≢◌, ℕ, ◌≤◌, List, take, length, Option, None, Some, Result, Ok, Err}
-use Rattle.driver_answers.specs.declared.outcome.Stop.{Stop}
-use Rattle.driver_answers.specs.declared.outcome.Stop.TheVariants as stopped
-use Rattle.trace_laws.specs.Laid.{laid}
+use Rattle.driver_laws.specs.declared.answers.outcome.Stop.{Stop}
+use Rattle.driver_laws.specs.declared.answers.outcome.Stop.TheVariants as stopped
+use Rattle.driver_laws.specs.rules.Laid.{laid}
 use Rattle.blocking_io.specs.FrontsPasses.{Stage, setup_at}
 use Rattle.blocking_io.specs.Fronts.{OthersStay}
 use Rattle.blocking_io.specs.Sites.{left_map, map_at}
 use Rattle.raw_io.specs.declared.fault.RawFault.{RawFault}
 use Rattle.raw_io.specs.declared.fault.RawFault.TheVariants.{Unusable, Store, Sink}
-use Rattle.trace_laws.specs.Pieces.{EndsBlock}
-use Rattle.trace_laws.specs.Bytes.{range, ComesTo, with_range}
+use Rattle.driver_laws.specs.rules.Pieces.{EndsBlock}
+use Rattle.driver_laws.specs.rules.Bytes.{range, ComesTo, with_range}
 
 -- A READ OF A RANGE gives its bytes, so many, over those of a buffer, and changes nothing.
 pub record ReadsRange (unit first at done : ℕ) (into into' : List ℕ) (old new : Stage) : Type 0 where

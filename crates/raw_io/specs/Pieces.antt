@@ -4,18 +4,18 @@ use Rattle.pack_geometry.specs.declared.DriveKind.{DriveKind}
 use Rattle.partitions.specs.declared.Part.{Part}
 use Rattle.blocking_io.specs.FrontsPasses.{asked, Stage, setup_at}
 use Rattle.partitions.specs.Partitions.{first_of}
-use Rattle.trace_laws.specs.Machine.{Blocks}
-use Rattle.trace_laws.specs.Sessions.{told_in}
-use Rattle.trace_laws.specs.Rest.{HasTables}
+use Rattle.driver_laws.specs.rules.Machine.{Blocks}
+use Rattle.driver_laws.specs.rules.Sessions.{told_in}
+use Rattle.driver_laws.specs.rules.Rest.{HasTables}
 use Rattle.blocking_io.specs.Fronts.{OthersStay}
-use Rattle.trace_laws.specs.Laid.{laid}
+use Rattle.driver_laws.specs.rules.Laid.{laid}
 use Rattle.raw_io.specs.declared.pieces.Piece.{Piece}
-use Rattle.trace_laws.specs.Bytes.{range, Touches, with_range}
+use Rattle.driver_laws.specs.rules.Bytes.{range, Touches, with_range}
 use Rattle.raw_io.specs.Transfers.{Transfers, AreClean}
 use Rattle.blocking_io.specs.Blocks.{AreBlocks}
 use Rattle.blocking_io.specs.Sites.{kind_at, map_at, left_map, IsUnchanged}
 use Rattle.raw_io.specs.Calls.{ReadsRange, WritesRange}
-use Rattle.trace_laws.specs.Pieces.{Reaches, bytes_among}
+use Rattle.driver_laws.specs.rules.Pieces.{Reaches, bytes_among}
 
 -- a piece begins in the first of its blocks, and ends in the last one
 pub record IsCut (p : Piece) : Type 0 where

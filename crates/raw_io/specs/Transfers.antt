@@ -5,9 +5,9 @@ use Rattle.subsystem_spec.specs.Requests.{Request}
 use Rattle.trace_replay.specs.Script.{Submit, Drain}
 use Rattle.trace_replay.specs.Moments.{Moment}
 use Rattle.blocking_io.specs.FrontsPasses.{Stage, setup_at, GoesOn}
-use Rattle.trace_laws.specs.Sessions.{Part as SessionPart}
-use Rattle.trace_laws.specs.Rest.{HasTables}
-use Rattle.trace_laws.specs.Cleans.{MovedClean}
+use Rattle.driver_laws.specs.rules.Sessions.{Part as SessionPart}
+use Rattle.driver_laws.specs.rules.Rest.{HasTables}
+use Rattle.driver_laws.specs.rules.Cleans.{MovedClean}
 use Rattle.blocking_io.specs.Fronts.{OthersStay}
 
 -- a request of one, which only reads where the transfer does

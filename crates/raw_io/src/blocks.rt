@@ -1,8 +1,8 @@
 // Whole blocks of a partition, by requests that are waited for.
 ghost use Rattle.std.specs.Prelude.{◌≡◌, ◌*◌, [], true, false, IsTrue, IfOk, OnErr, length};
-ghost use Rattle.driver_answers.specs.Outcome.{stop_in};
+ghost use Rattle.driver_laws.specs.answers.Outcome.{stop_in};
 ghost use Rattle.blocking_io.specs.FrontsPasses.{asked, setup_at};
-ghost use Rattle.trace_laws.specs.Rest.{HasTables};
+ghost use Rattle.driver_laws.specs.rules.Rest.{HasTables};
 ghost use Rattle.blocking_io.specs.Sites.{site, Keeps, MayTransfer, kind_at, IsUntouched};
 ghost use Rattle.blocking_io.specs.Blocks.{AreBlocks, blocks_reached, PutsFront};
 ghost use Rattle.raw_io.specs.Blocks.{Reads, Gives, Puts};

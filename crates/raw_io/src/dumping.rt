@@ -2,12 +2,12 @@
 ghost use Rattle.std.specs.Prelude.{◌≡◌, ◌+◌, ◌-◌, ◌*◌, ◌<◌, ◌≤◌, ◌++◌, ◌↔◌, ℕ, IsTrue, IfOk, OnErr, length, take, drop, replicate, Some, Err};
 ghost use Rattle.partitions.specs.declared.Part.TheVariants.{B};
 ghost use Rattle.partitions.specs.Partitions.{size_of};
-ghost use Rattle.driver_answers.specs.declared.outcome.Stop.{Stop};
-ghost use Rattle.driver_answers.specs.Outcome.{stop_in};
-ghost use Rattle.trace_laws.specs.Rest.{HasTables};
+ghost use Rattle.driver_laws.specs.declared.answers.outcome.Stop.{Stop};
+ghost use Rattle.driver_laws.specs.answers.Outcome.{stop_in};
+ghost use Rattle.driver_laws.specs.rules.Rest.{HasTables};
 ghost use Rattle.blocking_io.specs.FrontsPasses.{setup_at};
 ghost use Rattle.raw_io.specs.declared.fault.RawFault.TheVariants.{Outside, Unusable};
-ghost use Rattle.trace_laws.specs.Bytes.{blocks_for, dumped, dump_place};
+ghost use Rattle.driver_laws.specs.rules.Bytes.{blocks_for, dumped, dump_place};
 ghost use Rattle.blocking_io.specs.Sites.{site, Keeps, MayTransfer, kind_at};
 ghost use Rattle.raw_io.specs.Calls.{StopsAt, stop_of, done_by};
 ghost use Rattle.raw_io.specs.Pieces.{IsWritten, IsWholeOrOne, start_of, PutsPiece, StopsPiece, PutsRange};

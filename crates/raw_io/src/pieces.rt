@@ -1,7 +1,7 @@
 // Pieces of a range, each of as many blocks as one request has.
 ghost use Rattle.std.specs.Prelude.{◌≡◌, ◌≤◌, ◌<◌, ◌+◌, ◌^◌, ◌↔◌, true, false, IsTrue};
-ghost use Rattle.trace_laws.specs.Bytes.{IsOutside};
-ghost use Rattle.trace_laws.specs.Pieces.{bytes_among};
+ghost use Rattle.driver_laws.specs.rules.Bytes.{IsOutside};
+ghost use Rattle.driver_laws.specs.rules.Pieces.{bytes_among};
 ghost use Rattle.raw_io.specs.Pieces.{IsPiece, IsWholeOrOne};
 
 use blocking_io::Request;

@@ -1,12 +1,12 @@
 // A range of a partition is read.
 ghost use Rattle.std.specs.Prelude.{◌≡◌, ◌+◌, ◌*◌, ◌^◌, ◌<◌, ◌≤◌, ◌↔◌, ℕ, [], false, IsTrue, IfOk, OnErr, length, Some, Err};
 ghost use Rattle.partitions.specs.Partitions.{size_of};
-ghost use Rattle.driver_answers.specs.declared.outcome.Stop.{Stop};
-ghost use Rattle.driver_answers.specs.Outcome.{stop_in};
+ghost use Rattle.driver_laws.specs.declared.answers.outcome.Stop.{Stop};
+ghost use Rattle.driver_laws.specs.answers.Outcome.{stop_in};
 ghost use Rattle.blocking_io.specs.FrontsPasses.{asked, setup_at};
-ghost use Rattle.trace_laws.specs.Rest.{HasTables};
+ghost use Rattle.driver_laws.specs.rules.Rest.{HasTables};
 ghost use Rattle.raw_io.specs.declared.fault.RawFault.TheVariants.{Outside, Unusable};
-ghost use Rattle.trace_laws.specs.Bytes.{IsOutside};
+ghost use Rattle.driver_laws.specs.rules.Bytes.{IsOutside};
 ghost use Rattle.blocking_io.specs.Sites.{site, Keeps, MayTransfer, kind_at, IsUntouched};
 ghost use Rattle.blocking_io.specs.Blocks.{AreBlocks};
 ghost use Rattle.raw_io.specs.Calls.{stop_of, done_by};

@@ -4,3 +4,5 @@ pub mod RoomLaws
 pub mod SlotLaws
 pub mod StepLaws
 pub mod StoreLaws
+pub mod Leaves
+pub use Rattle.mba_adapter.proofs.WorkLaws

@@ -12,7 +12,7 @@ use Rattle.pack_geometry.specs.Pack.{Pack}
 use Rattle.hardware_table.specs.declared.Moved.{Moved}
 use Rattle.hardware_table.specs.Drive.{DriveState}
 use Rattle.hardware_table.specs.Noise.{Book}
-use Rattle.drive_model.specs.Move.{MovesSector}
+use Rattle.mba_adapter.specs.Move.{MovesSector}
 use Rattle.driver_machine.specs.World.{Held, block_in, with_block_in}
 use Rattle.request_slots.specs.Requests.{held_at}
 use Rattle.request_slots.specs.declared.slot.Slot.{Slot}

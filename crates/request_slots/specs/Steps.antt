@@ -4,7 +4,7 @@ use Rattle.pack_geometry.specs.Pack.{Pack}
 use Rattle.hardware_table.specs.Drive.{DriveState}
 use Rattle.hardware_table.specs.Noise.{Book}
 use Rattle.hardware_table.specs.Adapter.{AdapterState, next_window}
-use Rattle.drive_model.specs.Move.{Site}
+use Rattle.mba_adapter.specs.Move.{Site}
 use Rattle.mba_adapter.specs.Loaded.{loaded_buffer}
 use Rattle.mba_adapter.specs.Steps.{IsUnderWay}
 use Rattle.driver_machine.specs.World.{Held, block_in}

@@ -4,9 +4,9 @@ use Rattle.pack_geometry.specs.declared.DriveKind.{DriveKind}
 use Rattle.partitions.specs.declared.Admission.{Admission}
 use Rattle.partitions.specs.declared.Admission.TheVariants as meets
 use Rattle.partitions.specs.Partitions.{admission}
-use Rattle.script_lines.specs.declared.statement.Request.{Request as Asked}
-use Rattle.trace_lines.specs.declared.telling.Told.{Told as Deed}
-use Rattle.trace_lines.specs.declared.telling.Told.TheVariants as deed
+use Rattle.drive_pictures.specs.Request.{Request as Asked}
+use Rattle.drive_pictures.specs.Told.{Told as Deed}
+use Rattle.drive_pictures.specs.Told.TheVariants as deed
 use Rattle.drive_pictures.specs.declared.drives.Drive.{Drive}
 use Rattle.drive_pictures.specs.declared.marks.Mark.TheVariants as mark
 use Rattle.drive_pictures.specs.declared.marks.Mark.{Mark}

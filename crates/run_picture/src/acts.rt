@@ -3,15 +3,13 @@
 ghost use Rattle.std.specs.Prelude.{◌≡◌, nat_lt, if◌then◌else◌, map};
 ghost use Rattle.drive_pictures.specs.Counts.{plus};
 ghost use Rattle.run_picture.specs.Positioning.{positions, moves, positioning, moving};
-ghost use Rattle.trace_lines.specs.declared.telling.Told.TheVariants.{End};
+ghost use Rattle.drive_pictures.specs.Told.TheVariants.{End};
 ghost use Rattle.drive_pictures.specs.Drives.{event_counted, unseen};
 ghost use Rattle.run_picture.specs.Fold.{admitted, frames_of, request_asked, drive_asked, lent_asked, drive_after, request_after, back_after, end_mark, glance_after};
 
-use drive_pictures::{Drive, Mark, Outcome, Request, cylinder_blocks, plus};
+use drive_pictures::{Asked, Drive, Mark, Outcome, Request, Told, cylinder_blocks, plus};
 use pack_geometry::DriveKind;
 use partitions::part_range;
-use script_lines::Request as Asked;
-use trace_lines::Told;
 
 /// The frames of main memory.
 const FRAMES: u64 = 16_384;

@@ -8,12 +8,12 @@ ghost use Rattle.drive_pictures.specs.Requests.{left};
 use crate::acts::{Glance, act, admit, begin_events, count_events, frames_of, lend, submit};
 use crate::columns::{Column, Head, Window, clear_cells};
 use crate::places::Places;
-use drive_pictures::{Change, Drive, Moment, Play, Request, begins, is_idle, line_of, plus};
+use drive_pictures::{
+    Asked, Change, Drive, Moment, Play, Request, Told, begins, is_idle, line_of, plus,
+};
 use pack_geometry::DriveKind;
-use script_lines::Request as Asked;
 use std::alloc::{AllocError, Global};
 use std::marker::Model;
-use trace_lines::Told;
 
 /// What is known of a run behind the moments so far. A call that gives AllocError had no memory, and leaves nothing to go on
 /// with.

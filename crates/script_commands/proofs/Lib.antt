@@ -6,3 +6,10 @@ mod TheRunLaws
 mod PlayRuns
 pub mod ScriptLeft
 pub mod ScriptRuns
+mod TextLaws
+mod AnsweredLaws
+mod TableLaws
+mod ReachLaws
+mod MarkLaws
+mod RoomLaws
+mod ExerciseLaws

@@ -6,18 +6,18 @@ use Rattle.pack_geometry.specs.Pack.{Pack}
 use Rattle.script_lines.specs.declared.kinds.ScriptKind.{ScriptKind}
 use Rattle.trace_replay.specs.Script.{Script}
 use Rattle.answer_lines.specs.declared.tally.Tally.{Tally}
-use Rattle.play_faults.specs.declared.fault.PlayFault.{PlayFault}
-use Rattle.play_faults.specs.declared.fault.PlayFault.TheVariants as faults
-use Rattle.play_faults.specs.Faults.{IsPlaying, IsBefore, IsLongFor}
+use Rattle.event_player.specs.PlayFault.{PlayFault}
+use Rattle.event_player.specs.PlayFault.TheVariants as faults
+use Rattle.event_player.specs.Faults.{IsPlaying, IsBefore, IsLongFor}
 use Rattle.script_commands.specs.declared.load.LoadFault.{LoadFault}
 use Rattle.script_commands.specs.declared.load.LoadFault.TheVariants as loading
 use Rattle.script_commands.specs.Scripts.{MeanNone}
 use Rattle.script_commands.specs.Loading.{RefusesAll}
 use Rattle.command_parts.specs.Lines.{Told}
 use Rattle.script_lines.specs.Refusals.{refusal_text}
-use Rattle.play_faults.specs.Lengths.{NamesTooLong}
+use Rattle.event_player.specs.Lengths.{NamesTooLong}
 use Rattle.event_player.specs.Passes.{Took}
-use Rattle.event_lines.specs.Stops.{Leaves}
+use Rattle.event_player.specs.Stops.{Leaves}
 
 -- a text that was written whole, or whose sink failed
 written : {T E : Type 0} (result : Result T E) (taken after text : List ℕ) (faults faults_after : ℕ) (tells : Bool)

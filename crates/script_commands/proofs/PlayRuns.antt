@@ -6,9 +6,9 @@ use Rattle.script_lines.specs.Known.{Numbered}
 use Rattle.script_lines.specs.Words.{all_verbs}
 use Rattle.script_reader.proofs.ReadingLaws.{one_script}
 use Rattle.script_reader.specs.Meaning.{meaning}
-use Rattle.play_faults.specs.declared.fault.PlayFault.{PlayFault}
-use Rattle.play_faults.specs.declared.fault.PlayFault.TheVariants as faults
-use Rattle.play_faults.specs.Lengths.{IsTooLong}
+use Rattle.event_player.specs.PlayFault.{PlayFault}
+use Rattle.event_player.specs.PlayFault.TheVariants as faults
+use Rattle.event_player.specs.Lengths.{IsTooLong}
 use Rattle.command_parts.specs.Outside.{Outside}
 use Rattle.script_commands.specs.Sinks.{out_took, trace_took}
 use Rattle.script_commands.specs.Headline.{Headline, HasStopped, Means}

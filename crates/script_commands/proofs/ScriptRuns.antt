@@ -4,7 +4,7 @@ use Rattle.pack_geometry.specs.Pack.{Pack}
 use Rattle.outside_traits.specs.Causes.{Rose}
 use Rattle.trace_replay.specs.Script.{Script}
 use Rattle.script_lines.specs.declared.kinds.ScriptKind.{ScriptKind}
-use Rattle.play_faults.specs.Lengths.{IsTooLong}
+use Rattle.event_player.specs.Lengths.{IsTooLong}
 use Rattle.command_parts.specs.Outside.{Outside}
 use Rattle.script_commands.specs.Scripts.{RunsScript, TellsRefusal, TellsTooLong, longest}
 

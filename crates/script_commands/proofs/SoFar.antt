@@ -15,21 +15,21 @@ use Rattle.trace_replay.specs.Causes.{AsksSome, AskSome}
 use Rattle.trace_replay.specs.Runs.{start_of}
 use Rattle.trace_replay.proofs.Following.{follow_on}
 use Rattle.trace_replay.proofs.Explained.{are_explained}
-use Rattle.trace_laws.proofs.Commands.{ends_are_bounded}
-use Rattle.trace_laws.specs.LegalAnswers.{ids_asked, with_asked}
-use Rattle.trace_laws.specs.Stands.{AreGiven}
-use Rattle.trace_laws.proofs.MachineRuns.{each_beginning, script_ids}
-use Rattle.play_faults.specs.declared.fault.PlayFault.{PlayFault}
-use Rattle.play_faults.specs.declared.fault.PlayFault.TheVariants as faults
-use Rattle.driver_answers.specs.Outcome.{IsNextBlock}
+use Rattle.driver_laws.proofs.rules.Commands.{ends_are_bounded}
+use Rattle.driver_laws.specs.rules.LegalAnswers.{ids_asked, with_asked}
+use Rattle.driver_laws.specs.rules.Stands.{AreGiven}
+use Rattle.driver_laws.proofs.rules.MachineRuns.{each_beginning, script_ids}
+use Rattle.event_player.specs.PlayFault.{PlayFault}
+use Rattle.event_player.specs.PlayFault.TheVariants as faults
+use Rattle.driver_laws.specs.answers.Outcome.{IsNextBlock}
 use Rattle.event_player.specs.Passes.{HasNext, NextBlocksShow}
 use Rattle.event_player.specs.Passes.{ShowsAll}
 use Rattle.event_player.specs.Passes.{writes_next}
 use Rattle.event_player.specs.Passes.{AreBehind, WritesAhead}
 use Rattle.event_player.specs.Passes.{CameTo, Took}
 use Rattle.event_player.proofs.Passes.{rules_hold, behind_more}
-use Rattle.event_lines.specs.Stops.{StopsPlaying}
-use Rattle.trace_laws.specs.Beginnings.{IsBegun, BeginningsKeep, NextBlocksKeep, PromisesSoFar}
+use Rattle.event_player.specs.Stops.{StopsPlaying}
+use Rattle.driver_laws.specs.rules.Beginnings.{IsBegun, BeginningsKeep, NextBlocksKeep, PromisesSoFar}
 use Rattle.script_commands.specs.SoFar.{KeepsSoFar, HoldSoFar, Holds, Keeps}
 use Rattle.script_commands.proofs.Standing.{FoundBehind, found_behind}
 

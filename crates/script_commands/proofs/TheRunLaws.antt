@@ -9,7 +9,7 @@ use Rattle.script_reader.specs.Meaning.{meaning}
 use Rattle.trace_replay.specs.Moments.{Moment}
 use Rattle.trace_replay.specs.Text.{trace_text}
 use Rattle.answer_lines.specs.AnswerText.{out_text}
-use Rattle.event_lines.specs.Plays.{Plays}
+use Rattle.event_player.specs.Plays.{Plays}
 use Rattle.event_player.specs.Passes.{HasOneRun}
 use Rattle.event_player.proofs.Passes.{bytes_have_one_run}
 use Rattle.script_commands.specs.Headline.{Headline}

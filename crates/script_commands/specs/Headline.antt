@@ -6,12 +6,12 @@ use Rattle.script_lines.specs.Known.{Numbered}
 use Rattle.script_lines.specs.Words.{all_verbs}
 use Rattle.trace_replay.specs.Script.{Script}
 use Rattle.script_reader.specs.Meaning.{meaning}
-use Rattle.trace_laws.specs.Promises.{Promises}
-use Rattle.play_faults.specs.declared.fault.PlayFault.{PlayFault}
-use Rattle.event_lines.specs.Plays.{Plays}
-use Rattle.play_faults.specs.Lengths.{IsTooLong}
+use Rattle.driver_laws.specs.rules.Promises.{Promises}
+use Rattle.event_player.specs.PlayFault.{PlayFault}
+use Rattle.event_player.specs.Plays.{Plays}
+use Rattle.event_player.specs.Lengths.{IsTooLong}
 use Rattle.event_player.specs.Passes.{Took}
-use Rattle.event_lines.specs.Stops.{Leaves}
+use Rattle.event_player.specs.Stops.{Leaves}
 use Rattle.script_commands.specs.SoFar.{Keeps}
 
 -- THE HEADLINE. Where the source tells, it was read to its end, and its bytes spell these lines; where the packs tell, the lines were

@@ -6,3 +6,9 @@ pub mod Plays
 pub mod TheRun
 pub mod Scripts
 pub mod Sinks
+pub mod Room
+pub mod ExerciseText
+pub mod Exercises
+pub use Rattle.event_player.specs.Faults
+pub use Rattle.event_player.specs.Lengths
+pub use Rattle.event_player.specs.PlayFault

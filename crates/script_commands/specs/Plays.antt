@@ -3,7 +3,7 @@ use Rattle.std.specs.Prelude.{◌≡◌, ℕ, IsTrue, List}
 use Rattle.script_reader.specs.Grammar.{Spells, IsRefused}
 use Rattle.script_lines.specs.Known.{Numbered}
 use Rattle.script_lines.specs.Words.{all_verbs}
-use Rattle.play_faults.specs.declared.fault.PlayFault.TheVariants as faults
+use Rattle.event_player.specs.PlayFault.TheVariants as faults
 use Rattle.command_parts.specs.Outside.{Outside}
 use Rattle.script_commands.specs.Sinks.{out_took, trace_took}
 use Rattle.script_commands.specs.Headline.{Headline, HasStopped, Means}

@@ -6,7 +6,7 @@ use Rattle.pack_geometry.specs.Pack.{Pack}
 use Rattle.trace_replay.specs.Script.{Script}
 use Rattle.script_lines.specs.declared.kinds.ScriptKind.{ScriptKind}
 use Rattle.script_lines.specs.Refusals.{refusal_text}
-use Rattle.play_faults.specs.Lengths.{IsTooLong, NamesTooLong}
+use Rattle.event_player.specs.Lengths.{IsTooLong, NamesTooLong}
 use Rattle.command_parts.specs.Lines.{Told, too_long_text}
 use Rattle.command_parts.specs.Outside.{Outside}
 use Rattle.command_parts.specs.Statuses.{status_code}

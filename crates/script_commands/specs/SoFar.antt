@@ -10,16 +10,16 @@ use Rattle.trace_replay.specs.Replay.{after_moments}
 use Rattle.trace_replay.specs.History.{is_refusal, lines_of}
 use Rattle.trace_replay.specs.Causes.{IsExplained}
 use Rattle.trace_replay.specs.Runs.{start_of}
-use Rattle.trace_laws.specs.Commands.{commands_in}
-use Rattle.driver_answers.specs.Outcome.{IsFront}
+use Rattle.driver_laws.specs.rules.Commands.{commands_in}
+use Rattle.driver_laws.specs.answers.Outcome.{IsFront}
 use Rattle.answer_lines.specs.AnswerText.{out_text, answer_line}
-use Rattle.trace_laws.specs.Laws.{HasBegun}
-use Rattle.play_faults.specs.declared.fault.PlayFault.{PlayFault}
-use Rattle.play_faults.specs.declared.fault.PlayFault.TheVariants as faults
+use Rattle.driver_laws.specs.rules.Laws.{HasBegun}
+use Rattle.event_player.specs.PlayFault.{PlayFault}
+use Rattle.event_player.specs.PlayFault.TheVariants as faults
 use Rattle.event_player.specs.Passes.{SaysOneSector}
 use Rattle.event_player.specs.Passes.{Took}
-use Rattle.event_lines.specs.Stops.{StopsPlaying}
-use Rattle.trace_laws.specs.Beginnings.{PromisesSoFar}
+use Rattle.event_player.specs.Stops.{StopsPlaying}
+use Rattle.driver_laws.specs.rules.Beginnings.{PromisesSoFar}
 
 -- OF THE MOMENTS SO FAR: their answers are those of the block machine to the lines that were played, and the replay behind them stands
 -- for its map; each answer has its cause; and a request took at most 300 commands for each of its blocks.

@@ -8,6 +8,7 @@ ghost use Rattle.script_commands.specs.Plays.{RunsPlay};
 
 use crate::load::{LoadFault, load};
 use command_parts::{Status, too_long};
+use driver_laws::rules::promises::{beginnings_law, promises_law};
 use event_player::next_block_law;
 use event_player::play::{PlayFault, play};
 use outside_traits::traits::{Packs, Sink, Source};
@@ -16,7 +17,6 @@ use script_lines::refusal;
 use script_reader::grammar_law;
 use script_reader::meaning::meaning_law;
 use std::alloc::Global;
-use trace_laws::promises::{beginnings_law, promises_law};
 
 /// Reads a script from the source and plays it over the packs.
 pub fn run_play<S: Source, P: Packs, O: Sink, T: Sink>(

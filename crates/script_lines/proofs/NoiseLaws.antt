@@ -1,7 +1,7 @@
 -- The places of a noise take all the fields that are left.
 use Rattle.std.proofs.Common.{◌≡◌, ℕ, ◌-◌, Bool, true, false, List, [], ◌∷◌, refl, sym, ap, ◌∙◌, Result, Ok, Err}
 use Rattle.std.specs.Prelude.{if◌then◌else◌}
-use Rattle.hardware_table.specs.declared.NoiseSpan.{NoiseSpan}
+use Rattle.trace_replay.specs.NoiseSpan.{NoiseSpan}
 use Rattle.pack_geometry.specs.Geometry.{block_count}
 use Rattle.pack_geometry.specs.declared.DriveKind.{DriveKind}
 use Rattle.script_lines.specs.declared.kinds.ScriptKind.{ScriptKind}

@@ -6,7 +6,7 @@ use Rattle.pack_geometry.specs.declared.DriveKind.{DriveKind}
 use Rattle.pack_geometry.specs.Geometry.{kind_word}
 use Rattle.partitions.specs.declared.Part.{Part}
 use Rattle.drive_registers.specs.declared.OffsetCode.{OffsetCode}
-use Rattle.hardware_table.specs.declared.FaultKind.{FaultKind}
+use Rattle.trace_replay.specs.FaultKind.{FaultKind}
 use Rattle.mass_text.specs.Numbers.{number_of}
 use Rattle.mass_text.specs.declared.numbers.Radix.TheVariants.{Decimal}
 use Rattle.mass_text.specs.declared.numbers.NumberFault.{NumberFault}

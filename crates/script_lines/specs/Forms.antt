@@ -2,8 +2,8 @@
 use Rattle.std.specs.Prelude.{◌≡◌, ℕ, ◌-◌, if◌then◌else◌, List, [], ◌∷◌, ◌&&◌, codes, Option, Some, None, Result, Ok, Err}
 use Rattle.std.specs.Str.{bytes_eq}
 use Rattle.pack_geometry.specs.Geometry.{block_count, sectors_of}
-use Rattle.hardware_table.specs.declared.NoiseSpan.{NoiseSpan}
-use Rattle.hardware_table.specs.declared.NoiseSpan.TheVariants.{Times, Until}
+use Rattle.trace_replay.specs.NoiseSpan.{NoiseSpan}
+use Rattle.trace_replay.specs.NoiseSpan.TheVariants.{Times, Until}
 use Rattle.script_lines.specs.declared.kinds.ScriptKind.{ScriptKind}
 use Rattle.script_lines.specs.declared.kinds.ScriptKind.TheVariants.{Word, Bits, LateUnit, TooMany}
 use Rattle.script_lines.specs.declared.statement.Content.{Content}

@@ -17,10 +17,10 @@ use crate::places::places;
 use crate::statement::{Content, Request, Span, Statement};
 use crate::{ScriptKind, Verb, is_word, number_field};
 use fire_code::Noise;
-use hardware_table::NoiseSpan;
 use mass_text::Fields;
 use pack_geometry::{blocks, geometry_of};
 use std::alloc::Global;
+use trace_replay::NoiseSpan;
 
 /// What a line says, as it is read: the digits of a write are those of the line at a place of the text.
 pub type Read = Statement<Span, Held>;

@@ -11,10 +11,10 @@ use crate::{
     offset_field, part_field, seq_field,
 };
 use drive_registers::OffsetCode;
-use hardware_table::FaultKind;
 use mass_text::Fields;
 use pack_geometry::DriveKind;
 use partitions::Part;
+use trace_replay::FaultKind;
 
 /// The next field: a decimal number from `low` to `high`. `Word` where there is none.
 #[tactic(auto, using(crate::proofs::FieldLaws::field_read))]

@@ -1,6 +1,6 @@
-use hardware_table::{FaultKind, NoiseSpan};
 use pack_geometry::DriveKind;
 use partitions::Part;
+use trace_replay::{FaultKind, NoiseSpan};
 
 /// Where a line stands in the text of a script, in bytes: from `start` up to `end`. A text has at most 16 MiB.
 #[derive(Clone, Copy)]

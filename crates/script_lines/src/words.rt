@@ -7,9 +7,9 @@ ghost use Rattle.trace_replay.specs.Text.{offset_word, fault_word};
 use crate::kinds::ScriptKind;
 use crate::verbs::Verb;
 use drive_registers::OffsetCode;
-use hardware_table::FaultKind;
 use pack_geometry::{DriveKind, kind_of};
 use partitions::{Part, part_of};
+use trace_replay::FaultKind;
 
 /// Whether a field is this word.
 pub fn is_word(field: &[u8], word: &[u8]) -> bool

@@ -38,7 +38,7 @@ use Rattle.script_lines.specs.Known.{Known, Said, Numbered, verb_of, known_of}
 use Rattle.script_reader.specs.Lines.{lines_of, without_cr}
 use Rattle.script_reader.specs.Printing.{number, start_fields, tail_fields, content_fields, span_fields, fields_of, spaced, line_text, text_of, numbered}
 use Rattle.script_lines.specs.Words.{named, verb_word, all_verbs, part_word}
-use Rattle.trace_replay.specs.Text.{offset_word, fault_word}
+use Rattle.script_lines.specs.Text.{offset_word, fault_word}
 use Rattle.script_reader.proofs.FormLaws.{form_back, last_fields}
 use Rattle.script_lines.proofs.KnownLaws.{known_more}
 use Rattle.script_reader.proofs.TextLaws.{above, is_field, are_fields, fields-append, number_field_is, pieces_spaced, in_line, line_in, piece_of_line, line_whole}

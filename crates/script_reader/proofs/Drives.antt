@@ -9,7 +9,7 @@ use Rattle.script_lines.specs.declared.statement.Statement.TheVariants as says
 use Rattle.script_reader.specs.Formed.{AreWell, learned}
 use Rattle.script_lines.specs.Known.{Known, Said, Numbered}
 use Rattle.script_reader.proofs.WellLaws.{spelled_well}
-use Rattle.trace_replay.specs.Script.{Statement, declared_by, drives_in, drives_of}
+use Rattle.script_lines.specs.Script.{Statement, declared_by, drives_in, drives_of}
 use Rattle.script_reader.specs.Meaning.{statement_of, line_of, meaning}
 use Rattle.script_reader.specs.Promises.{said_in, statements_in, DeclaresUnits, MeansTheSame}
 use Rattle.script_reader.proofs.Scripts.{Agrees, agrees_next, drive_is, nothing_known, same_number}

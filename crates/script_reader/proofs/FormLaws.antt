@@ -37,7 +37,7 @@ use Rattle.script_reader.specs.Formed.{IsDrive, IsDeclared, IsAsked, IsWritten, 
 use Rattle.script_lines.specs.Forms.{Form, gives, ends, next, field, option, last_form, tail_form, start_form, content_form, span_form, noise_or, places_form, unit_number_form, adapter_form, form_of}
 use Rattle.script_reader.specs.Printing.{number, start_fields, tail_fields, content_fields, span_fields, fields_of}
 use Rattle.script_lines.specs.Words.{part_word}
-use Rattle.trace_replay.specs.Text.{offset_word, fault_word}
+use Rattle.script_lines.specs.Text.{offset_word, fault_word}
 use Rattle.script_lines.proofs.Results.{err-ok}
 use Rattle.script_lines.proofs.PlacesLaws.{noise_read}
 use Rattle.script_lines.proofs.WordLaws.{kind_of_word, part_of_word}

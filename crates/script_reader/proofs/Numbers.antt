@@ -4,7 +4,7 @@ use Rattle.script_lines.specs.declared.verbs.Verb.{Verb}
 use Rattle.script_reader.specs.Grammar.{more, SayTheRest, Spells}
 use Rattle.script_lines.specs.Known.{Said, Numbered}
 use Rattle.script_reader.specs.Lines.{lines_of}
-use Rattle.trace_replay.specs.Script.{Line, AreNumbered}
+use Rattle.script_lines.specs.Script.{Line, AreNumbered}
 use Rattle.script_reader.specs.Meaning.{line_of}
 
 -- numbers that ascend from a later one on ascend from an earlier one on

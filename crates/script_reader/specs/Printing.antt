@@ -12,7 +12,7 @@ use Rattle.script_lines.specs.declared.statement.Request.{Request}
 use Rattle.script_lines.specs.declared.statement.Statement.TheVariants as says
 use Rattle.script_lines.specs.Known.{Said, Numbered, verb_of}
 use Rattle.script_lines.specs.Words.{verb_word, part_word}
-use Rattle.trace_replay.specs.Text.{offset_word, fault_word}
+use Rattle.script_lines.specs.Text.{offset_word, fault_word}
 
 abbrev pub number : ℕ → List ℕ
 number n = numeral Decimal n

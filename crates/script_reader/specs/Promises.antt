@@ -10,7 +10,7 @@ use Rattle.script_reader.specs.Grammar.{Spells}
 use Rattle.script_lines.specs.Known.{Said, Numbered}
 use Rattle.script_reader.specs.Stored.{Stored, lines_in}
 use Rattle.script_lines.specs.Words.{all_verbs}
-use Rattle.trace_replay.specs.Script.{Statement, Line, Script, IsScript, drives_of}
+use Rattle.script_lines.specs.Script.{Statement, Line, Script, IsScript, drives_of}
 use Rattle.script_reader.specs.Meaning.{bytes_of, meaning, meaning_of}
 
 -- what some lines say, without their numbers

@@ -1,5 +1,5 @@
 ghost use Rattle.std.specs.Prelude.{◌≡◌, ◌≤◌, ◌<◌, ◌+◌, ◌^◌, ℕ, [], ◌∷◌, length, decimal};
-ghost use Rattle.hardware_table.specs.declared.Moved.TheVariants.{Clean};
+ghost use Rattle.trace_replay.specs.Moved.TheVariants.{Clean};
 ghost use Rattle.trace_replay.specs.Moments as moments;
 ghost use Rattle.trace_replay.specs.Moments.{Sector};
 ghost use Rattle.trace_replay.specs.Text.{moment_text};

@@ -1,5 +1,5 @@
 use drive_registers::OffsetCode;
-use hardware_table::Moved;
+use trace_replay::Moved;
 
 /// What a line of the trace tells of: a command to a unit, or what the unit, its adapter and its request come to.
 #[derive(Clone, Copy)]

@@ -10,8 +10,8 @@ ghost use Rattle.trace_lines.specs.Deeds.{deed_of, in_front};
 use crate::pieces::{ROOM, put_spaced};
 use crate::telling::Told;
 use drive_registers::OffsetCode;
-use hardware_table::{FaultKind, Moved};
 use mass_text::{LineBuf, Radix, numeral_law, put_byte, put_piece};
+use trace_replay::{FaultKind, Moved};
 
 /// The word of an offset.
 fn offset_word(code: OffsetCode) -> &'static str

@@ -17,3 +17,7 @@ pub mod Conditions
 pub mod Causes
 pub mod Bounds
 pub mod Runs
+pub use Rattle.fire_code.specs.Noise
+pub use Rattle.hardware_table.specs.declared.Moved
+pub use Rattle.hardware_table.specs.declared.NoiseSpan
+pub use Rattle.hardware_table.specs.declared.FaultKind

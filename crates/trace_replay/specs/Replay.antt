@@ -8,9 +8,9 @@ use Rattle.std.specs.List.{list_all}
 use Rattle.pack_geometry.specs.declared.DriveKind.{DriveKind}
 use Rattle.pack_geometry.specs.declared.DriveKind.TheVariants.{Rp06}
 use Rattle.pack_geometry.specs.Geometry.{block_count}
-use Rattle.partitions.specs.declared.Admission.{Admission}
-use Rattle.partitions.specs.declared.Admission.TheVariants.{Inside, Eof, Outside}
-use Rattle.partitions.specs.Partitions.{admission}
+use Rattle.subsystem_spec.specs.Admission.{Admission}
+use Rattle.subsystem_spec.specs.Admission.TheVariants.{Inside, Eof, Outside}
+use Rattle.subsystem_spec.specs.Partitions.{admission}
 use Rattle.pack_geometry.specs.Pack as model
 use Rattle.pack_geometry.specs.TableSpelling.{Table}
 use Rattle.hardware_table.specs.Drive.{DriveState, is_positioning}

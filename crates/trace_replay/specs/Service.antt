@@ -5,7 +5,7 @@ use Rattle.pack_geometry.specs.declared.DriveKind.{DriveKind}
 use Rattle.pack_geometry.specs.declared.Place.{Place}
 use Rattle.pack_geometry.specs.Geometry.{place_at}
 use Rattle.subsystem_spec.specs.ServiceOrder.{Waiting, Service, after_join, after_leave}
-use Rattle.partitions.specs.declared.Part.TheVariants as part
+use Rattle.subsystem_spec.specs.Part.TheVariants as part
 use Rattle.subsystem_spec.specs.Requests.{Request, first_block}
 use Rattle.trace_replay.specs.Moments.{Deed, End}
 

@@ -19,6 +19,8 @@ ghost use Rattle.trace_replay.specs.Causes.{AreExplained, AreUnusable};
 ghost use Rattle.trace_replay.specs.Single.{OneStep, OneTrace};
 ghost use Rattle.trace_replay.specs.Runs.{OneRun, OneText, OnePacks, RunExplained};
 
+pub use hardware_table::{FaultKind, Moved, NoiseSpan};
+
 /// A moment may come exactly where it keeps each rule; and lists of moments that follow are those that follow in any two parts.
 pub fn parts_law()
     ensures rules { KeepsEach }

@@ -2,12 +2,12 @@
 use Rattle.std.proofs.Common.{◌≡◌, ℕ, ◌+◌, ◌-◌, ◌^◌, ◌<◌, ◌==◌, ◌&&◌, min, Bool, true, false, List, ◌∷◌, take, Option, None, Some, refl, sym, ap, ◌∙◌, arith}
 use Rattle.std.specs.Prelude.{if◌then◌else◌}
 use Rattle.std.proofs.lemmas.Bool.{eq-eqb, ne_eqb}
-use Rattle.trace_laws.specs.declared.cached.Entry.{Entry}
-use Rattle.trace_laws.specs.Requests.{Map, written_over}
-use Rattle.trace_laws.specs.Entries.{State, entry_of, with_room}
-use Rattle.trace_laws.specs.Calls.{Done, entry, read_by, read_done, read_found}
-use Rattle.trace_laws.specs.Contents.{bytes_or}
-use Rattle.buffer_cache.specs.Passes.{map_at}
+use Rattle.driver_laws.specs.declared.rules.cached.Entry.{Entry}
+use Rattle.driver_laws.specs.rules.Requests.{Map, written_over}
+use Rattle.driver_laws.specs.rules.Entries.{State, entry_of, with_room}
+use Rattle.driver_laws.specs.rules.Calls.{Done, entry, read_by, read_done, read_found}
+use Rattle.driver_laws.specs.rules.Contents.{bytes_or}
+use Rattle.cached_run.specs.Passes.{map_at}
 use Rattle.transfer_rows.specs.Cache.{ChangedEntryDropped, AnotherBlockWrittenBack, RefusedInsertionNotCounted, SyncStopsEarly, RefusedInsertionPromotes, AnotherBlockWritten, BlockAlwaysFound}
 
 pub changed_entry_dropped : ChangedEntryDropped

@@ -4,8 +4,8 @@ use Rattle.std.proofs.lemmas.Bool.{false≢true}
 use Rattle.std.proofs.lemmas.List.{append-nil, append_cancel_left}
 use Rattle.partitions.specs.declared.Admission.{Admission}
 use Rattle.subsystem_spec.specs.Requests.{Request, WriteOk}
-use Rattle.trace_laws.specs.Machine.{Blocks}
-use Rattle.trace_laws.specs.Waited.{answer_at, answer_by, first_unusable, unusable_or}
+use Rattle.driver_laws.specs.rules.Machine.{Blocks}
+use Rattle.driver_laws.specs.rules.Waited.{answer_at, answer_by, first_unusable, unusable_or}
 use Rattle.cached_run.specs.Answers.{first_by}
 use Rattle.transfer_rows.specs.Cached.{LastSyncForgotten, BlockOlderThanTheLastSync, LastUnusableBlockOk, FaultCalledThatOfASink, WriteAnsweredBeforeItIsDone, UnitBehindASync}
 

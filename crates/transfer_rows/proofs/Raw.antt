@@ -7,10 +7,10 @@ use Rattle.std.proofs.lemmas.List.{append-nil, append_cancel_left, drop_all, tak
 use Rattle.pack_geometry.specs.declared.DriveKind.{DriveKind}
 use Rattle.pack_geometry.specs.declared.DriveKind.TheVariants.{Rp06, Rm03, Rm05}
 use Rattle.partitions.specs.declared.Part.TheVariants.{B}
-use Rattle.trace_laws.specs.Machine.{Blocks}
-use Rattle.trace_laws.specs.Laid.{laid, laid_at}
-use Rattle.trace_laws.specs.Bytes.{blocks_for, dump_place, dumped, with_bytes, with_range}
-use Rattle.trace_laws.proofs.Ranges.{laid_over_none}
+use Rattle.driver_laws.specs.rules.Machine.{Blocks}
+use Rattle.driver_laws.specs.rules.Laid.{laid, laid_at}
+use Rattle.driver_laws.specs.rules.Bytes.{blocks_for, dump_place, dumped, with_bytes, with_range}
+use Rattle.driver_laws.proofs.rules.Ranges.{laid_over_none}
 use Rattle.raw_io.specs.Passes.{kind_at, map_at}
 use Rattle.raw_io.specs.Pieces.{start_of}
 use Rattle.transfer_rows.specs.Raw.{DrainEndsEarly, ReadComesFromThePack, DriveIsOffline, WriteBeforeItsLines, DoneInBlocks, DumpAtTheFront, OutsideByOne, EdgeWithoutItsBytes}

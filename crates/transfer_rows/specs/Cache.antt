@@ -1,13 +1,13 @@
 -- Wrong outcomes of the cache.
 use Rattle.std.specs.Prelude.{◌≡◌, ◌≢◌, ℕ, ◌-◌, ◌^◌, ◌<◌, true, IsTrue, List, [], ◌∷◌, Option, None, Some}
-use Rattle.trace_laws.specs.Rest.{HasTables}
-use Rattle.trace_laws.specs.declared.cached.Entry.{Entry}
-use Rattle.trace_laws.specs.Requests.{writes}
-use Rattle.trace_laws.specs.Entries.{State, entry_of, put}
-use Rattle.trace_laws.specs.Contents.{AllFit}
-use Rattle.buffer_cache.specs.Asks.{Asks, Fetches}
-use Rattle.buffer_cache.specs.Passes.{Stage, map_at, setup_at}
-use Rattle.buffer_cache.specs.Calls.{Reads, Syncs}
+use Rattle.driver_laws.specs.rules.Rest.{HasTables}
+use Rattle.driver_laws.specs.declared.rules.cached.Entry.{Entry}
+use Rattle.driver_laws.specs.rules.Requests.{writes}
+use Rattle.driver_laws.specs.rules.Entries.{State, entry_of, put}
+use Rattle.driver_laws.specs.rules.Contents.{AllFit}
+use Rattle.cached_run.specs.Asks.{Asks, Fetches}
+use Rattle.cached_run.specs.Passes.{Stage, map_at, setup_at}
+use Rattle.cached_run.specs.Calls.{Reads, Syncs}
 
 -- A CHANGED ENTRY IS DROPPED UNWRITTEN: a read put it out, and its pack does not hold its bytes.
 abbrev pub ChangedEntryDropped : Type 0

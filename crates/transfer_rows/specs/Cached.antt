@@ -6,15 +6,15 @@ use Rattle.pack_geometry.specs.Pack.{Pack}
 use Rattle.partitions.specs.declared.Admission.TheVariants.{Inside}
 use Rattle.subsystem_spec.specs.Requests.{Request, WriteOk}
 use Rattle.trace_replay.specs.Script.{Numbered, Script, drives_of, inputs_of}
-use Rattle.trace_laws.specs.Machine.{Blocks}
-use Rattle.trace_laws.specs.Entries.{State}
+use Rattle.driver_laws.specs.rules.Machine.{Blocks}
+use Rattle.driver_laws.specs.rules.Entries.{State}
 use Rattle.cached_script.specs.declared.statement.Line.{Line}
 use Rattle.cached_script.specs.declared.statement.Statement.TheVariants as says
 use Rattle.cached_script.specs.Formed.{IsScript}
-use Rattle.run_laws.specs.Stops.{Took}
-use Rattle.play_faults.specs.declared.fault.PlayFault.TheVariants.{Sink}
+use Rattle.script_runs.specs.Stops.{Took}
+use Rattle.script_runs.specs.declared.fault.PlayFault.TheVariants.{Sink}
 use Rattle.cached_run.specs.Answers.{after, answer_to, first_by, map_of_inputs, met_by, replacements_of}
-use Rattle.play_faults.specs.Faults.{Rise}
+use Rattle.script_runs.specs.Faults.{Rise}
 use Rattle.cached_run.specs.Going.{Halts, IsFar, Scene}
 use Rattle.cached_run.specs.Theorem.{CachedPlays, CachedStops, contents}
 

@@ -8,9 +8,9 @@ use Rattle.subsystem_spec.specs.Requests.{Request, ReadOk}
 use Rattle.trace_replay.specs.Script.{Input}
 use Rattle.driver_machine.specs.Guards.{IsSetUp}
 use Rattle.driver_machine.specs.World.{Held, slot_at, unit_at}
-use Rattle.trace_laws.specs.Rest.{HasTables}
-use Rattle.trace_laws.specs.Waited.{answer_in}
-use Rattle.trace_laws.specs.Bytes.{IsOutside, dumped, dump_place}
+use Rattle.driver_laws.specs.rules.Rest.{HasTables}
+use Rattle.driver_laws.specs.rules.Waited.{answer_in}
+use Rattle.driver_laws.specs.rules.Bytes.{IsOutside, dumped, dump_place}
 use Rattle.raw_io.specs.declared.fault.RawFault.{RawFault}
 use Rattle.raw_io.specs.declared.fault.RawFault.TheVariants.{Outside}
 use Rattle.raw_io.specs.Passes.{Answers, IsReady, MoveFails, Stage, State, kind_at, map_at, setup_at}

@@ -8,7 +8,7 @@ use Rattle.hardware_table.specs.Drive.{DriveState, is_positioning}
 use Rattle.hardware_table.specs.Events.{transfer_ended}
 use Rattle.hardware_table.specs.Moves.{after_move}
 use Rattle.hardware_table.specs.Adapter.{AdapterState, stepped, drive_stepped, next_block}
-use Rattle.mba_adapter.proofs.WorkLaws.{move_work}
+use Rattle.request_slots.proofs.WorkLaws.{move_work}
 use Rattle.driver_machine.specs.World.{UnitView}
 use Rattle.driver_machine.specs.Acts.{with_drive}
 use Rattle.unit_bank.specs.Row.{unit_in}

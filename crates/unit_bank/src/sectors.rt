@@ -3,7 +3,7 @@ ghost use Rattle.std.specs.Prelude.{◌≡◌, ◌<◌, IfOk, OnErr, Some, lengt
 ghost use Rattle.main_memory.specs.Blocks.{size_at};
 ghost use Rattle.hardware_table.specs.Moves.{was_read};
 ghost use Rattle.hardware_table.specs.Adapter.{next_block, next_window, stepped, drive_stepped};
-ghost use Rattle.drive_model.specs.Move.{MovesSector, FailsAtPacks};
+ghost use Rattle.hp_units.specs.Move.{MovesSector, FailsAtPacks};
 ghost use Rattle.driver_machine.specs.World.{block_in, with_block_in};
 ghost use Rattle.driver_machine.specs.Acts.{with_drive};
 ghost use Rattle.request_slots.specs.Requests.{held_at};
@@ -11,11 +11,10 @@ ghost use Rattle.request_slots.specs.Steps.{MayStep, step_site};
 ghost use Rattle.unit_bank.specs.Row.{unit_in};
 
 use crate::bank::UnitBank;
-use drive_model::NoiseBook;
 use hardware_table::Moved;
-use mba_adapter::Adapter;
+use hp_units::NoiseBook;
 use outside_traits::traits::{Packs, StoreFailed};
-use request_slots::Slots;
+use request_slots::{Adapter, Slots};
 
 impl UnitBank {
     /// Moves one sector of the transfer of a unit, as [`Slots::step`] does with the unit's drive.

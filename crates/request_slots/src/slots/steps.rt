@@ -3,15 +3,14 @@ ghost use Rattle.std.specs.Prelude.{◌≡◌, ◌<◌, IfOk, IsOk, OnErr, IsSom
 ghost use Rattle.main_memory.specs.Blocks.{size_at};
 ghost use Rattle.hardware_table.specs.Moves.{stop_of, was_read};
 ghost use Rattle.hardware_table.specs.Adapter.{next_block, next_window, stepped, drive_stepped};
-ghost use Rattle.drive_model.specs.Move.{MovesSector, FailsAtPacks};
+ghost use Rattle.mba_adapter.specs.Move.{MovesSector, FailsAtPacks};
 ghost use Rattle.driver_machine.specs.World.{block_in, with_block_in};
 ghost use Rattle.request_slots.specs.Requests.{held_at};
 ghost use Rattle.request_slots.specs.Steps.{MayStep, step_site};
 
 use crate::slot::{Holder, slot_at};
 use crate::slots::Slots;
-use drive_model::{Drive, Moved, NoiseBook};
-use mba_adapter::Adapter;
+use mba_adapter::{Adapter, Drive, Moved, NoiseBook};
 use outside_traits::traits::{Packs, StoreFailed};
 
 impl Slots {

@@ -1,5 +1,5 @@
 use Rattle.std.proofs.Common.{ap, ◌∙◌, ◌*◌}
-use Rattle.trace_laws.specs.Laid.{laid_at}
+use Rattle.driver_laws.specs.rules.Laid.{laid_at}
 use Rattle.blocking_io.proofs.Blocks.{block_given}
 use Rattle.blocking_io.proofs.answers.give_block.Goals as goal
 

@@ -1,7 +1,7 @@
 use Rattle.std.proofs.Common.{arith, sym, ap, ◌∙◌, ◌<◌, length}
 use Rattle.std.proofs.lemmas.List.{take_all}
 use Rattle.driver_machine.specs.World.{bytes_in}
-use Rattle.trace_laws.specs.Laid.{laid}
+use Rattle.driver_laws.specs.rules.Laid.{laid}
 use Rattle.blocking_io.specs.Taking.{oldest_blocks}
 use Rattle.blocking_io.proofs.Blocks.{read_is, has_block, whole_before}
 use Rattle.blocking_io.proofs.Laying.{laid_none, blocks_laid}

@@ -1,6 +1,6 @@
 use Rattle.std.proofs.Common.{◌≡◌, take}
 use Rattle.driver_machine.specs.World.{bytes_in}
-use Rattle.trace_laws.specs.Laid.{laid}
+use Rattle.driver_laws.specs.rules.Laid.{laid}
 use Rattle.blocking_io.specs.Taking.{oldest_blocks}
 use Rattle.blocking_io.proofs.answers.give_blocks.Given as goal
 

@@ -1,13 +1,13 @@
 use Rattle.std.proofs.Common.{◌≡◌, ◌++◌, List, ℕ, refl, sym, ap, subst, arith, ◌∙◌}
 use Rattle.driver_machine.specs.Events.{next_event}
-use Rattle.driver_answers.specs.Outcome.{IsFront}
-use Rattle.driver_answers.specs.declared.outcome.Stop.{Stop}
-use Rattle.driver_answers.proofs.Joined.{front_of_front}
+use Rattle.driver_laws.specs.answers.Outcome.{IsFront}
+use Rattle.driver_laws.specs.declared.answers.outcome.Stop.{Stop}
+use Rattle.driver_laws.proofs.answers.Joined.{front_of_front}
 use Rattle.subsystem_spec.specs.Requests as told
 use Rattle.trace_replay.specs.Moments.{Idle}
 use Rattle.trace_replay.specs.Text.{moment_text}
 use Rattle.hp_driver.specs.Passes.{IsQuiet}
-use Rattle.hp_driver.specs.Passes.{input_of}
+use Rattle.hp_driver.specs.Inputs.{input_of}
 use Rattle.hp_driver.specs.Subsystem.{State, asked}
 use Rattle.hp_driver.proofs.Sent.{sent_behind}
 use Rattle.blocking_io.specs.declared.reached.Reached.{Reached}

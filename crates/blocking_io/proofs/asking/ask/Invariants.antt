@@ -1,7 +1,7 @@
 use Rattle.std.proofs.Common.{◌≡◌, ◌≤◌, [], false, IsTrue}
 use Rattle.blocking_io.specs.declared.reached.Reached.TheVariants.{Before}
 use Rattle.hp_driver.specs.Subsystem.{asked}
-use Rattle.driver_answers.specs.Outcome.{IsFront}
+use Rattle.driver_laws.specs.answers.Outcome.{IsFront}
 use Rattle.blocking_io.specs.Calls.{stage, telling}
 use Rattle.blocking_io.proofs.Waiting.{SoDrained, Turns}
 use Rattle.blocking_io.proofs.asking.ask.Given as goal

@@ -1,9 +1,9 @@
 use Rattle.std.proofs.Common.{◌≡◌, false, IsTrue, sym, ap, ◌∙◌}
 use Rattle.std.specs.Prelude.{Err}
-use Rattle.driver_answers.specs.declared.outcome.Stop.{Stop}
-use Rattle.driver_answers.specs.declared.outcome.Stop.TheVariants.{Sink}
-use Rattle.driver_answers.specs.Outcome.{IsFront}
-use Rattle.hp_driver.specs.Passes.{input_of}
+use Rattle.driver_laws.specs.declared.answers.outcome.Stop.{Stop}
+use Rattle.driver_laws.specs.declared.answers.outcome.Stop.TheVariants.{Sink}
+use Rattle.driver_laws.specs.answers.Outcome.{IsFront}
+use Rattle.hp_driver.specs.Inputs.{input_of}
 use Rattle.hp_driver.specs.Subsystem.{State}
 use Rattle.blocking_io.specs.Calls.{stage, telling, GivesEvent, EventStops}
 use Rattle.blocking_io.proofs.Calling.{event_given, event_sent, event_halts, event_fails, event_unsent}

@@ -5,7 +5,7 @@ use Rattle.blocking_io.specs.FrontsPasses.{asked, Stage, stage, MayAsk, Answers,
 use Rattle.blocking_io.specs.Sites.{kind_at}
 use Rattle.blocking_io.proofs.FrontsBlocks.{is_request, none_written, read_stops_of}
 use Rattle.blocking_io.proofs.Sites.{on_err, keeps_err}
-use Rattle.trace_laws.specs.Requests.{reads}
+use Rattle.driver_laws.specs.rules.Requests.{reads}
 use Rattle.buffer_cache.proofs.Maps.{are_blocks}
 use Rattle.buffer_cache.proofs.Exits.{fetches_of}
 use Rattle.buffer_cache.proofs.blocks.fetch_block.Goals as goal

@@ -5,8 +5,8 @@ use Rattle.blocking_io.specs.FrontsPasses.{asked, setup_at, Stage, stage, MayAsk
 use Rattle.blocking_io.specs.Sites.{kind_at}
 use Rattle.blocking_io.proofs.FrontsBlocks.{is_request, all_written, write_stops_of}
 use Rattle.blocking_io.proofs.Sites.{on_err, keeps_err}
-use Rattle.trace_laws.specs.Rest.{HasTables}
-use Rattle.trace_laws.specs.Requests.{writes}
+use Rattle.driver_laws.specs.rules.Rest.{HasTables}
+use Rattle.driver_laws.specs.rules.Requests.{writes}
 use Rattle.buffer_cache.specs.Asks.{LeftBy}
 use Rattle.buffer_cache.proofs.Maps.{are_blocks}
 use Rattle.buffer_cache.proofs.Exits.{front_leaves, stores_of}

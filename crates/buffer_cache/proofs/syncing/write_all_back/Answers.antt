@@ -1,13 +1,13 @@
 use Rattle.std.proofs.Common.{◌≡◌, ◌≤◌, ◌<◌, ℕ, IsTrue, [], refl, sym, ap, ◌∙◌, subst}
 use Rattle.std.specs.Prelude.{None, Some, false, slice_set, slice_index_or}
 use Rattle.std.proofs.lemmas.List.{get_or_default, length-set}
-use Rattle.trace_laws.specs.Rest.{HasTables}
+use Rattle.driver_laws.specs.rules.Rest.{HasTables}
 use Rattle.buffer_cache.specs.Passes.{Stage}
 use Rattle.buffer_cache.specs.Passes.{setup_at}
 use Rattle.buffer_cache.specs.Passes.{site}
 use Rattle.buffer_cache.proofs.Passes.{on_err, keeps_none, keeps_err, keeps_join}
-use Rattle.trace_laws.specs.Requests.{writes}
-use Rattle.trace_laws.specs.Entries.{if_changed, write_backs}
+use Rattle.driver_laws.specs.rules.Requests.{writes}
+use Rattle.driver_laws.specs.rules.Entries.{if_changed, write_backs}
 use Rattle.buffer_cache.specs.Asks.{Asks, LeftBy}
 use Rattle.buffer_cache.proofs.Joins.{asks_none}
 use Rattle.buffer_cache.specs.declared.entry.Key.{Key}

@@ -3,9 +3,9 @@ use Rattle.std.specs.Prelude.{None, Some, if◌then◌else◌}
 use Rattle.buffer_cache.specs.Passes.{Stage}
 use Rattle.buffer_cache.specs.Passes.{setup_at, site}
 use Rattle.buffer_cache.proofs.Passes.{keeps_none, keeps_err, on_err}
-use Rattle.trace_laws.specs.Entries.{write_backs}
-use Rattle.trace_laws.specs.Rest.{HasTables}
-use Rattle.trace_laws.specs.Requests.{writes}
+use Rattle.driver_laws.specs.rules.Entries.{write_backs}
+use Rattle.driver_laws.specs.rules.Rest.{HasTables}
+use Rattle.driver_laws.specs.rules.Requests.{writes}
 use Rattle.buffer_cache.specs.Asks.{Asks, LeftBy}
 use Rattle.buffer_cache.proofs.Joins.{asks_none}
 use Rattle.buffer_cache.specs.Views.{entry_with}

@@ -5,7 +5,7 @@ use Rattle.buffer_cache.specs.Passes.{Stage}
 use Rattle.buffer_cache.specs.Passes.{kind_at, map_at}
 use Rattle.buffer_cache.specs.Passes.{site}
 use Rattle.buffer_cache.proofs.Passes.{on_err}
-use Rattle.trace_laws.specs.Contents.{cached}
+use Rattle.driver_laws.specs.rules.Contents.{cached}
 use Rattle.cached_run.specs.Going.{Scene, scene}
 use Rattle.cached_script.specs.Meaning.{request_of, filled}
 use Rattle.cached_run.proofs.Askings.{list_of, wrote_with}

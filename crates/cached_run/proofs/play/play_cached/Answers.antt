@@ -1,8 +1,8 @@
 use Rattle.std.proofs.Common.{◌+◌, IsTrue, length, refl}
 use Rattle.trace_replay.specs.Script.{Drain}
-use Rattle.hp_core.specs.Setups.{setups_of}
-use Rattle.run_laws.specs.Stops.{Took, took}
-use Rattle.run_laws.specs.Steps.{tables_in}
+use Rattle.script_runs.specs.Setups.{setups_of}
+use Rattle.script_runs.specs.Stops.{Took, took}
+use Rattle.script_runs.specs.Steps.{tables_in}
 use Rattle.cached_run.specs.Going.{Scene, scene}
 use Rattle.cached_run.specs.Lines.{inputs_till}
 use Rattle.cached_script.specs.Meaning.{meaning_of}

@@ -8,7 +8,7 @@ use Rattle.cached_run.specs.Lines.{inputs_till, input_at}
 use Rattle.cached_script.specs.Meaning.{line_of, meaning_of}
 use Rattle.cached_run.proofs.Causes.{same, caused_more, more_caused, on_ok_map, on_err_map}
 use Rattle.cached_run.proofs.Playing.{halts_script}
-use Rattle.unit_attaching.proofs.CachedLines.{blank, item_is, number_is}
+use Rattle.script_runs.proofs.CachedLines.{blank, item_is, number_is}
 use Rattle.cached_run.proofs.ScriptLines.{may_play, inputs_next, inputs_split, inputs_all}
 use Rattle.cached_run.proofs.Starts.{far_none}
 use Rattle.cached_run.proofs.play.play_lines.Goals as goal

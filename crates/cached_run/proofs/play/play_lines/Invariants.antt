@@ -1,9 +1,9 @@
 use Rattle.std.proofs.Common.{◌≤◌, IsTrue}
-use Rattle.trace_laws.specs.Rest.{HasTables}
+use Rattle.driver_laws.specs.rules.Rest.{HasTables}
 use Rattle.buffer_cache.specs.Passes.{setup_at}
 use Rattle.buffer_cache.specs.Passes.{site}
 use Rattle.buffer_cache.specs.Calls.{MayUse}
-use Rattle.play_faults.specs.Faults.{HaveTold}
+use Rattle.script_runs.specs.Faults.{HaveTold}
 use Rattle.cached_run.specs.Going.{scene, IsFar}
 use Rattle.cached_run.specs.Lines.{inputs_till, IsRoomy, KeepsUnits}
 use Rattle.cached_run.proofs.play.play_lines.Given as goal

@@ -4,7 +4,7 @@ use Rattle.buffer_cache.specs.Passes.{Stage}
 use Rattle.buffer_cache.specs.Passes.{site, Keeps}
 use Rattle.buffer_cache.specs.Calls.{stop_of}
 use Rattle.buffer_cache.specs.declared.fault.CacheFault.{CacheFault}
-use Rattle.driver_answers.specs.declared.outcome.Stop.{Stop}
+use Rattle.driver_laws.specs.declared.answers.outcome.Stop.{Stop}
 use Rattle.buffer_cache.proofs.Passes.{keeps_none, keeps_join}
 use Rattle.cached_run.proofs.Keepings.{setup_none, setup_more, setup_asked, data_at, not_stopped}
 use Rattle.cached_run.proofs.Writings.{written_none, written_more, written_all, written_end, written_stops}

@@ -1,6 +1,6 @@
 use Rattle.std.proofs.Common.{◌≡◌, ◌<◌, ◌+◌, length, arith, refl, subst, slice_index_or, List}
 use Rattle.script_reader.specs.Stored.{Kept}
-use Rattle.event_lines.specs.Playing.{one_noise}
+use Rattle.event_player.specs.Playing.{one_noise}
 use Rattle.event_player.proofs.CountLaws.{counted_more, noises_few}
 use Rattle.event_player.proofs.counting.count_noises.Goals as goal
 

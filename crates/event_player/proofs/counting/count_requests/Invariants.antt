@@ -1,6 +1,6 @@
 use Rattle.std.proofs.Common.{◌≡◌}
-use Rattle.event_lines.specs.Playing.{counted, one_request}
-use Rattle.run_laws.proofs.LineLaws.{lines_before}
+use Rattle.event_player.specs.Playing.{counted, one_request}
+use Rattle.script_runs.proofs.LineLaws.{lines_before}
 use Rattle.event_player.proofs.counting.count_requests.Given as goal
 
 -- those of the lines before were counted

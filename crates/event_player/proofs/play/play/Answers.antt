@@ -5,14 +5,14 @@ use Rattle.pack_geometry.specs.Pack.{Pack}
 use Rattle.trace_replay.specs.Script.{Script}
 use Rattle.answer_lines.specs.declared.tally.Tally.{Tally}
 use Rattle.outside_traits.specs.Causes.{Rose}
-use Rattle.play_faults.specs.declared.fault.PlayFault.{PlayFault}
-use Rattle.play_faults.specs.declared.fault.PlayFault.TheVariants as faults
-use Rattle.play_faults.specs.Faults.{IsLongFor, IsPlaying, Rise}
-use Rattle.run_laws.specs.Stops.{Took, took}
+use Rattle.script_runs.specs.declared.fault.PlayFault.{PlayFault}
+use Rattle.script_runs.specs.declared.fault.PlayFault.TheVariants as faults
+use Rattle.script_runs.specs.Faults.{IsLongFor, IsPlaying, Rise}
+use Rattle.script_runs.specs.Stops.{Took, took}
 use Rattle.script_reader.specs.Meaning.{meaning_of}
-use Rattle.event_lines.specs.Plays.{Tallied}
-use Rattle.event_lines.specs.Stops.{Leaves}
-use Rattle.event_lines.proofs.Halting.{err_is}
+use Rattle.event_player.specs.Plays.{Tallied}
+use Rattle.event_player.specs.Stops.{Leaves}
+use Rattle.event_player.proofs.Halting.{err_is}
 use Rattle.event_player.proofs.play.play.Goals as goal
 
 -- ---- THE UNITS WERE NOT ATTACHED: the fault is handed on

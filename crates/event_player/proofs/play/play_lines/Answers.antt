@@ -8,16 +8,16 @@ use Rattle.script_lines.specs.Words.{all_verbs}
 use Rattle.script_reader.specs.Meaning.{line_of, meaning_of}
 use Rattle.trace_replay.specs.Script.{IsScript}
 use Rattle.answer_lines.specs.declared.tally.Tally.{Tally}
-use Rattle.run_laws.specs.StopsPasses.{State}
-use Rattle.play_faults.specs.declared.fault.PlayFault.{PlayFault}
-use Rattle.play_faults.specs.declared.fault.PlayFault.TheVariants as faults
-use Rattle.event_lines.specs.Saying.{side}
-use Rattle.event_lines.specs.Steps.{Stage, stage, HasCauses}
-use Rattle.event_lines.proofs.Saying.{is_said, unsent_passes, all_sent}
-use Rattle.event_lines.proofs.Whole.{plays_none_yet, plays_end, next_may, next_ready, next_plays, next_data}
+use Rattle.script_runs.specs.StopsPasses.{State}
+use Rattle.script_runs.specs.declared.fault.PlayFault.{PlayFault}
+use Rattle.script_runs.specs.declared.fault.PlayFault.TheVariants as faults
+use Rattle.event_player.specs.Saying.{side}
+use Rattle.event_player.specs.Steps.{Stage, stage, HasCauses}
+use Rattle.event_player.proofs.Saying.{is_said, unsent_passes, all_sent}
+use Rattle.event_player.proofs.Whole.{plays_none_yet, plays_end, next_may, next_ready, next_plays, next_data}
 use Rattle.event_player.proofs.play.play_lines.Goals as goal
-use Rattle.event_lines.proofs.Halting.{err_is, line_halts, end_halts, sending_halts}
-use Rattle.event_lines.proofs.Whole.{here_is}
+use Rattle.event_player.proofs.Halting.{err_is, line_halts, end_halts, sending_halts}
+use Rattle.event_player.proofs.Whole.{here_is}
 
 -- ---- AN ERROR that is handed on
 err_same : {a b : PlayFault} → ◌≡◌ {A = Result Tally PlayFault} (Err a) (Err b) → a ≡ b

@@ -1,9 +1,9 @@
 use Rattle.std.proofs.Common.{◌≡◌, ◌≤◌, false, take, IsTrue}
 use Rattle.script_reader.specs.Meaning.{meaning_of}
-use Rattle.play_faults.specs.Faults.{HaveTold}
-use Rattle.event_lines.specs.Steps.{stage}
-use Rattle.event_lines.proofs.Rooms.{ReadyBehind}
-use Rattle.event_lines.proofs.Whole.{PlaysTo}
+use Rattle.script_runs.specs.Faults.{HaveTold}
+use Rattle.event_player.specs.Steps.{stage}
+use Rattle.event_player.proofs.Rooms.{ReadyBehind}
+use Rattle.event_player.proofs.Whole.{PlaysTo}
 use Rattle.event_player.proofs.play.play_lines.Given as goal
 
 -- the lines below i are played

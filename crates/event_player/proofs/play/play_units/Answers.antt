@@ -3,18 +3,18 @@ use Rattle.std.specs.Prelude.{Result, Ok, Err, IfOk, IfErr, OnOk, IsErrOf}
 use Rattle.script_reader.specs.Meaning.{meaning_of}
 use Rattle.answer_lines.specs.Counting.{tally_by}
 use Rattle.answer_lines.specs.declared.tally.Tally.{Tally}
-use Rattle.play_faults.specs.declared.fault.PlayFault.{PlayFault}
-use Rattle.play_faults.specs.declared.fault.PlayFault.TheVariants as fault
-use Rattle.play_faults.specs.Faults.{IsBefore, Rise}
+use Rattle.script_runs.specs.declared.fault.PlayFault.{PlayFault}
+use Rattle.script_runs.specs.declared.fault.PlayFault.TheVariants as fault
+use Rattle.script_runs.specs.Faults.{IsBefore, Rise}
 use Rattle.pack_geometry.specs.Pack.{Pack}
 use Rattle.hp_core.specs.Setups.{setups_of}
-use Rattle.run_laws.specs.StopsPasses.{State}
-use Rattle.run_laws.specs.Steps.{tables_in}
-use Rattle.event_lines.specs.Plays.{Tallied}
-use Rattle.event_lines.specs.Steps.{Stage, stage, HasCauses}
-use Rattle.event_lines.proofs.Whole.{ready_for, whole_for}
+use Rattle.script_runs.specs.StopsPasses.{State}
+use Rattle.script_runs.specs.Steps.{tables_in}
+use Rattle.event_player.specs.Plays.{Tallied}
+use Rattle.event_player.specs.Steps.{Stage, stage, HasCauses}
+use Rattle.event_player.proofs.Whole.{ready_for, whole_for}
 use Rattle.event_player.proofs.play.play_units.Goals as goal
-use Rattle.event_lines.proofs.Halting.{play_halts, stopped_leaves}
+use Rattle.event_player.proofs.Halting.{play_halts, stopped_leaves}
 
 -- behind the units nothing is too long, and there is memory
 never_before : {a b c d e f : ℕ} (result : Result Tally PlayFault) → HasCauses a b c d e f result → IsBefore result → ⊥

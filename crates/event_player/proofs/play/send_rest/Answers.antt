@@ -1,4 +1,4 @@
-use Rattle.event_lines.proofs.Halting.{rest_taken}
+use Rattle.event_player.proofs.Halting.{rest_taken}
 use Rattle.event_player.proofs.play.send_rest.Goals as goal
 
 pub returns-in-Err-Store-clause-lines : goal.returns-in-Err-Store-clause-lines

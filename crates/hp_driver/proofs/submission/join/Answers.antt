@@ -1,21 +1,19 @@
-use Rattle.std.proofs.Common.{sym, subst}
-use Rattle.request_slots.specs.declared.asked.Asked.{Asked}
-use Rattle.request_slots.specs.Requests.{IsHeldFor}
-use Rattle.hp_driver.specs.Subsystem.{asked}
-use Rattle.hp_events.specs.Passes.{MayJoin}
-use Rattle.hp_driver.proofs.Room.{may_join}
-use Rattle.hp_driver.proofs.Asking.{held_there, asks_joined}
+use Rattle.hp_driver.proofs.Attends.{sound_behind}
+use Rattle.hp_driver.proofs.Submitting.{join_sound, join_frees, submits, submit_stopped}
 use Rattle.hp_driver.proofs.submission.join.Goals as goal
 
-pub join-requires-clause-may : goal.join-requires-clause-may
-join-requires-clause-may g c =
-    subst (λ (a : Asked). MayJoin c.args.core.now.world a c.args.bytes.now) (sym c.asked_from-asked.ensures)
-    (may_join c.args.core.now.world c.args.request c.args.first c.args.bytes.now c.requires.stands.sound c.requires.none_waits c.requires.may c.requires.inside c.requires.room)
+pub due-requires-clause-sound : goal.due-requires-clause-sound
+due-requires-clause-sound g c = join_sound _ _ _ _ _ _ c.join.ensures c.requires.sound
+
+pub due-requires-clause-free : goal.due-requires-clause-free
+due-requires-clause-free g c = join_frees _ _ _ _ _ _ c.join.ensures c.requires.sound c.requires.work
+
+pub returns-in_err-due : goal.returns-in_err-due
+returns-in_err-due g c = submit_stopped _ _ _ _ _ _ c.join.ensures _ _ _ _ _ _ _ c.from_residual.ensures.1 c.in_err-due.ensures
+
+pub start_adapter-requires-clause-sound : goal.start_adapter-requires-clause-sound
+start_adapter-requires-clause-sound g c =
+    sound_behind _ _ _ c.args.line c.args.asked.unit _ _ _ _ _ (join_sound _ _ _ _ _ _ c.join.ensures c.requires.sound) c.in_ok-due.ensures
 
 pub returns : goal.returns
-returns g c =
-    asks_joined _ _ _ _ _ _ _ _ _ (asked c.args.request c.args.bytes.now) c.requires.stands c.requires.may.unit c.requires.may.fresh
-    c.join.ensures.slot c.join.ensures.held c.requires.joins c.join.ensures.may
-    (held_there c.args.core.now.world c.args.request c.args.bytes.now c.args.first c.join.ensures.held c.requires.first
-    (subst (λ (a : Asked). IsHeldFor a c.args.bytes.now c.join.ensures.held) c.asked_from-asked.ensures c.join.ensures.is))
-    c.join.ensures.does
+returns g c = submits _ _ _ _ _ _ c.join.ensures _ _ _ _ _ _ _ _ _ c.in_ok-due.ensures c.start_adapter.ensures

@@ -1,7 +1,7 @@
 use Rattle.std.proofs.Common.{◌≡◌, ℕ, ◌*◌, ◌<◌, Err, Some, ap, subst, sym, length}
 use Rattle.pack_geometry.specs.declared.DriveKind.{DriveKind}
 use Rattle.partitions.specs.declared.Part.TheVariants.{B}
-use Rattle.trace_laws.specs.Bytes.{blocks_for, dumped, dump_place}
+use Rattle.driver_laws.specs.rules.Bytes.{blocks_for, dumped, dump_place}
 use Rattle.raw_io.specs.Passes.{Stage, site}
 use Rattle.raw_io.specs.Calls.{StopsAt, done_by}
 use Rattle.raw_io.specs.Pieces.{PutsRange, start_of}

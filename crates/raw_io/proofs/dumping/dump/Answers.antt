@@ -2,7 +2,7 @@ use Rattle.std.proofs.Common.{◌≡◌, ◌*◌, ◌-◌, ◌<◌, length, ◌�
 use Rattle.std.proofs.lemmas.Option.{none-some, same_Some}
 use Rattle.partitions.specs.declared.Part.TheVariants.{B}
 use Rattle.partitions.specs.Partitions.{size_of}
-use Rattle.trace_laws.specs.Bytes.{blocks_for, dumped, dump_place}
+use Rattle.driver_laws.specs.rules.Bytes.{blocks_for, dumped, dump_place}
 use Rattle.blocking_io.specs.FrontsPasses.{Stage}
 use Rattle.blocking_io.specs.Sites.{site, kind_at}
 use Rattle.raw_io.specs.Calls.{StopsAt}

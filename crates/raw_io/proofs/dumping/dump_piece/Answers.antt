@@ -1,6 +1,6 @@
 use Rattle.std.proofs.Common.{IsTrue, sym, subst}
 use Rattle.std.specs.Prelude.{IfOk, OnErr}
-use Rattle.trace_laws.specs.Rest.{HasTables}
+use Rattle.driver_laws.specs.rules.Rest.{HasTables}
 use Rattle.blocking_io.specs.FrontsPasses.{Stage, setup_at}
 use Rattle.blocking_io.specs.Sites.{site, kind_at}
 use Rattle.raw_io.specs.Pieces.{IsWritten, PutsPiece, StopsPiece}

@@ -1,7 +1,7 @@
 use Rattle.std.proofs.Common.{◌≤◌, ◌+◌, ◌-◌, ◌*◌, ◌∙◌, take, drop, true, None, refl, sym, subst, arith, rules, Some}
 use Rattle.partitions.specs.declared.Part.TheVariants.{B}
 use Rattle.partitions.specs.Partitions.{size_of}
-use Rattle.trace_laws.specs.Bytes.{dumped}
+use Rattle.driver_laws.specs.rules.Bytes.{dumped}
 use Rattle.blocking_io.specs.FrontsPasses.{Stage}
 use Rattle.blocking_io.specs.Sites.{site, kind_at}
 use Rattle.raw_io.specs.Pieces.{IsPiece}

@@ -1,6 +1,6 @@
 use Rattle.std.proofs.Common.{◌≡◌, ◌*◌, ◌-◌, None, length}
 use Rattle.partitions.specs.declared.Part.TheVariants.{B}
-use Rattle.trace_laws.specs.Bytes.{blocks_for, dumped}
+use Rattle.driver_laws.specs.rules.Bytes.{blocks_for, dumped}
 use Rattle.blocking_io.specs.Sites.{site, Keeps}
 use Rattle.raw_io.proofs.WriteRanges.{SoWritten}
 use Rattle.raw_io.proofs.dumping.dump_range.Given as goal

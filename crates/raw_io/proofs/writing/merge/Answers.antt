@@ -1,7 +1,7 @@
 use Rattle.std.proofs.Common.{◌≡◌, ℕ, ◌+◌, ◌-◌, ◌≤◌, List, ◌++◌, length, length-drop, take, drop, sym, ap, ◌∙◌, arith}
 use borrow.Rule.Slice.PartMut.{put_mid}
-use Rattle.trace_laws.specs.Laid.{laid_at}
-use Rattle.trace_laws.proofs.Ranges.{laid_short}
+use Rattle.driver_laws.specs.rules.Laid.{laid_at}
+use Rattle.driver_laws.proofs.rules.Ranges.{laid_short}
 use Rattle.raw_io.proofs.writing.merge.Goals as goal
 
 merged : (skip : ℕ) (block from part : List ℕ) → part ≡ from → skip + length from ≤ length block → put_mid skip (skip + length from - skip) block part ≡ laid_at skip from block

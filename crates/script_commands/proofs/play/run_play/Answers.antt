@@ -1,5 +1,5 @@
 use Rattle.std.proofs.Common.{refl, sym}
-use Rattle.play_faults.specs.declared.fault.PlayFault.TheVariants as faults
+use Rattle.event_player.specs.PlayFault.TheVariants as faults
 use Rattle.script_lines.specs.Words.{all_verbs}
 use Rattle.script_reader.specs.Grammar.{IsRefused}
 use Rattle.script_reader.specs.Stored.{lines_in}

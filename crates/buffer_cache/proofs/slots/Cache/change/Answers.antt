@@ -1,6 +1,6 @@
 use Rattle.std.proofs.Common.{◌≡◌, ◌<◌, ℕ, sym, ap, ◌∙◌, subst}
 use Rattle.std.proofs.lemmas.List.{length-set}
-use Rattle.trace_laws.specs.Entries.{State, entry_of, changed_in_front}
+use Rattle.driver_laws.specs.rules.Entries.{State, entry_of, changed_in_front}
 use Rattle.std.specs.Prelude.{is_some, slice_set, true, false}
 use Rattle.buffer_cache.specs.declared.entry.Key.{Key}
 use Rattle.buffer_cache.specs.Views.{state_of, IsKept}

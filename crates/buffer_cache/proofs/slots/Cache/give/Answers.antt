@@ -1,6 +1,6 @@
 use Rattle.std.proofs.Common.{◌≡◌, ◌<◌, ℕ, refl, sym, ap, ◌∙◌, subst}
 use Rattle.std.proofs.lemmas.List.{get_or_default}
-use Rattle.trace_laws.specs.Entries.{State, entry_of, fronted}
+use Rattle.driver_laws.specs.rules.Entries.{State, entry_of, fronted}
 use Rattle.std.specs.Prelude.{is_some, true, false}
 use Rattle.buffer_cache.specs.declared.entry.Key.{Key}
 use Rattle.buffer_cache.specs.declared.entry.Held.{Held}

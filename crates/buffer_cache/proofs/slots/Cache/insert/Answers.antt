@@ -1,8 +1,8 @@
 use Rattle.std.proofs.Common.{◌≡◌, ◌<◌, ◌-◌, ℕ, ◌∷◌, length, take, sym, ap, ◌∙◌, subst}
 use Rattle.std.specs.Prelude.{slice_set, false, None}
 use Rattle.lru.specs.LruCache.{lru_cache}
-use Rattle.trace_laws.specs.Entries.{State, entry_of, put}
-use Rattle.trace_laws.specs.Calls.{entry}
+use Rattle.driver_laws.specs.rules.Entries.{State, entry_of, put}
+use Rattle.driver_laws.specs.rules.Calls.{entry}
 use Rattle.buffer_cache.specs.declared.entry.Key.{Key}
 use Rattle.buffer_cache.specs.Views.{state_of, entries_of, IsKept}
 use Rattle.buffer_cache.proofs.Orders.{takes_slot, new_entries, new_key, ok_of}

@@ -1,5 +1,5 @@
 use Rattle.std.proofs.Common.{ap, ◌∙◌, arith}
-use Rattle.trace_laws.specs.Entries.{if_changed, to_write_back}
+use Rattle.driver_laws.specs.rules.Entries.{if_changed, to_write_back}
 use Rattle.buffer_cache.proofs.Orders.{back_free, back_full}
 use Rattle.buffer_cache.proofs.slots.Cache.last_changed.Goals as goal
 

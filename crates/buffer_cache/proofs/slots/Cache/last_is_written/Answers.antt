@@ -2,7 +2,7 @@ use Rattle.std.proofs.Common.{◌≡◌, ◌<◌, sym, ap, ◌∙◌, subst}
 use Rattle.std.specs.Prelude.{false, option_map}
 use Rattle.std.specs.Map.Iter.{deref_pair}
 use Rattle.std.proofs.lemmas.List.{get_or_default}
-use Rattle.trace_laws.specs.Entries.{State, last_unchanged}
+use Rattle.driver_laws.specs.rules.Entries.{State, last_unchanged}
 use Rattle.buffer_cache.specs.declared.entry.Held.{Held}
 use Rattle.buffer_cache.specs.Views.{nothing, entries_of}
 use Rattle.buffer_cache.proofs.Orders.{last_in, last_unchanged_of, none_last}

@@ -1,7 +1,7 @@
 use Rattle.std.proofs.Common.{subst, arith, sym}
 use Rattle.std.proofs.lemmas.List.{length-map}
 use Rattle.std.specs.Prelude.{◌≤◌}
-use Rattle.trace_laws.specs.Entries.{IsCache}
+use Rattle.driver_laws.specs.rules.Entries.{IsCache}
 use Rattle.buffer_cache.specs.Views.{entry_at}
 use Rattle.buffer_cache.proofs.Orders.{apart_of}
 use Rattle.buffer_cache.proofs.slots.Cache.law.Goals as goal

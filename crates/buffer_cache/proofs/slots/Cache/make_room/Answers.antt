@@ -4,10 +4,10 @@ use Rattle.buffer_cache.specs.Passes.{Stage}
 use Rattle.buffer_cache.specs.Passes.{site}
 use Rattle.buffer_cache.specs.Passes.{map_at}
 use Rattle.buffer_cache.proofs.Passes.{on_err, keeps_none, keeps_err}
-use Rattle.trace_laws.specs.declared.cached.Entry.{Entry}
-use Rattle.trace_laws.specs.Requests.{writes}
-use Rattle.trace_laws.specs.Entries.{write_backs, written_last}
-use Rattle.trace_laws.proofs.Ones.{IsFound, each_found, back_all, back_one, none_one}
+use Rattle.driver_laws.specs.declared.rules.cached.Entry.{Entry}
+use Rattle.driver_laws.specs.rules.Requests.{writes}
+use Rattle.driver_laws.specs.rules.Entries.{write_backs, written_last}
+use Rattle.driver_laws.proofs.rules.Ones.{IsFound, each_found, back_all, back_one, none_one}
 use Rattle.buffer_cache.specs.Asks.{IsData, Asks}
 use Rattle.buffer_cache.specs.Calls.{IfTold, Holds}
 use Rattle.buffer_cache.proofs.Joins.{asks_none}

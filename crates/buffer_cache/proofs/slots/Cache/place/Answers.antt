@@ -4,10 +4,10 @@ use Rattle.std.specs.List.{AllByRecursion}
 use Rattle.buffer_cache.specs.Passes.{Stage}
 use Rattle.buffer_cache.specs.Passes.{setup_at, site}
 use Rattle.buffer_cache.proofs.Passes.{keeps_none, keeps_err, on_err}
-use Rattle.trace_laws.specs.Entries.{State, put}
-use Rattle.trace_laws.specs.Calls.{entry}
-use Rattle.trace_laws.specs.Rest.{HasTables}
-use Rattle.trace_laws.specs.Requests.{writes}
+use Rattle.driver_laws.specs.rules.Entries.{State, put}
+use Rattle.driver_laws.specs.rules.Calls.{entry}
+use Rattle.driver_laws.specs.rules.Rest.{HasTables}
+use Rattle.driver_laws.specs.rules.Requests.{writes}
 use Rattle.buffer_cache.specs.Asks.{IsData, LeftBy}
 use Rattle.buffer_cache.proofs.Joins.{asks_none}
 use Rattle.buffer_cache.proofs.Stays.{data_stays, all_data, put_data}

@@ -3,7 +3,7 @@ use Rattle.std.specs.Prelude.{not, None, Some, false}
 use Rattle.std.specs.List.{AllByRecursion}
 use Rattle.buffer_cache.specs.Passes.{Stage}
 use Rattle.buffer_cache.specs.Passes.{site}
-use Rattle.trace_laws.specs.Entries.{State, entry_of}
+use Rattle.driver_laws.specs.rules.Entries.{State, entry_of}
 use Rattle.buffer_cache.specs.Asks.{IsData}
 use Rattle.buffer_cache.specs.Calls.{Fetched}
 use Rattle.buffer_cache.proofs.Stays.{data_stays, holds_more, room_none, put_data}

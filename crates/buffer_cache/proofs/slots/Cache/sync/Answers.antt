@@ -5,7 +5,7 @@ use Rattle.buffer_cache.specs.Passes.{Stage}
 use Rattle.buffer_cache.specs.Passes.{site}
 use Rattle.buffer_cache.proofs.Passes.{keeps_err}
 use Rattle.buffer_cache.specs.Passes.{map_at}
-use Rattle.trace_laws.specs.Entries.{State, IsCache, written_back}
+use Rattle.driver_laws.specs.rules.Entries.{State, IsCache, written_back}
 use Rattle.buffer_cache.specs.Asks.{IsData, Asks}
 use Rattle.buffer_cache.specs.Views.{entries_of, state_of}
 use Rattle.buffer_cache.specs.Calls.{Syncs}

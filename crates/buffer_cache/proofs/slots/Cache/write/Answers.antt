@@ -4,7 +4,7 @@ use Rattle.std.specs.List.{AllByRecursion}
 use Rattle.buffer_cache.specs.Passes.{Stage}
 use Rattle.buffer_cache.specs.Passes.{setup_at, site}
 use Rattle.buffer_cache.proofs.Passes.{keeps_none, others_none}
-use Rattle.trace_laws.specs.Entries.{State, entry_of}
+use Rattle.driver_laws.specs.rules.Entries.{State, entry_of}
 use Rattle.buffer_cache.specs.Asks.{IsData}
 use Rattle.buffer_cache.specs.Calls.{MayUse, IfTold, Holds, Writes, is_done}
 use Rattle.buffer_cache.proofs.Stays.{never_some, no_entry, some_entry, change_data}

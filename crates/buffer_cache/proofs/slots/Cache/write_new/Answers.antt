@@ -3,7 +3,7 @@ use Rattle.std.specs.Prelude.{None, Some, false, true}
 use Rattle.buffer_cache.specs.Passes.{Stage}
 use Rattle.buffer_cache.specs.Passes.{site}
 use Rattle.buffer_cache.proofs.Passes.{keeps_join}
-use Rattle.trace_laws.specs.Entries.{State, entry_of}
+use Rattle.driver_laws.specs.rules.Entries.{State, entry_of}
 use Rattle.buffer_cache.specs.Calls.{Fetched}
 use Rattle.buffer_cache.proofs.Stays.{data_stays, holds_more, room_none}
 use Rattle.buffer_cache.proofs.Wholes.{write_unusable, write_usable, holds_write, holds_stored, keeps_stopped, never_stopped}

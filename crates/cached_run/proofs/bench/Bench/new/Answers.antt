@@ -1,5 +1,5 @@
 use Rattle.std.proofs.Common.{ap}
-use Rattle.trace_laws.specs.Entries.{State}
+use Rattle.driver_laws.specs.rules.Entries.{State}
 use Rattle.cached_run.proofs.bench.Bench.new.Goals as goal
 
 pub returns-clause-cache : goal.returns-clause-cache

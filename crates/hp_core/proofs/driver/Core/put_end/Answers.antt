@@ -1,5 +1,5 @@
 use Rattle.std.proofs.Common.{refl, sym, subst}
-use Rattle.driver_queues.specs.Queues.{AnswerQueue}
+use Rattle.request_slots.specs.Queues.{AnswerQueue}
 use Rattle.hp_core.specs.State.{HasRoom}
 use Rattle.hp_core.proofs.Rooms.{room_end}
 use Rattle.hp_core.proofs.driver.Core.put_end.Goals as goal

@@ -1,8 +1,8 @@
 use Rattle.std.proofs.Common.{◌≡◌, ℕ, ◌<◌, List, length, true, false, sym, ap, ◌∙◌, subst}
 use Rattle.std.specs.Prelude.{IsSome, slice_set, slice_index_or}
 use Rattle.hardware_table.specs.Adapter.{AdapterState, completed}
-use Rattle.mba_adapter.specs.declared.adapter.Ended.{Ended}
-use Rattle.mba_adapter.specs.Loaded.{loaded_buffer}
+use Rattle.request_slots.specs.Ended.{Ended}
+use Rattle.request_slots.specs.Loaded.{loaded_buffer}
 use Rattle.hp_interrupts.specs.Verdicts.{shows_late}
 use Rattle.driver_machine.specs.declared.Phase.TheVariants as phase
 use Rattle.driver_machine.specs.World.{World, UnitView, AdapterView, Held, no_unit, unit_at, adapter_at, slot_at, held_in, slot_in_hand, adapter_of}

@@ -1,8 +1,8 @@
 use Rattle.std.proofs.Common.{refl, sym, ap, subst, None, Option, Some, ◌∙◌}
 use Rattle.std.proofs.lemmas.Bool.{false≢true}
 use Rattle.trace_replay.specs.Script.{Input}
-use Rattle.driver_trace.specs.QuietPasses.{Stop}
-use Rattle.hp_events.specs.Inputs.{input_of}
+use Rattle.driver_laws.specs.declared.answers.outcome.Stop.{Stop}
+use Rattle.hp_driver.specs.Inputs.{input_of}
 use Rattle.hp_driver.specs.Bytes.{KeepsMapsIn}
 use Rattle.hp_driver.specs.Subsystem.{State, IsThere, Comes}
 use Rattle.hp_driver.proofs.subsystem.Subsystem.event.Goals as goal

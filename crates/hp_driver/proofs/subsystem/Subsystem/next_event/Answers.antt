@@ -1,6 +1,6 @@
 use Rattle.std.proofs.Common.{subst}
 use Rattle.std.specs.Prelude.{IfSome}
-use Rattle.hp_events.specs.Inputs.{input_of}
+use Rattle.hp_driver.specs.Inputs.{input_of}
 use Rattle.hp_driver.specs.Subsystem.{State, LeavesFewer}
 use Rattle.hp_driver.proofs.Kept.{next_over, next_there, next_falls}
 use Rattle.hp_driver.proofs.subsystem.Subsystem.next_event.Goals as goal

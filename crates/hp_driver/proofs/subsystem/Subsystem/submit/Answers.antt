@@ -1,8 +1,8 @@
 use Rattle.std.proofs.Common.{refl, sym, ap, subst, None, Some, ◌∙◌}
 use Rattle.std.proofs.lemmas.Bool.{false≢true}
 use Rattle.subsystem_spec.specs.Requests as told
-use Rattle.driver_trace.specs.QuietPasses.{Stop}
-use Rattle.driver_trace.specs.QuietPasses.{Sink}
+use Rattle.driver_laws.specs.declared.answers.outcome.Stop.{Stop}
+use Rattle.driver_laws.specs.declared.answers.outcome.Stop.TheVariants.{Sink}
 use Rattle.hp_driver.specs.Bytes.{KeepsMaps}
 use Rattle.hp_driver.specs.Subsystem.{State, asked, IsAsked, Submits}
 use Rattle.hp_driver.proofs.Asking.{may_ask}

@@ -1,9 +1,0 @@
-use Rattle.driver_invariant.proofs.Leads.{sound_along}
-use Rattle.driver_invariant.proofs.Sound.{sound_after}
-use Rattle.driver_invariant.proofs.whole.invariant_law.Goals as goal
-
-pub returns-clause-act : goal.returns-clause-act
-returns-clause-act c = sound_after
-
-pub returns-clause-acts : goal.returns-clause-acts
-returns-clause-acts c = sound_along sound_after

@@ -1,0 +1,148 @@
+-- What holds of the scene of a deed, and what a transfer that goes on keeps.
+use Rattle.std.proofs.Common.{◌≡◌, inl, inr, ℕ, ◌+◌, ◌<◌, ◌≤◌, Bool, true, false, Option, Some, None, refl, sym, ap, subst, arith}
+use Rattle.std.specs.Prelude.{if◌then◌else◌, slice_get, unwrap_or}
+use Rattle.pack_geometry.specs.declared.DriveKind.{DriveKind}
+use Rattle.pack_geometry.specs.Geometry.{limit_of, block_count, place_at}
+use Rattle.pack_geometry.specs.TableSpelling.{Table}
+use Rattle.pack_geometry.specs.PackTable.{places_of}
+use Rattle.hardware_table.specs.declared.Moved.TheVariants as verdict
+use Rattle.hardware_table.specs.Moves.{was_read}
+use Rattle.hardware_table.specs.Adapter.{AdapterState, IsAdapter, next_window}
+use Rattle.main_memory.specs.Blocks.{IsLoan}
+use Rattle.transfer_engine.specs.declared.job.Job.{Job}
+use Rattle.transfer_engine.specs.State.{TransferState, IsJob, IsTransfer, segment_by, segment_of}
+use Rattle.driver_machine.specs.declared.Phase.{Phase}
+use Rattle.driver_machine.specs.declared.Phase.TheVariants.{Waiting, Positioning, Queued, Transferring, Due}
+use Rattle.driver_machine.specs.declared.Task.TheVariants.{Clear, Judge, Steps, Command, GiveUp}
+use Rattle.driver_machine.specs.World.{UnitView, AdapterView, Held, transfer_of, no_transfer, job_of, drive_of, with_block_in}
+use Rattle.driver_machine.specs.Acts as deed
+use Rattle.driver_machine.specs.Acts.{Deed, Scene, effect}
+use Rattle.driver_machine.specs.Guards.{IsNext}
+use Rattle.driver_machine.specs.Sound.{IsDrive, IsBegun, IsPhase, IsTableFor, IsEndedAt, IsFor}
+use Rattle.driver_machine.specs.DueFacts.{IsDue}
+use Rattle.driver_machine.proofs.DueFacts.{due_facts, chosen_facts}
+use Rattle.driver_laws.proofs.invariant.Drives.{below_limit, replacement_below}
+
+-- WHAT HOLDS OF A SCENE. Where the adapter is busy for the unit, it transfers for the request in hand.
+pub record HasTransferFor (v : UnitView) (h : Held) (a : AdapterState) : Type 0 where
+  pub phase : v.phase ≡ Transferring
+  pub on_bus : h.on_bus ≡ true
+  pub loan : record { frames = a.frames; offset = a.offset; count = a.blocks; last = a.last } ≡ h.loan
+  pub segment : record { block = a.block; skip = a.skip; count = a.count } ≡ segment_of (transfer_of v)
+  pub write : a.write ≡ h.write
+  pub over : a.completion ≡ true → IsEndedAt a.verdict a.moved a.count × IsFor h.write a.verdict
+  pub whole : a.completion ≡ true → a.verdict ≡ verdict.Clean → a.moved ≡ a.count
+
+abbrev pub HasTransfer : Scene → Type 0
+HasTransfer s = HasTransferFor s.unit s.held s.adapter.state
+
+-- The drive, the phase and the table are as they have to be, what is asked lies on the pack, and the adapter is one.
+pub record SceneOk (u : ℕ) (s : Scene) : Type 0 where
+  pub drive : IsDrive s.unit.drive
+  pub phase : IsPhase u s.unit s.adapter s.held s.unit.phase
+  pub table : (table : Table) → s.unit.table ≡ Some table → IsTableFor s.unit.drive.kind table
+  pub loan : IsLoan s.held.loan
+  pub inside : s.held.first + s.held.loan.count ≤ limit_of s.unit.drive.kind
+  pub adapter : IsAdapter s.adapter.state
+  pub transfer : s.adapter.state.busy ≡ true → s.adapter.state.drive ≡ drive_of u → HasTransfer s
+
+-- the phase of a unit, once it is known
+pub phase_is : (u : ℕ) (s : Scene) (phase : Phase) → SceneOk u s → s.unit.phase ≡ phase → IsPhase u s.unit s.adapter s.held phase
+phase_is u s phase ok is = subst (IsPhase u s.unit s.adapter s.held) is ok.phase
+
+-- what may come because it is due, or because the adapter takes the unit
+pub due_of : (u : ℕ) (d : Deed) (s : Scene) → IsNext u d s → IsDue s.unit s.held d
+due_of u d s next = elim next [
+  | inl is ↦ due_facts s.unit s.held d is
+  | inr chosen ↦ subst (IsDue s.unit s.held) (sym chosen.due) (chosen_facts s.unit s.held chosen.phase)
+]
+
+pub job_is : (u : ℕ) (s : Scene) → SceneOk u s → IsJob (job_of s.unit.drive.kind s.held)
+job_is u s ok = record { some = ok.loan.shape.some; few = ok.loan.shape.few; below = ok.inside }
+
+-- THE SAME REQUEST, as far as it says what is asked
+pub record IsSameAsk (h g : Held) : Type 0 where
+  pub first : g.first ≡ h.first
+  pub loan : g.loan ≡ h.loan
+  pub write : g.write ≡ h.write
+
+pub same_ask : (h : Held) → IsSameAsk h h
+same_ask h = record { first = refl; loan = refl; write = refl }
+
+pub effect_ask : (line u p : ℕ) (d : Deed) (s : Scene) → IsSameAsk s.held (effect line u p d s).held
+effect_ask line u p (deed.Sector block t) s = by_read (was_read s.unit.drive t.verdict)
+  where
+    by_read : (b : Bool) → IsSameAsk s.held (if b then with_block_in (next_window s.adapter.state) t.bytes s.held else s.held)
+    by_read true = record { first = refl; loan = refl; write = refl }
+    by_read false = record { first = refl; loan = refl; write = refl }
+effect_ask line u p (deed.Intr moved last) s = record { first = refl; loan = refl; write = refl }
+effect_ask line u p (deed.Move write segment) s = record { first = refl; loan = refl; write = refl }
+effect_ask line u p (deed.Repair moved at pattern) s = record { first = refl; loan = refl; write = refl }
+effect_ask line u p (deed.End kind) s = record { first = refl; loan = refl; write = refl }
+effect_ask line u p other s = record { first = refl; loan = refl; write = refl }
+
+-- A TRANSFER GOES ON where the transfer, the table, the drive's kind and what is asked are as before.
+-- what a transfer that is begun goes by
+record BegunWith (t : Option TransferState) (table : Option Table) (kind : DriveKind) (first count : ℕ) (write : Bool) : Type 0 where
+  some : t ≡ Some (unwrap_or t no_transfer)
+  is : IsTransfer (unwrap_or t no_transfer)
+  job : (unwrap_or t no_transfer).job ≡ record { kind = kind; first = first; count = count; write = write }
+  listed : (i : ℕ) → (unwrap_or t no_transfer).index ≡ Some i
+      → slice_get (places_of table) i ≡ Some (place_at kind (first + (unwrap_or t no_transfer).done))
+
+begun_with : (t x : Option TransferState) (table other : Option Table) (kind like : DriveKind) (first count from many : ℕ) (write writes : Bool)
+    → BegunWith t table kind first count write → x ≡ t → other ≡ table → like ≡ kind → from ≡ first → many ≡ count → writes ≡ write
+    → BegunWith x other like from many writes
+begun_with t x table other kind like first count from many write writes is e f g h i j =
+    subst (λ y. BegunWith y other like from many writes) (sym e)
+    (subst (λ y. BegunWith t y like from many writes) (sym f)
+    (subst (λ y. BegunWith t table y from many writes) (sym g)
+    (subst (λ y. BegunWith t table kind y many writes) (sym h)
+    (subst (λ y. BegunWith t table kind first y writes) (sym i) (subst (λ y. BegunWith t table kind first count y) (sym j) is)))))
+
+pub begun_as : (v x : UnitView) (h g : Held) → IsBegun v h → x.transfer ≡ v.transfer → x.table ≡ v.table → x.drive.kind ≡ v.drive.kind → IsSameAsk h g → IsBegun x g
+begun_as v x h g is transfer table kind ask =
+    let was : BegunWith v.transfer v.table v.drive.kind h.first h.loan.count h.write = record { some = is.some; is = is.is; job = is.job; listed = is.listed } in
+    let now : BegunWith x.transfer x.table x.drive.kind g.first g.loan.count g.write =
+    begun_with v.transfer x.transfer v.table x.table v.drive.kind x.drive.kind h.first h.loan.count g.first g.loan.count h.write g.write was
+    transfer table kind ask.first (ap (λ l. l.count) ask.loan) ask.write in
+    record { some = now.some; is = now.is; job = now.job; listed = now.listed }
+
+-- what holds of a phase holds for the same request
+pub phase_held : (u : ℕ) (v : UnitView) (a : AdapterView) (h g : Held) (phase : Phase) → IsSameAsk h g → IsPhase u v a h phase → IsPhase u v a g phase
+phase_held u v a h g Waiting ask is = is
+phase_held u v a h g (Positioning taken) ask is = (begun_as v v h g is.0 refl refl refl ask, is.1, is.2)
+phase_held u v a h g Queued ask is = (begun_as v v h g is.0 refl refl refl ask, is.1, is.2)
+phase_held u v a h g Transferring ask is = (begun_as v v h g is.0 refl refl refl ask, is.1, is.2, is.3)
+phase_held u v a h g (Due (Clear moved last)) ask is =
+    (begun_as v v h g is.0 refl refl refl ask, is.1, is.2, is.3, subst (λ b. IsFor b last) (sym ask.write) is.4)
+phase_held u v a h g (Due (Judge moved last)) ask is =
+    (begun_as v v h g is.0 refl refl refl ask, is.1, is.2, subst (λ b. IsFor b last) (sym ask.write) is.3)
+phase_held u v a h g (Due (Steps taken)) ask is = (begun_as v v h g is.0 refl refl refl ask, is.1, is.2)
+phase_held u v a h g (Due Command) ask is = (begun_as v v h g is.0 refl refl refl ask, is.1)
+phase_held u v a h g (Due (GiveUp done)) ask is = (is.0, is.1, subst (λ l. done < l.count) (sym ask.loan) is.2)
+
+-- THE SECTORS OF A SEGMENT lie on the pack.
+segment_below : (index : Option ℕ) (job : Job) (done k : ℕ) → IsJob job → done < job.count → ((i : ℕ) → index ≡ Some i → i < 126)
+    → k < (segment_by index job done).count → (segment_by index job done).block + k < block_count job.kind
+segment_below None job done k is left entry less =
+    let below = is.below in below_limit job.kind (job.first + done + k) (omega (arith, below, left, less))
+segment_below (Some i) job done k is left entry less =
+    let same : replacement_of + k ≡ replacement_of = omega (arith, less) in
+    subst (λ n. n < block_count job.kind) (sym same) (replacement_below job.kind i (entry i refl))
+  where
+    replacement_of : ℕ
+    replacement_of = (segment_by (Some i) job done).block
+
+pub block_below : (v : UnitView) (h : Held) (k : ℕ) → IsBegun v h → k < (segment_of (transfer_of v)).count
+    → (segment_of (transfer_of v)).block + k < block_count v.drive.kind
+block_below v h k begun less =
+    subst (λ (j : Job). (segment_of (transfer_of v)).block + k < block_count j.kind) begun.job
+    (segment_below (transfer_of v).index (transfer_of v).job (transfer_of v).done k begun.is.is_job begun.is.left begun.is.entry less)
+
+pub segment_some : (t : TransferState) → IsTransfer t → 0 < (segment_of t).count
+segment_some t is = by_index t.index t.job t.done is.left
+  where
+    by_index : (index : Option ℕ) (job : Job) (done : ℕ) → done < job.count → 0 < (segment_by index job done).count
+    by_index None job done left = omega (arith, left)
+    by_index (Some i) job done left = omega arith

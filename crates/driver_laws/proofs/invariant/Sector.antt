@@ -1,0 +1,363 @@
+-- A SECTOR is tried: the next one lies on the pack, and behind it phase, drive and adapter hold.
+use Rattle.std.proofs.Common.{◌≡◌, ◌≢◌, ℕ, ◌+◌, ◌<◌, ◌≤◌, Bool, true, false, List, Option, Some, None, refl, sym, ap, ◌∙◌, subst, arith}
+use Rattle.std.specs.Prelude.{◌*◌, ◌-◌, if◌then◌else◌, ◌==◌, min, option_map}
+use Rattle.std.proofs.lemmas.Bool.{false≢true, eqb-true, eqb-false}
+use Rattle.std.specs.Int.{bit_at}
+use Rattle.pack_geometry.specs.declared.DriveKind.{DriveKind}
+use Rattle.pack_geometry.specs.declared.DriveKind.TheVariants.{Rp06, Rm03, Rm05}
+use Rattle.pack_geometry.specs.Geometry.{block_count}
+use Rattle.fire_code.specs.Burst.{IsBurst}
+use Rattle.fire_code.specs.Remainder.{remainder}
+use Rattle.fire_code.proofs.Laws.{burst_begins}
+use Rattle.hardware_table.specs.declared.Armed.{Armed}
+use Rattle.hardware_table.specs.declared.FaultKind.{FaultKind}
+use Rattle.hardware_table.specs.declared.FaultKind.TheVariants as fault
+use Rattle.hardware_table.specs.declared.Moved.{Moved}
+use Rattle.hardware_table.specs.declared.Moved.TheVariants as verdict
+use Rattle.hardware_table.specs.declared.Work.TheVariants as work
+use Rattle.hardware_table.specs.Drive.{DriveState, is_writing}
+use Rattle.hardware_table.specs.Events.{transfer_ended}
+use Rattle.hardware_table.specs.Moves.{passed, after_move, with_mark_bits, with_fault_bits, fault_used, first_armed, stop_of, IsReadVerdict, IsVerdictBy, IsVerdict, was_read}
+use Rattle.hardware_table.specs.Adapter.{AdapterState, IsAdapter, bytes_between, bytes_loaded, stepped, drive_stepped, next_block, late_after, next_window}
+use Rattle.main_memory.specs.Blocks.{Loan}
+use Rattle.transfer_engine.specs.declared.job.Segment.{Segment}
+use Rattle.transfer_engine.specs.State.{segment_of}
+use Rattle.driver_machine.specs.declared.Phase.TheVariants.{Transferring}
+use Rattle.driver_machine.specs.Acts as deed
+use Rattle.driver_machine.specs.Acts.{Tried, Scene, effect}
+use Rattle.driver_machine.specs.Sound.{IsDrive, IsPhase, IsClear, IsUnderWay, IsEndedAt, IsBurstAt, IsFor, late_by}
+use Rattle.driver_machine.specs.World.{Held, transfer_of, drive_of, with_block_in}
+use Rattle.driver_machine.specs.Guards.{May, IsBusyFor}
+use Rattle.driver_laws.proofs.invariant.Drives.{by_if, drive_after_step}
+use Rattle.driver_laws.proofs.invariant.Scene.{SceneOk, phase_is, same_ask, begun_as, block_below, effect_ask}
+use Rattle.driver_laws.proofs.invariant.DeedFacts.{transfer_at}
+use Rattle.driver_laws.proofs.invariant.AdapterLeft.{loaded_many, SceneAdapter, AdapterLeft}
+
+-- A SECTOR. What a move leaves of the drive's kind, its work and its attention
+pub record IsSameBut (d e : DriveState) : Type 0 where
+  pub kind : e.kind ≡ d.kind
+  pub work : e.work ≡ d.work
+  pub attention : e.attention ≡ d.attention
+
+-- a verdict names a place, errors, and the faults that are left
+same_but : {d : DriveState} {cc dc da la er1 er2 ec1 ec2 : ℕ} {armed : Armed}
+    → IsSameBut d (record d { cc = cc; dc = dc; da = da; la = la; er1 = er1; er2 = er2; ec1 = ec1; ec2 = ec2; armed = armed })
+same_but = record { kind = refl; work = refl; attention = refl }
+
+marked_same : (kind : DriveKind) (d : DriveState) → IsSameBut d (with_mark_bits kind d)
+marked_same Rp06 d = same_but
+marked_same Rm03 d = same_but
+marked_same Rm05 d = same_but
+
+faulted_same : (kind : FaultKind) (d : DriveState) → IsSameBut d (with_fault_bits kind (fault_used kind d))
+faulted_same fault.Seek d = same_but
+faulted_same fault.Opi d = same_but
+faulted_same fault.Dte d = same_but
+faulted_same fault.Hcrc d = same_but
+faulted_same fault.Late d = same_but
+
+moved_same : (v : Moved) (block : ℕ) (d : DriveState) → IsSameBut d (after_move v block d)
+moved_same verdict.Clean block d = same_but
+moved_same (verdict.Burst at pattern) block d = same_but
+moved_same verdict.Hard block d = same_but
+moved_same verdict.Marked block d = marked_same d.kind d
+moved_same (verdict.Faulted kind) block d = faulted_same kind d
+moved_same verdict.Offline block d = same_but
+
+pub kind_stepped : (v : Moved) (a : AdapterState) (d : DriveState) → (drive_stepped v a d).kind ≡ d.kind
+kind_stepped v a d =
+    let same = (moved_same v (next_block a) d).kind in
+    by_if (stepped v a).completion (λ (x : DriveState). x.kind ≡ d.kind) (transfer_ended (after_move v (next_block a) d)) (after_move v (next_block a) d) same same
+
+attention_stepped : (v : Moved) (a : AdapterState) (d : DriveState) → (drive_stepped v a d).attention ≡ d.attention
+attention_stepped v a d =
+    let same = (moved_same v (next_block a) d).attention in
+    by_if (stepped v a).completion (λ (x : DriveState). x.attention ≡ d.attention) (transfer_ended (after_move v (next_block a) d))
+    (after_move v (next_block a) d) same same
+
+-- a transfer that ends shows what its last verdict left
+stopped_way : (v : Moved) (block : ℕ) (d : DriveState) (a : AdapterState) → a.completion ≡ true → a.verdict ≡ v → a.data_late ≡ late_by v
+    → d.attention ≡ false → IsClear d → IsUnderWay (transfer_ended (after_move v block d)) a
+stopped_way v block d a up last late down clear = record {
+  work = sym (ap (λ b. if b then work.Ready else work.Transfer a.write) up);
+  attention = (moved_same v block d).attention ∙ down;
+  quiet = λ off. absurd (false≢true (sym off ∙ up));
+  shown = λ on. record {
+    before = d;
+    kind = sym (moved_same v block d).kind;
+    clear = clear;
+    block = block;
+    er1 = ap (λ (m : Moved). (after_move m block d).er1) (sym last);
+    er2 = ap (λ (m : Moved). (after_move m block d).er2) (sym last);
+    ec1 = ap (λ (m : Moved). (after_move m block d).ec1) (sym last);
+    ec2 = ap (λ (m : Moved). (after_move m block d).ec2) (sym last);
+    late = late ∙ ap late_by (sym last);
+  };
+}
+
+clean_way : (b : Bool) (block : ℕ) (d : DriveState) (a : AdapterState) → a.completion ≡ b → a.verdict ≡ verdict.Clean → a.data_late ≡ false
+    → d.work ≡ work.Transfer a.write → d.attention ≡ false → IsClear d → IsUnderWay (if b then transfer_ended (passed block d) else passed block d) a
+clean_way true block d a up last late does down clear = stopped_way verdict.Clean block d a up last late down clear
+clean_way false block d a up last late does down clear = record {
+  work = does ∙ sym (ap (λ b. if b then work.Ready else work.Transfer a.write) up);
+  attention = down;
+  quiet = λ off. record { clear = record { er1 = clear.er1; er2 = clear.er2 }; late = late };
+  shown = λ on. absurd (false≢true (sym up ∙ on));
+}
+
+way_stepped : (v : Moved) (a : AdapterState) (d : DriveState) → a.completion ≡ false → IsUnderWay d a → IsUnderWay (drive_stepped v a d) (stepped v a)
+way_stepped verdict.Clean a d up way =
+    let does : d.work ≡ work.Transfer a.write = way.work ∙ ap (λ b. if b then work.Ready else work.Transfer a.write) up in
+    clean_way (stepped verdict.Clean a).completion (next_block a) d (stepped verdict.Clean a) refl refl (way.quiet up).late does way.attention (way.quiet up).clear
+way_stepped (verdict.Burst at pattern) a d up way =
+    stopped_way (verdict.Burst at pattern) (next_block a) d (stepped (verdict.Burst at pattern) a) refl refl (way.quiet up).late way.attention (way.quiet up).clear
+way_stepped verdict.Hard a d up way =
+    stopped_way verdict.Hard (next_block a) d (stepped verdict.Hard a) refl refl (way.quiet up).late way.attention (way.quiet up).clear
+way_stepped verdict.Marked a d up way =
+    stopped_way verdict.Marked (next_block a) d (stepped verdict.Marked a) refl refl (way.quiet up).late way.attention (way.quiet up).clear
+way_stepped (verdict.Faulted kind) a d up way =
+    stopped_way (verdict.Faulted kind) (next_block a) d (stepped (verdict.Faulted kind) a) refl refl (ap (late_after kind) (way.quiet up).late)
+    way.attention (way.quiet up).clear
+way_stepped verdict.Offline a d up way =
+    stopped_way verdict.Offline (next_block a) d (stepped verdict.Offline a) refl refl (way.quiet up).late way.attention (way.quiet up).clear
+
+-- a step leaves what was started
+pub record IsStepOf (a b : AdapterState) : Type 0 where
+  pub busy : b.busy ≡ a.busy
+  pub drive : b.drive ≡ a.drive
+  pub frames : b.frames ≡ a.frames
+  pub offset : b.offset ≡ a.offset
+  pub blocks : b.blocks ≡ a.blocks
+  pub last : b.last ≡ a.last
+  pub block : b.block ≡ a.block
+  pub skip : b.skip ≡ a.skip
+  pub count : b.count ≡ a.count
+  pub write : b.write ≡ a.write
+  pub attentions : b.attentions ≡ a.attentions
+
+-- it changes only what has moved, what is left, and what it shows
+step_of : {a : AdapterState} {address byte_count moved : ℕ} {completion : Bool} {v : Moved} {late : Bool}
+    → IsStepOf a (record a { address = address; byte_count = byte_count; moved = moved; completion = completion; verdict = v; data_late = late })
+step_of = record {
+  busy = refl;
+  drive = refl;
+  frames = refl;
+  offset = refl;
+  blocks = refl;
+  last = refl;
+  block = refl;
+  skip = refl;
+  count = refl;
+  write = refl;
+  attentions = refl;
+}
+
+is_step : (v : Moved) (a : AdapterState) → IsStepOf a (stepped v a)
+is_step verdict.Clean a = step_of
+is_step (verdict.Burst at pattern) a = step_of
+is_step verdict.Hard a = step_of
+is_step verdict.Marked a = step_of
+is_step (verdict.Faulted kind) a = step_of
+is_step verdict.Offline a = step_of
+
+pub sector_phase : (line u p block : ℕ) (t : Tried) (s : Scene) → SceneOk u s → IsBusyFor s.adapter.state (drive_of u) false
+    → IsPhase u (effect line u p (deed.Sector block t) s).unit (effect line u p (deed.Sector block t) s).adapter s.held s.unit.phase
+sector_phase line u p block t s ok may =
+    let has = transfer_at u false s ok may in
+    let x = (effect line u p (deed.Sector block t) s).unit in
+    let a = (effect line u p (deed.Sector block t) s).adapter in
+    let is : IsPhase u s.unit s.adapter s.held Transferring = phase_is u s Transferring ok has.phase in
+    let step = is_step t.verdict s.adapter.state in
+    subst (IsPhase u x a s.held) (sym has.phase) (
+      begun_as s.unit x s.held s.held is.0 refl refl (kind_stepped t.verdict s.adapter.state s.unit.drive) (same_ask s.held),
+      way_stepped t.verdict s.adapter.state s.unit.drive may.completion is.1,
+      step.busy ∙ may.busy,
+      step.drive ∙ may.drive,
+    )
+
+-- THE NEXT SECTOR of a transfer that is under way lies on the pack: some bytes of the segment are left.
+loaded_few : (blocks last skip count : ℕ) → bytes_between blocks last skip count ≤ 512 * count
+loaded_few blocks last skip count = by_test (skip + count == blocks)
+  where
+    by_test : (b : Bool) → (if b then 512 * count - (512 - last) else 512 * count) ≤ 512 * count
+    by_test true = omega arith
+    by_test false = omega arith
+
+moved_fewer : (bytes all moved count : ℕ) → bytes ≡ all - 512 * moved → 0 < bytes → all ≤ 512 * count → moved < count
+moved_fewer bytes all moved count counted some few = omega arith
+
+pub moved_less : (a : AdapterState) → IsAdapter a → a.busy ≡ true → a.completion ≡ false → a.moved < a.count
+moved_less a is busy up = moved_fewer a.byte_count (bytes_loaded a) a.moved a.count (is.counted busy) (is.left busy up) (loaded_few a.blocks a.last a.skip a.count)
+
+pub next_below : (u : ℕ) (s : Scene) → SceneOk u s → IsBusyFor s.adapter.state (drive_of u) false → next_block s.adapter.state < block_count s.unit.drive.kind
+next_below u s ok may =
+    let a : AdapterState = s.adapter.state in
+    let has = transfer_at u false s ok may in
+    let is : IsPhase u s.unit s.adapter s.held Transferring = phase_is u s Transferring ok has.phase in
+    let count : a.count ≡ (segment_of (transfer_of s.unit)).count = ap (λ (x : Segment). x.count) has.segment in
+    let block : a.block ≡ (segment_of (transfer_of s.unit)).block = ap (λ (x : Segment). x.block) has.segment in
+    let less : a.moved < (segment_of (transfer_of s.unit)).count = subst (λ n. a.moved < n) count (moved_less a ok.adapter may.busy may.completion) in
+    subst (λ n. n + a.moved < block_count s.unit.drive.kind) (sym block) (block_below s.unit s.held a.moved is.0 less)
+
+pub sector_drive : (line u p block : ℕ) (t : deed.Tried) (s : Scene) → SceneOk u s → May u (deed.Sector block t) s
+    → IsDrive (effect line u p (deed.Sector block t) s).unit.drive
+sector_drive line u p block t s ok may = drive_after_step t.verdict s.adapter.state s.unit.drive (next_below u s ok may.0) ok.drive
+
+-- A SECTOR. A step takes 512 bytes, or what is left.
+still_placed : (address bytes sum : ℕ) → address + bytes ≡ sum → address + min 512 bytes + (bytes - min 512 bytes) ≡ sum
+still_placed address bytes sum e = omega arith
+
+still_counted : (bytes all moved : ℕ) → bytes ≡ all - 512 * moved → bytes - min 512 bytes ≡ all - 512 * (moved + 1)
+still_counted bytes all moved e = omega arith
+
+some_left : (n : ℕ) → (n == 0) ≡ false → 0 < n
+some_left n e = let ne : n ≢ 0 = eqb-false _ _ e in omega arith
+
+stopped_adapter : (a : AdapterState) (v : Moved) (late : Bool) → IsAdapter a → IsAdapter (record a { completion = true; verdict = v; data_late = late })
+stopped_adapter a v late k = record {
+  inside = k.inside;
+  few = k.few;
+  offset = k.offset;
+  last_some = k.last_some;
+  last_few = k.last_few;
+  place = k.place;
+  counted = k.counted;
+  left = λ e f. absurd (false≢true (sym f));
+}
+
+stepped_adapter : (v : Moved) (a : AdapterState) → IsAdapter a → a.busy ≡ true → IsAdapter (stepped v a)
+stepped_adapter verdict.Clean a k busy = record {
+  inside = k.inside;
+  few = k.few;
+  offset = k.offset;
+  last_some = k.last_some;
+  last_few = k.last_few;
+  place = still_placed a.address a.byte_count _ k.place;
+  counted = λ e. still_counted a.byte_count (bytes_loaded a) a.moved (k.counted busy);
+  left = λ e f. some_left (a.byte_count - min 512 a.byte_count) f;
+}
+stepped_adapter (verdict.Burst at pattern) a k busy = stopped_adapter a _ _ k
+stepped_adapter verdict.Hard a k busy = stopped_adapter a _ _ k
+stepped_adapter verdict.Marked a k busy = stopped_adapter a _ _ k
+stepped_adapter (verdict.Faulted kind) a k busy = stopped_adapter a _ _ k
+stepped_adapter verdict.Offline a k busy = stopped_adapter a _ _ k
+
+-- where the completion goes up behind a clean sector, all moved
+all_moved : (bytes all moved count : ℕ) → bytes ≡ all - 512 * moved → 0 < bytes → all ≤ 512 * count → 512 * count < all + 512
+    → bytes - min 512 bytes ≡ 0 → moved + 1 ≡ count
+all_moved bytes all moved count counted some few many none = omega arith
+
+over_stepped : (v : Moved) (a : AdapterState) → IsAdapter a → a.busy ≡ true → a.completion ≡ false
+    → IsEndedAt (stepped v a).verdict (stepped v a).moved (stepped v a).count
+over_stepped verdict.Clean a k busy up = let less = moved_less a k busy up in (omega arith, omega (arith, less))
+over_stepped (verdict.Burst at pattern) a k busy up = moved_less a k busy up
+over_stepped verdict.Hard a k busy up = moved_less a k busy up
+over_stepped verdict.Marked a k busy up = moved_less a k busy up
+over_stepped (verdict.Faulted kind) a k busy up = moved_less a k busy up
+over_stepped verdict.Offline a k busy up = moved_less a k busy up
+
+whole_stepped : (v : Moved) (a : AdapterState) → IsAdapter a → a.busy ≡ true → a.completion ≡ false → (stepped v a).completion ≡ true
+    → (stepped v a).verdict ≡ verdict.Clean → (stepped v a).moved ≡ (stepped v a).count
+whole_stepped verdict.Clean a k busy up on clean =
+    let less = moved_less a k busy up in
+    let inside = k.inside in
+    all_moved a.byte_count (bytes_loaded a) a.moved a.count (k.counted busy) (k.left busy up) (loaded_few a.blocks a.last a.skip a.count)
+    (loaded_many a.blocks a.last a.skip a.count (k.last_some (omega (arith, inside, less))) (omega (arith, less))) (eqb-true _ _ on)
+whole_stepped (verdict.Burst at pattern) a k busy up on clean = absurd (grind (arith, clean))
+whole_stepped verdict.Hard a k busy up on clean = absurd (grind (arith, clean))
+whole_stepped verdict.Marked a k busy up on clean = absurd (grind (arith, clean))
+whole_stepped (verdict.Faulted kind) a k busy up on clean = absurd (grind (arith, clean))
+whole_stepped verdict.Offline a k busy up on clean = absurd (grind (arith, clean))
+
+stepped_verdict : (v : Moved) (a : AdapterState) → (stepped v a).verdict ≡ v
+stepped_verdict verdict.Clean a = refl
+stepped_verdict (verdict.Burst at pattern) a = refl
+stepped_verdict verdict.Hard a = refl
+stepped_verdict verdict.Marked a = refl
+stepped_verdict (verdict.Faulted kind) a = refl
+stepped_verdict verdict.Offline a = refl
+
+-- a burst lies in the word
+burst_at : (at pattern r : ℕ) → IsBurst at pattern r → IsBurstAt at pattern
+burst_at at pattern r is = record { first = omega (arith, is.counted); last = burst_begins at pattern r is; pattern_bits = is.small }
+
+-- a burst and a hard error are found by reads alone
+for_read : (places : Option (List ℕ)) (v : Moved) → IsReadVerdict places v → IsFor false v
+for_read None v is = subst (IsFor false) (sym is) tt
+for_read (Some places) verdict.Clean is = tt
+for_read (Some places) (verdict.Burst at pattern) is = (refl, burst_at at pattern (remainder places) is)
+for_read (Some places) verdict.Hard is = refl
+for_read (Some places) verdict.Marked is = tt
+for_read (Some places) (verdict.Faulted kind) is = tt
+for_read (Some places) verdict.Offline is = tt
+
+-- a drive that is stopped shows neither
+abbrev pub IsStop : Bool → Option Moved → Type 0
+IsStop write None = Unit {0}
+IsStop write (Some stop) = IsFor write stop
+
+stop_by : (on write : Bool) (kind : Option FaultKind) → IsStop write (if on then option_map verdict.Faulted kind else Some verdict.Offline)
+stop_by false write kind = tt
+stop_by true write None = tt
+stop_by true write (Some kind) = tt
+
+for_by : (stop : Option Moved) (marked write : Bool) (places : Option (List ℕ)) (v : Moved) → IsStop write stop → IsVerdictBy stop marked write places v → IsFor write v
+for_by (Some stop) marked write places v stops is = subst (IsFor write) (sym is) stops
+for_by None true write places v stops is = subst (IsFor write) (sym is) tt
+for_by None false true places v stops is = subst (IsFor true) (sym is) tt
+for_by None false false places v stops is = for_read places v is
+
+for_verdict : (d : DriveState) (marked write : Bool) (places : Option (List ℕ)) (v : Moved) → d.work ≡ work.Transfer write → IsVerdict d marked places v → IsFor write v
+for_verdict d marked write places v does is =
+    for_by (stop_of d) marked write places v (stop_by d.online write (first_armed d.armed))
+    (subst (λ b. IsVerdictBy (stop_of d) marked b places v) (ap is_writing does) is)
+
+held_on_bus : (b : Bool) (h : Held) (k : ℕ) (bytes : List ℕ) → (if b then with_block_in k bytes h else h).on_bus ≡ h.on_bus
+held_on_bus true h k bytes = refl
+held_on_bus false h k bytes = refl
+
+same_loan : (a b : AdapterState) → IsStepOf a b
+    → ◌≡◌ {A = Loan} (record { frames = b.frames; offset = b.offset; count = b.blocks; last = b.last })
+    (record { frames = a.frames; offset = a.offset; count = a.blocks; last = a.last })
+same_loan a b is = λ i. record { frames = is.frames i; offset = is.offset i; count = is.blocks i; last = is.last i }
+
+same_segment : (a b : AdapterState) → IsStepOf a b
+    → ◌≡◌ {A = Segment} (record { block = b.block; skip = b.skip; count = b.count }) (record { block = a.block; skip = a.skip; count = a.count })
+same_segment a b is = λ i. record { block = is.block i; skip = is.skip i; count = is.count i }
+
+pub sector_left : (line u p block : ℕ) (t : deed.Tried) (s : Scene) → SceneOk u s → SceneAdapter u s → May u (deed.Sector block t) s
+    → AdapterLeft u s.adapter (effect line u p (deed.Sector block t) s).unit (effect line u p (deed.Sector block t) s).adapter
+    (effect line u p (deed.Sector block t) s).held
+sector_left line u p block t s ok at may =
+    let e : Scene = effect line u p (deed.Sector block t) s in
+    let a : AdapterState = s.adapter.state in
+    let has = transfer_at u false s ok may.0 in
+    let is : IsPhase u s.unit s.adapter s.held Transferring = phase_is u s Transferring ok has.phase in
+    let step = is_step t.verdict a in
+    let ask = effect_ask line u p (deed.Sector block t) s in
+    let does : s.unit.drive.work ≡ work.Transfer a.write = is.1.work ∙ ap (λ b. if b then work.Ready else work.Transfer a.write) may.0.completion in
+    let reads : IsFor e.held.write (stepped t.verdict a).verdict =
+    subst (IsFor e.held.write) (sym (stepped_verdict t.verdict a))
+    (subst (λ b. IsFor b t.verdict) (has.write ∙ sym ask.write) (for_verdict s.unit.drive t.marked a.write _ t.verdict does may.2.verdict)) in
+    record {
+      state = stepped_adapter t.verdict a ok.adapter may.0.busy;
+      drive = subst (λ n. n < 8) (sym (step.drive ∙ may.0.drive)) at.unit;
+      own = λ busy drive. record {
+        phase = has.phase;
+        on_bus = held_on_bus (was_read s.unit.drive t.verdict) s.held (next_window a) t.bytes ∙ has.on_bus;
+        loan = same_loan a (stepped t.verdict a) step ∙ (has.loan ∙ sym ask.loan);
+        segment = same_segment a (stepped t.verdict a) step ∙ has.segment;
+        write = step.write ∙ (has.write ∙ sym ask.write);
+        over = λ up. (over_stepped t.verdict a ok.adapter may.0.busy may.0.completion, reads);
+        whole = λ up clean. whole_stepped t.verdict a ok.adapter may.0.busy may.0.completion up clean;
+      };
+      elsewhere = λ busy other. absurd (other (step.drive ∙ may.0.drive));
+      rest = λ free. absurd (false≢true (sym free ∙ (step.busy ∙ may.0.busy)));
+      waits = λ x m other. m;
+      mine = at.mine;
+      once = at.once;
+      small = subst (λ n. n < 256) (sym step.attentions) at.small;
+      bits = λ k lt other. ap (λ n. bit_at n k) step.attentions;
+      bit = ap (λ n. bit_at n (drive_of u)) step.attentions
+          ∙ (at.bit ∙ ap (λ b. if b then 1 else 0) (sym (attention_stepped t.verdict a s.unit.drive)));
+    }

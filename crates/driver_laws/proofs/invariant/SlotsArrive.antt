@@ -1,0 +1,15 @@
+-- A POSITIONING ENDS: what it keeps of its scene, and that the request's blocks fit.
+use Rattle.std.proofs.Common.{◌≡◌, ℕ, true, refl}
+use Rattle.driver_machine.specs.declared.Phase.TheVariants.{Transferring}
+use Rattle.driver_machine.specs.Guards.{May}
+use Rattle.driver_machine.specs.Acts as deed
+use Rattle.driver_machine.specs.Acts.{Scene, effect}
+use Rattle.driver_laws.proofs.invariant.Hand.{Keeps, Fits}
+use Rattle.driver_laws.proofs.invariant.KindStays.{arrived_kind}
+use Rattle.driver_laws.proofs.invariant.SlotsDeedFacts.{kept}
+
+pub arrive_keeps : (line u p : ℕ) (s : Scene) → Keeps s (effect line u p deed.Arrive s)
+arrive_keeps line u p s = kept s _ _ refl refl (arrived_kind s.unit.drive)
+
+pub arrive_fits : (line u p : ℕ) (s : Scene) → May u deed.Arrive s → (s.held.on_bus ≡ true → s.unit.phase ≡ Transferring) → Fits s (effect line u p deed.Arrive s)
+arrive_fits line u p s may bus = record { whole = λ k lt e. e; bus = bus }

@@ -1,0 +1,18 @@
+-- DCLR: what it keeps of its scene, and that the request's blocks fit.
+use Rattle.std.proofs.Common.{◌≡◌, ℕ, true, refl}
+use Rattle.drive_registers.specs.declared.Function.TheVariants as function
+use Rattle.hardware_table.specs.declared.Moved.{Moved}
+use Rattle.driver_machine.specs.declared.Phase.TheVariants.{Transferring}
+use Rattle.driver_machine.specs.Guards.{May}
+use Rattle.driver_machine.specs.Acts as deed
+use Rattle.driver_machine.specs.Acts.{Scene, effect}
+use Rattle.driver_laws.proofs.invariant.Hand.{Keeps, Fits}
+use Rattle.driver_laws.proofs.invariant.KindStays.{performed_kind}
+use Rattle.driver_laws.proofs.invariant.SlotsDeedFacts.{kept, not_transferring, rests}
+
+pub dclr_keeps : (line u p moved : ℕ) (last : Moved) (s : Scene) → Keeps s (effect line u p (deed.Dclr moved last) s)
+dclr_keeps line u p moved last s = kept s _ _ refl refl (performed_kind function.Clear s.unit.drive)
+
+pub dclr_fits : (line u p moved : ℕ) (last : Moved) (s : Scene) → May u (deed.Dclr moved last) s → (s.held.on_bus ≡ true → s.unit.phase ≡ Transferring)
+    → Fits s (effect line u p (deed.Dclr moved last) s)
+dclr_fits line u p moved last s may bus = rests s _ refl bus (not_transferring u _ s may)

@@ -1,0 +1,192 @@
+-- A calm replay stays so.
+use Rattle.std.proofs.Common.{◌≡◌, ℕ, ◌==◌, Bool, true, false, List, [], ◌∷◌, None, Some, refl, sym, ap, subst, ◌∙◌}
+use Rattle.std.specs.Prelude.{if◌then◌else◌}
+use Rattle.hardware_table.specs.declared.Moved.{Moved}
+use Rattle.hardware_table.specs.Drive.{DriveState, is_writing}
+use Rattle.hardware_table.specs.Events.{turned}
+use Rattle.hardware_table.specs.Moves.{stop_of, IsVerdictBy, was_read, was_written}
+use Rattle.hardware_table.specs.Noise.{LiveNoise, strikes, after_strike}
+use Rattle.subsystem_spec.specs.Requests.{Request, Answer, Rejection, AtEnd, Beyond, FramesShort, rejection_answer}
+use Rattle.trace_replay.specs.Script.{Input, Submit, ArriveAt, MoveAt, AttendTo, Drain, Turn, Noise, Arm, SetOnline, SetLocked}
+use Rattle.trace_replay.specs.Moments.{Deed, Search, Seek, Recal, Offset, Centre, Clear, Pack, Transfer, Arrive, Sector, Intr, Try, Attn, End, Played, Told, Idle}
+use Rattle.trace_replay.specs.Packs.{Surface, VerdictMay, flips_at, surface_read, surface_written}
+use Rattle.trace_replay.specs.Service.{head_of, in_hand, target_of}
+use Rattle.trace_replay.specs.Conversation.{Stage, Waiting, Steps, UnderWay, AtOnce, Moving, Saying, Ending}
+use Rattle.trace_replay.specs.Events.{Event, Wish, NoLine, DueLine, Arrival, SectorLine, Interrupt, Attention, Refusal, IdleLine}
+use Rattle.trace_replay.specs.Replay.{Replay, UnitSeen, with_state, at_unit, hand_of, next_wish, ToldMay, unit_after, surface_after, replay_told, after_moment, Submission, Refused, Joined, submission, submitted, stage_joined, unit_joined, replay_played}
+use Rattle.trace_replay.proofs.Unchanged.{told_keeps}
+use Rattle.driver_laws.specs.rules.Calm.{IsGood, is_calm_verdict, is_calm_stage, IsCalm, is_calm_input, is_calm_moment, are_calm, IsCalmEnd, is_refused_at_once, StaysCalm, RunsStayCalm, EndsAreCalm}
+use Rattle.driver_laws.proofs.rules.Drives.{no, either_good, IsCalmDeed, after_good}
+use Rattle.driver_laws.proofs.rules.WaitedStages.{first_of, second_of, begun_calm, stage_calm, end_calm}
+
+-- ---- the verdict of a sector that is tried
+stopped_not : (d : DriveState) → IsGood d → stop_of d ≡ None
+stopped_not d g = rw (g.0, g.2) refl
+
+verdict_by : (marked write : Bool) (v : Moved) → IsVerdictBy None marked write None v → is_calm_verdict v ≡ true
+verdict_by true write v is = rw is refl
+verdict_by false true v is = rw is refl
+verdict_by false false v is = rw is refl
+
+verdict_calm : (s : Replay) (unit : ℕ) (deed : Deed) → IsCalm s → VerdictMay s.surface unit (s.units unit).drive deed → IsCalmDeed deed
+verdict_calm s unit (Sector block v) calm may =
+    verdict_by (s.surface.is_marked unit block) (is_writing (s.units unit).drive.work) v
+    (subst (λ z. IsVerdictBy None (s.surface.is_marked unit block) (is_writing (s.units unit).drive.work) z v)
+    (ap (λ (z : List LiveNoise). strikes unit block (s.units unit).drive.offset z) calm.live)
+    (subst (λ z. IsVerdictBy z (s.surface.is_marked unit block) (is_writing (s.units unit).drive.work) (flips_at s.surface unit (s.units unit).drive block) v)
+    (stopped_not (s.units unit).drive (calm.drives unit)) may))
+verdict_calm s unit (Search c y) calm may = tt
+verdict_calm s unit (Seek c) calm may = tt
+verdict_calm s unit Recal calm may = tt
+verdict_calm s unit (Offset o) calm may = tt
+verdict_calm s unit Centre calm may = tt
+verdict_calm s unit Clear calm may = tt
+verdict_calm s unit Pack calm may = tt
+verdict_calm s unit (Transfer w b k) calm may = tt
+verdict_calm s unit Arrive calm may = tt
+verdict_calm s unit Intr calm may = tt
+verdict_calm s unit (Try b f) calm may = tt
+verdict_calm s unit Attn calm may = tt
+verdict_calm s unit (End answer) calm may = tt
+
+-- ---- one unit is replaced
+each_unit : (P : UnitSeen → Type 0) (units : ℕ → UnitSeen) (k : ℕ) (u : UnitSeen) (x : ℕ) → P u → P (units x) → P (with_state units k u x)
+each_unit P units k u x mine other = by (x == k)
+  where
+    by : (b : Bool) → P (Rattle.trace_replay.specs.Replay.this_or b u units x)
+    by true = mine
+    by false = other
+
+-- ---- noise
+read_by : (b : Bool) (s : Surface) (unit : ℕ) (d : DriveState) (block : ℕ) → s.live ≡ [] → (surface_read b s unit d block).live ≡ []
+read_by true s unit d block none = ap (after_strike unit block d.offset) none
+read_by false s unit d block none = none
+
+written_by : (b : Bool) (s : Surface) (unit block : ℕ) (r : Request) (k : ℕ) → s.live ≡ [] → (surface_written b s unit block r k).live ≡ []
+written_by true s unit block r k none = none
+written_by false s unit block r k none = none
+
+live_calm : (s : Replay) (unit : ℕ) (deed : Deed) → s.surface.live ≡ [] → (surface_after s unit deed).live ≡ []
+live_calm s unit (Sector block v) none =
+    written_by (was_written (s.units unit).drive v) (surface_read (was_read (s.units unit).drive v) s.surface unit (s.units unit).drive block) unit block
+    (in_hand (s.units unit).service) (s.units unit).progress.done (read_by (was_read (s.units unit).drive v) s.surface unit (s.units unit).drive block none)
+live_calm s unit (Search c y) none = none
+live_calm s unit (Seek c) none = none
+live_calm s unit Recal none = none
+live_calm s unit (Offset o) none = none
+live_calm s unit Centre none = none
+live_calm s unit Clear none = none
+live_calm s unit Pack none = none
+live_calm s unit (Transfer w b k) none = none
+live_calm s unit Arrive none = none
+live_calm s unit Intr none = none
+live_calm s unit (Try b f) none = none
+live_calm s unit Attn none = none
+live_calm s unit (End answer) none = none
+
+-- ---- a line of a unit
+unit_good : (s : Replay) (unit : ℕ) (deed : Deed) → IsCalmDeed deed → IsCalm s → IsGood (unit_after s unit deed).drive
+unit_good s unit deed is calm =
+    after_good (s.units unit).drive (at_unit s unit).state (target_of (s.units unit).drive.kind (in_hand (s.units unit).service)) deed is (calm.drives unit)
+
+told_calm : (s : Replay) (unit : ℕ) (deed : Deed) (event : Event) → IsCalmDeed deed → IsCalm s → IsCalm (record (replay_told s unit deed (unit_after s unit deed)) { event = event })
+told_calm s unit deed event is calm = record {
+  drives = λ x. each_unit (λ (u : UnitSeen). IsGood u.drive) s.units unit (unit_after s unit deed) x (unit_good s unit deed is calm) (calm.drives x);
+  stages = λ x. each_unit (λ (u : UnitSeen). is_calm_stage u.stage ≡ true) s.units unit (unit_after s unit deed) x
+      (stage_calm (s.units unit).stage deed (unit_after s unit deed).drive (record (hand_of (s.units unit)) { progress = (unit_after s unit deed).progress })
+      (head_of (unit_after s unit deed).service) is (calm.stages unit)) (calm.stages x);
+  live = live_calm s unit deed calm.live;
+}
+
+pub other_event : (s : Replay) (event : Event) → IsCalm s → IsCalm (record s { event = event })
+other_event s event calm = record { drives = calm.drives; stages = calm.stages; live = calm.live }
+
+-- a refusal tells of no sector
+refusal_deed : (why : Rejection) → IsCalmDeed (End (rejection_answer why))
+refusal_deed why = tt
+
+deed_calm : (wish : Wish) (s : Replay) (line unit id : ℕ) (deed : Deed) → IsCalm s → ToldMay wish s line unit id deed → IsCalmDeed deed
+deed_calm NoLine s line unit id deed calm may = verdict_calm s unit deed calm may.verdict
+deed_calm (DueLine u) s line unit id deed calm may = verdict_calm s unit deed calm may.verdict
+deed_calm (Arrival u) s line unit id deed calm may = verdict_calm s unit deed calm may.verdict
+deed_calm (SectorLine u) s line unit id deed calm may = verdict_calm s unit deed calm may.verdict
+deed_calm (Interrupt u) s line unit id deed calm may = verdict_calm s unit deed calm may.verdict
+deed_calm (Attention u) s line unit id deed calm may = verdict_calm s unit deed calm may.verdict
+deed_calm (Refusal u i why) s line unit id deed calm may = subst IsCalmDeed (sym may.answered) (refusal_deed why)
+deed_calm IdleLine s line unit id deed calm may = verdict_calm s unit deed calm may.verdict
+
+-- ---- a line of the script
+joined_stage : (stage : Stage) (d : DriveState) (r : Request) → is_calm_stage stage ≡ true → is_calm_stage (stage_joined stage d r) ≡ true
+joined_stage Waiting d r calm = begun_calm d (Some r)
+joined_stage (Steps left segment) d r calm = calm
+joined_stage (UnderWay left segment) d r calm = calm
+joined_stage (AtOnce segment) d r calm = calm
+joined_stage (Moving segment left last) d r calm = calm
+joined_stage (Saying lines next) d r calm = calm
+joined_stage (Ending answer) d r calm = calm
+
+submitted_calm : (s : Replay) (r : Request) (met : Submission) → IsCalm s → IsCalm (submitted s r met)
+submitted_calm s r (Refused why) calm = calm
+submitted_calm s r Joined calm = record {
+  drives = λ x. each_unit (λ (u : UnitSeen). IsGood u.drive) s.units r.unit (unit_joined (s.units r.unit) r) x (calm.drives r.unit) (calm.drives x);
+  stages = λ x. each_unit (λ (u : UnitSeen). is_calm_stage u.stage ≡ true) s.units r.unit (unit_joined (s.units r.unit) r) x
+      (joined_stage (s.units r.unit).stage (s.units r.unit).drive r (calm.stages r.unit)) (calm.stages x);
+  live = calm.live;
+}
+
+turned_good : (b : Bool) (sector : ℕ) (d : DriveState) → IsGood d → IsGood (if b then turned sector d else d)
+turned_good b sector d g = either_good b (turned sector d) d g g
+
+pub played_calm : (s : Replay) (input : Input) → is_calm_input input ≡ true → IsCalm s → IsCalm (replay_played s input)
+played_calm s (Submit r) is calm = submitted_calm s r (submission s r) calm
+played_calm s (ArriveAt u) is calm = calm
+played_calm s (MoveAt a) is calm = calm
+played_calm s (AttendTo a) is calm = calm
+played_calm s Drain is calm = calm
+played_calm s (Turn u sector) is calm = record {
+  drives = λ x. turned_good (x == u) sector (s.units x).drive (calm.drives x);
+  stages = calm.stages;
+  live = calm.live;
+}
+played_calm s (Noise noise) is calm = absurd (no is)
+played_calm s (Arm u kind times) is calm = absurd (no is)
+played_calm s (SetOnline u on) is calm = absurd (no is)
+played_calm s (SetLocked u on) is calm = absurd (no is)
+
+-- ---- ALL OF IT
+pub stays_calm : StaysCalm
+stays_calm s (Played line input) may is calm = other_event (replay_played s input) _ (played_calm s input is calm)
+stays_calm s (Told line unit id deed) may is calm =
+    told_keeps IsCalm (next_wish s) s unit deed (λ event. other_event s event calm)
+    (λ event. told_calm s unit deed event (deed_calm (next_wish s) s line unit id deed calm may) calm)
+stays_calm s (Idle line) may is calm = other_event s _ calm
+
+pub runs_stay_calm : RunsStayCalm
+runs_stay_calm s [] follows are calm = calm
+runs_stay_calm s (m ∷ ms) follows are calm =
+    runs_stay_calm (after_moment s m) ms follows.1 (second_of (is_calm_moment m) (are_calm ms) are)
+    (stays_calm s m follows.0 (first_of (is_calm_moment m) (are_calm ms) are) calm)
+
+refused_end : (answer : Answer) (why : Rejection) → End answer ≡ End (rejection_answer why) → IsCalmEnd answer
+refused_end answer why is none = absurd (no (sym (subst (λ z. is_refused_at_once z ≡ false) (same answer (rejection_answer why) is) none) ∙ refusal why))
+  where
+    same : (x y : Answer) → End x ≡ End y → x ≡ y
+    same x y e = cc
+
+    refusal : (why : Rejection) → is_refused_at_once (rejection_answer why) ≡ true
+    refusal AtEnd = refl
+    refusal Beyond = refl
+    refusal FramesShort = refl
+
+end_by : (wish : Wish) (s : Replay) (line unit id : ℕ) (answer : Answer) → IsCalm s → ToldMay wish s line unit id (End answer) → IsCalmEnd answer
+end_by NoLine s line unit id answer calm may none = end_calm (s.units unit).drive (hand_of (s.units unit)) (s.units unit).stage answer (calm.drives unit) (calm.stages unit) may.talk
+end_by (DueLine u) s line unit id answer calm may none = end_calm (s.units unit).drive (hand_of (s.units unit)) (s.units unit).stage answer (calm.drives unit) (calm.stages unit) may.talk
+end_by (Arrival u) s line unit id answer calm may none = end_calm (s.units unit).drive (hand_of (s.units unit)) (s.units unit).stage answer (calm.drives unit) (calm.stages unit) may.talk
+end_by (SectorLine u) s line unit id answer calm may none = end_calm (s.units unit).drive (hand_of (s.units unit)) (s.units unit).stage answer (calm.drives unit) (calm.stages unit) may.talk
+end_by (Interrupt u) s line unit id answer calm may none = end_calm (s.units unit).drive (hand_of (s.units unit)) (s.units unit).stage answer (calm.drives unit) (calm.stages unit) may.talk
+end_by (Attention u) s line unit id answer calm may none = end_calm (s.units unit).drive (hand_of (s.units unit)) (s.units unit).stage answer (calm.drives unit) (calm.stages unit) may.talk
+end_by (Refusal u i why) s line unit id answer calm may none = refused_end answer why may.answered none
+end_by IdleLine s line unit id answer calm may none = end_calm (s.units unit).drive (hand_of (s.units unit)) (s.units unit).stage answer (calm.drives unit) (calm.stages unit) may.talk
+
+pub ends_are_calm : EndsAreCalm
+ends_are_calm s line unit id answer calm may = end_by (next_wish s) s line unit id answer calm may

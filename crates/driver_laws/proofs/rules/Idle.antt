@@ -1,0 +1,59 @@
+-- What holds of an idle replay, from which all bounds are counted.
+use Rattle.std.proofs.Common.{◌≡◌, inl, ℕ, List, [], ◌∷◌, Option, refl, sym, ap, ◌∙◌, subst, arith}
+use Rattle.pack_geometry.specs.TableSpelling.{Table}
+use Rattle.hardware_table.specs.Drive.{DriveState}
+use Rattle.subsystem_spec.specs.ServiceOrder.{Waiting as Waiter}
+use Rattle.subsystem_spec.proofs.ServiceOrderRuns.{IsService}
+use Rattle.subsystem_spec.specs.Requests.{Request}
+use Rattle.trace_replay.specs.Service.{cylinder_of}
+use Rattle.trace_replay.specs.Conversation.{Stage, Waiting, Progress, not_begun}
+use Rattle.trace_replay.specs.Replay.{Replay, UnitSeen}
+use Rattle.trace_replay.proofs.Kept.{AllFit, UnitFits, IsHeld, no}
+use Rattle.driver_laws.specs.rules.Drains.{IsIdle, StartsIdle}
+use Rattle.driver_laws.proofs.rules.Units.{UnitWithin}
+
+-- ---- a unit at which nothing waits and nothing is begun
+abbrev unbegun : DriveState → ℕ → Option Table → UnitSeen
+unbegun d joined table = record { drive = d; service = record { waiting = []; joined = joined }; stage = Waiting; progress = not_begun; table = table }
+
+pub unit_is : (u : UnitSeen) → u.stage ≡ Waiting → u.service.waiting ≡ [] → u.progress ≡ not_begun → unbegun u.drive u.service.joined u.table ≡ u
+unit_is u stage waiting fresh =
+    ap (λ (z : List (Waiter Request)). record (unbegun u.drive u.service.joined u.table) { service = record { waiting = z; joined = u.service.joined } }) (sym waiting)
+    ∙ ap (λ (z : Stage). record { drive = u.drive; service = u.service; stage = z; progress = not_begun; table = u.table }) (sym stage)
+    ∙ ap (λ (z : Progress). record { drive = u.drive; service = u.service; stage = u.stage; progress = z; table = u.table }) (sym fresh)
+
+none_in_order : {A : Type 0} (c : A → ℕ) (joined : ℕ) → IsService c (record { waiting = []; joined = joined })
+none_in_order c joined = record { placed = tt; ascends = tt }
+
+fits_unbegun : (d : DriveState) (joined : ℕ) (table : Option Table) → UnitFits (unbegun d joined table) []
+fits_unbegun d joined table = record {
+  fits = refl;
+  order = none_in_order (cylinder_of d.kind) joined;
+  some = tt;
+  empty = λ is. refl;
+  held = λ is. absurd (no (sym is));
+  fresh = inl refl;
+}
+
+within_unbegun : (d : DriveState) (joined : ℕ) (table : Option Table) → UnitWithin (unbegun d joined table) []
+within_unbegun d joined table = record { events = omega arith; commands = omega arith }
+
+-- ---- so each unit
+pub idle_fits : (s : Replay) → IsIdle s → AllFit s (λ x. [])
+idle_fits s idle x =
+    subst (λ z. UnitFits z []) (unit_is (s.units x) (idle.stages x) (idle.queues x) (idle.fresh x)) (fits_unbegun (s.units x).drive (s.units x).service.joined (s.units x).table)
+
+pub idle_within : (s : Replay) → IsIdle s → (x : ℕ) → UnitWithin (s.units x) []
+idle_within s idle x =
+    subst (λ z. UnitWithin z []) (unit_is (s.units x) (idle.stages x) (idle.queues x) (idle.fresh x)) (within_unbegun (s.units x).drive (s.units x).service.joined (s.units x).table)
+
+none_held : (waiting : List (Waiter Request)) → waiting ≡ [] → IsHeld waiting → {P : Type 0} → P
+none_held [] none held = absurd held
+none_held (w ∷ ws) none held = absurd (grind (arith, none))
+
+pub none_waits : (s : Replay) → IsIdle s → (x : ℕ) → IsHeld (s.units x).service.waiting → {P : Type 0} → P
+none_waits s idle x held = none_held (s.units x).service.waiting (idle.queues x) held
+
+-- ---- the start of a script is one
+pub starts_idle : StartsIdle
+starts_idle drives tables surface = record { stages = λ x. refl; queues = λ x. refl; fresh = λ x. refl; between = refl }

@@ -1,0 +1,204 @@
+-- Each moment that may come keeps what every reached state keeps.
+use Rattle.std.proofs.Common.{◌≡◌, inl, inr, ℕ, ◌==◌, Bool, true, false, List, [], Option, None, Some, refl, ap, ◌∙◌, arith}
+use Rattle.std.specs.Prelude.{if◌then◌else◌}
+use Rattle.std.proofs.lemmas.Bool.Decides.{eqb_tells}
+use Rattle.pack_geometry.specs.declared.DriveKind.{DriveKind}
+use Rattle.pack_geometry.specs.Pack as model
+use Rattle.drive_registers.specs.declared.Function.TheVariants as function
+use Rattle.hardware_table.specs.Drive.{is_positioning, new_drive}
+use Rattle.hardware_table.specs.Functions.{performed}
+use Rattle.subsystem_spec.specs.Requests.{Request, IsRequest}
+use Rattle.trace_replay.specs.Script.{Input, Submit, ArriveAt, MoveAt, AttendTo, Drain, Turn, Noise, Arm, SetOnline, SetLocked, IsThere, IsInput}
+use Rattle.trace_replay.specs.Moments.{Deed, Moment, Played, Told, Idle}
+use Rattle.trace_replay.specs.Adapters.{AdapterSeen, can_move}
+use Rattle.trace_replay.specs.Drives.{attached}
+use Rattle.trace_replay.specs.Packs.{surface_of}
+use Rattle.trace_replay.specs.Service.{in_hand, target_of}
+use Rattle.trace_replay.specs.Conversation.{goes_on}
+use Rattle.trace_replay.specs.Events.{Arriving, Trying, NothingToDo, Event, Wish, NoLine, DueLine, Arrival, SectorLine, Interrupt, Attention, Refusal, IdleLine, wanted, can_attend, serving}
+use Rattle.trace_replay.specs.Replay.{Replay, UnitSeen, next_wish, at_unit, ToldMay, InputMay, MayCome, after_moment, unit_after, replay_told, told_after, act_drained, Submission, Refused, Joined, submission, submitted, unit_joined, replay_played, event_of, act_submitted}
+use Rattle.trace_replay.specs.History.{lines_after}
+use Rattle.trace_replay.specs.Causes.{AsksSome}
+use Rattle.trace_replay.proofs.Unchanged.{told_keeps, surface_marks}
+use Rattle.trace_replay.proofs.Kept.{AllFit, told_all, played_all, starts, after_kind, played_kind, performed_kind}
+use Rattle.driver_laws.specs.rules.Machine.{kind_of}
+use Rattle.driver_laws.specs.rules.Stands.{Setup, start_over, IsGiven}
+use Rattle.driver_laws.proofs.rules.MachineUnits.{Keeps}
+use Rattle.driver_laws.proofs.rules.Keeping.{with_each, with_other, Events, line_events, told_true, calm_first, calm_drain, calm_either}
+use Rattle.trace_replay.proofs.Histories.{WasMarked}
+
+-- ---- kinds, tables and marks stay
+pub record Steady (setup : Setup) (s : Replay) : Type 0 where
+  pub kinds : (unit : ℕ) → (s.units unit).drive.kind ≡ kind_of setup.drives unit
+  pub tables : (unit : ℕ) → (s.units unit).table ≡ setup.tables unit
+  pub marks : (unit block : ℕ) → s.surface.is_marked unit block ≡ model.is_marked (setup.packs unit) block
+
+line_steady : (setup : Setup) (s : Replay) (unit : ℕ) (deed : Deed) (event : Event) → Steady setup s → Steady setup (record (replay_told s unit deed (unit_after s unit deed)) { event = event })
+line_steady setup s unit deed event h = record {
+  kinds = with_each (λ x (u : UnitSeen). u.drive.kind ≡ kind_of setup.drives x) s.units unit (unit_after s unit deed)
+      (after_kind (s.units unit).drive (at_unit s unit).state (target_of (s.units unit).drive.kind (in_hand (s.units unit).service)) deed ∙ h.kinds unit) (λ x apart. h.kinds x);
+  tables = with_each (λ x (u : UnitSeen). u.table ≡ setup.tables x) s.units unit (unit_after s unit deed) (h.tables unit) (λ x apart. h.tables x);
+  marks = λ u b. ap (λ f. f u b) (surface_marks s unit deed) ∙ h.marks u b;
+}
+
+told_steady : (setup : Setup) (wish : Wish) (s : Replay) (unit : ℕ) (deed : Deed) → Steady setup s → Steady setup (told_after wish s unit deed)
+told_steady setup wish s unit deed h =
+    told_keeps (Steady setup) wish s unit deed (λ event. record { kinds = h.kinds; tables = h.tables; marks = h.marks }) (λ event. line_steady setup s unit deed event h)
+
+joined_steady : (setup : Setup) (s : Replay) (r : Request) (met : Submission) → Steady setup s → Steady setup (submitted s r met)
+joined_steady setup s r (Refused why) h = h
+joined_steady setup s r Joined h = record {
+  kinds = with_each (λ x (u : UnitSeen). u.drive.kind ≡ kind_of setup.drives x) s.units r.unit (unit_joined (s.units r.unit) r) (h.kinds r.unit) (λ x apart. h.kinds x);
+  tables = with_each (λ x (u : UnitSeen). u.table ≡ setup.tables x) s.units r.unit (unit_joined (s.units r.unit) r) (h.tables r.unit) (λ x apart. h.tables x);
+  marks = h.marks;
+}
+
+played_steady : (setup : Setup) (s : Replay) (input : Input) → Steady setup s → Steady setup (replay_played s input)
+played_steady setup s (Submit r) h = joined_steady setup s r (submission s r) h
+played_steady setup s (Turn u y) h = record { kinds = λ x. played_kind x (s.units x).drive (Turn u y) ∙ h.kinds x; tables = h.tables; marks = h.marks }
+played_steady setup s (Noise n) h = record { kinds = λ x. played_kind x (s.units x).drive (Noise n) ∙ h.kinds x; tables = h.tables; marks = h.marks }
+played_steady setup s (Arm u k n) h = record { kinds = λ x. played_kind x (s.units x).drive (Arm u k n) ∙ h.kinds x; tables = h.tables; marks = h.marks }
+played_steady setup s (SetOnline u b) h = record { kinds = λ x. played_kind x (s.units x).drive (SetOnline u b) ∙ h.kinds x; tables = h.tables; marks = h.marks }
+played_steady setup s (SetLocked u b) h = record { kinds = λ x. played_kind x (s.units x).drive (SetLocked u b) ∙ h.kinds x; tables = h.tables; marks = h.marks }
+played_steady setup s (ArriveAt u) h = h
+played_steady setup s (MoveAt a) h = h
+played_steady setup s (AttendTo a) h = h
+played_steady setup s Drain h = h
+
+-- ---- who goes on
+told_events : (wish : Wish) (s : Replay) (line unit id : ℕ) (deed : Deed) → Events s → ToldMay wish s line unit id deed → Events (told_after wish s unit deed)
+told_events (Refusal u i why) s line unit id deed e may = record { quiet = e.quiet; refusing = tt }
+told_events NoLine s line unit id deed e may = line_events s line unit id deed e may
+told_events (DueLine u) s line unit id deed e may = line_events s line unit id deed e may
+told_events (Arrival u) s line unit id deed e may = line_events s line unit id deed e may
+told_events (SectorLine u) s line unit id deed e may = line_events s line unit id deed e may
+told_events (Interrupt u) s line unit id deed e may = line_events s line unit id deed e may
+told_events (Attention u) s line unit id deed e may = line_events s line unit id deed e may
+told_events IdleLine s line unit id deed e may = line_events s line unit id deed e may
+
+wish_number : Wish → ℕ
+wish_number (DueLine unit) = 1
+wish_number wish = 0
+
+rests : (adapters : ℕ → AdapterSeen) (e : Event) (goes : Bool) → wanted adapters e goes ≡ NoLine → goes ≡ false
+unfolding wish_number
+rests adapters e true is = absurd (omega (arith, ap wish_number is))
+rests adapters e false is = refl
+
+-- before a line of the script no unit goes on
+all_rest : (s : Replay) (line : ℕ) → Events s → InputMay s line → (unit : ℕ) → goes_on (s.units unit).stage ≡ false
+all_rest s line e may unit = elim (eqb_tells unit s.event.speaker) [
+  | inl same ↦ ap (λ z. goes_on (s.units z).stage) same.1 ∙ rests s.adapters s.event (goes_on (s.units s.event.speaker).stage) may.over
+  | inr other ↦ e.quiet unit other.1
+]
+
+submitted_events : (s : Replay) (r : Request) (line : ℕ) (met : Submission) → ((unit : ℕ) → goes_on (s.units unit).stage ≡ false)
+    → Events (record (submitted s r met) { event = record { line = line; drains = false; between = false; act = act_submitted r met; speaker = r.unit } })
+submitted_events s r line (Refused why) rest = record { quiet = λ x apart. rest x; refusing = rest r.unit }
+submitted_events s r line Joined rest = record {
+  quiet = λ x apart. ap (λ (z : UnitSeen). goes_on z.stage) (with_other s.units r.unit (unit_joined (s.units r.unit) r) x apart) ∙ rest x;
+  refusing = tt;
+}
+
+played_events : (s : Replay) (line : ℕ) (input : Input) → ((unit : ℕ) → goes_on (s.units unit).stage ≡ false) → Events (after_moment s (Played line input))
+played_events s line (Submit r) rest = submitted_events s r line (submission s r) rest
+played_events s line (ArriveAt u) rest = record {
+  quiet = λ x apart. rest x;
+  refusing = calm_first (if is_positioning (s.units u).drive.work then Arriving u else NothingToDo) (goes_on (s.units 0).stage) (calm_either (is_positioning (s.units u).drive.work) (Arriving u) NothingToDo tt tt);
+}
+played_events s line (MoveAt a) rest = record {
+  quiet = λ x apart. rest x;
+  refusing = calm_first (if can_move (s.adapters a).state then Trying a else NothingToDo) (goes_on (s.units 0).stage) (calm_either (can_move (s.adapters a).state) (Trying a) NothingToDo tt tt);
+}
+played_events s line (AttendTo a) rest = record {
+  quiet = λ x apart. rest x;
+  refusing = calm_first (if can_attend (s.adapters a).state then serving a (s.adapters a).state else NothingToDo) (goes_on (s.units 0).stage)
+      (calm_either (can_attend (s.adapters a).state) (serving a (s.adapters a).state) NothingToDo tt tt);
+}
+played_events s line Drain rest = record {
+  quiet = λ x apart. rest x;
+  refusing = calm_first (if s.outstanding == 0 then NothingToDo else act_drained s) (goes_on (s.units 0).stage) (calm_either (s.outstanding == 0) NothingToDo (act_drained s) tt (calm_drain s));
+}
+played_events s line (Turn u y) rest = record { quiet = λ x apart. rest x; refusing = tt }
+played_events s line (Noise n) rest = record { quiet = λ x apart. rest x; refusing = tt }
+played_events s line (Arm u k n) rest = record { quiet = λ x apart. rest x; refusing = tt }
+played_events s line (SetOnline u b) rest = record { quiet = λ x apart. rest x; refusing = tt }
+played_events s line (SetLocked u b) rest = record { quiet = λ x apart. rest x; refusing = tt }
+
+-- ---- inputs ask for some blocks
+there_asks : (drive : Option DriveKind) (r : Request) → IsThere drive (λ kind. IsRequest r) → AsksSome (Submit r)
+there_asks None r is = absurd is
+there_asks (Some kind) r is = is.some
+
+pub input_asks : (drives : ℕ → Option DriveKind) (input : Input) → IsInput drives input → AsksSome input
+input_asks drives (Submit r) is = there_asks (drives r.unit) r is
+input_asks drives (ArriveAt u) is = tt
+input_asks drives (MoveAt a) is = tt
+input_asks drives (AttendTo a) is = tt
+input_asks drives Drain is = tt
+input_asks drives (Turn u y) is = tt
+input_asks drives (Noise n) is = tt
+input_asks drives (Arm u k n) is = tt
+input_asks drives (SetOnline u on) is = tt
+input_asks drives (SetLocked u on) is = tt
+
+-- ---- ALL OF IT
+keeps_from : (setup : Setup) (s : Replay) (lines : ℕ → List Deed) → AllFit s lines → ((unit block : ℕ) → WasMarked block (lines unit) → model.is_marked (setup.packs unit) block ≡ true)
+    → Steady setup s → Events s → Keeps setup s
+keeps_from setup s lines fits marked steady events = record {
+  lines = lines;
+  fits = fits;
+  marked = marked;
+  kinds = steady.kinds;
+  tables = steady.tables;
+  marks = steady.marks;
+  quiet = events.quiet;
+  refusing = events.refusing;
+}
+
+steady_of : (setup : Setup) (s : Replay) → Keeps setup s → Steady setup s
+steady_of setup s k = record { kinds = k.kinds; tables = k.tables; marks = k.marks }
+
+events_of : (setup : Setup) (s : Replay) → Keeps setup s → Events s
+events_of setup s k = record { quiet = k.quiet; refusing = k.refusing }
+
+again : (setup : Setup) (s : Replay) (event : Event) → Steady setup s → Steady setup (record s { event = event })
+again setup s event h = record { kinds = h.kinds; tables = h.tables; marks = h.marks }
+
+pub all_quiet : (setup : Setup) (s : Replay) (line : ℕ) → Keeps setup s → InputMay s line → (unit : ℕ) → goes_on (s.units unit).stage ≡ false
+all_quiet setup s line k may unit = all_rest s line (events_of setup s k) may unit
+
+pub moment_kept : (setup : Setup) (s : Replay) (moment : Moment) → Keeps setup s → IsGiven setup.drives moment → MayCome s moment → Keeps setup (after_moment s moment)
+moment_kept setup s (Played line input) k given may =
+    keeps_from setup (after_moment s (Played line input)) k.lines (played_all s input k.lines (input_asks setup.drives input given) k.fits) k.marked
+    (again setup (replay_played s input) (event_of s line input) (played_steady setup s input (steady_of setup s k)))
+    (played_events s line input (all_rest s line (events_of setup s k) may))
+moment_kept setup s (Told line unit id deed) k given may =
+    keeps_from setup (after_moment s (Told line unit id deed)) (λ x. lines_after x (Told line unit id deed) (k.lines x)) (told_all (next_wish s) s line unit id deed k.lines may k.fits)
+    (told_true setup (next_wish s) s line unit id deed k.lines k.marks may k.marked) (told_steady setup (next_wish s) s unit deed (steady_of setup s k))
+    (told_events (next_wish s) s line unit id deed (events_of setup s k) may)
+moment_kept setup s (Idle line) k given may = record {
+  lines = k.lines;
+  fits = k.fits;
+  marked = k.marked;
+  kinds = k.kinds;
+  tables = k.tables;
+  marks = k.marks;
+  quiet = k.quiet;
+  refusing = tt;
+}
+
+attached_kind : (kind : DriveKind) (unit : ℕ) → (attached kind unit).kind ≡ kind
+attached_kind kind unit = performed_kind function.Pack (performed function.Preset (new_drive kind unit)) ∙ performed_kind function.Preset (new_drive kind unit)
+
+pub start_kept : (setup : Setup) → Keeps setup (start_over setup)
+start_kept setup = record {
+  lines = λ unit. [];
+  fits = starts setup.drives setup.tables (surface_of setup.packs);
+  marked = λ unit block was. absurd was;
+  kinds = λ unit. attached_kind (kind_of setup.drives unit) unit;
+  tables = λ unit. refl;
+  marks = λ unit block. refl;
+  quiet = λ unit apart. refl;
+  refusing = tt;
+}

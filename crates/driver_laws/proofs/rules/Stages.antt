@@ -1,0 +1,368 @@
+-- Which lines may come where a unit stands, and where they lead.
+use Rattle.std.proofs.Common.{◌≡◌, ℕ, ◌&&◌, ◌==◌, Bool, true, false, not, List, [], ◌∷◌, ◌++◌, Option, None, Some, is_some, refl, sym, ap, subst, arith, nat_lt}
+use Rattle.std.specs.Prelude.{if◌then◌else◌}
+use Rattle.std.proofs.lemmas.Option.{same_Some, none-some}
+use Rattle.hardware_table.specs.declared.Moved.{Moved}
+use Rattle.hardware_table.specs.declared.Moved.TheVariants as verdict
+use Rattle.hardware_table.specs.Drive.{DriveState}
+use Rattle.drive_registers.specs.Codes.{offset_field}
+use Rattle.retry_offsets.specs.declared.Step.{Step}
+use Rattle.retry_offsets.specs.declared.Step.TheVariants as retry
+use Rattle.retry_offsets.specs.Schedule.{step_after}
+use Rattle.pack_geometry.specs.Geometry.{place_at}
+use Rattle.subsystem_spec.specs.Requests.{Request}
+use Rattle.trace_replay.specs.Moments.{Deed, Search, Seek, Recal, Offset, Centre, Clear, Pack, Transfer, Arrive, Sector, Intr, Try, Attn, End}
+use Rattle.trace_replay.specs.Conversation.{Hand, Stage, Waiting, Steps, UnderWay, AtOnce, Moving, Saying, Ending, Segment, OwnBlocks, Replacement, due, guarded, transfer_of, command_of, needs_unlocked, is_write, is_waiting, waits, goes_on, is_under_way, step_taken, step_ended, said, saying, begun, interrupted_by, outcome, continued, ok_answer, failed, retried, marked, forwarded, entry_of, start_of, clear_lines, centre_lines, try_lines, is_clean, last_of, left_of, sector_may, intr_may, Positioning, SearchFor, Recalibrate, SeekTo, OffsetBy}
+use Rattle.trace_replay.proofs.Histories.{guard_holds}
+use Rattle.driver_laws.specs.rules.Consistent.{is_moving, may_have_errors, is_behind_interrupt, are_behind_interrupt, follows_lines, is_well_said, is_cleared_next}
+
+pub no : false ≡ true → ⊥
+no e = grind (arith, e)
+
+pub nor : true ≡ false → ⊥
+nor e = grind (arith, e)
+
+-- THE SORTS of lines that are due
+pub data Sort : Type 0 where
+  Positions : Sort
+  Says : Sort
+  Acknowledges : Sort
+  Transfers : Sort
+  Ends : Sort
+  Brought : Sort
+
+abbrev pub sort_of : Deed → Sort
+sort_of (Search c y) = Positions
+sort_of (Seek c) = Positions
+sort_of Recal = Positions
+sort_of (Offset o) = Positions
+sort_of Centre = Says
+sort_of Clear = Says
+sort_of Pack = Acknowledges
+sort_of (Transfer w b k) = Transfers
+sort_of Arrive = Brought
+sort_of (Sector b v) = Brought
+sort_of Intr = Brought
+sort_of (Try b f) = Says
+sort_of Attn = Brought
+sort_of (End a) = Ends
+
+-- which of them are due where a unit stands
+abbrev pub allowed : Stage → Sort → Bool
+allowed (Steps [] segment) Transfers = true
+allowed (Steps [] segment) Acknowledges = true
+allowed (Steps [] segment) Ends = true
+allowed (Steps (step ∷ left) segment) Positions = true
+allowed (Steps (step ∷ left) segment) Acknowledges = true
+allowed (Steps (step ∷ left) segment) Ends = true
+allowed (AtOnce segment) Transfers = true
+allowed (AtOnce segment) Acknowledges = true
+allowed (AtOnce segment) Ends = true
+allowed (Saying (line ∷ lines) next) Says = true
+allowed (Ending answer) Ends = true
+allowed stage sort = false
+
+positions : (step : Positioning) → sort_of (command_of step) ≡ Positions
+positions (SearchFor c y) = refl
+positions Recalibrate = refl
+positions (SeekTo c) = refl
+positions (OffsetBy o) = refl
+
+says : (line : Deed) → is_behind_interrupt line ≡ true → sort_of line ≡ Says
+says (Search c y) is = absurd (no is)
+says (Seek c) is = absurd (no is)
+says Recal is = absurd (no is)
+says (Offset o) is = absurd (no is)
+says Centre is = refl
+says Clear is = refl
+says Pack is = absurd (no is)
+says (Transfer w b k) is = absurd (no is)
+says Arrive is = absurd (no is)
+says (Sector b v) is = absurd (no is)
+says Intr is = absurd (no is)
+says (Try b f) is = refl
+says Attn is = absurd (no is)
+says (End a) is = absurd (no is)
+
+pub first_of : (x y : Bool) → (x && y) ≡ true → x ≡ true
+first_of true y e = refl
+first_of false y e = e
+
+pub second_of : (x y : Bool) → (x && y) ≡ true → y ≡ true
+second_of true y e = e
+second_of false y e = absurd (no e)
+
+pub due_allowed : (d : DriveState) (h : Hand) (stage : Stage) (deed : Deed) → is_well_said stage ≡ true → due d h stage ≡ Some deed
+    → allowed stage (sort_of deed) ≡ true
+due_allowed d h Waiting deed ok is = absurd (none-some deed is)
+due_allowed d h (Steps [] segment) deed ok is =
+    guard_holds (λ z. allowed (Steps [] segment) (sort_of z) ≡ true) d.online (is_write h && d.locked) d.valid h.progress.done (transfer_of segment h) deed
+    (same_Some (guarded d h (transfer_of segment h)) deed is) refl refl refl refl
+due_allowed d h (Steps (step ∷ left) segment) deed ok is =
+    guard_holds (λ z. allowed (Steps (step ∷ left) segment) (sort_of z) ≡ true) d.online (needs_unlocked (command_of step) && d.locked) d.valid h.progress.done (command_of step) deed
+    (same_Some (guarded d h (command_of step)) deed is) refl refl refl (subst (λ z. allowed (Steps (step ∷ left) segment) z ≡ true) (sym (positions step)) refl)
+due_allowed d h (UnderWay left segment) deed ok is = absurd (none-some deed is)
+due_allowed d h (AtOnce segment) deed ok is =
+    guard_holds (λ z. allowed (AtOnce segment) (sort_of z) ≡ true) d.online (is_write h && d.locked) d.valid h.progress.done (transfer_of segment h) deed
+    (same_Some (guarded d h (transfer_of segment h)) deed is) refl refl refl refl
+due_allowed d h (Moving segment left last) deed ok is = absurd (none-some deed is)
+due_allowed d h (Saying [] next) deed ok is = absurd (none-some deed is)
+due_allowed d h (Saying (line ∷ rest) next) deed ok is =
+    subst (λ z. allowed (Saying (line ∷ rest) next) (sort_of z) ≡ true) (same_Some line deed is)
+    (subst (λ z. allowed (Saying (line ∷ rest) next) z ≡ true) (sym (says line (first_of (is_behind_interrupt line) (are_behind_interrupt rest) (first_of (is_behind_interrupt line && are_behind_interrupt rest) (follows_lines next) ok)))) refl)
+due_allowed d h (Ending answer) deed ok is = subst (λ z. allowed (Ending answer) (sort_of z) ≡ true) (same_Some (End answer) deed is) refl
+
+-- A STAGE IS QUIET where a request is in hand, and neither a step nor a transfer is under way.
+pub record Quiet (stage : Stage) : Type 0 where
+  pub waiting : is_waiting stage ≡ false
+  pub under : is_under_way stage ≡ false
+  pub moving : is_moving stage ≡ false
+  pub said : is_well_said stage ≡ true
+
+pub quiet_before : (stage : Stage) (sort : Sort) → is_well_said stage ≡ true → allowed stage sort ≡ true → Quiet stage
+quiet_before Waiting sort ok is = absurd (no is)
+quiet_before (Steps left segment) sort ok is = record { waiting = refl; under = refl; moving = refl; said = refl }
+quiet_before (UnderWay left segment) sort ok is = absurd (no is)
+quiet_before (AtOnce segment) sort ok is = record { waiting = refl; under = refl; moving = refl; said = refl }
+quiet_before (Moving segment left last) sort ok is = absurd (no is)
+quiet_before (Saying lines next) sort ok is = record { waiting = refl; under = refl; moving = refl; said = ok }
+quiet_before (Ending answer) sort ok is = record { waiting = refl; under = refl; moving = refl; said = refl }
+
+-- where the commands of steps lead
+pub record Stepping (old new : Stage) : Type 0 where
+  pub waiting : is_waiting new ≡ false
+  pub under : is_under_way new ≡ true
+  pub moving : is_moving new ≡ false
+  pub said : is_well_said new ≡ true
+  pub queued : waits new ≡ false
+  pub silent : goes_on new ≡ false
+  pub free : waits old ≡ false
+  pub clear : may_have_errors old ≡ false
+
+pub step_begins : (stage : Stage) → allowed stage Positions ≡ true → Stepping stage (step_taken stage)
+step_begins Waiting is = absurd (no is)
+step_begins (Steps [] segment) is = absurd (no is)
+step_begins (Steps (step ∷ left) segment) is = record { waiting = refl; under = refl; moving = refl; said = refl; queued = refl; silent = refl; free = refl; clear = refl }
+step_begins (UnderWay left segment) is = absurd (no is)
+step_begins (AtOnce segment) is = absurd (no is)
+step_begins (Moving segment left last) is = absurd (no is)
+step_begins (Saying [] next) is = absurd (no is)
+step_begins (Saying (line ∷ rest) next) is = absurd (no is)
+step_begins (Ending answer) is = absurd (no is)
+
+-- where a line leads behind which nothing is under way
+pub record Quieted (old new : Stage) : Type 0 where
+  pub quiet : Quiet new
+  pub free : waits old ≡ false
+
+pub follows_quiet : (next : Stage) → follows_lines next ≡ true → Quiet next
+follows_quiet Waiting is = absurd (no is)
+follows_quiet (Steps left segment) is = record { waiting = refl; under = refl; moving = refl; said = refl }
+follows_quiet (UnderWay left segment) is = absurd (no is)
+follows_quiet (AtOnce segment) is = record { waiting = refl; under = refl; moving = refl; said = refl }
+follows_quiet (Moving segment left last) is = absurd (no is)
+follows_quiet (Saying lines next) is = absurd (no is)
+follows_quiet (Ending answer) is = record { waiting = refl; under = refl; moving = refl; said = refl }
+
+pub both_of : (x y : Bool) → x ≡ true → y ≡ true → (x && y) ≡ true
+both_of true y a b = b
+both_of false y a b = a
+
+pub saying_quiet : (lines : List Deed) (next : Stage) → are_behind_interrupt lines ≡ true → follows_lines next ≡ true → Quiet (saying lines next)
+saying_quiet [] next are is = follows_quiet next is
+saying_quiet (line ∷ rest) next are is = record { waiting = refl; under = refl; moving = refl; said = both_of (is_behind_interrupt line && are_behind_interrupt rest) (follows_lines next) are is }
+
+pub said_on : (stage : Stage) → is_well_said stage ≡ true → allowed stage Says ≡ true → Quieted stage (said stage)
+said_on Waiting ok is = absurd (no is)
+said_on (Steps [] segment) ok is = absurd (no is)
+said_on (Steps (step ∷ left) segment) ok is = absurd (no is)
+said_on (UnderWay left segment) ok is = absurd (no is)
+said_on (AtOnce segment) ok is = absurd (no is)
+said_on (Moving segment left last) ok is = absurd (no is)
+said_on (Saying [] next) ok is = absurd (no is)
+said_on (Saying (line ∷ rest) next) ok is = record {
+  quiet = saying_quiet rest next (second_of (is_behind_interrupt line) (are_behind_interrupt rest) (first_of (is_behind_interrupt line && are_behind_interrupt rest) (follows_lines next) ok)) (second_of (is_behind_interrupt line && are_behind_interrupt rest) (follows_lines next) ok);
+  free = refl;
+}
+said_on (Ending answer) ok is = absurd (no is)
+
+-- an attention ends the step
+pub record Ended (old new : Stage) : Type 0 where
+  pub quiet : Quiet new
+  pub free : waits old ≡ false
+  pub clear : may_have_errors old ≡ false
+
+pub step_over : (stage : Stage) → is_under_way stage ≡ true → Ended stage (step_ended stage)
+step_over Waiting is = absurd (no is)
+step_over (Steps left segment) is = absurd (no is)
+step_over (UnderWay left segment) is = record { quiet = record { waiting = refl; under = refl; moving = refl; said = refl }; free = refl; clear = refl }
+step_over (AtOnce segment) is = absurd (no is)
+step_over (Moving segment left last) is = absurd (no is)
+step_over (Saying lines next) is = absurd (no is)
+step_over (Ending answer) is = absurd (no is)
+
+-- ---- the interrupt
+either : (b : Bool) (x y : Stage) → follows_lines x ≡ true → follows_lines y ≡ true → follows_lines (if b then x else y) ≡ true
+either true x y p q = p
+either false x y p q = q
+
+continued_follows : (h : Hand) → follows_lines (continued h) ≡ true
+continued_follows h = either (h.progress.done == h.request.count) (Ending (ok_answer h)) (AtOnce OwnBlocks) refl refl
+
+retried_follows : (step : Step) (cylinder : ℕ) (segment : Segment) (done : ℕ) → follows_lines (retried step cylinder segment done) ≡ true
+retried_follows retry.Again c g n = refl
+retried_follows (retry.Offset code) c g n = refl
+retried_follows (retry.Recalibrate offset) c g n = refl
+retried_follows retry.GiveUp c g n = refl
+
+forwarded_follows : (h : Hand) (i : Option ℕ) → follows_lines (forwarded h i) ≡ true
+forwarded_follows h None = refl
+forwarded_follows h (Some i) = refl
+
+marked_follows : (h : Hand) (segment : Segment) → follows_lines (marked h segment) ≡ true
+marked_follows h OwnBlocks = forwarded_follows h (entry_of h (start_of OwnBlocks h))
+marked_follows h (Replacement block) = refl
+
+failed_follows : (h : Hand) (segment : Segment) → follows_lines (failed h segment) ≡ true
+failed_follows h segment =
+    retried_follows (step_after h.progress.failures (not (is_write h))) (place_at h.kind (start_of segment h)).cylinder segment h.progress.done
+
+outcome_follows : (v : Moved) (h : Hand) (segment : Segment) → follows_lines (outcome v h segment) ≡ true
+outcome_follows verdict.Clean h segment = continued_follows h
+outcome_follows (verdict.Burst at q) h segment = continued_follows h
+outcome_follows verdict.Hard h segment = failed_follows h segment
+outcome_follows (verdict.Faulted f) h segment = failed_follows h segment
+outcome_follows verdict.Marked h segment = marked_follows h segment
+outcome_follows verdict.Offline h segment = refl
+
+tries_behind : (v : Moved) (block failures : ℕ) → are_behind_interrupt (try_lines v block failures) ≡ true
+tries_behind verdict.Clean b f = refl
+tries_behind (verdict.Burst at q) b f = refl
+tries_behind verdict.Hard b f = refl
+tries_behind (verdict.Faulted k) b f = refl
+tries_behind verdict.Marked b f = refl
+tries_behind verdict.Offline b f = refl
+
+centres_behind : (b : Bool) → are_behind_interrupt (if b then [] else Centre ∷ []) ≡ true
+centres_behind true = refl
+centres_behind false = refl
+
+clears_behind : (v : Moved) → are_behind_interrupt (clear_lines v) ≡ true
+clears_behind verdict.Clean = refl
+clears_behind (verdict.Burst at q) = refl
+clears_behind verdict.Hard = refl
+clears_behind (verdict.Faulted k) = refl
+clears_behind verdict.Marked = refl
+clears_behind verdict.Offline = refl
+
+all_behind : (xs ys : List Deed) → are_behind_interrupt xs ≡ true → are_behind_interrupt ys ≡ true → are_behind_interrupt (xs ++ ys) ≡ true
+all_behind [] ys one other = other
+all_behind (x ∷ xs) ys one other =
+    both_of (is_behind_interrupt x) (are_behind_interrupt (xs ++ ys)) (first_of (is_behind_interrupt x) (are_behind_interrupt xs) one)
+    (all_behind xs ys (second_of (is_behind_interrupt x) (are_behind_interrupt xs) one) other)
+
+pub interrupted_quiet : (v : Moved) (d : DriveState) (h : Hand) (segment : Segment) → Quiet (interrupted_by v d h segment)
+interrupted_quiet v d h segment =
+    saying_quiet (clear_lines v ++ centre_lines d ++ try_lines v (start_of segment h) h.progress.failures) (outcome v h segment)
+    (all_behind (clear_lines v ++ centre_lines d) (try_lines v (start_of segment h) h.progress.failures)
+    (all_behind (clear_lines v) (centre_lines d) (clears_behind v) (centres_behind (offset_field d.offset == 0)))
+    (tries_behind v (start_of segment h) h.progress.failures))
+    (outcome_follows v h segment)
+
+-- what is not clean is cleared first
+pub cleared_first : (v : Moved) (d : DriveState) (h : Hand) (segment : Segment) → is_clean v ≡ false → may_have_errors (interrupted_by v d h segment) ≡ true
+cleared_first verdict.Clean d h segment is = absurd (nor is)
+cleared_first (verdict.Burst at q) d h segment is = refl
+cleared_first verdict.Hard d h segment is = refl
+cleared_first (verdict.Faulted k) d h segment is = refl
+cleared_first verdict.Marked d h segment is = refl
+cleared_first verdict.Offline d h segment is = refl
+
+-- ---- the next request
+pub begun_waits : (d : DriveState) (next : Option Request) → is_waiting (begun d next) ≡ not (is_some next)
+begun_waits d None = refl
+begun_waits d (Some r) = refl
+
+pub begun_still : (d : DriveState) (next : Option Request) → (is_under_way (begun d next) ≡ false) × (is_moving (begun d next) ≡ false) × (is_well_said (begun d next) ≡ true)
+begun_still d None = (refl, refl, refl)
+begun_still d (Some r) = (refl, refl, refl)
+
+-- ---- errors
+pub first_said : (d : DriveState) (h : Hand) (stage : Stage) (deed : Deed) → due d h stage ≡ Some deed → allowed stage Says ≡ true
+    → ((rest : List Deed) → is_cleared_next (deed ∷ rest) ≡ false) → may_have_errors stage ≡ false
+first_said d h Waiting deed is ok other = absurd (no ok)
+first_said d h (Steps [] segment) deed is ok other = absurd (no ok)
+first_said d h (Steps (step ∷ left) segment) deed is ok other = absurd (no ok)
+first_said d h (UnderWay left segment) deed is ok other = absurd (no ok)
+first_said d h (AtOnce segment) deed is ok other = absurd (no ok)
+first_said d h (Moving segment left last) deed is ok other = absurd (no ok)
+first_said d h (Saying [] next) deed is ok other = absurd (no ok)
+first_said d h (Saying (line ∷ rest) next) deed is ok other = subst (λ z. is_cleared_next (z ∷ rest) ≡ false) (sym (same_Some line deed is)) (other rest)
+first_said d h (Ending answer) deed is ok other = absurd (no ok)
+
+pub transfers_clear : (stage : Stage) → allowed stage Transfers ≡ true → may_have_errors stage ≡ false
+transfers_clear Waiting ok = refl
+transfers_clear (Steps left segment) ok = refl
+transfers_clear (UnderWay left segment) ok = refl
+transfers_clear (AtOnce segment) ok = refl
+transfers_clear (Moving segment left last) ok = absurd (no ok)
+transfers_clear (Saying [] next) ok = refl
+transfers_clear (Saying (line ∷ rest) next) ok = absurd (no ok)
+transfers_clear (Ending answer) ok = refl
+
+pub ends_clear : (stage : Stage) → allowed stage Ends ≡ true → may_have_errors stage ≡ false
+ends_clear Waiting ok = refl
+ends_clear (Steps left segment) ok = refl
+ends_clear (UnderWay left segment) ok = refl
+ends_clear (AtOnce segment) ok = refl
+ends_clear (Moving segment left last) ok = absurd (no ok)
+ends_clear (Saying [] next) ok = refl
+ends_clear (Saying (line ∷ rest) next) ok = absurd (no ok)
+ends_clear (Ending answer) ok = refl
+
+-- a step is under way
+pub under_way : (stage : Stage) → is_under_way stage ≡ true → Stepping (UnderWay [] OwnBlocks) stage
+under_way Waiting is = absurd (no is)
+under_way (Steps left segment) is = absurd (no is)
+under_way (UnderWay left segment) is = record { waiting = refl; under = refl; moving = refl; said = refl; queued = refl; silent = refl; free = refl; clear = refl }
+under_way (AtOnce segment) is = absurd (no is)
+under_way (Moving segment left last) is = absurd (no is)
+under_way (Saying lines next) is = absurd (no is)
+under_way (Ending answer) is = absurd (no is)
+
+-- a sector may come
+pub record WasMoving (stage : Stage) : Type 0 where
+  pub under : is_under_way stage ≡ false
+  pub moving : is_moving stage ≡ true
+  pub free : waits stage ≡ false
+  pub clean : may_have_errors stage ≡ false
+  pub some : nat_lt 0 (left_of stage) ≡ true
+
+pub sector_moving : (h : Hand) (stage : Stage) (block : ℕ) → sector_may h stage block ≡ true → WasMoving stage
+sector_moving h Waiting block is = absurd (no is)
+sector_moving h (Steps left segment) block is = absurd (no is)
+sector_moving h (UnderWay left segment) block is = absurd (no is)
+sector_moving h (AtOnce segment) block is = absurd (no is)
+sector_moving h (Moving segment left last) block is = record { under = refl; moving = refl; free = refl; clean = ap not (first_of (is_clean last) (nat_lt 0 left && (block == start_of segment h)) is); some = first_of (nat_lt 0 left) (block == start_of segment h) (second_of (is_clean last) (nat_lt 0 left && (block == start_of segment h)) is) }
+sector_moving h (Saying lines next) block is = absurd (no is)
+sector_moving h (Ending answer) block is = absurd (no is)
+
+-- the interrupt may come
+pub record WasMoved (stage : Stage) : Type 0 where
+  pub under : is_under_way stage ≡ false
+  pub moving : is_moving stage ≡ true
+  pub free : waits stage ≡ false
+  pub strange : may_have_errors stage ≡ true → is_clean (last_of stage) ≡ false
+
+opposite : (b : Bool) → not b ≡ true → b ≡ false
+opposite true e = absurd (no e)
+opposite false e = refl
+
+pub intr_moving : (stage : Stage) → intr_may stage ≡ true → WasMoved stage
+intr_moving Waiting is = absurd (no is)
+intr_moving (Steps left segment) is = absurd (no is)
+intr_moving (UnderWay left segment) is = absurd (no is)
+intr_moving (AtOnce segment) is = absurd (no is)
+intr_moving (Moving segment left last) is = record { under = refl; moving = refl; free = refl; strange = opposite (is_clean last) }
+intr_moving (Saying lines next) is = absurd (no is)
+intr_moving (Ending answer) is = absurd (no is)

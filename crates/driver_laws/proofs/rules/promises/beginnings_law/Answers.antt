@@ -1,0 +1,28 @@
+use Rattle.driver_laws.proofs.rules.Begun.{beginnings_keep, next_blocks_keep}
+use Rattle.driver_laws.proofs.rules.Fronts.{fronts_keep}
+use Rattle.driver_laws.proofs.rules.Quiet.{quiet_moments_keep}
+use Rattle.driver_laws.proofs.rules.promises.beginnings_law.Goals as goal
+
+pub returns-clause-begun : goal.returns-clause-begun
+returns-clause-begun c = beginnings_keep (record {
+  beginning = c.step_law.ensures.beginning;
+  consistent = c.consistent_law.ensures.always;
+  explained = c.cause_law.ensures.explained;
+})
+
+pub returns-clause-next : goal.returns-clause-next
+returns-clause-next c = next_blocks_keep (record {
+  beginning = c.step_law.ensures.beginning;
+  consistent = c.consistent_law.ensures.always;
+  explained = c.cause_law.ensures.explained;
+})
+
+pub returns-clause-quiet : goal.returns-clause-quiet
+returns-clause-quiet c = quiet_moments_keep
+
+pub returns-clause-fronts : goal.returns-clause-fronts
+returns-clause-fronts c = fronts_keep (beginnings_keep (record {
+  beginning = c.step_law.ensures.beginning;
+  consistent = c.consistent_law.ensures.always;
+  explained = c.cause_law.ensures.explained;
+}))

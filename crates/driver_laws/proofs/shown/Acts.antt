@@ -1,0 +1,133 @@
+-- A sector that an act writes lies inside the pack of a unit that is set up.
+use Rattle.std.proofs.Common.{◌≡◌, ◌≢◌, ◌⊎◌, inl, inr, ℕ, ◌+◌, ◌*◌, ◌==◌, ◌<◌, ◌≤◌, Bool, true, false, List, drop, length, refl, sym, ap, subst, arith, ◌∙◌}
+use Rattle.std.specs.Prelude.{if◌then◌else◌}
+use Rattle.std.proofs.lemmas.Bool.{false≢true}
+use Rattle.std.proofs.lemmas.Bool.Decides.{eqb_tells}
+use Rattle.pack_geometry.specs.Geometry.{block_count}
+use Rattle.pack_geometry.specs.Pack.{Pack, with_written, written}
+use Rattle.main_memory.specs.Bytes.{filled}
+use Rattle.main_memory.specs.Blocks.{Loan, IsLoan, size_at}
+use Rattle.main_memory.proofs.ByteLaws.{length-filled}
+use Rattle.hardware_table.specs.Moves.{was_written}
+use Rattle.hardware_table.specs.Adapter.{AdapterState, next_window}
+use Rattle.driver_machine.specs.World.{World, Held, adapter_of, drive_of, unit_at, adapter_at, held_in, slot_in_hand, block_in}
+use Rattle.driver_machine.specs.Acts as deed
+use Rattle.driver_machine.specs.Acts.{Refuse, Submit, Of, Change, Nothing, Taken, Deed, Tried, Scene, scene_of}
+use Rattle.driver_machine.specs.Guards.{InHand, IsBusyFor, Allowed}
+use Rattle.driver_machine.specs.Sound.{SlotOk, Sound}
+use Rattle.driver_laws.proofs.invariant.Scene.{HasTransferFor, SceneOk}
+use Rattle.driver_laws.proofs.invariant.Frame.{held_is, scene_ok}
+use Rattle.driver_laws.proofs.invariant.Sector.{moved_less, next_below}
+use Rattle.driver_laws.proofs.invariant.DeedFacts.{transfer_at}
+use Rattle.driver_laws.specs.shown.TracePasses.{packs_after}
+use Rattle.driver_laws.proofs.shown.Starting.{set_up}
+use Rattle.driver_laws.specs.shown.RunsActs.{BeyondStays, OthersStay}
+use Rattle.driver_laws.proofs.shown.Images.{block_beyond}
+
+-- HOW MANY BYTES IT GETS
+pub size_few : (loan : Loan) (k : ℕ) → IsLoan loan → size_at loan k ≤ 512
+size_few loan k is = by_test (k + 1 == loan.count)
+  where
+    by_test : (b : Bool) → (if b then loan.last else 512) ≤ 512
+    by_test true = is.shape.last_few
+    by_test false = omega arith
+
+window_inside : (skip count blocks moved size : ℕ) → skip + count ≤ blocks → moved < count → blocks ≡ size → skip + moved < size
+window_inside skip count blocks moved size fits less is = omega (arith, fits, less, is)
+
+-- so a sector that is written is a whole one inside the pack of a unit that is set up
+pub record IsInside (w : World) (u block : ℕ) (t : Tried) : Type 0 where
+  pub below : block < block_count (unit_at w u).drive.kind
+  pub long : length (filled 512 t.bytes) ≡ 512
+
+pub piece_few : (w : World) (u id : ℕ) → Sound w → InHand w u id → IsBusyFor (adapter_at w (adapter_of u)).state (drive_of u) false
+    → length (block_in (held_in w (slot_in_hand (unit_at w u))) (next_window (adapter_at w (adapter_of u)).state)) ≤ 512
+piece_few w u id sound hand busy =
+    let s : Scene = scene_of w u in
+    let h : Held = held_in w (slot_in_hand (unit_at w u)) in
+    let a : AdapterState = (adapter_at w (adapter_of u)).state in
+    let ok : SceneOk u s = scene_ok w u id sound hand in
+    let has : HasTransferFor (unit_at w u) h a = transfer_at u false s ok busy in
+    let same : h ≡ hand.held = held_is w (slot_in_hand (unit_at w u)) hand.held hand.slot in
+    let slot : SlotOk w (slot_in_hand (unit_at w u)) h =
+    subst (SlotOk w (slot_in_hand (unit_at w u))) (sym same) (sound.each_slot (slot_in_hand (unit_at w u)) hand.held hand.slot) in
+    let inside : next_window a < h.loan.count =
+    window_inside a.skip a.count a.blocks a.moved h.loan.count ok.adapter.inside (moved_less a ok.adapter busy.busy busy.completion) (ap (λ (l : Loan). l.count) has.loan) in
+    subst (λ n. n ≤ 512) (sym (slot.whole (next_window a) inside)) (size_few h.loan (next_window a) slot.loan)
+
+few_bytes : (w : World) (line u id block : ℕ) (t : Tried) → Sound w → Allowed w (Of line u id (deed.Sector block t))
+    → was_written (unit_at w u).drive t.verdict ≡ true → length t.bytes ≤ 512
+few_bytes w line u id block t sound allowed given =
+    subst (λ (bytes : List ℕ). length bytes ≤ 512) (sym (allowed.1.2.bytes given)) (piece_few w u id sound allowed.0 allowed.1.0)
+
+pub is_inside : (w : World) (line u id block : ℕ) (t : Tried) → Sound w → Allowed w (Of line u id (deed.Sector block t))
+    → was_written (unit_at w u).drive t.verdict ≡ true → IsInside w u block t
+is_inside w line u id block t sound allowed given = record {
+  below = subst (λ n. n < block_count (unit_at w u).drive.kind) (sym allowed.1.1)
+      (next_below u (scene_of w u) (scene_ok w u id sound allowed.0) allowed.1.0);
+  long = length-filled 512 t.bytes (few_bytes w line u id block t sound allowed given);
+}
+
+-- BEHIND A PACK nothing is written.
+pub written_beyond : (held : ℕ → Pack) (u block : ℕ) (bytes : List ℕ) (unit count : ℕ) → length bytes ≡ 512 → (unit ≡ u → block < count)
+    → drop (512 * count) (with_written held u block bytes unit).image ≡ drop (512 * count) (held unit).image
+written_beyond held u block bytes unit count long below = by_unit (eqb_tells unit u)
+  where
+    by_unit : ((unit == u ≡ true) × (unit ≡ u)) ⊎ ((unit == u ≡ false) × (unit ≢ u))
+        → drop (512 * count) (with_written held u block bytes unit).image ≡ drop (512 * count) (held unit).image
+    by_unit (inl here) =
+        ap (λ (t : Bool). drop (512 * count) (if t then written (held u) block bytes else held unit).image) here.0
+        ∙ block_beyond (held u).image bytes block count long (below here.1) ∙ ap (λ (k : ℕ). drop (512 * count) (held k).image) (sym here.1)
+    by_unit (inr other) = ap (λ (t : Bool). drop (512 * count) (if t then written (held u) block bytes else held unit).image) other.0
+
+pub beyond_by : (b : Bool) (held : ℕ → Pack) (u block : ℕ) (bytes : List ℕ) (unit count : ℕ)
+    → (b ≡ true → (length bytes ≡ 512) × (unit ≡ u → block < count))
+    → drop (512 * count) ((if b then with_written held u block bytes else held) unit).image ≡ drop (512 * count) (held unit).image
+beyond_by true held u block bytes unit count inside = written_beyond held u block bytes unit count (inside refl).0 (inside refl).1
+beyond_by false held u block bytes unit count inside = refl
+
+deed_beyond : (line u id : ℕ) (d : Deed) (w : World) (held : ℕ → Pack) (unit : ℕ) → Sound w → Allowed w (Of line u id d)
+    → drop (512 * block_count (unit_at w unit).drive.kind) (packs_after w held (Of line u id d) unit).image
+    ≡ drop (512 * block_count (unit_at w unit).drive.kind) (held unit).image
+deed_beyond line u id (deed.Sector block t) w held unit sound allowed =
+    beyond_by (was_written (unit_at w u).drive t.verdict) held u block (filled 512 t.bytes) unit (block_count (unit_at w unit).drive.kind)
+    (λ given. (
+      (is_inside w line u id block t sound allowed given).long,
+      λ here. subst (λ k. block < block_count (unit_at w k).drive.kind) (sym here) (is_inside w line u id block t sound allowed given).below,
+    ))
+deed_beyond line u id other w held unit sound allowed = refl
+
+pub beyond_stays : BeyondStays
+beyond_stays w (Of line u id d) held unit sound allowed = deed_beyond line u id d w held unit sound allowed
+beyond_stays w (Refuse line r kind) held unit sound allowed = refl
+beyond_stays w (Submit line p h) held unit sound allowed = refl
+beyond_stays w (Change input) held unit sound allowed = refl
+beyond_stays w (Nothing line) held unit sound allowed = refl
+beyond_stays w Taken held unit sound allowed = refl
+
+-- A UNIT THAT IS NOT SET UP has no request in hand.
+pub other_by : (b : Bool) (held : ℕ → Pack) (u block : ℕ) (bytes : List ℕ) (unit : ℕ) → unit ≢ u
+    → (if b then with_written held u block bytes else held) unit ≡ held unit
+other_by false held u block bytes unit other = refl
+other_by true held u block bytes unit other = by_unit (eqb_tells unit u)
+  where
+    by_unit : ((unit == u ≡ true) × (unit ≡ u)) ⊎ ((unit == u ≡ false) × (unit ≢ u)) → with_written held u block bytes unit ≡ held unit
+    by_unit (inl here) = absurd (other here.1)
+    by_unit (inr apart) = ap (λ (t : Bool). if t then written (held u) block bytes else held unit) apart.0
+
+is_other : (w : World) (u id unit : ℕ) → Sound w → InHand w u id → (unit_at w unit).declared ≡ false → unit ≢ u
+is_other w u id unit sound hand off here =
+    false≢true (sym off ∙ ap (λ (k : ℕ). (unit_at w k).declared) here ∙ (set_up w u sound hand.unit hand.some).declared)
+
+deed_others : (line u id : ℕ) (d : Deed) (w : World) (held : ℕ → Pack) (unit : ℕ) → unit ≢ u → packs_after w held (Of line u id d) unit ≡ held unit
+deed_others line u id (deed.Sector block t) w held unit other =
+    other_by (was_written (unit_at w u).drive t.verdict) held u block (filled 512 t.bytes) unit other
+deed_others line u id d w held unit other = refl
+
+pub others_stay : OthersStay
+others_stay w (Of line u id d) held unit sound allowed off = deed_others line u id d w held unit (is_other w u id unit sound allowed.0 off)
+others_stay w (Refuse line r kind) held unit sound allowed off = refl
+others_stay w (Submit line p h) held unit sound allowed off = refl
+others_stay w (Change input) held unit sound allowed off = refl
+others_stay w (Nothing line) held unit sound allowed off = refl
+others_stay w Taken held unit sound allowed off = refl

@@ -1,0 +1,212 @@
+-- A STEP OF A RETRY: the drive takes it, its line may be said, and what it leaves is shown.
+use Rattle.std.proofs.Common.{◌≡◌, ◌<◌, ℕ, zero, suc, List, [], ◌∷◌, drop, ◌+◌, Option, Some, None, ◌==◌, ◌&&◌, ◌||◌, Bool, true, false, refl, sym, ap, not, subst, arith, ◌∙◌}
+use Rattle.std.specs.Prelude.{if◌then◌else◌, nat_lt}
+use Rattle.std.proofs.lemmas.List.{drop-drop}
+use Rattle.pack_geometry.specs.declared.Place.{Place}
+use Rattle.pack_geometry.specs.Geometry.{cylinders_of, tracks_of, sectors_of, place_at, block_count}
+use Rattle.drive_registers.specs.declared.Function.TheVariants as function
+use Rattle.drive_registers.specs.declared.OffsetCode.{OffsetCode}
+use Rattle.drive_registers.specs.declared.Function.{Function}
+use Rattle.drive_registers.specs.Codes.{offset_code}
+use Rattle.hardware_table.specs.declared.Register.TheVariants as register
+use Rattle.hardware_table.specs.declared.Work.TheVariants as work
+use Rattle.hardware_table.specs.Adapter.{AdapterState}
+use Rattle.hardware_table.specs.Drive.{DriveState, with_register, track_in, sector_in}
+use Rattle.hardware_table.specs.Functions.{is_addressed, refusals, needs_online}
+use Rattle.retry_offsets.specs.declared.Step.{Step}
+use Rattle.retry_offsets.specs.declared.Step.TheVariants as retry
+use Rattle.retry_offsets.specs.Schedule.{step_after}
+use Rattle.transfer_engine.specs.declared.job.Job.{Job}
+use Rattle.transfer_engine.specs.State as engine
+use Rattle.trace_replay.specs.Service as asked
+use Rattle.trace_replay.specs.Replay.{UnitSeen, Replay, hand_of, at_unit, unit_after}
+use Rattle.trace_replay.specs.Conversation as told
+use Rattle.trace_replay.specs.Packs.{VerdictMay}
+use Rattle.trace_replay.specs.Drives.{DriveMay, takes, offset_written}
+use Rattle.trace_replay.proofs.Histories.{both}
+use Rattle.trace_replay.specs.Adapters as rule
+use Rattle.driver_machine.specs.declared.RetryStep.{RetryStep}
+use Rattle.driver_machine.specs.declared.RetryStep.TheVariants.{Recalibrate, Seek, Offset}
+use Rattle.driver_machine.specs.declared.Task.TheVariants.{Steps}
+use Rattle.driver_machine.specs.declared.Phase.TheVariants.{Positioning}
+use Rattle.driver_machine.specs.declared.Phase.TheVariants as phases
+use Rattle.driver_machine.specs.World.{World, UnitView, Held, slot_in_hand, transfer_of, adapter_of, unit_at, adapter_at, held_in}
+use Rattle.driver_machine.specs.Guards.{InHand}
+use Rattle.driver_machine.specs.Due.{steps_of, steps_for, offset_steps}
+use Rattle.driver_machine.specs.Acts.{going_to, stepping}
+use Rattle.driver_machine.specs.Acts as deed
+use Rattle.driver_machine.specs.Lines.{step_told}
+use Rattle.driver_machine.specs.Sound.{Sound, IsTask}
+use Rattle.driver_machine.specs.DueFacts.{IsStep, MayGo}
+use Rattle.driver_laws.specs.shown.Stages.{step_seen}
+use Rattle.driver_laws.specs.shown.Shows.{Shows}
+use Rattle.driver_laws.proofs.shown.Told.{seen_told}
+use Rattle.driver_laws.specs.shown.Laws.{IsSaid}
+use Rattle.driver_laws.proofs.shown.Core.{Core}
+use Rattle.driver_laws.proofs.shown.Talk.{guarded_command, step_stage}
+use Rattle.driver_laws.proofs.shown.Facts.{At}
+use Rattle.driver_laws.proofs.shown.Plain.{IsPlain, plain_says, ready_plain}
+use Rattle.driver_laws.proofs.shown.DeedFacts.{no, said_by}
+use Rattle.driver_laws.proofs.shown.Drives.{below, place_inside, segment_below}
+
+behind_more : (n : ℕ) (xs : List RetryStep) (x : RetryStep) (left : List RetryStep) → drop n xs ≡ x ∷ left → drop (n + 1) xs ≡ left
+behind_more n xs x left is = sym (drop-drop 1 n xs) ∙ ap (drop 1) is
+
+do_core : (h : Held) (v : UnitView) (a : AdapterState) (seen : UnitSeen) (b : AdapterState) (step : RetryStep) (taken : ℕ)
+    → Core h v a seen → IsStep v step taken
+    → Core h (going_to (Positioning taken) (stepping step) v) a (seen_told seen b (step_told step) [])
+do_core h v a seen b Recalibrate taken is due = record {
+  drive = rw is.drive refl;
+  table = is.table;
+  stage = rw (is.stage, due.phase, due.next, due.is, behind_more due.before (steps_of (transfer_of v)) Recalibrate due.left due.is) refl;
+  progress = rw due.phase at is.progress;
+}
+do_core h v a seen b (Seek cylinder) taken is due = record {
+  drive = rw is.drive refl;
+  table = is.table;
+  stage = rw (is.stage, due.phase, due.next, due.is, behind_more due.before (steps_of (transfer_of v)) (Seek cylinder) due.left due.is) refl;
+  progress = rw due.phase at is.progress;
+}
+do_core h v a seen b (Offset code) taken is due = record {
+  drive = rw is.drive refl;
+  table = is.table;
+  stage = rw (is.stage, due.phase, due.next, due.is, behind_more due.before (steps_of (transfer_of v)) (Offset code) due.left due.is) refl;
+  progress = rw due.phase at is.progress;
+}
+
+step_command : (step : RetryStep) → told.command_of (step_seen step) ≡ step_told step
+step_command Recalibrate = refl
+step_command (Seek cylinder) = refl
+step_command (Offset code) = refl
+
+step_unlocked : (step : RetryStep) (locked : Bool) → told.needs_unlocked (step_told step) && locked ≡ false
+step_unlocked Recalibrate locked = refl
+step_unlocked (Seek cylinder) locked = refl
+step_unlocked (Offset code) locked = refl
+
+step_talk : (h : Held) (v : UnitView) (a : AdapterState) (seen : UnitSeen) (step : RetryStep) (taken : ℕ)
+    → Core h v a seen → IsStep v step taken → MayGo false v.drive
+    → told.due seen.drive (hand_of seen) seen.stage ≡ Some (step_told step)
+step_talk h v a seen step taken is due go =
+    rw (step_stage h v a seen due.before step due.left is due.phase due.is, is.drive)
+    (ap Some (ap (told.guarded v.drive (record (hand_of seen) { kind = v.drive.kind })) (step_command step)
+    ∙ guarded_command v.drive (record (hand_of seen) { kind = v.drive.kind }) (step_told step)
+    (record { online = go.online; unlocked = step_unlocked step v.drive.locked; valid = go.valid })))
+
+seek_taken : (d : DriveState) (cylinder : ℕ) → d.work ≡ work.Ready → d.online ≡ true → is_addressed (with_register register.Dc cylinder d) ≡ true
+    → takes function.Seek (with_register register.Dc cylinder d) ≡ true
+seek_taken d cylinder still online at = rw (still, online, at) refl
+
+either_true : (b : Bool) → (b || true) && (0 == 0) ≡ true
+either_true true = refl
+either_true false = refl
+
+still_taken : (f : Function) (d : DriveState) → d.work ≡ work.Ready → d.online ≡ true → refusals f d ≡ 0 → takes f d ≡ true
+still_taken f d still online none = rw (none, still, online) (either_true (not (needs_online f)))
+
+-- THE STEPS of a retry seek the cylinder of the sector that failed alone.
+abbrev pub SeeksAt : ℕ → RetryStep → Type 0
+SeeksAt c (Seek cylinder) = cylinder ≡ c
+SeeksAt c step = Unit {0}
+
+abbrev pub AllSeekAt : ℕ → List RetryStep → Type 0
+AllSeekAt c [] = Unit {0}
+AllSeekAt c (step ∷ steps) = SeeksAt c step × AllSeekAt c steps
+
+offsets_seek : (c : ℕ) (code : Option OffsetCode) → AllSeekAt c (offset_steps code)
+offsets_seek c None = tt
+offsets_seek c (Some code) = (tt, tt)
+
+seeks_seek : (b : Bool) (c : ℕ) (steps : List RetryStep) → AllSeekAt c steps → AllSeekAt c (if b then steps else Seek c ∷ steps)
+seeks_seek true c steps all = all
+seeks_seek false c steps all = (refl, all)
+
+steps_seek : (c : ℕ) (st : Step) → AllSeekAt c (steps_for c st)
+steps_seek c retry.Again = tt
+steps_seek c (retry.Offset code) = (tt, tt)
+steps_seek c (retry.Recalibrate code) = (tt, seeks_seek (c == 0) c (offset_steps code) (offsets_seek c code))
+steps_seek c retry.GiveUp = tt
+
+behind_seek : (c n : ℕ) (steps : List RetryStep) → AllSeekAt c steps → AllSeekAt c (drop n steps)
+behind_seek c zero steps all = all
+behind_seek c (suc n) [] all = tt
+behind_seek c (suc n) (step ∷ steps) all = behind_seek c n steps all.1
+
+next_seek : (c n : ℕ) (st : Step) (step : RetryStep) (left : List RetryStep) → drop n (steps_for c st) ≡ step ∷ left → SeeksAt c step
+next_seek c n st step left is = (subst (AllSeekAt c) is (behind_seek c n (steps_for c st) (steps_seek c st))).0
+
+seek_addressed : (d : DriveState) (cylinder : ℕ) → is_addressed d ≡ true → cylinder < cylinders_of d.kind
+    → is_addressed (with_register register.Dc cylinder d) ≡ true
+seek_addressed d cylinder at inside =
+    let rest : nat_lt (track_in d.da) (tracks_of d.kind) && nat_lt (sector_in d.da) (sectors_of d.kind) ≡ true =
+    (both (nat_lt d.dc (cylinders_of d.kind)) (nat_lt (track_in d.da) (tracks_of d.kind) && nat_lt (sector_in d.da) (sectors_of d.kind)) at).1 in
+    both_true _ _ (below inside) rest
+  where
+    both_true : (x y : Bool) → x ≡ true → y ≡ true → x && y ≡ true
+    both_true x y e f = rw (e, f) refl
+
+step_taken : (d : DriveState) (target : Place) (step : RetryStep) → d.work ≡ work.Ready → d.online ≡ true → is_addressed d ≡ true
+    → (c : ℕ) → SeeksAt c step → c < cylinders_of d.kind → DriveMay d target (step_told step)
+step_taken d target Recalibrate still online at c seeks inside = still_taken function.Recal d still online refl
+step_taken d target (Seek cylinder) still online at c seeks inside =
+    seek_taken d cylinder still online (seek_addressed d cylinder at (subst (λ n. n < cylinders_of d.kind) (sym seeks) inside))
+step_taken d target (Offset code) still online at c seeks inside =
+    still_taken function.Offset (offset_written (offset_code code) d) still online refl
+
+step_plain : (u : ℕ) (s : Replay) (step : RetryStep) → IsPlain u s (step_told step)
+step_plain u s Recalibrate = record { service = refl; adapter = refl; surface = refl; frames = refl; outstanding = refl; leaves = refl }
+step_plain u s (Seek cylinder) = record { service = refl; adapter = refl; surface = refl; frames = refl; outstanding = refl; leaves = refl }
+step_plain u s (Offset code) = record { service = refl; adapter = refl; surface = refl; frames = refl; outstanding = refl; leaves = refl }
+
+step_talks : (u : ℕ) (s : Replay) (step : RetryStep) → told.due (s.units u).drive (hand_of (s.units u)) (s.units u).stage ≡ Some (step_told step)
+    → told.TalkMay (s.units u).drive (hand_of (s.units u)) (s.units u).stage (step_told step)
+step_talks u s Recalibrate is = is
+step_talks u s (Seek cylinder) is = is
+step_talks u s (Offset code) is = is
+
+step_adapter : (u : ℕ) (s : Replay) (step : RetryStep) → rule.AdapterMay (at_unit s u).state u (step_told step)
+step_adapter u s Recalibrate = tt
+step_adapter u s (Seek cylinder) = tt
+step_adapter u s (Offset code) = tt
+
+step_verdict : (u : ℕ) (s : Replay) (step : RetryStep) → VerdictMay s.surface u (s.units u).drive (step_told step)
+step_verdict u s Recalibrate = tt
+step_verdict u s (Seek cylinder) = tt
+step_verdict u s (Offset code) = tt
+
+step_bytes : (u : ℕ) (s : Replay) (step : RetryStep) → unit_after s u (step_told step) ≡ seen_told (s.units u) (at_unit s u).state (step_told step) []
+step_bytes u s Recalibrate = refl
+step_bytes u s (Seek cylinder) = refl
+step_bytes u s (Offset code) = refl
+
+pub do_line : (line u id : ℕ) (w : World) (s : Replay) (step : RetryStep) (taken : ℕ) → Sound w → Shows u w s → InHand w u id → At u id w s
+    → IsStep (unit_at w u) step taken → MayGo false (unit_at w u).drive → IsSaid line u id w s (deed.Do step taken) (step_told step)
+do_line line u id w s step taken sound shows hand at due go =
+    let h : Held = held_in w (slot_in_hand (unit_at w u)) in
+    let v : UnitView = unit_at w u in
+    let task : IsTask v h (Steps due.before) = rw due.phase at at.ok.phase in
+    let waits : told.waits (s.units u).stage ≡ false =
+    rw (step_stage h v (adapter_at w (adapter_of u)).state (s.units u) due.before step due.left at.core due.phase due.is) refl in
+    let kind : (transfer_of v).job.kind ≡ v.drive.kind = ap (λ (j : Job). j.kind) task.0.job in
+    let below : (engine.segment_of (transfer_of v)).block < block_count v.drive.kind = segment_below v.drive.kind (transfer_of v) task.0.is kind in
+    let inside : (place_at (transfer_of v).job.kind (engine.segment_of (transfer_of v)).block).cylinder < cylinders_of v.drive.kind =
+    subst (λ k. (place_at k (engine.segment_of (transfer_of v)).block).cylinder < cylinders_of v.drive.kind) (sym kind)
+    (place_inside v.drive.kind (engine.segment_of (transfer_of v)).block below).cylinder in
+    said_by line u id w s (deed.Do step taken) (step_told step) sound shows hand at
+    (record {
+      service = at.service;
+      talk = step_talks u s step (step_talk h v (adapter_at w (adapter_of u)).state (s.units u) step taken at.core due go);
+      drive =
+          rw at.core.drive
+          (step_taken v.drive (asked.target_of v.drive.kind (asked.in_hand (s.units u).service)) step task.1.work go.online at.ok.drive.address
+          (place_at (transfer_of v).job.kind (engine.segment_of (transfer_of v)).block).cylinder
+          (next_seek (place_at (transfer_of v).job.kind (engine.segment_of (transfer_of v)).block).cylinder due.before
+          (step_after (transfer_of v).failures (not (transfer_of v).job.write)) step due.left due.is) inside);
+      adapter = step_adapter u s step;
+      verdict = step_verdict u s step;
+    })
+    (plain_says u id w s (step_told step) (deed.going_to (phases.Positioning taken) (deed.stepping step) v) shows at (step_plain u s step)
+    (subst (Core h (deed.going_to (phases.Positioning taken) (deed.stepping step) v) (adapter_at w (adapter_of u)).state) (sym (step_bytes u s step))
+    (do_core h v (adapter_at w (adapter_of u)).state (s.units u) (at_unit s u).state step taken at.core due))
+    refl refl
+    (ready_plain u id w s (told.waits (unit_after s u (step_told step)).stage) shows at (λ e. grind (arith, due.phase, e)) (λ e. no waits e)))

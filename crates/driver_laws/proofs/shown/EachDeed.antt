@@ -1,0 +1,136 @@
+-- Each deed that is allowed: its line is said, or it is silent.
+use Rattle.std.proofs.Common.{◌≡◌, inl, inr, ℕ, [], ◌∷◌, ◌+◌, sym, ap, subst, arith, ◌∙◌}
+use Rattle.pack_geometry.specs.declared.Place.{Place}
+use Rattle.seek_engine.specs.declared.Position.TheVariants as position
+use Rattle.transfer_engine.specs.declared.job.Segment.{Segment}
+use Rattle.transfer_engine.specs.State.{failures_after}
+use Rattle.transfer_engine.specs.State as engine
+use Rattle.trace_replay.specs.Replay.{Replay}
+use Rattle.trace_replay.specs.Moments as moment
+use Rattle.driver_machine.specs.World.{World, slot_in_hand, transfer_of, unit_at, held_in}
+use Rattle.driver_machine.specs.Guards.{InHand, IsNext, May}
+use Rattle.driver_machine.specs.Acts.{Deed, scene_of}
+use Rattle.driver_machine.specs.Acts as deed
+use Rattle.driver_machine.specs.Sound.{Sound}
+use Rattle.driver_machine.specs.DueFacts.{IsDue, MayGo}
+use Rattle.driver_machine.proofs.DueFacts.{due_facts, chosen_facts}
+use Rattle.driver_laws.specs.shown.Shows.{Shows, IsOnSurface}
+use Rattle.driver_laws.specs.shown.Laws.{IsSaid, told_by, LinesAreSaid, SilentDeedsShow}
+use Rattle.driver_laws.proofs.shown.Facts.{At, at_facts}
+use Rattle.driver_laws.proofs.shown.Move.{transfer_deed}
+use Rattle.driver_laws.proofs.shown.Search.{search_line}
+use Rattle.driver_laws.proofs.shown.Dclr.{clear_line}
+use Rattle.driver_laws.proofs.shown.Rtc.{centre_line}
+use Rattle.driver_laws.proofs.shown.Pack.{pack_line}
+use Rattle.driver_laws.proofs.shown.Do.{do_line}
+use Rattle.driver_laws.proofs.shown.Arrive.{arrive_line}
+use Rattle.driver_laws.proofs.shown.Attn.{attn_line}
+use Rattle.driver_laws.proofs.shown.Intr.{intr_line}
+use Rattle.driver_laws.proofs.shown.Try.{try_line, IsTry, try_is}
+use Rattle.driver_laws.proofs.shown.Forward.{forward_shows}
+use Rattle.driver_laws.proofs.shown.Continue.{continue_shows}
+use Rattle.driver_laws.proofs.shown.Repair.{repair_shows}
+use Rattle.driver_laws.proofs.shown.Ready.{ready_next}
+use Rattle.driver_laws.proofs.shown.End.{end_line}
+use Rattle.driver_laws.proofs.shown.Sector.{sector_line}
+
+same_line : {x y : moment.Deed} → x ∷ [] ≡ y ∷ [] → x ≡ y
+same_line e = grind (arith, e)
+
+no_line : {x : moment.Deed} → [] ≡ x ∷ [] → {P : Type 0} → P
+no_line e = absurd (grind (arith, e))
+
+some_line : {x : moment.Deed} → x ∷ [] ≡ [] → {P : Type 0} → P
+some_line e = absurd (grind (arith, e))
+
+-- what is due, or given to the unit that its adapter takes
+pub next_due : (u : ℕ) (w : World) (d : Deed) → IsNext u d (scene_of w u) → IsDue (unit_at w u) (held_in w (slot_in_hand (unit_at w u))) d
+next_due u w d (inl next) = due_facts (unit_at w u) (held_in w (slot_in_hand (unit_at w u))) d next
+next_due u w d (inr chosen) =
+    subst (IsDue (unit_at w u) (held_in w (slot_in_hand (unit_at w u)))) (sym chosen.due)
+    (chosen_facts (unit_at w u) (held_in w (slot_in_hand (unit_at w u))) chosen.phase)
+
+module _ (line u id : ℕ) (w : World) (s : Replay) (told : moment.Deed) (sound : Sound w) (shows : Shows u w s) (hand : InHand w u id) where
+  at : At u id w s
+  at = at_facts u id w s sound shows hand
+
+  said : (d : Deed) → May u d (scene_of w u) → IsOnSurface s u d (scene_of w u) → told_by w u d ≡ told ∷ [] → IsSaid line u id w s d told
+  said deed.Arrive may surface tells =
+      subst (IsSaid line u id w s deed.Arrive) (same_line tells) (arrive_line line u id w s sound shows hand at may)
+  said (deed.Sector block t) may surface tells =
+      subst (IsSaid line u id w s (deed.Sector block t)) (same_line tells)
+      (sector_line line u id block w s t sound shows hand at may.0 may.1 may.2 surface)
+  said (deed.Intr moved last) may surface tells =
+      subst (IsSaid line u id w s (deed.Intr moved last)) (same_line tells)
+      (intr_line line u id w s moved last sound shows hand at may.0 may.1 may.2)
+  said (deed.Attn taken) may surface tells =
+      subst (IsSaid line u id w s (deed.Attn taken)) (same_line tells) (attn_line line u id w s taken sound shows hand at may.0 may.1)
+  said (deed.Search target sector) may surface tells =
+      let due : IsDue (unit_at w u) (held_in w (slot_in_hand (unit_at w u))) (deed.Search target sector) = next_due u w (deed.Search target sector) may in
+      subst (IsSaid line u id w s (deed.Search target sector)) (same_line tells)
+      (subst (λ t. IsSaid line u id w s (deed.Search t sector) (moment.Search t.cylinder sector)) (sym due.2)
+      (search_line line u id w s sector sound shows hand at due.0 due.1
+      (due.3 ∙ ap (λ (t : Place). position.Search t.cylinder sector) due.2)))
+  said (deed.Do step taken) may surface tells =
+      let due : IsDue (unit_at w u) (held_in w (slot_in_hand (unit_at w u))) (deed.Do step taken) = next_due u w (deed.Do step taken) may in
+      subst (IsSaid line u id w s (deed.Do step taken)) (same_line tells) (do_line line u id w s step taken sound shows hand at due.0 due.1)
+  said (deed.Move write segment) may surface tells =
+      let due : IsDue (unit_at w u) (held_in w (slot_in_hand (unit_at w u))) (deed.Move write segment) = next_due u w (deed.Move write segment) may.0 in
+      subst (IsSaid line u id w s (deed.Move write segment)) (same_line tells)
+      (subst (λ b. IsSaid line u id w s (deed.Move b segment) (moment.Transfer b segment.block segment.count)) (sym due.2)
+      (subst (λ (g : Segment). IsSaid line u id w s (deed.Move (held_in w (slot_in_hand (unit_at w u))).write g)
+      (moment.Transfer (held_in w (slot_in_hand (unit_at w u))).write g.block g.count)) (sym due.3)
+      (transfer_deed line u id w s sound shows hand at due.0 (subst (λ b. MayGo b (unit_at w u).drive) due.2 due.1) may.1)))
+  said deed.Pack may surface tells =
+      subst (IsSaid line u id w s deed.Pack) (same_line tells) (pack_line line u id w s sound shows hand at may)
+  said (deed.Dclr moved last) may surface tells =
+      subst (IsSaid line u id w s (deed.Dclr moved last)) (same_line tells)
+      (clear_line line u id w s moved last sound shows hand at (next_due u w (deed.Dclr moved last) may))
+  said deed.Rtc may surface tells =
+      let due : IsDue (unit_at w u) (held_in w (slot_in_hand (unit_at w u))) deed.Rtc = next_due u w deed.Rtc may in
+      subst (IsSaid line u id w s deed.Rtc) (same_line tells) (centre_line line u id w s due.0 due.1 sound shows hand at due.2 due.3)
+  said (deed.Ready t) may surface tells = no_line tells
+  said (deed.Repair moved place pattern) may surface tells = no_line tells
+  said (deed.Forward moved index) may surface tells = no_line tells
+  said (deed.Continue moved) may surface tells = no_line tells
+  said (deed.Try moved block number next) may surface tells =
+      let due : IsDue (unit_at w u) (held_in w (slot_in_hand (unit_at w u))) (deed.Try moved block number next) =
+      next_due u w (deed.Try moved block number next) may in
+      let parts : IsTry moved block number next (transfer_of (unit_at w u)) = try_is moved block number next (transfer_of (unit_at w u)) due.3 in
+      subst (IsSaid line u id w s (deed.Try moved block number next)) (same_line tells)
+      (subst (λ b. IsSaid line u id w s (deed.Try moved b number next) (moment.Try b number)) (sym parts.block_is)
+      (subst (λ n. IsSaid line u id w s (deed.Try moved ((engine.segment_of (transfer_of (unit_at w u))).block + moved) n next)
+      (moment.Try ((engine.segment_of (transfer_of (unit_at w u))).block + moved) n)) (sym parts.number_is)
+      (subst (λ x. IsSaid line u id w s (deed.Try moved ((engine.segment_of (transfer_of (unit_at w u))).block + moved) (failures_after moved (transfer_of (unit_at w u)).failures) x)
+      (moment.Try ((engine.segment_of (transfer_of (unit_at w u))).block + moved) (failures_after moved (transfer_of (unit_at w u)).failures))) (sym parts.next_is)
+      (try_line line u id w s due.0 moved sound shows hand at due.1 due.2))))
+  said (deed.End kind) may surface tells =
+      subst (IsSaid line u id w s (deed.End kind)) (same_line tells) (end_line line u id w s kind sound shows hand at (next_due u w (deed.End kind) may))
+
+pub lines_are_said : LinesAreSaid
+lines_are_said line u id w s d told sound shows allowed surface tells = said line u id w s told sound shows allowed.0 d allowed.1 surface tells
+
+pub silent_deeds_show : SilentDeedsShow
+silent_deeds_show line u id w s (deed.Ready t) sound shows allowed tells =
+    ready_next t line u id w s sound shows allowed.0 (at_facts u id w s sound shows allowed.0) allowed.1 (next_due u w (deed.Ready t) allowed.1)
+silent_deeds_show line u id w s (deed.Repair moved place pattern) sound shows allowed tells =
+    repair_shows line u id moved place pattern w s sound shows allowed.0 (at_facts u id w s sound shows allowed.0)
+    (next_due u w (deed.Repair moved place pattern) allowed.1)
+silent_deeds_show line u id w s (deed.Forward moved index) sound shows allowed tells =
+    let due : IsDue (unit_at w u) (held_in w (slot_in_hand (unit_at w u))) (deed.Forward moved index) = next_due u w (deed.Forward moved index) allowed.1 in
+    forward_shows line u id moved index w s sound shows allowed.0 (at_facts u id w s sound shows allowed.0) due.0 due.1
+silent_deeds_show line u id w s (deed.Continue moved) sound shows allowed tells =
+    let due : IsDue (unit_at w u) (held_in w (slot_in_hand (unit_at w u))) (deed.Continue moved) = next_due u w (deed.Continue moved) allowed.1 in
+    continue_shows line u id moved w s sound shows allowed.0 (at_facts u id w s sound shows allowed.0) due.0 due.1
+silent_deeds_show line u id w s deed.Arrive sound shows allowed tells = some_line tells
+silent_deeds_show line u id w s (deed.Sector block t) sound shows allowed tells = some_line tells
+silent_deeds_show line u id w s (deed.Intr moved last) sound shows allowed tells = some_line tells
+silent_deeds_show line u id w s (deed.Attn taken) sound shows allowed tells = some_line tells
+silent_deeds_show line u id w s (deed.Search target sector) sound shows allowed tells = some_line tells
+silent_deeds_show line u id w s (deed.Do step taken) sound shows allowed tells = some_line tells
+silent_deeds_show line u id w s (deed.Move write segment) sound shows allowed tells = some_line tells
+silent_deeds_show line u id w s deed.Pack sound shows allowed tells = some_line tells
+silent_deeds_show line u id w s (deed.Dclr moved last) sound shows allowed tells = some_line tells
+silent_deeds_show line u id w s deed.Rtc sound shows allowed tells = some_line tells
+silent_deeds_show line u id w s (deed.Try moved block number next) sound shows allowed tells = some_line tells
+silent_deeds_show line u id w s (deed.End kind) sound shows allowed tells = some_line tells

@@ -1,0 +1,58 @@
+-- What is played in a run, and what is answered.
+use Rattle.std.proofs.Common.{◌≡◌, ℕ, List, [], ◌∷◌, ◌++◌, refl, ap, ◌∙◌}
+use Rattle.trace_replay.specs.Script.{Numbered}
+use Rattle.trace_replay.specs.Moments as moment
+use Rattle.trace_replay.specs.Moments.{Moment, Played, Told, Idle, Answered, played, answers_in}
+use Rattle.driver_machine.specs.World.{World, held_in, slot_in_hand, unit_at}
+use Rattle.driver_machine.specs.Acts.{Act, Refuse, Submit, Of, Change, Nothing, Taken, after}
+use Rattle.driver_machine.specs.Lines.{deed_told, lines_with, lines_of, lines_of_all}
+use Rattle.driver_laws.specs.shown.Runs.{CallsArePlayed, LinesPlayNothing, CallsAreAnswered}
+
+played_append : (ms ns : List Moment) → played (ms ++ ns) ≡ played ms ++ played ns
+played_append [] ns = refl
+played_append (Played line input ∷ ms) ns = ap (λ (l : List Numbered). record { line = line; input = input } ∷ l) (played_append ms ns)
+played_append (Told line unit id deed ∷ ms) ns = played_append ms ns
+played_append (Idle line ∷ ms) ns = played_append ms ns
+
+lines_with_none : (line unit id : ℕ) (tolds : List moment.Deed) (ms : List Moment) → played (lines_with line unit id tolds ++ ms) ≡ played ms
+lines_with_none line unit id [] ms = refl
+lines_with_none line unit id (told ∷ rest) ms = lines_with_none line unit id rest ms
+
+act_none : (w : World) (act : Act) (ms : List Moment) → played (lines_of w act ++ ms) ≡ played ms
+act_none w (Refuse line r kind) ms = refl
+act_none w (Submit line p h) ms = refl
+act_none w (Of line u id deed) ms = lines_with_none line u id (deed_told (held_in w (slot_in_hand (unit_at w u))) deed) ms
+act_none w (Change input) ms = refl
+act_none w (Nothing line) ms = refl
+act_none w Taken ms = refl
+
+lines_none : (w : World) (acts : List Act) → played (lines_of_all w acts) ≡ []
+lines_none w [] = refl
+lines_none w (act ∷ acts) = act_none w act (lines_of_all (after w act) acts) ∙ lines_none (after w act) acts
+
+nothing_more : (l : List Numbered) → l ++ [] ≡ l
+nothing_more [] = refl
+nothing_more (x ∷ xs) = ap (λ (l : List Numbered). x ∷ l) (nothing_more xs)
+
+pub lines_play_nothing : LinesPlayNothing
+lines_play_nothing moments w acts =
+    played_append moments (lines_of_all w acts) ∙ ap (λ (l : List Numbered). played moments ++ l) (lines_none w acts) ∙ nothing_more (played moments)
+
+pub calls_are_played : CallsArePlayed
+calls_are_played moments line input w acts =
+    played_append moments (Played line input ∷ lines_of_all w acts)
+    ∙ ap (λ (l : List Numbered). played moments ++ record { line = line; input = input } ∷ l) (lines_none w acts)
+
+answers_told : (line unit id : ℕ) (deed : moment.Deed) (ms ns : List Moment) → answers_in (ms ++ ns) ≡ answers_in ms ++ answers_in ns
+    → answers_in (Told line unit id deed ∷ ms ++ ns) ≡ answers_in (Told line unit id deed ∷ ms) ++ answers_in ns
+answers_told line unit id (moment.End answer) ms ns later = ap (λ (l : List Answered). record { line = line; id = id; answer = answer } ∷ l) later
+answers_told line unit id other ms ns later = later
+
+answers_append : (ms ns : List Moment) → answers_in (ms ++ ns) ≡ answers_in ms ++ answers_in ns
+answers_append [] ns = refl
+answers_append (Played line input ∷ ms) ns = answers_append ms ns
+answers_append (Told line unit id deed ∷ ms) ns = answers_told line unit id deed ms ns (answers_append ms ns)
+answers_append (Idle line ∷ ms) ns = answers_append ms ns
+
+pub calls_are_answered : CallsAreAnswered
+calls_are_answered moments line input w acts = answers_append moments (Played line input ∷ lines_of_all w acts)

@@ -1,0 +1,139 @@
+-- One part of an event behind another; and the lines of an event follow, in a drain too.
+use Rattle.std.proofs.Common.{◌≡◌, ℕ, ◌&&◌, Bool, true, false, List, [], ◌∷◌, ◌++◌, refl, sym, ap, subst, ◌∙◌, append_assoc}
+use Rattle.std.specs.Prelude.{if◌then◌else◌, nat_lt}
+use Rattle.pack_geometry.specs.Pack as model
+use Rattle.trace_replay.specs.Moments as moment
+use Rattle.trace_replay.specs.Moments.{Deed, Moment, Played, Told, Idle}
+use Rattle.trace_replay.specs.Events.{Wish, wish_of, is_no_line}
+use Rattle.trace_replay.specs.Replay.{Replay, LineMay, ToldMay, MayCome, next_wish, told_after, after_moment, after_moments, drained, act_drained, Follows}
+use Rattle.driver_machine.specs.World.{World}
+use Rattle.driver_machine.specs.Acts.{Act, after, after_all}
+use Rattle.driver_machine.specs.Lines.{lines_of, lines_of_all}
+use Rattle.driver_machine.specs.Events.{Part, followed}
+use Rattle.driver_laws.specs.answers.Packs.{packs_after, packs_after_all}
+use Rattle.driver_laws.proofs.answers.Passes.{after_append}
+use Rattle.driver_laws.proofs.shown.Telling.{told_within, within, within_all, LineFollows, LinesFollow, Tells}
+
+-- behind the last of some moments a drain goes on
+abbrev pub drained_by : List Moment → Replay → Replay
+drained_by [] s = s
+drained_by (m ∷ ms) s = drained s
+
+-- ONE BEHIND ANOTHER
+pub lines_append : (w : World) (xs ys : List Act) → lines_of_all w (xs ++ ys) ≡ lines_of_all w xs ++ lines_of_all (after_all w xs) ys
+lines_append w [] ys = refl
+lines_append w (x ∷ xs) ys =
+    ap (λ (ms : List Moment). lines_of w x ++ ms) (lines_append (after w x) xs ys)
+    ∙ sym (append_assoc (lines_of w x) (lines_of_all (after w x) xs) (lines_of_all (after_all (after w x) xs) ys))
+
+pub packs_append : (w : World) (held : ℕ → model.Pack) (xs ys : List Act)
+    → packs_after_all w held (xs ++ ys) ≡ packs_after_all (after_all w xs) (packs_after_all w held xs) ys
+packs_append w held [] ys = refl
+packs_append w held (x ∷ xs) ys = packs_append (after w x) (packs_after w held x) xs ys
+
+pub within_append : (s : Replay) (ms ns : List Moment) → within_all s (ms ++ ns) ≡ within_all (within_all s ms) ns
+within_append s [] ns = refl
+within_append s (m ∷ ms) ns = within_append (within s m) ms ns
+
+pub follow_append : (s : Replay) (ms ns : List Moment) → LinesFollow s ms → LinesFollow (within_all s ms) ns → LinesFollow s (ms ++ ns)
+follow_append s [] ns first later = later
+follow_append s (m ∷ ms) ns first later = (first.0, follow_append (within s m) ms ns first.1 later)
+
+pub nothing_told : (P : World → Replay → Type 0) (w : World) (s : Replay) → P w s → Tells P w s []
+nothing_told P w s holds = record { follow = tt; holds = holds; surface = refl; there = refl; packs = λ held. refl }
+
+pub tells_append : (P Q : World → Replay → Type 0) (w : World) (s : Replay) (xs ys : List Act) → Tells P w s xs
+    → Tells Q (after_all w xs) (within_all s (lines_of_all w xs)) ys → Tells Q w s (xs ++ ys)
+tells_append P Q w s xs ys first later =
+    let lines : lines_of_all w (xs ++ ys) ≡ lines_of_all w xs ++ lines_of_all (after_all w xs) ys = lines_append w xs ys in
+    let replay : within_all s (lines_of_all w (xs ++ ys)) ≡ within_all (within_all s (lines_of_all w xs)) (lines_of_all (after_all w xs) ys) =
+    ap (λ (ms : List Moment). within_all s ms) lines ∙ within_append s (lines_of_all w xs) (lines_of_all (after_all w xs) ys) in
+    record {
+      follow = subst (LinesFollow s) (sym lines)
+          (follow_append s (lines_of_all w xs) (lines_of_all (after_all w xs) ys) first.follow later.follow);
+      holds = subst (λ (r : Replay). Q (after_all w (xs ++ ys)) r) (sym replay)
+          (subst (λ (x : World). Q x (within_all (within_all s (lines_of_all w xs)) (lines_of_all (after_all w xs) ys)))
+          (sym (after_append w xs ys)) later.holds);
+      surface = ap (λ (r : Replay). r.surface) replay ∙ later.surface ∙ first.surface;
+      there = ap (λ (r : Replay). r.there) replay ∙ later.there ∙ first.there;
+      packs = λ held. packs_append w held xs ys ∙ later.packs (packs_after_all w held xs) ∙ first.packs held;
+    }
+
+pub then_tells : (P Q : World → Replay → Type 0) (w : World) (s : Replay) (acts : List Act) (part : Part) → Tells P w s acts
+    → (P (after_all w acts) (within_all s (lines_of_all w acts)) → Tells Q (after_all w acts) (within_all s (lines_of_all w acts)) (part (after_all w acts)))
+    → Tells Q w s (followed acts part w)
+then_tells P Q w s acts part first next = tells_append P Q w s acts (part (after_all w acts)) first (next first.holds)
+
+pub tells_too : (P Q : World → Replay → Type 0) (w : World) (s : Replay) (acts : List Act) → Tells P w s acts
+    → (P (after_all w acts) (within_all s (lines_of_all w acts)) → Q (after_all w acts) (within_all s (lines_of_all w acts))) → Tells Q w s acts
+tells_too P Q w s acts tells so = record {
+  follow = tells.follow;
+  holds = so tells.holds;
+  surface = tells.surface;
+  there = tells.there;
+  packs = tells.packs;
+}
+
+-- A LINE of a unit is no refusal, and some line.
+pub line_may : (s : Replay) (line unit id : ℕ) (deed : Deed) → LineMay s line unit id deed → ToldMay (wish_of unit deed) s line unit id deed
+line_may s line unit id moment.Arrive may = may
+line_may s line unit id (moment.Sector block verdict) may = may
+line_may s line unit id moment.Intr may = may
+line_may s line unit id moment.Attn may = may
+line_may s line unit id other may = may
+
+pub line_after : (s : Replay) (unit : ℕ) (deed : Deed) → told_after (wish_of unit deed) s unit deed ≡ drained (told_within s unit deed)
+line_after s unit moment.Arrive = refl
+line_after s unit (moment.Sector block verdict) = refl
+line_after s unit moment.Intr = refl
+line_after s unit moment.Attn = refl
+line_after s unit other = refl
+
+some_line : (unit : ℕ) (deed : Deed) → is_no_line (wish_of unit deed) ≡ false
+some_line unit moment.Arrive = refl
+some_line unit (moment.Sector block verdict) = refl
+some_line unit moment.Intr = refl
+some_line unit moment.Attn = refl
+some_line unit other = refl
+
+-- where a line comes next a drain does not go on
+not_drained : (s : Replay) → is_no_line (next_wish s) ≡ false → drained s ≡ s
+not_drained s some = by_drain s.event.drains
+  where
+    by_drain : (drains : Bool)
+        → (if drains && (is_no_line (next_wish s) && nat_lt 0 s.outstanding) then record s { event = record s.event { between = true; act = act_drained s } } else s) ≡ s
+    by_drain true =
+        ap (λ (b : Bool). if b && nat_lt 0 s.outstanding then record s { event = record s.event { between = true; act = act_drained s } } else s) some
+    by_drain false = refl
+
+drained_not : (m : Moment) (s : Replay) → LineFollows s m → drained s ≡ s
+drained_not (Told line unit id deed) s may =
+    not_drained s (ap is_no_line may.wished ∙ some_line unit deed)
+drained_not (Played line input) s may = absurd may
+drained_not (Idle line) s may = absurd may
+
+-- THE LINES FOLLOW, and behind the last one a drain goes on.
+pub record Followed (s : Replay) (ms : List Moment) : Type 0 where
+  pub follows : Follows s ms
+  pub after : after_moments s ms ≡ drained_by ms (within_all s ms)
+
+one_line : (m : Moment) (s : Replay) → LineFollows s m → MayCome s m × (after_moment s m ≡ drained (within s m))
+one_line (Told line unit id deed) s may = (
+  subst (λ (wish : Wish). ToldMay wish s line unit id deed) (sym may.wished) (line_may s line unit id deed may),
+  ap (λ (wish : Wish). told_after wish s unit deed) may.wished ∙ line_after s unit deed,
+)
+one_line (Played line input) s may = absurd may
+one_line (Idle line) s may = absurd may
+
+pub lines_follow : (ms : List Moment) (s : Replay) → LinesFollow s ms → Followed s ms
+lines_follow [] s follow = record { follows = tt; after = refl }
+lines_follow (m ∷ ms) s follow = by_rest ms follow.1 (lines_follow ms (within s m) follow.1)
+  where
+    by_rest : (ms : List Moment) → LinesFollow (within s m) ms → Followed (within s m) ms → Followed s (m ∷ ms)
+    by_rest [] later rest = record { follows = ((one_line m s follow.0).0, tt); after = (one_line m s follow.0).1 }
+    by_rest (n ∷ ns) later rest =
+        let at : after_moment s m ≡ within s m = (one_line m s follow.0).1 ∙ drained_not n (within s m) later.0 in
+        record {
+          follows = ((one_line m s follow.0).0, subst (λ (r : Replay). Follows r (n ∷ ns)) (sym at) rest.follows);
+          after = ap (λ (r : Replay). after_moments r (n ∷ ns)) at ∙ rest.after;
+        }

@@ -1,0 +1,53 @@
+-- A new driver is quiet.
+use Rattle.std.proofs.Common.{◌≡◌, ◌≢◌, ◌⊎◌, inl, inr, ℕ, zero, suc, ◌≤◌, ◌<◌, List, [], ◌∷◌, length, length-set, replicate, Option, None, refl, sym, ap, subst, ◌∙◌, arith, get_or-set_same, get_or-set_other}
+use Rattle.std.specs.Prelude.{slice_index_or, slice_set}
+use Rattle.std.proofs.lemmas.List.{get_or_past}
+use Rattle.std.proofs.lemmas.Option.{none-some}
+use Rattle.driver_laws.specs.rules.Calm.{IsGood}
+use Rattle.driver_machine.specs.World.{UnitView, Held, Setup, new_unit, no_unit, set_up}
+use Rattle.driver_laws.specs.shown.Quiet.{NewIsQuiet}
+
+less_or : (x n : ℕ) → (x < n) ⊎ (n ≤ x)
+less_or x n = grind arith
+
+same_or : (x y : ℕ) → (x ≡ y) ⊎ (x ≢ y)
+same_or x y = grind arith
+
+-- what all of some things are, and the one beyond them
+abbrev pub AreAll : {A : Type 0} → (A → Type 0) → List A → A → Type 0
+AreAll P xs d = (u : ℕ) → P (slice_index_or xs u d)
+
+all_set : {A : Type 0} (P : A → Type 0) (xs : List A) (i : ℕ) (v d : A) → P v → P d → AreAll P xs d → AreAll P (slice_set xs i v) d
+all_set P xs i v d new past all u = elim (same_or u i) [
+  | inr other ↦ subst P (sym (get_or-set_other xs i u v d other)) (all u)
+  | inl same ↦ elim (less_or i (length xs)) [
+    | inl lt ↦ subst P (sym (ap (λ k. slice_index_or (slice_set xs i v) k d) same ∙ get_or-set_same xs i v d lt)) new
+    | inr le ↦ subst P (sym (get_or_past (slice_set xs i v) u d (beyond (length (slice_set xs i v)) (length xs) i u (length-set xs i v) same le))) past
+  ]
+]
+  where
+    beyond : (n m i u : ℕ) → n ≡ m → u ≡ i → m ≤ i → n ≤ u
+    beyond n m i u one two le = omega (arith, one, two, le)
+
+all_replicate : {A : Type 0} (P : A → Type 0) (n : ℕ) (d : A) → P d → AreAll P (replicate n d) d
+all_replicate P zero d is u = is
+all_replicate P (suc n) d is zero = is
+all_replicate P (suc n) d is (suc u) = all_replicate P n d is u
+
+set_good : (setups : List Setup) (units : List UnitView) → AreAll (λ (v : UnitView). IsGood v.drive) units no_unit → AreAll (λ (v : UnitView). IsGood v.drive) (set_up setups units) no_unit
+set_good [] units all = all
+set_good (s ∷ setups) units all = set_good setups (slice_set units s.unit (new_unit s)) (all_set (λ (v : UnitView). IsGood v.drive) units s.unit (new_unit s) no_unit (refl, refl, refl) (refl, refl, refl) all)
+
+abbrev pub none : Option Held
+none = None
+
+none_held : (n p : ℕ) → slice_index_or (replicate n none) p none ≡ none
+none_held n p = all_replicate (λ (o : Option Held). o ≡ none) n none refl p
+
+pub new_is_quiet : NewIsQuiet
+new_is_quiet setups outstanding noises = record {
+  none = λ p h is. absurd (none-some h (sym (none_held outstanding p) ∙ is));
+  taken = refl;
+  good = λ u set. set_good setups (replicate 32 no_unit) (all_replicate (λ (v : UnitView). IsGood v.drive) 32 no_unit (refl, refl, refl)) u;
+  live = refl;
+}

@@ -1,0 +1,252 @@
+-- Refusals, answers that are taken, another speaker, and the start.
+use Rattle.std.proofs.Common.{◌≡◌, inl, inr, ℕ, zero, suc, ◌<◌, Bool, true, false, List, [], ◌∷◌, replicate, Option, Some, None, refl, sym, ap, subst, arith, ◌∙◌, get_or-set_other}
+use Rattle.std.proofs.lemmas.List.Elements.{Contains-get_or}
+use Rattle.std.proofs.lemmas.Bool.Decides.{eqb_tells}
+use Rattle.std.specs.Prelude.{slice_set, slice_index_or, unwrap_or, Contains}
+use Rattle.std.specs.Option.{option_map_or}
+use Rattle.partitions.specs.Partitions.{admission}
+use Rattle.partitions.specs.declared.Admission.{Admission}
+use Rattle.partitions.specs.declared.Admission.TheVariants.{Inside, Eof, Outside}
+use Rattle.hardware_table.specs.Adapter.{new_adapter}
+use Rattle.disksort.specs.declared.Waiter.{Waiter}
+use Rattle.subsystem_spec.specs.Requests.{Request, AtEnd, Beyond, FramesShort, Rejection, rejection_answer}
+use Rattle.trace_replay.specs.Script as script
+use Rattle.trace_replay.specs.Conversation as told
+use Rattle.trace_replay.specs.Replay.{UnitSeen, Replay, Refused, Joined, Submission, submission, submission_by, submitted, new_replay}
+use Rattle.subsystem_spec.specs.declared.answers.AnswerKind.{AnswerKind}
+use Rattle.driver_machine.specs.declared.Made.{Made}
+use Rattle.driver_machine.specs.declared.Phase.{Phase}
+use Rattle.driver_machine.specs.declared.Phase.TheVariants as phases
+use Rattle.driver_machine.specs.World.{World, AdapterView, Held, new_world, no_held, new_adapter_view, adapter_of, unit_at, adapter_at, held_in, slot_in_hand}
+use Rattle.driver_machine.specs.Acts.{Refuse, Submit, Taken, after, freed}
+use Rattle.driver_machine.specs.Events.{refusal_by, is_room}
+use Rattle.driver_machine.specs.Lines.{answer_told}
+use Rattle.driver_machine.specs.Guards.{IsSetUp}
+use Rattle.driver_machine.specs.Sound.{Sound, IsOutstanding, IsMade}
+use Rattle.driver_laws.specs.shown.Shows.{IsUnitSeen, IsAdapterSeen, Shows, is_coming, with_coming, counted_by, outstanding_in}
+use Rattle.driver_laws.specs.shown.Acts.{RefusalsShow, ChangesShow, RestShows, SpeakersChange, StartIsShown, JoinsShow}
+use Rattle.driver_laws.proofs.shown.Frame.{progress_stays, same_transfer}
+use Rattle.driver_laws.proofs.shown.Queues.{each_of, match_same}
+use Rattle.driver_laws.proofs.shown.Joins.{joined_shows}
+use Rattle.driver_laws.proofs.shown.Changes.{turn_shows, arm_shows, online_shows, locked_shows, noise_shows}
+
+-- A REFUSAL
+pub record IsRefusal (kind : AnswerKind) (met : Submission) : Type 0 where
+  pub why : Rejection
+  pub is : met ≡ Refused why
+  pub answer : answer_told kind [] ≡ rejection_answer why
+
+some_same : {x y : AnswerKind} → Some x ≡ Some y → y ≡ x
+some_same e = grind arith
+
+refused_by : (adm : Admission) (room : Bool) (kind : AnswerKind) → refusal_by adm room ≡ Some kind → IsRefusal kind (submission_by adm room)
+refused_by Outside room kind e = record { why = Beyond; is = refl; answer = ap (λ k. answer_told k []) (some_same e) }
+refused_by Eof room kind e = record { why = AtEnd; is = refl; answer = ap (λ k. answer_told k []) (some_same e) }
+refused_by (Inside first) true kind e = absurd (grind (arith, e))
+refused_by (Inside first) false kind e = record { why = FramesShort; is = refl; answer = ap (λ k. answer_told k []) (some_same e) }
+
+joins_by : (adm : Admission) (room : Bool) → refusal_by adm room ≡ None → submission_by adm room ≡ Joined
+joins_by Outside room e = absurd (grind (arith, e))
+joins_by Eof room e = absurd (grind (arith, e))
+joins_by (Inside first) true e = refl
+joins_by (Inside first) false e = absurd (grind (arith, e))
+
+same_submission : (u : ℕ) (r : Request) (w : World) (s : Replay) → Shows u w s → IsSetUp w r.unit
+    → submission s r ≡ submission_by (admission (unit_at w r.unit).drive.kind r.part r.block r.count) (is_room r w)
+same_submission u r w s shows set = rw ((shows.units r.unit set).drive, shows.frames) refl
+
+refuse_shows : (u line : ℕ) (r : Request) (kind : AnswerKind) (w : World) (s : Replay) → Shows u w s → Shows u (after w (Refuse line r kind)) s
+refuse_shows u line r kind w s shows = record {
+  units = λ x set. shows.units x (record { unit = set.unit; declared = set.declared });
+  adapters = shows.adapters;
+  own_ready = shows.own_ready;
+  other_ready = shows.other_ready;
+  noise = shows.noise;
+  frames = shows.frames;
+  outstanding = shows.outstanding;
+}
+
+pub refusals_show : RefusalsShow
+refusals_show u line r kind w s shows allowed =
+    let is : IsRefusal kind (submission_by (admission (unit_at w r.unit).drive.kind r.part r.block r.count) (is_room r w)) =
+    refused_by (admission (unit_at w r.unit).drive.kind r.part r.block r.count) (is_room r w) kind allowed.2 in
+    let met : submission s r ≡ Refused is.why = same_submission u r w s shows allowed.0 ∙ is.is in
+    record {
+      why = is.why;
+      met = met;
+      answer = is.answer;
+      shows = subst (λ m. Shows u (after w (Refuse line r kind)) (submitted s r m)) (sym met) (refuse_shows u line r kind w s shows);
+    }
+
+-- A JOIN
+pub joins_show : JoinsShow
+joins_show line p h r w s sound shows allowed is inside sorted =
+    let set : IsSetUp w r.unit = subst (IsSetUp w) is.unit allowed.unit in
+    let met : submission s r ≡ Joined =
+    same_submission h.unit r w s shows set ∙ joins_by (admission (unit_at w r.unit).drive.kind r.part r.block r.count) (is_room r w) inside in
+    subst (λ m. Shows h.unit (after w (Submit line p h)) (submitted s r m)) (sym met) (joined_shows line p h r w s sound allowed is sorted shows)
+
+-- CONDITIONS
+pub changes_show : ChangesShow
+changes_show u (script.Turn x sector) w s sound shows allowed work = turn_shows u x sector w s sound allowed.0 work shows
+changes_show u (script.Noise noise) w s sound shows allowed work = noise_shows u noise w s shows
+changes_show u (script.Arm x kind times) w s sound shows allowed work = arm_shows u x kind times w s sound allowed.0 work shows
+changes_show u (script.SetOnline x on) w s sound shows allowed work = online_shows u x on w s sound allowed work shows
+changes_show u (script.SetLocked x on) w s sound shows allowed work = locked_shows u x on w s sound allowed work shows
+changes_show u (script.Submit r) w s sound shows allowed work = absurd allowed
+changes_show u (script.ArriveAt x) w s sound shows allowed work = absurd allowed
+changes_show u (script.MoveAt a) w s sound shows allowed work = absurd allowed
+changes_show u (script.AttendTo a) w s sound shows allowed work = absurd allowed
+changes_show u script.Drain w s sound shows allowed work = absurd allowed
+
+-- AN ANSWER IS TAKEN: its slot is free, and all that is outstanding stays.
+record IsFreed (slots now : List (Option Held)) : Type 0 where
+  keeps : (q : ℕ) (h : Held) → slice_index_or slots q None ≡ Some h → h.ended ≡ false → slice_index_or now q None ≡ Some h
+  count : outstanding_in slots ≡ outstanding_in now
+
+outstanding_freed : (slots : List (Option Held)) (p : ℕ) (h : Held) → slice_index_or slots p None ≡ Some h → h.ended ≡ true
+    → outstanding_in slots ≡ outstanding_in (slice_set slots p None)
+outstanding_freed [] p h is over = refl
+outstanding_freed (None ∷ slots) zero h is over = refl
+outstanding_freed (Some x ∷ slots) zero h is over =
+    let one : x ≡ h = grind (arith, is) in
+    ap (λ b. counted_by b (outstanding_in slots)) (ap (λ (y : Held). y.ended) one ∙ over)
+outstanding_freed (None ∷ slots) (suc p) h is over = outstanding_freed slots p h is over
+outstanding_freed (Some x ∷ slots) (suc p) h is over = ap (counted_by x.ended) (outstanding_freed slots p h is over)
+
+some_held : {g h : Held} → Some g ≡ Some h → g ≡ h
+some_held e = grind (arith, e)
+
+not_both : {b : Bool} → b ≡ true → b ≡ false → ⊥
+not_both e f = grind (arith, e, f)
+
+freed_slot : (slot : Option ℕ) (slots : List (Option Held)) → ((p : ℕ) → slot ≡ Some p → (h : Held) × (slice_index_or slots p None ≡ Some h) × (h.ended ≡ true))
+    → IsFreed slots (option_map_or (λ p. slice_set slots p None) slot slots)
+freed_slot None slots over = record { keeps = λ q h is going. is; count = refl }
+freed_slot (Some p) slots over =
+    let g : Held = (over p refl).0 in
+    record {
+      keeps = λ q h is going. elim (eqb_tells q p) [
+        | inl same ↦ absurd (not_both (over p refl).2
+            (ap (λ (y : Held). y.ended) (some_held (sym (over p refl).1 ∙ ap (λ n. slice_index_or slots n None) (sym same.1) ∙ is)) ∙ going))
+        | inr other ↦ get_or-set_other slots p q None None other.1 ∙ is
+      ];
+      count = outstanding_freed slots p g (over p refl).1 (over p refl).2;
+    }
+
+made_over : (answers : List Made) (slots : List (Option Held))
+    → ((made : Made) (p : ℕ) → Contains answers made → made.slot ≡ Some p → (h : Held) × (slice_index_or slots p None ≡ Some h) × (h.ended ≡ true))
+    → IsFreed slots (freed answers slots)
+made_over [] slots over = record { keeps = λ q h is going. is; count = refl }
+made_over (made ∷ rest) slots over = freed_slot made.slot slots (λ p is. over made p (0, omega arith, refl) is)
+
+taken_freed : (w : World) → Sound w → IsFreed w.slots (freed w.answers w.slots)
+taken_freed w sound =
+    made_over w.answers w.slots (λ made p inside is.
+    let at : IsMade w made p = sound.answers made p inside is in
+    (at.held, at.slot, at.over))
+
+held_kept : (w : World) (x : ℕ) (y : Waiter) → Sound w → IsOutstanding w x y → held_in w y.number ≡ held_in (after w Taken) y.number
+held_kept w x y sound out =
+    let later : slice_index_or (freed w.answers w.slots) y.number None ≡ Some out.held = (taken_freed w sound).keeps y.number out.held out.slot out.going_on in
+    ap (λ o. unwrap_or o no_held) (out.slot ∙ sym later)
+
+taken_seen : (w : World) (x : ℕ) (seen : UnitSeen) → Sound w → x < 32 → IsUnitSeen (held_in w) (unit_at w x) (adapter_at w (adapter_of x)).state seen
+    → IsUnitSeen (held_in (after w Taken)) (unit_at w x) (adapter_at w (adapter_of x)).state seen
+taken_seen w x seen sound small is = record {
+  drive = is.drive;
+  table = is.table;
+  queue =
+      match_same (held_in w) (held_in (after w Taken)) (unit_at w x).drive.kind (unit_at w x).queue seen.service.waiting
+      (each_of (λ (y : Waiter). held_in w y.number ≡ held_in (after w Taken) y.number) (unit_at w x).queue
+      (λ y c. held_kept w x y sound ((sound.each_unit x small).queue y c))) is.queue;
+  stage = is.stage;
+  progress =
+      progress_stays (unit_at w x).phase (unit_at w x) (adapter_at w (adapter_of x)).state (adapter_at w (adapter_of x)).state
+      (held_in w (slot_in_hand (unit_at w x))) (held_in (after w Taken) (slot_in_hand (unit_at w x))) seen.progress
+      (λ e. same_transfer (adapter_at w (adapter_of x)).state)
+      (λ going. held_kept w x _ sound ((sound.each_unit x small).queue _
+      (Contains-get_or (unit_at w x).queue 0 (record { number = 0; cylinder = 0 }) ((sound.each_unit x small).head going)))) is.progress;
+}
+
+pub rest_shows : RestShows
+rest_shows u line w s sound shows = (
+  shows,
+  record {
+    units = λ x set. taken_seen w x (s.units x) sound set.unit (shows.units x (record { unit = set.unit; declared = set.declared }));
+    adapters = shows.adapters;
+    own_ready = shows.own_ready;
+    other_ready = shows.other_ready;
+    noise = shows.noise;
+    frames = shows.frames;
+    outstanding = shows.outstanding ∙ (taken_freed w sound).count;
+  },
+)
+
+-- ANOTHER SPEAKER
+pub speakers_change : SpeakersChange
+speakers_change u x w s shows calm next small small' = record {
+  units = shows.units;
+  adapters = shows.adapters;
+  own_ready = ready (adapter_of x) (omega (arith, small')) ∙ sym (ap (λ b. with_coming b x (adapter_at w (adapter_of x)).queue) next);
+  other_ready = λ a less other. ready a less;
+  noise = shows.noise;
+  frames = shows.frames;
+  outstanding = shows.outstanding;
+}
+  where
+    ready : (a : ℕ) → a < 4 → (s.adapters a).ready ≡ (adapter_at w a).queue
+    ready a less = elim (eqb_tells a (adapter_of u)) [
+      | inl same ↦ subst (λ b. (s.adapters b).ready ≡ (adapter_at w b).queue) (sym same.1)
+          (shows.own_ready ∙ ap (λ b. with_coming b u (adapter_at w (adapter_of u)).queue) calm)
+      | inr other ↦ shows.other_ready a less other.1
+    ]
+
+-- THE START
+all_alike : {A : Type 0} (n k : ℕ) (x : A) → slice_index_or (replicate n x) k x ≡ x
+all_alike zero k x = refl
+all_alike (suc n) zero x = refl
+all_alike (suc n) (suc k) x = all_alike n k x
+
+none_outstanding : (n : ℕ) → 0 ≡ outstanding_in (replicate n None)
+none_outstanding zero = refl
+none_outstanding (suc n) = none_outstanding n
+
+waiting_calm : (phase : Phase) → is_coming phase told.Waiting ≡ false
+waiting_calm phases.Waiting = refl
+waiting_calm (phases.Positioning taken) = refl
+waiting_calm phases.Queued = refl
+waiting_calm phases.Transferring = refl
+waiting_calm (phases.Due task) = refl
+
+new_adapters : IsAdapterSeen new_adapter new_adapter
+new_adapters = record {
+  busy = refl;
+  completion = refl;
+  drive = refl;
+  block = refl;
+  count = refl;
+  write = refl;
+  moved = refl;
+  verdict = refl;
+  late = refl;
+  attentions = refl;
+  counted = λ busy. absurd (grind (arith, busy));
+}
+
+pub start_is_shown : StartIsShown
+start_is_shown u drives tables surface setups outstanding noises start quiet = record {
+  units = λ x set.
+      subst (λ v. IsUnitSeen (held_in (new_world setups outstanding noises)) v (adapter_at (new_world setups outstanding noises) (adapter_of x)).state
+      ((new_replay drives tables surface).units x)) (sym (start x set))
+      (record { drive = refl; table = refl; queue = tt; stage = refl; progress = refl });
+  adapters = λ a less. subst (λ (v : AdapterView). IsAdapterSeen v.state new_adapter) (sym (all_alike 4 a new_adapter_view)) new_adapters;
+  own_ready =
+      sym (ap (λ (v : AdapterView). v.queue) (all_alike 4 (adapter_of u) new_adapter_view))
+      ∙ sym (ap (λ b. with_coming b u (adapter_at (new_world setups outstanding noises) (adapter_of u)).queue)
+      (waiting_calm (unit_at (new_world setups outstanding noises) u).phase));
+  other_ready = λ a less other. sym (ap (λ (v : AdapterView). v.queue) (all_alike 4 a new_adapter_view));
+  noise = quiet;
+  frames = refl;
+  outstanding = none_outstanding outstanding;
+}

@@ -1,0 +1,247 @@
+-- A run goes on call by call.
+use Rattle.std.proofs.Common.{◌≡◌, ◌≢◌, ◌⊎◌, inl, inr, ℕ, suc, ◌<◌, Bool, true, false, filter, List, [], ◌∷◌, ◌++◌, length, Option, Some, None, refl, sym, ap, subst, arith, ◌∙◌, get_or-set_same, get_or-set_other}
+use Rattle.std.specs.Prelude.{if◌then◌else◌, nat_lt}
+use Rattle.std.proofs.lemmas.Bool.Decides.{leb_tells}
+use Rattle.pack_geometry.specs.declared.DriveKind.{DriveKind}
+use Rattle.pack_geometry.specs.Pack.{Pack}
+use Rattle.pack_geometry.specs.TableSpelling.{Table}
+use Rattle.hardware_table.specs.Events.{turned, fault_armed, online_set, locked_set}
+use Rattle.trace_replay.specs.Moments.{Moment, Played}
+use Rattle.trace_replay.specs.Packs.{Surface}
+use Rattle.trace_replay.specs.Script as script
+use Rattle.trace_replay.specs.Script.{Input}
+use Rattle.trace_replay.specs.Replay.{Replay, Submission, Refused, Joined, all_units, new_replay, are_at_work, InputMay, after_moment, after_moments, replay_played, submitted, submission, Follows, Legal}
+use Rattle.driver_laws.proofs.rules.Conserved.{is_conserved}
+use Rattle.driver_machine.specs.World.{World, UnitView, unit_at, slot_in_hand, no_unit}
+use Rattle.driver_machine.specs.Acts as deed
+use Rattle.driver_machine.specs.Acts.{Act, Refuse, Submit, Of, Change, Nothing, Taken, Tried, effect, scene_of, joined, after, after_all}
+use Rattle.driver_machine.specs.Lines.{lines_of_all}
+use Rattle.driver_machine.specs.Events.{event_acts, next_event}
+use Rattle.driver_machine.specs.Guards.{Allowed}
+use Rattle.driver_machine.specs.Sound.{Sound, AtWork}
+use Rattle.driver_laws.proofs.shown.Passes.{effect_same}
+use Rattle.driver_machine.specs.Runs.{Run}
+use Rattle.driver_laws.proofs.answers.Passes.{next_can}
+pub use Rattle.driver_laws.proofs.answers.Passes.{sound_after}
+use Rattle.driver_laws.specs.answers.Packs.{packs_after_all}
+use Rattle.driver_laws.specs.shown.Calls.{Ends, IsLeft, AreThere}
+use Rattle.driver_laws.proofs.shown.Telling.{IsTold}
+use Rattle.driver_laws.proofs.shown.Named.{IsTriedOn}
+use Rattle.driver_laws.specs.shown.Runs.{IsSoFar, IsDraining}
+use Rattle.driver_laws.proofs.shown.DrainsLaws.{GoesOn, drain_goes_on, drain_between, drain_begins, drain_idle, event_goes, call_left, drain_left, none_outstanding}
+
+-- THE UNITS that are set up stay so.
+same_or : (x y : ℕ) → (x ≡ y) ⊎ (x ≢ y)
+same_or x y = grind arith
+
+set_declared : (w : World) (u : ℕ) (v : UnitView) (x : ℕ) → u < length w.units → v.declared ≡ (unit_at w u).declared
+    → (unit_at (record w { units = Rattle.std.specs.Prelude.slice_set w.units u v }) x).declared ≡ (unit_at w x).declared
+set_declared w u v x lt same = by (same_or x u)
+  where
+    by : (x ≡ u) ⊎ (x ≢ u) → (unit_at (record w { units = Rattle.std.specs.Prelude.slice_set w.units u v }) x).declared ≡ (unit_at w x).declared
+    by (inl is) =
+        ap (λ (k : ℕ). (unit_at (record w { units = Rattle.std.specs.Prelude.slice_set w.units u v }) k).declared) is
+        ∙ ap (λ (y : UnitView). y.declared) (get_or-set_same w.units u v no_unit lt) ∙ same ∙ ap (λ (k : ℕ). (unit_at w k).declared) (sym is)
+    by (inr other) = ap (λ (y : UnitView). y.declared) (get_or-set_other w.units u x v no_unit other)
+
+within_units : (w : World) (u : ℕ) → Sound w → u < 32 → u < length w.units
+within_units w u sound lt = subst (λ (k : ℕ). u < k) (sym sound.units) lt
+
+change_declared : (w : World) (input : Input) (x : ℕ) → Sound w → Allowed w (Change input) → (unit_at (after w (Change input)) x).declared ≡ (unit_at w x).declared
+change_declared w (script.Turn u sector) x sound may =
+    set_declared w u (deed.with_drive (turned sector) (unit_at w u)) x (within_units w u sound may.0.unit) refl
+change_declared w (script.Arm u kind times) x sound may =
+    set_declared w u (deed.with_drive (fault_armed kind times) (unit_at w u)) x (within_units w u sound may.0.unit) refl
+change_declared w (script.SetOnline u on) x sound may =
+    set_declared w u (deed.with_drive (online_set on) (unit_at w u)) x (within_units w u sound may.unit) refl
+change_declared w (script.SetLocked u on) x sound may =
+    set_declared w u (deed.with_drive (locked_set on) (unit_at w u)) x (within_units w u sound may.unit) refl
+change_declared w (script.Noise noise) x sound may = refl
+change_declared w (script.Submit r) x sound may = absurd may
+change_declared w (script.ArriveAt u) x sound may = absurd may
+change_declared w (script.MoveAt a) x sound may = absurd may
+change_declared w (script.AttendTo a) x sound may = absurd may
+change_declared w script.Drain x sound may = absurd may
+
+act_declared : (w : World) (act : Act) (x : ℕ) → Sound w → Allowed w act → (unit_at (after w act) x).declared ≡ (unit_at w x).declared
+act_declared w (Refuse line r kind) x sound allowed = refl
+act_declared w (Submit line p h) x sound allowed =
+    set_declared w h.unit (joined p h (unit_at w h.unit)) x (within_units w h.unit sound allowed.unit.unit) refl
+act_declared w (Of line u id d) x sound allowed =
+    set_declared w u (effect line u (slot_in_hand (unit_at w u)) d (scene_of w u)).unit x (within_units w u sound allowed.0.unit)
+    (effect_same line u (slot_in_hand (unit_at w u)) d (scene_of w u)).declared
+act_declared w (Change input) x sound allowed = change_declared w input x sound allowed
+act_declared w (Nothing line) x sound allowed = refl
+act_declared w Taken x sound allowed = refl
+
+all_declared : (w : World) (acts : List Act) (x : ℕ) → Sound w → Run w acts → (unit_at (after_all w acts) x).declared ≡ (unit_at w x).declared
+all_declared w [] x sound run = refl
+all_declared w (act ∷ acts) x sound run =
+    all_declared (after w act) acts x (sound_after w act sound run.0) run.1 ∙ act_declared w act x sound run.0
+
+pub filter_by : (p q : ℕ → Bool) (xs : List ℕ) → ((x : ℕ) → p x ≡ q x) → filter p xs ≡ filter q xs
+filter_by p q [] same = refl
+filter_by p q (x ∷ xs) same =
+    ap (λ (b : Bool). if b then x ∷ filter p xs else filter p xs) (same x)
+    ∙ ap (λ (l : List ℕ). if q x then x ∷ l else l) (filter_by p q xs same)
+
+pub there_after : (w : World) (acts : List Act) (s r : Replay) → Sound w → Run w acts → AreThere w s → r.there ≡ s.there → AreThere (after_all w acts) r
+there_after w acts s r sound run there same =
+    same ∙ there ∙ filter_by (λ u. (unit_at w u).declared) (λ u. (unit_at (after_all w acts) u).declared) all_units
+    (λ x. sym (all_declared w acts x sound run))
+
+-- the input of a line leaves them too
+submit_there : (s : Replay) (r : _) (m : Submission) → (submitted s r m).there ≡ s.there
+submit_there s r (Refused why) = refl
+submit_there s r Joined = refl
+
+pub played_there : (s : Replay) (input : Input) → (replay_played s input).there ≡ s.there
+played_there s (script.Submit r) = submit_there s r (submission s r)
+played_there s (script.Turn u sector) = refl
+played_there s (script.Noise noise) = refl
+played_there s (script.Arm u kind times) = refl
+played_there s (script.SetOnline u on) = refl
+played_there s (script.SetLocked u on) = refl
+played_there s (script.ArriveAt u) = refl
+played_there s (script.MoveAt a) = refl
+played_there s (script.AttendTo a) = refl
+played_there s script.Drain = refl
+
+-- MOMENTS behind others
+pub moments_append : (s : Replay) (ms ns : List Moment) → after_moments s (ms ++ ns) ≡ after_moments (after_moments s ms) ns
+moments_append s [] ns = refl
+moments_append s (m ∷ ms) ns = moments_append (after_moment s m) ms ns
+
+pub follows_append : (s : Replay) (ms ns : List Moment) → Follows s ms → Follows (after_moments s ms) ns → Follows s (ms ++ ns)
+follows_append s [] ns first later = later
+follows_append s (m ∷ ms) ns first later = (first.0, follows_append (after_moment s m) ms ns first.1 later)
+
+less_is : (n m : ℕ) → n < m → nat_lt n m ≡ true
+less_is n m less = elim (leb_tells (suc n) m) [
+  | inl is ↦ is.0
+  | inr more ↦ absurd (apart n m less more.1)
+]
+  where
+    apart : (n m : ℕ) → n < m → m < suc n → ⊥
+    apart n m less more = omega (arith, less, more)
+
+module _ (drives : ℕ → Option DriveKind) (tables : ℕ → Option Table) (surface : Surface) where
+  -- A LINE OF THE SCRIPT may be played.
+  pub may_play : (line next : ℕ) (moments : List Moment) (held : ℕ → Pack) (w : World) → IsSoFar (new_replay drives tables surface) line moments held w
+      → line < next → InputMay (after_moments (new_replay drives tables surface) moments) next
+  may_play line next moments held w far less = record {
+    later = ap (λ (n : ℕ). nat_lt n next) far.left.line_is ∙ less_is line next less;
+    over = far.left.stands.over;
+    finished = far.left.finished;
+    at_work = is_conserved drives tables surface moments far.follows (inl far.left.stands.over);
+  }
+
+  -- A CALL that is no drain
+  pub call_goes : (line next : ℕ) (input : Input) (moments : List Moment) (held : ℕ → Pack) (w : World) (acts : List Act)
+      → IsSoFar (new_replay drives tables surface) line moments held w → line < next → Run w acts → AtWork (after_all w acts)
+      → IsTold next false held w (after_moment (after_moments (new_replay drives tables surface) moments) (Played next input)) acts
+      → IsSoFar (new_replay drives tables surface) next (moments ++ Played next input ∷ lines_of_all w acts) (packs_after_all w held acts) (after_all w acts)
+  call_goes line next input moments held w acts far less run work told =
+      let s : Replay = after_moments (new_replay drives tables surface) moments in
+      let at : after_moments (new_replay drives tables surface) (moments ++ Played next input ∷ lines_of_all w acts)
+      ≡ after_moments (after_moment s (Played next input)) (lines_of_all w acts) =
+      moments_append (new_replay drives tables surface) moments (Played next input ∷ lines_of_all w acts) in
+      record {
+        follows = follows_append (new_replay drives tables surface) moments (Played next input ∷ lines_of_all w acts) far.follows
+            (may_play line next moments held w far less, told.follows);
+        left = subst (IsLeft next (packs_after_all w held acts) (after_all w acts)) (sym at)
+            (call_left next (packs_after_all w held acts) (after_all w acts) (after_moments (after_moment s (Played next input)) (lines_of_all w acts)) work told.ends);
+        there = subst (AreThere (after_all w acts)) (sym at)
+            (there_after w acts s (after_moments (after_moment s (Played next input)) (lines_of_all w acts)) far.left.stands.sound run far.there
+            (told.there ∙ played_there s input));
+      }
+
+  -- A DRAIN that finds nothing
+  pub drain_finds_nothing : (line next : ℕ) (moments : List Moment) (held : ℕ → Pack) (w : World)
+      → IsSoFar (new_replay drives tables surface) line moments held w → line < next → next_event w ≡ None
+      → IsSoFar (new_replay drives tables surface) next (moments ++ Played next script.Drain ∷ lines_of_all w (Nothing next ∷ [])) held w
+  drain_finds_nothing line next moments held w far less idle =
+      let s : Replay = after_moments (new_replay drives tables surface) moments in
+      let told : IsTold next true held w (after_moment s (Played next script.Drain)) (Nothing next ∷ []) = drain_idle next held w s far.left.stands idle in
+      let at : after_moments (new_replay drives tables surface) (moments ++ Played next script.Drain ∷ lines_of_all w (Nothing next ∷ []))
+      ≡ after_moments (after_moment s (Played next script.Drain)) (lines_of_all w (Nothing next ∷ [])) =
+      moments_append (new_replay drives tables surface) moments (Played next script.Drain ∷ lines_of_all w (Nothing next ∷ [])) in
+      record {
+        follows = follows_append (new_replay drives tables surface) moments (Played next script.Drain ∷ lines_of_all w (Nothing next ∷ [])) far.follows
+            (may_play line next moments held w far less, told.follows);
+        left = subst (IsLeft next held w) (sym at)
+            (drain_left next held w (after_moments (after_moment s (Played next script.Drain)) (lines_of_all w (Nothing next ∷ []))) far.left.stands.work idle told.ends);
+        there = subst (AreThere w) (sym at) far.there;
+      }
+
+  -- its first event,
+  pub drain_starts : (line next : ℕ) (input : Input) (tried : Tried) (moments : List Moment) (held : ℕ → Pack) (w : World)
+      → IsSoFar (new_replay drives tables surface) line moments held w → line < next → next_event w ≡ Some input
+      → IsTriedOn w (after_moment (after_moments (new_replay drives tables surface) moments) (Played next script.Drain)) input tried
+      → Run w (event_acts next input tried w) → AtWork (after_all w (event_acts next input tried w))
+      → IsDraining (new_replay drives tables surface) next (moments ++ Played next script.Drain ∷ lines_of_all w (event_acts next input tried w))
+      (packs_after_all w held (event_acts next input tried w)) (after_all w (event_acts next input tried w))
+  drain_starts line next input tried moments held w far less is on run work =
+      let s : Replay = after_moments (new_replay drives tables surface) moments in
+      let acts : List Act = event_acts next input tried w in
+      let goes : GoesOn next input held w (after_moment s (Played next script.Drain)) = drain_begins next input held w s far.left.stands far.there is in
+      let told : IsTold next true held w (after_moment s (Played next script.Drain)) acts =
+      event_goes next true input tried held w (after_moment s (Played next script.Drain)) (next_can w input far.left.stands.sound is) goes.rests goes.packs on run in
+      let at : after_moments (new_replay drives tables surface) (moments ++ Played next script.Drain ∷ lines_of_all w acts)
+      ≡ after_moments (after_moment s (Played next script.Drain)) (lines_of_all w acts) =
+      moments_append (new_replay drives tables surface) moments (Played next script.Drain ∷ lines_of_all w acts) in
+      record {
+        follows = follows_append (new_replay drives tables surface) moments (Played next script.Drain ∷ lines_of_all w acts) far.follows
+            (may_play line next moments held w far less, told.follows);
+        ends = subst (Ends next true (packs_after_all w held acts) (after_all w acts)) (sym at) told.ends;
+        work = work;
+        there = subst (AreThere (after_all w acts)) (sym at)
+            (there_after w acts s (after_moments (after_moment s (Played next script.Drain)) (lines_of_all w acts)) far.left.stands.sound run far.there told.there);
+      }
+
+  -- each of the others,
+  pub drain_continues : (line : ℕ) (input : Input) (tried : Tried) (moments : List Moment) (held : ℕ → Pack) (w : World)
+      → IsDraining (new_replay drives tables surface) line moments held w → next_event w ≡ Some input
+      → IsTriedOn w (after_moments (new_replay drives tables surface) moments) input tried
+      → Run w (event_acts line input tried w) → AtWork (after_all w (event_acts line input tried w))
+      → IsDraining (new_replay drives tables surface) line (moments ++ lines_of_all w (event_acts line input tried w))
+      (packs_after_all w held (event_acts line input tried w)) (after_all w (event_acts line input tried w))
+  drain_continues line input tried moments held w far is on run work =
+      let s : Replay = after_moments (new_replay drives tables surface) moments in
+      let acts : List Act = event_acts line input tried w in
+      let at_work : are_at_work s ≡ true =
+      is_conserved drives tables surface moments far.follows (inr (drain_between line input held w s far.ends far.work is)) in
+      let goes : GoesOn line input held w s = drain_goes_on line input held w s far.ends far.work far.there is at_work in
+      let told : IsTold line true held w s acts =
+      event_goes line true input tried held w s (next_can w input goes.rests.sound is) goes.rests goes.packs on run in
+      let at : after_moments (new_replay drives tables surface) (moments ++ lines_of_all w acts) ≡ after_moments s (lines_of_all w acts) =
+      moments_append (new_replay drives tables surface) moments (lines_of_all w acts) in
+      record {
+        follows = follows_append (new_replay drives tables surface) moments (lines_of_all w acts) far.follows told.follows;
+        ends = subst (Ends line true (packs_after_all w held acts) (after_all w acts)) (sym at) told.ends;
+        work = work;
+        there = subst (AreThere (after_all w acts)) (sym at)
+            (there_after w acts s (after_moments s (lines_of_all w acts)) goes.rests.sound run far.there told.there);
+      }
+
+  -- and its end
+  pub drain_ends : (line : ℕ) (moments : List Moment) (held : ℕ → Pack) (w : World)
+      → IsDraining (new_replay drives tables surface) line moments held w → next_event w ≡ None
+      → IsSoFar (new_replay drives tables surface) line moments held w
+  drain_ends line moments held w far idle = record {
+    follows = far.follows;
+    left = drain_left line held w (after_moments (new_replay drives tables surface) moments) far.work idle far.ends;
+    there = far.there;
+  }
+
+  -- WHERE NOTHING IS OUTSTANDING the trace is legal.
+  pub is_legal : (line : ℕ) (moments : List Moment) (held : ℕ → Pack) (w : World)
+      → IsSoFar (new_replay drives tables surface) line moments held w → next_event w ≡ None → Legal (new_replay drives tables surface) moments
+  is_legal line moments held w far idle = record {
+    follows = far.follows;
+    over = record {
+      over = far.left.stands.over;
+      answered = none_outstanding w (after_moments (new_replay drives tables surface) moments).outstanding far.left.stands.sound far.left.stands.work idle
+          far.left.stands.shows.outstanding;
+    };
+  }

@@ -1,0 +1,4 @@
+pub mod rules
+pub mod invariant
+pub mod answers
+pub mod shown

@@ -1,0 +1,25 @@
+-- Where the packs failed at a block that was to be written: it is the next block of a write, as the replay has it.
+use Rattle.std.specs.Prelude.{◌≡◌, ℕ, Option, Some}
+use Rattle.pack_geometry.specs.declared.DriveKind.{DriveKind}
+use Rattle.pack_geometry.specs.Pack.{Pack}
+use Rattle.trace_replay.specs.Replay.{Replay, AreLeft}
+use Rattle.driver_machine.specs.World.{World}
+use Rattle.driver_machine.specs.Sound.{Sound}
+use Rattle.driver_laws.specs.shown.TracePasses.{IsNextBlock}
+use Rattle.driver_laws.specs.shown.Within.{ShowsAll}
+use Rattle.driver_laws.specs.shown.RunsRuns.{AreDeclared}
+use Rattle.driver_laws.specs.rules.Beginnings.{IsNextSector, with_next}
+
+-- THE BLOCK, of a unit that is declared: the packs are left as the replay has them with this block.
+pub record HasNext (drives : ℕ → Option DriveKind) (old left : ℕ → Pack) (s : Replay) : Type 0 where
+  pub unit : ℕ
+  pub block : ℕ
+  pub kind : DriveKind
+  pub declared : drives unit ≡ Some kind
+  pub next : IsNextSector (s.units unit) (old unit) block
+  pub packs : AreLeft drives old left (with_next s unit block)
+
+-- so it is wherever the replay shows the driver's world
+abbrev pub NextBlocksShow : Type 0
+NextBlocksShow = (drives : ℕ → Option DriveKind) (old held left : ℕ → Pack) (s : Replay) (w : World) → Sound w → ShowsAll w s → AreDeclared drives w
+    → AreLeft drives old held s.surface → IsNextBlock w held left → HasNext drives old left s

@@ -1,0 +1,10 @@
+-- What is passed on of the crates below, so that those above stand on this one.
+pub use Rattle.driver_laws.specs.shown.TracePasses.{in_use}
+pub use Rattle.driver_laws.specs.shown.TracePasses.{Does, IsFront, Outcome, Site, StopsAtTrace, StopsBefore, Told, stop_in}
+pub use Rattle.driver_laws.specs.shown.TracePasses.{ReadAll, packs_after_all}
+pub use Rattle.driver_laws.specs.shown.TracePasses.{Stop}
+pub use Rattle.driver_laws.specs.shown.TracePasses.{Sink, Store}
+pub use Rattle.driver_laws.specs.shown.Calls.{IsReadFrom, IsReadOf}
+pub use Rattle.driver_laws.specs.shown.Drains.{AreAsked, CanStart, DrainsFallFrom, Falls}
+pub use Rattle.driver_laws.specs.shown.Noises.{AllFlip}
+pub use Rattle.driver_laws.specs.shown.Runs.{IsDraining}

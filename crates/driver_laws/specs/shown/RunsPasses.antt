@@ -1,0 +1,3 @@
+-- What is passed on of the crates below, so that those above stand on this one.
+pub use Rattle.driver_laws.specs.shown.Runs.{with_call}
+pub use Rattle.driver_laws.specs.shown.Within.{ShowsAll}

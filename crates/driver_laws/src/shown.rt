@@ -1,0 +1,16 @@
+//! That the replay of the trace shows what the driver does (`replay`), that the lines of its calls follow there (`trace`), and what a
+//! drain and a call that stops come to there (`drains`). The functions here do nothing: each stands for a law.
+//!
+//! What runs of the driver leave of its packs (`runs`), and how far their writes reach (`reach`). The functions here do nothing: each
+//! stands for a law.
+//!
+//! For which map of blocks the driver stands between any two acts (`bytes`), and that it is quiet behind a request that was waited for
+//! (`quiet`). The functions here do nothing: each stands for a law.
+
+pub mod bytes;
+pub mod drains;
+pub mod quiet;
+pub mod reach;
+pub mod replay;
+pub mod runs;
+pub mod trace;

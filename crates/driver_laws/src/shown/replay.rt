@@ -1,0 +1,59 @@
+//! The lines that the driver's machine tells are a legal trace. The functions here do nothing: each stands for a law.
+//!
+//! Defined in `specs/`: which state of the replay a world of the machine stands for.
+//!
+//! What is proved: `lines_law`: each line of a deed that may come keeps the rules of service, conversation, drives, adapters
+//! and packs, and the replay after it stands for the world after the deed; a deed that tells no line changes nothing that is
+//! seen. `inputs_law`: the same of requests that join or are refused, and of conditions. `start_law`: at the start they fit.
+
+ghost use Rattle.driver_laws.specs.shown.Laws.{LinesAreSaid, SilentDeedsShow};
+ghost use Rattle.driver_laws.specs.shown.Moments.{LinesCome, DueIsWished, EventIsWished, ComingIsWished, AllAtWork, InputsShow, IdleShows};
+ghost use Rattle.driver_laws.specs.shown.Events.{EventsAreTheirs, BroughtIsWished};
+ghost use Rattle.driver_laws.specs.shown.Speech.{DueIsSpoken, BegunIsSpoken};
+ghost use Rattle.driver_laws.specs.shown.Acts.{StartIsShown, JoinsShow, RefusalsShow, ChangesShow, RestShows, SpeakersChange, WritesShow};
+
+/// The replay of the drives that are set up, and of their tables, shows the new world.
+pub fn start_law()
+    ensures start { StartIsShown }
+{}
+
+/// Each line of a deed that is allowed is one that the replay lets come, and the replay behind it shows the world behind the
+/// deed. A deed that tells no line changes nothing that is seen.
+pub fn lines_law()
+    ensures said { LinesAreSaid }
+    ensures silent { SilentDeedsShow }
+{}
+
+/// A request joins or is refused as the replay has it, and a condition changes in both. What tells nothing changes nothing.
+pub fn inputs_law()
+    ensures joins { JoinsShow }
+    ensures refusals { RefusalsShow }
+    ensures changes { ChangesShow }
+    ensures rest { RestShows }
+    ensures speakers { SpeakersChange }
+{}
+
+/// What a write gives a sector in the replay is the block of its buffer.
+pub fn writes_law()
+    ensures writes { WritesShow }
+{}
+
+/// A line comes where it is wished: the unit that spoke last goes on, or leaves the word to the event, which brings the next line.
+/// Between two events all units are at work.
+pub fn moments_law()
+    ensures come { LinesCome }
+    ensures due { DueIsWished }
+    ensures event { EventIsWished }
+    ensures coming { ComingIsWished }
+    ensures brought { BroughtIsWished }
+    ensures events { EventsAreTheirs }
+    ensures at_work { AllAtWork }
+    ensures inputs { InputsShow }
+    ensures idle { IdleShows }
+{}
+
+/// What an event begins at a unit is told, and behind it what is due there, line by line, as long as worlds stay sound.
+pub fn speech_law()
+    ensures due { DueIsSpoken }
+    ensures begun { BegunIsSpoken }
+{}

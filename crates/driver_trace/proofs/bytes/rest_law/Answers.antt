@@ -1,8 +1,0 @@
-use Rattle.driver_trace.proofs.Rests.{rest_bears, new_rests}
-use Rattle.driver_trace.proofs.bytes.rest_law.Goals as goal
-
-pub returns-clause-rest : goal.returns-clause-rest
-returns-clause-rest c = rest_bears
-
-pub returns-clause-new : goal.returns-clause-new
-returns-clause-new c = new_rests

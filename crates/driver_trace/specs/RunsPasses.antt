@@ -1,3 +1,0 @@
--- What is passed on of the crates below, so that those above stand on this one.
-pub use Rattle.driver_trace.specs.Runs.{with_call}
-pub use Rattle.driver_trace.specs.Within.{ShowsAll}

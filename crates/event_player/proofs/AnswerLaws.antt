@@ -1,0 +1,297 @@
+-- Laws of the answers that wait: the blocks of a read, the text of one answer, and of all of them one after another.
+use Rattle.std.proofs.Common.{◌≡◌, ℕ, suc, ◌+◌, ◌-◌, ◌<◌, ◌≤◌, Bool, true, false, IsTrue, List, [], ◌∷◌, ◌++◌, length, map, take, drop, refl, sym, ap, subst, ◌∙◌, arith, append-nil, append_assoc, slice_index_or, replicate, Option, Some, None, Result, Ok, Err}
+use Rattle.std.specs.Prelude.{if◌then◌else◌, ◌==◌, Contains, IfSome, IsErr}
+use Rattle.std.specs.List.{flat_map}
+use Rattle.std.proofs.lemmas.Bool.{eq-eqb}
+use Rattle.std.proofs.lemmas.List.{take-append-drop}
+use Rattle.std.proofs.Math.Seq.{take-append_seam}
+use Rattle.outside_traits.specs.declared.traits.SinkFailed.{SinkFailed}
+use Rattle.trace_replay.specs.Moments.{Answered}
+use Rattle.main_memory.specs.Blocks.{size_at}
+use Rattle.main_memory.specs.Bytes.{filled, IsFill}
+use Rattle.subsystem_spec.specs.declared.answers.Answer.{Answer}
+use Rattle.subsystem_spec.specs.declared.answers.AnswerKind.{AnswerKind}
+use Rattle.subsystem_spec.specs.declared.answers.AnswerKind.TheVariants.{ReadOk, WriteOk, Eof, Error}
+use Rattle.subsystem_spec.specs.declared.answers.Cause.TheVariants.{Partition, Frames, Offline, Locked, Unforwarded, Fault}
+use Rattle.driver_machine.specs.declared.Made.{Made}
+use Rattle.driver_machine.specs.World.{World, Held, held_in, slot_at, block_in, bytes_in}
+use Rattle.driver_machine.specs.Acts.{Taken, after, after_all}
+use Rattle.driver_machine.specs.Lines.{answer_told}
+use Rattle.driver_machine.specs.Refusals.{refuses}
+use Rattle.driver_machine.specs.Sound.{Sound, SlotOk, IsGiven, IsMade}
+use Rattle.driver_laws.proofs.invariant.SlotsLists.{Contains-first}
+use Rattle.driver_laws.specs.answers.Waiting.{blocks_for, told_by, waiting, TakingDrops, takings, all_taken}
+use Rattle.answer_lines.specs.AnswerText.{answer_text, block_text, block_texts, blocks_text}
+use Rattle.answer_lines.specs.Blocks.{AreBlocks, blocks_in, joined}
+use Rattle.answer_lines.proofs.BlockLaws.{blocks_in-joined}
+use Rattle.answer_lines.proofs.TextLaws.{one_more}
+use Rattle.script_runs.specs.StopsPasses.{State, IsOldest}
+use Rattle.event_player.specs.Answering.{first_blocks, first_told, first_text, first_rest, IsFirst, IsFirstKind, HasBlock}
+use Rattle.event_player.specs.Saying.{Side, Says}
+use Rattle.event_player.specs.Steps.{waiting_text}
+use Rattle.event_player.proofs.SaysLaws.{says_same, says_both, says_stop}
+use Rattle.event_player.proofs.Saying.{says_nothing}
+
+-- THE BLOCKS OF A READ: so many, each whole but for the last one
+pub record IsRead (blocks : List (List ℕ)) (count last : ℕ) : Type 0 where
+  pub size : length blocks ≡ count
+  pub each : (k : ℕ) → k < count → length (slice_index_or blocks k []) ≡ (if k + 1 == count then last else 512)
+  pub some : 1 ≤ last
+  pub few : last ≤ 512
+
+abbrev has_slot : Option ℕ → Type 0
+has_slot o = (p : ℕ) × (o ≡ Some p)
+
+first_waits : (w : World) (made : Made) → IsOldest w made → Contains w.answers made
+first_waits w made oldest = subst (λ (answers : List Made). Contains answers made) (sym oldest.first) (Contains-first made (drop 1 w.answers))
+
+no_refusal : (count last : ℕ) → IsTrue (refuses (ReadOk count last)) → ⊥
+no_refusal count last e = cc
+
+-- a read that is answered stands in a slot
+slot_there : (w : World) (made : Made) (count last : ℕ) → Sound w → IsOldest w made → made.answer.kind ≡ ReadOk count last → has_slot made.slot
+slot_there w made count last s oldest kind = at made.slot refl
+  where
+    at : (o : Option ℕ) → made.slot ≡ o → has_slot o
+    at None e =
+        let refused : IsTrue (refuses made.answer.kind) = s.refused made (first_waits w made oldest) e in
+        absurd (no_refusal count last (subst (λ (k : AnswerKind). IsTrue (refuses k)) kind refused))
+    at (Some p) e = (p, refl)
+
+held_is : (w : World) (p : ℕ) (h : Held) → slot_at w p ≡ Some h → held_in w p ≡ h
+held_is w p h e = cc
+
+size_here : (h : Held) (k count last : ℕ) → count ≡ h.loan.count → last ≡ h.loan.last → size_at h.loan k ≡ (if k + 1 == count then last else 512)
+size_here h k count last e f = ap (λ (n : ℕ). if k + 1 == n then h.loan.last else 512) (sym e) ∙ ap (λ (n : ℕ). if k + 1 == count then n else 512) (sym f)
+
+held_read : (w : World) (p : ℕ) (h : Held) (count last : ℕ) → SlotOk w p h → IsGiven h (ReadOk count last) → IsRead h.blocks count last
+held_read w p h count last ok given =
+    let many = given.1 in
+    let short = given.2 in
+    let is = ok.loan in record {
+      size = ok.size ∙ sym many;
+      each = λ k lt. ok.whole k (omega (arith, lt, many)) ∙ size_here h k count last many short;
+      some = omega (arith, short, is.shape.last_some);
+      few = omega (arith, short, is.shape.last_few);
+    }
+
+pub first_blocks_at : (w : World) (made : Made) (p : ℕ) → IsOldest w made → made.slot ≡ Some p → first_blocks w w.answers ≡ (held_in w p).blocks
+first_blocks_at w made p oldest slot = ap (first_blocks w) oldest.first ∙ ap (blocks_for w) slot
+
+read_at : (w : World) (made : Made) (p count last : ℕ) → Sound w → IsOldest w made → made.answer.kind ≡ ReadOk count last → made.slot ≡ Some p → IsRead (first_blocks w w.answers) count last
+read_at w made p count last s oldest kind slot =
+    let m : IsMade w made p = s.answers made p (first_waits w made oldest) slot in
+    let here : first_blocks w w.answers ≡ m.held.blocks = first_blocks_at w made p oldest slot ∙ ap (λ (h : Held). h.blocks) (held_is w p m.held m.slot) in
+    subst (λ (blocks : List (List ℕ)). IsRead blocks count last) (sym here)
+    (held_read w p m.held count last (s.each_slot p m.held m.slot) (subst (λ (k : AnswerKind). IsGiven m.held k) kind m.given))
+
+pub read_is : {w : World} {count last : ℕ} → Sound w → IsFirstKind w (ReadOk count last) → IsRead (first_blocks w w.answers) count last
+read_is {w} {count} {last} s first =
+    let slot = slot_there w first.made count last s first.oldest first.is in
+    read_at w first.made slot.0 count last s first.oldest first.is slot.1
+
+size_bounds : (t : Bool) (last : ℕ) → 1 ≤ last → last ≤ 512 → (1 ≤ (if t then last else 512)) × ((if t then last else 512) ≤ 512)
+size_bounds true last some few = (some, few)
+size_bounds false last some few = (omega arith, omega arith)
+
+pub has_block : {w : World} {count last : ℕ} (k size : ℕ) → Sound w → IsFirstKind w (ReadOk count last) → k < count → size ≡ (if k + 1 == count then last else 512) → HasBlock w k size
+has_block {w} {count} {last} k size s first lt is =
+    let slot = slot_there w first.made count last s first.oldest first.is in
+    let read = read_is s first in
+    let bounds = size_bounds (k + 1 == count) last read.some read.few in record {
+      reads = record { made = first.made; oldest = first.oldest; count = count; last = last; ok = first.is; inside = lt };
+      slot = slot.0;
+      slot_is = slot.1;
+      long = read.each k lt ∙ sym is;
+      some = subst (λ (n : ℕ). 1 ≤ n) (sym is) bounds.0;
+      few = subst (λ (n : ℕ). n ≤ 512) (sym is) bounds.1;
+    }
+
+-- the bytes that were given for a block, as many as it has
+filled_front : (size n : ℕ) (block : List ℕ) → length block ≡ size → take size (filled n block) ≡ block
+unfolding filled
+filled_front size n block e = ap (λ (k : ℕ). take k (block ++ replicate (n - length block) 0)) (sym e) ∙ take-append_seam block (replicate (n - length block) 0)
+
+block_here : {w : World} {k size : ℕ} (block : HasBlock w k size) → slice_index_or (first_blocks w w.answers) k [] ≡ block_in (held_in w block.slot) k
+block_here {w} {k} {size} block =
+    ap (λ (blocks : List (List ℕ)). slice_index_or blocks k []) (first_blocks_at w block.reads.made block.slot block.reads.oldest block.slot_is)
+
+length_here : {w : World} {k size : ℕ} (block : HasBlock w k size) → length (block_in (held_in w block.slot) k) ≡ size
+length_here block = ap (λ (b : List ℕ). length b) (sym (block_here block)) ∙ block.long
+
+pub block_given : {w : World} {k size : ℕ} (block : HasBlock w k size) (bytes : List ℕ) → bytes ≡ filled 512 (block_in (held_in w block.slot) k)
+    → take size bytes ≡ slice_index_or (first_blocks w w.answers) k []
+block_given {w} {k} {size} block bytes is =
+    ap (λ (b : List ℕ). take size b) is ∙ filled_front size 512 (block_in (held_in w block.slot) k) (length_here block) ∙ sym (block_here block)
+
+-- the bytes of a block that is one byte all through
+pub fill_given : {w : World} {k size : ℕ} (block : HasBlock w k size) (byte : ℕ) → IsFill byte (block_in (held_in w block.slot) k)
+    → replicate size byte ≡ slice_index_or (first_blocks w w.answers) k []
+fill_given {w} {k} {size} block byte is =
+    ap (λ (n : ℕ). replicate n byte) (sym (length_here block)) ∙ sym is ∙ sym (block_here block)
+
+-- THE BLOCKS SAID, one after another
+joined_is : (blocks : List (List ℕ)) → bytes_in blocks ≡ joined blocks
+joined_is [] = refl
+joined_is (block ∷ blocks) = ap (λ (rest : List ℕ). block ++ rest) (joined_is blocks)
+
+are_blocks : (blocks : List (List ℕ)) (count last : ℕ) → IsRead blocks count last → AreBlocks 512 blocks
+are_blocks blocks count last read =
+    let size = read.size in
+    let some = read.some in
+    let few = read.few in record {
+      whole = λ k more. read.each k (omega (arith, more, size)) ∙ ap (λ (t : Bool). if t then last else 512) (not_last k (omega (arith, more, size)));
+      some = λ k end. let long = at_last k (omega (arith, end, size)) in omega (arith, long, some);
+      few = λ k end. let long = at_last k (omega (arith, end, size)) in omega (arith, long, few);
+    }
+  where
+    not_last : (k : ℕ) → k + 1 < count → (k + 1 == count) ≡ false
+    not_last k lt = grind arith
+
+    at_last : (k : ℕ) → k + 1 ≡ count → length (slice_index_or blocks k []) ≡ last
+    at_last k e = read.each k (omega (arith, e)) ∙ ap (λ (t : Bool). if t then last else 512) (eq-eqb (k + 1) count e)
+
+pub rest_is : {w : World} {count last : ℕ} → Sound w → IsFirstKind w (ReadOk count last) → first_rest w (ReadOk count last) ≡ block_texts 0 (first_blocks w w.answers)
+rest_is {w} {count} {last} s first =
+    let blocks = first_blocks w w.answers in
+    ap (λ (bytes : List ℕ). block_texts 0 (blocks_in bytes)) (joined_is blocks)
+    ∙ ap (block_texts 0) (blocks_in-joined blocks (are_blocks blocks count last (read_is s first)))
+
+block_texts-append : (k : ℕ) (xs ys : List (List ℕ)) → block_texts k (xs ++ ys) ≡ block_texts k xs ++ block_texts (k + length xs) ys
+block_texts-append k [] ys = let here : k ≡ k + 0 = omega arith in ap (λ (n : ℕ). block_texts n ys) here
+block_texts-append k (x ∷ xs) ys =
+    let here : (k + 1) + length xs ≡ k + length (x ∷ xs) = omega arith in
+    ap (λ (text : List ℕ). block_text k x ++ text) (block_texts-append (k + 1) xs ys ∙ ap (λ (n : ℕ). block_texts (k + 1) xs ++ block_texts n ys) here)
+    ∙ sym (append_assoc (block_text k x) (block_texts (k + 1) xs) (block_texts (k + length (x ∷ xs)) ys))
+
+texts_parted : (blocks : List (List ℕ)) (k : ℕ) → block_texts 0 blocks ≡ block_texts 0 (take k blocks) ++ block_texts (0 + length (take k blocks)) (drop k blocks)
+texts_parted blocks k = ap (block_texts 0) (sym (take-append-drop k blocks)) ∙ block_texts-append 0 (take k blocks) (drop k blocks)
+
+module _ (out mid out' lines mid_lines lines' : Side) where
+  -- the blocks below k, and one more
+  pub blocks_more : (blocks : List (List ℕ)) (k : ℕ) (result : Result (Unit {0}) SinkFailed) → k < length blocks
+      → Says {T = Unit {0}} {E = SinkFailed} out mid lines mid_lines (Ok tt) (block_texts 0 (take k blocks))
+      → Says mid out' mid_lines lines' result (block_text k (slice_index_or blocks k []))
+      → Says out out' lines lines' result (block_texts 0 (take (k + 1) blocks))
+  blocks_more blocks k result lt so_far more =
+      says_same (block_texts 0 (take (k + 1) blocks))
+      (says_both out mid out' lines mid_lines lines' (block_texts 0 (take k blocks)) (block_text k (slice_index_or blocks k [])) result so_far more) (sym (one_more blocks k lt))
+
+  -- where one is not said, those behind it make no difference
+  pub blocks_stop : {failed : SinkFailed} (blocks : List (List ℕ)) (k : ℕ) (result : Result (Unit {0}) SinkFailed) → k < length blocks → IsErr result
+      → Says {T = Unit {0}} {E = SinkFailed} out mid lines mid_lines (Ok tt) (block_texts 0 (take k blocks))
+      → Says {T = Unit {0}} mid out' mid_lines lines' (Err failed) (block_text k (slice_index_or blocks k []))
+      → Says out out' lines lines' result (block_texts 0 blocks)
+  blocks_stop {failed} blocks k result lt e so_far more =
+      says_same (block_texts 0 blocks)
+      (says_stop (block_texts (0 + length (take (k + 1) blocks)) (drop (k + 1) blocks)) result e (blocks_more blocks k (Err failed) lt so_far more)) (sym (texts_parted blocks (k + 1)))
+
+-- what is not a read has no blocks to be said
+no_blocks : (kind : AnswerKind) (blocks : List (List ℕ)) → ((count last : ℕ) → kind ≡ ReadOk count last → ⊥) → blocks_text (answer_told kind blocks) ≡ []
+no_blocks (ReadOk count last) blocks other = absurd (other count last refl)
+no_blocks WriteOk blocks other = refl
+no_blocks Eof blocks other = refl
+no_blocks (Error Partition done) blocks other = refl
+no_blocks (Error Frames done) blocks other = refl
+no_blocks (Error Offline done) blocks other = refl
+no_blocks (Error Locked done) blocks other = refl
+no_blocks (Error Unforwarded done) blocks other = refl
+no_blocks (Error (Fault attempts) done) blocks other = refl
+
+pub nothing_behind : (w : World) (kind : AnswerKind) → ((count last : ℕ) → kind ≡ ReadOk count last → ⊥) → first_rest w kind ≡ []
+nothing_behind w kind other = no_blocks kind (first_blocks w w.answers) other
+
+-- THE ANSWERS that wait: the oldest, and the others; and their texts
+told_first : (w : World) (answer : Answer) (first : IsFirst w answer) → told_by w first.made ≡ first_told w answer
+told_first w answer first =
+    ap (λ (blocks : List (List ℕ)). record { line = first.made.answer.at; id = first.made.answer.id; answer = answer_told first.made.answer.kind blocks })
+    (sym (ap (first_blocks w) first.oldest.first))
+    ∙ ap (first_told w) first.is
+
+pub told_taken : TakingDrops → (w : World) (answer : Answer) → Sound w → IsFirst w answer → waiting w ≡ first_told w answer ∷ waiting (after w Taken)
+told_taken drops w answer s first =
+    let made : Made = first.made in
+    let rest : List Made = drop 1 w.answers in
+    let all : waiting w ≡ told_by w made ∷ map (told_by w) rest = ap (map (told_by w)) first.oldest.first in
+    let some : 0 < length w.answers = subst (λ (answers : List Made). 0 < length answers) (sym first.oldest.first) (omega arith) in
+    let behind : waiting (after w Taken) ≡ map (told_by w) rest = drops w s some ∙ ap (λ (xs : List Answered). drop 1 xs) all in
+    all ∙ ap (λ (told : Answered). told ∷ map (told_by w) rest) (told_first w answer first) ∙ ap (λ (xs : List Answered). first_told w answer ∷ xs) (sym behind)
+
+pub text_taken : TakingDrops → (w : World) (answer : Answer) → Sound w → IsFirst w answer → waiting_text w ≡ first_text w answer ++ waiting_text (after w Taken)
+text_taken drops w answer s first = ap (flat_map answer_text) (told_taken drops w answer s first)
+
+taken_first : (w : World) (made : Made) → IsOldest w made → all_taken w ≡ all_taken (after w Taken)
+taken_first w made oldest = ap (λ (answers : List Made). after_all w (takings answers)) oldest.first
+
+none_left : (w : World) → w.answers ≡ [] → all_taken w ≡ w
+none_left w none = ap (λ (answers : List Made). after_all w (takings answers)) none
+
+-- ONE IS TAKEN, since one waits
+oldest_some : (w : World) (made : Made) → IsOldest w made → w.answers ≡ [] → ⊥
+oldest_some w made oldest none =
+    let e : made ∷ drop 1 w.answers ≡ [] = sym oldest.first ∙ none in
+    let n : suc (length (drop 1 w.answers)) ≡ 0 = ap (λ (answers : List Made). length answers) e in
+    omega (arith, n)
+
+pub is_taken : (old new : State) (answer : Answer) (result : Option Answer) → IsFirst old.world answer
+    → IfSome result (λ _. new ≡ record old { world = after old.world Taken }) → (result ≡ None → old.world.answers ≡ []) → new ≡ record old { world = after old.world Taken }
+is_taken old new answer None first taken none = absurd (oldest_some old.world first.made first.oldest (none refl))
+is_taken old new answer (Some other) first taken none = taken
+
+pub one_less : (w : World) (answer : Answer) → IsFirst w answer → length (after w Taken).answers < length w.answers
+one_less w answer first =
+    let e : length w.answers ≡ suc (length (drop 1 w.answers)) = ap (λ (answers : List Made). length answers) first.oldest.first in
+    omega (arith, e)
+
+-- THE ANSWERS SO FAR: those that are taken were said, and with those that wait still they are all.
+pub record SoFar (out out' lines lines' : Side) (first s : State) : Type 0 where
+  pub front : List ℕ
+  pub says : Says {T = Unit {0}} {E = SinkFailed} out out' lines lines' (Ok tt) front
+  pub text : front ++ waiting_text s.world ≡ waiting_text first.world
+  pub all : all_taken s.world ≡ all_taken first.world
+  pub state : s ≡ record first { world = s.world; kept = s.kept }
+
+module _ (drops : TakingDrops) where
+  pub none_so_far : (out lines : Side) (first : State) → SoFar out out lines lines first first
+  none_so_far out lines first = record {
+    front = [];
+    says = says_nothing out lines;
+    text = refl;
+    all = refl;
+    state = refl;
+  }
+
+  pub one_so_far : {out mid out' lines mid_lines lines' : Side} {first s mid_s : State} {answer : Answer} (s' : State) → SoFar out mid lines mid_lines first s
+      → Sound s.world → IsFirst s.world answer → Says {T = Unit {0}} {E = SinkFailed} mid out' mid_lines lines' (Ok tt) (first_text s.world answer)
+      → mid_s ≡ record s { kept = mid_s.kept } → s' ≡ record mid_s { world = after mid_s.world Taken } → SoFar out out' lines lines' first s'
+  one_so_far {out} {mid} {out'} {lines} {mid_lines} {lines'} {first} {s} {mid_s} {answer} s' so sound is says same taking =
+      subst (λ (x : State). SoFar out out' lines lines' first x) (sym (taking ∙ ap (λ (x : State). record x { world = after x.world Taken }) same)) (record {
+        front = so.front ++ first_text s.world answer;
+        says = says_both out mid out' lines mid_lines lines' so.front (first_text s.world answer) (Ok tt) so.says says;
+        text =
+            append_assoc so.front (first_text s.world answer) (waiting_text (after s.world Taken))
+            ∙ ap (λ (text : List ℕ). so.front ++ text) (sym (text_taken drops s.world answer sound is)) ∙ so.text;
+        all = sym (taken_first s.world is.made is.oldest) ∙ so.all;
+        state = ap (λ (x : State). record x { world = after s.world Taken; kept = mid_s.kept }) so.state;
+      })
+
+  pub so_far_stops : {out mid out' lines mid_lines lines' : Side} {first s : State} {answer : Answer} {failed : SinkFailed} (result : Result (Unit {0}) SinkFailed)
+      → SoFar out mid lines mid_lines first s → Sound s.world → IsFirst s.world answer → IsErr result
+      → Says {T = Unit {0}} mid out' mid_lines lines' (Err failed) (first_text s.world answer) → Says out out' lines lines' result (waiting_text first.world)
+  so_far_stops {out} {mid} {out'} {lines} {mid_lines} {lines'} {first} {s} {answer} {failed} result so sound is e says =
+      says_same (waiting_text first.world)
+      (says_stop (waiting_text (after s.world Taken)) result e
+      (says_both out mid out' lines mid_lines lines' so.front (first_text s.world answer) (Err failed) so.says says))
+      (append_assoc so.front (first_text s.world answer) (waiting_text (after s.world Taken))
+      ∙ ap (λ (text : List ℕ). so.front ++ text) (sym (text_taken drops s.world answer sound is)) ∙ so.text)
+
+  pub all_so_far : {out out' lines lines' : Side} {first s : State} → SoFar out out' lines lines' first s → s.world.answers ≡ []
+      → Says {T = Unit {0}} {E = SinkFailed} out out' lines lines' (Ok tt) (waiting_text first.world)
+  all_so_far {out} {out'} {lines} {lines'} {first} {s} so none =
+      says_same (waiting_text first.world) so.says
+      (sym (append-nil so.front) ∙ ap (λ (answers : List Made). so.front ++ flat_map answer_text (map (told_by s.world) answers)) (sym none) ∙ so.text)
+
+  pub state_so_far : {out out' lines lines' : Side} {first s : State} → SoFar out out' lines lines' first s → s.world.answers ≡ []
+      → s ≡ record first { world = all_taken first.world; kept = s.kept }
+  state_so_far {out} {out'} {lines} {lines'} {first} {s} so none =
+      so.state ∙ ap (λ (w : World). record first { world = w; kept = s.kept }) (sym (none_left s.world none) ∙ so.all)

@@ -1,0 +1,113 @@
+-- Texts that are said one behind the other.
+use Rattle.std.proofs.Common.{◌≡◌, ◌⊎◌, inl, inr, ℕ, ◌≤◌, IsTrue, List, [], ◌∷◌, ◌++◌, arith, refl, sym, ap, subst, ◌∙◌, append-nil, append_assoc}
+use Rattle.std.specs.Prelude.{Result, Ok, Err, OnOk, OnErr, IsErr}
+use Rattle.std.proofs.lemmas.List.{append_cancel_left}
+use Rattle.outside_traits.specs.Causes.{Rose}
+use Rattle.outside_traits.specs.declared.traits.SinkFailed.{SinkFailed}
+use Rattle.outside_traits.proofs.GatherLaws.{rose_more}
+use Rattle.driver_laws.specs.answers.Outcome.{IsFront}
+use Rattle.driver_laws.proofs.answers.Joined.{front_of_front}
+use Rattle.script_runs.specs.Ahead.{IsBetween}
+use Rattle.event_player.specs.Saying.{Side, Says}
+
+-- the same text by another name
+pub says_same : {T E : Type 0} {out out' lines lines' : Side} {result : Result T E} {text : List ℕ} (other : List ℕ) → Says out out' lines lines' result text → text ≡ other
+    → Says out out' lines lines' result other
+says_same {T} {E} {out} {out'} {lines} {lines'} {result} other says e = subst (λ (t : List ℕ). Says out out' lines lines' result t) e says
+
+-- two texts, each a front of the other
+front_both : (xs ys : List ℕ) → IsFront xs ys → IsFront ys xs → ys ≡ xs
+front_both xs ys up down =
+    up.whole ∙ ap (λ (l : List ℕ). xs ++ l) (empty up.rest down.rest (append_cancel_left xs (up.rest ++ down.rest) []
+    (sym (append_assoc xs up.rest down.rest) ∙ ap (λ (l : List ℕ). l ++ down.rest) (sym up.whole) ∙ sym down.whole ∙ sym (append-nil xs)))) ∙ append-nil xs
+  where
+    empty : (a b : List ℕ) → a ++ b ≡ [] → a ≡ []
+    empty [] b is = refl
+    empty (x ∷ a) b is = absurd (cc is)
+
+most : (a b c : ℕ) → a ≤ b → b ≤ c → a ≤ c
+most a b c first next = omega (arith, first, next)
+
+module _ {A E : Type 0} (out mid out' lines mid_lines lines' : Side) (x y : List ℕ) (result : Result A E) (a : Says {T = Unit {0}} {E = SinkFailed} out mid lines mid_lines (Ok tt) x) (b : Says mid out' mid_lines lines' result y) where
+  said_both : IsTrue mid.tells → mid.took ++ (mid.kept ++ y) ≡ out.took ++ (out.kept ++ (x ++ y))
+  said_both t =
+      sym (append_assoc mid.took mid.kept y) ∙ ap (λ (l : List ℕ). l ++ y) (a.whole t) ∙ append_assoc out.took (out.kept ++ x) y
+      ∙ ap (λ (l : List ℕ). out.took ++ l) (append_assoc out.kept x y)
+
+  lines_both : IsTrue lines'.tells → IsBetween lines.took (lines.took ++ lines.kept) lines'.took
+  lines_both t = record {
+    least = front_of_front lines.took mid_lines.took lines'.took (a.front_lines (b.again_lines t)).least (b.front_lines t).least;
+    most = subst (IsFront lines'.took) (a.whole_lines (b.again_lines t)) (b.front_lines t).most;
+  }
+
+  first_both : (IsTrue mid.tells → mid.took ≡ out.took) ⊎ (IsTrue mid_lines.tells → mid_lines.took ≡ lines.took ++ lines.kept)
+      → (IsTrue out'.tells → out'.took ≡ mid.took) ⊎ (IsTrue lines'.tells → lines'.took ≡ mid_lines.took ++ mid_lines.kept)
+      → (IsTrue out'.tells → out'.took ≡ out.took) ⊎ (IsTrue lines'.tells → lines'.took ≡ lines.took ++ lines.kept)
+  first_both first (inr whole) = inr (λ t. whole t ∙ a.whole_lines (b.again_lines t))
+  first_both (inl none) (inl same) = inl (λ t. same t ∙ none (b.again t))
+  first_both (inr whole) (inl same) = inr (λ t.
+      front_both (lines.took ++ lines.kept) lines'.took (subst (λ (l : List ℕ). IsFront l lines'.took) (whole (b.again_lines t)) (b.front_lines t).least) (lines_both t).most)
+
+  rose_both : OnErr result (Rose mid.faults out'.faults ⊎ Rose mid_lines.faults lines'.faults) → OnErr result (Rose out.faults out'.faults ⊎ Rose lines.faults lines'.faults)
+  rose_both rose = at result rose
+    where
+      by : Rose mid.faults out'.faults ⊎ Rose mid_lines.faults lines'.faults → Rose out.faults out'.faults ⊎ Rose lines.faults lines'.faults
+      by (inl r) = inl (rose_more out.faults mid.faults out'.faults a.later r)
+      by (inr r) = inr (rose_more lines.faults mid_lines.faults lines'.faults a.later_lines r)
+
+      at : (r : Result A E) → OnErr r (Rose mid.faults out'.faults ⊎ Rose mid_lines.faults lines'.faults) → OnErr r (Rose out.faults out'.faults ⊎ Rose lines.faults lines'.faults)
+      at (Ok v) rose = tt
+      at (Err e) rose = by rose
+
+  whole_both : OnOk result (IsTrue out'.tells → out'.took ++ out'.kept ≡ mid.took ++ (mid.kept ++ y)) → OnOk result (IsTrue out'.tells → out'.took ++ out'.kept ≡ out.took ++ (out.kept ++ (x ++ y)))
+  whole_both whole = at result whole
+    where
+      at : (r : Result A E) → OnOk r (IsTrue out'.tells → out'.took ++ out'.kept ≡ mid.took ++ (mid.kept ++ y)) → OnOk r (IsTrue out'.tells → out'.took ++ out'.kept ≡ out.took ++ (out.kept ++ (x ++ y)))
+      at (Ok v) whole = λ t. whole t ∙ said_both (b.again t)
+      at (Err e) whole = tt
+
+  whole_lines_both : OnOk result (IsTrue lines'.tells → lines'.took ++ lines'.kept ≡ mid_lines.took ++ mid_lines.kept) → OnOk result (IsTrue lines'.tells → lines'.took ++ lines'.kept ≡ lines.took ++ lines.kept)
+  whole_lines_both whole = at result whole
+    where
+      at : (r : Result A E) → OnOk r (IsTrue lines'.tells → lines'.took ++ lines'.kept ≡ mid_lines.took ++ mid_lines.kept) → OnOk r (IsTrue lines'.tells → lines'.took ++ lines'.kept ≡ lines.took ++ lines.kept)
+      at (Ok v) whole = λ t. whole t ∙ a.whole_lines (b.again_lines t)
+      at (Err e) whole = tt
+
+  -- TWO TEXTS, the first of which was said
+  pub says_both : Says out out' lines lines' result (x ++ y)
+  says_both = record {
+    again = λ t. a.again (b.again t);
+    again_lines = λ t. a.again_lines (b.again_lines t);
+    front = λ t. record {
+      least = front_of_front out.took mid.took out'.took (a.front (b.again t)).least (b.front t).least;
+      most = subst (IsFront out'.took) (said_both (b.again t)) (b.front t).most;
+    };
+    front_lines = lines_both;
+    whole = whole_both b.whole;
+    whole_lines = whole_lines_both b.whole_lines;
+    lines_first = first_both a.lines_first b.lines_first;
+    later = most out.faults mid.faults out'.faults a.later b.later;
+    later_lines = most lines.faults mid_lines.faults lines'.faults a.later_lines b.later_lines;
+    failed = rose_both b.failed;
+  }
+
+-- WHERE A TEXT WAS NOT SAID, what is to come behind it makes no difference.
+pub says_stop : {A B E F : Type 0} {out out' lines lines' : Side} {failed : F} {x : List ℕ} (y : List ℕ) (result : Result A E) → IsErr result
+    → Says {T = B} out out' lines lines' (Err failed) x → Says out out' lines lines' result (x ++ y)
+says_stop {out = out} {out' = out'} {x = x} y (Ok v) e says = let no_way : ⊥ = cc in absurd no_way
+says_stop {out = out} {out' = out'} {x = x} y (Err other) e says = record {
+  again = says.again;
+  again_lines = says.again_lines;
+  front = λ t. record {
+    least = (says.front t).least;
+    most = front_of_front out'.took (out.took ++ (out.kept ++ x)) (out.took ++ (out.kept ++ (x ++ y))) (says.front t).most
+        (record { rest = y; whole = ap (λ (l : List ℕ). out.took ++ l) (sym (append_assoc out.kept x y)) ∙ sym (append_assoc out.took (out.kept ++ x) y) });
+  };
+  front_lines = says.front_lines;
+  whole = tt;
+  whole_lines = tt;
+  lines_first = says.lines_first;
+  later = says.later;
+  later_lines = says.later_lines;
+  failed = says.failed;
+}

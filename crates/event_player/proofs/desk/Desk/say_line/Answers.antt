@@ -1,0 +1,32 @@
+use Rattle.std.proofs.Common.{[], refl, ap}
+use Rattle.answer_lines.proofs.CountLaws.{counts_same}
+use Rattle.script_runs.specs.StopsPasses.{State}
+use Rattle.event_player.proofs.Saying.{says_sent, says_unsent}
+use Rattle.event_player.proofs.SaysLaws.{says_same}
+use Rattle.event_player.proofs.desk.Desk.say_line.Goals as goal
+
+pub returns-then-try_keep-clause-counts : goal.returns-then-try_keep-clause-counts
+returns-then-try_keep-clause-counts g c =
+    counts_same c.args.self.now.tally c.count_text.new.self [] [] c.as_bytes.result.now c.args.self.now.line c.count_text.ensures.counts refl c.as_bytes.ensures
+
+pub returns-in_err-send-clause-says : goal.returns-in_err-send-clause-says
+returns-in_err-send-clause-says g c =
+    says_unsent g.O.Sink.tells g.O.Sink.taken g.O.Sink.faults g.T.Sink.tells g.T.Sink.taken g.T.Sink.faults
+    c.args.out.now c.args.trace.now c.send.new.trace c.args.self.now.gather c.try_keep.new.self c.args.subsystem.now.kept c.send.new.self.kept c.from_residual.result c.args.self.now.line
+    c.from_residual.ensures.0 c.in_err-send.ensures.puts
+
+pub returns-in_err-send-clause-counts : goal.returns-in_err-send-clause-counts
+returns-in_err-send-clause-counts g c =
+    counts_same c.args.self.now.tally c.count_text.new.self [] [] c.as_bytes.result.now c.args.self.now.line c.count_text.ensures.counts refl c.as_bytes.ensures
+
+pub returns-clause-says : goal.returns-clause-says
+returns-clause-says g c =
+    says_same c.args.self.now.line
+    (says_sent g.O.Sink.tells g.O.Sink.taken g.O.Sink.faults g.T.Sink.tells g.T.Sink.taken g.T.Sink.faults
+    c.args.out.now c.put.new.sink c.args.trace.now c.send.new.trace c.args.self.now.gather c.try_keep.new.self c.put.new.self c.args.subsystem.now.kept c.send.new.self.kept c.put.result c.as_bytes-3.result.now
+    c.in_ok-send.ensures.puts (ap (λ (s : State). s.kept) c.in_ok-send.ensures.same) (c.if-try_keep.ensures.full refl) c.put.ensures)
+    c.as_bytes-3.ensures
+
+pub returns-clause-counts : goal.returns-clause-counts
+returns-clause-counts g c =
+    counts_same c.args.self.now.tally c.count_text.new.self [] [] c.as_bytes.result.now c.args.self.now.line c.count_text.ensures.counts refl c.as_bytes.ensures

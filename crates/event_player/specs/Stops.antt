@@ -1,0 +1,156 @@
+-- What a call leaves where a sink or the packs failed, and a script with it.
+use Rattle.std.specs.Prelude.{◌≡◌, ◌⊎◌, ℕ, ◌<◌, Bool, true, false, IsTrue, List, [], ◌∷◌, ◌++◌, Option, None}
+use Rattle.pack_geometry.specs.Pack.{Pack}
+use Rattle.pack_geometry.specs.PackTable.{AreTablesOf}
+use Rattle.pack_geometry.specs.TableSpelling.{Table}
+use Rattle.subsystem_spec.specs.Requests.{Request}
+use Rattle.trace_replay.specs.Moments.{Moment}
+use Rattle.trace_replay.specs.Script.{Script, Input, Line, Numbered, Statement, Declares, Plays, drives_of, inputs_of, inputs_before}
+use Rattle.trace_replay.specs.Replay.{after_moments}
+use Rattle.trace_replay.specs.Runs.{start_of}
+use Rattle.trace_replay.specs.Text.{trace_text}
+use Rattle.driver_machine.specs.World.{World, Held, unit_at}
+use Rattle.driver_machine.specs.Acts.{Act, Tried}
+use Rattle.driver_machine.specs.Lines.{lines_of_all}
+use Rattle.driver_machine.specs.Events.{refusal_of, submit_acts, event_acts}
+use Rattle.driver_machine.specs.Guards.{IsHeldFor}
+use Rattle.driver_machine.specs.Sound.{Sound}
+use Rattle.driver_machine.specs.Runs.{Run, MaySubmit}
+use Rattle.driver_laws.specs.answers.Outcome.{IsFront, IsNextBlock}
+use Rattle.driver_laws.specs.answers.Packs.{ReadAll, packs_after_all}
+use Rattle.script_runs.specs.StopsPasses.{AreDeclared}
+use Rattle.script_runs.specs.StopsPasses.{AllFlip}
+use Rattle.script_runs.specs.StopsPasses.{ShowsAll}
+use Rattle.answer_lines.specs.AnswerText.{out_text}
+use Rattle.script_runs.specs.StopsPasses.{is_move, writes_by}
+use Rattle.script_runs.specs.StopsPasses.{writes_next}
+use Rattle.script_runs.specs.Stops.{CameTo, StaysBeyond, IsAtMove, Took, StopsAtSink, StopsAtStore}
+use Rattle.script_runs.specs.declared.fault.PlayFault.{PlayFault}
+use Rattle.script_runs.specs.declared.fault.PlayFault.TheVariants as faults
+use Rattle.script_runs.specs.Stops.{IsUnplayed}
+use Rattle.event_player.specs.Playing.{HasRun}
+use Rattle.event_player.specs.Steps.{Stage, Passes, PassesAhead, IsAhead, HasDrained}
+
+-- A CALL THAT STOPPED AT A SINK: its first acts were done and told, or all of them, and a front of what these say was to be said.
+pub record StopsActs (writes : Bool) (acts : List Act) (old new : Stage) : Type 0 where
+  pub done : List Act
+  pub left : List Act
+  pub all : acts ≡ done ++ left
+  pub run : Run old.world done
+  pub reads : IsTrue new.packs_tell → ReadAll old.world old.held done
+  pub packs : IsTrue new.packs_tell → new.held ≡ packs_after_all old.world old.held done
+  pub text : List ℕ
+  pub says : IsFront text (out_text (lines_of_all old.world done))
+  pub passes : PassesAhead writes (old.said ++ text) (old.taken ++ trace_text (lines_of_all old.world done)) old new
+
+-- an event, before which all text was sent if it may write;
+pub record StopsEvent (line : ℕ) (input : Input) (old new : Stage) : Type 0 where
+  pub tried : Tried
+  pub noise : AllFlip old.world.book.live
+  pub leaves : writes_by old.world input ≡ false → IsTrue new.packs_tell → new.held ≡ old.held
+  pub stops : StopsActs (writes_by old.world input) (event_acts line input tried old.world) old new
+
+-- or one that may write, before which text could not be sent;
+pub record StopsBefore (input : Input) (old new : Stage) : Type 0 where
+  pub writes : writes_by old.world input ≡ true
+  pub held : new.held ≡ old.held
+  pub passes : Passes old.out_took old.trace_took old.said old.taken old new
+
+-- and a submission.
+pub record StopsSubmission (line : ℕ) (r : Request) (old new : Stage) : Type 0 where
+  pub slot : ℕ
+  pub held : Held
+  pub may : MaySubmit old.world r slot held
+  pub is : refusal_of r old.world ≡ None → IsHeldFor (unit_at old.world held.unit).drive.kind r held
+  pub same : new.held ≡ old.held
+  pub stops : StopsActs false (submit_acts r line slot held old.world) old new
+
+-- THE PACKS FAILED at a move: nothing was done or told; one that may write perhaps wrote its block, and before it all text was sent.
+pub record MoveFails (input : Input) (old new : Stage) : Type 0 where
+  pub move : is_move input ≡ true
+  pub packs : IsTrue new.packs_tell → (new.held ≡ old.held) ⊎ ((writes_by old.world input ≡ true) × IsNextBlock old.world old.held new.held)
+  pub out : IsTrue new.out_tells → new.said ≡ old.said
+  pub trace : IsTrue new.trace_tells → new.taken ≡ old.taken
+  pub passes : PassesAhead (writes_by old.world input) old.said old.taken old new
+
+abbrev pub EventStops : ℕ → Input → PlayFault → Stage → Stage → Type 0
+EventStops line input faults.Store old new = MoveFails input old new
+EventStops line input faults.Sink old new = (is_move input ≡ false → new.held ≡ old.held) × (StopsBefore input old new ⊎ StopsEvent line input old new)
+EventStops line input fault old new = ⊥
+
+abbrev pub SubmissionStops : ℕ → Request → PlayFault → Stage → Stage → Type 0
+SubmissionStops line r faults.Sink old new = StopsSubmission line r old new
+SubmissionStops line r fault old new = ⊥
+
+-- A RUN THAT STOPPED AT THE PACKS, before the rest of its text is sent
+pub record StopsAtMove (script : Script) (tables : ℕ → Option Table) (first : ℕ → Pack) (said taken : List ℕ) (now : Stage) : Type 0 where
+  pub done : List Moment
+  pub later : List Numbered
+  pub came : CameTo script tables first done [] later
+  pub world : World
+  pub sound : Sound world
+  pub declared : AreDeclared (drives_of script) world
+  pub shows : ShowsAll world (after_moments (start_of script tables first) done)
+  pub adapter : ℕ
+  pub move : IsAtMove world (after_moments (start_of script tables first) done) later adapter
+  pub held : ℕ → Pack
+  pub rule : IsAhead script tables first done said taken (record now { held = held })
+  pub none_late : writes_next world adapter ≡ true → rule.at.late ≡ []
+  pub packs : (now.held ≡ held) ⊎ ((writes_next world adapter ≡ true) × IsNextBlock world held now.held)
+  pub reach : StaysBeyond script tables first now.held
+
+abbrev pub StopsAt : PlayFault → Script → (ℕ → Option Table) → (first : ℕ → Pack) → (said taken : List ℕ) → Stage → Type 0
+StopsAt faults.Store script tables first said taken now = StopsAtMove script tables first said taken now
+StopsAt faults.Sink script tables first said taken now = StopsAtSink script tables first now.held now.out_tells said now.out_took now.trace_tells taken now.trace_took
+StopsAt fault script tables first said taken now = ⊥
+
+-- BEHIND ANY RUN SO FAR that kept the rule, of a script whose next line this is, the whole stops so;
+pub record HasTold (script : Script) (tables : ℕ → Option Table) (first : ℕ → Pack) (line : ℕ) (done : List Line) (said taken : List ℕ) (now : Stage) : Type 0 where
+  pub moments : List Moment
+  pub run : HasRun script tables first now.held line done now.world moments
+  pub rule : IsAhead script tables first moments said taken now
+
+pub record IsNext (script : Script) (done : List Line) (line : ℕ) (input : Input) : Type 0 where
+  pub later : List Numbered
+  pub inputs : inputs_of script ≡ inputs_before [] done ++ record { line = line; input = input } ∷ later
+
+abbrev pub StopsInput : ℕ → Input → PlayFault → Stage → Stage → Type 0
+StopsInput line input fault old new = (script : Script) (tables : ℕ → Option Table) (first : ℕ → Pack) (last : ℕ) (done : List Line) (said taken : List ℕ)
+    → last < line → IsNext script done line input → HasTold script tables first last done said taken old → StopsAt fault script tables first said taken new
+
+-- a line that declares a drive does not;
+abbrev pub StopsLine : ℕ → Statement → PlayFault → Stage → Stage → Type 0
+StopsLine line (Declares unit kind) fault old new = ⊥
+StopsLine line (Plays input) fault old new = StopsInput line input fault old new
+
+-- and so in a drain, behind one of its events.
+pub record HasDrainedTold (script : Script) (tables : ℕ → Option Table) (first : ℕ → Pack) (line : ℕ) (done : List Line) (later : List Numbered) (said taken : List ℕ) (now : Stage) : Type 0 where
+  pub moments : List Moment
+  pub drained : HasDrained script tables first now.held line done now.world moments
+  pub inputs : inputs_of script ≡ inputs_before [] done ++ later
+  pub rule : IsAhead script tables first moments said taken now
+
+abbrev pub StopsDraining : ℕ → PlayFault → Stage → Stage → Type 0
+StopsDraining line fault old new = (script : Script) (tables : ℕ → Option Table) (first : ℕ → Pack) (done : List Line) (later : List Numbered) (said taken : List ℕ)
+    → HasDrainedTold script tables first line done later said taken old → StopsAt fault script tables first said taken new
+
+-- THE WHOLE of a script, from a start on
+abbrev pub StopsScript : Script → (ℕ → Option Table) → PlayFault → Stage → Stage → Type 0
+StopsScript script tables fault old new = HasRun script tables old.held old.held 0 [] old.world [] → StopsAt fault script tables old.held old.said old.taken new
+
+-- WHAT PLAYING LEAVES where it stopped: nothing was played, as the packs failed when a unit was attached; or it was played so far, with
+-- the tables of these packs, and where the packs failed the rest of the text was sent.
+abbrev pub Stopped : PlayFault → Script → (ℕ → Option Table) → (first left : ℕ → Pack) → (out trace : Took) → Type 0
+Stopped faults.Store script tables first left out trace = StopsAtStore script tables first left out trace
+Stopped faults.Sink script tables first left out trace = StopsAtSink script tables first left out.tells out.before out.after trace.tells trace.before trace.after
+Stopped fault script tables first left out trace = ⊥
+
+pub record StopsPlaying (fault : PlayFault) (script : Script) (first left : ℕ → Pack) (out trace : Took) : Type 0 where
+  pub tables : ℕ → Option Table
+  pub read : AreTablesOf (drives_of script) first tables
+  pub stopped : Stopped fault script tables first left out trace
+
+abbrev pub Leaves : PlayFault → Script → (first left : ℕ → Pack) → (out trace : Took) → Type 0
+Leaves faults.Store script first left out trace = IsUnplayed first left out trace ⊎ StopsPlaying faults.Store script first left out trace
+Leaves faults.Sink script first left out trace = StopsPlaying faults.Sink script first left out trace
+Leaves fault script first left out trace = Unit {0}

@@ -1,3 +1,0 @@
-pub mod Room
-pub mod ExerciseText
-pub mod Exercises

@@ -1,0 +1,42 @@
+-- Where an event begins, what is due behind its first act finds the adapter free.
+use Rattle.std.proofs.Common.{◌≡◌, ℕ, ◌<◌, true, sym, ap, ◌∙◌, subst}
+use Rattle.std.proofs.Common.{get_or-set_same}
+use Rattle.hardware_table.specs.declared.Moved.{Moved}
+use Rattle.driver_machine.specs.declared.Phase.{Phase}
+use Rattle.driver_machine.specs.declared.Phase.TheVariants.{Waiting, Positioning, Queued, Transferring, Due}
+use Rattle.driver_machine.specs.World.{World, UnitView, AdapterView, Held, no_unit, unit_at, slot_in_hand}
+use Rattle.driver_machine.specs.Acts.{Of, Submit, Intr, Attn, effect, joined, scene_of, after}
+use Rattle.driver_machine.specs.Sound.{Sound, AtWork, WorkOf}
+use Rattle.driver_machine.proofs.DueFacts.{false_true}
+use Rattle.driver_machine.proofs.Until.{own_unit}
+use Rattle.driver_laws.proofs.invariant.Deeds.{own_adapter}
+use Rattle.hp_driver.specs.Free.{needs_free, IsFree}
+
+module _ (w : World) (line u id : ℕ) (sound : Sound w) (lt : u < 32) where
+  -- the data interrupt frees it
+  pub interrupt_free : (moved : ℕ) (last : Moved) → IsFree (after w (Of line u id (Intr moved last))) u
+  interrupt_free moved last = λ needs. ap (λ (a : AdapterView). a.state.busy)
+      (own_adapter w u (slot_in_hand (unit_at w u)) (effect line u (slot_in_hand (unit_at w u)) (Intr moved last) (scene_of w u)) sound.adapters lt)
+
+  -- behind an attention the steps of a retry come
+  pub attention_free : (taken : ℕ) → IsFree (after w (Of line u id (Attn taken))) u
+  attention_free taken = λ needs. absurd (false_true (sym (ap (λ (v : UnitView). needs_free v.phase)
+      (own_unit w u (slot_in_hand (unit_at w u)) (effect line u (slot_in_hand (unit_at w u)) (Attn taken) (scene_of w u))
+      (subst (λ (n : ℕ). u < n) (sym sound.units) lt))) ∙ needs))
+
+-- between two events no unit may have a command without a choice
+none_needs : (phase : Phase) (v : UnitView) → WorkOf phase v.queue → needs_free phase ≡ true → ⊥
+none_needs Waiting v works needs = false_true needs
+none_needs (Positioning taken) v works needs = false_true needs
+none_needs Queued v works needs = false_true needs
+none_needs Transferring v works needs = false_true needs
+none_needs (Due task) v works needs = works
+
+pub work_free : (w : World) (u : ℕ) → AtWork w → u < 32 → IsFree w u
+work_free w u work lt = λ needs. absurd (none_needs (unit_at w u).phase (unit_at w u) (work.units u lt) needs)
+
+-- and a request that joins changes nothing of it
+pub join_free : (w : World) (line p : ℕ) (h : Held) → Sound w → h.unit < 32 → IsFree w h.unit → IsFree (after w (Submit line p h)) h.unit
+join_free w line p h sound lt free = λ needs. free
+    (sym (ap (λ (v : UnitView). needs_free v.phase)
+    (get_or-set_same w.units h.unit (joined p h (unit_at w h.unit)) no_unit (subst (λ (n : ℕ). h.unit < n) (sym sound.units) lt))) ∙ needs)

@@ -1,0 +1,188 @@
+-- The acts of each event, where it finds something to do; and that they may come.
+use Rattle.std.proofs.Common.{◌≡◌, ℕ, ◌<◌, Bool, true, false, List, [], ◌∷◌, length, refl, sym, ap, ◌∙◌, subst, arith}
+use Rattle.std.specs.Prelude.{Result, Ok, Err, not, ◌&&◌}
+use Rattle.hardware_table.specs.Adapter.{next_block}
+use Rattle.driver_machine.specs.declared.Task.{Task}
+use Rattle.driver_machine.specs.declared.Task.TheVariants.{Clear, Judge, Steps, Command, GiveUp}
+use Rattle.driver_machine.specs.declared.Phase.{Phase}
+use Rattle.driver_machine.specs.declared.Phase.TheVariants.{Waiting, Positioning, Queued, Transferring, Due}
+use Rattle.driver_machine.specs.World.{World, UnitView, AdapterView, Held, adapter_of, drive_of, unit_on, unit_of, unit_at, adapter_at, held_in, slot_in_hand}
+use Rattle.driver_machine.specs.Acts as deed
+use Rattle.driver_machine.specs.Acts.{Act, Of, Nothing, Deed, Tried}
+use Rattle.driver_machine.specs.Events.{when_by, in_hand, due_acts, begun, choose_by, choose_acts, or_nothing, arrive_acts, move_acts, attend_acts, attended, can_arrive, can_move, can_attend, data_interrupt, attention, steps_taken}
+use Rattle.driver_machine.specs.Due.{command_of}
+use Rattle.driver_machine.specs.Guards.{Allowed, InHand, IsBusyFor}
+use Rattle.driver_machine.specs.Sound.{Sound, IsPhase, IsTask, is_waiting}
+use Rattle.driver_machine.proofs.DueFacts.{false_true}
+use Rattle.driver_laws.proofs.invariant.Deeds.{in_hand_is}
+use Rattle.driver_laws.proofs.invariant.Due.{in_hand_one}
+use Rattle.driver_laws.proofs.invariant.Calls.{IsServing, serving}
+use Rattle.driver_laws.proofs.invariant.Sound.{sound_after}
+use Rattle.hp_core.specs.Passes.{Stop}
+use Rattle.hp_core.specs.State.{State}
+use Rattle.hp_core.specs.Done.{DoesAct}
+use Rattle.hp_driver.specs.Done.{DoesActs}
+use Rattle.hp_driver.proofs.Joined.{of_act, then_part, stopped_part}
+
+-- A DEED for the request in hand, with its id
+pub hand_acts : (w : World) (line u id : ℕ) (d : Deed) → 0 < length (unit_at w u).queue → id ≡ (held_in w (slot_in_hand (unit_at w u))).id
+    → Of line u id d ∷ [] ≡ in_hand line u d w
+hand_acts w line u id d some is = ap (λ (n : ℕ). Of line u n d ∷ []) is ∙ sym (in_hand_one line u d w some)
+
+pub hand_is : (w : World) (u id : ℕ) → Sound w → u < 32 → 0 < length (unit_at w u).queue → id ≡ (held_in w (slot_in_hand (unit_at w u))).id → InHand w u id
+hand_is w u id sound less some is = subst (λ (n : ℕ). InHand w u n) (sym is) (in_hand_is w u sound less some)
+
+-- and what is due behind it
+module _ {O : Type 0} (tells : O → Bool) (taken : O → List ℕ) (faults : O → ℕ) (line u id : ℕ) (d : Deed) where
+  pub deed_then : (trace mid_trace trace' : O) (old mid new : State) (result : Result (Unit {0}) Stop) → 0 < length (unit_at old.world u).queue
+      → id ≡ (held_in old.world (slot_in_hand (unit_at old.world u))).id → DoesAct tells taken faults trace mid_trace old mid (Ok tt) (Of line u id d)
+      → DoesActs tells taken faults mid_trace trace' mid new result (due_acts line u mid.world) → DoesActs tells taken faults trace trace' old new result (begun line u d old.world)
+  deed_then trace mid_trace trace' old mid new result some named first later =
+      then_part tells taken faults trace mid_trace trace' old mid new tt result (in_hand line u d old.world) (due_acts line u)
+      (subst (λ (acts : List Act). DoesActs tells taken faults trace mid_trace old mid (Ok tt) acts) (hand_acts old.world line u id d some named)
+      (of_act tells taken faults trace mid_trace old mid (Ok tt) (Of line u id d) first)) later
+
+  pub deed_stopped : (trace trace' : O) (old new : State) (stop : Stop) → 0 < length (unit_at old.world u).queue
+      → id ≡ (held_in old.world (slot_in_hand (unit_at old.world u))).id → DoesAct tells taken faults trace trace' old new (Err stop) (Of line u id d)
+      → DoesActs {A = Unit {0}} tells taken faults trace trace' old new (Err stop) (begun line u d old.world)
+  deed_stopped trace trace' old new stop some named first =
+      stopped_part tells taken faults trace trace' old new stop (in_hand line u d old.world) (due_acts line u)
+      (subst (λ (acts : List Act). DoesActs {A = Unit {0}} tells taken faults trace trace' old new (Err stop) acts) (hand_acts old.world line u id d some named)
+      (of_act tells taken faults trace trace' old new (Err stop) (Of line u id d) first))
+
+pub sound_then : {O : Type 0} (tells : O → Bool) (taken : O → List ℕ) (faults : O → ℕ) (trace trace' : O) (old new : State) (result : Result (Unit {0}) Stop) (act : Act)
+    → Sound old.world → Allowed old.world act → DoesAct tells taken faults trace trace' old new result act → Sound new.world
+sound_then tells taken faults trace trace' old new result act sound may does = subst Sound (sym does.world) (sound_after old.world act sound may)
+
+-- ARRIVE
+pub arrives : (w : World) (line u id : ℕ) → can_arrive (unit_at w u) ≡ true → 0 < length (unit_at w u).queue
+    → id ≡ (held_in w (slot_in_hand (unit_at w u))).id → Of line u id deed.Arrive ∷ [] ≡ arrive_acts line u w
+arrives w line u id can some named =
+    hand_acts w line u id deed.Arrive some named ∙ sym (ap (λ (b : Bool). or_nothing b line (in_hand line u deed.Arrive) w) can)
+
+pub no_arrival : (w : World) (line u : ℕ) → can_arrive (unit_at w u) ≡ false → Nothing line ∷ [] ≡ arrive_acts line u w
+no_arrival w line u can = sym (ap (λ (b : Bool). or_nothing b line (in_hand line u deed.Arrive) w) can)
+
+-- THE TRANSFER under way at an adapter
+pub is_busy : (w : World) (a : ℕ) → Sound w → a < 4 → (adapter_at w a).state.completion ≡ true → (adapter_at w a).state.busy ≡ true
+is_busy w a sound less up = by (adapter_at w a).state.busy (sound.each_adapter a less).rest
+  where
+    by : (busy : Bool) → (busy ≡ false → (adapter_at w a).state.completion ≡ false) → busy ≡ true
+    by true rest = refl
+    by false rest = absurd (false_true (sym (rest refl) ∙ up))
+
+-- the unit for which it transfers
+module _ (w : World) (a u : ℕ) (sound : Sound w) (busy : (adapter_at w a).state.busy ≡ true) (is : u ≡ unit_of w a) where
+  serves : IsServing w a
+  serves = serving w a sound busy
+
+  pub served_less : u < 32
+  served_less = subst (λ (x : ℕ). x < 32) (sym is) serves.unit
+
+  pub served_some : 0 < length (unit_at w u).queue
+  served_some = subst (λ (x : ℕ). 0 < length (unit_at w x).queue) (sym is) serves.some
+
+  pub served_its : adapter_of u ≡ a
+  served_its = ap adapter_of is ∙ serves.its
+
+  pub served_for : (done : Bool) → (adapter_at w a).state.completion ≡ done → IsBusyFor (adapter_at w (adapter_of u)).state (drive_of u) done
+  served_for done completion =
+      subst (λ (b : ℕ). IsBusyFor (adapter_at w b).state (drive_of u) done) (sym served_its)
+      (record { busy = busy; drive = serves.drive ∙ ap drive_of (sym is); completion = completion })
+
+  pub interrupt_may : (line id : ℕ) → (adapter_at w a).state.completion ≡ true → id ≡ (held_in w (slot_in_hand (unit_at w u))).id
+      → Allowed w (Of line u id (deed.Intr (adapter_at w (adapter_of u)).state.moved (adapter_at w (adapter_of u)).state.verdict))
+  interrupt_may line id up named = (hand_is w u id sound served_less served_some named, (served_for true up, refl, refl))
+
+  -- ATTEND: the data interrupt
+  pub interrupts : (line : ℕ) → (adapter_at w a).state.completion ≡ true
+      → begun line u (deed.Intr (adapter_at w (adapter_of u)).state.moved (adapter_at w (adapter_of u)).state.verdict) w ≡ data_interrupt line a w
+  interrupts line up =
+      ap (λ (b : ℕ). begun line u (deed.Intr (adapter_at w b).state.moved (adapter_at w b).state.verdict) w) served_its
+      ∙ ap (λ (x : ℕ). begun line x (deed.Intr (adapter_at w a).state.moved (adapter_at w a).state.verdict) w) is
+      ∙ sym (ap (λ (b : Bool). when_by b (begun line (unit_of w a) (deed.Intr (adapter_at w a).state.moved (adapter_at w a).state.verdict)) w) up)
+
+  -- MOVE
+  pub moves : (line id : ℕ) (tried : Tried) → can_move (adapter_at w a) ≡ true → id ≡ (held_in w (slot_in_hand (unit_at w u))).id
+      → Of line u id (deed.Sector (next_block (adapter_at w (adapter_of u)).state) tried) ∷ [] ≡ move_acts line a tried w
+  moves line id tried can named =
+      hand_acts w line u id (deed.Sector (next_block (adapter_at w (adapter_of u)).state) tried) served_some named
+      ∙ ap (λ (b : ℕ). in_hand line u (deed.Sector (next_block (adapter_at w b).state) tried) w) served_its
+      ∙ ap (λ (x : ℕ). in_hand line x (deed.Sector (next_block (adapter_at w a).state) tried) w) is
+      ∙ sym (ap (λ (b : Bool). or_nothing b line (in_hand line (unit_of w a) (deed.Sector (next_block (adapter_at w a).state) tried)) w) can)
+
+pub no_interrupt : (w : World) (line a : ℕ) → (adapter_at w a).state.completion ≡ false → [] ≡ data_interrupt line a w
+no_interrupt w line a up =
+    sym (ap (λ (b : Bool). when_by b (begun line (unit_of w a) (deed.Intr (adapter_at w a).state.moved (adapter_at w a).state.verdict)) w) up)
+
+pub can_move_is : (w : World) (a : ℕ) → can_move (adapter_at w a) ≡ true → ((adapter_at w a).state.busy ≡ true) × ((adapter_at w a).state.completion ≡ false)
+can_move_is w a can = both (adapter_at w a).state.busy (adapter_at w a).state.completion can
+  where
+    both : (a b : Bool) → a && not b ≡ true → (a ≡ true) × (b ≡ false)
+    both true true e = absurd (false_true e)
+    both true false e = (refl, refl)
+    both false true e = absurd (false_true e)
+    both false false e = absurd (false_true e)
+
+pub no_move : (w : World) (line a : ℕ) (tried : Tried) → can_move (adapter_at w a) ≡ false → Nothing line ∷ [] ≡ move_acts line a tried w
+no_move w line a tried can =
+    sym (ap (λ (b : Bool). or_nothing b line (in_hand line (unit_of w a) (deed.Sector (next_block (adapter_at w a).state) tried)) w) can)
+
+-- AN ATTENTION is up only where a positioning has ended.
+task_down : (task : Task) (v : UnitView) (h : Held) → IsTask v h task → v.drive.attention ≡ false
+task_down (Clear moved last) v h is = is.1.attention
+task_down (Judge moved last) v h is = is.1.attention
+task_down (Steps taken) v h is = is.1.attention
+task_down Command v h is = is.1.attention
+task_down (GiveUp done) v h is = is.1.attention
+
+raised_phase : (u : ℕ) (phase : Phase) (v : UnitView) (a : AdapterView) (h : Held) → IsPhase u v a h phase → v.drive.attention ≡ true
+    → phase ≡ Positioning (steps_taken phase)
+raised_phase u Waiting v a h is up = absurd (false_true (sym is.0.attention ∙ up))
+raised_phase u (Due task) v a h is up = absurd (false_true (sym (task_down task v h is) ∙ up))
+raised_phase u (Positioning taken) v a h is up = refl
+raised_phase u Queued v a h is up = absurd (false_true (sym is.1.attention ∙ up))
+raised_phase u Transferring v a h is up = absurd (false_true (sym is.1.attention ∙ up))
+
+module _ (w : World) (u : ℕ) (sound : Sound w) (less : u < 32) (up : (unit_at w u).drive.attention ≡ true) where
+  raised : (unit_at w u).phase ≡ Positioning (steps_taken (unit_at w u).phase)
+  raised =
+      raised_phase u (unit_at w u).phase (unit_at w u) (adapter_at w (adapter_of u)) (held_in w (slot_in_hand (unit_at w u))) (sound.each_unit u less).phase up
+
+  pub raised_some : 0 < length (unit_at w u).queue
+  raised_some = (sound.each_unit u less).head (ap is_waiting raised)
+
+  pub attention_may : (line id : ℕ) → id ≡ (held_in w (slot_in_hand (unit_at w u))).id → Allowed w (Of line u id (deed.Attn (steps_taken (unit_at w u).phase)))
+  attention_may line id named = (hand_is w u id sound less raised_some named, (raised, up))
+
+pub attends : (w : World) (line a k : ℕ) → (unit_at w (unit_on a k)).drive.attention ≡ true
+    → begun line (unit_on a k) (deed.Attn (steps_taken (unit_at w (unit_on a k)).phase)) w ≡ attention line a k w
+attends w line a k up =
+    sym (ap (λ (b : Bool). when_by b (begun line (unit_on a k) (deed.Attn (steps_taken (unit_at w (unit_on a k)).phase))) w) up)
+
+pub no_attention : (w : World) (line a k : ℕ) → (unit_at w (unit_on a k)).drive.attention ≡ false → [] ≡ attention line a k w
+no_attention w line a k up =
+    sym (ap (λ (b : Bool). when_by b (begun line (unit_on a k) (deed.Attn (steps_taken (unit_at w (unit_on a k)).phase))) w) up)
+
+pub unit_less : (a k : ℕ) → a < 4 → k < 8 → unit_on a k < 32
+unit_less a k four eight = omega (arith, four, eight)
+
+-- an interrupt that is pending, and none
+pub pending : (w : World) (line a : ℕ) → can_attend (adapter_at w a) ≡ true → attended line a w ≡ attend_acts line a w
+pending w line a can = sym (ap (λ (b : Bool). or_nothing b line (attended line a) w) can)
+
+pub none_pending : (w : World) (line a : ℕ) → can_attend (adapter_at w a) ≡ false → Nothing line ∷ [] ≡ attend_acts line a w
+none_pending w line a can = sym (ap (λ (b : Bool). or_nothing b line (attended line a) w) can)
+
+-- THE CHOICE of a unit
+pub busy_chooses_none : (w : World) (line a : ℕ) → (adapter_at w a).state.busy ≡ true → [] ≡ choose_acts line a w
+busy_chooses_none w line a busy = sym (ap (λ (b : Bool). choose_by b (adapter_at w a).queue line w) busy)
+
+pub none_waits : (w : World) (line a : ℕ) → (adapter_at w a).state.busy ≡ false → (adapter_at w a).queue ≡ [] → [] ≡ choose_acts line a w
+none_waits w line a busy none =
+    sym (ap (λ (b : Bool). choose_by b (adapter_at w a).queue line w) busy ∙ ap (λ (l : List ℕ). choose_by false l line w) none)
+
+pub chooses : (w : World) (line a u : ℕ) (rest : List ℕ) → (adapter_at w a).state.busy ≡ false → (adapter_at w a).queue ≡ u ∷ rest
+    → begun line u (command_of (unit_at w u) (held_in w (slot_in_hand (unit_at w u)))) w ≡ choose_acts line a w
+chooses w line a u rest busy first =
+    sym (ap (λ (b : Bool). choose_by b (adapter_at w a).queue line w) busy ∙ ap (λ (l : List ℕ). choose_by false l line w) first)

@@ -1,6 +1,0 @@
--- What is passed on of the crates below, so that those above stand on this one.
-pub use Rattle.hp_core.specs.Done.{DoesSilently, HasCauses}
-pub use Rattle.hp_core.specs.Joins.{MayJoin}
-pub use Rattle.hp_core.specs.Setups.{setups_of}
-pub use Rattle.hp_core.specs.State.{State, site}
-pub use Rattle.hp_core.specs.State

@@ -1,0 +1,1 @@
+pub use Rattle.drive_model.specs.Move

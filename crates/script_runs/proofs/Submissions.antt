@@ -1,0 +1,155 @@
+-- A request that a line of the script submits: a slot and frames are there for it, and the run goes on.
+use Rattle.std.proofs.Common.{◌≡◌, inl, inr, ℕ, zero, suc, ◌+◌, ◌<◌, ◌≤◌, ◌==◌, ◌||◌, Bool, true, false, filter, List, [], ◌∷◌, ◌++◌, length, Option, Some, None, refl, sym, ap, subst, arith, ◌∙◌}
+use Rattle.std.specs.Prelude.{Contains, is_some, if◌then◌else◌}
+use Rattle.std.specs.List.{list_any}
+use Rattle.std.proofs.lemmas.Bool.Decides.{eqb_tells, nat_tests}
+use Rattle.std.proofs.lemmas.Option.{none-some}
+use Rattle.pack_geometry.specs.declared.DriveKind.{DriveKind}
+use Rattle.pack_geometry.specs.Pack.{Pack}
+use Rattle.pack_geometry.specs.TableSpelling.{Table}
+use Rattle.subsystem_spec.specs.Requests.{Request, IsRequest}
+use Rattle.trace_replay.specs.Script as says
+use Rattle.trace_replay.specs.Script.{Script, Numbered, drives_of}
+use Rattle.trace_replay.specs.Packs.{surface_of}
+use Rattle.trace_replay.specs.Replay.{Replay, all_units, after_moments}
+use Rattle.trace_replay.specs.Runs.{start_of}
+use Rattle.driver_laws.specs.rules.Drains.{IsOf}
+use Rattle.subsystem_spec.specs.declared.answers.AnswerKind.{AnswerKind}
+use Rattle.driver_machine.specs.World.{World, Held, unit_at}
+use Rattle.driver_machine.specs.Acts.{Act, after_all}
+use Rattle.driver_machine.specs.Events.{refusal_of, submit_by, submit_acts}
+use Rattle.driver_machine.specs.Guards.{IsSetUp}
+use Rattle.driver_machine.specs.Sound.{Sound, AtWork}
+use Rattle.driver_laws.specs.shown.RunsRuns.{IsKept}
+use Rattle.driver_machine.specs.Runs.{Works}
+use Rattle.driver_laws.proofs.invariant.Calls.{submit_works}
+use Rattle.driver_laws.proofs.invariant.Sound.{sound_after}
+use Rattle.driver_laws.specs.answers.Packs.{packs_after_all}
+use Rattle.driver_laws.specs.shown.Calls.{Stands}
+use Rattle.driver_laws.specs.shown.Runs.{with_call}
+use Rattle.driver_laws.proofs.shown.Calls.{submissions_go}
+use Rattle.driver_laws.proofs.shown.Inputted.{calls_are_played}
+use Rattle.driver_laws.proofs.shown.RunsLaws.{submissions_keep}
+use Rattle.driver_laws.proofs.shown.Asked.{calls_ask}
+use Rattle.driver_laws.specs.answers.Counts.{in_use}
+use Rattle.driver_laws.proofs.answers.Events.{submissions_add}
+use Rattle.driver_laws.specs.answers.Ids.{AreOf}
+use Rattle.driver_laws.proofs.answers.Ids as ids
+use Rattle.driver_laws.specs.answers.Waiting.{all_taken}
+use Rattle.script_runs.specs.Steps.{Behind, HasPlace}
+use Rattle.script_runs.proofs.Taking.{runs_wait, so_far_taken, kept_taken}
+use Rattle.script_runs.proofs.Fitting.{within_more, Found, found}
+use Rattle.script_runs.proofs.Rooms.{room_behind}
+use Rattle.script_runs.proofs.Places.{places_exist}
+
+-- THE UNIT of a request that is set up is one of those that are there.
+abbrev from : ℕ → ℕ → List ℕ
+from at zero = []
+from at (suc n) = at ∷ from (at + 1) n
+
+all_from : all_units ≡ from 0 32
+all_from = refl
+
+or_true : (b c : Bool) → c ≡ true → b || c ≡ true
+or_true true c is = refl
+or_true false c is = is
+
+first_true : (b c : Bool) → b ≡ true → b || c ≡ true
+first_true true c is = refl
+first_true false c is = absurd (cc is)
+
+from_any : (n start k : ℕ) → start ≤ k → k < start + n → list_any (λ x. x == k) (from start n) ≡ true
+from_any zero start k low high = absurd (omega (arith, low, high))
+from_any (suc n) start k low high = elim (eqb_tells start k) [
+  | inl same ↦ first_true (start == k) (list_any (λ x. x == k) (from (start + 1) n)) same.0
+  | inr other ↦ or_true (start == k) (list_any (λ x. x == k) (from (start + 1) n)) (from_any n (start + 1) k (next start k low (unequal start k other.0)) (omega (arith, high)))
+]
+  where
+    next : (a b : ℕ) → a ≤ b → (a ≡ b → ⊥) → a + 1 ≤ b
+    next a b le ne = omega arith
+
+    unequal : (a c : ℕ) → a == c ≡ false → a ≡ c → ⊥
+    unequal a c h e = grind (arith, nat_tests)
+
+filter_any : (p : ℕ → Bool) (k : ℕ) (xs : List ℕ) → p k ≡ true → list_any (λ x. x == k) xs ≡ true → list_any (λ x. x == k) (filter p xs) ≡ true
+filter_any p k [] is any = any
+filter_any p k (x ∷ xs) is any = elim (eqb_tells x k) [
+  | inl same ↦ here (p x) (subst (λ z. p z ≡ true) (sym same.1) is) same.0
+  | inr other ↦ there (p x) (filter_any p k xs is (not_first (x == k) (list_any (λ y. y == k) xs) other.0 any))
+]
+  where
+    not_first : (b c : Bool) → b ≡ false → b || c ≡ true → c ≡ true
+    not_first true c off or = absurd (cc off)
+    not_first false c off or = or
+
+    here : (b : Bool) → b ≡ true → x == k ≡ true → list_any (λ y. y == k) (if b then x ∷ filter p xs else filter p xs) ≡ true
+    here true on same = first_true (x == k) (list_any (λ y. y == k) (filter p xs)) same
+    here false on same = absurd (cc on)
+
+    there : (b : Bool) → list_any (λ y. y == k) (filter p xs) ≡ true → list_any (λ y. y == k) (if b then x ∷ filter p xs else filter p xs) ≡ true
+    there true rest = or_true (x == k) (list_any (λ y. y == k) (filter p xs)) rest
+    there false rest = rest
+
+some_by : (drive : Option DriveKind) (declared : Bool) → (drive ≡ None → declared ≡ false) → declared ≡ true → is_some drive ≡ true
+some_by None declared others on = absurd (cc (others refl, on))
+some_by (Some kind) declared others on = refl
+
+pub of_unit : (script : Script) (tables : ℕ → Option Table) (old held : ℕ → Pack) (w : World) (r : Request) → IsSetUp w r.unit → IsKept (drives_of script) old held w
+    → IsOf (start_of script tables old).there (says.Submit r)
+of_unit script tables old held w r unit kept =
+    filter_any (λ u. is_some (drives_of script u)) r.unit all_units
+    (some_by (drives_of script r.unit) (unit_at w r.unit).declared (kept.units.others r.unit) unit.declared)
+    (subst (λ (us : List ℕ). list_any (λ x. x == r.unit) us ≡ true) (sym all_from) (from_any 32 0 r.unit (omega arith) (omega (arith, unit.unit))))
+
+-- THE IDS behind it
+ids_behind : (used : List ℕ) (w : World) (next : ℕ) (r : Request) (place : HasPlace w r) → Sound w → AtWork w → AreOf used w
+    → AreOf (r.id ∷ used) (after_all w (submit_acts r next place.slot place.held w))
+ids_behind used w next r place sound work are = behind (refusal_of r w) refl
+  where
+    behind : (refused : Option AnswerKind) → refusal_of r w ≡ refused → AreOf (r.id ∷ used) (after_all w (submit_acts r next place.slot place.held w))
+    behind None is = ids.submissions_add used w next place.slot r place.held sound work place.may (place.is is).id are
+    behind (Some kind) is =
+        let other : Held = record place.held { id = r.id } in
+        let same : submit_acts r next place.slot other w ≡ submit_acts r next place.slot place.held w =
+        ap (λ (o : Option AnswerKind). submit_by o r next place.slot other w) is ∙ sym (ap (λ (o : Option AnswerKind). submit_by o r next place.slot place.held w) is) in
+        subst (λ (acts : List Act). AreOf (r.id ∷ used) (after_all w acts)) same
+        (ids.submissions_add used w next place.slot r other sound work
+        (record { unit = place.may.unit; fresh = place.may.fresh; new = λ none. absurd (none-some kind (sym none ∙ is)) }) refl are)
+
+room_left : (used done slots total : ℕ) → used ≤ done → slots ≡ total → done < total → used < slots
+room_left used done slots total le is less = omega (arith, le, is, less)
+
+pub submission_behind : (script : Script) (tables : ℕ → Option Table) (old : ℕ → Pack) (total done : ℕ) (used : List ℕ) (line next : ℕ) (r : Request) (inputs : List Numbered)
+    → line < next → done < total → says.IsThere (drives_of script r.unit) (λ kind. IsRequest r) → (Contains used r.id → ⊥)
+    → Behind script tables old total done used line inputs
+    → Behind script tables old total (done + 1) (r.id ∷ used) next (inputs ++ record { line = next; input = says.Submit r } ∷ [])
+submission_behind script tables old total done used line next r inputs less room there other b =
+    let start : Replay = start_of script tables old in
+    let w : World = b.world in
+    let stands : Stands b.held w (after_moments start b.moments) = b.far.so_far.left.stands in
+    let drive : Found (drives_of script r.unit) (λ kind. IsRequest r) = found (drives_of script r.unit) (λ kind. IsRequest r) there in
+    let unit : IsSetUp w r.unit = (b.room.units r.unit drive.kind drive.is).0 in
+    let place : HasPlace w r =
+    places_exist w r stands.sound unit drive.holds (ids.others_are_fresh used w r.id b.room.ids other b.room.none_waits)
+    (room_left (in_use w.slots) done (length w.slots) total b.room.within.requests b.room.slots room) in
+    let acts : List Act = submit_acts r next place.slot place.held w in
+    let works : Works w acts = submit_works sound_after r next place.slot place.held w stands.sound stands.work place.may in
+    record {
+      held = packs_after_all w b.held acts;
+      world = all_taken (after_all w acts);
+      moments = with_call b.moments next (says.Submit r) w acts;
+      far = record {
+        so_far = so_far_taken start next (with_call b.moments next (says.Submit r) w acts) (packs_after_all w b.held acts) (after_all w acts)
+            (runs_wait w acts stands.sound works.run (inl b.room.none_waits))
+            (submissions_go (drives_of script) tables (surface_of old) line next place.slot r place.held b.moments b.held w b.far.so_far less place.may place.is b.far.asked.some);
+        kept = kept_taken (drives_of script) old (packs_after_all w b.held acts) (after_all w acts) works.sound
+            (submissions_keep (drives_of script) old b.held w next place.slot r place.held stands.sound stands.work place.may b.far.kept);
+        plays = calls_are_played b.moments next (says.Submit r) w acts
+            ∙ ap (λ (xs : List Numbered). xs ++ record { line = next; input = says.Submit r } ∷ []) b.far.plays;
+        asked = calls_ask start.there b.moments next (says.Submit r) w acts b.far.asked drive.holds.some (of_unit script tables old b.held w r unit b.far.kept);
+      };
+      room = room_behind script total done (done + 1) used (r.id ∷ used) w acts b.room
+          (within_more (done + 1) (done + 1) done (done + 1) done (done + 1) (after_all w acts) (omega arith) (omega arith) (omega arith)
+          (submissions_add done done done w next place.slot r place.held works.run b.room.within))
+          (ids_behind used w next r place stands.sound stands.work b.room.ids);
+    }

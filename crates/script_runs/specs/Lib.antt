@@ -1,0 +1,14 @@
+pub mod OneRun
+pub mod Steps
+pub mod Passes
+pub mod Writing
+pub mod Ahead
+pub mod Stops
+pub mod StopsPasses
+pub mod Lengths
+pub mod Faults
+pub mod Attaching
+pub mod Cached
+pub use Rattle.hp_driver.specs.declared.drain.Event
+pub use Rattle.hp_driver.specs.Setups
+pub use Rattle.hp_driver.specs.UnitSetup

@@ -1,0 +1,13 @@
+-- What is passed on of the crates below, so that those above stand on this one.
+pub use Rattle.driver_laws.specs.shown.Lengths.{AreAsLong}
+pub use Rattle.driver_laws.specs.shown.Reach.{AskBelow, AsksBelow, IsWithinReach, StayFrom, TablesBelow}
+pub use Rattle.driver_laws.specs.shown.NextBlock.{HasNext, NextBlocksShow}
+pub use Rattle.driver_laws.specs.shown.RunsRuns.{AreDeclared, IsKept}
+pub use Rattle.driver_laws.specs.shown.Calls.{IsReadOf}
+pub use Rattle.driver_laws.specs.shown.Noises.{AllFlip}
+pub use Rattle.driver_laws.specs.shown.Runs.{IsDraining, IsOfUnits, IsSoFar, with_call}
+pub use Rattle.driver_laws.specs.shown.Within.{Rests, ShowsAll}
+pub use Rattle.hp_driver.specs.Subsystem.{Comes, IsAsked, IsOldest, IsThere, Reads, State, Submits, asked, is_move, seen, writes_by}
+pub use Rattle.hp_driver.specs.Inputs.{input_of}
+pub use Rattle.hp_driver.specs.Moves.{writes_next}
+pub use Rattle.hp_driver.specs.declared.drain.Event.{Event}

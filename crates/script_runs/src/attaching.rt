@@ -1,0 +1,123 @@
+// The units of a script are attached.
+ghost use Rattle.std.specs.Prelude.{◌≡◌, ◌≤◌, ◌<◌, ℕ, IsTrue, IfOk, IfErr, IfSome, OnOk, IsErrOf};
+ghost use Rattle.outside_traits.specs.Causes.{Rose};
+ghost use Rattle.pack_geometry.specs.PackTable.{AreTablesOf};
+ghost use Rattle.pack_geometry.specs.TableSpelling.{IsTable};
+ghost use Rattle.script_reader.specs.Grammar.{Spells};
+ghost use Rattle.script_reader.specs.Stored.{lines_in};
+ghost use Rattle.script_lines.specs.Words.{all_verbs};
+ghost use Rattle.script_reader.specs.Meaning.{meaning_of};
+ghost use Rattle.trace_replay.specs.Script.{drives_of};
+ghost use Rattle.hp_driver.specs.Setups.{setup_of, setups_of};
+ghost use Rattle.script_runs.specs.Steps.{tables_in, AreSetFor};
+ghost use Rattle.script_runs.specs.Attaching.{IsSet, IsFoundLong, HasRoom, Adds, RefusesLine};
+ghost use Rattle.script_runs.specs.Faults.{IsLongFor};
+ghost use Rattle.script_runs.specs.Lengths.{IsTooLong};
+
+use crate::PlayFault;
+use crate::stops::UnitSetup;
+use bad144_table::{BadTable, entries};
+use drive_model::Drive;
+use mba_autoconf::{AttachFault, attach};
+use outside_traits::traits::Packs;
+use pack_geometry::DriveKind;
+use script_reader::meaning::meaning_law;
+use script_reader::{Script, Statement, Stored};
+use std::alloc::Global;
+
+/// The law of tables: each is valid.
+fn table_law(table: &Option<BadTable>)
+    ensures { IfSome table.now (λ t. IsTable t) }
+{
+    match table {
+        Some(table) => {
+            entries(table);
+        }
+        None => {}
+    }
+}
+
+/// Attaches a unit, one of the 32, with the table of its pack. The packs stay.
+///
+/// TooLong comes where its image has more bytes than the blocks of its drive, and Store only where the packs' count of faults rose.
+pub(crate) fn attach_unit<P: Packs>(
+    unit: u8,
+    kind: DriveKind,
+    packs: &mut P,
+) -> Result<UnitSetup, PlayFault>
+    requires unit { unit < 32 }
+    ensures set { IfOk result (λ s. IsSet (P.tells packs.new) (P.held packs.old) unit kind (setup_of s)) }
+    ensures long { IfErr result (IsFoundLong (P.tells packs.new) (P.held packs.old unit) unit kind) }
+    ensures same { IsTrue (P.tells packs.new) → P.held packs.new ≡ P.held packs.old }
+    ensures never_again { IsTrue (P.tells packs.new) → IsTrue (P.tells packs.old) }
+    ensures later { P.faults packs.old ≤ P.faults packs.new }
+    ensures store { IsErrOf result PlayFault.Store → Rose (P.faults packs.old) (P.faults packs.new) }
+    ensures no_sink { ¬ (IsErrOf result PlayFault.Sink) }
+{
+    let mut drive = Drive::new(kind, u16::from(unit));
+    match attach(&mut drive, packs, unit) {
+        Ok(attached) => {
+            table_law(&attached.table);
+            Ok(UnitSetup {
+                unit,
+                kind,
+                table: attached.table,
+            })
+        }
+        Err(AttachFault::TooLong { length }) => Err(PlayFault::TooLong { unit, length }),
+        Err(AttachFault::Store) => Err(PlayFault::Store),
+    }
+}
+
+/// Attaches the unit that a line declares, if it declares one.
+fn attach_line<P: Packs>(
+    line: &Stored,
+    packs: &mut P,
+    units: &mut Vec<UnitSetup>,
+) -> Result<(), PlayFault>
+    requires room { HasRoom line.now.statement }
+    ensures adds { OnOk result (Adds (P.tells packs.new) (P.held packs.old) line.now.statement (setups_of units.old.items) (setups_of units.new.items)) }
+    ensures refuses { IfErr result (RefusesLine (P.tells packs.new) (P.held packs.old) line.now.statement) }
+    ensures same { IsTrue (P.tells packs.new) → P.held packs.new ≡ P.held packs.old }
+    ensures never_again { IsTrue (P.tells packs.new) → IsTrue (P.tells packs.old) }
+    ensures later { P.faults packs.old ≤ P.faults packs.new }
+    ensures store { IsErrOf result PlayFault.Store → Rose (P.faults packs.old) (P.faults packs.new) }
+    ensures no_sink { ¬ (IsErrOf result PlayFault.Sink) }
+{
+    match &line.statement {
+        Statement::Unit { unit, kind } => {
+            let setup = attach_unit(*unit, *kind, packs)?;
+            units.push(setup).map_err(|_| PlayFault::Memory)
+        }
+        _ => Ok(()),
+    }
+}
+
+/// Attaches the units that a script declares, in the order of their lines, with the tables of their packs. The packs stay.
+///
+/// TooLong comes for the first of them whose image has more bytes than the blocks of its drive; Store only where the packs' count
+/// of faults rose; Memory where there was none.
+pub fn attach_units<P: Packs>(
+    alloc: Global,
+    script: &Script,
+    packs: &mut P,
+) -> Result<Vec<UnitSetup>, PlayFault>
+    requires good { Spells all_verbs script.now.text (lines_in script.now) script.now.count }
+    ensures set { IfOk result (λ units. AreSetFor (meaning_of script.now) (tables_in (setups_of units.items)) (setups_of units.items)) }
+    ensures tables { IfOk result (λ units. IsTrue (P.tells packs.new)
+        → AreTablesOf (drives_of (meaning_of script.now)) (P.held packs.old) (tables_in (setups_of units.items))) }
+    ensures fits { OnOk result (IsTrue (P.tells packs.new) → (unit n : ℕ) → ¬ (IsTooLong (meaning_of script.now) (P.held packs.old) unit n)) }
+    ensures too_long { IfErr result (IsLongFor (meaning_of script.now) (P.tells packs.new) (P.held packs.old)) }
+    ensures same { IsTrue (P.tells packs.new) → P.held packs.new ≡ P.held packs.old }
+    ensures never_again { IsTrue (P.tells packs.new) → IsTrue (P.tells packs.old) }
+    ensures later { P.faults packs.old ≤ P.faults packs.new }
+    ensures store { IsErrOf result PlayFault.Store → Rose (P.faults packs.old) (P.faults packs.new) }
+    ensures no_sink { ¬ (IsErrOf result PlayFault.Sink) }
+{
+    meaning_law();
+    let mut units = Vec::new(alloc);
+    for line in script.lines() {
+        attach_line(line, packs, &mut units)?;
+    }
+    Ok(units)
+}

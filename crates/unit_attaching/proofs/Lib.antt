@@ -1,3 +1,0 @@
-pub mod AttachLaws
-pub mod CachedLines
-pub mod CachedLaws
