@@ -5,4 +5,5 @@ pub mod Drives
 pub mod Machine
 pub mod Slots
 pub mod Bytes
+pub mod Parts
 pub mod OneRead

@@ -5,7 +5,7 @@ ghost use Rattle.contract_rows.specs.Memory.{FirstPieceOnly, KnownFrameTakenForT
 ghost use Rattle.contract_rows.specs.Drives.{TwelvePlaceBurst, BurstPastTheEnd, WritesForgotten, WriteHeldBack, SectorWrittenWithoutItsZeros, MarkTestedBeforeTheArmedFault, NewestNoiseStrikes, ByteCountNotShortened, CompletionOneSectorEarly, MarkedSectorLetThrough, MarkedBlockWritten};
 ghost use Rattle.contract_rows.specs.Machine.{FirstFailureIsFinal, OneSeekAtATime, RtcForgotten, RetryNamesTheFirstBlock, ReplacementForwardedAgain, NewestAnswerTakenFirst, AnswerAtAnotherLine, AllOthersLeaveTheAdapter, HighestUnitFirst, FramesBeforePartition, FirstBlocksLoaded};
 ghost use Rattle.contract_rows.specs.Bytes.{WriteNotAtItsHome, NeighbourWritten, OtherBlockRead, BurstElsewhere, UnusableBlockDone, UnmarkedBlockForwarded, OtherEntryForwarded, TableOfAnotherPack, AnsweredWithOtherBytes};
-ghost use Rattle.contract_rows.specs.Slots.{FrameLost, BitLeftOnBehindTheArrival, BitOfAnotherUnit};
+ghost use Rattle.contract_rows.specs.Slots.{FrameLost, PutBackUnderAnotherKey, BitLeftOnBehindTheArrival, BitOfAnotherUnit};
 
 /// Main memory may not be left so: by its window's `Writes`, what it knows of its frames, what it lent, and how many frames it needs.
 pub fn memory_law()
@@ -51,6 +51,7 @@ pub fn machine_law()
 /// Slots and the units' row of bits may not be left so, by what they keep.
 pub fn slots_law()
     ensures frame_lost { FrameLost }
+    ensures put_back_under_another_key { PutBackUnderAnotherKey }
     ensures bit_left_on_behind_the_arrival { BitLeftOnBehindTheArrival }
     ensures bit_of_another_unit { BitOfAnotherUnit }
 {}
