@@ -6,3 +6,6 @@ mod Strikes
 mod Stopping
 mod Commands
 mod Texts
+mod Raw
+mod Cache
+mod Cached

@@ -6,3 +6,9 @@ pub mod Strikes
 pub mod Stopping
 pub mod Commands
 pub mod Texts
+pub mod Reads
+pub mod Tables
+pub mod Formats
+pub mod Raw
+pub mod Cache
+pub mod Cached

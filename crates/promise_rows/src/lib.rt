@@ -1,5 +1,10 @@
-//! Wrong outcomes of the program, each refused by what is promised of it. The functions here do nothing: each stands for a law.
+//! Wrong outcomes of the program, each refused by what is promised of it: of `play`, the tool and `exercise`; of packs and the commands
+//! over them (`packs`); and of requests that are waited for, raw transfers and the cache (`transfers`). The functions here do nothing:
+//! each stands for a law.
 #![tactic(auto)]
+
+pub mod packs;
+pub mod transfers;
 
 ghost use Rattle.promise_rows.specs.Playing.{AlwaysAFault, AnswersKeptBack, BlockBeforeItsEvent, BlockBehindAStop, BlockOfNoUnit, NoiseLineUncounted, ShortLastBlockWhole};
 ghost use Rattle.promise_rows.specs.Naming.{LaterUnitNamed, FittingLengthNamed, FirstEventUntold, OtherRunByOtherTables, ReadsLengthen, NotAsLongAsWritten, TwoLinesUnderWay, TwoEventsUnderWay, MarkGoneBehindAFailure};

@@ -1,5 +1,5 @@
-use Rattle.transfer_rows.proofs.Raw.{done_in_blocks, dump_at_the_front, outside_by_one, edge_without_its_bytes}
-use Rattle.transfer_rows.proofs.raw_rows.Goals as goal
+use Rattle.promise_rows.proofs.Raw.{done_in_blocks, dump_at_the_front, outside_by_one, edge_without_its_bytes}
+use Rattle.promise_rows.proofs.transfers.raw_rows.Goals as goal
 
 pub returns-clause-done_in_blocks : goal.returns-clause-done_in_blocks
 returns-clause-done_in_blocks c = done_in_blocks

@@ -7,7 +7,7 @@ use Rattle.subsystem_spec.specs.Requests.{Request, WriteOk}
 use Rattle.driver_laws.specs.rules.Machine.{Blocks}
 use Rattle.driver_laws.specs.rules.Waited.{answer_at, answer_by, first_unusable, unusable_or}
 use Rattle.cached_run.specs.Answers.{first_by}
-use Rattle.transfer_rows.specs.Cached.{LastSyncForgotten, BlockOlderThanTheLastSync, LastUnusableBlockOk, FaultCalledThatOfASink, WriteAnsweredBeforeItIsDone, UnitBehindASync}
+use Rattle.promise_rows.specs.Cached.{LastSyncForgotten, BlockOlderThanTheLastSync, LastUnusableBlockOk, FaultCalledThatOfASink, WriteAnsweredBeforeItIsDone, UnitBehindASync}
 
 pub last_sync_forgotten : LastSyncForgotten
 last_sync_forgotten script old new out plays unit block kind there less other = other (plays.held unit block kind there less)

@@ -3,8 +3,8 @@ use Rattle.std.proofs.lemmas.Bool.Decides.{nat_tests}
 use Rattle.std.proofs.lemmas.List.{length-take}
 use Rattle.pack_geometry.specs.Pack.{Pack, block_at, window, with_block, with_written}
 use Rattle.pack_geometry.proofs.PackLaws.{get_or-window, get_or-with_window_here}
-use Rattle.pack_outcomes.specs.Reads.{ReadOfAnotherUnit, NextBlockRead, FirstByteLeftOut, WholePieceKept, WindowKeptAfterFailedWrite}
-use Rattle.pack_outcomes.proofs.reads_law.Goals as goal
+use Rattle.promise_rows.specs.Reads.{ReadOfAnotherUnit, NextBlockRead, FirstByteLeftOut, WholePieceKept, WindowKeptAfterFailedWrite}
+use Rattle.promise_rows.proofs.packs.reads_law.Goals as goal
 
 -- the first byte of a window
 first : (size at : ℕ) (image : List ℕ) → 0 < size → get_or (window size at image) 0 0 ≡ get_or image at 0

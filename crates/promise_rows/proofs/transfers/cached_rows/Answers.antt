@@ -1,5 +1,5 @@
-use Rattle.transfer_rows.proofs.Cached.{last_sync_forgotten, block_older_than_the_last_sync, last_unusable_block_ok, fault_called_that_of_a_sink, write_answered_before_it_is_done, unit_behind_a_sync}
-use Rattle.transfer_rows.proofs.cached_rows.Goals as goal
+use Rattle.promise_rows.proofs.Cached.{last_sync_forgotten, block_older_than_the_last_sync, last_unusable_block_ok, fault_called_that_of_a_sink, write_answered_before_it_is_done, unit_behind_a_sync}
+use Rattle.promise_rows.proofs.transfers.cached_rows.Goals as goal
 
 pub returns-clause-last_sync_is_forgotten : goal.returns-clause-last_sync_is_forgotten
 returns-clause-last_sync_is_forgotten c = last_sync_forgotten

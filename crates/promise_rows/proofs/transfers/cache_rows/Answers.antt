@@ -1,5 +1,5 @@
-use Rattle.transfer_rows.proofs.Cache.{changed_entry_dropped, another_block_written_back, refused_insertion_not_counted, sync_stops_early, refused_insertion_promotes, another_block_written, block_always_found}
-use Rattle.transfer_rows.proofs.cache_rows.Goals as goal
+use Rattle.promise_rows.proofs.Cache.{changed_entry_dropped, another_block_written_back, refused_insertion_not_counted, sync_stops_early, refused_insertion_promotes, another_block_written, block_always_found}
+use Rattle.promise_rows.proofs.transfers.cache_rows.Goals as goal
 
 pub returns-clause-changed_entry_is_dropped_unwritten : goal.returns-clause-changed_entry_is_dropped_unwritten
 returns-clause-changed_entry_is_dropped_unwritten c = changed_entry_dropped

@@ -1,10 +1,9 @@
 //! Wrong outcomes of requests that are waited for, of raw transfers and of the cache, each refused by what is promised of them. The
 //! functions here do nothing: each stands for a law.
-#![tactic(auto)]
 
-ghost use Rattle.transfer_rows.specs.Raw.{DrainEndsEarly, ReadComesFromThePack, DriveIsOffline, WriteBeforeItsLines, DoneInBlocks, DumpAtTheFront, OutsideByOne, EdgeWithoutItsBytes};
-ghost use Rattle.transfer_rows.specs.Cache.{ChangedEntryDropped, AnotherBlockWrittenBack, RefusedInsertionNotCounted, SyncStopsEarly, RefusedInsertionPromotes, AnotherBlockWritten, BlockAlwaysFound};
-ghost use Rattle.transfer_rows.specs.Cached.{LastSyncForgotten, BlockOlderThanTheLastSync, LastUnusableBlockOk, FaultCalledThatOfASink, WriteAnsweredBeforeItIsDone, UnitBehindASync};
+ghost use Rattle.promise_rows.specs.Raw.{DrainEndsEarly, ReadComesFromThePack, DriveIsOffline, WriteBeforeItsLines, DoneInBlocks, DumpAtTheFront, OutsideByOne, EdgeWithoutItsBytes};
+ghost use Rattle.promise_rows.specs.Cache.{ChangedEntryDropped, AnotherBlockWrittenBack, RefusedInsertionNotCounted, SyncStopsEarly, RefusedInsertionPromotes, AnotherBlockWritten, BlockAlwaysFound};
+ghost use Rattle.promise_rows.specs.Cached.{LastSyncForgotten, BlockOlderThanTheLastSync, LastUnusableBlockOk, FaultCalledThatOfASink, WriteAnsweredBeforeItIsDone, UnitBehindASync};
 
 /// Of a request that is waited for: it has ended, a read gives the bytes of its blocks, nothing hinders a driver that is ready for one, and
 /// before a block is written all lines are sent.

@@ -14,8 +14,8 @@ use Rattle.pack_commands.specs.Formats.{format_status, format_text}
 use Rattle.pack_format.specs.declared.fault.FormatFault.{FormatFault}
 use Rattle.pack_format.specs.declared.fault.FormatFault.TheVariants.{Memory, TooLong, TooMany, Spare, NoCopy, Differs, Store}
 use Rattle.pack_format.proofs.SurveyLaws.{count_more}
-use Rattle.pack_outcomes.specs.Formats.{HeadsLeftWhereTheyAre, AnotherBlockTold, CopyLeftOut, ZerosLeftOut, FailedReadingPassedOver, AnotherUnitNamedTooLong, KindTakenForAnother}
-use Rattle.pack_outcomes.proofs.formats_law.Goals as goal
+use Rattle.promise_rows.specs.Formats.{HeadsLeftWhereTheyAre, AnotherBlockTold, CopyLeftOut, ZerosLeftOut, FailedReadingPassedOver, AnotherUnitNamedTooLong, KindTakenForAnother}
+use Rattle.promise_rows.proofs.packs.formats_law.Goals as goal
 
 heads_left : HeadsLeftWhereTheyAre
 heads_left kind block drive below aimed = less drive.cc _ aimed.heads below

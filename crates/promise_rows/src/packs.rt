@@ -1,10 +1,9 @@
 //! Outcomes of wrong bodies of the crates that read and write packs, from streams to the commands `bad144` and `format`, each refused by
 //! the words of the contract that the body would have to keep. The functions here do nothing: each stands for a law.
-#![tactic(auto)]
 
-ghost use Rattle.pack_outcomes.specs.Reads.{ReadOfAnotherUnit, NextBlockRead, FirstByteLeftOut, WholePieceKept, WindowKeptAfterFailedWrite};
-ghost use Rattle.pack_outcomes.specs.Tables.{EntryAfterTheEnd, ReplacementsLeftBehind, LastCopyTaken, MarkedCopyTaken, TooLongAtTheLastByte, WiderMask};
-ghost use Rattle.pack_outcomes.specs.Formats.{HeadsLeftWhereTheyAre, AnotherBlockTold, CopyLeftOut, ZerosLeftOut, FailedReadingPassedOver, AnotherUnitNamedTooLong, KindTakenForAnother};
+ghost use Rattle.promise_rows.specs.Reads.{ReadOfAnotherUnit, NextBlockRead, FirstByteLeftOut, WholePieceKept, WindowKeptAfterFailedWrite};
+ghost use Rattle.promise_rows.specs.Tables.{EntryAfterTheEnd, ReplacementsLeftBehind, LastCopyTaken, MarkedCopyTaken, TooLongAtTheLastByte, WiderMask};
+ghost use Rattle.promise_rows.specs.Formats.{HeadsLeftWhereTheyAre, AnotherBlockTold, CopyLeftOut, ZerosLeftOut, FailedReadingPassedOver, AnotherUnitNamedTooLong, KindTakenForAnother};
 
 /// Packs and streams may not be read and written so, and windows and texts may not be kept so.
 pub fn reads_law()

@@ -11,8 +11,8 @@ use Rattle.pack_geometry.proofs.PackTableLaws.{table_once}
 use Rattle.pack_geometry.proofs.TableEditLaws.{after_writes}
 use Rattle.bad144_tool.specs.Adding.{edit_of}
 use Rattle.bad144_tool.proofs.TableEdits.{adds_as, adds_edits}
-use Rattle.pack_outcomes.specs.Tables.{EntryAfterTheEnd, ReplacementsLeftBehind, LastCopyTaken, MarkedCopyTaken, TooLongAtTheLastByte}
-use Rattle.pack_outcomes.proofs.tables_law.Goals as goal
+use Rattle.promise_rows.specs.Tables.{EntryAfterTheEnd, ReplacementsLeftBehind, LastCopyTaken, MarkedCopyTaken, TooLongAtTheLastByte}
+use Rattle.promise_rows.proofs.packs.tables_law.Goals as goal
 
 after_the_end : EntryAfterTheEnd
 after_the_end kind bytes places place i old less new =

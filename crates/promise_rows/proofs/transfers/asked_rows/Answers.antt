@@ -1,5 +1,5 @@
-use Rattle.transfer_rows.proofs.Raw.{drain_ends_early, read_comes_from_the_pack, drive_is_offline, write_before_its_lines}
-use Rattle.transfer_rows.proofs.asked_rows.Goals as goal
+use Rattle.promise_rows.proofs.Raw.{drain_ends_early, read_comes_from_the_pack, drive_is_offline, write_before_its_lines}
+use Rattle.promise_rows.proofs.transfers.asked_rows.Goals as goal
 
 pub returns-clause-drain_ends_early : goal.returns-clause-drain_ends_early
 returns-clause-drain_ends_early c = drain_ends_early

@@ -8,7 +8,7 @@ use Rattle.driver_laws.specs.rules.Entries.{State, entry_of, with_room}
 use Rattle.driver_laws.specs.rules.Calls.{Done, entry, read_by, read_done, read_found}
 use Rattle.driver_laws.specs.rules.Contents.{bytes_or}
 use Rattle.cached_run.specs.Passes.{map_at}
-use Rattle.transfer_rows.specs.Cache.{ChangedEntryDropped, AnotherBlockWrittenBack, RefusedInsertionNotCounted, SyncStopsEarly, RefusedInsertionPromotes, AnotherBlockWritten, BlockAlwaysFound}
+use Rattle.promise_rows.specs.Cache.{ChangedEntryDropped, AnotherBlockWrittenBack, RefusedInsertionNotCounted, SyncStopsEarly, RefusedInsertionPromotes, AnotherBlockWritten, BlockAlwaysFound}
 
 pub changed_entry_dropped : ChangedEntryDropped
 changed_entry_dropped line unit block given e s s' old new reads tells tables fit held gone other =

@@ -1,3 +1,0 @@
-mod Raw
-mod Cache
-mod Cached

@@ -1,3 +1,0 @@
-pub mod Raw
-pub mod Cache
-pub mod Cached
