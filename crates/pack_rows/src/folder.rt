@@ -1,0 +1,210 @@
+// A folder in memory whose calls are short, fail or are interrupted.
+ghost use Rattle.std.specs.Prelude.{◌<◌, ◌≤◌, length, IfOk};
+
+use crate::steps::{Call, Step, failures_over};
+use Call::{Length, Mark, Marked, Read, Write};
+use Step::Of;
+use outside_files::folder::{PackFolder, Part};
+use std::io;
+use std::io::ErrorKind;
+
+/// How the calls of a folder go, which are counted from 1.
+#[derive(Clone, Copy)]
+struct Habit {
+    /// By how many bytes a call is short of what is asked, if more than one byte is left of it.
+    short: usize,
+    /// The call that fails.
+    fail: u64,
+    /// The call before which two are interrupted.
+    interrupted: u64,
+}
+
+/// A file in memory.
+#[derive(Clone, Copy)]
+struct MemFile {
+    bytes: [u8; 8192],
+    length: u64,
+}
+
+/// The two files of unit 0 in memory.
+#[derive(Drop)]
+struct MemFolder {
+    files: [MemFile; 2],
+    habit: Habit,
+    calls: u64,
+    interrupts: u8,
+}
+
+/// A file that is empty.
+const EMPTY: MemFile = MemFile {
+    bytes: [0; 8192],
+    length: 0,
+};
+
+impl MemFolder {
+    /// A folder with an image of 700 bytes 255.
+    fn new(habit: Habit) -> MemFolder {
+        let mut image = EMPTY;
+        image.bytes[..700].fill(0xFF);
+        image.length = 700;
+        MemFolder {
+            files: [image, EMPTY],
+            habit,
+            calls: 0,
+            interrupts: 0,
+        }
+    }
+
+    /// How many bytes the next call moves of those that are asked.
+    fn next(&mut self, asked: usize) -> io::Result<usize>
+        ensures bound { IfOk result (λ n. n ≤ asked) }
+        ensures some { IfOk result (λ n. 0 < asked → 0 < n) }
+    {
+        if self.interrupts < 2 && self.calls.saturating_add(1) == self.habit.interrupted {
+            self.interrupts += 1;
+            return Err(io::Error::from(ErrorKind::Interrupted));
+        }
+        self.calls = self.calls.saturating_add(1);
+        if self.calls == self.habit.fail {
+            return Err(io::Error::from(ErrorKind::Other));
+        }
+        if asked > self.habit.short {
+            return Ok(asked - self.habit.short);
+        }
+        Ok(asked.min(1))
+    }
+}
+
+impl PackFolder for MemFolder {
+    ghost use Rattle.std.specs.Prelude.{false};
+    ghost use Rattle.pack_geometry.specs.Pack.{empty_pack};
+
+    ghost tells = { λ _. false };
+
+    ghost held = { λ _. λ _. empty_pack };
+
+    fn length(&mut self, unit: u8, part: Part) -> io::Result<u64> {
+        self.next(0)?;
+        Ok(
+            self.files
+                .get(part.number(unit))
+                .map_or(0, |file| file.length),
+        )
+    }
+
+    fn read_at(&mut self, unit: u8, part: Part, at: u64, into: &mut [u8]) -> io::Result<usize> {
+        let most = self.next(into.len())?;
+        let Some(file) = self.files.get(part.number(unit)) else {
+            return Ok(0);
+        };
+        let left = file.length.saturating_sub(at);
+        let count = usize::try_from(left).unwrap_or(most).min(most);
+        for (i, byte) in into.iter_mut().take(count).enumerate() {
+            let place = at.saturating_add(i as u64) as usize;
+            *byte = file.bytes.get(place).copied().unwrap_or(0);
+        }
+        Ok(count)
+    }
+
+    fn write_at(&mut self, unit: u8, part: Part, at: u64, from: &[u8]) -> io::Result<usize> {
+        let count = self.next(from.len())?;
+        let Some(file) = self.files.get_mut(part.number(unit)) else {
+            return Err(io::Error::from(ErrorKind::NotFound));
+        };
+        for (i, byte) in from.iter().take(count).enumerate() {
+            let place = at.saturating_add(i as u64) as usize;
+            if let Some(kept) = file.bytes.get_mut(place) {
+                *kept = *byte;
+            }
+        }
+        file.length = file.length.max(at.saturating_add(count as u64));
+        Ok(count)
+    }
+}
+
+/// What calls answer on packs in this folder, in turn on blocks that are there, reach behind the image's end, and lie behind it.
+static CALLS: [Step; 34] = [
+    Of(0, Length, Some(700)),
+    Of(0, Read(0), Some(0xFFFF)),
+    Of(0, Read(1), Some(0xFF00)),
+    Of(0, Read(7), Some(0)),
+    Of(0, Read(8), Some(0)),
+    Of(0, Read(u32::MAX), Some(0)),
+    Of(4, Read(0), Some(0)),
+    Of(0, Write(1, 5), Some(0)),
+    Of(0, Length, Some(1024)),
+    Of(0, Read(1), Some(0x0505)),
+    Of(0, Read(0), Some(0xFFFF)),
+    Of(0, Read(2), Some(0)),
+    Of(0, Write(15, 6), Some(0)),
+    Of(0, Length, Some(8192)),
+    Of(0, Read(14), Some(0)),
+    Of(0, Read(15), Some(0x0606)),
+    Of(0, Read(16), Some(0)),
+    Of(0, Write(15, 8), Some(0)),
+    Of(0, Read(15), Some(0x0808)),
+    Of(4, Length, Some(0)),
+    Of(4, Write(0, 1), None),
+    Of(4, Read(0), Some(0)),
+    Of(0, Marked(1), Some(0)),
+    Of(0, Mark(1, true), Some(0)),
+    Of(0, Marked(1), Some(1)),
+    Of(0, Marked(0), Some(0)),
+    Of(0, Mark(9, true), Some(0)),
+    Of(0, Marked(9), Some(1)),
+    Of(0, Marked(8), Some(0)),
+    Of(0, Mark(1, false), Some(0)),
+    Of(0, Marked(1), Some(0)),
+    Of(0, Mark(0, true), Some(0)),
+    Of(0, Marked(0), Some(1)),
+    Of(0, Marked(5000), Some(0)),
+];
+
+/// How many of these calls fail once where those of the folder go so; `None` where one is answered otherwise.
+fn failures_by(rt: &HostRuntime, short: usize, fail: u64, interrupted: u64) -> Option<usize> {
+    let habit = Habit {
+        short,
+        fail,
+        interrupted,
+    };
+    failures_over(rt, MemFolder::new(habit), &CALLS)
+}
+
+/// How calls go that are short by so many bytes, and of which one is interrupted twice.
+static HABITS: [(usize, u64); 8] = [
+    (0, 0),
+    (1, 0),
+    (100, 0),
+    (511, 0),
+    (0, 1),
+    (0, 5),
+    (1, 9),
+    (511, 700),
+];
+
+/// Calls that are short or interrupted are made again, and nothing fails.
+#[test]
+fn short_and_interrupted_calls(rt: HostRuntime) {
+    for (short, interrupted) in &HABITS {
+        assert!(rt; failures_by(&rt, *short, 0, *interrupted) == Some(0));
+    }
+}
+
+/// How many of the first calls of a folder make one on the packs fail where they fail themselves, each in its turn: of those that read
+/// ahead none does, since the block is then read alone. 0 where something else is answered.
+fn count_of_failures(rt: &HostRuntime) -> usize {
+    let mut count = 0usize;
+    for call in 1..40u64 {
+        match failures_by(rt, 100, call, 0) {
+            Some(failures) => count = count.saturating_add(failures),
+            None => return 0,
+        }
+    }
+    count
+}
+
+#[test]
+fn each_call_fails(rt: HostRuntime) {
+    let count = count_of_failures(&rt);
+    assert!(rt; count > 3);
+}
