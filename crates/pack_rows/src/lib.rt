@@ -8,8 +8,6 @@ mod files;
 #[cfg(test)]
 mod folder;
 #[cfg(test)]
-mod guarded;
-#[cfg(test)]
 mod steps;
 #[cfg(test)]
 mod streams;

@@ -16,7 +16,7 @@ pub(crate) enum Call {
     Mark(u32, bool),
 }
 
-/// What is done to a file or a folder, or asked of it.
+/// What is done to a file, or asked of it.
 #[derive(Clone, Copy)]
 pub(crate) enum Deed {
     Write(&'static [u8]),
@@ -24,8 +24,6 @@ pub(crate) enum Deed {
     IsMissing,
     Link(&'static str),
     Remove,
-    MakeFolder,
-    RemoveFolder,
 }
 
 /// A deed that is to be done, or a call and what it answers: `None` where it fails.
@@ -35,19 +33,22 @@ pub(crate) enum Step {
     Of(u8, Call, Option<u64>),
 }
 
+/// Whether a file holds these bytes.
+fn holds(rt: &HostRuntime, name: &str, bytes: &[u8]) -> bool {
+    match fs::read(rt, name) {
+        Ok(held) => held.as_slice() == bytes,
+        Err(_) => false,
+    }
+}
+
 /// Whether a deed is done, or is so.
 pub(crate) fn is_done(rt: &HostRuntime, name: &str, deed: Deed) -> bool {
     match deed {
         Deed::Write(bytes) => fs::write(rt, name, bytes).is_ok(),
-        Deed::Holds(bytes) => match fs::read(rt, name) {
-            Ok(held) => held.as_slice() == bytes,
-            Err(_) => false,
-        },
+        Deed::Holds(bytes) => holds(rt, name, bytes),
         Deed::IsMissing => matches!(fs::exists(rt, name), Ok(false)),
         Deed::Link(to) => symlink(rt, to, name).is_ok(),
         Deed::Remove => fs::remove_file(rt, name).is_ok(),
-        Deed::MakeFolder => fs::create_dir(rt, name).is_ok(),
-        Deed::RemoveFolder => fs::remove_dir(rt, name).is_ok(),
     }
 }
 

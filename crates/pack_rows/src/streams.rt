@@ -129,9 +129,7 @@ fn file_sink(rt: HostRuntime) {
         && is_done(&rt, "hp.trace", Deed::Holds(b"idle 1\nidle 2\n"))
         && takes_line(&rt, "hp.trace")
         && is_done(&rt, "hp.trace", Deed::Holds(b"idle 1\n"))
-        && is_done(&rt, "hp.trace", Deed::Remove)
-        && is_done(&rt, "hp.trace", Deed::MakeFolder);
-    let is_refused = !takes_lines(&rt, "hp.trace") && is_done(&rt, "hp.trace", Deed::RemoveFolder);
+        && is_done(&rt, "hp.trace", Deed::Remove);
     let is_full = !takes_lines(&rt, "/dev/full") && !takes_line(&rt, "/dev/full");
-    assert!(rt; is_taken && is_refused && is_full);
+    assert!(rt; is_taken && !takes_lines(&rt, ".") && is_full);
 }
