@@ -1,4 +1,4 @@
-// The packs in the files of the working folder, behind windows.
+// The packs in the files of the working folder, behind windows, and a sink that makes its file there.
 use crate::steps::{Call, Deed, Step, failures_over};
 use Call::{Length, Mark, Marked, Read, Write};
 use Step::{Of, On};
@@ -115,8 +115,8 @@ static FILES: [Step; 99] = [
     On("hp15.dsk", Deed::Remove),
 ];
 
-/// What other packs over the same files answer then.
-static AGAIN: [Step; 12] = [
+/// What other packs over the same files answer then; and what a sink takes, which writes over an older text.
+static AGAIN: [Step; 18] = [
     Of(28, Read(3), Some(0x0505)),
     Of(28, Marked(1), Some(0)),
     Of(28, Marked(4), Some(1)),
@@ -129,10 +129,21 @@ static AGAIN: [Step; 12] = [
     On("hp25.dsk", Deed::Remove),
     On("hp25.bad", Deed::Remove),
     On("hp23.dsk", Deed::Remove),
+    On("hp.trace", Deed::Write(b"an older and longer text")),
+    On("hp.trace", Deed::TakesLines),
+    On("hp.trace", Deed::Holds(b"idle 1\nidle 2\n")),
+    On("hp.trace", Deed::Remove),
+    On(".", Deed::TakesNone),
+    On("/dev/full", Deed::TakesNone),
 ];
+
+/// Whether all these steps go right on new packs.
+fn go_right(rt: &HostRuntime, steps: &[Step]) -> bool {
+    failures_over(rt, OsFolder::new(rt), steps) == Some(0)
+}
 
 #[test]
 fn packs_in_files(rt: HostRuntime) {
-    assert!(rt; failures_over(&rt, OsFolder::new(&rt), &FILES) == Some(0));
-    assert!(rt; failures_over(&rt, OsFolder::new(&rt), &AGAIN) == Some(0));
+    let are_right = go_right(&rt, &FILES) && go_right(&rt, &AGAIN);
+    assert!(rt; are_right);
 }

@@ -170,23 +170,24 @@ fn failures_by(rt: &HostRuntime, short: usize, fail: u64, interrupted: u64) -> O
     failures_over(rt, MemFolder::new(habit), &CALLS)
 }
 
-/// How calls go that are short by so many bytes, and of which one is interrupted twice.
-static HABITS: [(usize, u64); 8] = [
-    (0, 0),
-    (1, 0),
-    (100, 0),
-    (511, 0),
-    (0, 1),
-    (0, 5),
-    (1, 9),
-    (511, 700),
-];
+/// Whether no call fails where those of the folder are short by so many bytes, each one of them interrupted in its turn.
+fn are_whole(rt: &HostRuntime, short: usize) -> bool {
+    for call in 0..60u64 {
+        if failures_by(rt, short, 0, call) != Some(0) {
+            return false;
+        }
+    }
+    true
+}
+
+/// By how many bytes calls are short.
+static SHORT: [usize; 4] = [0, 1, 100, 511];
 
 /// Calls that are short or interrupted are made again, and nothing fails.
 #[test]
 fn short_and_interrupted_calls(rt: HostRuntime) {
-    for (short, interrupted) in &HABITS {
-        assert!(rt; failures_by(&rt, *short, 0, *interrupted) == Some(0));
+    for short in &SHORT {
+        assert!(rt; are_whole(&rt, *short));
     }
 }
 
@@ -194,7 +195,7 @@ fn short_and_interrupted_calls(rt: HostRuntime) {
 /// ahead none does, since the block is then read alone. 0 where something else is answered.
 fn count_of_failures(rt: &HostRuntime) -> usize {
     let mut count = 0usize;
-    for call in 1..40u64 {
+    for call in 1..60u64 {
         match failures_by(rt, 100, call, 0) {
             Some(failures) => count = count.saturating_add(failures),
             None => return 0,
@@ -205,6 +206,5 @@ fn count_of_failures(rt: &HostRuntime) -> usize {
 
 #[test]
 fn each_call_fails(rt: HostRuntime) {
-    let count = count_of_failures(&rt);
-    assert!(rt; count > 3);
+    assert!(rt; count_of_failures(&rt) > 3);
 }

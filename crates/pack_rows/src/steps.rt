@@ -1,7 +1,9 @@
 // Steps on packs, and on the files of the working folder.
+use outside_files::file_sink::FileSink;
 use outside_files::files::FilePacks;
 use outside_files::folder::PackFolder;
 use outside_traits::traits::Packs;
+use outside_traits::whole::write_all;
 use pack_windows::window_packs::WindowPacks;
 use std::fs;
 use std::os::unix::fs::symlink;
@@ -24,6 +26,8 @@ pub(crate) enum Deed {
     IsMissing,
     Link(&'static str),
     Remove,
+    TakesLines,
+    TakesNone,
 }
 
 /// A deed that is to be done, or a call and what it answers: `None` where it fails.
@@ -41,14 +45,22 @@ fn holds(rt: &HostRuntime, name: &str, bytes: &[u8]) -> bool {
     }
 }
 
+/// Whether a sink that makes its file takes two lines.
+fn takes_lines(rt: &HostRuntime, name: &str) -> bool {
+    let mut file = FileSink::new(rt, name);
+    write_all(&mut file, b"idle 1\n").is_ok() && write_all(&mut file, b"idle 2\n").is_ok()
+}
+
 /// Whether a deed is done, or is so.
-pub(crate) fn is_done(rt: &HostRuntime, name: &str, deed: Deed) -> bool {
+fn is_done(rt: &HostRuntime, name: &str, deed: Deed) -> bool {
     match deed {
         Deed::Write(bytes) => fs::write(rt, name, bytes).is_ok(),
         Deed::Holds(bytes) => holds(rt, name, bytes),
         Deed::IsMissing => matches!(fs::exists(rt, name), Ok(false)),
         Deed::Link(to) => symlink(rt, to, name).is_ok(),
         Deed::Remove => fs::remove_file(rt, name).is_ok(),
+        Deed::TakesLines => takes_lines(rt, name),
+        Deed::TakesNone => !takes_lines(rt, name),
     }
 }
 

@@ -1,6 +1,4 @@
-// Sources and sinks over std's readers and writers, and a sink that makes its file.
-use crate::steps::{Deed, is_done};
-use outside_files::file_sink::FileSink;
+// Sources and sinks over std's readers and writers.
 use outside_files::streams::{StdSink, StdSource};
 use outside_traits::traits::Source;
 use outside_traits::whole::write_all;
@@ -105,31 +103,4 @@ fn streams_of_std(rt: HostRuntime) {
     for row in &TAKEN {
         assert!(rt; writes(&mut Vec::new(rt.alloc()), row));
     }
-}
-
-/// Whether a sink that makes the file of this name takes two lines.
-fn takes_lines(rt: &HostRuntime, name: &str) -> bool {
-    let mut file = FileSink::new(rt, name);
-    write_all(&mut file, b"idle 1\n").is_ok() && write_all(&mut file, b"idle 2\n").is_ok()
-}
-
-/// Whether a file that is open takes a line.
-fn takes_line(rt: &HostRuntime, name: &str) -> bool {
-    match fs::create(rt, name) {
-        Ok(file) => write_all(&mut StdSink::new(file), b"idle 1\n").is_ok(),
-        Err(_) => false,
-    }
-}
-
-/// An older text is written over; a folder takes none, and neither does a full disk.
-#[test]
-fn file_sink(rt: HostRuntime) {
-    let is_taken = is_done(&rt, "hp.trace", Deed::Write(b"an older and longer text"))
-        && takes_lines(&rt, "hp.trace")
-        && is_done(&rt, "hp.trace", Deed::Holds(b"idle 1\nidle 2\n"))
-        && takes_line(&rt, "hp.trace")
-        && is_done(&rt, "hp.trace", Deed::Holds(b"idle 1\n"))
-        && is_done(&rt, "hp.trace", Deed::Remove);
-    let is_full = !takes_lines(&rt, "/dev/full") && !takes_line(&rt, "/dev/full");
-    assert!(rt; is_taken && !takes_lines(&rt, ".") && is_full);
 }
