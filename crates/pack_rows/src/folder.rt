@@ -128,14 +128,14 @@ static CALLS: [Step; 34] = [
     Of(0, Read(0), Some(0xFFFF)),
     Of(0, Read(1), Some(0xFF00)),
     Of(0, Read(7), Some(0)),
-    Of(0, Read(8), Some(0)),
-    Of(0, Read(u32::MAX), Some(0)),
-    Of(4, Read(0), Some(0)),
     Of(0, Write(1, 5), Some(0)),
     Of(0, Length, Some(1024)),
     Of(0, Read(1), Some(0x0505)),
     Of(0, Read(0), Some(0xFFFF)),
     Of(0, Read(2), Some(0)),
+    Of(0, Read(8), Some(0)),
+    Of(0, Read(u32::MAX), Some(0)),
+    Of(4, Read(0), Some(0)),
     Of(0, Write(15, 6), Some(0)),
     Of(0, Length, Some(8192)),
     Of(0, Read(14), Some(0)),
@@ -191,12 +191,11 @@ fn short_and_interrupted_calls(rt: HostRuntime) {
     }
 }
 
-/// How many of the first calls of a folder make one on the packs fail where they fail themselves, each in its turn: of those that read
-/// ahead none does, since the block is then read alone. 0 where something else is answered.
+/// How many calls on the packs fail where those of the folder do, each in its turn; 0 where one is answered otherwise.
 fn count_of_failures(rt: &HostRuntime) -> usize {
     let mut count = 0usize;
     for call in 1..60u64 {
-        match failures_by(rt, 100, call, 0) {
+        match failures_by(rt, 0, call, 0) {
             Some(failures) => count = count.saturating_add(failures),
             None => return 0,
         }
@@ -204,7 +203,15 @@ fn count_of_failures(rt: &HostRuntime) -> usize {
     count
 }
 
+/// By how many bytes calls are short, and one of those that the first write takes: three blocks are read before by two calls.
+static FIRST_WRITE: [(usize, u64); 3] = [(0, 4), (100, 4), (100, 6)];
+
+/// Each length, write and mark that fails on the folder fails on the packs. Where it is made again all is well, also where a block was
+/// written in part. No read fails: where it can't read ahead, the block is read alone.
 #[test]
 fn each_call_fails(rt: HostRuntime) {
-    assert!(rt; count_of_failures(&rt) > 3);
+    for (short, call) in &FIRST_WRITE {
+        assert!(rt; failures_by(&rt, *short, *call, 0) == Some(1));
+    }
+    assert!(rt; count_of_failures(&rt) == 11);
 }
