@@ -55,6 +55,33 @@ impl MemFolder {
         }
     }
 
+    /// The bytes of a file from a place on.
+    fn rest(&self, number: usize, at: u64) -> &[u8] {
+        match self.files.get(number) {
+            Some(file) => file
+                .bytes
+                .get(at as usize..file.length as usize)
+                .unwrap_or(b""),
+            None => b"",
+        }
+    }
+
+    /// Puts bytes at a place of a file, and answers whether there is room for them.
+    fn put(&mut self, number: usize, at: u64, from: &[u8]) -> bool {
+        let Some(file) = self.files.get_mut(number) else {
+            return false;
+        };
+        let end = at.saturating_add(from.len() as u64);
+        let Some(room) = file.bytes.get_mut(at as usize..end as usize) else {
+            return false;
+        };
+        if room.len() == from.len() {
+            room.copy_from_slice(from);
+        }
+        file.length = file.length.max(end);
+        true
+    }
+
     /// How many bytes the next call moves of those that are asked.
     fn next(&mut self, asked: usize) -> io::Result<usize>
         ensures bound { IfOk result (λ n. n ≤ asked) }
@@ -94,31 +121,16 @@ impl PackFolder for MemFolder {
 
     fn read_at(&mut self, unit: u8, part: Part, at: u64, into: &mut [u8]) -> io::Result<usize> {
         let most = self.next(into.len())?;
-        let Some(file) = self.files.get(part.number(unit)) else {
-            return Ok(0);
-        };
-        let left = file.length.saturating_sub(at);
-        let count = usize::try_from(left).unwrap_or(most).min(most);
-        for (i, byte) in into.iter_mut().take(count).enumerate() {
-            let place = at.saturating_add(i as u64) as usize;
-            *byte = file.bytes.get(place).copied().unwrap_or(0);
-        }
-        Ok(count)
+        let mut rest = self.rest(part.number(unit), at);
+        io::Read::read(&mut rest, &mut into[..most])
     }
 
     fn write_at(&mut self, unit: u8, part: Part, at: u64, from: &[u8]) -> io::Result<usize> {
         let count = self.next(from.len())?;
-        let Some(file) = self.files.get_mut(part.number(unit)) else {
-            return Err(io::Error::from(ErrorKind::NotFound));
-        };
-        for (i, byte) in from.iter().take(count).enumerate() {
-            let place = at.saturating_add(i as u64) as usize;
-            if let Some(kept) = file.bytes.get_mut(place) {
-                *kept = *byte;
-            }
+        if self.put(part.number(unit), at, &from[..count]) {
+            return Ok(count);
         }
-        file.length = file.length.max(at.saturating_add(count as u64));
-        Ok(count)
+        Err(io::Error::from(ErrorKind::NotFound))
     }
 }
 
