@@ -1,4 +1,6 @@
 // Steps on packs, and on the files of the working folder.
+ghost use Rattle.std.specs.Prelude.{◌<◌};
+
 use outside_files::file_sink::FileSink;
 use outside_files::files::FilePacks;
 use outside_files::folder::PackFolder;
@@ -69,17 +71,23 @@ fn edges(block: &[u8; 512]) -> u64 {
     256 * u64::from(block[0]) + u64::from(block[511])
 }
 
-/// What a call answers; None where it fails. Reading answers 256 times the first byte, and the last byte, of a buffer
-/// that held 7s before.
+/// The edges of a block that is read into a buffer that held 7s before.
+fn edges_at<P: Packs>(packs: &mut P, unit: u8, at: u32) -> Option<u64>
+    requires { unit < 32 }
+{
+    let mut block = [7u8; 512];
+    match packs.read(unit, at, &mut block) {
+        Ok(()) => Some(edges(&block)),
+        Err(_) => None,
+    }
+}
+
+/// What a call answers; None where it fails.
 fn answer<P: Packs>(packs: &mut P, unit: u8, call: Call) -> Option<u64> {
     let unit = unit.min(31);
-    let mut block = [7u8; 512];
     match call {
         Call::Length => packs.length(unit).ok(),
-        Call::Read(at) => {
-            let is_read = packs.read(unit, at, &mut block).is_ok();
-            is_read.then_some(edges(&block))
-        }
+        Call::Read(at) => edges_at(packs, unit, at),
         Call::Write(at, byte) => packs.write(unit, at, &[byte; 512]).is_ok().then_some(0),
         Call::Marked(at) => match packs.marked(unit, at) {
             Ok(on) => Some(u64::from(on)),
