@@ -1,6 +1,8 @@
-// Traces that are refused.
+// Traces that are read, and refused ones.
 use crate::views::view_of;
+use script_reader::read_script;
 use std::alloc::Global;
+use trace_reader::read_trace;
 
 /// Reads of cylinders 10, 50, 20, 5 and 20 on one drive.
 const ONE: &[u8] =
@@ -10,18 +12,13 @@ const ONE: &[u8] =
 const THREE: &[u8] =
     b"# Two drives seek at the same time, while a third transfers.\nunit 0 rp06\nunit 1 rp06\nunit 2 rm03\nread 1 2 c 5 3\nread 2 0 c 4180 2\nwrite 3 1 c 8360 1 fill 33\nmove 0\narrive 1\nmove 0\narrive 0\nmove 0\nattend 0\n";
 
-/// A script, its trace, and what is told of the first faulty line: each form of a line with the ends of its ranges, before a line that is
-/// none; each kind of refusal; and each two of its neighbours in the order of the checks.
-static REFUSED: [(&[u8], &[u8], &[u8]); 42] = [
+/// A script, its trace, and what is told of the first faulty line: each kind of refusal, and each two of its neighbours in the order of
+/// the checks.
+static REFUSED: [(&[u8], &[u8], &[u8]); 41] = [
     (
         b"",
         b"idle 1\nidle 1000001\nidle 1000002\n",
         b"refused trace line 3 word\n",
-    ),
-    (
-        b"",
-        b"cmd 1 0 0 search 0 0\ncmd 1 31 4294967295 search 822 31\ncmd 1 0 0 seek 822\ncmd 1 0 0 recal\ncmd 1 0 0 offset +400\ncmd 1 0 0 offset -1200\ncmd 1 0 0 rtc\ncmd 1 0 0 dclr\ncmd 1 0 0 pack\ncmd 1 0 0 rcom 500383 1\ncmd 1 0 0 wcom 0 127\narrive 1 0 0\nsector 1 0 0 0 clean\nsector 1 0 0 7 burst 4128 3777\nsector 1 0 0 7 burst 1 1\nsector 1 0 0 7 ecc\nsector 1 0 0 7 mark\nsector 1 0 0 7 seek\nsector 1 0 0 7 opi\nsector 1 0 0 7 dte\nsector 1 0 0 7 hcrc\nsector 1 0 0 7 late\nsector 1 0 0 7 offline\nintr 1 0 0\ntry 1 0 0 7 1\ntry 1 0 0 7 28\nattn 1 0 0\nend 2 0 0\nidle 0\n",
-        b"refused trace line 29 word\n",
     ),
     (
         THREE,
@@ -144,4 +141,24 @@ fn first_faults(rt: HostRuntime) {
     for (script, trace, told) in &REFUSED {
         assert!(rt; is_refused(rt.alloc(), script, trace, told));
     }
+}
+
+/// Each form of a line, and the ends of its ranges.
+const FORMS: &[u8] =
+    b"cmd 1 0 0 search 0 0\ncmd 1 31 4294967295 search 822 31\ncmd 1 0 0 seek 822\ncmd 1 0 0 recal\ncmd 1 0 0 offset +400\ncmd 1 0 0 offset -1200\ncmd 1 0 0 rtc\ncmd 1 0 0 dclr\ncmd 1 0 0 pack\ncmd 1 0 0 rcom 500383 1\ncmd 1 0 0 wcom 0 127\narrive 1 0 0\nsector 1 0 0 0 clean\nsector 1 0 0 7 burst 4128 3777\nsector 1 0 0 7 burst 1 1\nsector 1 0 0 7 ecc\nsector 1 0 0 7 mark\nsector 1 0 0 7 seek\nsector 1 0 0 7 opi\nsector 1 0 0 7 dte\nsector 1 0 0 7 hcrc\nsector 1 0 0 7 late\nsector 1 0 0 7 offline\nintr 1 0 0\ntry 1 0 0 7 1\ntry 1 0 0 7 28\nattn 1 0 0\nend 2 0 0\n";
+
+/// How many lines are read of a trace beside a script of no line.
+fn count_of_lines(alloc: Global, trace: &[u8]) -> Option<usize> {
+    let Ok(script) = read_script(alloc, Vec::new(alloc)) else {
+        return None;
+    };
+    match read_trace(alloc, trace, &script) {
+        Ok(lines) => Some(lines.len()),
+        Err(_) => None,
+    }
+}
+
+#[test]
+fn each_form(rt: HostRuntime) {
+    assert!(rt; count_of_lines(rt.alloc(), FORMS) == Some(28));
 }
