@@ -4,8 +4,8 @@
     rows.py          writes both anew
     rows.py check    says whether they are as the rows are
 
-They come from the files of `rows/`, from the rows of `docs/trace-rows`, which are played whole, and from `examples/`. Expected texts
-come from the rules of `docs/`, never from the program's output.
+They come from the files of `rows/`, from the rows of `docs/trace-rows`, which are played whole, from `examples/`, and from the rule of
+an addition (`docs/bad144.md`). Expected texts come from the rules of `docs/`, never from the program's output.
 
 In `rows/` a line that begins with `= ` has behind it a line that is to be printed by the line before. One that begins with `@ ` is a
 comment. Any other that begins with `@` is one of these; all else are lines of the source of the next command. U is a unit, BLOCKS is
@@ -43,7 +43,7 @@ sys.dont_write_bytecode = True
 HERE = os.path.dirname(os.path.abspath(__file__))
 TOP = os.path.join(HERE, '..', '..')
 # The files of `rows/`, in their order.
-FILES = ('play', 'tool', 'format', 'raw', 'cached', 'stops')
+FILES = ('play', 'scripts', 'tool', 'format', 'raw', 'cached', 'stops')
 ROOMS = {0: 340670}
 # A longer text is not shown.
 LONGEST = 8000
@@ -105,6 +105,26 @@ def example_rows():
     return lines
 
 
+def adding_rows():
+    """a block is added below the ten entries of a table, and each of the 16 writes that this takes fails in turn: those before it are
+    done, the moves from the last replacement down, and the block is not marked"""
+    copies, first, block = range(131648, 131658, 2), 131647, 999
+    places = [entry for listed in range(block, block + 11) for entry in (6, 0, listed % 32, 1)]
+    table = lambda entries: bytes([7] + 7 * [0] + entries) + bytes([255]) * (504 - len(entries))
+    begun = {first - i: bytes([i + 1]) * 512 for i in range(11)} | {copy: table(places[4:]) for copy in copies}
+    writes = [(first - i - 1, begun[first - i]) for i in range(9, -1, -1)] + [(first, bytes(512))] + [(copy, table(places)) for copy in copies]
+    lines = []
+    for number in range(1, len(writes) + 1):
+        lines += [f'@row an addition whose write {number} fails', '@unit 0 131680', '@run bad144 fresh 0 rm03 7']
+        lines += ['= bad144 fresh 0 rm03 7: status 0', '= serial 7', '@each 10 1000 bad144 add 0 rm03 %']
+        lines += ['= bad144 add 0 rm03 %: status 0 for 10 numbers']
+        lines += [f'@block 0 {at} {runs(data)}' for at, data in begun.items() if at <= first]
+        lines += [f'@fail write {number}', f'@run bad144 add 0 rm03 {block} mark', f'= bad144 add 0 rm03 {block} mark: status 6']
+        left = begun | dict(writes[:number - 1]) | {block: bytes(512)}
+        lines += [f"@show 0 {' '.join(map(str, left))}", *(f'= block 0 {at}: {runs(data)}' for at, data in left.items())]
+    return lines
+
+
 def texts():
     """what is read, and what must be printed"""
     lines = []
@@ -113,6 +133,8 @@ def texts():
             lines += file.read().split('\n')[:-1]
         if name == 'play':
             lines += trace_rows() + example_rows()
+        if name == 'tool':
+            lines += adding_rows()
     read = [line for line in lines if not line.startswith(('= ', '@ ')) and line != '=']
     written = [line.replace('@row ', '== ', 1) if line.startswith('@row ') else line[2:] for line in lines if line.startswith(('= ', '@row ')) or line == '=']
     names = [line for line in read if line.startswith('@row ')]

@@ -1,101 +1,169 @@
 // The status of each end, in the working folder.
-use crate::words::end_here;
 use hpsim_run::{TRACE_NAME, end_status, words_of};
-use mass_outside::file_sink::FileSink;
-use mass_outside::mem_streams::SureSink;
-use mass_outside::os_folder::OsFolder;
-use std::io::ErrorKind;
-use std::os::unix::fs::FileExt;
+use outside_files::file_sink::FileSink;
+use outside_files::os_folder::OsFolder;
+use std::alloc::Global;
+use std::os::unix::fs::{FileExt, symlink};
 use std::{fs, io};
 
-/// A command, its script, the status of its end and what it prints. Unit 22 has no files, and the image of unit 21 is a byte too
-/// long.
-static ENDS: [(&str, &[u8], u8, &str); 7] = [
+/// The device that takes no byte, and gives zeros.
+const FULL: &str = "/dev/full";
+
+/// The file that answers go to.
+const OUT: &str = "hp.out";
+
+/// A command and its script, the files that its answers and its trace go to, the status of its end, and what both files hold then.
+type End = (
+    &'static str,
+    &'static [u8],
+    [&'static str; 2],
+    u8,
+    [&'static str; 2],
+);
+
+/// The trace of a read.
+const READ: &str =
+    "cmd 2 22 1 search 0 19\narrive 3 22 1\nattn 3 22 1\ncmd 3 22 1 rcom 0 1\nsector 3 22 1 0 clean\nintr 3 22 1\nend 3 22 1\n";
+
+/// The trace of another read, and of a write that fails.
+const WRITE: &str =
+    "cmd 2 18 1 rcom 5 1\nsector 3 18 1 5 clean\nintr 3 18 1\nend 3 18 1\ncmd 4 18 2 search 0 2\narrive 5 18 2\nattn 5 18 2\ncmd 5 18 2 wcom 5 1\n";
+
+/// Unit 22 has no files at first, the image of unit 21 is a byte too long, and that of unit 18 is a full disk. Where a run writes no
+/// trace, the one before stays.
+static ENDS: [End; 10] = [
     (
         "play",
         b"unit 22 rp06\nread 1 22 c 0 1\n",
+        [OUT, TRACE_NAME],
         0,
-        "ans 1 at 3 ok\nblk 0 fill 00\n",
+        ["ans 1 at 3 ok\nblk 0 fill 00\n", READ],
     ),
-    ("bad144 fresh 22 rp06 7", b"", 0, "serial 7\n"),
-    ("bad144 list 22 rp06", b"", 0, "serial 7 entries 0\n"),
     (
-        "--help",
+        "bad144 fresh 22 rp06 7",
         b"",
+        [OUT, TRACE_NAME],
+        0,
+        ["serial 7\n", READ],
+    ),
+    (
+        "bad144 list 22 rp06",
+        b"",
+        [OUT, TRACE_NAME],
+        0,
+        ["serial 7 entries 0\n", READ],
+    ),
+    (
+        "",
+        b"",
+        [OUT, TRACE_NAME],
         2,
-        "usage: hpsim play or bad144 list/add/fresh or exercise N\n",
+        [
+            "usage: hpsim play or bad144 list/add/fresh or exercise N\n",
+            READ,
+        ],
     ),
     (
         "play",
         b"unit 22 rp06\nread 1 22 c 0\n",
+        [OUT, TRACE_NAME],
         3,
-        "refused line 2 word\n",
+        ["refused line 2 word\n", READ],
     ),
     (
         "play",
         b"unit 21 rp06\n",
+        [OUT, TRACE_NAME],
         7,
-        "too long unit 21 length 174423041\n",
+        ["too long unit 21 length 174423041\n", READ],
     ),
     (
         "bad144 add 21 rp06 5",
         b"",
+        [OUT, TRACE_NAME],
         7,
-        "too long unit 21 length 174423041\n",
+        ["too long unit 21 length 174423041\n", READ],
+    ),
+    (
+        "play",
+        b"unit 18 rp06\nread 1 18 c 5 1\ndrain\nwrite 2 18 c 5 1 fill 77\n",
+        [OUT, TRACE_NAME],
+        6,
+        ["ans 1 at 3 ok\nblk 0 fill 00\n", WRITE],
+    ),
+    // The lines stand whole where the answers have no room; nothing is answered where the lines have none.
+    (
+        "play",
+        b"unit 22 rp06\nread 1 22 c 0 1\n",
+        [FULL, TRACE_NAME],
+        5,
+        ["", READ],
+    ),
+    (
+        "play",
+        b"unit 22 rp06\nread 1 22 c 0 1\n",
+        [OUT, FULL],
+        5,
+        ["", ""],
     ),
 ];
 
-/// Writes an image of unit 21 that is a byte too long.
-fn make_long(rt: &HostRuntime) -> io::Result<()> {
-    fs::create(rt, "hp21.dsk")?.write_all_at(&[1], 174_423_040)
+/// The words of a line, which stand between its blanks.
+fn words(alloc: Global, line: &str) -> io::Result<Vec<String>> {
+    let mut all = Vec::new(alloc);
+    for word in line.split_whitespace() {
+        all.push(String::from_str(alloc, word)?)?;
+    }
+    Ok(all)
 }
 
-/// Whether a command ends so in the working folder, and prints just this.
-fn ends_so(rt: &HostRuntime, line: &str, script: &[u8], status: u8, text: &str) -> bool {
-    end_here(rt, line, script, &mut FileSink::new(rt, TRACE_NAME)).is(status, text)
+/// The status of the command of a line in the working folder, whose answers and trace go to files.
+fn status_of(rt: &HostRuntime, line: &str, script: &[u8], files: [&str; 2]) -> io::Result<u8> {
+    let out = fs::create(rt, files[0])?;
+    let words = words_of(rt.alloc(), words(rt.alloc(), line));
+    let mut trace = FileSink::new(rt, files[1]);
+    let folder = OsFolder::new(rt);
+    Ok(end_status(rt.alloc(), words, folder, script, out, &mut trace))
 }
 
-/// Whether a file of the working folder begins and ends so.
-pub(crate) fn is_between(rt: &HostRuntime, name: &str, front: &str, end: &str) -> bool {
+/// Whether a file holds this text, unless it is on the full disk.
+fn holds(rt: &HostRuntime, name: &str, text: &str) -> bool {
+    if name == FULL {
+        return true;
+    }
     match fs::read_to_string(rt, name) {
-        Ok(text) => text.as_str().starts_with(front) && text.as_str().ends_with(end),
+        Ok(held) => held.as_str() == text,
         Err(_) => false,
     }
 }
 
+/// Whether a command ends so.
+fn ends_so(rt: &HostRuntime, end: &End) -> bool {
+    let (line, script, files, wanted, texts) = *end;
+    match status_of(rt, line, script, files) {
+        Ok(status) if status == wanted => {
+            holds(rt, files[0], texts[0]) && holds(rt, files[1], texts[1])
+        }
+        _ => false,
+    }
+}
+
+/// Makes the images of units 21 and 18.
+fn make_images(rt: &HostRuntime) -> io::Result<()> {
+    fs::create(rt, "hp21.dsk")?.write_all_at(&[1], 174_423_040)?;
+    symlink(rt, FULL, "hp18.dsk")
+}
+
+/// What is left at last.
+static LEFT: [&str; 5] = ["hp18.dsk", "hp21.dsk", "hp22.dsk", TRACE_NAME, OUT];
+
 #[test]
 fn each_status(rt: HostRuntime) {
-    let is_made = make_long(&rt).is_ok();
-    for (line, script, status, text) in &ENDS {
-        assert!(rt; ends_so(&rt, line, script, *status, text), "{line}");
+    assert!(rt; make_images(&rt).is_ok());
+    for end in &ENDS {
+        assert!(rt; ends_so(&rt, end));
     }
-    let is_traced = is_between(&rt, "hp.trace", "cmd 2 22 1 search 0 19\n", "");
-    let is_removed = fs::remove_file(&rt, "hp21.dsk").is_ok()
-        && fs::remove_file(&rt, "hp22.dsk").is_ok()
-        && fs::remove_file(&rt, "hp.trace").is_ok();
-    assert!(rt; is_made && is_traced && is_removed);
-}
-
-/// The status where the words could not be had.
-fn without_words(rt: &HostRuntime, kind: ErrorKind) -> (u8, usize) {
-    let words = words_of(rt.alloc(), Err(io::Error::from(kind)));
-    let script = b"".as_slice();
-    let mut said = Vec::new(rt.alloc());
-    let status = end_status(
-        rt.alloc(),
-        words,
-        OsFolder::new(rt),
-        script,
-        &mut said,
-        &mut SureSink::new(),
-    );
-    (status, said.len())
-}
-
-/// Words that are no text are no command, which is answered by the usage; and there may be no memory for words.
-#[test]
-fn words_that_are_none(rt: HostRuntime) {
-    let no_text = without_words(&rt, ErrorKind::InvalidData);
-    let no_memory = without_words(&rt, ErrorKind::OutOfMemory);
-    assert!(rt; no_text == (2, 57) && no_memory == (9, 0));
+    for name in &LEFT {
+        assert!(rt; fs::remove_file(&rt, name).is_ok());
+    }
 }

@@ -1,287 +1,149 @@
-// The packs in the files of the working folder, and a sink that makes its file.
-use crate::guarded::Guarded;
-use crate::outside::{Call, first_other};
-use Deed::{Holds, IsMissing, MakeFolder, Remove, RemoveFolder, Write};
-use mass_outside::file_sink::FileSink;
-use mass_outside::files::FilePacks;
-use mass_outside::os_folder::OsFolder;
-use outside_traits::whole::write_all;
-use pack_windows::window_packs::WindowPacks;
-use std::fs;
+// The packs in the files of the working folder, behind windows, and a sink that makes its file there.
+use crate::steps::{Call, Deed, Step, failures_over};
+use Call::{Length, Mark, Marked, Read, Write};
+use Step::{Of, On};
+use outside_files::os_folder::OsFolder;
 
-/// Packs in the files of the working folder.
-type FolderPacks<'a> = FilePacks<OsFolder<&'a HostRuntime>>;
+/// A file that may only be read, which holds "Linux" and LF, and one that may not be read; both refuse the superuser too.
+const READ_ONLY: &str = "/proc/sys/kernel/ostype";
 
-fn folder_packs(rt: &HostRuntime) -> FolderPacks<'_> {
-    FilePacks::new(rt)
-}
+const WRITE_ONLY: &str = "/proc/sys/vm/compact_memory";
 
-/// The first call of a list that these answer otherwise, or its length.
-fn first_in_folder(packs: &mut FolderPacks<'_>, calls: &[(u8, Call, Option<u64>)]) -> usize {
-    first_other(packs, calls)
-}
-
-/// What calls on the packs of files answer. Unit 28 has an image of 700 bytes 255 and the marks 0, 7 and 1, the image
-/// of unit 27 is a folder, those of unit 25 are empty, and the other units have no files.
-static FILES: [(u8, Call, Option<u64>); 40] = [
-    (29, Call::Length, Some(0)),
-    (29, Call::Read(3), Some(0)),
-    (29, Call::Marked(5), Some(0)),
-    (28, Call::Length, Some(700)),
-    (28, Call::Read(0), Some(0xFFFF)),
-    (28, Call::Read(1), Some(0xFF00)),
-    (28, Call::Read(2), Some(0)),
-    (28, Call::Marked(0), Some(0)),
-    (28, Call::Marked(1), Some(1)),
-    (28, Call::Marked(2), Some(1)),
-    (28, Call::Marked(3), Some(0)),
-    (28, Call::Mark(1, false), Some(0)),
-    (28, Call::Marked(1), Some(0)),
-    (28, Call::Marked(2), Some(1)),
-    (28, Call::Mark(4, true), Some(0)),
-    (28, Call::Marked(4), Some(1)),
-    (28, Call::Marked(3), Some(0)),
-    (28, Call::Write(3, 5), Some(0)),
-    (28, Call::Length, Some(2048)),
-    (28, Call::Read(3), Some(0x0505)),
-    (28, Call::Read(2), Some(0)),
-    (28, Call::Read(0), Some(0xFFFF)),
-    (27, Call::Length, None),
-    (27, Call::Read(0), None),
-    (27, Call::Write(0, 1), None),
-    (27, Call::Marked(0), Some(0)),
-    (26, Call::Write(340_670, 5), Some(0)),
-    (26, Call::Length, Some(174_423_552)),
-    (26, Call::Read(340_670), Some(0x0505)),
-    (26, Call::Read(340_669), Some(0)),
-    (26, Call::Read(340_671), Some(0)),
-    (26, Call::Mark(2, true), Some(0)),
-    (26, Call::Marked(2), Some(1)),
-    (26, Call::Marked(1), Some(0)),
-    (26, Call::Mark(2, false), Some(0)),
-    (26, Call::Marked(2), Some(0)),
-    (25, Call::Length, Some(0)),
-    (25, Call::Read(0), Some(0)),
-    (25, Call::Marked(0), Some(0)),
-    (29, Call::Length, Some(0)),
+/// What is done to the files of the working folder, and what calls on their packs answer. Unit 28 has an image of 700 bytes 255 and
+/// the marks 0, 7 and 1; the image of unit 27 is a folder, and those of unit 25 are empty. The image of unit 18 takes no byte, and gives
+/// zeros; the files of unit 17 may only be read, those of unit 16 may not be opened, and those of unit 15 can't be made. The other units
+/// have no files. A file that is made behind our back is not found where it was missing before.
+static FILES: [Step; 99] = [
+    On("hp28.dsk", Deed::Write(&[0xFF; 700])),
+    On("hp28.bad", Deed::Write(&[0, 7, 1])),
+    On("hp27.dsk", Deed::Link(".")),
+    On("hp25.dsk", Deed::Write(b"")),
+    On("hp25.bad", Deed::Write(b"")),
+    On("hp18.dsk", Deed::Link("/dev/full")),
+    On("hp17.dsk", Deed::Link(READ_ONLY)),
+    On("hp17.bad", Deed::Link(READ_ONLY)),
+    On("hp16.dsk", Deed::Link(WRITE_ONLY)),
+    On("hp16.bad", Deed::Link(WRITE_ONLY)),
+    On("hp15.dsk", Deed::Link("/proc/sys/none")),
+    Of(29, Length, Some(0)),
+    Of(29, Read(3), Some(0)),
+    Of(29, Marked(5), Some(0)),
+    Of(28, Length, Some(700)),
+    Of(28, Read(0), Some(0xFFFF)),
+    Of(28, Read(1), Some(0xFF00)),
+    Of(28, Read(2), Some(0)),
+    Of(28, Read(9), Some(0)),
+    Of(28, Marked(0), Some(0)),
+    Of(28, Marked(1), Some(1)),
+    Of(28, Marked(2), Some(1)),
+    Of(28, Marked(3), Some(0)),
+    Of(28, Mark(1, false), Some(0)),
+    Of(28, Marked(1), Some(0)),
+    Of(28, Marked(2), Some(1)),
+    Of(28, Mark(4, true), Some(0)),
+    Of(28, Marked(4), Some(1)),
+    Of(28, Marked(3), Some(0)),
+    On("hp28.bad", Deed::Holds(&[0, 0, 1, 0, 1])),
+    Of(28, Write(3, 5), Some(0)),
+    Of(28, Length, Some(2048)),
+    Of(28, Read(3), Some(0x0505)),
+    Of(28, Read(2), Some(0)),
+    Of(28, Read(0), Some(0xFFFF)),
+    Of(27, Length, None),
+    Of(27, Read(0), None),
+    Of(27, Write(0, 1), None),
+    Of(27, Marked(0), Some(0)),
+    Of(26, Write(340_670, 5), Some(0)),
+    Of(26, Length, Some(174_423_552)),
+    Of(26, Read(340_670), Some(0x0505)),
+    Of(26, Read(340_669), Some(0)),
+    Of(26, Read(340_671), Some(0)),
+    Of(26, Mark(2, true), Some(0)),
+    Of(26, Marked(2), Some(1)),
+    Of(26, Marked(1), Some(0)),
+    Of(26, Mark(2, false), Some(0)),
+    Of(26, Marked(2), Some(0)),
+    Of(25, Length, Some(0)),
+    Of(25, Read(0), Some(0)),
+    Of(25, Marked(0), Some(0)),
+    Of(23, Read(3), Some(0)),
+    Of(23, Write(70, 6), Some(0)),
+    Of(23, Read(70), Some(0x0606)),
+    Of(23, Read(3), Some(0)),
+    Of(29, Length, Some(0)),
+    Of(18, Length, Some(0)),
+    Of(18, Read(5), Some(0)),
+    Of(18, Write(5, 1), None),
+    Of(18, Read(5), Some(0)),
+    Of(17, Write(0, 1), None),
+    Of(17, Mark(1, false), None),
+    Of(17, Length, Some(0)),
+    Of(17, Read(0), Some(0x4C00)),
+    Of(17, Read(1), Some(0)),
+    Of(17, Marked(1), Some(1)),
+    Of(17, Marked(6), Some(0)),
+    Of(17, Write(0, 1), None),
+    Of(17, Mark(1, false), None),
+    Of(17, Read(0), Some(0x4C00)),
+    Of(17, Marked(1), Some(1)),
+    Of(16, Length, None),
+    Of(16, Read(0), None),
+    Of(16, Write(0, 1), None),
+    Of(16, Marked(2), None),
+    Of(16, Mark(1, true), None),
+    Of(15, Length, Some(0)),
+    Of(15, Write(0, 1), None),
+    Of(15, Length, Some(0)),
+    Of(19, Length, Some(0)),
+    On("hp19.dsk", Deed::Write(&[1; 512])),
+    Of(19, Length, Some(0)),
+    Of(19, Write(1, 2), Some(0)),
+    Of(19, Length, Some(1024)),
+    On("hp19.dsk", Deed::Remove),
+    Of(19, Length, Some(1024)),
+    On("hp29.dsk", Deed::IsMissing),
+    On("hp29.bad", Deed::IsMissing),
+    On("hp27.bad", Deed::IsMissing),
+    On("hp23.bad", Deed::IsMissing),
+    On("hp19.dsk", Deed::IsMissing),
+    On("hp27.dsk", Deed::Remove),
+    On("hp18.dsk", Deed::Remove),
+    On("hp17.dsk", Deed::Remove),
+    On("hp17.bad", Deed::Remove),
+    On("hp16.dsk", Deed::Remove),
+    On("hp16.bad", Deed::Remove),
+    On("hp15.dsk", Deed::Remove),
 ];
 
-/// What they answer afterwards where no file may be written: unit 28 is read, and nothing is written or made.
-static READ_ONLY: [(u8, Call, Option<u64>); 10] = [
-    (28, Call::Write(0, 1), None),
-    (28, Call::Mark(1, true), None),
-    (28, Call::Length, Some(2048)),
-    (28, Call::Read(3), Some(0x0505)),
-    (28, Call::Marked(2), Some(1)),
-    (28, Call::Write(0, 1), None),
-    (28, Call::Mark(1, true), None),
-    (28, Call::Read(0), Some(0xFFFF)),
-    (28, Call::Marked(1), Some(0)),
-    (29, Call::Write(0, 1), None),
+/// What other packs over the same files answer then; and what a sink takes, which writes over an older text.
+static AGAIN: [Step; 18] = [
+    Of(28, Read(3), Some(0x0505)),
+    Of(28, Marked(1), Some(0)),
+    Of(28, Marked(4), Some(1)),
+    Of(26, Read(340_670), Some(0x0505)),
+    Of(23, Read(70), Some(0x0606)),
+    On("hp28.dsk", Deed::Remove),
+    On("hp28.bad", Deed::Remove),
+    On("hp26.dsk", Deed::Remove),
+    On("hp26.bad", Deed::Remove),
+    On("hp25.dsk", Deed::Remove),
+    On("hp25.bad", Deed::Remove),
+    On("hp23.dsk", Deed::Remove),
+    On("hp.trace", Deed::Write(b"an older and longer text")),
+    On("hp.trace", Deed::TakesLines),
+    On("hp.trace", Deed::Holds(b"idle 1\nidle 2\n")),
+    On("hp.trace", Deed::Remove),
+    On(".", Deed::TakesNone),
+    On("/dev/full", Deed::TakesNone),
 ];
 
-/// What they answer where no file may be opened: a file that is there is not taken for a missing one.
-static SHUT: [(u8, Call, Option<u64>); 6] = [
-    (28, Call::Length, None),
-    (28, Call::Read(0), None),
-    (28, Call::Write(0, 1), None),
-    (28, Call::Marked(2), None),
-    (28, Call::Mark(1, true), None),
-    (29, Call::Length, None),
-];
-
-/// What is done to a file or a folder, or asked of it.
-#[derive(Clone, Copy)]
-enum Deed {
-    Write(&'static [u8]),
-    Holds(&'static [u8]),
-    IsMissing,
-    Remove,
-    MakeFolder,
-    RemoveFolder,
+/// Whether all these steps go right on new packs.
+fn go_right(rt: &HostRuntime, steps: &[Step]) -> bool {
+    failures_over(rt, OsFolder::new(rt), steps) == Some(0)
 }
-
-fn is_done(rt: &HostRuntime, deed: Deed, name: &str) -> bool {
-    match deed {
-        Write(bytes) => fs::write(rt, name, bytes).is_ok(),
-        Holds(bytes) => match fs::read(rt, name) {
-            Ok(held) => held.as_slice() == bytes,
-            Err(_) => false,
-        },
-        IsMissing => matches!(fs::exists(rt, name), Ok(false)),
-        Remove => fs::remove_file(rt, name).is_ok(),
-        MakeFolder => fs::create_dir(rt, name).is_ok(),
-        RemoveFolder => fs::remove_dir(rt, name).is_ok(),
-    }
-}
-
-/// Whether each is done, or is so.
-fn are_done(rt: &HostRuntime, deeds: &[(Deed, &str)]) -> bool {
-    for (deed, name) in deeds {
-        if !is_done(rt, *deed, name) {
-            return false;
-        }
-    }
-    true
-}
-
-/// The first call of a list that answers something else where files may be opened for reading alone, or not at all, or its length.
-fn first_guarded(rt: &HostRuntime, reads: bool, calls: &[(u8, Call, Option<u64>)]) -> usize {
-    let alloc = rt.alloc();
-    first_other(&mut FilePacks::new((Guarded { rt, reads }, alloc)), calls)
-}
-
-/// What is made before these calls.
-static MADE: [(Deed, &str); 5] = [
-    (Write(&[0xFF; 700]), "hp28.dsk"),
-    (Write(&[0, 7, 1]), "hp28.bad"),
-    (MakeFolder, "hp27.dsk"),
-    (Write(b""), "hp25.dsk"),
-    (Write(b""), "hp25.bad"),
-];
-
-/// What is so behind them.
-static LEFT: [(Deed, &str); 11] = [
-    (Holds(&[0, 0, 1, 0, 1]), "hp28.bad"),
-    (IsMissing, "hp29.dsk"),
-    (IsMissing, "hp29.bad"),
-    (IsMissing, "hp27.bad"),
-    (RemoveFolder, "hp27.dsk"),
-    (Remove, "hp28.dsk"),
-    (Remove, "hp28.bad"),
-    (Remove, "hp26.dsk"),
-    (Remove, "hp26.bad"),
-    (Remove, "hp25.dsk"),
-    (Remove, "hp25.bad"),
-];
 
 #[test]
 fn packs_in_files(rt: HostRuntime) {
-    let are_made = are_done(&rt, &MADE);
-    let firsts = [
-        first_in_folder(&mut folder_packs(&rt), &FILES),
-        first_guarded(&rt, true, &READ_ONLY),
-        first_guarded(&rt, false, &SHUT),
-    ];
-    let are_left = are_done(&rt, &LEFT);
-    assert!(rt; are_made && firsts == [FILES.len(), READ_ONLY.len(), SHUT.len()] && are_left);
-}
-
-/// What packs answer of unit 19, whose file was missing before.
-static MISSING: [(u8, Call, Option<u64>); 3] = [
-    (19, Call::Length, Some(0)),
-    (19, Call::Write(1, 2), Some(0)),
-    (19, Call::Length, Some(1024)),
-];
-
-/// Whether packs find no file of unit 19 where it was missing before, but make one and open it where they write, which stays open.
-fn stays_missing(rt: &HostRuntime, packs: &mut FolderPacks<'_>) -> bool {
-    first_in_folder(packs, &MISSING[..1]) == 1
-        && is_done(rt, Write(&[1; 512]), "hp19.dsk")
-        && first_in_folder(packs, &MISSING) == 3
-        && is_done(rt, Remove, "hp19.dsk")
-        && first_in_folder(packs, &MISSING[2..]) == 1
-}
-
-/// A file that is made behind our back is out of scope; it is not found where it was missing before.
-#[test]
-fn missing_until_written(rt: HostRuntime) {
-    assert!(rt; stays_missing(&rt, &mut folder_packs(&rt)));
-}
-
-/// Whether a sink takes two lines.
-fn takes_lines(rt: &HostRuntime) -> bool {
-    let mut file = FileSink::new(rt, "hp.trace");
-    write_all(&mut file, b"idle 1\n").is_ok() && write_all(&mut file, b"idle 2\n").is_ok()
-}
-
-/// What a sink leaves, and a folder in place of it.
-static TRACE: [(Deed, &str); 3] = [
-    (Holds(b"idle 1\nidle 2\n"), "hp.trace"),
-    (Remove, "hp.trace"),
-    (MakeFolder, "hp.trace"),
-];
-
-#[test]
-fn file_sink(rt: HostRuntime) {
-    let is_made = is_done(&rt, Write(b"an older and longer text"), "hp.trace")
-        && takes_lines(&rt)
-        && are_done(&rt, &TRACE);
-    let is_refused = !takes_lines(&rt) && is_done(&rt, RemoveFolder, "hp.trace");
-    assert!(rt; is_made && is_refused);
-}
-
-/// What calls answer on packs in files. Unit 24 has an image of 700 bytes 255 and the marks 0, 7 and 1; unit 23 has no
-/// files.
-static AHEAD: [(u8, Call, Option<u64>); 14] = [
-    (23, Call::Read(3), Some(0)),
-    (23, Call::Marked(3), Some(0)),
-    (24, Call::Read(0), Some(0xFFFF)),
-    (24, Call::Read(1), Some(0xFF00)),
-    (24, Call::Read(9), Some(0)),
-    (24, Call::Marked(1), Some(1)),
-    (24, Call::Marked(3), Some(0)),
-    (24, Call::Write(9, 5), Some(0)),
-    (24, Call::Read(9), Some(0x0505)),
-    (24, Call::Mark(3, true), Some(0)),
-    (24, Call::Marked(3), Some(1)),
-    (23, Call::Write(70, 6), Some(0)),
-    (23, Call::Read(70), Some(0x0606)),
-    (23, Call::Read(3), Some(0)),
-];
-
-/// What they answer afterwards on other packs over the same files.
-static AGAIN: [(u8, Call, Option<u64>); 3] = [
-    (24, Call::Read(9), Some(0x0505)),
-    (24, Call::Marked(3), Some(1)),
-    (23, Call::Read(70), Some(0x0606)),
-];
-
-/// Packs in files behind windows.
-type Behind<'a> = WindowPacks<FolderPacks<'a>>;
-
-fn behind(rt: &HostRuntime) -> Option<Behind<'_>> {
-    match WindowPacks::new(rt.alloc(), folder_packs(rt)) {
-        Ok(packs) => Some(packs),
-        Err(_) => None,
-    }
-}
-
-/// The first call of a list that these answer otherwise, or its length.
-fn first_behind(packs: &mut Behind<'_>, calls: &[(u8, Call, Option<u64>)]) -> usize {
-    first_other(packs, calls)
-}
-
-/// The same of each of the two lists; the first where there is no memory.
-fn firsts_behind(rt: &HostRuntime) -> [usize; 2] {
-    let Some(mut packs) = behind(rt) else {
-        return [0; 2];
-    };
-    let first = first_behind(&mut packs, &AHEAD);
-    match behind(rt) {
-        Some(mut again) => [first, first_behind(&mut again, &AGAIN)],
-        None => [0; 2],
-    }
-}
-
-/// What is made before these calls.
-static AHEAD_MADE: [(Deed, &str); 2] = [
-    (Write(&[0xFF; 700]), "hp24.dsk"),
-    (Write(&[0, 7, 1]), "hp24.bad"),
-];
-
-/// What is so behind them.
-static AHEAD_LEFT: [(Deed, &str); 4] = [
-    (IsMissing, "hp23.bad"),
-    (Remove, "hp23.dsk"),
-    (Remove, "hp24.dsk"),
-    (Remove, "hp24.bad"),
-];
-
-#[test]
-fn files_behind_windows(rt: HostRuntime) {
-    let are_made = are_done(&rt, &AHEAD_MADE);
-    let firsts = firsts_behind(&rt);
-    let are_left = are_done(&rt, &AHEAD_LEFT);
-    assert!(rt; are_made && firsts == [AHEAD.len(), AGAIN.len()] && are_left);
+    let are_right = go_right(&rt, &FILES) && go_right(&rt, &AGAIN);
+    assert!(rt; are_right);
 }

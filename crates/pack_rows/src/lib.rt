@@ -1,22 +1,15 @@
-//! Tests of packs, tables, texts, streams, files and the tool for bad-sector tables. There are tests alone here, so that the crates that
-//! they test are proved once.
+//! Tests of the packs in files, in the working folder and in a folder in memory whose calls are short, fail and are interrupted; of
+//! std's streams and files as sources and sinks; and of the faults of a bad-sector table. There are tests alone here, so that the
+//! crates that they test are proved once.
 #![tactic(auto)]
 
 #[cfg(test)]
-mod answers;
-#[cfg(test)]
 mod files;
 #[cfg(test)]
-mod gather;
+mod folder;
 #[cfg(test)]
-mod guarded;
+mod steps;
 #[cfg(test)]
-mod outside;
+mod streams;
 #[cfg(test)]
 mod table;
-#[cfg(test)]
-mod text;
-#[cfg(test)]
-mod tool;
-#[cfg(test)]
-mod windows;

@@ -1,5 +1,5 @@
--- What wrong bodies would see of a run, refused by the words of its lines, notes, drives and windows, and of the program's ends.
-use Rattle.std.specs.Prelude.{◌≡◌, ℕ, ◌+◌, ◌-◌, ◌^◌, ◌<◌, ◌≤◌, min, List, [], ◌∷◌, Some}
+-- What wrong bodies would see of a run, refused by the words of its lines, notes, drives and windows, of faults and of the program's ends.
+use Rattle.std.specs.Prelude.{◌≡◌, ◌≢◌, ℕ, ◌+◌, ◌-◌, ◌^◌, ◌<◌, ◌≤◌, min, List, [], ◌∷◌, Some, Err}
 use Rattle.trace_lines.specs.declared.telling.Told.TheVariants.{Try}
 use Rattle.drive_pictures.specs.declared.drives.Drive.{Drive}
 use Rattle.drive_pictures.specs.Drives as drives
@@ -8,6 +8,11 @@ use Rattle.run_picture.specs.declared.columns.Window.{Window}
 use Rattle.run_view.specs.Saids.{Said}
 use Rattle.run_view.specs.Runs.{up_to, run_of}
 use Rattle.run_view.specs.Notes.{note_at}
+use Rattle.script_reader.specs.Stored.{Stored}
+use Rattle.trace_reader.specs.declared.fault.TraceKind.TheVariants.{Script}
+use Rattle.trace_reader.specs.declared.line.TraceLine.{TraceLine}
+use Rattle.trace_reader.specs.Lines.{line_number}
+use Rattle.trace_reader.specs.Reading.{standing}
 use Rattle.hpview_run.specs.declared.status.Status.TheVariants.{Usage, OutOfMemory}
 use Rattle.hpview_run.specs.declared.words.Command.{Command}
 use Rattle.hpview_run.specs.Drawing.{Draws}
@@ -40,3 +45,7 @@ WindowOneEventEarly = (command : Command) (text trace picture : List ℕ) → (d
 -- there was no memory for the words, and the program ends as with words that are no command
 abbrev pub NoMemoryTakenForUsage : Type 0
 NoMemoryTakenForUsage = ¬ (status_code Usage ≡ status_code OutOfMemory)
+
+-- of a line with two faults the second is told: its number falls, and it is none of the script's run
+abbrev pub SecondFaultRefused : Type 0
+SecondFaultRefused = (script : Stored) (before : ℕ) (line : TraceLine) → line_number line < before → Err Script ≢ standing script before line

@@ -1,17 +1,19 @@
 //! Worked rows of the program that draws: the picture of each run of `examples/` is byte for byte the one that stands beside its
-//! script, by its SHA-256, and charts and refusals are these texts, which `examples/rows.py` writes. And outcomes of
-//! wrong bodies, each refused by a law.
+//! script, by its SHA-256, and charts and refusals are these texts; those of `examples/` are written by `examples/rows.py`. And
+//! outcomes of wrong bodies, each refused by a law.
 #![tactic(auto)]
 
 ghost use Rattle.picture_rows.specs.Outcomes.{ColumnDropsAnEvent, IdleEventLeftOut, AmpersandAsItIs, CoordinateOf20000, WindowFromTheFirstEvent, LeadOfEqualsTheFirst, AllAdaptersTakenTogether, RequestBehindTheWindowShown, LineOfAnotherDrive, StretchEndedAtItsFirstColumn, GroupEndedAroundAnArm, TooltipEndedTwice};
 ghost use Rattle.picture_rows.specs.Nested.{GroupLeftOpen, LettersLeftOpen, ScriptLineLeftOpen, MarksOfAnotherUnit, LinesDropped, DriveDrawnTwice};
 ghost use Rattle.picture_rows.specs.Shown.{PositioningAtAnotherAdapter, ArmOfAnotherUnit, EventsFromZero, BarOfAnotherUnit, PanelDropsAColumn, RowOfAnotherUnit};
-ghost use Rattle.picture_rows.specs.Runs.{LastPlayNotSeen, PlayedBehindItsLines, LineInAColumnLate, TryCountedTwice, WindowOneEventEarly, NoMemoryTakenForUsage};
+ghost use Rattle.picture_rows.specs.Runs.{LastPlayNotSeen, PlayedBehindItsLines, LineInAColumnLate, TryCountedTwice, WindowOneEventEarly, NoMemoryTakenForUsage, SecondFaultRefused};
 
 #[cfg(test)]
 mod ends;
 #[cfg(test)]
 mod pictures;
+#[cfg(test)]
+mod refused;
 #[cfg(test)]
 mod texts;
 #[cfg(test)]
@@ -53,7 +55,7 @@ pub fn shown_law()
     ensures row_of_another_unit { RowOfAnotherUnit }
 {}
 
-/// A run may not be seen so, and the program not end so.
+/// A run may not be seen so, a trace not be refused so, and the program not end so.
 pub fn runs_law()
     ensures last_play_not_seen { LastPlayNotSeen }
     ensures played_behind_its_lines { PlayedBehindItsLines }
@@ -61,4 +63,5 @@ pub fn runs_law()
     ensures try_counted_twice { TryCountedTwice }
     ensures window_one_event_early { WindowOneEventEarly }
     ensures no_memory_taken_for_usage { NoMemoryTakenForUsage }
+    ensures second_fault_refused { SecondFaultRefused }
 {}

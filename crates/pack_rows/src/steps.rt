@@ -1,0 +1,135 @@
+// Steps on packs, and on the files of the working folder.
+ghost use Rattle.std.specs.Prelude.{◌<◌};
+
+use outside_files::file_sink::FileSink;
+use outside_files::files::FilePacks;
+use outside_files::folder::PackFolder;
+use outside_traits::traits::Packs;
+use outside_traits::whole::write_all;
+use pack_windows::window_packs::WindowPacks;
+use std::fs;
+use std::os::unix::fs::symlink;
+
+/// A call on the packs of a unit.
+#[derive(Clone, Copy)]
+pub(crate) enum Call {
+    Length,
+    Read(u32),
+    Write(u32, u8),
+    Marked(u32),
+    Mark(u32, bool),
+}
+
+/// What is done to a file, or asked of it.
+#[derive(Clone, Copy)]
+pub(crate) enum Deed {
+    Write(&'static [u8]),
+    Holds(&'static [u8]),
+    IsMissing,
+    Link(&'static str),
+    Remove,
+    TakesLines,
+    TakesNone,
+}
+
+/// A deed that is to be done, or a call and what it answers: `None` where it fails.
+#[derive(Clone, Copy)]
+pub(crate) enum Step {
+    On(&'static str, Deed),
+    Of(u8, Call, Option<u64>),
+}
+
+/// Whether a file holds these bytes.
+fn holds(rt: &HostRuntime, name: &str, bytes: &[u8]) -> bool {
+    match fs::read(rt, name) {
+        Ok(held) => held.as_slice() == bytes,
+        Err(_) => false,
+    }
+}
+
+/// Whether a sink that makes its file takes two lines.
+fn takes_lines(rt: &HostRuntime, name: &str) -> bool {
+    let mut file = FileSink::new(rt, name);
+    write_all(&mut file, b"idle 1\n").is_ok() && write_all(&mut file, b"idle 2\n").is_ok()
+}
+
+/// Whether a deed is done, or is so.
+fn is_done(rt: &HostRuntime, name: &str, deed: Deed) -> bool {
+    match deed {
+        Deed::Write(bytes) => fs::write(rt, name, bytes).is_ok(),
+        Deed::Holds(bytes) => holds(rt, name, bytes),
+        Deed::IsMissing => matches!(fs::exists(rt, name), Ok(false)),
+        Deed::Link(to) => symlink(rt, to, name).is_ok(),
+        Deed::Remove => fs::remove_file(rt, name).is_ok(),
+        Deed::TakesLines => takes_lines(rt, name),
+        Deed::TakesNone => !takes_lines(rt, name),
+    }
+}
+
+/// 256 times the first byte, and the last byte.
+fn edges(block: &[u8; 512]) -> u64 {
+    256 * u64::from(block[0]) + u64::from(block[511])
+}
+
+/// The edges of a block that is read into a buffer that held 7s before.
+fn edges_at<P: Packs>(packs: &mut P, unit: u8, at: u32) -> Option<u64>
+    requires { unit < 32 }
+{
+    let mut block = [7u8; 512];
+    match packs.read(unit, at, &mut block) {
+        Ok(()) => Some(edges(&block)),
+        Err(_) => None,
+    }
+}
+
+/// What a call answers; None where it fails.
+fn answer<P: Packs>(packs: &mut P, unit: u8, call: Call) -> Option<u64> {
+    let unit = unit.min(31);
+    match call {
+        Call::Length => packs.length(unit).ok(),
+        Call::Read(at) => edges_at(packs, unit, at),
+        Call::Write(at, byte) => packs.write(unit, at, &[byte; 512]).is_ok().then_some(0),
+        Call::Marked(at) => match packs.marked(unit, at) {
+            Ok(on) => Some(u64::from(on)),
+            Err(_) => None,
+        },
+        Call::Mark(at, on) => packs.set_mark(unit, at, on).is_ok().then_some(0),
+    }
+}
+
+/// How often a step fails before it goes as it should, which is at most once; `None` where it goes otherwise.
+fn failures<P: Packs>(rt: &HostRuntime, packs: &mut P, step: &Step) -> Option<usize> {
+    let (unit, call, wanted) = match *step {
+        Step::On(name, deed) => return is_done(rt, name, deed).then_some(0),
+        Step::Of(unit, call, wanted) => (unit, call, wanted),
+    };
+    let answered = answer(packs, unit, call);
+    if answered == wanted {
+        return Some(0);
+    }
+    if answered.is_none() && answer(packs, unit, call) == wanted {
+        return Some(1);
+    }
+    None
+}
+
+/// How many of these steps fail once; `None` where one goes otherwise.
+fn failures_of<P: Packs>(rt: &HostRuntime, packs: &mut P, steps: &[Step]) -> Option<usize> {
+    let mut count = 0usize;
+    for step in steps {
+        count = count.saturating_add(failures(rt, packs, step)?);
+    }
+    Some(count)
+}
+
+/// The same on new packs in the files of a folder, which read ahead.
+pub(crate) fn failures_over<F: PackFolder + Drop>(
+    rt: &HostRuntime,
+    folder: F,
+    steps: &[Step],
+) -> Option<usize> {
+    match WindowPacks::new(rt.alloc(), FilePacks::over(folder)) {
+        Ok(mut packs) => failures_of(rt, &mut packs, steps),
+        Err(_) => None,
+    }
+}
