@@ -73,55 +73,39 @@ static ROWS: [Row; 12] = [
 
 // The packs of a trial, on which the call of this number fails.
 fn packs_for(alloc: Global, trial: Trial, number: u64) -> FewBlocks {
-    match trial {
-        Trial::Mark | MarkedWrite => few_blocks(alloc, &[0], number, Wrong::Fails),
-        _ => few_blocks(alloc, &[], number, Wrong::Fails),
-    }
+    let marks: &'static [u32] = match trial {
+        Trial::Mark | MarkedWrite => &[0],
+        _ => &[],
+    };
+    few_blocks(alloc, marks, number, Wrong::Fails)
 }
 
 // A book with the noise of a trial at block 0, where it has any.
 fn book_for(alloc: Global, trial: Trial) -> Option<NoiseBook> {
-    let mut book = NoiseBook::new(alloc, 1).ok()?;
-    if let Noisy(places) = trial {
-        book.arm(4, 0, Noise::new(places)?, NoiseSpan::Times(1));
+    let noise = match trial {
+        Noisy(places) => Noise::new(places),
+        _ => None,
+    };
+    let Ok(mut book) = NoiseBook::new(alloc, 1) else {
+        return None;
+    };
+    match noise {
+        Some(noise) => book.arm(4, 0, noise, NoiseSpan::Times(1)),
+        None => {}
     }
     Some(book)
 }
 
-// Whether a try of block 0 comes to a row, and before it, where a call on the packs fails, one that changes nothing.
-fn tries(
-    kind: DriveKind,
-    row: &Row,
-    fails: bool,
-    packs: &mut FewBlocks,
-    book: &mut NoiseBook,
-    window: &mut Window<'_>,
-) -> bool {
-    let (trial, verdict, words, _) = *row;
-    let mut drive = transferring(kind, trial);
-    window.copy_in(&[0x11; 512]);
-    if fails {
-        let is_refused = drive.move_sector(packs, 4, 0, book, window).is_err();
-        let mut left = [0; 512];
-        window.copy_out(&mut left);
-        if !is_refused || drive.read_register(Register::Er1) != 0 || left != [0x11; 512] {
-            return false;
-        }
-    }
-    // An RM03 and an RM05 tell a mark in Er2.
-    let (er1, er2) = match (verdict, kind) {
+// Whether a drive has the error registers of a row; an RM03 and an RM05 tell a mark in Er2.
+fn shows_error(drive: &Drive, kind: DriveKind, row: &Row) -> bool {
+    let (er1, er2) = match (row.1, kind) {
         (Moved::Marked, DriveKind::Rm03 | DriveKind::Rm05) => (0, 0o100000),
-        _ => words,
+        _ => row.2,
     };
-    let Ok(found) = drive.move_sector(packs, 4, 0, book, window) else {
-        return false;
-    };
-    found == verdict
-        && drive.read_register(Register::Er1) == er1
-        && drive.read_register(Register::Er2) == er2
+    drive.read_register(Register::Er1) == er1 && drive.read_register(Register::Er2) == er2
 }
 
-// Whether a row holds where the call of this number fails, or where none does, for 0.
+// Whether a try of block 0 comes to a row, or is told to fail with the call of this number, behind which none comes.
 fn is_tried(
     alloc: Global,
     kind: DriveKind,
@@ -133,12 +117,16 @@ fn is_tried(
         return false;
     };
     let mut packs = packs_for(alloc, row.0, number);
-    tries(kind, row, number > 0, &mut packs, &mut book, window)
-        && packs.calls == row.3.saturating_add(number)
+    let mut drive = transferring(kind, row.0);
+    let is_told = match drive.move_sector(&mut packs, 4, 0, &mut book, window) {
+        Ok(verdict) => number == 0 && verdict == row.1 && shows_error(&drive, kind, row),
+        Err(_) => number > 0,
+    };
+    is_told && packs.calls == if number > 0 { number } else { row.3 }
 }
 
-// Whether a row holds for each kind, where no call fails, and where each does.
-fn are_tried(alloc: Global, row: &Row) -> bool {
+// Whether a row holds where no call fails, and where each does.
+fn are_tried(alloc: Global, kind: DriveKind, row: &Row) -> bool {
     let Ok(mut memory) = MainMemory::new(alloc) else {
         return false;
     };
@@ -147,11 +135,9 @@ fn are_tried(alloc: Global, row: &Row) -> bool {
     };
     let buffer = to_bus(buffer);
     let mut window = memory.window(&buffer, 0);
-    for (kind, _, _) in &KINDS {
-        for number in 0..=row.3 {
-            if !is_tried(alloc, *kind, row, number, &mut window) {
-                return false;
-            }
+    for number in 0..=row.3 {
+        if !is_tried(alloc, kind, row, number, &mut window) {
+            return false;
         }
     }
     true
@@ -159,8 +145,10 @@ fn are_tried(alloc: Global, row: &Row) -> bool {
 
 #[test]
 fn verdicts(rt: HostRuntime) {
-    for row in &ROWS {
-        assert!(rt; are_tried(rt.alloc(), row));
+    for (kind, _, _) in &KINDS {
+        for row in &ROWS {
+            assert!(rt; are_tried(rt.alloc(), *kind, row));
+        }
     }
 }
 

@@ -44,18 +44,22 @@ fn content_of(first: u8) -> [u8; 512] {
 
 /// Whether just that was written which a whole run writes by calls of lower numbers.
 fn is_front(written: &[Written], number: u64) -> bool {
-    let mut own = written.iter();
-    for (call, block, first) in &WRITES {
-        if *call < number {
-            match own.next() {
-                Some(it)
-                    if it.call == *call && it.block == *block && it.bytes == content_of(*first) =>
-                    {}
-                _ => return false,
+    for i in 0..15usize {
+        let (call, block, first) = WRITES[i];
+        let is_so = match written.get(i) {
+            Some(it) => {
+                call < number
+                    && it.call == call
+                    && it.block == block
+                    && it.bytes == content_of(first)
             }
+            None => number <= call,
+        };
+        if !is_so {
+            return false;
         }
     }
-    own.next().is_none()
+    written.len() <= 15
 }
 
 /// How a run ends.

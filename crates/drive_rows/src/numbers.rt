@@ -1,4 +1,4 @@
-// Numbers and texts that come from outside: the code's checks and verdicts, headers, the ends of partitions, and a line.
+// Numbers that come from outside: the code's checks and verdicts, the ends of partitions, and headers.
 use Admission::{Eof, Inside, Outside};
 use DriveKind::{Rm03, Rm05, Rp06};
 use fire_code::{
@@ -7,7 +7,6 @@ use fire_code::{
 use pack_geometry::DriveKind;
 use partitions::{Admission, Part, admit};
 use sector_format::{HeaderFault, header_fault, header_of};
-use trace_lines::{LineText, Told};
 
 // Whether 511 zeros and this byte have this check, by the tables and by the plain program.
 fn has_check(last: u8, check: u32) -> bool {
@@ -133,17 +132,9 @@ fn has_header(row: &Row) -> bool {
         && header_fault(kind, header, block) == fault
 }
 
-// The line of a seek at line 4 of the script, of unit 9, for request 30.
-fn tells_seek() -> bool {
-    let mut text = LineText::new();
-    text.write(4, 9, 30, Told::Seek { cylinder: 822 });
-    text.as_bytes() == b"cmd 4 9 30 seek 822\n".as_slice()
-}
-
 #[test]
-fn headers_and_a_line(rt: HostRuntime) {
+fn headers(rt: HostRuntime) {
     for row in &HEADERS {
         assert!(rt; has_header(row));
     }
-    assert!(rt; tells_seek());
 }
