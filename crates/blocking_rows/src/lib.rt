@@ -2,8 +2,8 @@
 //! read back; and one of raw transfers, as `raw_io`'s page shows it.
 //!
 //! What is proved: `attached` gives a driver that is ready, `write_then_read` and `put_then_get` may ask what they ask, and leave it ready.
-//! Only tested, in `drive_rows`: that blocks come back over a marked one that the table lists, and where it lists none not, and that bytes
-//! come back across two blocks.
+//! Only tested: in `drive_rows` that the blocks come back over a marked one that the table lists, and where it lists none not; in
+//! `hpsim_rows` raw transfers across two blocks, at the end of a partition, over a block that can't be used, and of a dump.
 #![tactic(auto)]
 
 mod caller;
