@@ -1,15 +1,11 @@
-//! A caller of requests that are waited for, as `CALLING.md` of `blocking_io` shows it: an RM03 in memory is attached, three blocks are
-//! written over a marked one, and read back; and one of raw transfers, as `raw_io`'s page shows it.
+//! A caller of requests that are waited for, as `CALLING.md` of `blocking_io` shows it: an RM03 is attached, three blocks are written, and
+//! read back; and one of raw transfers, as `raw_io`'s page shows it.
 //!
 //! What is proved: `attached` gives a driver that is ready, `write_then_read` and `put_then_get` may ask what they ask, and leave it ready.
-//! Only tested: that the blocks come back over a marked one that the table lists, and where it lists none not; and raw transfers across
-//! two blocks, at the end of a partition, over a block that can't be used, and of a dump.
+//! Only tested: in `drive_rows` that the blocks come back over a marked one that the table lists, and where it lists none not; in
+//! `hpsim_rows` raw transfers across two blocks, at the end of a partition, over a block that can't be used, and of a dump.
 #![tactic(auto)]
 
 mod caller;
-#[cfg(test)]
-mod raw;
-#[cfg(test)]
-mod rows;
 
 pub use caller::{attached, put_then_get, write_then_read};

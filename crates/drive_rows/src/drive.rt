@@ -1,6 +1,8 @@
+// What a drive leaves in its registers, and what moving a sector and attaching a pack come to where a call on the packs fails.
 ghost use Rattle.std.specs.Prelude.{◌≡◌, true};
 ghost use Rattle.hardware_table.specs.Drive.{is_transferring};
 
+use crate::few_blocks::{FewBlocks, Wrong, few_blocks};
 use FaultKind::{Dte, Hcrc, Late, Opi, Seek};
 use Function::{Centre, Nop, Read, Search, Write, WriteHeader};
 use Moved::Faulted;
@@ -9,9 +11,7 @@ use drive_model::{Drive, FaultKind, Moved, NoiseBook, NoiseSpan, Register};
 use drive_registers::Function;
 use fire_code::Noise;
 use main_memory::{MainMemory, Window, to_bus};
-use mass_outside::mem_packs::{FailCall, MemPacks, PackOp};
-use mass_outside::slots::Image;
-use outside_traits::traits::NoMemory;
+use mba_autoconf::{AttachFault, attach};
 use pack_geometry::DriveKind;
 use std::alloc::Global;
 
@@ -47,12 +47,8 @@ fn transferring(kind: DriveKind, trial: Trial) -> Drive
     drive
 }
 
-// The verdict of a trial, the error registers Er1 and Er2 that it leaves, and the calls on the packs that it makes.
-type Row = (Trial, Moved, (u16, u16), &'static [PackOp]);
-
-const READS: &[PackOp] = &[PackOp::Marked, PackOp::Read];
-
-const WRITES: &[PackOp] = &[PackOp::Marked, PackOp::Write];
+// The verdict of a trial, the error registers Er1 and Er2 that it leaves, and how many calls on the packs it makes.
+type Row = (Trial, Moved, (u16, u16), u64);
 
 const SHORT: Moved = Moved::Burst {
     at: 4091,
@@ -61,129 +57,97 @@ const SHORT: Moved = Moved::Burst {
 
 // Of a mark it has what an RP06 leaves.
 static ROWS: [Row; 12] = [
-    (Trial::Offline, Moved::Offline, (0o40000, 0), &[]),
-    (Fault(Seek), Faulted(Seek), (0, 0o40000), &[]),
-    (Fault(Opi), Faulted(Opi), (0o20000, 0), &[]),
-    (Fault(Dte), Faulted(Dte), (0o10000, 0), &[]),
-    (Fault(Hcrc), Faulted(Hcrc), (0o400, 0), &[]),
-    (Fault(Late), Faulted(Late), (0, 0), &[]),
-    (Trial::Mark, Moved::Marked, (0o20, 0), &[PackOp::Marked]),
-    (MarkedWrite, Moved::Marked, (0o20, 0), &[PackOp::Marked]),
-    (Trial::Write, Moved::Clean, (0, 0), WRITES),
-    (Noisy(&[0, 9, 11, 21, 30, 32]), Moved::Clean, (0, 0), READS),
-    (Noisy(&[4090, 4100]), SHORT, (0o100000, 0), READS),
-    (Noisy(&[0, 7, 14]), Moved::Hard, (0o100100, 0), READS),
+    (Trial::Offline, Moved::Offline, (0o40000, 0), 0),
+    (Fault(Seek), Faulted(Seek), (0, 0o40000), 0),
+    (Fault(Opi), Faulted(Opi), (0o20000, 0), 0),
+    (Fault(Dte), Faulted(Dte), (0o10000, 0), 0),
+    (Fault(Hcrc), Faulted(Hcrc), (0o400, 0), 0),
+    (Fault(Late), Faulted(Late), (0, 0), 0),
+    (Trial::Mark, Moved::Marked, (0o20, 0), 1),
+    (MarkedWrite, Moved::Marked, (0o20, 0), 1),
+    (Trial::Write, Moved::Clean, (0, 0), 2),
+    (Noisy(&[0, 9, 11, 21, 30, 32]), Moved::Clean, (0, 0), 2),
+    (Noisy(&[4090, 4100]), SHORT, (0o100000, 0), 2),
+    (Noisy(&[0, 7, 14]), Moved::Hard, (0o100100, 0), 2),
 ];
 
-// An image of unit 4 with two blocks, of which the first is marked or not.
-fn images(alloc: Global, mark: u8) -> Result<Vec<Image>, NoMemory> {
-    let bytes = Vec::from_slice(alloc, &[0x5a; 1024])?;
-    let marks = Vec::from_slice(alloc, &[mark])?;
-    let image = Image {
-        unit: 4,
-        bytes,
-        marks,
-        blocks: 2,
+// The packs of a trial, on which the call of this number fails.
+fn packs_for(alloc: Global, trial: Trial, number: u64) -> FewBlocks {
+    let marks: &'static [u32] = match trial {
+        Trial::Mark | MarkedWrite => &[0],
+        _ => &[],
     };
-    Ok(Vec::from_array(alloc, [image])?)
-}
-
-// The packs of a trial.
-fn packs_for(alloc: Global, trial: Trial, fails: &[FailCall]) -> Result<MemPacks, NoMemory> {
-    let mark = match trial {
-        Trial::Mark | MarkedWrite => 1,
-        _ => 0,
-    };
-    let calls = Vec::from_slice(alloc, fails)?;
-    MemPacks::new(alloc, images(alloc, mark)?, calls)
+    few_blocks(alloc, marks, number, Wrong::Fails)
 }
 
 // A book with the noise of a trial at block 0, where it has any.
 fn book_for(alloc: Global, trial: Trial) -> Option<NoiseBook> {
-    let mut book = NoiseBook::new(alloc, 1).ok()?;
-    if let Noisy(places) = trial {
-        book.arm(4, 0, Noise::new(places)?, NoiseSpan::Times(1));
+    let noise = match trial {
+        Noisy(places) => Noise::new(places),
+        _ => None,
+    };
+    let Ok(mut book) = NoiseBook::new(alloc, 1) else {
+        return None;
+    };
+    match noise {
+        Some(noise) => book.arm(4, 0, noise, NoiseSpan::Times(1)),
+        None => {}
     }
     Some(book)
 }
 
-// Whether a try of block 0 comes to a row, and before it, where a call on the packs fails, one that changes nothing.
-fn tries(
-    kind: DriveKind,
-    row: &Row,
-    fails: bool,
-    packs: &mut MemPacks,
-    book: &mut NoiseBook,
-    window: &mut Window<'_>,
-) -> bool {
-    let (trial, verdict, words, _) = *row;
-    let mut drive = transferring(kind, trial);
-    window.copy_in(&[0x77; 512]);
-    if fails {
-        let is_refused = drive.move_sector(packs, 4, 0, book, window).is_err();
-        let mut left = [0; 512];
-        window.copy_out(&mut left);
-        if !is_refused || drive.read_register(Register::Er1) != 0 || left != [0x77; 512] {
-            return false;
-        }
-    }
-    // An RM03 and an RM05 tell a mark in Er2.
-    let (er1, er2) = match (verdict, kind) {
+// Whether a drive has the error registers of a row; an RM03 and an RM05 tell a mark in Er2.
+fn shows_error(drive: &Drive, kind: DriveKind, row: &Row) -> bool {
+    let (er1, er2) = match (row.1, kind) {
         (Moved::Marked, DriveKind::Rm03 | DriveKind::Rm05) => (0, 0o100000),
-        _ => words,
+        _ => row.2,
     };
-    let Ok(found) = drive.move_sector(packs, 4, 0, book, window) else {
-        return false;
-    };
-    found == verdict
-        && drive.read_register(Register::Er1) == er1
-        && drive.read_register(Register::Er2) == er2
+    drive.read_register(Register::Er1) == er1 && drive.read_register(Register::Er2) == er2
 }
 
-// The same of new packs and a new book.
-fn tries_anew(
+// Whether a try of block 0 comes to a row, or is told to fail with the call of this number, behind which none comes.
+fn is_tried(
     alloc: Global,
     kind: DriveKind,
     row: &Row,
-    fails: &[FailCall],
+    number: u64,
     window: &mut Window<'_>,
 ) -> bool {
-    let Ok(mut packs) = packs_for(alloc, row.0, fails) else {
-        return false;
-    };
     let Some(mut book) = book_for(alloc, row.0) else {
         return false;
     };
-    tries(kind, row, !fails.is_empty(), &mut packs, &mut book, window)
+    let mut packs = packs_for(alloc, row.0, number);
+    let mut drive = transferring(kind, row.0);
+    let is_told = match drive.move_sector(&mut packs, 4, 0, &mut book, window) {
+        Ok(verdict) => number == 0 && verdict == row.1 && shows_error(&drive, kind, row),
+        Err(_) => number > 0,
+    };
+    is_told && packs.calls == if number > 0 { number } else { row.3 }
 }
 
 // Whether a row holds where no call fails, and where each does.
-fn is_tried(alloc: Global, kind: DriveKind, row: &Row, window: &mut Window<'_>) -> bool {
-    for op in row.3 {
-        let fail = FailCall { op: *op, number: 1 };
-        if !tries_anew(alloc, kind, row, &[fail], window) {
-            return false;
-        }
-    }
-    tries_anew(alloc, kind, row, &[], window)
-}
-
-// The same with a window in new memory.
-fn is_tried_anew(alloc: Global, kind: DriveKind, row: &Row) -> bool {
+fn are_tried(alloc: Global, kind: DriveKind, row: &Row) -> bool {
     let Ok(mut memory) = MainMemory::new(alloc) else {
         return false;
     };
     let Ok(buffer) = memory.lend(1, 0, 512) else {
         return false;
     };
-    is_tried(alloc, kind, row, &mut memory.window(&to_bus(buffer), 0))
+    let buffer = to_bus(buffer);
+    let mut window = memory.window(&buffer, 0);
+    for number in 0..=row.3 {
+        if !is_tried(alloc, kind, row, number, &mut window) {
+            return false;
+        }
+    }
+    true
 }
 
 #[test]
 fn verdicts(rt: HostRuntime) {
-    for (kind, _) in &KINDS {
-        for (at, row) in ROWS.iter().enumerate() {
-            assert!(rt; is_tried_anew(rt.alloc(), *kind, row), "{at}");
+    for (kind, _, _) in &KINDS {
+        for row in &ROWS {
+            assert!(rt; are_tried(rt.alloc(), *kind, row));
         }
     }
 }
@@ -231,23 +195,55 @@ fn does_function(kind: DriveKind, row: &Done) -> bool {
     is_left && shows(&drive, [Register::Ds, Register::Cc, Register::La], arrived)
 }
 
-// The type word of each kind.
-static KINDS: [(DriveKind, u16); 3] = [
-    (DriveKind::Rp06, 0o20022),
-    (DriveKind::Rm03, 0o20024),
-    (DriveKind::Rm05, 0o20027),
+// A kind of drive, its type word, and the most bytes that an image of it may have.
+type Kind = (DriveKind, u16, u64);
+
+static KINDS: [Kind; 3] = [
+    (DriveKind::Rp06, 0o20022, 174_423_040),
+    (DriveKind::Rm03, 0o20024, 67_420_160),
+    (DriveKind::Rm05, 0o20027, 256_196_608),
 ];
 
-fn has_type(row: &(DriveKind, u16)) -> bool {
+// Whether a drive of this kind has its type word, and does all functions.
+fn is_kind(row: &Kind) -> bool {
+    for done in &FUNCTIONS {
+        if !does_function(row.0, done) {
+            return false;
+        }
+    }
     Drive::new(row.0, 3).read_register(Register::Dt) == row.1
 }
 
 #[test]
 fn registers(rt: HostRuntime) {
     for row in &KINDS {
-        assert!(rt; has_type(row));
-        for (at, done) in FUNCTIONS.iter().enumerate() {
-            assert!(rt; does_function(row.0, done), "{at}");
+        assert!(rt; is_kind(row));
+    }
+}
+
+// Whether a pack that is so many bytes longer than it may be, and has no table, is attached with so many calls, of which that of this
+// number fails: where it is as long as it may be, and no call fails, it is; else it is told to be too long, or that a call failed.
+fn is_attached(alloc: Global, row: &Kind, more: u64, number: u64, calls: u64) -> bool {
+    let (kind, _, most) = *row;
+    let mut packs = few_blocks(alloc, &[], number, Wrong::Fails);
+    packs.length = most.saturating_add(more);
+    let is_told = match attach(&mut Drive::new(kind, 3), &mut packs, 3) {
+        Ok(found) => more == 0 && number == 0 && found.kind == kind && found.table.is_none(),
+        Err(AttachFault::TooLong { length }) => more == 1 && length == packs.length,
+        Err(AttachFault::Store) => number > 0,
+    };
+    is_told && packs.calls == calls
+}
+
+#[test]
+fn attached_up_to_the_call_that_fails(rt: HostRuntime) {
+    for row in &KINDS {
+        // Its length, and a mark and a read of each copy of the table.
+        assert!(rt;
+            is_attached(rt.alloc(), row, 0, 0, 11) && is_attached(rt.alloc(), row, 1, 0, 1)
+        );
+        for number in 1..=11 {
+            assert!(rt; is_attached(rt.alloc(), row, 0, number, number));
         }
     }
 }

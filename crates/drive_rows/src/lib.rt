@@ -1,22 +1,18 @@
-//! Tests of memory, the drive, its adapter, attaching, interrupts, transfers, the queue, the lines of a trace and the driver's start.
-//! There are tests alone here, so that the crates that they test are proved once.
+//! Tests of memory, the queue, the drive and its attaching, of numbers that come from outside, of the formatter's single calls, each of
+//! which goes wrong once, and of the caller of `blocking_rows`. There are tests alone here, so that the crates that they test are proved once.
 #![tactic(auto)]
 
 #[cfg(test)]
-mod adapter;
-#[cfg(test)]
-mod configuration;
+mod asking;
 #[cfg(test)]
 mod drive;
 #[cfg(test)]
-mod driver;
+mod few_blocks;
 #[cfg(test)]
-mod interrupts;
-#[cfg(test)]
-mod lines;
+mod formatting;
 #[cfg(test)]
 mod memory;
 #[cfg(test)]
-mod queue;
+mod numbers;
 #[cfg(test)]
-mod transfer;
+mod queue;

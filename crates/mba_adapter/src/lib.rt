@@ -5,7 +5,7 @@
 //! sector between the pack and its block of the loaded buffer, keeps every other byte of memory, and ends the drive's transfer
 //! exactly where the completion goes up; `complete` gives the buffer back with the sectors moved clean and the last verdict.
 //!
-//! Only tested, in `drive_rows`: worked values, beside their proofs.
+//! Nothing here is only tested.
 #![tactic(auto)]
 
 mod adapter;

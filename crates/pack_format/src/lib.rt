@@ -9,7 +9,7 @@
 //! last one, since its station is never at rest again (`block_tests`). A byte that came back otherwise is one that was written
 //! in that block (`IsFault`).
 //!
-//! Only tested, in `hpsim_rows` and `part_rows`: that A5 is written first, that blocks are read back, that a call that fails
+//! Only tested, in `hpsim_rows` and `drive_rows`: that A5 is written first, that blocks are read back, that a call that fails
 //! is told as `Store`, texts, and that memory suffices.
 #![tactic(auto)]
 

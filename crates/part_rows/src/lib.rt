@@ -1,30 +1,9 @@
-//! Tests of the parts on which drives, driver and tool stand, and of the formatter's single calls, each of which goes wrong once; and
-//! outcomes of wrong bodies of the parts, each refused by a law. So these crates are proved once.
+//! Outcomes of wrong bodies of the parts on which drives, driver and charts stand, each refused by a law, so that these crates are
+//! proved once.
 #![tactic(auto)]
 
 ghost use Rattle.part_rows.specs.Places.{ReplacementOffByOne, Rm05LimitBy22Sectors, SectorTooMany, EndIsOutside, OneBlockPastTheEnd, Rm05GByRm03, FormatBeforeTheBadSector, MarkedHeaderKeepsItsGoodBit, Rm05MarkedAsAnRp06, BytesAsTheyAre, PlusForATextThatFits};
 ghost use Rattle.part_rows.specs.Registers.{CodesOfTwoFunctionsSwapped, UnknownCodeIsNop, StatusBitMoved, OffsetForAWrite, OffsetOneFailureLate, LaterTryWaitsForTheSector, Search4Ahead};
-
-#[cfg(test)]
-mod calls;
-#[cfg(test)]
-mod code;
-#[cfg(test)]
-mod cut_packs;
-#[cfg(test)]
-mod geometry;
-#[cfg(test)]
-mod headers;
-#[cfg(test)]
-mod parts;
-#[cfg(test)]
-mod polls;
-#[cfg(test)]
-mod repairs;
-#[cfg(test)]
-mod schedule;
-#[cfg(test)]
-mod seeks;
 
 /// Of places, partitions, headers and charts this may not be said.
 pub fn places_law()

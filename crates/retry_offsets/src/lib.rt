@@ -3,7 +3,7 @@
 //!
 //! What is proved: `next_step` is the schedule, and GiveUp exactly at 28.
 //!
-//! Only tested, in `drive_rows`: worked values, beside their proofs.
+//! Nothing here is only tested.
 #![tactic(auto)]
 
 ghost use Rattle.std.specs.Prelude.{◌≡◌, ◌≤◌, ◌↔◌};

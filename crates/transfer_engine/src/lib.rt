@@ -7,7 +7,7 @@
 //! moves on; Exhausted exactly at failure 28; after a forwarded block the rest begins one block later; a sequence of calls
 //! ends.
 //!
-//! Only tested, in `drive_rows`: worked values, beside their proofs.
+//! Nothing here is only tested.
 #![tactic(auto)]
 
 mod calls;

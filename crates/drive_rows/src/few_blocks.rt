@@ -1,4 +1,4 @@
-// An RM03 that is cut small: few of its blocks are written.
+// A pack of which few blocks are written, and on which one call goes wrong.
 ghost use Rattle.std.specs.Prelude.{◌≡◌};
 ghost use Rattle.outside_traits.specs.Causes.{HasCause};
 
@@ -24,39 +24,42 @@ pub(crate) struct Written {
     pub(crate) bytes: [u8; 512],
 }
 
-impl Written {
-    fn is(&self, other: &Written) -> bool {
-        self.call == other.call && self.block == other.block && self.bytes == other.bytes
-    }
-}
-
-/// The first reading of all blocks ends with this call: the length, a mark and a read of each of 131,653 blocks, but no read of the two
-/// that are marked.
+/// So many calls the first reading of an RM03 makes that is formatted: the length, a mark and a read of each of 131,653 blocks, but no
+/// read of the two that are marked.
 pub(crate) const SURVEYED: u64 = 263_305;
 
-/// An RM03 full of 77, on which one call goes wrong. Blocks 5 and 160 are marked; behind the first reading all data blocks are, but for the
-/// first, the last, and one in the middle. It keeps what is written, and tells nothing.
+/// A pack full of 77, on which one call goes wrong. Some of its blocks are marked, and behind the first reading of a whole RM03 all data
+/// blocks are, but for the first, the last, and one in the middle. It keeps what is written, and tells nothing.
 #[derive(Drop)]
-pub(crate) struct CutPacks {
+pub(crate) struct FewBlocks {
+    pub(crate) length: u64,
     pub(crate) calls: u64,
-    pub(crate) failed: u64,
-    pub(crate) number: u64,
-    pub(crate) wrong: Wrong,
     pub(crate) written: Vec<Written>,
+    marks: &'static [u32],
+    failed: u64,
+    number: u64,
+    wrong: Wrong,
 }
 
-/// Such packs, of which the call of this number goes wrong so.
-pub(crate) fn cut(alloc: Global, number: u64, wrong: Wrong) -> CutPacks {
-    CutPacks {
+/// A pack as long as an RM03's, with these blocks marked, of which the call of this number goes wrong so.
+pub(crate) fn few_blocks(
+    alloc: Global,
+    marks: &'static [u32],
+    number: u64,
+    wrong: Wrong,
+) -> FewBlocks {
+    FewBlocks {
+        length: 67_420_160,
         calls: 0,
+        written: Vec::new(alloc),
+        marks,
         failed: 0,
         number,
         wrong,
-        written: Vec::new(alloc),
     }
 }
 
-impl CutPacks {
+impl FewBlocks {
     /// Counts a call, which fails where it is to.
     fn call(&mut self) -> Result<(), StoreFailed>
         ensures { HasCause self.old.failed self.new.failed result }
@@ -78,17 +81,6 @@ impl CutPacks {
         }
     }
 
-    /// Whether that call lies.
-    fn lies(&self) -> bool {
-        matches!(self.wrong_now(), Some(Wrong::Lies))
-    }
-
-    /// Whether a block is marked.
-    fn is_bad(&self, block: u32) -> bool {
-        let good = block == 0 || block == 65_760 || block > 131_520;
-        block == 5 || block == 160 || (!good && self.calls > SURVEYED)
-    }
-
     /// What a block holds.
     pub(crate) fn content(&self, block: u32) -> [u8; 512] {
         let mut bytes = [0x77; 512];
@@ -98,22 +90,6 @@ impl CutPacks {
             }
         }
         bytes
-    }
-
-    /// Whether just that was written which a whole run writes before the call that goes wrong, and by that call where it did what it was to do.
-    pub(crate) fn is_front(&self, whole: &CutPacks) -> bool {
-        let fails_behind = matches!(self.wrong, Wrong::FailsBehind);
-        let behind = self.number.saturating_add(u64::from(fails_behind));
-        let mut own = self.written.iter();
-        for other in &whole.written {
-            if other.call < behind {
-                match own.next() {
-                    Some(it) if it.is(other) => {}
-                    _ => return false,
-                }
-            }
-        }
-        own.next().is_none()
     }
 
     /// Keeps what is written.
@@ -128,7 +104,7 @@ impl CutPacks {
     }
 }
 
-impl Packs for CutPacks {
+impl Packs for FewBlocks {
     ghost use Rattle.std.specs.Prelude.{false};
     ghost use Rattle.pack_geometry.specs.Pack.{empty_pack};
 
@@ -140,13 +116,13 @@ impl Packs for CutPacks {
 
     fn length(&mut self, _: u8) -> Result<u64, StoreFailed> {
         self.call()?;
-        Ok(67_420_160)
+        Ok(self.length)
     }
 
     fn read(&mut self, _: u8, block: u32, into: &mut [u8; 512]) -> Result<(), StoreFailed> {
         self.call()?;
         *into = self.content(block);
-        if self.lies() {
+        if matches!(self.wrong_now(), Some(Wrong::Lies)) {
             into[511] = !into[511];
         }
         Ok(())
@@ -162,7 +138,9 @@ impl Packs for CutPacks {
 
     fn marked(&mut self, _: u8, block: u32) -> Result<bool, StoreFailed> {
         self.call()?;
-        Ok(self.lies() || self.is_bad(block))
+        let lies = matches!(self.wrong_now(), Some(Wrong::Lies));
+        let good = block == 0 || block == 65_760 || block > 131_520;
+        Ok(lies || self.marks.contains(&block) || (!good && self.calls > SURVEYED))
     }
 
     fn set_mark(&mut self, _: u8, _: u32, _: bool) -> Result<(), StoreFailed> {
