@@ -19,8 +19,8 @@ use Rattle.hp_exercise.specs.Exercise.{script_text}
 use Rattle.hp_exercise.specs.Statements.{script_statements}
 use Rattle.driver_laws.specs.rules.Promises.{Promises}
 use Rattle.event_player.specs.Passes.{IsTheRun}
-use Rattle.script_commands.specs.Room.{AreEmpty}
-use Rattle.script_commands.specs.ExerciseText.{exercise_text}
+use Rattle.hp_exercise.specs.Room.{AreEmpty}
+use Rattle.hp_exercise.specs.ExerciseText.{exercise_text}
 
 -- THE SCRIPT of a number, in 2,051 lines
 abbrev pub exercise_lines : ℕ → List Numbered

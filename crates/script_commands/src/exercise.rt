@@ -3,13 +3,10 @@ ghost use Rattle.std.specs.Prelude.{◌≡◌, ◌⊎◌, IfOk, OnOk, IsErrOf};
 ghost use Rattle.outside_traits.specs.Causes.{Rose};
 ghost use Rattle.script_commands.specs.Exercises.{Exercised, IsCutShort, IsDone, IsStopped};
 
-use crate::packs::ExercisePacks;
-use crate::text::exercise_lines;
 use answer_lines::Tally;
 use driver_laws::rules::promises::promises_law;
 use event_player::play::{PlayFault, play};
-use hp_exercise::{bounds_law, script_of, spelling_law};
-use mass_outside::mem_streams::SureSink;
+use hp_exercise::{ExercisePacks, SureSink, bounds_law, exercise_lines, script_of, spelling_law};
 use outside_traits::traits::{Sink, SinkFailed};
 use outside_traits::whole::write_all;
 use script_reader::meaning::meaning_law;

@@ -6,7 +6,7 @@ ghost use Rattle.pack_commands.specs.declared.words.Command.TheVariants.{Play};
 ghost use Rattle.script_commands.specs.Leaves.{LeavesAlone};
 ghost use Rattle.script_commands.specs.Plays.{RunsPlay};
 
-use crate::load::{LoadFault, load};
+use command_parts::load::{LoadFault, load};
 use command_parts::{Status, too_long};
 use driver_laws::rules::promises::{beginnings_law, promises_law};
 use event_player::next_block_law;

@@ -5,7 +5,7 @@ use Rattle.std.proofs.lemmas.Option.{same_Some}
 use Rattle.mass_outside.specs.Memory.{is_outside}
 use Rattle.mass_outside.specs.Slots.{SlotView, blocks_in, slot_marked}
 use Rattle.mass_outside.specs.Sure.{SureView, SureMarked}
-use Rattle.script_commands.specs.Room.{HasRoom, room_on}
+use Rattle.hp_exercise.specs.Room.{HasRoom, room_on}
 
 set_rooms : (slots : List SlotView) (unit : ℕ) (slot new : SlotView) (x : ℕ) → slice_get slots unit ≡ Some slot → new.blocks ≡ slot.blocks
     → blocks_in (slice_get (slice_set slots unit new) x) ≡ blocks_in (slice_get slots x)

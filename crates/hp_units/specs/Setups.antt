@@ -1,7 +1,7 @@
 -- The units that are set up.
 use Rattle.std.specs.Prelude.{List, map}
 use Rattle.driver_machine.specs.World.{Setup}
-use Rattle.hp_core.specs.declared.start.UnitSetup.{UnitSetup}
+use Rattle.hp_units.specs.declared.setup.UnitSetup.{UnitSetup}
 
 -- what the setup of a unit says
 abbrev pub setup_of : UnitSetup → Setup

@@ -1,6 +1,6 @@
 use Rattle.script_lines.specs.Words.{all_verbs}
-use Rattle.script_commands.proofs.LoadLaws.{play_by_front, play_found, play_no_fault, refused_all}
-use Rattle.script_commands.proofs.load.load.Goals as goal
+use Rattle.command_parts.proofs.LoadLaws.{play_by_front, play_found, play_no_fault, refused_all}
+use Rattle.command_parts.proofs.load.load.Goals as goal
 
 pub returns-in_err-script-clause-refused : goal.returns-in_err-script-clause-refused
 returns-in_err-script-clause-refused g c =

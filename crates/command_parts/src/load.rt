@@ -4,10 +4,7 @@ ghost use Rattle.script_reader.specs.Grammar.{Spells, IsRefused};
 ghost use Rattle.script_reader.specs.Stored.{lines_in};
 ghost use Rattle.script_lines.specs.Words.{all_verbs};
 ghost use Rattle.cached_script.specs.Scripts.{Spells as CachedSpells, IsRefused as CachedRefused};
-ghost use Rattle.script_commands.specs.Loading.{MeansCached};
-ghost use Rattle.script_commands.specs.Headline.{Means};
-ghost use Rattle.script_commands.specs.Scripts.{longest};
-ghost use Rattle.script_commands.specs.Loading.{RefusesAll};
+ghost use Rattle.command_parts.specs.Loading.{Means, MeansCached, RefusesAll, longest};
 
 use cached_script::{CachedRefusal, CachedScript, cached_grammar_law, read_cached};
 use outside_traits::traits::Source;
@@ -34,7 +31,7 @@ pub enum LoadFault {
 }
 
 impl From<ReadAllFault> for LoadFault {
-    ghost use Rattle.script_commands.specs.Loading.{from_read_all};
+    ghost use Rattle.command_parts.specs.Loading.{from_read_all};
     ghost use Rattle.std.specs.Prelude.{◌≡◌};
 
     ghost from_gives = { λ f e. e ≡ from_read_all f };
@@ -48,7 +45,7 @@ impl From<ReadAllFault> for LoadFault {
 }
 
 impl From<ReadFault> for LoadFault {
-    ghost use Rattle.script_commands.specs.Loading.{from_read};
+    ghost use Rattle.command_parts.specs.Loading.{from_read};
     ghost use Rattle.std.specs.Prelude.{◌≡◌};
 
     ghost from_gives = { λ f e. e ≡ from_read f };
@@ -62,7 +59,7 @@ impl From<ReadFault> for LoadFault {
 }
 
 impl From<CachedRefusal> for LoadFault {
-    ghost use Rattle.script_commands.specs.Loading.{from_cached};
+    ghost use Rattle.command_parts.specs.Loading.{from_cached};
     ghost use Rattle.std.specs.Prelude.{◌≡◌};
 
     ghost from_gives = { λ f e. e ≡ from_cached f };

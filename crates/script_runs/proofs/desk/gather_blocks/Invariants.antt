@@ -3,7 +3,7 @@ use Rattle.std.specs.Prelude.{Ok}
 use Rattle.outside_traits.specs.declared.traits.SinkFailed.{SinkFailed}
 use Rattle.outside_traits.specs.Gathers.{Gathers}
 use Rattle.answer_lines.specs.AnswerText.{block_texts}
-use Rattle.cached_run.proofs.answers.gather_blocks.Given as goal
+use Rattle.script_runs.proofs.desk.gather_blocks.Given as goal
 
 -- the lines of the blocks below k were gathered
 abbrev pub invariant-loop-k : goal.invariant-loop-k

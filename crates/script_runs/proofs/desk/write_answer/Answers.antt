@@ -5,9 +5,9 @@ use Rattle.outside_traits.proofs.GatherLaws.{gathers_join, gathers_whole}
 use Rattle.subsystem_spec.specs.Answers.{answer_of}
 use Rattle.answer_lines.specs.AnswerText.{answer_line}
 use Rattle.answer_lines.specs.Blocks.{joined}
-use Rattle.cached_run.specs.Saying.{blocks_with, rest_text}
-use Rattle.cached_run.proofs.Gatherings.{puts_err}
-use Rattle.cached_run.proofs.answers.write_answer.Goals as goal
+use Rattle.script_runs.specs.Saying.{blocks_with, rest_text}
+use Rattle.script_runs.proofs.Gatherings.{puts_err}
+use Rattle.script_runs.proofs.desk.write_answer.Goals as goal
 
 pub returns-in_err-put-clause-puts : goal.returns-in_err-put-clause-puts
 returns-in_err-put-clause-puts g c =

@@ -1,5 +1,5 @@
 ghost use Rattle.std.specs.Prelude.{◌≡◌, ◌≤◌, ◌+◌, ◌++◌, decimal, length};
-ghost use Rattle.script_commands.specs.ExerciseText.{exercise_text};
+ghost use Rattle.hp_exercise.specs.ExerciseText.{exercise_text};
 
 use answer_lines::Tally;
 use mass_text::{LineBuf, Radix, numeral_law};
@@ -18,7 +18,7 @@ fn put_count(text: &mut LineBuf, words: &str, count: u64)
 
 /// The four lines of an exercise: its number, and the tally.
 #[tactic(auto, unfolding(crate::specs::ExerciseText::exercise_text))]
-pub(crate) fn exercise_lines(number: u64, tally: Tally) -> LineBuf
+pub fn exercise_lines(number: u64, tally: Tally) -> LineBuf
     ensures { result ≡ exercise_text number tally }
 {
     let mut text = LineBuf::new();

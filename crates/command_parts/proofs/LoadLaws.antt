@@ -1,6 +1,6 @@
 -- A script that is too long is refused by its front.
 use Rattle.std.proofs.Common.{◌≡◌, ◌⊎◌, inl, inr, ℕ, ◌+◌, ◌<◌, ◌≤◌, List, [], ◌++◌, length, subst, sym, ap, ◌∙◌, arith, append-nil, length-append, Result, Ok, Err, IfErr, IsErrAnd}
-use Rattle.trace_replay.specs.Script.{Script}
+use Rattle.script_lines.specs.Script.{Script}
 use Rattle.script_lines.specs.declared.kinds.ScriptKind.{ScriptKind}
 use Rattle.script_lines.specs.declared.kinds.ScriptKind.TheVariants.{ScriptLong}
 use Rattle.script_lines.specs.Words.{all_verbs}
@@ -14,12 +14,9 @@ use Rattle.cached_script.specs.Scripts as cached
 use Rattle.cached_script.specs.declared.kind.CachedRefusal.{CachedRefusal}
 use Rattle.cached_script.specs.declared.kind.CachedRefusal.TheVariants as refusal
 use Rattle.cached_script.specs.declared.statement.Line.{Line}
-use Rattle.script_commands.specs.declared.load.LoadFault.{LoadFault}
-use Rattle.script_commands.specs.declared.load.LoadFault.TheVariants as loading
-use Rattle.script_commands.specs.Headline.{Means}
-use Rattle.script_commands.specs.Loading.{MeansCached}
-use Rattle.script_commands.specs.Scripts.{longest}
-use Rattle.script_commands.specs.Loading.{RefusesAll, from_read, from_cached}
+use Rattle.command_parts.specs.declared.load.LoadFault.{LoadFault}
+use Rattle.command_parts.specs.declared.load.LoadFault.TheVariants as loading
+use Rattle.command_parts.specs.Loading.{Means, MeansCached, RefusesAll, from_read, from_cached, longest}
 
 -- BYTES ARE REFUSED by a front of them that is too long, or is all of them.
 abbrev pub ByFront : (List ℕ → ℕ → ScriptKind → Type 0) → Type 0

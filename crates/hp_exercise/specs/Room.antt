@@ -5,8 +5,8 @@ use Rattle.mass_outside.specs.declared.slots.Image.{Image}
 use Rattle.mass_outside.specs.Images.{slot_of}
 use Rattle.mass_outside.specs.Slots.{blocks_in}
 use Rattle.mass_outside.specs.Sure.{SureView, sure_held}
-use Rattle.script_commands.specs.declared.packs.Outside.{Outside}
-use Rattle.script_commands.specs.declared.packs.Outside.TheVariants.{Block, Mark}
+use Rattle.hp_exercise.specs.declared.packs.Outside.{Outside}
+use Rattle.hp_exercise.specs.declared.packs.Outside.TheVariants.{Block, Mark}
 
 -- THE ROOM, in blocks: the requests of a script are on the units 0, 1 and 8, begin below block 15,000, and have at most 16 blocks.
 abbrev pub room_on : ℕ → ℕ

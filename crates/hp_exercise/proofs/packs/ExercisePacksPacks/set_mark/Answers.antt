@@ -1,6 +1,6 @@
 use Rattle.std.proofs.Common.{rules, arith}
-use Rattle.script_commands.proofs.MarkLaws.{has_room_marked, inside_room}
-use Rattle.script_commands.proofs.packs.ExercisePacksPacks.set_mark.Goals as goal
+use Rattle.hp_exercise.proofs.MarkLaws.{has_room_marked, inside_room}
+use Rattle.hp_exercise.proofs.packs.ExercisePacksPacks.set_mark.Goals as goal
 
 pub invariant_of-self-2 : goal.invariant_of-self-2
 invariant_of-self-2 c = (

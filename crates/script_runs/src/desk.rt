@@ -1,15 +1,47 @@
-// The answer to a request is written.
-ghost use Rattle.std.specs.Prelude.{ℕ, ◌≡◌, ◌<◌, ◌≤◌, [], OnOk, length, take, slice_index_or};
+//! Where the answers of a script of the cache are written: what is gathered for their sink, and room for the blocks of a read and for
+//! their lines.
+
+ghost use Rattle.std.specs.Prelude.{ℕ, ◌≡◌, ◌<◌, ◌≤◌, [], IfOk, OnOk, length, take, slice_index_or};
 ghost use Rattle.outside_traits.specs.Puts.{Puts};
 ghost use Rattle.outside_traits.specs.Gathers.{Gathers};
 ghost use Rattle.answer_lines.specs.AnswerText.{block_text, block_texts};
-ghost use Rattle.cached_run.specs.Saying.{rest_text, said_text};
+ghost use Rattle.script_runs.specs.Saying.{rest_text, said_text};
 
-use crate::desk::Desk;
-use answer_lines::answer_line;
-use outside_traits::gather_law;
-use outside_traits::traits::{Sink, SinkFailed};
+use answer_lines::{BlockLine, answer_line};
+use outside_traits::traits::{NoMemory, Sink, SinkFailed};
+use outside_traits::{Gather, gather_law};
+use std::alloc::Global;
 use subsystem_spec::AnswerKind;
+
+/// How many bytes of answers are gathered at most.
+const ANSWER_ROOM: u32 = 16384;
+
+/// How many blocks a request has at most.
+const MOST_BLOCKS: usize = 127;
+
+/// Text that is gathered for a sink, the blocks of a read, and the line of one.
+#[derive(Drop)]
+pub struct Desk {
+    pub gather: Gather,
+    pub blocks: Vec<[u8; 512]>,
+    pub line: BlockLine,
+}
+
+impl Desk {
+    /// A desk at which nothing is gathered yet.
+    pub fn new(alloc: Global) -> Result<Desk, NoMemory>
+        ensures gather { IfOk result (λ desk. desk.gather ≡ []) }
+        ensures blocks { IfOk result (λ desk. length desk.blocks.items ≡ 127) }
+    {
+        let gather = Gather::new(alloc, ANSWER_ROOM)?;
+        let blocks = vec![in alloc; [0; 512]; MOST_BLOCKS]?;
+        Ok(Desk {
+            gather,
+            blocks,
+            line: BlockLine::new(),
+        })
+    }
+}
 
 /// Gathers the line of a block at the desk.
 fn gather_block<O: Sink>(k: u32, desk: &mut Desk, out: &mut O) -> Result<(), SinkFailed>
@@ -48,7 +80,7 @@ fn gather_rest<O: Sink>(kind: AnswerKind, desk: &mut Desk, out: &mut O) -> Resul
 }
 
 /// Writes the answer to the request of an id, which came at a line. Nothing is gathered at the desk before and behind it.
-pub(crate) fn write_answer<O: Sink>(
+pub fn write_answer<O: Sink>(
     line: u64,
     id: u32,
     kind: AnswerKind,

@@ -1,6 +1,6 @@
 use Rattle.std.proofs.Common.{◌<◌, refl, ap, ◌∙◌, length, arith}
-use Rattle.cached_run.proofs.Gatherings.{blocks_more, blocks_stop}
-use Rattle.cached_run.proofs.answers.gather_blocks.Goals as goal
+use Rattle.script_runs.proofs.Gatherings.{blocks_more, blocks_stop}
+use Rattle.script_runs.proofs.desk.gather_blocks.Goals as goal
 
 pub loop-k-preserved : goal.loop-k-preserved
 loop-k-preserved g c =

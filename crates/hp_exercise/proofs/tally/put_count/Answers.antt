@@ -1,6 +1,6 @@
 use Rattle.std.proofs.Common.{ℕ, List, ◌++◌, decimal, ap, ◌∙◌}
-use Rattle.script_commands.proofs.TextLaws.{room_of}
-use Rattle.script_commands.proofs.text.put_count.Goals as goal
+use Rattle.hp_exercise.proofs.TextLaws.{room_of}
+use Rattle.hp_exercise.proofs.tally.put_count.Goals as goal
 
 pub returns-clause-room : goal.returns-clause-room
 returns-clause-room c =

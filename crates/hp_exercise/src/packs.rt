@@ -1,6 +1,6 @@
 // The packs of an exercise.
 ghost use Rattle.std.specs.Prelude.{◌≡◌, true, None, IfOk};
-ghost use Rattle.script_commands.specs.Room.{AreEmpty, IsBlank, AreBlank, held_on, room_on};
+ghost use Rattle.hp_exercise.specs.Room.{AreEmpty, IsBlank, AreBlank, held_on, room_on};
 
 use mass_outside::slots::Image;
 use mass_outside::sure_packs::SurePacks;
@@ -10,7 +10,7 @@ use std::marker::Model;
 
 /// What was to be written where there is no room: a block, or the mark of one.
 #[derive(Clone, Copy)]
-pub(crate) enum Outside {
+pub enum Outside {
     Block {
         unit: u8,
         block: u32,
@@ -60,13 +60,13 @@ fn images(alloc: Global) -> Result<Vec<Image>, NoMemory>
 /// Packs in memory with room for what a script may write, which tell what they hold. A write or a mark beyond that room fails, is kept
 /// beside them as what they hold there, and from then on each call fails.
 #[derive(Drop)]
-pub(crate) struct ExercisePacks {
+pub struct ExercisePacks {
     packs: SurePacks,
     outside: Option<Outside>,
 }
 
 impl Model for ExercisePacks {
-    ghost use Rattle.script_commands.specs.Room.{RoomView, HasRoom, IsOutside};
+    ghost use Rattle.hp_exercise.specs.Room.{RoomView, HasRoom, IsOutside};
 
     ghost Value = { RoomView };
 
@@ -76,7 +76,7 @@ impl Model for ExercisePacks {
 }
 
 impl ExercisePacks {
-    ghost use Rattle.script_commands.specs.Room.{IsOutside};
+    ghost use Rattle.hp_exercise.specs.Room.{IsOutside};
 
     /// Empty packs without marks. The room is reserved here, so that no later call takes memory; of it, only what lies
     /// below the end of the last block that is written is ever touched.
@@ -101,7 +101,7 @@ impl ExercisePacks {
 }
 
 impl Packs for ExercisePacks {
-    ghost use Rattle.script_commands.specs.Room.{faults_of, held_on};
+    ghost use Rattle.hp_exercise.specs.Room.{faults_of, held_on};
 
     ghost tells = { λ _. true };
 

@@ -1,5 +1,5 @@
-use Rattle.script_commands.proofs.LoadLaws.{cached_by_front, cached_found, cached_no_fault, refused_all}
-use Rattle.script_commands.proofs.load.load_cached.Goals as goal
+use Rattle.command_parts.proofs.LoadLaws.{cached_by_front, cached_found, cached_no_fault, refused_all}
+use Rattle.command_parts.proofs.load.load_cached.Goals as goal
 
 pub returns-in_err-script-clause-refused : goal.returns-in_err-script-clause-refused
 returns-in_err-script-clause-refused g c =
