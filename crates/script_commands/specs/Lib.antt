@@ -1,6 +1,5 @@
 pub mod Headline
 pub mod SoFar
-pub mod Leaves
 pub mod Plays
 pub mod TheRun
 pub mod Scripts

@@ -6,7 +6,7 @@ use Rattle.raw_command.specs.Faults.{IsReadCode, IsTransferCode}
 use Rattle.command_parts.specs.Words.{reads_source as transfer_reads}
 use Rattle.command_parts.specs.declared.words.Transfer.{Transfer}
 use Rattle.command_parts.specs.declared.words.Transfer.TheVariants.{Read, Write}
-use Rattle.script_commands.specs.Leaves.{LeavesAlone}
+use Rattle.pack_commands.specs.Leaves.{LeavesAlone}
 use Rattle.pack_commands.specs.declared.words.Command.TheVariants.{Exercise, TransferBytes}
 
 -- it is neither 2 nor 3

@@ -4,13 +4,14 @@ ghost use Rattle.command_parts.specs.Outside.{HasItsCause, outside};
 ghost use Rattle.raw_command.specs.Endings.{RunsTransfer};
 ghost use Rattle.raw_command.specs.Faults.{IsTransferCode, code_of};
 ghost use Rattle.command_parts.specs.Words.{IsInRange};
-ghost use Rattle.script_commands.specs.Leaves.{LeavesAlone};
+ghost use Rattle.pack_commands.specs.Leaves.{LeavesAlone};
 ghost use Rattle.command_parts.specs.Statuses.{status_code};
 ghost use Rattle.pack_commands.specs.declared.words.Command.TheVariants.{TransferBytes};
 
+use crate::fault::TransferFault;
+use crate::run::run_transfer;
 use command_parts::{Status, Transfer};
 use outside_traits::traits::{Packs, Sink, Source};
-use raw_command::{TransferFault, run_transfer};
 use std::alloc::Global;
 
 /// The status that a transfer ends with.
@@ -29,7 +30,7 @@ fn status_of(answer: Result<(), TransferFault>) -> Status
 }
 
 /// Reads, writes or dumps bytes of a partition.
-pub(crate) fn run_bytes<S: Source, P: Packs, O: Sink, T: Sink>(
+pub fn run_bytes<S: Source, P: Packs, O: Sink, T: Sink>(
     alloc: Global,
     transfer: Transfer,
     source: &mut S,

@@ -1,7 +1,7 @@
 use Rattle.std.proofs.Common.{ℕ, subst, sym}
 use Rattle.raw_command.specs.Faults.{IsTransferCode}
-use Rattle.hpsim_run.proofs.TransferLaws.{causes_by, leaves_by}
-use Rattle.hpsim_run.proofs.transfers.run_bytes.Goals as goal
+use Rattle.raw_command.proofs.TransferLaws.{causes_by, leaves_by}
+use Rattle.raw_command.proofs.bytes.run_bytes.Goals as goal
 
 pub returns-clause-runs : goal.returns-clause-runs
 returns-clause-runs g c = record { answer = c.run_transfer-answer.result; code_is = c.status_of.ensures; ends = c.run_transfer-answer.ensures.ends }
