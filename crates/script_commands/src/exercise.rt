@@ -2,7 +2,6 @@
 ghost use Rattle.std.specs.Prelude.{◌≡◌, ◌⊎◌, IfOk, OnOk, IsErrOf};
 ghost use Rattle.outside_traits.specs.Causes.{Rose};
 ghost use Rattle.command_parts.specs.Statuses.{status_code};
-ghost use Rattle.command_parts.specs.declared.status.Status.TheVariants.{OutOfMemory, SinkFailed};
 ghost use Rattle.script_commands.specs.Exercises.{Exercised, IsCutShort, IsDone, IsStopped, RunsExercise};
 
 use answer_lines::Tally;
@@ -106,9 +105,9 @@ pub fn run_exercise<O: Sink, T: Sink>(
 ) -> Status
     ensures runs { RunsExercise number (status_code result) (O.tells out.new) (O.taken out.old) (O.taken out.new) (O.faults out.old) (O.faults out.new)
         (T.tells trace.new) (T.taken trace.old) (T.taken trace.new) (T.faults trace.old) (T.faults trace.new) }
-    ensures sink { result ≡ SinkFailed → Rose (O.faults out.old) (O.faults out.new) ⊎ Rose (T.faults trace.old) (T.faults trace.new) }
-    ensures silent { result ≡ OutOfMemory → out.new ≡ out.old }
-    ensures untraced { result ≡ OutOfMemory → trace.new ≡ trace.old }
+    ensures sink { result ≡ Status.SinkFailed → Rose (O.faults out.old) (O.faults out.new) ⊎ Rose (T.faults trace.old) (T.faults trace.new) }
+    ensures silent { result ≡ Status.OutOfMemory → out.new ≡ out.old }
+    ensures untraced { result ≡ Status.OutOfMemory → trace.new ≡ trace.old }
 {
     match play_and_print(alloc, number, out, trace) {
         Ok(()) => Status::Done,
