@@ -30,7 +30,8 @@ use Rattle.buffer_cache.specs.Calls.{IfTold, Holds, Syncs}
 use Rattle.cached_run.specs.Answers.{Replacement, answer_with, answers_of, map_of_inputs, text_of, replaced_with, replacements_of, after}
 use Rattle.cached_run.specs.Theorem.{IsAfter, EndsWithSync, HasNoSync}
 use Rattle.cached_run.specs.Leaving.{IsLeft, Leaves, Makes, KeepsSetup, Does}
-use Rattle.cached_run.specs.Saying.{said_text, IsSaid, AreLong}
+use Rattle.script_runs.specs.Saying.{said_text}
+use Rattle.cached_run.specs.Saying.{IsSaid, AreLong}
 use Rattle.cached_run.specs.Going.{Scene, with_out, drives_at, blocks_at, IsFar, HasHalted, GoesOn, Halts, SyncGoesOn, SyncHalts, syncs_at}
 use Rattle.cached_run.proofs.Replacings.{after_more, same_map, take_first, take_second}
 use Rattle.cached_run.proofs.Inputs.{map_more, map_is, replacements_more, text_more, fewer_before}

@@ -14,4 +14,3 @@ mod Starts
 mod Causes
 mod Playing
 mod Keepings
-mod Gatherings

@@ -1,29 +1,16 @@
 -- What is said of an answer, with the blocks that a read gave.
-use Rattle.std.specs.Prelude.{◌≡◌, ℕ, ◌≤◌, nat_lt, if◌then◌else◌, List, [], ◌++◌, length, take, Some}
+use Rattle.std.specs.Prelude.{◌≡◌, ℕ, ◌≤◌, nat_lt, if◌then◌else◌, List, length, Some}
 use Rattle.pack_geometry.specs.declared.DriveKind.{DriveKind}
 use Rattle.driver_laws.specs.rules.Machine.{Blocks}
 use Rattle.subsystem_spec.specs.Requests.{Request}
-use Rattle.subsystem_spec.specs.Answers.{answer_of}
 use Rattle.subsystem_spec.specs.declared.answers.AnswerKind.{AnswerKind}
 use Rattle.subsystem_spec.specs.declared.answers.AnswerKind.TheVariants as answer
 use Rattle.subsystem_spec.specs.declared.answers.Cause.TheVariants as cause
-use Rattle.answer_lines.specs.AnswerText.{answer_line, answer_text, block_texts}
-use Rattle.answer_lines.specs.Blocks.{joined}
+use Rattle.answer_lines.specs.AnswerText.{answer_text}
+use Rattle.script_runs.specs.Saying.{said_text}
 use Rattle.cached_run.specs.Answers.{answer_with}
 
--- the blocks that come with an answer of a kind, and their lines
-abbrev pub blocks_with : AnswerKind → List (List ℕ) → List (List ℕ)
-blocks_with (answer.ReadOk count last) blocks = take count blocks
-blocks_with kind blocks = []
-
-abbrev pub rest_text : AnswerKind → List (List ℕ) → List ℕ
-rest_text kind blocks = block_texts 0 (blocks_with kind blocks)
-
--- the line of the answer, and those behind it
-abbrev pub said_text : (line id : ℕ) → AnswerKind → List (List ℕ) → List ℕ
-said_text line id kind blocks = answer_line line id (answer_of (joined (blocks_with kind blocks)) kind) ++ rest_text kind blocks
-
--- that is the text of the answer to a request, by what its unit's blocks hold
+-- What is said is the text of the answer to a request, by what its unit's blocks hold
 abbrev pub AreLong : Blocks → Type 0
 AreLong blocks = (b : ℕ) (bytes : List ℕ) → blocks b ≡ Some bytes → length bytes ≡ 512
 

@@ -5,9 +5,9 @@ ghost use Rattle.driver_laws.specs.answers.Passes.{AreSetups};
 ghost use Rattle.script_runs.specs.Setups.{setups_of};
 ghost use Rattle.cached_run.specs.Lines.{IsRoomy};
 
-use crate::desk::Desk;
 use buffer_cache::{Cache, Subsystem};
 use outside_traits::traits::NoMemory;
+use script_runs::desk::Desk;
 use script_runs::stops::UnitSetup;
 use std::alloc::Global;
 

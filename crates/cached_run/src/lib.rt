@@ -2,9 +2,7 @@
 //! delayed writes, and behind the last line all that is changed goes to the packs.
 #![tactic(auto)]
 
-mod answers;
 mod bench;
-mod desk;
 mod lines;
 mod play;
 mod requests;

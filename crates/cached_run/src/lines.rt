@@ -9,13 +9,12 @@ ghost use Rattle.cached_run.specs.Going.{scene, GoesOn, Halts, SyncGoesOn, SyncH
 ghost use Rattle.cached_run.specs.Lines.{MayAsk, MayPlay, IsRoomy, KeepsUnits, input_at};
 ghost use Rattle.cached_script.specs.Meaning.{request_of, filled};
 
-use crate::answers::write_answer;
-use crate::desk::Desk;
 use crate::requests::{read_asked, write_asked};
 use buffer_cache::{Cache, Subsystem};
 use cached_script::{Asked, Line, Statement};
 use outside_traits::traits::{Packs, Sink};
 use script_runs::PlayFault;
+use script_runs::desk::{Desk, write_answer};
 
 /// Plays a read at a line.
 fn play_read<P: Packs, O: Sink, T: Sink>(

@@ -17,11 +17,11 @@ ghost use Rattle.cached_script.specs.Meaning.{meaning_of};
 ghost use Rattle.cached_run.specs.Theorem.{CachedPlays, CachedLeaves};
 
 use crate::bench::Bench;
-use crate::desk::Desk;
 use crate::lines::{play_line, play_sync};
 use buffer_cache::{Cache, Subsystem};
 use cached_script::CachedScript;
 use outside_traits::traits::{Packs, Sink};
+use script_runs::desk::Desk;
 use script_runs::{PlayFault, attach_cached};
 use std::alloc::Global;
 

@@ -7,6 +7,7 @@ pub mod Lines
 pub mod Guards
 pub mod Sound
 pub mod Runs
+pub mod Writes
 pub mod DueFacts
 pub mod Frame
 pub mod Passes

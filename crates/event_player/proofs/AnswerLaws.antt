@@ -25,7 +25,7 @@ use Rattle.answer_lines.specs.AnswerText.{answer_text, block_text, block_texts, 
 use Rattle.answer_lines.specs.Blocks.{AreBlocks, blocks_in, joined}
 use Rattle.answer_lines.proofs.BlockLaws.{blocks_in-joined}
 use Rattle.answer_lines.proofs.TextLaws.{one_more}
-use Rattle.script_runs.specs.StopsPasses.{State, IsOldest}
+use Rattle.hp_driver.specs.Subsystem.{State, IsOldest}
 use Rattle.event_player.specs.Answering.{first_blocks, first_told, first_text, first_rest, IsFirst, IsFirstKind, HasBlock}
 use Rattle.event_player.specs.Saying.{Side, Says}
 use Rattle.event_player.specs.Steps.{waiting_text}

@@ -18,7 +18,7 @@ use Rattle.driver_laws.proofs.invariant.SlotsLists.{Contains-first, Contains-lat
 use Rattle.driver_laws.specs.shown.Shows.{Match, IsUnitSeen}
 use Rattle.script_runs.specs.StopsPasses.{ShowsAll}
 use Rattle.script_runs.specs.StopsPasses.{IsSoFar}
-use Rattle.hp_core.proofs.Deeds.{pigeons}
+use Rattle.hp_driver.proofs.Passes.{pigeons}
 
 -- A QUEUE has at most 127 blocks for each of its requests.
 sum_few : (a b n m : ℕ) → a ≤ n → b ≤ n * m → a + b ≤ n * suc m

@@ -23,7 +23,7 @@ use Rattle.driver_laws.proofs.answers.Waiting.{events_alone, submissions_alone}
 use Rattle.answer_lines.specs.AnswerText.{out_text}
 use Rattle.answer_lines.specs.declared.tally.Tally.{Tally}
 use Rattle.answer_lines.specs.Counting.{Counts}
-use Rattle.script_runs.specs.StopsPasses.{Submits, Comes, seen, is_move, writes_by}
+use Rattle.hp_driver.specs.Subsystem.{Submits, Comes, seen, is_move, writes_by}
 use Rattle.script_runs.specs.declared.fault.PlayFault.TheVariants as playing
 use Rattle.script_runs.specs.Faults.{from_stop}
 use Rattle.event_player.specs.Saying.{Side, side, Says, SendsAhead}

@@ -7,7 +7,7 @@ use Rattle.outside_traits.specs.Causes.{Rose}
 use Rattle.outside_traits.proofs.GatherLaws.{rose_more}
 use Rattle.driver_laws.specs.declared.answers.outcome.Stop.{Stop}
 use Rattle.driver_laws.specs.declared.answers.outcome.Stop.TheVariants as stop
-use Rattle.hp_core.specs.Done as driver
+use Rattle.hp_driver.specs.Passes as driver
 use Rattle.script_runs.specs.declared.fault.PlayFault.{PlayFault}
 use Rattle.script_runs.specs.declared.fault.PlayFault.TheVariants as faults
 use Rattle.script_runs.specs.Faults.{from_stop, HaveTold}

@@ -30,7 +30,7 @@ use Rattle.script_runs.proofs.Passes.{scripts_can_start}
 use Rattle.driver_laws.proofs.rules.Consistency.{moments_consistent}
 use Rattle.script_runs.proofs.StopsPasses.{drained_shows}
 use Rattle.answer_lines.specs.AnswerText.{said_text}
-use Rattle.script_runs.specs.StopsPasses.{IsThere}
+use Rattle.hp_driver.specs.Subsystem.{IsThere}
 use Rattle.script_runs.specs.Writing.{WriteNothing}
 use Rattle.script_runs.specs.Stops.{AreOfOneEvent, StopsAtSink}
 use Rattle.script_runs.proofs.StopsPasses.{after_parts}

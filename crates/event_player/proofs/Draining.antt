@@ -21,7 +21,7 @@ use Rattle.script_runs.proofs.StopsPasses.{drained_shows}
 use Rattle.answer_lines.specs.Counting.{CountsAll}
 use Rattle.answer_lines.proofs.CountLaws.{counts_none, counts_more}
 use Rattle.driver_laws.specs.answers.Waiting.{all_taken}
-use Rattle.script_runs.specs.StopsPasses.{writes_by}
+use Rattle.hp_driver.specs.Subsystem.{writes_by}
 use Rattle.script_runs.specs.Writing.{WriteNothing}
 use Rattle.script_runs.specs.Ahead.{AreBehind}
 use Rattle.script_runs.proofs.StopsPasses.{after_parts}

@@ -34,7 +34,7 @@ use Rattle.script_runs.proofs.StopsPasses.{events_keep_lengths, first_events_kee
 use Rattle.script_runs.specs.Passes.{Falls}
 use Rattle.script_runs.proofs.Passes.{lines_ask_nothing, calls_ask}
 use Rattle.script_runs.proofs.Passes.{first_events_fall, drains_fall}
-use Rattle.script_runs.specs.StopsPasses.{IsThere}
+use Rattle.hp_driver.specs.Subsystem.{IsThere}
 use Rattle.driver_laws.specs.answers.Waiting.{all_taken}
 use Rattle.script_runs.proofs.LineLaws.{inputs_append, inputs_end}
 use Rattle.event_player.specs.Playing.{HasRun}

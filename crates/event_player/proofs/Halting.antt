@@ -28,13 +28,13 @@ use Rattle.script_runs.specs.StopsPasses.{AskBelow}
 use Rattle.script_runs.specs.StopsPasses.{with_call}
 use Rattle.answer_lines.specs.AnswerText.{said_text, out_text}
 use Rattle.answer_lines.specs.declared.tally.Tally.{Tally}
-use Rattle.hp_core.specs.declared.start.UnitSetup.{UnitSetup}
-use Rattle.hp_core.specs.Setups.{setups_of}
-use Rattle.script_runs.specs.StopsPasses.{Event}
-use Rattle.script_runs.specs.Event.TheVariants as event
+use Rattle.hp_driver.specs.UnitSetup.{UnitSetup}
+use Rattle.hp_driver.specs.Setups.{setups_of}
+use Rattle.hp_driver.specs.declared.drain.Event.{Event}
+use Rattle.hp_driver.specs.declared.drain.Event.TheVariants as event
 use Rattle.hardware_table.specs.declared.NoiseSpan.{NoiseSpan}
-use Rattle.script_runs.specs.StopsPasses.{input_of}
-use Rattle.script_runs.specs.StopsPasses.{State, IsThere}
+use Rattle.hp_driver.specs.Inputs.{input_of}
+use Rattle.hp_driver.specs.Subsystem.{State, IsThere}
 use Rattle.driver_laws.specs.answers.Waiting.{all_taken}
 use Rattle.script_runs.specs.Steps.{tables_in, AreSetFor}
 use Rattle.script_runs.specs.declared.fault.PlayFault.{PlayFault}

@@ -24,7 +24,7 @@ use Rattle.driver_laws.proofs.answers.Waiting.{events_alone, submissions_alone}
 use Rattle.answer_lines.specs.AnswerText.{answer_text, said_text, out_text}
 use Rattle.answer_lines.specs.Counting.{Counts, CountsAll}
 use Rattle.answer_lines.proofs.CountLaws.{counts_none, counts_both, counts_same}
-use Rattle.script_runs.specs.StopsPasses.{IsThere, writes_by}
+use Rattle.hp_driver.specs.Subsystem.{IsThere, writes_by}
 use Rattle.script_runs.specs.Writing.{WriteNothing}
 use Rattle.script_runs.specs.Ahead.{AreBehind}
 use Rattle.script_runs.proofs.StopsPasses.{after_parts}

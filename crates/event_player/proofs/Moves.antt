@@ -17,12 +17,12 @@ use Rattle.driver_laws.specs.answers.Packs.{ReadAll}
 use Rattle.script_runs.specs.StopsPasses.{IsReadOf}
 use Rattle.script_runs.specs.StopsPasses.{AllFlip}
 use Rattle.script_runs.proofs.StopsPasses.{IsNoMove}
-use Rattle.script_runs.specs.StopsPasses.{Event}
-use Rattle.script_runs.specs.Event.TheVariants as event
-use Rattle.script_runs.specs.StopsPasses.{input_of}
-use Rattle.script_runs.specs.StopsPasses.{writes_next}
-use Rattle.script_runs.specs.StopsPasses.{IsThere, is_move, writes_by}
-use Rattle.script_runs.proofs.StopsPasses.{tried_by_rules, read_from}
+use Rattle.hp_driver.specs.declared.drain.Event.{Event}
+use Rattle.hp_driver.specs.declared.drain.Event.TheVariants as event
+use Rattle.hp_driver.specs.Inputs.{input_of}
+use Rattle.hp_driver.specs.Moves.{writes_next}
+use Rattle.hp_driver.specs.Subsystem.{IsThere, is_move, writes_by}
+use Rattle.hp_driver.proofs.Moves.{tried_by_rules, read_from}
 use Rattle.script_runs.specs.Ahead.{SaysOneSector}
 use Rattle.event_player.proofs.OneEvent.{IsShort, short_or}
 

@@ -25,7 +25,7 @@ use Rattle.script_runs.proofs.StopsPasses.{other_act}
 use Rattle.script_runs.proofs.StopsPasses.{not_drained, serving_is}
 use Rattle.script_runs.proofs.StopsPasses.{attended_told}
 use Rattle.script_runs.proofs.StopsPasses.{lines_play_nothing}
-use Rattle.script_runs.specs.StopsPasses.{IsThere}
+use Rattle.hp_driver.specs.Subsystem.{IsThere}
 use Rattle.script_runs.specs.Stops.{IsEventOver, AreOfOneEvent}
 
 -- WHERE A LINE OF THE TRACE MAY COME NEXT one is still to come.

@@ -23,7 +23,7 @@ use Rattle.driver_laws.proofs.answers.Events.{events_add, submissions_add}
 use Rattle.driver_laws.specs.answers.Ids.{AreOf}
 use Rattle.driver_laws.proofs.answers.Ids.{events_add_none, taking_adds_none, no_others}
 use Rattle.driver_laws.proofs.answers.Ids as ids
-use Rattle.script_runs.specs.StopsPasses.{State}
+use Rattle.hp_driver.specs.Subsystem.{State}
 use Rattle.driver_laws.specs.answers.Waiting.{takings, all_taken}
 use Rattle.script_runs.specs.Steps.{AreUnits}
 use Rattle.event_player.specs.Playing.{counted, one_request, one_noise, one_fault}

@@ -25,11 +25,11 @@ use Rattle.driver_machine.specs.Guards.{IsSetUp}
 use Rattle.driver_laws.specs.answers.Outcome.{IsFront}
 use Rattle.answer_lines.specs.AnswerText.{said_text}
 use Rattle.answer_lines.specs.Counting.{Counts}
-use Rattle.script_runs.specs.StopsPasses.{Event}
-use Rattle.script_runs.specs.Event.TheVariants as event
+use Rattle.hp_driver.specs.declared.drain.Event.{Event}
+use Rattle.hp_driver.specs.declared.drain.Event.TheVariants as event
 use Rattle.subsystem_spec.specs.declared.request.Request as driver
-use Rattle.script_runs.specs.StopsPasses.{input_of}
-use Rattle.script_runs.specs.StopsPasses.{State, IsThere, asked}
+use Rattle.hp_driver.specs.Inputs.{input_of}
+use Rattle.hp_driver.specs.Subsystem.{State, IsThere, asked}
 use Rattle.event_player.specs.Playing.{HasRun}
 use Rattle.event_player.specs.Steps.{Stage, PlaysEvent, PlaysSubmission, PlaysLine, PlaysDrain, Brings, MayAsk, MayPlay}
 use Rattle.script_runs.proofs.Submissions.{of_unit}

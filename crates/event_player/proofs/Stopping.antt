@@ -23,8 +23,8 @@ use Rattle.script_runs.specs.StopsPasses.{ShowsAll}
 use Rattle.script_runs.proofs.StopsPasses.{lines_play_nothing}
 use Rattle.script_runs.proofs.Passes.{event_fronts}
 use Rattle.answer_lines.specs.AnswerText.{out_text}
-use Rattle.script_runs.specs.StopsPasses.{IsThere, is_move, writes_by}
-use Rattle.script_runs.specs.StopsPasses.{writes_next}
+use Rattle.hp_driver.specs.Subsystem.{IsThere, is_move, writes_by}
+use Rattle.hp_driver.specs.Moves.{writes_next}
 use Rattle.script_runs.specs.Writing.{WriteNothing}
 use Rattle.script_runs.specs.Ahead.{SaysOneSector, AreBehind}
 use Rattle.script_runs.specs.Stops.{IsEventOver, AreOfOneEvent, StaysBeyond, IsAtMove, StopsAtSink}

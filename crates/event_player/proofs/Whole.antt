@@ -30,9 +30,9 @@ use Rattle.driver_laws.proofs.answers.Starts.{starts_with_none, starts_with_room
 use Rattle.driver_laws.proofs.answers.Ids.{starts_of_none}
 use Rattle.answer_lines.specs.Counting.{CountsAll, tally_by}
 use Rattle.answer_lines.proofs.CountLaws.{counts_none, counts_more}
-use Rattle.hp_core.specs.declared.start.UnitSetup.{UnitSetup}
-use Rattle.hp_core.specs.Setups.{setups_of}
-use Rattle.script_runs.specs.StopsPasses.{State}
+use Rattle.hp_driver.specs.UnitSetup.{UnitSetup}
+use Rattle.hp_driver.specs.Setups.{setups_of}
+use Rattle.hp_driver.specs.Subsystem.{State}
 use Rattle.script_runs.specs.Steps.{AreUnits, tables_in, AreSetFor}
 use Rattle.event_player.specs.Plays.{Plays as IsPlayed, Tallied}
 use Rattle.event_player.specs.Playing.{HasRun, counted, one_request, one_noise}

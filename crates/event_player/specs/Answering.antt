@@ -8,7 +8,7 @@ use Rattle.driver_machine.specs.World.{World}
 use Rattle.driver_machine.specs.Lines.{answer_told}
 use Rattle.driver_laws.specs.answers.Waiting.{blocks_for}
 use Rattle.answer_lines.specs.AnswerText.{answer_text, blocks_text}
-use Rattle.script_runs.specs.StopsPasses.{IsOldest, Reads}
+use Rattle.hp_driver.specs.Subsystem.{IsOldest, Reads}
 
 -- the blocks that its request has
 abbrev pub first_blocks : World → List Made → List (List ℕ)

@@ -1,6 +1,6 @@
 -- What each call of the player needs, and what it leaves.
 use Rattle.std.specs.Prelude.{◌≡◌, false, IsTrue, [], Result, OnOk, IfErr}
-use Rattle.script_runs.specs.StopsPasses.{State}
+use Rattle.hp_driver.specs.Subsystem.{State}
 use Rattle.script_runs.specs.declared.fault.PlayFault.{PlayFault}
 use Rattle.script_runs.specs.Faults.{HaveTold}
 use Rattle.event_player.specs.Steps.{Stage}

@@ -35,7 +35,7 @@ use Rattle.driver_laws.specs.answers.Waiting.{waiting, all_taken}
 use Rattle.answer_lines.specs.AnswerText.{answer_text, out_text}
 use Rattle.answer_lines.specs.declared.tally.Tally.{Tally}
 use Rattle.answer_lines.specs.Counting.{Counts, CountsAll}
-use Rattle.script_runs.specs.StopsPasses.{State, IsThere, writes_by}
+use Rattle.hp_driver.specs.Subsystem.{State, IsThere, writes_by}
 use Rattle.script_runs.specs.Ahead.{IsBetween, WritesAhead, TellsAhead}
 use Rattle.script_runs.specs.declared.fault.PlayFault.{PlayFault}
 use Rattle.script_runs.specs.declared.fault.PlayFault.TheVariants as faults

@@ -22,8 +22,8 @@ use Rattle.script_runs.specs.StopsPasses.{AreDeclared}
 use Rattle.script_runs.specs.StopsPasses.{AllFlip}
 use Rattle.script_runs.specs.StopsPasses.{ShowsAll}
 use Rattle.answer_lines.specs.AnswerText.{out_text}
-use Rattle.script_runs.specs.StopsPasses.{is_move, writes_by}
-use Rattle.script_runs.specs.StopsPasses.{writes_next}
+use Rattle.hp_driver.specs.Subsystem.{is_move, writes_by}
+use Rattle.hp_driver.specs.Moves.{writes_next}
 use Rattle.script_runs.specs.Stops.{CameTo, StaysBeyond, IsAtMove, Took, StopsAtSink, StopsAtStore}
 use Rattle.script_runs.specs.declared.fault.PlayFault.{PlayFault}
 use Rattle.script_runs.specs.declared.fault.PlayFault.TheVariants as faults

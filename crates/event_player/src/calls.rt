@@ -1,8 +1,8 @@
 // The calls of the driver: a request is submitted, or an event happens; behind them the answers that wait are said.
 ghost use Rattle.std.specs.Prelude.{◌≡◌, ℕ, Bool, IsTrue, OnOk, IfErr};
 ghost use Rattle.pack_geometry.specs.Pack.{Pack};
-ghost use Rattle.script_runs.specs.StopsPasses.{input_of};
-ghost use Rattle.script_runs.specs.StopsPasses.{IsAsked, IsThere, asked, writes_by};
+ghost use Rattle.hp_driver.specs.Inputs.{input_of};
+ghost use Rattle.hp_driver.specs.Subsystem.{IsAsked, IsThere, asked, writes_by};
 ghost use Rattle.event_player.specs.Saying.{side, SendsAhead};
 ghost use Rattle.event_player.specs.Calls.{MayGoOn, KeepsGoing};
 ghost use Rattle.script_runs.specs.Faults.{HaveTold};
@@ -11,9 +11,9 @@ ghost use Rattle.event_player.specs.Stops.{EventStops, SubmissionStops};
 
 use crate::answers::say_answers;
 use crate::desk::Desk;
+use hp_driver::{Event, Request, Subsystem};
 use outside_traits::traits::{Packs, Sink, SinkFailed};
 use script_runs::PlayFault;
-use script_runs::stops::{Event, Request, Subsystem};
 
 /// Submits a request at a line, with the bytes of a write.
 pub fn ask<O: Sink, T: Sink>(

@@ -4,9 +4,9 @@ ghost use Rattle.answer_lines.specs.Counting.{Counts, tally_by};
 ghost use Rattle.event_player.specs.Saying.{side, Says};
 
 use answer_lines::{BlockLine, FillLine, Tally};
+use hp_driver::Subsystem;
 use outside_traits::Gather;
 use outside_traits::traits::{NoMemory, Sink, SinkFailed};
-use script_runs::stops::Subsystem;
 use std::alloc::Global;
 
 /// How many bytes of answers are gathered at most.

@@ -7,9 +7,9 @@ ghost use Rattle.event_player.specs.Stops.{StopsDraining, StopsInput};
 
 use crate::calls::happen;
 use crate::desk::Desk;
+use hp_driver::Subsystem;
 use outside_traits::traits::{Packs, Sink};
 use script_runs::PlayFault;
-use script_runs::stops::Subsystem;
 
 /// The events of a drain behind its first one. It comes to its end long before it has turned so often.
 fn go_on<P: Packs, O: Sink, T: Sink>(

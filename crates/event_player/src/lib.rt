@@ -26,6 +26,6 @@ mod drains;
 pub mod play;
 mod player;
 
-pub use hp_core::UnitSetup;
+pub use hp_driver::UnitSetup;
 pub use script_reader::{ReadFault, Script, ScriptKind, read_script};
 pub use script_runs::stops::next_block_law;

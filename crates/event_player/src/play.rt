@@ -7,7 +7,7 @@ ghost use Rattle.script_reader.specs.Stored.{lines_in};
 ghost use Rattle.script_lines.specs.Words.{all_verbs};
 ghost use Rattle.script_reader.specs.Meaning.{meaning_of};
 ghost use Rattle.trace_replay.specs.Script.{drives_of};
-ghost use Rattle.hp_core.specs.Setups.{setups_of};
+ghost use Rattle.hp_driver.specs.Setups.{setups_of};
 ghost use Rattle.script_runs.specs.Steps.{tables_in, AreSetFor};
 ghost use Rattle.answer_lines.specs.Counting.{tally_by};
 ghost use Rattle.event_player.specs.Plays.{Tallied};
@@ -25,12 +25,12 @@ use crate::desk::Desk;
 use crate::drains::drain;
 use crate::player::play_line;
 pub use answer_lines::Tally;
+use hp_driver::{Subsystem, UnitSetup};
 use outside_traits::traits::{Packs, Sink};
 use script_reader::meaning::meaning_law;
 use script_reader::{Script, read_back_law};
 pub use script_runs::PlayFault;
 use script_runs::attach_units;
-use script_runs::stops::{Subsystem, UnitSetup};
 use std::alloc::{AllocError, Global};
 
 /// How many bytes the longest write brings: 127 blocks.

@@ -12,7 +12,7 @@ ghost use Rattle.trace_replay.specs.Moments.{Played};
 ghost use Rattle.trace_replay.specs.Script.{Noise as NoiseInput, Plays};
 ghost use Rattle.answer_lines.specs.AnswerText.{said_text};
 ghost use Rattle.answer_lines.specs.Counting.{Counts};
-ghost use Rattle.script_runs.specs.StopsPasses.{input_of};
+ghost use Rattle.hp_driver.specs.Inputs.{input_of};
 ghost use Rattle.event_player.specs.Saying.{side, Says};
 ghost use Rattle.event_player.specs.Calls.{MayGoOn, KeepsGoing, IsPlayed};
 ghost use Rattle.event_player.specs.Steps.{stage, IsNoEvent, PlaysLine, Brings, MayPlay, HasData, HasCauses};
@@ -23,11 +23,11 @@ use crate::desk::Desk;
 use crate::drains::drain;
 use answer_lines::noise_line;
 use fire_code::{Noise, class_of};
+use hp_driver::{Event, Request, Subsystem};
 use outside_traits::traits::{Packs, Sink, SinkFailed};
 use script_reader::meaning::meaning_law;
 use script_reader::{Content, Request as Asked, Script, Span, Statement, Stored};
 use script_runs::PlayFault;
-use script_runs::stops::{Event, Request, Subsystem};
 
 /// Says the class of noise that is armed at a line, and counts what it says.
 fn say_noise<O: Sink, T: Sink>(

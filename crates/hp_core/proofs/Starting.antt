@@ -2,8 +2,8 @@
 use Rattle.std.proofs.Common.{◌≡◌, ℕ, zero, suc, ◌+◌, ◌<◌, ◌≤◌, List, [], ◌∷◌, drop, length, get_or, sym, ap, ◌∙◌, arith}
 use Rattle.std.specs.Prelude.{Contains, slice_set}
 use Rattle.driver_machine.specs.World.{UnitView, Setup, new_unit, set_up}
-use Rattle.hp_core.specs.declared.start.UnitSetup.{UnitSetup}
-use Rattle.hp_core.specs.Setups.{setup_of, setups_of}
+use Rattle.unit_bank.specs.UnitSetup.{UnitSetup}
+use Rattle.unit_bank.specs.Setups.{setup_of, setups_of}
 
 -- the next one is set up
 pub one_more : (xs : List UnitSetup) (i : ℕ) (x : UnitSetup) (units : List UnitView) → i < length xs → x ≡ get_or xs i x

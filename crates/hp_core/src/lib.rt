@@ -22,4 +22,4 @@ mod views;
 pub use driver::Core;
 pub use driver_laws::answers::outcome::Stop;
 pub use request_slots::Asked;
-pub use start::UnitSetup;
+pub use unit_bank::UnitSetup;

@@ -3,29 +3,19 @@ ghost use Rattle.std.specs.Prelude.{◌≡◌, ◌<◌, ◌≤◌, ◌+◌, [], 
 ghost use Rattle.hardware_table.specs.Noise.{empty_book};
 ghost use Rattle.driver_machine.specs.World.{Setup, no_unit, new_unit, new_adapter_view, set_up, new_world};
 ghost use Rattle.driver_laws.specs.invariant.Parts.{AreSetups};
-ghost use Rattle.hp_core.specs.Setups.{setup_of, setups_of};
+ghost use Rattle.unit_bank.specs.Setups.{setup_of, setups_of};
 
 use crate::driver::Core;
 use bad144_table::BadTable;
 use drive_model::NoiseBook;
 use outside_traits::Gather;
 use outside_traits::traits::NoMemory;
-use pack_geometry::DriveKind;
 use request_slots::{Answers, Channel, Slots};
 use std::alloc::Global;
-use unit_bank::{DiskUnit, UnitBank};
+use unit_bank::{DiskUnit, UnitBank, UnitSetup};
 
 /// How many bytes of the trace's text are kept at most.
 const TRACE_ROOM: u32 = 65536;
-
-/// A unit that is set up: its number, from 0 to 31, the kind of its drive, and the table of its pack, where the pack has one.
-/// Unit `u` is drive `u % 8` of adapter `u / 8`.
-#[derive(Drop)]
-pub struct UnitSetup {
-    pub unit: u8,
-    pub kind: DriveKind,
-    pub table: Option<BadTable>,
-}
 
 /// The same table again, where there is one.
 fn copy_of(table: &Option<BadTable>) -> Option<BadTable>

@@ -8,3 +8,4 @@ pub use Rattle.driver_laws.proofs.shown.QuietRests.{quiet_rests}
 pub use Rattle.driver_laws.proofs.shown.Setups.{setup_stays}
 pub use Rattle.driver_laws.proofs.shown.QuietStarting.{submitted_waits}
 pub use Rattle.driver_laws.proofs.invariant.Sound.{sound_after}
+pub use Rattle.hp_core.proofs.Deeds.{pigeons}

@@ -10,6 +10,6 @@ pub mod Moves
 pub mod Submissions
 pub mod Inputs
 pub use Rattle.hp_core.specs.Setups
-pub use Rattle.hp_core.specs.declared.start.UnitSetup
+pub use Rattle.hp_core.specs.UnitSetup
 pub use Rattle.hp_core.specs.Asked
 pub use Rattle.hp_core.specs.Requests

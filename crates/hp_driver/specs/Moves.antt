@@ -1,18 +1,14 @@
 -- What the move of one sector comes to.
-use Rattle.std.specs.Prelude.{◌≡◌, ℕ, Bool, false, ◌&&◌, IsTrue, List, Some, Result}
+use Rattle.std.specs.Prelude.{◌≡◌, ℕ, Bool, false, IsTrue, List, Some, Result}
 use Rattle.pack_geometry.specs.Pack.{Pack}
-use Rattle.driver_machine.specs.World.{World, adapter_at}
 use Rattle.driver_machine.specs.Acts.{Tried}
-use Rattle.driver_machine.specs.Events.{can_move, move_acts}
+use Rattle.driver_machine.specs.Events.{move_acts}
+pub use Rattle.driver_machine.specs.Writes.{writes_next}
 use Rattle.hp_core.specs.Passes.{Outcome, StopsBefore, stop_in}
 use Rattle.hp_core.specs.Passes.{Stop}
 use Rattle.hp_core.specs.Passes.{Store}
 use Rattle.hp_core.specs.State.{State, site}
 use Rattle.hp_core.specs.Done.{HasCauses}
-
--- the next sector that an adapter moves may be written
-abbrev pub writes_next : World → ℕ → Bool
-writes_next w a = can_move (adapter_at w a) && (adapter_at w a).state.write
 
 -- ONE SECTOR IS MOVED, where there is one to move: for some sector the call comes to what moving it comes to. Each failure has its
 -- cause, and where the packs failed nothing was done, and no more text is kept. What writes nothing leaves the packs, also where they fail.

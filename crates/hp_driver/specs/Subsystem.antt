@@ -17,6 +17,7 @@ use Rattle.driver_machine.specs.Events.{refusal_of, submit_acts, event_acts}
 use Rattle.driver_machine.specs.Guards.{IsSetUp, IsHeldFor, MayChange}
 use Rattle.driver_machine.specs.Sound.{Sound, AtWork}
 use Rattle.driver_machine.specs.Runs.{MaySubmit, MayCome}
+pub use Rattle.driver_machine.specs.Writes.{is_move, writes_by}
 use Rattle.driver_laws.specs.declared.answers.outcome.Stop.{Stop}
 use Rattle.driver_laws.specs.declared.answers.outcome.Stop.TheVariants.{Store, Sink}
 use Rattle.driver_laws.specs.shown.QuietPasses.{Site, Outcome, StopsBefore}
@@ -25,7 +26,6 @@ use Rattle.driver_laws.specs.shown.QuietPasses.{IsReadOf}
 use Rattle.driver_laws.specs.shown.QuietPasses.{AllFlip}
 use Rattle.driver_laws.specs.shown.QuietPasses.{IsDraining}
 use Rattle.driver_laws.specs.shown.QuietPasses.{CanStart, AreAsked, Falls}
-use Rattle.hp_driver.specs.Moves.{writes_next}
 use Rattle.subsystem_spec.specs.declared.request.Request.{Request}
 
 -- its world, how many requests may be outstanding at once, whether one of its calls has failed, and the text of the trace that it keeps
@@ -93,15 +93,6 @@ abbrev pub LeavesFewer : World → Input → Type 0
 LeavesFewer w input = (start : Replay) (line : ℕ) (tried : Tried) (moments : List Moment) (held : ℕ → Pack) → CanStart start
     → AreAsked start.there moments → IsDraining start line moments held w → MayCome w input tried → IsReadOf w held input tried
     → Falls (after_moments start moments) (after_moments start (moments ++ lines_of_all w (event_acts line input tried w)))
-
--- only a move touches the packs, and only the move of a write may change them
-abbrev pub is_move : Input → Bool
-is_move (script.MoveAt a) = true
-is_move input = false
-
-abbrev pub writes_by : World → Input → Bool
-writes_by w (script.MoveAt a) = writes_next w a
-writes_by w input = false
 
 -- AN EVENT comes to its acts, with some sector that is tried where one is: one that the rules of the move allow, of what the packs hold.
 -- The packs stop only a move, and before anything is done in it. What writes nothing leaves them, also where they fail.

@@ -3,3 +3,5 @@ pub mod CaseLaws
 pub mod LineLaws
 pub mod ReadyLaws
 pub mod StepLaws
+pub mod MarkLaws
+pub mod TextLaws

@@ -1,13 +1,17 @@
-//! A large script from a number.
+//! A large script from a number, the packs on which it is played, and the lines of its tally.
 //!
 //! What is proved: `script_of`: the text is the script of the number, word by word. `spelling_law`: it spells 2,051 known lines
 //! by the whole grammar. `bounds_law`: in these lines at most 125 requests of at most 17 frames stand between two drains, the
-//! faults strike at most 24 times, and every noise is a short burst.
+//! faults strike at most 24 times, and every noise is a short burst. `ExercisePacks`: `SurePacks` with room for the blocks of a
+//! script; what would be written beyond it is kept as what they hold there and fails. `exercise_lines`: just the four lines of
+//! its tally.
 //!
 //! Only tested, in `hpsim_rows`: worked values, beside their proofs.
 #![tactic(auto)]
 
 mod draw;
+mod packs;
+mod tally;
 mod text;
 
 ghost use Rattle.std.specs.Prelude.{◌≡◌, ◌≤◌, ℕ, All, IfOk};
@@ -18,10 +22,13 @@ ghost use Rattle.script_reader.specs.Grammar.{Spells};
 ghost use Rattle.script_reader.specs.Printing.{numbered};
 ghost use Rattle.script_lines.specs.Words.{all_verbs};
 
+pub use mass_outside::mem_streams::SureSink;
 use outside_traits::traits::NoMemory;
+pub use packs::{ExercisePacks, Outside};
 use rand_core::{Rng, SeedableRng};
 use rand_xoshiro::SplitMix64;
 use std::alloc::Global;
+pub use tally::exercise_lines;
 
 /// The number of lines that are drawn.
 const STEPS: u32 = 2048;

@@ -1,1 +1,2 @@
+pub mod Setups
 pub use Rattle.drive_model.specs.Move

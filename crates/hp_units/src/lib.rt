@@ -4,8 +4,10 @@
 //! transfer, the sorted queue and the drive inside. No call allocates but the one that makes a unit.
 #![tactic(auto)]
 
+mod setup;
 mod tries;
 mod unit;
 
 pub use drive_model::NoiseBook;
+pub use setup::UnitSetup;
 pub use unit::DiskUnit;

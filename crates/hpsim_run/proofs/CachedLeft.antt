@@ -2,7 +2,7 @@
 use Rattle.std.proofs.Common.{◌≡◌, ◌⊎◌, inl, inr, ℕ, Bool, true, false, if◌then◌else◌, ◌==◌, Some, refl, sym, ap, ◌∙◌}
 use Rattle.outside_traits.specs.Causes.{Rose}
 use Rattle.command_parts.specs.Outside.{HasItsCause, Outside}
-use Rattle.script_commands.specs.Leaves.{LeavesAlone}
+use Rattle.pack_commands.specs.Leaves.{LeavesAlone}
 use Rattle.pack_commands.specs.declared.words.Command.TheVariants.{Exercise, Cached}
 
 differ : true ≡ false → ⊥

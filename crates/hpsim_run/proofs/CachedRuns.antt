@@ -15,7 +15,7 @@ use Rattle.cached_run.specs.Stops.{Took}
 use Rattle.script_commands.specs.Lengths.{IsTooLong, NamesTooLong}
 use Rattle.command_parts.specs.Outside.{Outside}
 use Rattle.script_commands.specs.Sinks.{out_took, trace_took}
-use Rattle.script_commands.specs.Loading.{MeansCached}
+use Rattle.command_parts.specs.Loading.{MeansCached}
 use Rattle.hpsim_run.specs.Cached.{HasCached, HasStoppedCached, RunsCached}
 use Rattle.script_commands.specs.Scripts.{RunsScript}
 use Rattle.script_commands.proofs.ScriptRuns.{IsApart, IsRead, MeanOne, script_done, script_sink, script_store}

@@ -16,11 +16,11 @@ use Rattle.pack_commands.specs.declared.words.Command.{Command}
 use Rattle.pack_commands.specs.declared.words.Command.TheVariants.{Play, ListTable, AddBlock, FreshTable, MarkBlocks, Exercise, Cached, FormatPack, TransferBytes}
 use Rattle.raw_command.specs.Endings.{RunsTransfer}
 use Rattle.raw_command.specs.Faults.{IsTransferCode}
-use Rattle.script_commands.specs.Leaves.{LeavesAlone, TellsUsage}
+use Rattle.pack_commands.specs.Leaves.{LeavesAlone, TellsUsage}
 use Rattle.script_commands.specs.Plays.{RunsPlay}
 use Rattle.script_commands.specs.Scripts.{IsPlayCode}
 use Rattle.hpsim_run.specs.Cached.{RunsCached}
-use Rattle.hpsim_run.specs.Exercises.{RunsExercise}
+use Rattle.script_commands.specs.Exercises.{RunsExercise}
 use Rattle.hpsim_run.specs.Statuses.{IsChangeCode, IsExerciseCode, IsStatusOf, IsToolCode}
 use Rattle.hpsim_run.specs.Tools.{RunsTool}
 use Rattle.hpsim_run.proofs.TransferLaws.{no_code}

@@ -1,4 +1,3 @@
 mod CachedLeft
 mod CachedRuns
 mod CommandLaws
-mod TransferLaws

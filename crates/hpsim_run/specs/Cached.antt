@@ -11,7 +11,7 @@ use Rattle.script_commands.specs.Lengths.{IsTooLong}
 use Rattle.command_parts.specs.Outside.{Outside}
 use Rattle.command_parts.specs.Statuses.{status_code}
 use Rattle.command_parts.specs.declared.status.Status.TheVariants.{Done, SinkFailed, PacksFailed}
-use Rattle.script_commands.specs.Loading.{MeansCached}
+use Rattle.command_parts.specs.Loading.{MeansCached}
 use Rattle.script_commands.specs.Scripts.{RunsScript}
 use Rattle.script_commands.specs.Sinks.{out_took, trace_took}
 

@@ -4,13 +4,13 @@ ghost use Rattle.command_parts.specs.Outside.{HasItsCause, outside};
 ghost use Rattle.command_parts.specs.Statuses.{status_code};
 ghost use Rattle.pack_commands.specs.declared.words.Command.TheVariants.{Cached};
 ghost use Rattle.hpsim_run.specs.Cached.{RunsCached};
-ghost use Rattle.script_commands.specs.Leaves.{LeavesAlone};
+ghost use Rattle.pack_commands.specs.Leaves.{LeavesAlone};
 
 use cached_run::{CachedPlayFault, play_cached};
+use command_parts::load::{LoadFault, load_cached};
 use command_parts::{Status, too_long};
 use outside_traits::traits::{Packs, Sink, Source};
 use outside_traits::whole::write_all;
-use script_commands::load::{LoadFault, load_cached};
 use script_lines::refusal;
 use std::alloc::Global;
 

@@ -3,8 +3,8 @@ ghost use Rattle.command_parts.specs.Outside.{HasItsCause, outside};
 ghost use Rattle.raw_command.specs.Endings.{RunsTransfer};
 ghost use Rattle.command_parts.specs.declared.words.Transfer.{Transfer};
 ghost use Rattle.hpsim_run.specs.Cached.{RunsCached};
-ghost use Rattle.hpsim_run.specs.Exercises.{RunsExercise};
-ghost use Rattle.script_commands.specs.Leaves.{LeavesAlone, TellsUsage};
+ghost use Rattle.script_commands.specs.Exercises.{RunsExercise};
+ghost use Rattle.pack_commands.specs.Leaves.{LeavesAlone, TellsUsage};
 ghost use Rattle.script_commands.specs.Plays.{RunsPlay};
 ghost use Rattle.hpsim_run.specs.Statuses.{IsStatusOf};
 ghost use Rattle.hpsim_run.specs.Tools.{RunsTool};
@@ -12,15 +12,15 @@ ghost use Rattle.pack_commands.specs.Words.{command_of as the_command};
 ghost use Rattle.pack_commands.specs.declared.words.Command.TheVariants.{Play, Cached, Exercise, TransferBytes};
 
 use crate::cached::run_cached;
-use crate::exercise::run_exercise;
-use crate::transfers::run_bytes;
 use command_parts::Status;
 use outside_traits::traits::{Packs, Sink, Source};
 use outside_traits::whole::write_all;
 use pack_commands::{
     Command, command_of, run_add, run_format, run_fresh, run_list, run_mark, usage,
 };
+use raw_command::run_bytes;
 use script_commands::play::run_play;
+use script_commands::run_exercise;
 use std::alloc::Global;
 
 /// Runs the command that the words name, and answers the code of its `Status`.

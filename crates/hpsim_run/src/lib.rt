@@ -12,9 +12,7 @@
 
 mod cached;
 mod command;
-mod exercise;
 mod program;
-mod transfers;
 
 pub use command::run;
 pub use command_parts::Status;

@@ -1,4 +1,5 @@
 pub mod Commands
 pub mod Words
+pub mod Leaves
 pub mod Formats
 pub mod Tools

@@ -5,7 +5,7 @@
 //!
 //! Only tested, in `hpsim_rows`: printed texts.
 //!
-//! The commands that the words of the command line name, and the usage.
+//! The commands that the words of the command line name, the usage, and what each command leaves as it was (`LeavesAlone`).
 //!
 //! What is proved: `command_of` gives a command exactly where the words are one of the shapes, with the numbers that they spell, in their
 //! ranges.

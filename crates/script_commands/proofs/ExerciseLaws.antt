@@ -29,7 +29,7 @@ use Rattle.event_player.specs.Stops.{Leaves, StopsPlaying}
 use Rattle.hp_exercise.specs.Bounds.{HasShortNoise}
 use Rattle.hp_exercise.specs.Exercise.{script_text}
 use Rattle.hp_exercise.specs.Statements.{script_statements}
-use Rattle.script_commands.specs.Room.{AreEmpty}
+use Rattle.hp_exercise.specs.Room.{AreEmpty}
 use Rattle.script_commands.specs.Exercises.{IsExercise, Exercised, IsCutShort, exercise_lines, exercise_script}
 use Rattle.script_commands.proofs.AnsweredLaws.{all_answered}
 

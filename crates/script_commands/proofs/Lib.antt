@@ -1,4 +1,3 @@
-pub mod LoadLaws
 pub mod PlayLaws
 pub mod SoFar
 mod Standing
@@ -6,10 +5,8 @@ mod TheRunLaws
 mod PlayRuns
 pub mod ScriptLeft
 pub mod ScriptRuns
-mod TextLaws
 mod AnsweredLaws
 mod TableLaws
 mod ReachLaws
-mod MarkLaws
 mod RoomLaws
 mod ExerciseLaws

@@ -9,10 +9,10 @@ use Rattle.answer_lines.specs.declared.tally.Tally.{Tally}
 use Rattle.event_player.specs.PlayFault.{PlayFault}
 use Rattle.event_player.specs.PlayFault.TheVariants as faults
 use Rattle.event_player.specs.Faults.{IsPlaying, IsBefore, IsLongFor}
-use Rattle.script_commands.specs.declared.load.LoadFault.{LoadFault}
-use Rattle.script_commands.specs.declared.load.LoadFault.TheVariants as loading
-use Rattle.script_commands.specs.Scripts.{MeanNone}
-use Rattle.script_commands.specs.Loading.{RefusesAll}
+use Rattle.command_parts.specs.declared.load.LoadFault.{LoadFault}
+use Rattle.command_parts.specs.declared.load.LoadFault.TheVariants as loading
+use Rattle.command_parts.specs.Loading.{MeanNone}
+use Rattle.command_parts.specs.Loading.{RefusesAll}
 use Rattle.command_parts.specs.Lines.{Told}
 use Rattle.script_lines.specs.Refusals.{refusal_text}
 use Rattle.event_player.specs.Lengths.{NamesTooLong}

@@ -11,7 +11,8 @@ use Rattle.event_player.specs.PlayFault.TheVariants as faults
 use Rattle.event_player.specs.Lengths.{IsTooLong}
 use Rattle.command_parts.specs.Outside.{Outside}
 use Rattle.script_commands.specs.Sinks.{out_took, trace_took}
-use Rattle.script_commands.specs.Headline.{Headline, HasStopped, Means}
+use Rattle.command_parts.specs.Loading.{Means}
+use Rattle.script_commands.specs.Headline.{Headline, HasStopped}
 use Rattle.script_commands.specs.Scripts.{RunsScript}
 use Rattle.script_commands.specs.Plays.{RunsPlay}
 use Rattle.script_commands.proofs.ScriptRuns.{IsApart, IsRead, MeanOne, script_done, script_sink, script_store}

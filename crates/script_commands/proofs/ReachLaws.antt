@@ -17,7 +17,7 @@ use Rattle.event_player.specs.Passes.{AskBelow}
 use Rattle.hp_exercise.specs.Exercise.{block_of, count_of, words_of}
 use Rattle.hp_exercise.specs.Statements.{request_of, step_statement, steps_statements}
 use Rattle.hp_exercise.proofs.CaseLaws.{step_by, steps_all}
-use Rattle.script_commands.specs.Room.{room_on}
+use Rattle.hp_exercise.specs.Room.{room_on}
 use Rattle.script_commands.specs.Exercises.{exercise_script}
 
 -- A REQUEST is in partition `a`, with which a pack begins, and ends within the room.

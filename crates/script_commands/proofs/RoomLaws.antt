@@ -14,10 +14,10 @@ use Rattle.event_player.specs.PlayFault.TheVariants as faults
 use Rattle.event_player.specs.Passes.{writes_next}
 use Rattle.event_player.specs.Passes.{Took}
 use Rattle.event_player.specs.Stops.{Leaves}
-use Rattle.script_commands.specs.Room.{AreEmpty, IsOutside, faults_of, room_on, with_outside}
+use Rattle.hp_exercise.specs.Room.{AreEmpty, IsOutside, faults_of, room_on, with_outside}
 use Rattle.script_commands.specs.Exercises.{exercise_script}
-use Rattle.script_commands.specs.declared.packs.Outside.{Outside}
-use Rattle.script_commands.specs.declared.packs.Outside.TheVariants.{Block, Mark}
+use Rattle.hp_exercise.specs.declared.packs.Outside.{Outside}
+use Rattle.hp_exercise.specs.declared.packs.Outside.TheVariants.{Block, Mark}
 use Rattle.script_commands.proofs.ReachLaws.{asks_below}
 use Rattle.script_commands.proofs.TableLaws.{no_tables}
 

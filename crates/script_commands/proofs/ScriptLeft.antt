@@ -2,7 +2,7 @@
 use Rattle.std.proofs.Common.{◌≡◌, ◌⊎◌, inl, inr, ℕ, Bool, true, false, if◌then◌else◌, ◌==◌, Option, Some, refl, sym, ap, ◌∙◌}
 use Rattle.outside_traits.specs.Causes.{Rose}
 use Rattle.command_parts.specs.Outside.{HasItsCause, Outside}
-use Rattle.script_commands.specs.Leaves.{LeavesAlone, reads_source, tells_trace}
+use Rattle.pack_commands.specs.Leaves.{LeavesAlone, reads_source, tells_trace}
 use Rattle.pack_commands.specs.declared.words.Command.{Command}
 use Rattle.pack_commands.specs.declared.words.Command.TheVariants.{Exercise, Play}
 

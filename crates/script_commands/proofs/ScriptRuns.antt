@@ -6,7 +6,8 @@ use Rattle.trace_replay.specs.Script.{Script}
 use Rattle.script_lines.specs.declared.kinds.ScriptKind.{ScriptKind}
 use Rattle.event_player.specs.Lengths.{IsTooLong}
 use Rattle.command_parts.specs.Outside.{Outside}
-use Rattle.script_commands.specs.Scripts.{RunsScript, TellsRefusal, TellsTooLong, longest}
+use Rattle.command_parts.specs.Loading.{longest}
+use Rattle.script_commands.specs.Scripts.{RunsScript, TellsRefusal, TellsTooLong}
 
 -- bytes mean one script at most
 abbrev pub MeanOne : (List ℕ → Script → Type 0) → Type 0

@@ -11,7 +11,7 @@ use Rattle.pack_geometry.specs.TableFields.{word_at}
 use Rattle.pack_geometry.specs.TableSpelling.{Table, Spells, table_text}
 use Rattle.pack_geometry.proofs.PackLaws.{get_or-window}
 use Rattle.pack_geometry.proofs.TableLaws.{place_in-listed, unlisted_is_end}
-use Rattle.script_commands.specs.Room.{AreEmpty}
+use Rattle.hp_exercise.specs.Room.{AreEmpty}
 
 -- ITS WORDS are zero.
 blank_byte : (block i : ℕ) → i < 512 → get_or (block_at [] block) i 0 ≡ 0

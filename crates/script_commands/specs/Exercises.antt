@@ -1,4 +1,4 @@
--- What an exercise has done.
+-- What an exercise has done, and a run of the command.
 use Rattle.std.specs.Prelude.{◌≡◌, ◌⊎◌, ℕ, false, Bool, IsTrue, List, [], ◌++◌}
 use Rattle.pack_geometry.specs.Pack.{Pack}
 use Rattle.outside_traits.specs.Causes.{Rose}
@@ -19,8 +19,8 @@ use Rattle.hp_exercise.specs.Exercise.{script_text}
 use Rattle.hp_exercise.specs.Statements.{script_statements}
 use Rattle.driver_laws.specs.rules.Promises.{Promises}
 use Rattle.event_player.specs.Passes.{IsTheRun}
-use Rattle.script_commands.specs.Room.{AreEmpty}
-use Rattle.script_commands.specs.ExerciseText.{exercise_text}
+use Rattle.hp_exercise.specs.Room.{AreEmpty}
+use Rattle.hp_exercise.specs.ExerciseText.{exercise_text}
 
 -- THE SCRIPT of a number, in 2,051 lines
 abbrev pub exercise_lines : ℕ → List Numbered
@@ -75,3 +75,12 @@ abbrev pub IsStopped : (number : ℕ) (out_tells : Bool) (said said' : List ℕ)
 IsStopped number out_tells said said' out_faults out_faults' trace_tells taken taken' trace_faults trace_faults' =
     (Rose trace_faults trace_faults' × (said' ≡ said) × IsCutShort number trace_tells taken taken')
     ⊎ (Rose out_faults out_faults' × IsUntold number out_tells said said' trace_tells taken taken')
+
+-- `exercise`: the script of the number was played, and its tally printed; or a sink failed, and it was played so far, or a front of its
+-- four lines was taken; or there was no memory. Where no count rose it is no sink that failed.
+pub record RunsExercise (number code : ℕ) (out_tells : Bool) (said said' : List ℕ) (out_faults out_faults' : ℕ)
+    (trace_tells : Bool) (taken taken' : List ℕ) (trace_faults trace_faults' : ℕ) : Type 0 where
+  pub statuses : (code ≡ 0) ⊎ (code ≡ 5) ⊎ (code ≡ 9)
+  pub done : code ≡ 0 → IsDone number out_tells said said' trace_tells taken taken'
+  pub stopped : code ≡ 5 → IsStopped number out_tells said said' out_faults out_faults' trace_tells taken taken' trace_faults trace_faults'
+  pub ends : ¬ Rose out_faults out_faults' → ¬ Rose trace_faults trace_faults' → (code ≡ 0) ⊎ (code ≡ 9)

@@ -4,7 +4,6 @@ use Rattle.pack_geometry.specs.Pack.{Pack}
 use Rattle.script_reader.specs.Grammar.{Spells}
 use Rattle.script_lines.specs.Known.{Numbered}
 use Rattle.script_lines.specs.Words.{all_verbs}
-use Rattle.trace_replay.specs.Script.{Script}
 use Rattle.script_reader.specs.Meaning.{meaning}
 use Rattle.driver_laws.specs.rules.Promises.{Promises}
 use Rattle.event_player.specs.PlayFault.{PlayFault}
@@ -35,10 +34,3 @@ pub record HasStopped (fault : PlayFault) (source_tells : Bool) (left left_after
   pub spelled : IsTrue source_tells → Spells all_verbs left lines count
   pub leaves : IsTrue tells → Leaves fault (meaning lines count) old new out trace
   pub keeps : IsTrue tells → Keeps fault (meaning lines count) old new out trace
-
--- WHAT BYTES MEAN to `play`: they spell lines that mean the script.
-pub record Means (bytes : List ℕ) (script : Script) : Type 0 where
-  pub lines : List Numbered
-  pub count : ℕ
-  pub spelled : Spells all_verbs bytes lines count
-  pub is : script ≡ meaning lines count

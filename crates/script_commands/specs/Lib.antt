@@ -1,14 +1,11 @@
 pub mod Headline
 pub mod SoFar
-pub mod Leaves
-pub mod Loading
 pub mod Plays
 pub mod TheRun
 pub mod Scripts
 pub mod Sinks
-pub mod Room
-pub mod ExerciseText
 pub mod Exercises
+pub use Rattle.hp_exercise.specs.ExerciseText
 pub use Rattle.event_player.specs.Faults
 pub use Rattle.event_player.specs.Lengths
 pub use Rattle.event_player.specs.PlayFault

@@ -6,7 +6,8 @@ use Rattle.script_lines.specs.Words.{all_verbs}
 use Rattle.event_player.specs.PlayFault.TheVariants as faults
 use Rattle.command_parts.specs.Outside.{Outside}
 use Rattle.script_commands.specs.Sinks.{out_took, trace_took}
-use Rattle.script_commands.specs.Headline.{Headline, HasStopped, Means}
+use Rattle.command_parts.specs.Loading.{Means}
+use Rattle.script_commands.specs.Headline.{Headline, HasStopped}
 use Rattle.command_parts.specs.Statuses.{status_code}
 use Rattle.script_commands.specs.Scripts.{RunsScript}
 use Rattle.script_commands.specs.TheRun.{IsThatRun}

@@ -8,17 +8,10 @@ use Rattle.script_lines.specs.declared.kinds.ScriptKind.{ScriptKind}
 use Rattle.script_lines.specs.Refusals.{refusal_text}
 use Rattle.event_player.specs.Lengths.{IsTooLong, NamesTooLong}
 use Rattle.command_parts.specs.Lines.{Told, too_long_text}
+use Rattle.command_parts.specs.Loading.{MeanNone, longest}
 use Rattle.command_parts.specs.Outside.{Outside}
 use Rattle.command_parts.specs.Statuses.{status_code}
 use Rattle.command_parts.specs.declared.status.Status.TheVariants.{Done, Refused, SourceFailed, SinkFailed, PacksFailed, TooLong, OutOfMemory}
-
--- the longest script, in bytes: 16 MiB
-abbrev pub longest : ℕ
-longest = 16777216
-
--- these bytes mean no script
-abbrev pub MeanNone : (List ℕ → Script → Type 0) → List ℕ → Type 0
-MeanNone Means bytes = (script : Script) → ¬ Means bytes script
 
 -- A refusal. Where the source tells, its bytes mean no script, and this is their first fault; where the sink tells, its text was taken, or
 -- the sink failed.

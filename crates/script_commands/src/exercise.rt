@@ -1,30 +1,26 @@
 // The script of a number is played, and its tally is printed.
 ghost use Rattle.std.specs.Prelude.{◌≡◌, ◌⊎◌, IfOk, OnOk, IsErrOf};
 ghost use Rattle.outside_traits.specs.Causes.{Rose};
-ghost use Rattle.script_commands.specs.Exercises.{Exercised, IsCutShort, IsDone, IsStopped};
+ghost use Rattle.command_parts.specs.Statuses.{status_code};
+ghost use Rattle.script_commands.specs.Exercises.{Exercised, IsCutShort, IsDone, IsStopped, RunsExercise};
 
-use crate::packs::ExercisePacks;
-use crate::text::exercise_lines;
 use answer_lines::Tally;
+use command_parts::Status;
 use driver_laws::rules::promises::promises_law;
 use event_player::play::{PlayFault, play};
-use hp_exercise::{bounds_law, script_of, spelling_law};
-use mass_outside::mem_streams::SureSink;
+use hp_exercise::{ExercisePacks, SureSink, bounds_law, exercise_lines, script_of, spelling_law};
 use outside_traits::traits::{Sink, SinkFailed};
 use outside_traits::whole::write_all;
 use script_reader::meaning::meaning_law;
 use script_reader::{ReadFault, grammar_law, read_script};
 use std::alloc::Global;
-use thiserror::Error;
 
 /// Why an exercise was not played, or not printed.
-#[derive(Clone, Copy, Debug, Error)]
-pub enum ExerciseFault {
+#[derive(Clone, Copy)]
+enum ExerciseFault {
     /// There was no memory. Nothing was played.
-    #[error("there is no memory")]
     Memory,
     /// A call of a sink failed.
-    #[error("a sink failed")]
     Sink,
 }
 
@@ -77,12 +73,8 @@ fn play_exercise<T: Sink>(alloc: Global, number: u64, trace: &mut T) -> Result<T
     }
 }
 
-/// Plays the script of a number over empty packs in memory, and prints its tally on `out`. Its lines go to `trace`; nobody reads its
-/// answers.
-///
-/// Memory comes only before the first line is played, with both sinks as they were. Sink comes only where the count of faults of `out`
-/// or of `trace` rose.
-pub fn run_exercise<O: Sink, T: Sink>(
+/// Plays the script of a number over empty packs in memory, and prints its tally.
+fn play_and_print<O: Sink, T: Sink>(
     alloc: Global,
     number: u64,
     out: &mut O,
@@ -98,4 +90,28 @@ pub fn run_exercise<O: Sink, T: Sink>(
     let tally = play_exercise(alloc, number, trace)?;
     write_all(out, exercise_lines(number, tally).as_bytes())?;
     Ok(())
+}
+
+/// The command `exercise`: plays the script of a number over empty packs in memory, and prints its tally on `out`. Its lines go to
+/// `trace`; nobody reads its answers.
+///
+/// OutOfMemory comes only before the first line is played, with both sinks as they were. SinkFailed comes only where the count of faults
+/// of `out` or of `trace` rose.
+pub fn run_exercise<O: Sink, T: Sink>(
+    alloc: Global,
+    number: u64,
+    out: &mut O,
+    trace: &mut T,
+) -> Status
+    ensures runs { RunsExercise number (status_code result) (O.tells out.new) (O.taken out.old) (O.taken out.new) (O.faults out.old) (O.faults out.new)
+        (T.tells trace.new) (T.taken trace.old) (T.taken trace.new) (T.faults trace.old) (T.faults trace.new) }
+    ensures sink { result ≡ Status.SinkFailed → Rose (O.faults out.old) (O.faults out.new) ⊎ Rose (T.faults trace.old) (T.faults trace.new) }
+    ensures silent { result ≡ Status.OutOfMemory → out.new ≡ out.old }
+    ensures untraced { result ≡ Status.OutOfMemory → trace.new ≡ trace.old }
+{
+    match play_and_print(alloc, number, out, trace) {
+        Ok(()) => Status::Done,
+        Err(ExerciseFault::Memory) => Status::OutOfMemory,
+        Err(ExerciseFault::Sink) => Status::SinkFailed,
+    }
 }

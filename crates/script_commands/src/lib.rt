@@ -1,21 +1,17 @@
-//! Scripts for commands: how a script is loaded, the command `play`, and the exercise.
+//! Scripts for commands: the command `play`, and the exercise.
 //!
 //! What is proved: `run_play`: the headline for status 0 (`Headline`, `Promises`), and for 5 and 6 what stands after the stop
-//! (`HasStopped`); for each other status its cause, and what it prints and leaves (`RunsPlay`, `LeavesAlone`). `load`, `load_cached`: Ok
-//! exactly where the source's bytes spell a script of that grammar, and Refused names their first fault.
-//! `run_exercise`: Ok is a legal run of the number's script over empty packs, of which all of `Promises` holds;
+//! (`HasStopped`); for each other status its cause, and what it prints and leaves (`RunsPlay`, `LeavesAlone`).
+//! `run_exercise`: Done is a legal run of the number's script over empty packs, of which all of `Promises` holds;
 //! where `trace` tells it took just its lines, and where `out` tells just the four lines of its tally, whose answers are as
-//! many as its requests. Sink has its cause, and says how far the script came, or that a front of the four lines was taken;
-//! Memory comes before anything is played. The packs are `ExercisePacks`: `SurePacks` with room for the blocks of a script;
+//! many as its requests. SinkFailed has its cause, and says how far the script came, or that a front of the four lines was taken;
+//! OutOfMemory comes before anything is played. The packs are `ExercisePacks`: `SurePacks` with room for the blocks of a script;
 //! what would be written beyond it is kept as what they hold there and fails, and by the contract of `play` that never comes.
 //!
 //! Only tested, in `hpsim_rows`: worked values, beside their proofs.
 #![tactic(auto)]
 
 mod exercise;
-pub mod load;
-mod packs;
 pub mod play;
-mod text;
 
-pub use exercise::{ExerciseFault, run_exercise};
+pub use exercise::run_exercise;

@@ -3,10 +3,10 @@ ghost use Rattle.std.specs.Prelude.{Some};
 ghost use Rattle.command_parts.specs.Outside.{HasItsCause, outside};
 ghost use Rattle.command_parts.specs.Statuses.{status_code};
 ghost use Rattle.pack_commands.specs.declared.words.Command.TheVariants.{Play};
-ghost use Rattle.script_commands.specs.Leaves.{LeavesAlone};
+ghost use Rattle.pack_commands.specs.Leaves.{LeavesAlone};
 ghost use Rattle.script_commands.specs.Plays.{RunsPlay};
 
-use crate::load::{LoadFault, load};
+use command_parts::load::{LoadFault, load};
 use command_parts::{Status, too_long};
 use driver_laws::rules::promises::{beginnings_law, promises_law};
 use event_player::next_block_law;

@@ -6,7 +6,7 @@ use Rattle.driver_machine.specs.World.{Held, frames_of}
 use Rattle.driver_machine.specs.Acts.{kept_by, without}
 use Rattle.driver_machine.specs.Sound.{Among, Once}
 use Rattle.driver_laws.proofs.invariant.SlotsLists.{Contains-none, Contains-cases}
-use Rattle.hp_driver.specs.Requests.{frames_lent}
+use Rattle.driver_laws.specs.Requests.{frames_lent}
 
 -- A LIST WITHOUT A NUMBER is no longer, is shorter where the number was there, and has every other one.
 no_longer : (u : ℕ) (xs : List ℕ) → length (without u xs) ≤ length xs

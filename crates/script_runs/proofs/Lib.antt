@@ -23,3 +23,4 @@ pub mod LineLaws
 pub mod AttachLaws
 pub mod CachedLines
 pub mod CachedLaws
+pub mod Gatherings

@@ -15,5 +15,4 @@ pub use Rattle.driver_laws.proofs.shown.TraceRuns.{drain_ends, drain_finds_nothi
 pub use Rattle.driver_laws.proofs.shown.Start.{starts}
 pub use Rattle.driver_laws.proofs.shown.Starting.{other_act}
 pub use Rattle.driver_laws.proofs.shown.Telling.{LineFollows, LinesFollow, told_within}
-pub use Rattle.hp_driver.proofs.Moves.{read_from, tried_by_rules}
 pub use Rattle.driver_laws.proofs.rules.Quiet.{after_parts}

@@ -9,6 +9,6 @@ pub mod Lengths
 pub mod Faults
 pub mod Attaching
 pub mod Cached
-pub use Rattle.hp_driver.specs.declared.drain.Event
-pub use Rattle.hp_driver.specs.Setups
-pub use Rattle.hp_driver.specs.UnitSetup
+pub mod Saying
+pub use Rattle.hp_units.specs.Setups
+pub use Rattle.hp_units.specs.declared.setup.UnitSetup

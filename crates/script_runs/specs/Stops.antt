@@ -17,7 +17,7 @@ use Rattle.driver_laws.specs.shown.RunsRuns.{AreDeclared}
 use Rattle.driver_laws.specs.shown.Reach.{AskBelow, TablesBelow, StayFrom}
 use Rattle.driver_laws.specs.shown.Within.{ShowsAll}
 use Rattle.answer_lines.specs.AnswerText.{out_text}
-use Rattle.hp_driver.specs.Moves.{writes_next}
+use Rattle.driver_machine.specs.Writes.{writes_next}
 use Rattle.script_runs.specs.Ahead.{IsBetween, WritesAhead, TellsAhead}
 
 -- AN EVENT IS OVER where no line of it is still to come, or a drain stands before its next one.

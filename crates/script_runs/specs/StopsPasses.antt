@@ -7,7 +7,3 @@ pub use Rattle.driver_laws.specs.shown.Calls.{IsReadOf}
 pub use Rattle.driver_laws.specs.shown.Noises.{AllFlip}
 pub use Rattle.driver_laws.specs.shown.Runs.{IsDraining, IsOfUnits, IsSoFar, with_call}
 pub use Rattle.driver_laws.specs.shown.Within.{Rests, ShowsAll}
-pub use Rattle.hp_driver.specs.Subsystem.{Comes, IsAsked, IsOldest, IsThere, Reads, State, Submits, asked, is_move, seen, writes_by}
-pub use Rattle.hp_driver.specs.Inputs.{input_of}
-pub use Rattle.hp_driver.specs.Moves.{writes_next}
-pub use Rattle.hp_driver.specs.declared.drain.Event.{Event}

@@ -16,7 +16,7 @@ use Rattle.driver_machine.specs.Sound.{Sound}
 use Rattle.driver_laws.specs.shown.Lengths.{AreAsLong}
 use Rattle.driver_laws.specs.shown.Within.{ShowsAll}
 use Rattle.driver_laws.specs.rules.Beginnings.{AreNoSectors}
-use Rattle.hp_driver.specs.Subsystem.{writes_by}
+use Rattle.driver_machine.specs.Writes.{writes_by}
 
 -- a moment tells of a sector that was written
 abbrev pub was_written_at : Replay → Moment → Bool

@@ -8,16 +8,16 @@ ghost use Rattle.script_reader.specs.Stored.{lines_in};
 ghost use Rattle.script_lines.specs.Words.{all_verbs};
 ghost use Rattle.script_reader.specs.Meaning.{meaning_of};
 ghost use Rattle.trace_replay.specs.Script.{drives_of};
-ghost use Rattle.hp_driver.specs.Setups.{setup_of, setups_of};
+ghost use Rattle.hp_units.specs.Setups.{setup_of, setups_of};
 ghost use Rattle.script_runs.specs.Steps.{tables_in, AreSetFor};
 ghost use Rattle.script_runs.specs.Attaching.{IsSet, IsFoundLong, HasRoom, Adds, RefusesLine};
 ghost use Rattle.script_runs.specs.Faults.{IsLongFor};
 ghost use Rattle.script_runs.specs.Lengths.{IsTooLong};
 
 use crate::PlayFault;
-use crate::stops::UnitSetup;
 use bad144_table::{BadTable, entries};
 use drive_model::Drive;
+use hp_units::UnitSetup;
 use mba_autoconf::{AttachFault, attach};
 use outside_traits::traits::Packs;
 use pack_geometry::DriveKind;

@@ -3,7 +3,7 @@ ghost use Rattle.std.specs.Prelude.{◌≡◌, ◌≤◌, ℕ, IsTrue, IfOk, IfE
 ghost use Rattle.outside_traits.specs.Causes.{Rose};
 ghost use Rattle.pack_geometry.specs.PackTable.{AreTablesOf};
 ghost use Rattle.trace_replay.specs.Script.{drives_of};
-ghost use Rattle.hp_driver.specs.Setups.{setups_of};
+ghost use Rattle.hp_units.specs.Setups.{setups_of};
 ghost use Rattle.script_runs.specs.Steps.{tables_in, AreSetFor};
 ghost use Rattle.script_runs.specs.Lengths.{IsTooLong};
 ghost use Rattle.script_runs.specs.Faults.{IsLongFor};
@@ -12,8 +12,8 @@ ghost use Rattle.cached_script.specs.Meaning.{meaning_of, statement_of};
 
 use crate::PlayFault;
 use crate::attaching::attach_unit;
-use crate::stops::UnitSetup;
 use cached_script::{CachedScript, Line, Statement};
+use hp_units::UnitSetup;
 use outside_traits::traits::Packs;
 use std::alloc::Global;
 

@@ -5,12 +5,15 @@
 //! the packs tell it is that of the pack (`IsSet`); TooLong comes for the first image that is too long, and where none comes no image is
 //! (`IsLongFor`, `IsTooLong`). The packs stay, and Store comes only where they failed.
 //!
+//! `desk`: `write_answer` gives the sink just the line of an answer, with those of the blocks of a read (`Puts`, `said_text`).
+//!
 //! Defined in `specs/` beside these: what each `PlayFault` tells of packs and sinks (`Rise`, `HaveTold`, `AreUntouched`), and images that
 //! are too long for their drives (`NamesTooLong`).
 #![tactic(auto)]
 
 mod attaching;
 mod cached;
+pub mod desk;
 mod fault;
 pub mod one;
 pub mod stops;

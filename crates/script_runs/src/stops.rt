@@ -42,4 +42,4 @@ pub fn rule_law()
 }
 
 pub use driver_laws::shown::runs::next_block_law;
-pub use hp_driver::{Answer, AnswerKind, Event, Request, Subsystem, UnitSetup};
+pub use hp_units::UnitSetup;

@@ -13,4 +13,4 @@ mod row;
 mod sectors;
 
 pub use bank::UnitBank;
-pub use hp_units::DiskUnit;
+pub use hp_units::{DiskUnit, UnitSetup};

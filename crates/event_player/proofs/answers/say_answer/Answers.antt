@@ -6,7 +6,7 @@ use Rattle.driver_machine.specs.Lines.{answer_told}
 use Rattle.answer_lines.proofs.CountLaws.{counts_same}
 use Rattle.event_player.specs.Answering.{first_blocks, first_told, first_rest}
 use Rattle.answer_lines.specs.Counting.{Counts}
-use Rattle.script_runs.specs.StopsPasses.{State}
+use Rattle.hp_driver.specs.Subsystem.{State}
 use Rattle.event_player.specs.Saying.{side, Says}
 use Rattle.event_player.proofs.SaysLaws.{says_same, says_both, says_stop}
 use Rattle.event_player.proofs.TallyLaws.{answer_counted}

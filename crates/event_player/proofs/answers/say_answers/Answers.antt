@@ -1,7 +1,7 @@
 use Rattle.std.proofs.Common.{◌≡◌, ℕ, List, ap, refl, sym, subst, ◌∙◌}
 use Rattle.driver_machine.specs.Acts.{Taken, after}
 use Rattle.driver_machine.specs.World.{World}
-use Rattle.script_runs.specs.StopsPasses.{State}
+use Rattle.hp_driver.specs.Subsystem.{State}
 use Rattle.event_player.specs.Answering.{IsFirst}
 use Rattle.event_player.specs.Saying.{side}
 use Rattle.event_player.proofs.AnswerLaws.{SoFar, none_so_far, one_so_far, so_far_stops, all_so_far, state_so_far, is_taken}

@@ -3,7 +3,7 @@ use Rattle.std.specs.Prelude.{Ok}
 use Rattle.std.proofs.lemmas.List.{take_all}
 use Rattle.subsystem_spec.specs.declared.answers.AnswerKind.TheVariants.{ReadOk}
 use Rattle.driver_machine.specs.World.{World}
-use Rattle.script_runs.specs.StopsPasses.{State}
+use Rattle.hp_driver.specs.Subsystem.{State}
 use Rattle.answer_lines.specs.AnswerText.{block_text, block_texts}
 use Rattle.answer_lines.specs.Counting.{Counts}
 use Rattle.answer_lines.proofs.CountLaws.{counts_none, counts_same}

@@ -1,6 +1,6 @@
 use Rattle.std.proofs.Common.{inr, refl, ap, subst, sym, ◌∙◌}
 use Rattle.driver_machine.specs.World.{World}
-use Rattle.script_runs.specs.StopsPasses.{State, asked}
+use Rattle.hp_driver.specs.Subsystem.{State, asked}
 use Rattle.script_runs.specs.declared.fault.PlayFault.TheVariants as faults
 use Rattle.event_player.specs.Saying.{Side, side}
 use Rattle.event_player.specs.Steps.{PlaysSubmission}

@@ -1,7 +1,7 @@
 use Rattle.std.proofs.Common.{Some, None, refl, ap, subst, sym, ◌∙◌}
 use Rattle.driver_machine.specs.World.{World}
-use Rattle.script_runs.specs.StopsPasses.{input_of}
-use Rattle.script_runs.specs.StopsPasses.{State, Comes}
+use Rattle.hp_driver.specs.Inputs.{input_of}
+use Rattle.hp_driver.specs.Subsystem.{State, Comes}
 use Rattle.driver_laws.specs.answers.Waiting.{waiting}
 use Rattle.answer_lines.specs.declared.tally.Tally.{Tally}
 use Rattle.answer_lines.specs.Counting.{Counts}

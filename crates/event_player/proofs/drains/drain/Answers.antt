@@ -1,9 +1,9 @@
 use Rattle.std.proofs.Common.{inr, refl, ap, subst, sym, append_assoc, ◌∙◌}
 use Rattle.std.specs.Prelude.{Ok}
-use Rattle.script_runs.specs.StopsPasses.{input_of}
+use Rattle.hp_driver.specs.Inputs.{input_of}
 use Rattle.trace_replay.specs.Moments.{Idle}
 use Rattle.trace_replay.specs.Text.{moment_text}
-use Rattle.script_runs.specs.StopsPasses.{State}
+use Rattle.hp_driver.specs.Subsystem.{State}
 use Rattle.event_player.specs.Saying.{side}
 use Rattle.driver_machine.specs.World.{World}
 use Rattle.trace_replay.specs.Script.{Plays, Drain}

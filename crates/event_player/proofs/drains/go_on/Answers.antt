@@ -1,5 +1,5 @@
 use Rattle.std.proofs.Common.{refl, ◌∙◌}
-use Rattle.script_runs.specs.StopsPasses.{input_of}
+use Rattle.hp_driver.specs.Inputs.{input_of}
 use Rattle.event_player.specs.Steps.{Stage, stage}
 use Rattle.event_player.proofs.Draining.{draining_starts, draining_next, draining_over, draining_never}
 use Rattle.event_player.proofs.Rooms.{drain_brings, still_brings, brings_both}

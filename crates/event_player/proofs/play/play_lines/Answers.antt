@@ -8,7 +8,7 @@ use Rattle.script_lines.specs.Words.{all_verbs}
 use Rattle.script_reader.specs.Meaning.{line_of, meaning_of}
 use Rattle.trace_replay.specs.Script.{IsScript}
 use Rattle.answer_lines.specs.declared.tally.Tally.{Tally}
-use Rattle.script_runs.specs.StopsPasses.{State}
+use Rattle.hp_driver.specs.Subsystem.{State}
 use Rattle.script_runs.specs.declared.fault.PlayFault.{PlayFault}
 use Rattle.script_runs.specs.declared.fault.PlayFault.TheVariants as faults
 use Rattle.event_player.specs.Saying.{side}

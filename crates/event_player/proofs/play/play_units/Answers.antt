@@ -7,8 +7,8 @@ use Rattle.script_runs.specs.declared.fault.PlayFault.{PlayFault}
 use Rattle.script_runs.specs.declared.fault.PlayFault.TheVariants as fault
 use Rattle.script_runs.specs.Faults.{IsBefore, Rise}
 use Rattle.pack_geometry.specs.Pack.{Pack}
-use Rattle.hp_core.specs.Setups.{setups_of}
-use Rattle.script_runs.specs.StopsPasses.{State}
+use Rattle.hp_driver.specs.Setups.{setups_of}
+use Rattle.hp_driver.specs.Subsystem.{State}
 use Rattle.script_runs.specs.Steps.{tables_in}
 use Rattle.event_player.specs.Plays.{Tallied}
 use Rattle.event_player.specs.Steps.{Stage, stage, HasCauses}

@@ -1,6 +1,6 @@
 use Rattle.std.proofs.Common.{refl, ◌≡◌}
 use Rattle.std.proofs.lemmas.Result.{on_ok_weaker}
-use Rattle.script_runs.specs.StopsPasses.{input_of}
+use Rattle.hp_driver.specs.Inputs.{input_of}
 use Rattle.script_reader.specs.Meaning.{statement_of}
 use Rattle.script_reader.specs.Stored.{seen, digits_at}
 use Rattle.trace_replay.specs.Script.{Statement}

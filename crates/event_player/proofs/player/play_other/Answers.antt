@@ -1,15 +1,15 @@
 use Rattle.std.proofs.Common.{ℕ, [], List, take, refl, ◌≡◌, ap, subst, ◌∙◌}
 use Rattle.std.specs.Box.{box_value}
 use Rattle.std.proofs.lemmas.Result.{on_ok_weaker}
-use Rattle.script_runs.specs.Event.TheVariants as event
-use Rattle.script_runs.specs.StopsPasses.{input_of}
-use Rattle.script_runs.specs.StopsPasses.{asked}
+use Rattle.hp_driver.specs.declared.drain.Event.TheVariants as event
+use Rattle.hp_driver.specs.Inputs.{input_of}
+use Rattle.hp_driver.specs.Subsystem.{asked}
 use Rattle.script_reader.specs.Meaning.{statement_of}
 use Rattle.script_reader.specs.Stored.{seen}
 use Rattle.hardware_table.specs.Noise.{LiveNoise}
 use Rattle.trace_replay.specs.Script.{Statement, Noise as NoiseInput}
 use Rattle.driver_machine.specs.World.{World}
-use Rattle.script_runs.specs.StopsPasses.{State}
+use Rattle.hp_driver.specs.Subsystem.{State}
 use Rattle.event_player.specs.Steps.{Stage, stage, PlaysEvent, Brings}
 use Rattle.event_player.specs.Stops.{EventStops}
 use Rattle.event_player.proofs.Ahead.{IsOpened}

@@ -2,7 +2,7 @@ use Rattle.std.proofs.Common.{◌≡◌, ◌+◌, ◌<◌, drop, length, sym, ap
 use Rattle.std.specs.Prelude.{slice_set}
 use Rattle.std.proofs.lemmas.List.{length-set, length-replicate}
 use Rattle.driver_machine.specs.World.{UnitView, no_unit, new_unit, set_up}
-use Rattle.hp_core.specs.Setups.{setup_of, setups_of}
+use Rattle.unit_bank.specs.Setups.{setup_of, setups_of}
 use Rattle.hp_core.proofs.Starting.{one_more, unit_small, all_set}
 use Rattle.hp_core.proofs.start.units_of.Goals as goal
 

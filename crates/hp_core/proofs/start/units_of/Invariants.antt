@@ -1,6 +1,6 @@
 use Rattle.std.proofs.Common.{◌≡◌, drop, length, replicate}
 use Rattle.driver_machine.specs.World.{no_unit, set_up}
-use Rattle.hp_core.specs.Setups.{setups_of}
+use Rattle.unit_bank.specs.Setups.{setups_of}
 use Rattle.hp_core.proofs.start.units_of.Given as goal
 
 abbrev pub invariant-loop-setup : goal.invariant-loop-setup

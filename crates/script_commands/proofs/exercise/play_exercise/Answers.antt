@@ -7,7 +7,7 @@ use Rattle.hp_exercise.specs.Exercise.{script_text}
 use Rattle.outside_traits.specs.Causes.{Rose}
 use Rattle.answer_lines.specs.declared.tally.Tally.{Tally}
 use Rattle.event_player.specs.PlayFault.{PlayFault}
-use Rattle.script_commands.specs.Room.{faults_of}
+use Rattle.hp_exercise.specs.Room.{faults_of}
 use Rattle.script_commands.specs.Exercises.{exercise_script}
 use Rattle.script_commands.proofs.ExerciseLaws.{cut_short_for, exercised_for, is_exercise, never_refused, one_meaning}
 use Rattle.script_commands.proofs.RoomLaws.{never_fails}

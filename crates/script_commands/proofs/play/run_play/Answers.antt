@@ -4,7 +4,7 @@ use Rattle.script_lines.specs.Words.{all_verbs}
 use Rattle.script_reader.specs.Grammar.{IsRefused}
 use Rattle.script_reader.specs.Stored.{lines_in}
 use Rattle.script_reader.specs.Meaning.{meaning}
-use Rattle.script_commands.specs.Headline.{Means}
+use Rattle.command_parts.specs.Loading.{Means}
 use Rattle.script_commands.proofs.PlayLaws.{told_of, told_from, refused_parts, refusal_is, long_parts, long_before, sink_plays, left_by, err_is}
 use Rattle.script_commands.proofs.PlayRuns.{one_meaning, runs_done, runs_sink, runs_store, unplayed}
 use Rattle.script_commands.proofs.ScriptLeft.{leaves_long, leaves_played, leaves_refused, leaves_unread, no_cause, play_is, sink_cause, source_cause, store_cause}

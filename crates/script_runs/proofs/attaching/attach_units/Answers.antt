@@ -1,6 +1,6 @@
 use Rattle.std.proofs.Common.{◌≡◌, ◌<◌, ◌≤◌, length, subst, ◌∙◌, slice_index_or, List, arith}
 use Rattle.script_reader.specs.Stored.{Kept}
-use Rattle.hp_driver.specs.Setups.{setups_of}
+use Rattle.hp_units.specs.Setups.{setups_of}
 use Rattle.script_runs.specs.declared.fault.PlayFault.TheVariants as faults
 use Rattle.script_runs.proofs.AttachLaws.{room_at, attached_at, told_at_line, long_at, at_fault, attached_all, told_all, not_given, not_ok, fault_from, later_from, rose_from}
 use Rattle.script_runs.proofs.attaching.attach_units.Goals as goal

@@ -1,5 +1,5 @@
 use Rattle.std.proofs.Common.{◌≡◌, ◌≤◌, IsTrue}
-use Rattle.hp_driver.specs.Setups.{setups_of}
+use Rattle.hp_units.specs.Setups.{setups_of}
 use Rattle.script_runs.proofs.Attached.{AreAttached}
 use Rattle.script_runs.proofs.AttachLaws.{AreTold}
 use Rattle.script_runs.proofs.LineLaws.{lines_before}

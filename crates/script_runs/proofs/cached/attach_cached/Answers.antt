@@ -1,5 +1,5 @@
 use Rattle.std.proofs.Common.{◌≡◌, ◌<◌, ◌≤◌, length, subst, ◌∙◌, slice_index_or, List, arith}
-use Rattle.hp_driver.specs.Setups.{setups_of}
+use Rattle.hp_units.specs.Setups.{setups_of}
 use Rattle.cached_script.specs.declared.statement.Line.{Line as Said}
 use Rattle.script_runs.specs.declared.fault.PlayFault.TheVariants as faults
 use Rattle.script_runs.proofs.CachedLaws.{room_at, attached_at, told_at_line, long_at, attached_all, told_all}

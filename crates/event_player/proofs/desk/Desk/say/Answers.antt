@@ -1,5 +1,5 @@
 use Rattle.std.proofs.Common.{refl, ap}
-use Rattle.script_runs.specs.StopsPasses.{State}
+use Rattle.hp_driver.specs.Subsystem.{State}
 use Rattle.event_player.proofs.Saying.{says_sent, says_unsent}
 use Rattle.event_player.proofs.desk.Desk.say.Goals as goal
 

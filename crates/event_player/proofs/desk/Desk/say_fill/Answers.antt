@@ -1,6 +1,6 @@
 use Rattle.std.proofs.Common.{ℕ, [], refl, ap, take, ◌∙◌}
 use Rattle.answer_lines.proofs.CountLaws.{counts_same}
-use Rattle.script_runs.specs.StopsPasses.{State}
+use Rattle.hp_driver.specs.Subsystem.{State}
 use Rattle.event_player.proofs.Saying.{says_sent, says_unsent}
 use Rattle.event_player.proofs.SaysLaws.{says_same}
 use Rattle.event_player.proofs.desk.Desk.say_fill.Goals as goal

@@ -1,5 +1,5 @@
 use Rattle.std.proofs.Common.{arith}
-use Rattle.hp_core.specs.Setups.{setups_of}
+use Rattle.unit_bank.specs.Setups.{setups_of}
 use Rattle.hp_core.proofs.Places.{room_at_start, starts}
 use Rattle.hp_core.proofs.driver.Core.new.Goals as goal
 
