@@ -6,13 +6,15 @@
 #![tactic(auto)]
 
 mod frame;
+mod keys;
 mod scene;
 mod span;
 
 pub use frame::{Frame, LABEL, LEFT, add, at, digits, part_of, small, sub, times, width_of};
+pub use keys::{Key, holds, keys, stretches_by, together_in};
 pub use picture_sheet::cell_at;
 pub use scene::{Lane, Scene, Stretch, lanes_of, stretches};
 pub use span::{
-    begin_group, begin_span, begin_text, end_group, end_text, end_title, front, put_sentences,
+    begin_count, begin_group, begin_span, begin_text, end_group, end_text, end_title, front, put_sentences,
     text_sentences,
 };
