@@ -8,7 +8,7 @@ use Rattle.picture_markup.specs.declared.pieces.Element.TheVariants as element
 use Rattle.picture_markup.specs.declared.pieces.Route.TheVariants as route
 use Rattle.picture_markup.specs.Elements.{with_end, with_words, with_rect, with_path, with_label, with_label_number, with_label_both}
 use Rattle.picture_sheet.specs.Letters.{holding}
-use Rattle.picture_scene.specs.declared.keys.Key.TheVariants.{Together}
+use Rattle.picture_scene.specs.declared.keyed.Key.TheVariants.{Together}
 use Rattle.picture_scene.specs.declared.scene.Lane.{Lane}
 use Rattle.picture_scene.specs.declared.scene.Scene.{Scene}
 use Rattle.picture_scene.specs.declared.scene.Stretch.{Stretch}

@@ -10,7 +10,7 @@ use Rattle.picture_markup.specs.Elements.{with_start, with_end, with_words, with
 use Rattle.picture_sheet.specs.declared.sheet.Sheet.{Sheet}
 use Rattle.picture_sheet.specs.Window.{head_of}
 use Rattle.picture_scene.specs.declared.frame.Frame.{Frame}
-use Rattle.picture_scene.specs.declared.keys.Key.TheVariants.{Line}
+use Rattle.picture_scene.specs.declared.keyed.Key.TheVariants.{Line}
 use Rattle.picture_scene.specs.declared.scene.Scene.{Scene}
 use Rattle.picture_scene.specs.declared.scene.Stretch.{Stretch}
 use Rattle.picture_scene.specs.Frames.{point, add, x_of}

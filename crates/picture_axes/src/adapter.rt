@@ -124,8 +124,9 @@ fn put_holder(
     ensures units { IfOk result (λ next. with_holder column.now adapter (record { first = first; text = out.old.text }) lane.now ≡ record { first = next; text = out.new.text }) }
 {
     if holds(column, lane, adapter) {
+        let comma = comma(first);
         let unit = u64::from(lane.unit);
-        out.put_all(&[Piece::Word(comma(first)), Piece::Number(unit)])?;
+        out.put_all(&[Piece::Word(comma), Piece::Number(unit)])?;
         Ok(false)
     } else {
         Ok(first)

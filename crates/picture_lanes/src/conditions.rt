@@ -35,10 +35,8 @@ fn begin_condition(
     ensures text { OnOk result (out.new.text ≡ with_condition_title scene.now stretch offline out.old.text) }
 {
     begin_span(out, scene, stretch.from, stretch.to)?;
-    out.put_all(&[
-        Piece::Word(condition_words(offline)),
-        Piece::End(Element::Title),
-    ])
+    let words = condition_words(offline);
+    out.put_all(&[Piece::Word(words), Piece::End(Element::Title)])
 }
 
 /// The bar of a stretch in which a drive is offline, or is locked.
@@ -55,14 +53,10 @@ fn draw_condition_bar(
 {
     let from = at(scene.frame.x(stretch.from), y);
     let to = scene.frame.x(stretch.to);
+    let class = condition_class(offline);
+    let route = Route::Across { from, to };
     begin_condition(out, scene, stretch, offline)?;
-    out.put_all(&[
-        Piece::Path {
-            class: condition_class(offline),
-            route: Route::Across { from, to },
-        },
-        Piece::End(Element::Group),
-    ])
+    out.put_all(&[Piece::Path { class, route }, Piece::End(Element::Group)])
 }
 
 /// A stretch in which a drive is offline, or is locked, if it is.

@@ -88,11 +88,12 @@ fn begin_unit(out: &mut Markup<'_>, unit: u8, kind: &'static str) -> Result<(), 
     ensures stands { OnOk result (out.new.stands ≡ started Group out.old.stands) }
     ensures text { OnOk result (out.new.text ≡ with_unit_title unit kind.now out.old.text) }
 {
+    let unit = u64::from(unit);
     out.put_all(&[
         Piece::Start(Start::Group),
         Piece::Start(Start::Title),
         Piece::Word("unit "),
-        Piece::Number(u64::from(unit)),
+        Piece::Number(unit),
         Piece::Word(" "),
         Piece::Word(kind),
         Piece::End(Element::Title),

@@ -91,10 +91,12 @@ fn draw_offset(out: &mut Markup<'_>, cell: &Cell, x: u32, y: u32) -> Result<(), 
 {
     let Point { x, y } = at(x, add(y, 9));
     let class = "m b";
+    let sign = mark_sign(cell.mark);
+    let code = u64::from(cell.code);
     out.put_all(&[
         Piece::Start(Start::Text { class, x, y }),
-        Piece::Word(mark_sign(cell.mark)),
-        Piece::Number(u64::from(cell.code)),
+        Piece::Word(sign),
+        Piece::Number(code),
         Piece::End(Element::Text),
     ])
 }

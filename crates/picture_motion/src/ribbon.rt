@@ -142,10 +142,9 @@ fn put_meaning(
     ensures words { IfOk result (λ next. with_meaning count single (record { first = first; text = out.old.text }) letter ≡ record { first = next; text = out.new.text }) }
 {
     if count > 0 {
-        out.put_all(&[
-            Piece::Word(between(first)),
-            Piece::Word(meaning_of(letter)),
-        ])?;
+        let between = between(first);
+        let meaning = meaning_of(letter);
+        out.put_all(&[Piece::Word(between), Piece::Word(meaning)])?;
         put_times(out, single, count)?;
         Ok(false)
     } else {

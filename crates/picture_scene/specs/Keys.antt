@@ -6,8 +6,8 @@ use Rattle.drive_pictures.specs.declared.letters.Letter.TheVariants as letter
 use Rattle.run_picture.specs.declared.columns.Column.{Column}
 use Rattle.run_picture.specs.Fold.{drive_at}
 use Rattle.picture_sheet.specs.Letters.{lead_of}
-use Rattle.picture_scene.specs.declared.keys.Key.{Key}
-use Rattle.picture_scene.specs.declared.keys.Key.TheVariants as key
+use Rattle.picture_scene.specs.declared.keyed.Key.{Key}
+use Rattle.picture_scene.specs.declared.keyed.Key.TheVariants as key
 use Rattle.picture_scene.specs.declared.scene.Stretch.{Stretch}
 use Rattle.picture_scene.specs.Stretches.{stretches_of}
 
@@ -21,7 +21,7 @@ holds true cell = cell.offline
 holds false cell = cell.locked
 
 abbrev pub one_if : Bool → ℕ
-one_if yes = if yes then 1 else 0
+one_if b = if b then 1 else 0
 
 -- a number for each letter; and for the one that leads
 abbrev pub number_of : Letter → ℕ

@@ -6,12 +6,12 @@
 #![tactic(auto)]
 
 mod frame;
-mod keys;
+mod keyed;
 mod scene;
 mod span;
 
 pub use frame::{Frame, LABEL, LEFT, add, at, digits, part_of, small, sub, times, width_of};
-pub use keys::{Key, holds, keys, stretches_by, together_in};
+pub use keyed::{Key, holds, keys, stretches_by, together_in};
 pub use picture_sheet::cell_at;
 pub use scene::{Lane, Scene, Stretch, lanes_of, stretches};
 pub use span::{

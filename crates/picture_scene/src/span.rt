@@ -76,19 +76,21 @@ pub fn begin_span(
     ensures stands { OnOk result (out.new.stands ≡ started Title (started Group out.old.stands)) }
     ensures text { OnOk result (out.new.text ≡ with_span scene.now.sheet.now from to (with_group out.old.text)) }
 {
-    let first = scene.head(from).line;
-    let last = scene.head(to.saturating_sub(1)).last_line;
+    let line = u64::from(scene.head(from).line);
+    let last_line = u64::from(scene.head(to.saturating_sub(1)).last_line);
+    let first = scene.sheet.head(from).saturating_add(1);
+    let last = scene.sheet.head(to);
     out.put_all(&[
         Piece::Start(Start::Group),
         Piece::Start(Start::Title),
         Piece::Word("events "),
-        Piece::Number(scene.sheet.head(from).saturating_add(1)),
+        Piece::Number(first),
         Piece::Word(" to "),
-        Piece::Number(scene.sheet.head(to)),
+        Piece::Number(last),
         Piece::Word(" (lines "),
-        Piece::Number(u64::from(first)),
+        Piece::Number(line),
         Piece::Word(" to "),
-        Piece::Number(u64::from(last)),
+        Piece::Number(last_line),
         Piece::Word(")"),
     ])
 }

@@ -36,11 +36,13 @@ pub fn is_shown(sheet: &Sheet<'_>, request: &Request) -> bool
 fn count_shown(sheet: &Sheet<'_>) -> usize
     ensures { result ≡ shown_count sheet.now }
 {
-    let requests = sheet.run.requests();
-    requests
-        .iter()
-        .filter(|request| is_shown(sheet, request))
-        .count()
+    let mut count: usize = 0;
+    for request in sheet.run.requests().iter() {
+        if is_shown(sheet, request) {
+            count += 1;
+        }
+    }
+    count
 }
 
 /// A request is listed, if there is room.

@@ -34,7 +34,13 @@ fn was_ok(request: &Request) -> bool
 fn count_ok(requests: &[Request]) -> usize
     ensures { result ≡ count_by was_ok requests.now }
 {
-    requests.iter().filter(|request| was_ok(request)).count()
+    let mut count: usize = 0;
+    for request in requests.iter() {
+        if was_ok(request) {
+            count += 1;
+        }
+    }
+    count
 }
 
 /// A request was served out of the order asked.

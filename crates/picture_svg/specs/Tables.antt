@@ -11,7 +11,7 @@ use Rattle.picture_sheet.specs.Letters.{lead_of}
 use Rattle.picture_sheet.specs.Window.{column_of}
 use Rattle.picture_sheet.specs.Words.{outcome_word}
 use Rattle.picture_scene.specs.declared.frame.Frame.{Frame}
-use Rattle.picture_scene.specs.declared.keys.Key.TheVariants.{Lead}
+use Rattle.picture_scene.specs.declared.keyed.Key.TheVariants.{Lead}
 use Rattle.picture_scene.specs.declared.scene.Scene.{Scene}
 use Rattle.picture_scene.specs.declared.scene.Stretch.{Stretch}
 use Rattle.picture_scene.specs.Frames.{point, add, x_of}

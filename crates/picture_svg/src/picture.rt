@@ -96,9 +96,10 @@ fn draw_names<'a>(
     ensures text { OnOk result (out.new.text ≡ with_names sheet.now sentences.now out.old.text) }
 {
     let [first, second, third, fourth] = *sentences;
+    let caption = caption_of(sheet);
     out.put_all(&[
         Piece::Start(Start::Caption),
-        Piece::Said(caption_of(sheet)),
+        Piece::Said(caption),
         Piece::End(Element::Title),
         Piece::Start(Start::Desc),
     ])?;
@@ -141,9 +142,10 @@ fn draw_head<'a>(
     let [first, second, third, fourth] = *sentences;
     let Point { x, y } = at(16, 28);
     let class = "h";
+    let caption = caption_of(sheet);
     out.put_all(&[
         Piece::Start(Start::Text { class, x, y }),
-        Piece::Said(caption_of(sheet)),
+        Piece::Said(caption),
         Piece::End(Element::Text),
     ])?;
     text_sentences(out, 48, first, second)?;

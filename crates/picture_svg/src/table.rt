@@ -78,11 +78,14 @@ fn draw_asking(out: &mut Markup<'_>, request: &Request, y: u32) -> Result<(), Al
 {
     let Point { x, y } = at(LABEL, add(y, 9));
     let class = "m e";
+    let id = u64::from(request.id);
+    let verb = verb_of(request.write);
+    let unit = u64::from(request.unit);
     out.put_all(&[
         Piece::Start(Start::Text { class, x, y }),
-        Piece::Number(u64::from(request.id)),
-        Piece::Word(verb_of(request.write)),
-        Piece::Number(u64::from(request.unit)),
+        Piece::Number(id),
+        Piece::Word(verb),
+        Piece::Number(unit),
     ])?;
     put_cylinder(out, request.cylinder)?;
     end_text(out)
@@ -272,23 +275,26 @@ fn begin_request(
     ensures stands { OnOk result (out.new.stands ≡ started Group out.old.stands) }
     ensures text { OnOk result (out.new.text ≡ with_begun right request.now y out.old.text) }
 {
+    let class = "g";
     let from = at(LEFT, add(y, 12));
+    let route = Route::Across { from, to: right };
+    let id = u64::from(request.id);
+    let line = u64::from(request.line);
+    let ended_line = u64::from(request.ended_line);
+    let outcome = outcome_word(request.outcome);
     out.put_all(&[
         Piece::Start(Start::Group),
         Piece::Start(Start::Title),
         Piece::Word("request "),
-        Piece::Number(u64::from(request.id)),
+        Piece::Number(id),
         Piece::Word(": asked at line "),
-        Piece::Number(u64::from(request.line)),
+        Piece::Number(line),
         Piece::Word(", answered at line "),
-        Piece::Number(u64::from(request.ended_line)),
+        Piece::Number(ended_line),
         Piece::Word(": "),
-        Piece::Word(outcome_word(request.outcome)),
+        Piece::Word(outcome),
         Piece::End(Element::Title),
-        Piece::Path {
-            class: "g",
-            route: Route::Across { from, to: right },
-        },
+        Piece::Path { class, route },
     ])
 }
 

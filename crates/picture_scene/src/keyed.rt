@@ -43,10 +43,10 @@ pub fn together_in(column: &Column, adapter: u8) -> u64
 }
 
 /// A number for a yes, and one for a no.
-fn one_if(yes: bool) -> u64
-    ensures { result ≡ one_if yes }
+fn one_if(holds: bool) -> u64
+    ensures { result ≡ one_if holds }
 {
-    if yes { 1 } else { 0 }
+    if holds { 1 } else { 0 }
 }
 
 /// A number for a letter.

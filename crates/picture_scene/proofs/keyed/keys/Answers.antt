@@ -1,6 +1,6 @@
 use Rattle.picture_scene.specs.Keys.{key_in}
 use Rattle.picture_scene.proofs.Numbers.{keys_more}
-use Rattle.picture_scene.proofs.keys.keys.Goals as goal
+use Rattle.picture_scene.proofs.keyed.keys.Goals as goal
 
 pub loop-column-preserved : goal.loop-column-preserved
 loop-column-preserved c =
