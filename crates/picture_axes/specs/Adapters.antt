@@ -1,5 +1,5 @@
 -- AN ADAPTER OVER THE COLUMNS: who holds it, and how many of its drives position.
-use Rattle.std.specs.Prelude.{ℕ, ◌-◌, ◌*◌, ◌/◌, ◌==◌, nat_le, nat_lt, Bool, true, false, not, ◌&&◌, ◌||◌, if◌then◌else◌, List, [], ◌∷◌, Option, Some, None, fold, unwrap_or, slice_get, codes}
+use Rattle.std.specs.Prelude.{ℕ, ◌-◌, ◌/◌, ◌==◌, nat_le, nat_lt, Bool, true, false, not, ◌&&◌, ◌||◌, if◌then◌else◌, List, [], ◌∷◌, Option, Some, None, fold, unwrap_or, slice_get, codes}
 use Rattle.std.specs.List.{list_all}
 use Rattle.drive_pictures.specs.Counts.{plus}
 use Rattle.run_picture.specs.declared.columns.Column.{Column}

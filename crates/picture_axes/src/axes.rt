@@ -36,11 +36,7 @@ fn put_words<'a>(out: &mut Markup<'a>, head: &Head, words: &'a [u8]) -> Result<(
     let number = u64::from(head.line);
     let room = ROOM.saturating_sub(digits(number) as usize + 1);
     let shown = front(words, room);
-    out.put_all(&[
-        Piece::Number(number),
-        Piece::Word(" "),
-        Piece::Said(shown),
-    ])?;
+    out.put_all(&[Piece::Number(number), Piece::Word(" "), Piece::Said(shown)])?;
     put_idle(out, head.idle, room.saturating_sub(shown.len()))
 }
 

@@ -4,7 +4,6 @@ use Rattle.drive_pictures.specs.declared.requests.Request.{Request}
 use Rattle.picture_markup.specs.declared.pieces.Element.TheVariants as element
 use Rattle.picture_markup.specs.declared.pieces.Route.TheVariants as route
 use Rattle.picture_markup.specs.Elements.{with_end, with_words, with_rect, with_path, with_label, with_label_number, with_label_both}
-use Rattle.picture_scene.specs.declared.frame.Frame.{Frame}
 use Rattle.picture_scene.specs.declared.keyed.Key.TheVariants.{Waiting, Condition}
 use Rattle.picture_scene.specs.declared.scene.Lane.{Lane}
 use Rattle.picture_scene.specs.declared.scene.Scene.{Scene}

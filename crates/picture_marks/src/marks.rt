@@ -7,9 +7,7 @@ ghost use Rattle.picture_marks.specs.Marks.{where_roomy, mark_shape, signal_shap
 
 use drive_pictures::{Cell, Mark};
 use picture_markup::{Element, Markup, Piece, Point, Route, Sign, Start};
-use picture_scene::{
-    Scene, add, at, begin_group, begin_span, end_group, end_title, sub,
-};
+use picture_scene::{Scene, add, at, begin_group, begin_span, end_group, end_title, sub};
 use picture_sheet::{Note, mark_sign};
 use std::alloc::AllocError;
 

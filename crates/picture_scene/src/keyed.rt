@@ -102,11 +102,7 @@ pub fn keys(alloc: Global, columns: &[Column], key: Key) -> Result<Vec<u64>, All
 }
 
 /// The stretches in which columns have the same number.
-pub fn stretches_by(
-    alloc: Global,
-    columns: &[Column],
-    key: Key,
-) -> Result<Vec<Stretch>, AllocError>
+pub fn stretches_by(alloc: Global, columns: &[Column], key: Key) -> Result<Vec<Stretch>, AllocError>
     ensures { IfOk result (λ stretches. stretches.items ≡ stretches_by key columns.now) }
 {
     let keys = keys(alloc, columns, key)?;
