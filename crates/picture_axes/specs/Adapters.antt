@@ -1,5 +1,5 @@
 -- AN ADAPTER OVER THE COLUMNS: who holds it, and how many of its drives position.
-use Rattle.std.specs.Prelude.{ℕ, ◌-◌, ◌*◌, ◌/◌, ◌==◌, nat_le, nat_lt, Bool, true, false, not, ◌&&◌, ◌||◌, if◌then◌else◌, List, [], ◌∷◌, Option, Some, None, map, fold, unwrap_or, get_or, slice_get, codes}
+use Rattle.std.specs.Prelude.{ℕ, ◌-◌, ◌/◌, ◌==◌, nat_le, nat_lt, Bool, true, false, not, ◌&&◌, ◌||◌, if◌then◌else◌, List, [], ◌∷◌, Option, Some, None, fold, unwrap_or, slice_get, codes}
 use Rattle.std.specs.List.{list_all}
 use Rattle.drive_pictures.specs.Counts.{plus}
 use Rattle.run_picture.specs.declared.columns.Column.{Column}
@@ -8,11 +8,13 @@ use Rattle.picture_markup.specs.declared.pieces.Element.TheVariants as element
 use Rattle.picture_markup.specs.declared.pieces.Route.TheVariants as route
 use Rattle.picture_markup.specs.Elements.{with_end, with_words, with_rect, with_path, with_label, with_label_number, with_label_both}
 use Rattle.picture_sheet.specs.Letters.{holding}
+use Rattle.picture_scene.specs.declared.keyed.Key.TheVariants.{Together}
 use Rattle.picture_scene.specs.declared.scene.Lane.{Lane}
 use Rattle.picture_scene.specs.declared.scene.Scene.{Scene}
 use Rattle.picture_scene.specs.declared.scene.Stretch.{Stretch}
 use Rattle.picture_scene.specs.Frames.{point, add, times, small, part_of, x_of}
-use Rattle.picture_scene.specs.Groups.{Listing, drawn, with_number, with_group, with_span}
+use Rattle.picture_scene.specs.Groups.{Listing, drawn, with_number, with_group, with_span, with_counted}
+use Rattle.picture_scene.specs.Keys.{together_in, stretches_by}
 use Rattle.picture_scene.specs.Scenes.{width_in}
 use Rattle.picture_scene.specs.Stretches.{stretches_of, numbered}
 
@@ -111,9 +113,6 @@ with_holds scene adapter y text =
     fold (with_hold scene adapter y) text (held_stretches scene.lanes.now adapter scene.sheet.now.run.now.columns)
 
 -- THE BAR OF HOW MANY POSITION, at most
-unfoldable pub together_in : ℕ → Column → ℕ
-together_in adapter column = get_or column.head.together adapter 0
-
 abbrev pub with_many : Bool → Scene → Stretch → ℕ → ℕ → List ℕ → List ℕ
 with_many true scene s count y text = with_label_number (codes "m b c") (point (middle_of scene s) y) count text
 with_many false scene s count y text = text
@@ -121,19 +120,9 @@ with_many false scene s count y text = text
 abbrev pub count_height : ℕ → ℕ
 count_height count = add 2 (times 2 (small count))
 
-unfoldable pub with_count_title : Scene → Stretch → ℕ → List ℕ → List ℕ
-with_count_title scene s count = drawn
-    (with_group
-    ∷ with_span scene.sheet.now s.from s.to
-    ∷ with_words (codes ": ")
-    ∷ with_number count
-    ∷ with_words (codes " positioning")
-    ∷ with_end element.Title
-    ∷ [])
-
 unfoldable pub with_count_bar : Scene → Stretch → ℕ → ℕ → List ℕ → List ℕ
 with_count_bar scene s count y = drawn
-    (with_count_title scene s count
+    (with_counted scene.sheet.now s count (codes " positioning")
     ∷ with_rect (codes "n") (point (left_of scene s) (add y 40 - count_height count)) (width_in scene.frame s) (count_height count) None
     ∷ with_many (nat_le 8 (width_in scene.frame s)) scene s count (add y 38 - count_height count)
     ∷ with_end element.Group
@@ -152,7 +141,7 @@ with_count scene adapter y text s =
 
 unfoldable pub with_counts : Scene → ℕ → ℕ → List ℕ → List ℕ
 with_counts scene adapter y text =
-    fold (with_count scene adapter y) text (stretches_of (map (together_in adapter) scene.sheet.now.run.now.columns))
+    fold (with_count scene adapter y) text (stretches_by (Together adapter) scene.sheet.now.run.now.columns)
 
 -- WHAT STANDS BESIDE IT: its words, its bounds, and the events behind which it is held
 abbrev pub more_held : Scene → ℕ → ℕ → Column → ℕ
@@ -169,7 +158,7 @@ with_names right adapter y = drawn
     ∷ with_path (codes "g") (route.TwoAcross (point 160 (add y 17)) right (add y 40))
     ∷ [])
 
-unfoldable pub with_sum : ℕ → ℕ → ℕ → List ℕ → List ℕ
+abbrev pub with_sum : ℕ → ℕ → ℕ → List ℕ → List ℕ
 with_sum beside sum y = drawn
     (with_label_number (codes "m e") (point (add beside 36) (add y 13)) sum
     ∷ with_label (codes "q") (point (add beside 44) (add y 13)) (codes "events held")

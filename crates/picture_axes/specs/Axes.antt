@@ -1,8 +1,7 @@
 -- THE AXES OF A PICTURE: the script's lines above the columns, and the numbers of the events below them.
-use Rattle.std.specs.Prelude.{ℕ, zero, suc, ◌+◌, ◌-◌, nat_le, nat_lt, if◌then◌else◌, Bool, true, false, List, [], ◌∷◌, length, map, take, fold, Option, Some, None, codes, decimal, slice_get}
+use Rattle.std.specs.Prelude.{ℕ, zero, suc, ◌+◌, ◌-◌, nat_le, nat_lt, if◌then◌else◌, Bool, true, false, List, [], ◌∷◌, length, take, fold, Option, Some, None, codes, decimal, slice_get}
 use denote.Ref.{Bor}
 use Rattle.drive_pictures.specs.Counts.{plus}
-use Rattle.run_picture.specs.declared.columns.Column.{Column}
 use Rattle.run_picture.specs.declared.columns.Head.{Head}
 use Rattle.picture_markup.specs.declared.pieces.Element.TheVariants as element
 use Rattle.picture_markup.specs.declared.pieces.Route.TheVariants as route
@@ -11,12 +10,13 @@ use Rattle.picture_markup.specs.Elements.{with_start, with_end, with_words, with
 use Rattle.picture_sheet.specs.declared.sheet.Sheet.{Sheet}
 use Rattle.picture_sheet.specs.Window.{head_of}
 use Rattle.picture_scene.specs.declared.frame.Frame.{Frame}
+use Rattle.picture_scene.specs.declared.keyed.Key.TheVariants.{Line}
 use Rattle.picture_scene.specs.declared.scene.Scene.{Scene}
 use Rattle.picture_scene.specs.declared.scene.Stretch.{Stretch}
 use Rattle.picture_scene.specs.Frames.{point, add, x_of}
 use Rattle.picture_scene.specs.Groups.{Row, drawn, with_number}
 use Rattle.picture_scene.specs.Scenes.{column_at}
-use Rattle.picture_scene.specs.Stretches.{stretches_of}
+use Rattle.picture_scene.specs.Keys.{stretches_by}
 
 -- A LINE OF THE SCRIPT in 20 bytes: its number, its text as far as there is room, and whether it found nothing to do
 abbrev pub room_of : ℕ → ℕ
@@ -69,15 +69,12 @@ with_stretch scene height row s =
     then record { free = add (x_of scene.frame s.from) 12; text = with_line_at scene s.from height (with_bar scene.frame s row.text) }
     else record { free = row.free; text = with_bar scene.frame s row.text }
 
-abbrev pub line_of : Column → ℕ
-line_of column = column.head.line
-
 unfoldable pub with_stretches : Scene → ℕ → List Stretch → List ℕ → List ℕ
 with_stretches scene height stretches text = (fold (with_stretch scene height) (record { free = 0; text = text }) stretches).text
 
 unfoldable pub with_lines : Scene → ℕ → List ℕ → List ℕ
 with_lines scene height text =
-    with_stretches scene height (stretches_of (map line_of scene.sheet.now.run.now.columns))
+    with_stretches scene height (stretches_by Line scene.sheet.now.run.now.columns)
     (with_label (codes "q e") (point 150 272) (codes "line of the script") text)
 
 -- THE NUMBERS OF THE EVENTS below them: of each column the first event, from 1, where there is room

@@ -1,14 +1,14 @@
 //! An adapter, and who holds it.
 
-ghost use Rattle.std.specs.Prelude.{◌≡◌, Some, fold, IfOk, OnOk};
+ghost use Rattle.std.specs.Prelude.{◌≡◌, fold, IfOk, OnOk};
 ghost use Rattle.picture_markup.specs.Nesting.{started};
 ghost use Rattle.picture_markup.specs.declared.pieces.Element.TheVariants.{Group};
 ghost use Rattle.picture_scene.specs.Stretches.{next_number, numbered};
-ghost use Rattle.picture_axes.specs.Adapters.{is_on, held_by, holds, with_held, held_in, is_same_held, comma, with_holder, with_holders, first_with, first_holder, middle_of, with_unit, with_held_title, with_held_bar, with_hold_in, with_hold, held_stretches, with_holds, all_held, with_names, with_sum, with_beside, with_adapter};
+ghost use Rattle.picture_axes.specs.Adapters.{is_on, held_by, holds, with_held, held_in, is_same_held, comma, with_holder, with_holders, first_with, first_holder, middle_of, with_unit, with_held_title, with_held_bar, with_hold, held_stretches, with_holds, all_held, with_names, with_beside, with_adapter};
 
 use crate::positioning::draw_together;
 use drive_pictures::plus;
-use picture_markup::{Markup, Route};
+use picture_markup::{Markup, Piece, Route};
 use picture_scene::{
     LABEL, LEFT, Lane, Scene, Stretch, add, at, begin_span, cell_at, end_group, end_title, part_of,
     stretches, sub,
@@ -124,8 +124,9 @@ fn put_holder(
     ensures units { IfOk result (λ next. with_holder column.now adapter (record { first = first; text = out.old.text }) lane.now ≡ record { first = next; text = out.new.text }) }
 {
     if holds(column, lane, adapter) {
-        out.word(comma(first))?;
-        out.number(u64::from(lane.unit))?;
+        let comma = comma(first);
+        let unit = u64::from(lane.unit);
+        out.put_all(&[Piece::Word(comma), Piece::Number(unit)])?;
         Ok(false)
     } else {
         Ok(first)
@@ -248,28 +249,9 @@ fn draw_holder(
     end_group(out)
 }
 
-/// The bar of who holds the adapter, if one does.
-fn draw_hold(
-    out: &mut Markup<'_>,
-    scene: &Scene<'_, '_>,
-    column: &Column,
-    stretch: Stretch,
-    adapter: u8,
-    y: u32,
-) -> Result<(), AllocError>
-    ensures stands { OnOk result (out.new.stands ≡ out.old.stands) }
-    ensures text { OnOk result (out.new.text ≡ with_hold_in scene.now adapter y stretch (Some column.now) out.old.text) }
-{
-    if held(column, scene.lanes, adapter) > 0 {
-        draw_holder(out, scene, column, stretch, adapter, y)
-    } else {
-        Ok(())
-    }
-}
-
 /// The bar over a stretch of who holds the adapter, if one does.
 #[tactic(auto, unfolding(crate::specs::Adapters::with_hold))]
-fn draw_hold_over(
+fn draw_hold(
     out: &mut Markup<'_>,
     scene: &Scene<'_, '_>,
     stretch: Stretch,
@@ -280,7 +262,13 @@ fn draw_hold_over(
     ensures text { OnOk result (out.new.text ≡ with_hold scene.now adapter y out.old.text stretch) }
 {
     match scene.columns().get(stretch.from) {
-        Some(column) => draw_hold(out, scene, column, stretch, adapter, y),
+        Some(column) => {
+            if held(column, scene.lanes, adapter) > 0 {
+                draw_holder(out, scene, column, stretch, adapter, y)
+            } else {
+                Ok(())
+            }
+        }
         None => Ok(()),
     }
 }
@@ -310,7 +298,7 @@ fn draw_holds(
     ensures text { OnOk result (out.new.text ≡ fold (with_hold scene.now adapter y) out.old.text stretches.now) }
 {
     for stretch in stretches.iter() {
-        draw_hold_over(out, scene, *stretch, adapter, y)?;
+        draw_hold(out, scene, *stretch, adapter, y)?;
     }
     Ok(())
 }
@@ -360,17 +348,6 @@ fn draw_names(out: &mut Markup<'_>, adapter: u8, right: u32, y: u32) -> Result<(
     out.path("g", route)
 }
 
-/// The events behind which an adapter is held, beside it.
-#[tactic(auto, unfolding(crate::specs::Adapters::with_sum))]
-fn draw_sum(out: &mut Markup<'_>, beside: u32, sum: u64, y: u32) -> Result<(), AllocError>
-    ensures stands { OnOk result (out.new.stands ≡ out.old.stands) }
-    ensures text { OnOk result (out.new.text ≡ with_sum beside sum y out.old.text) }
-{
-    let line = add(y, 13);
-    out.text_number("m e", at(add(beside, 36), line), sum)?;
-    out.text("q", at(add(beside, 44), line), "events held")
-}
-
 /// The words beside an adapter, and its bounds.
 #[tactic(auto, unfolding(crate::specs::Adapters::with_beside))]
 fn draw_words(
@@ -382,8 +359,12 @@ fn draw_words(
     ensures stands { OnOk result (out.new.stands ≡ out.old.stands) }
     ensures text { OnOk result (out.new.text ≡ with_beside scene.now adapter y out.old.text) }
 {
+    let beside = scene.frame.beside;
+    let line = add(y, 13);
+    let sum = all_held(scene, adapter);
     draw_names(out, adapter, scene.frame.right, y)?;
-    draw_sum(out, scene.frame.beside, all_held(scene, adapter), y)
+    out.text_number("m e", at(add(beside, 36), line), sum)?;
+    out.text("q", at(add(beside, 44), line), "events held")
 }
 
 /// An adapter, above its drives.

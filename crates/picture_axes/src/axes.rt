@@ -1,13 +1,12 @@
 //! The script's lines above the columns, and the events below them.
 
-ghost use Rattle.std.specs.Prelude.{◌≡◌, map, IfOk, OnOk};
-ghost use Rattle.picture_scene.specs.Stretches.{stretches_of};
-ghost use Rattle.picture_axes.specs.Axes.{with_idle, with_line_words, words_at, with_line, with_bar, with_stretch, with_stretches, line_of, with_lines, with_event, with_events};
+ghost use Rattle.std.specs.Prelude.{◌≡◌, IfOk, OnOk};
+ghost use Rattle.picture_axes.specs.Axes.{with_idle, with_line_words, words_at, with_line, with_bar, with_stretch, with_stretches, with_lines, with_event, with_events};
 
 use drive_pictures::plus;
-use picture_markup::{Element, Markup, Route, Start};
-use picture_scene::{LABEL, Scene, Stretch, add, at, digits, front, stretches, sub};
-use run_picture::{Column, Head};
+use picture_markup::{Element, Markup, Piece, Route, Start};
+use picture_scene::{Key, LABEL, Scene, Stretch, add, at, digits, front, stretches_by, sub};
+use run_picture::Head;
 use std::alloc::{AllocError, Global};
 
 /// Where the script's lines end.
@@ -37,9 +36,7 @@ fn put_words<'a>(out: &mut Markup<'a>, head: &Head, words: &'a [u8]) -> Result<(
     let number = u64::from(head.line);
     let room = ROOM.saturating_sub(digits(number) as usize + 1);
     let shown = front(words, room);
-    out.number(number)?;
-    out.word(" ")?;
-    out.said(shown)?;
+    out.put_all(&[Piece::Number(number), Piece::Word(" "), Piece::Said(shown)])?;
     put_idle(out, head.idle, room.saturating_sub(shown.len()))
 }
 
@@ -65,12 +62,16 @@ fn draw_line<'a>(
     ensures stands { OnOk result (out.new.stands ≡ out.old.stands) }
     ensures text { OnOk result (out.new.text ≡ with_line x head.now words.now height out.old.text) }
 {
+    let class = "g";
     let from = at(x, AXIS + 2);
     let to = sub(height, 16);
-    out.path("g", Route::Down { from, to })?;
+    let route = Route::Down { from, to };
     let x = add(x, 4);
     let y = AXIS - 4;
-    out.start(Start::Upwards { x, y })?;
+    out.put_all(&[
+        Piece::Path { class, route },
+        Piece::Start(Start::Upwards { x, y }),
+    ])?;
     put_words(out, head, words)?;
     out.end(Element::Text)
 }
@@ -113,25 +114,6 @@ fn draw_stretch<'a>(
     }
 }
 
-/// The numbers of the lines, one a column.
-fn line_keys(alloc: Global, columns: &[Column]) -> Result<Vec<u64>, AllocError>
-    ensures { IfOk result (λ keys. keys.items ≡ map line_of columns.now) }
-{
-    let mut keys = Vec::new(alloc);
-    for column in columns.iter() {
-        keys.push(u64::from(column.head.line))?;
-    }
-    Ok(keys)
-}
-
-/// The stretches of columns of the same line.
-fn line_stretches(alloc: Global, columns: &[Column]) -> Result<Vec<Stretch>, AllocError>
-    ensures { IfOk result (λ stretches. stretches.items ≡ stretches_of (map line_of columns.now)) }
-{
-    let keys = line_keys(alloc, columns)?;
-    stretches(alloc, keys.as_slice())
-}
-
 /// The lines over some stretches, where there is room.
 #[tactic(auto, unfolding(crate::specs::Axes::with_stretches))]
 fn draw_stretches<'a>(
@@ -162,7 +144,7 @@ pub fn draw_lines<'a>(
     ensures text { OnOk result (out.new.text ≡ with_lines scene.now height out.old.text) }
 {
     out.text("q e", at(LABEL, AXIS - 4), "line of the script")?;
-    let lines = line_stretches(alloc, scene.columns())?;
+    let lines = stretches_by(alloc, scene.columns(), Key::Line)?;
     draw_stretches(out, scene, lines.as_slice(), height)
 }
 

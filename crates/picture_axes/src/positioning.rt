@@ -1,40 +1,15 @@
 //! How many drives of an adapter position.
 
-ghost use Rattle.std.specs.Prelude.{◌≡◌, map, fold, IfOk, OnOk};
-ghost use Rattle.picture_markup.specs.Nesting.{started};
-ghost use Rattle.picture_markup.specs.declared.pieces.Element.TheVariants.{Group};
-ghost use Rattle.picture_scene.specs.Stretches.{stretches_of};
-ghost use Rattle.picture_axes.specs.Adapters.{together_in, together_at, with_many, with_count_title, with_count_bar, with_count, with_counts};
+ghost use Rattle.std.specs.Prelude.{◌≡◌, fold, OnOk};
+ghost use Rattle.picture_axes.specs.Adapters.{together_at, with_many, with_count_bar, with_count, with_counts};
 
 use crate::adapter::middle_of;
 use picture_markup::Markup;
 use picture_scene::{
-    Scene, Stretch, add, at, begin_span, end_group, end_title, small, stretches, sub, times,
+    Key, Scene, Stretch, add, at, begin_count, end_group, small, stretches_by, sub, times,
+    together_in,
 };
-use run_picture::Column;
 use std::alloc::{AllocError, Global};
-
-/// How many drives of an adapter position in a column, at most.
-#[tactic(auto, unfolding(crate::specs::Adapters::together_in))]
-fn together(column: &Column, adapter: u8) -> u64
-    ensures { result ≡ together_in adapter column.now }
-{
-    match column.head.together.get(usize::from(adapter)) {
-        Some(count) => *count as u64,
-        None => 0,
-    }
-}
-
-/// The same, one a column.
-fn together_keys(alloc: Global, columns: &[Column], adapter: u8) -> Result<Vec<u64>, AllocError>
-    ensures { IfOk result (λ keys. keys.items ≡ map (together_in adapter) columns.now) }
-{
-    let mut keys = Vec::new(alloc);
-    for column in columns.iter() {
-        keys.push(together(column, adapter))?;
-    }
-    Ok(keys)
-}
 
 /// The number in a bar, where there is room.
 fn draw_many(
@@ -55,24 +30,6 @@ fn draw_many(
     }
 }
 
-/// The group of how many drives position begins, with its tooltip.
-#[tactic(auto, unfolding(crate::specs::Adapters::with_count_title))]
-fn begin_count(
-    out: &mut Markup<'_>,
-    scene: &Scene<'_, '_>,
-    stretch: Stretch,
-    count: u64,
-) -> Result<(), AllocError>
-    ensures stands { OnOk result (out.new.stands ≡ started Group out.old.stands) }
-    ensures text { OnOk result (out.new.text ≡ with_count_title scene.now stretch count out.old.text) }
-{
-    begin_span(out, scene, stretch.from, stretch.to)?;
-    out.word(": ")?;
-    out.number(count)?;
-    out.word(" positioning")?;
-    end_title(out)
-}
-
 /// The bar of how many drives position.
 #[tactic(auto, unfolding(crate::specs::Adapters::with_count_bar))]
 fn draw_count_bar(
@@ -89,7 +46,7 @@ fn draw_count_bar(
     let height = add(2, times(2, small(count)));
     let corner = at(scene.frame.x(stretch.from), sub(add(y, 40), height));
     let above = sub(add(y, 38), height);
-    begin_count(out, scene, stretch, count)?;
+    begin_count(out, scene, stretch, count, " positioning")?;
     out.rect("n", corner, width, height, None)?;
     draw_many(out, scene, stretch, count, above, width >= 8)?;
     end_group(out)
@@ -100,7 +57,7 @@ fn together_at(scene: &Scene<'_, '_>, stretch: Stretch, adapter: u8) -> u64
     ensures { result ≡ together_at scene.now adapter stretch }
 {
     match scene.columns().get(stretch.from) {
-        Some(column) => together(column, adapter),
+        Some(column) => together_in(column, adapter),
         None => 0,
     }
 }
@@ -123,18 +80,6 @@ fn draw_count(
     } else {
         Ok(())
     }
-}
-
-/// The stretches in which as many drives position.
-fn together_stretches(
-    alloc: Global,
-    columns: &[Column],
-    adapter: u8,
-) -> Result<Vec<Stretch>, AllocError>
-    ensures { IfOk result (λ stretches. stretches.items ≡ stretches_of (map (together_in adapter) columns.now)) }
-{
-    let keys = together_keys(alloc, columns, adapter)?;
-    stretches(alloc, keys.as_slice())
 }
 
 /// The bars over some stretches of how many drives position.
@@ -166,6 +111,6 @@ pub(crate) fn draw_together(
     ensures stands { OnOk result (out.new.stands ≡ out.old.stands) }
     ensures text { OnOk result (out.new.text ≡ with_counts scene.now adapter y out.old.text) }
 {
-    let together = together_stretches(alloc, scene.columns(), adapter)?;
+    let together = stretches_by(alloc, scene.columns(), Key::Together(adapter))?;
     draw_counts(out, scene, together.as_slice(), adapter, y)
 }

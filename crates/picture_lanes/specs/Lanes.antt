@@ -1,18 +1,16 @@
 -- A DRIVE OVER THE COLUMNS.
 use Rattle.std.specs.Prelude.{ℕ, ◌-◌, ◌==◌, nat_le, nat_lt, max, Bool, true, false, if◌then◌else◌, List, [], ◌∷◌, None, map, fold, codes}
-use Rattle.drive_pictures.specs.declared.cells.Cell.{Cell}
 use Rattle.drive_pictures.specs.declared.requests.Request.{Request}
-use Rattle.run_picture.specs.declared.columns.Column.{Column}
-use Rattle.run_picture.specs.Fold.{drive_at}
 use Rattle.picture_markup.specs.declared.pieces.Element.TheVariants as element
 use Rattle.picture_markup.specs.declared.pieces.Route.TheVariants as route
 use Rattle.picture_markup.specs.Elements.{with_end, with_words, with_rect, with_path, with_label, with_label_number, with_label_both}
-use Rattle.picture_scene.specs.declared.frame.Frame.{Frame}
+use Rattle.picture_scene.specs.declared.keyed.Key.TheVariants.{Waiting, Condition}
 use Rattle.picture_scene.specs.declared.scene.Lane.{Lane}
 use Rattle.picture_scene.specs.declared.scene.Scene.{Scene}
 use Rattle.picture_scene.specs.declared.scene.Stretch.{Stretch}
 use Rattle.picture_scene.specs.Frames.{point, add, part_of, width_of, x_of}
-use Rattle.picture_scene.specs.Groups.{drawn, with_number, with_group, with_span}
+use Rattle.picture_scene.specs.Groups.{drawn, with_number, with_group, with_span, with_counted}
+use Rattle.picture_scene.specs.Keys.{holds, key_in, stretches_by}
 use Rattle.picture_scene.specs.Scenes.{is_of, cell_in, place_of, width_in, in_hand, ended}
 use Rattle.picture_scene.specs.Stretches.{stretches_of}
 use Rattle.picture_motion.specs.Ribbons.{with_ribbon}
@@ -35,7 +33,7 @@ abbrev pub with_id : ℕ → ℕ → ℕ → ℕ → List ℕ → List ℕ
 with_id x width y id text =
     if nat_le (add (width_of id) 4) width then with_label_number (codes "m") (point (add x 2) (add y 5)) id text else text
 
-unfoldable pub with_hand : ℕ → ℕ → ℕ → ℕ → List ℕ → List ℕ
+abbrev pub with_hand : ℕ → ℕ → ℕ → ℕ → List ℕ → List ℕ
 with_hand x width y id = drawn (with_bracket x width y ∷ with_id x width y id ∷ [])
 
 -- those of a unit that are shown
@@ -47,25 +45,12 @@ with_in_hand scene unit y text =
     fold (with_time scene unit y) (with_label (codes "q e") (point 150 (add y 8)) (codes "in hand") text) scene.sheet.now.run.now.requests
 
 -- THE REQUESTS THAT WAIT, where a column is several events: a bar as high as its part of the most
-abbrev pub waiting_in : ℕ → Column → ℕ
-waiting_in unit column = (drive_at column.drives unit).cell.waiting
-
 abbrev pub most_of : List ℕ → ℕ
 most_of counts = fold max 0 counts
 
-unfoldable pub with_count_title : Scene → Stretch → ℕ → List ℕ → List ℕ
-with_count_title scene s count = drawn
-    (with_group
-    ∷ with_span scene.sheet.now s.from s.to
-    ∷ with_words (codes ": ")
-    ∷ with_number count
-    ∷ with_words (codes " asked for")
-    ∷ with_end element.Title
-    ∷ [])
-
 unfoldable pub with_count_bar : Scene → Stretch → ℕ → ℕ → ℕ → List ℕ → List ℕ
 with_count_bar scene s count most y = drawn
-    (with_count_title scene s count
+    (with_counted scene.sheet.now s count (codes " asked for")
     ∷ with_rect (codes "v") (point (x_of scene.frame s.from) (add y 11 - part_of 10 count most)) (width_in scene.frame s) (part_of 10 count most) None
     ∷ with_end element.Group
     ∷ [])
@@ -77,7 +62,7 @@ with_count scene unit most y text s =
     else text
 
 abbrev pub counts_of : Scene → ℕ → List ℕ
-counts_of scene unit = map (waiting_in unit) scene.sheet.now.run.now.columns
+counts_of scene unit = map (key_in (Waiting unit)) scene.sheet.now.run.now.columns
 
 unfoldable pub with_counts : Scene → ℕ → ℕ → List ℕ → List ℕ → List ℕ
 with_counts scene unit y counts text =
@@ -93,13 +78,6 @@ with_requests scene unit y text =
     if scene.sheet.now.window.per == 1 then with_in_hand scene unit y text else with_waiting scene unit y text
 
 -- WHERE A DRIVE IS OFFLINE, or is locked
-abbrev pub holds : Bool → Cell → Bool
-holds true cell = cell.offline
-holds false cell = cell.locked
-
-unfoldable pub key_of : ℕ → Bool → Column → ℕ
-key_of unit offline column = if holds offline (drive_at column.drives unit).cell then 1 else 0
-
 abbrev pub condition_words : Bool → List ℕ
 condition_words true = codes ": offline"
 condition_words false = codes ": locked"
@@ -129,7 +107,7 @@ with_condition scene unit offline y text s =
 
 unfoldable pub with_conditions : Scene → ℕ → Bool → ℕ → List ℕ → List ℕ
 with_conditions scene unit offline y text =
-    fold (with_condition scene unit offline y) text (stretches_of (map (key_of unit offline) scene.sheet.now.run.now.columns))
+    fold (with_condition scene unit offline y) text (stretches_by (Condition unit offline) scene.sheet.now.run.now.columns)
 
 -- A DRIVE, at a height: its requests, what it does, its condition, its marks, its totals, and the way of its arm
 abbrev pub with_way : Scene → Lane → ℕ → List ℕ → List ℕ

@@ -53,7 +53,7 @@ with_moves beside y travel as_asked = drawn
     ∷ with_total beside (add y 52) as_asked (codes "in the order asked")
     ∷ [])
 
-unfoldable pub with_times : ℕ → ℕ → Drive → List ℕ → List ℕ
+abbrev pub with_times : ℕ → ℕ → Drive → List ℕ → List ℕ
 with_times beside y drive = drawn (with_events beside y drive.all ∷ with_moves beside y drive.arm.travel drive.queue.as_asked ∷ [])
 
 -- where there is one

@@ -1,51 +1,13 @@
 //! Where a drive is offline, or is locked.
 
-ghost use Rattle.std.specs.Prelude.{◌≡◌, map, fold, IfOk, OnOk};
+ghost use Rattle.std.specs.Prelude.{◌≡◌, fold, OnOk};
 ghost use Rattle.picture_markup.specs.Nesting.{started};
 ghost use Rattle.picture_markup.specs.declared.pieces.Element.TheVariants.{Group};
-ghost use Rattle.picture_scene.specs.Stretches.{stretches_of};
-ghost use Rattle.picture_lanes.specs.Lanes.{holds, key_of, condition_words, condition_class, with_condition_title, with_condition_bar, with_condition, with_conditions};
+ghost use Rattle.picture_lanes.specs.Lanes.{condition_words, condition_class, with_condition_title, with_condition_bar, with_condition, with_conditions};
 
-use drive_pictures::Cell;
-use picture_markup::{Markup, Route};
-use picture_scene::{Scene, Stretch, at, begin_span, cell_at, end_group, end_title, stretches};
-use run_picture::Column;
+use picture_markup::{Element, Markup, Piece, Route};
+use picture_scene::{Key, Scene, Stretch, at, begin_span, holds, stretches_by};
 use std::alloc::{AllocError, Global};
-
-/// A drive is offline, or is locked.
-fn holds(cell: &Cell, offline: bool) -> bool
-    ensures { result ≡ holds offline cell.now }
-{
-    if offline { cell.offline } else { cell.locked }
-}
-
-/// A number for a column, by whether a drive is offline, or is locked.
-#[tactic(auto, unfolding(crate::specs::Lanes::key_of))]
-fn key_of(column: &Column, unit: u8, offline: bool) -> u64
-    ensures { result ≡ key_of unit offline column.now }
-{
-    if holds(&cell_at(column, unit), offline) {
-        1
-    } else {
-        0
-    }
-}
-
-/// The columns in which a drive is offline, or is locked: one number each.
-fn condition_keys(
-    alloc: Global,
-    columns: &[Column],
-    unit: u8,
-    offline: bool,
-) -> Result<Vec<u64>, AllocError>
-    ensures { IfOk result (λ keys. keys.items ≡ map (key_of unit offline) columns.now) }
-{
-    let mut keys = Vec::new(alloc);
-    for column in columns.iter() {
-        keys.push(key_of(column, unit, offline))?;
-    }
-    Ok(keys)
-}
 
 /// What a condition says.
 fn condition_words(offline: bool) -> &'static str
@@ -73,8 +35,8 @@ fn begin_condition(
     ensures text { OnOk result (out.new.text ≡ with_condition_title scene.now stretch offline out.old.text) }
 {
     begin_span(out, scene, stretch.from, stretch.to)?;
-    out.word(condition_words(offline))?;
-    end_title(out)
+    let words = condition_words(offline);
+    out.put_all(&[Piece::Word(words), Piece::End(Element::Title)])
 }
 
 /// The bar of a stretch in which a drive is offline, or is locked.
@@ -91,9 +53,10 @@ fn draw_condition_bar(
 {
     let from = at(scene.frame.x(stretch.from), y);
     let to = scene.frame.x(stretch.to);
+    let class = condition_class(offline);
+    let route = Route::Across { from, to };
     begin_condition(out, scene, stretch, offline)?;
-    out.path(condition_class(offline), Route::Across { from, to })?;
-    end_group(out)
+    out.put_all(&[Piece::Path { class, route }, Piece::End(Element::Group)])
 }
 
 /// A stretch in which a drive is offline, or is locked, if it is.
@@ -114,19 +77,6 @@ fn draw_condition(
     } else {
         Ok(())
     }
-}
-
-/// The stretches in which a drive is offline, or is locked, and those between.
-fn condition_stretches(
-    alloc: Global,
-    columns: &[Column],
-    unit: u8,
-    offline: bool,
-) -> Result<Vec<Stretch>, AllocError>
-    ensures { IfOk result (λ stretches. stretches.items ≡ stretches_of (map (key_of unit offline) columns.now)) }
-{
-    let keys = condition_keys(alloc, columns, unit, offline)?;
-    stretches(alloc, keys.as_slice())
 }
 
 /// Those of some stretches in which a drive is offline, or is locked.
@@ -160,6 +110,6 @@ pub(crate) fn draw_conditions(
     ensures stands { OnOk result (out.new.stands ≡ out.old.stands) }
     ensures text { OnOk result (out.new.text ≡ with_conditions scene.now unit offline y out.old.text) }
 {
-    let held = condition_stretches(alloc, scene.columns(), unit, offline)?;
+    let held = stretches_by(alloc, scene.columns(), Key::Condition(unit, offline))?;
     draw_stretches(out, scene, held.as_slice(), unit, offline, y)
 }

@@ -11,9 +11,9 @@ use crate::requests::draw_requests;
 use crate::totals::draw_totals;
 use picture_arms::draw_arm;
 use picture_marks::draw_marks;
-use picture_markup::Markup;
+use picture_markup::{Element, Markup, Piece, Start};
 use picture_motion::draw_ribbon;
-use picture_scene::{Lane, Scene, add, at, begin_group, end_group, end_title};
+use picture_scene::{Lane, Scene, add, at, end_group};
 use std::alloc::{AllocError, Global};
 
 /// The way of a drive's arm, if it has one.
@@ -83,17 +83,21 @@ fn draw_lane<'a>(
 }
 
 /// The group of a drive begins, with its tooltip.
-#[tactic(auto, unfolding(crate::specs::Lanes::with_unit_title))]
+#[tactic(auto, unfolding(crate::specs::Lanes::with_unit_title, picture_scene::specs::Groups::with_group))]
 fn begin_unit(out: &mut Markup<'_>, unit: u8, kind: &'static str) -> Result<(), AllocError>
     ensures stands { OnOk result (out.new.stands ≡ started Group out.old.stands) }
     ensures text { OnOk result (out.new.text ≡ with_unit_title unit kind.now out.old.text) }
 {
-    begin_group(out)?;
-    out.word("unit ")?;
-    out.number(u64::from(unit))?;
-    out.word(" ")?;
-    out.word(kind)?;
-    end_title(out)
+    let unit = u64::from(unit);
+    out.put_all(&[
+        Piece::Start(Start::Group),
+        Piece::Start(Start::Title),
+        Piece::Word("unit "),
+        Piece::Number(unit),
+        Piece::Word(" "),
+        Piece::Word(kind),
+        Piece::End(Element::Title),
+    ])
 }
 
 /// A drive as a group.

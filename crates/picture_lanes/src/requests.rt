@@ -1,18 +1,15 @@
 //! The requests of a drive: those in hand, or how many were asked for.
 
-ghost use Rattle.std.specs.Prelude.{◌≡◌, map, fold, IfOk, OnOk};
-ghost use Rattle.picture_markup.specs.Nesting.{started};
-ghost use Rattle.picture_markup.specs.declared.pieces.Element.TheVariants.{Group};
-ghost use Rattle.picture_lanes.specs.Lanes.{with_bracket, with_id, with_hand, with_time, with_in_hand, waiting_in, most_of, with_count_title, with_count_bar, with_count, with_counts, with_waiting, with_requests};
+ghost use Rattle.std.specs.Prelude.{◌≡◌, fold, OnOk};
+ghost use Rattle.picture_lanes.specs.Lanes.{with_bracket, with_id, with_time, with_in_hand, most_of, with_count_bar, with_count, with_counts, with_waiting, with_requests};
 
 use drive_pictures::Request;
 use picture_markup::{Markup, Route};
 use picture_scene::{
-    LABEL, Scene, Stretch, add, at, begin_span, cell_at, end_group, end_title, part_of, stretches,
-    sub, width_of,
+    Key, LABEL, Scene, Stretch, add, at, begin_count, end_group, keys, part_of, stretches, sub,
+    width_of,
 };
 use picture_sheet::is_shown;
-use run_picture::Column;
 use std::alloc::{AllocError, Global};
 
 /// A time so wide, as a bracket.
@@ -41,17 +38,7 @@ fn draw_id(out: &mut Markup<'_>, x: u32, width: u32, y: u32, id: u64) -> Result<
     }
 }
 
-/// The time of a request in hand, and its id.
-#[tactic(auto, unfolding(crate::specs::Lanes::with_hand))]
-fn draw_hand(out: &mut Markup<'_>, x: u32, width: u32, y: u32, id: u64) -> Result<(), AllocError>
-    ensures stands { OnOk result (out.new.stands ≡ out.old.stands) }
-    ensures text { OnOk result (out.new.text ≡ with_hand x width y id out.old.text) }
-{
-    draw_bracket(out, x, width, y)?;
-    draw_id(out, x, width, y, id)
-}
-
-/// The time of a request in hand, if it is of a unit and shown.
+/// The time of a request in hand, and its id, if it is of a unit and shown.
 #[tactic(auto, unfolding(crate::specs::Lanes::with_time, picture_scene::specs::Scenes::is_of))]
 fn draw_time(
     out: &mut Markup<'_>,
@@ -66,7 +53,8 @@ fn draw_time(
     if request.unit == unit && is_shown(scene.sheet, request) {
         let x = scene.at(scene.in_hand(request));
         let width = sub(scene.at(scene.ended(request)), x);
-        draw_hand(out, x, width, y, u64::from(request.id))
+        draw_bracket(out, x, width, y)?;
+        draw_id(out, x, width, y, u64::from(request.id))
     } else {
         Ok(())
     }
@@ -90,17 +78,6 @@ fn draw_in_hand(
     Ok(())
 }
 
-/// How many requests of a drive wait, one number a column.
-fn waiting_keys(alloc: Global, columns: &[Column], unit: u8) -> Result<Vec<u64>, AllocError>
-    ensures { IfOk result (λ keys. keys.items ≡ map (waiting_in unit) columns.now) }
-{
-    let mut keys = Vec::new(alloc);
-    for column in columns.iter() {
-        keys.push(cell_at(column, unit).waiting)?;
-    }
-    Ok(keys)
-}
-
 /// The most of some numbers.
 fn most_of(keys: &[u64]) -> u64
     ensures { result ≡ most_of keys.now }
@@ -110,24 +87,6 @@ fn most_of(keys: &[u64]) -> u64
         most = most.max(*key);
     }
     most
-}
-
-/// The group of how many requests wait begins, with its tooltip.
-#[tactic(auto, unfolding(crate::specs::Lanes::with_count_title))]
-fn begin_count(
-    out: &mut Markup<'_>,
-    scene: &Scene<'_, '_>,
-    stretch: Stretch,
-    count: u64,
-) -> Result<(), AllocError>
-    ensures stands { OnOk result (out.new.stands ≡ started Group out.old.stands) }
-    ensures text { OnOk result (out.new.text ≡ with_count_title scene.now stretch count out.old.text) }
-{
-    begin_span(out, scene, stretch.from, stretch.to)?;
-    out.word(": ")?;
-    out.number(count)?;
-    out.word(" asked for")?;
-    end_title(out)
 }
 
 /// The bar of how many requests wait.
@@ -145,7 +104,7 @@ fn draw_count_bar(
 {
     let height = part_of(10, count, most);
     let corner = at(scene.frame.x(stretch.from), sub(add(y, 11), height));
-    begin_count(out, scene, stretch, count)?;
+    begin_count(out, scene, stretch, count, " asked for")?;
     out.rect("v", corner, scene.width(stretch), height, None)?;
     end_group(out)
 }
@@ -220,7 +179,7 @@ fn draw_waiting(
     ensures stands { OnOk result (out.new.stands ≡ out.old.stands) }
     ensures text { OnOk result (out.new.text ≡ with_waiting scene.now unit y out.old.text) }
 {
-    let keys = waiting_keys(alloc, scene.columns(), unit)?;
+    let keys = keys(alloc, scene.columns(), Key::Waiting(unit))?;
     draw_asked(alloc, out, scene, keys.as_slice(), unit, y)
 }
 

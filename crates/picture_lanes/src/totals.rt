@@ -1,7 +1,7 @@
 //! The totals of a drive, beside it.
 
 ghost use Rattle.std.specs.Prelude.{◌≡◌, Some, count_by, fold, slice_get, OnOk};
-ghost use Rattle.picture_lanes.specs.Totals.{is_of_unit, is_ok_of_unit, longer, with_total, with_ok, with_answered, with_events, with_moves, with_times, with_times_in, with_totals};
+ghost use Rattle.picture_lanes.specs.Totals.{is_of_unit, is_ok_of_unit, longer, with_total, with_ok, with_answered, with_events, with_moves, with_times_in, with_totals};
 
 use drive_pictures::{Drive, Outcome, Request, Times};
 use picture_markup::Markup;
@@ -145,19 +145,8 @@ fn draw_moves(
     draw_total(out, beside, add(y, 52), as_asked, "in the order asked")
 }
 
-/// What a drive did in the whole run.
-#[tactic(auto, unfolding(crate::specs::Totals::with_times))]
-fn draw_times(out: &mut Markup<'_>, beside: u32, drive: &Drive, y: u32) -> Result<(), AllocError>
-    ensures stands { OnOk result (out.new.stands ≡ out.old.stands) }
-    ensures text { OnOk result (out.new.text ≡ with_times beside y drive.now out.old.text) }
-{
-    let (all, travel, as_asked) = (drive.all, drive.arm.travel, drive.queue.as_asked);
-    draw_events(out, beside, all, y)?;
-    draw_moves(out, beside, travel, as_asked, y)
-}
-
 /// What a drive did in the whole run, where there is one.
-fn draw_times_of(
+fn draw_times(
     out: &mut Markup<'_>,
     beside: u32,
     drive: Option<&Drive>,
@@ -167,7 +156,10 @@ fn draw_times_of(
     ensures text { OnOk result (out.new.text ≡ with_times_in beside y drive.entry out.old.text) }
 {
     match drive {
-        Some(drive) => draw_times(out, beside, drive, y),
+        Some(drive) => {
+            draw_events(out, beside, drive.all, y)?;
+            draw_moves(out, beside, drive.arm.travel, drive.queue.as_asked, y)
+        }
         None => Ok(()),
     }
 }
@@ -186,5 +178,5 @@ pub(crate) fn draw_totals(
     let beside = scene.frame.beside;
     let drive = scene.sheet.run.drives().get(usize::from(unit));
     draw_answered(out, beside, scene.sheet.run.requests(), unit, y)?;
-    draw_times_of(out, beside, drive, add(y, 26))
+    draw_times(out, beside, drive, add(y, 26))
 }

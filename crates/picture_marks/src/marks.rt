@@ -6,10 +6,8 @@ ghost use Rattle.picture_sheet.specs.Notes.{is_spoken_of, line_of, lines_of, lin
 ghost use Rattle.picture_marks.specs.Marks.{where_roomy, mark_shape, signal_shape, with_offset, sign_at, with_shape, with_shapes, is_drawn, has_shape, below, with_note, with_notes, with_tip, with_event, first_behind, count_to, with_by_event, with_column_tip, with_column, columns_to, with_marks};
 
 use drive_pictures::{Cell, Mark};
-use picture_markup::{Markup, Route, Sign};
-use picture_scene::{
-    Scene, add, at, begin_group, begin_span, begin_text, end_group, end_text, end_title, sub,
-};
+use picture_markup::{Element, Markup, Piece, Point, Route, Sign, Start};
+use picture_scene::{Scene, add, at, begin_group, begin_span, end_group, end_title, sub};
 use picture_sheet::{Note, mark_sign};
 use std::alloc::AllocError;
 
@@ -84,15 +82,21 @@ fn signal_shape(signal: Mark, roomy: bool) -> Shape
 }
 
 /// The sign and the hundreds of an offset.
-#[tactic(auto, unfolding(crate::specs::Marks::with_offset))]
+#[tactic(auto, unfolding(crate::specs::Marks::with_offset, picture_markup::specs::Elements::with_start, picture_markup::specs::Elements::with_opened))]
 fn draw_offset(out: &mut Markup<'_>, cell: &Cell, x: u32, y: u32) -> Result<(), AllocError>
     ensures stands { OnOk result (out.new.stands ≡ out.old.stands) }
     ensures text { OnOk result (out.new.text ≡ with_offset cell.now x y out.old.text) }
 {
-    begin_text(out, "m b", at(x, add(y, 9)))?;
-    out.word(mark_sign(cell.mark))?;
-    out.number(u64::from(cell.code))?;
-    end_text(out)
+    let Point { x, y } = at(x, add(y, 9));
+    let class = "m b";
+    let sign = mark_sign(cell.mark);
+    let code = u64::from(cell.code);
+    out.put_all(&[
+        Piece::Start(Start::Text { class, x, y }),
+        Piece::Word(sign),
+        Piece::Number(code),
+        Piece::End(Element::Text),
+    ])
 }
 
 /// A sign at a place.

@@ -4,6 +4,7 @@ use Rattle.std.specs.Prelude.{fold}
 use Rattle.std.specs.List.{slice_range}
 use Rattle.std.proofs.lemmas.Bool.{leb-true, le-leb}
 use Rattle.std.proofs.lemmas.List.{take-append-le}
+use Rattle.std.proofs.lemmas.List.Folds.{list_all-append}
 use Rattle.picture_markup.specs.declared.pieces.Piece.{Piece}
 use Rattle.picture_markup.specs.declared.pieces.Piece.TheVariants as piece
 use Rattle.picture_markup.specs.declared.pieces.Point.{Point}
@@ -59,3 +60,9 @@ pub points_more : (points ys : List Point) (pieces : List Piece) → have_points
     → have_points (length (points ++ ys)) pieces ≡ true
 points_more points ys pieces h =
     have_more (length points) (length (points ++ ys)) pieces (omega (arith, length-append points ys)) h
+
+pub pieces_more : (n : ℕ) (pieces more : List Piece) → have_points n pieces ≡ true → have_points 0 more ≡ true
+    → have_points n (pieces ++ more) ≡ true
+pieces_more n pieces more h g =
+    rw (list_all-append (has_points n) pieces more)
+    (true_both (have_points n pieces) (have_points n more) h (have_more 0 n more (omega arith) g))

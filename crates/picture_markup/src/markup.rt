@@ -1,8 +1,8 @@
 //! A drawing that is put together piece by piece.
 
-ghost use Rattle.std.specs.Prelude.{◌≡◌, ◌∷◌, [], ◌++◌, true, length, codes, decimal, slice_range, IfOk, OnOk};
+ghost use Rattle.std.specs.Prelude.{◌≡◌, ◌∷◌, [], ◌++◌, true, length, codes, decimal, fold, slice_range, IfOk, OnOk};
 ghost use Rattle.picture_markup.specs.Nesting.{element_of, started, ended, in_title, told, drawn_with};
-ghost use Rattle.picture_markup.specs.Elements.{empty, has_points, with_start, with_end, with_words, name_of, with_rect, with_circle, with_path, with_polyline, with_piece, with_label, with_label_number, with_label_both, IsWritten};
+ghost use Rattle.picture_markup.specs.Elements.{empty, has_points, have_points, with_start, with_end, with_words, name_of, with_rect, with_circle, with_path, with_polyline, with_piece, with_label, with_label_number, with_label_both, IsWritten};
 
 use crate::pieces::{Element, Piece, Point, Route, Start};
 use crate::render::render;
@@ -46,6 +46,16 @@ impl<'a> Markup<'a> {
         ensures points { OnOk result (self.new.points ≡ self.old.points) }
     {
         self.pieces.push(piece)?;
+        Ok(())
+    }
+
+    /// Some pieces, none of them a line through many points.
+    pub fn put_all(&mut self, pieces: &[Piece<'a>]) -> Result<(), AllocError>
+        requires { have_points 0 pieces.now ≡ true }
+        ensures stands { OnOk result (self.new.stands ≡ fold drawn_with self.old.stands pieces.now) }
+        ensures text { OnOk result (self.new.text ≡ fold (with_piece self.old.points) self.old.text pieces.now) }
+    {
+        self.pieces.extend_from_slice(pieces)?;
         Ok(())
     }
 
@@ -197,13 +207,15 @@ impl<'a> Markup<'a> {
         ensures stands { OnOk result (self.new.stands ≡ self.old.stands) }
         ensures text { OnOk result (self.new.text ≡ with_label class.now at word.now self.old.text) }
     {
-        self.start(Start::Text {
-            class,
-            x: at.x,
-            y: at.y,
-        })?;
-        self.word(word)?;
-        self.end(Element::Text)
+        self.put_all(&[
+            Piece::Start(Start::Text {
+                class,
+                x: at.x,
+                y: at.y,
+            }),
+            Piece::Word(word),
+            Piece::End(Element::Text),
+        ])
     }
 
     /// A number at a place.
@@ -217,13 +229,15 @@ impl<'a> Markup<'a> {
         ensures stands { OnOk result (self.new.stands ≡ self.old.stands) }
         ensures text { OnOk result (self.new.text ≡ with_label_number class.now at number self.old.text) }
     {
-        self.start(Start::Text {
-            class,
-            x: at.x,
-            y: at.y,
-        })?;
-        self.number(number)?;
-        self.end(Element::Text)
+        self.put_all(&[
+            Piece::Start(Start::Text {
+                class,
+                x: at.x,
+                y: at.y,
+            }),
+            Piece::Number(number),
+            Piece::End(Element::Text),
+        ])
     }
 
     /// Words and a number behind them, at a place.
@@ -238,14 +252,16 @@ impl<'a> Markup<'a> {
         ensures stands { OnOk result (self.new.stands ≡ self.old.stands) }
         ensures text { OnOk result (self.new.text ≡ with_label_both class.now at word.now number self.old.text) }
     {
-        self.start(Start::Text {
-            class,
-            x: at.x,
-            y: at.y,
-        })?;
-        self.word(word)?;
-        self.number(number)?;
-        self.end(Element::Text)
+        self.put_all(&[
+            Piece::Start(Start::Text {
+                class,
+                x: at.x,
+                y: at.y,
+            }),
+            Piece::Word(word),
+            Piece::Number(number),
+            Piece::End(Element::Text),
+        ])
     }
 
     /// The text of the drawing.

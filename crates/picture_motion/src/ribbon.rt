@@ -7,7 +7,7 @@ ghost use Rattle.picture_scene.specs.Stretches.{next_number, numbered};
 ghost use Rattle.picture_motion.specs.Ribbons.{pattern_of, meaning_of, is_as_often, is_same, with_times, between, with_meaning, with_meaning_in, with_meanings, with_sign, with_letter, with_part, with_letters, with_stretch, is_busy, with_motion, with_ribbon};
 
 use drive_pictures::{Letter, Tally, plus};
-use picture_markup::{Markup, Route};
+use picture_markup::{Markup, Piece, Route};
 use picture_scene::{
     LEFT, Scene, Stretch, add, at, begin_span, cell_at, end_group, end_title, part_of, stretches,
     sub,
@@ -118,8 +118,7 @@ fn put_times(out: &mut Markup<'_>, single: bool, count: u64) -> Result<(), Alloc
     if single {
         Ok(())
     } else {
-        out.word(" ")?;
-        out.number(count)
+        out.put_all(&[Piece::Word(" "), Piece::Number(count)])
     }
 }
 
@@ -143,8 +142,9 @@ fn put_meaning(
     ensures words { IfOk result (λ next. with_meaning count single (record { first = first; text = out.old.text }) letter ≡ record { first = next; text = out.new.text }) }
 {
     if count > 0 {
-        out.word(between(first))?;
-        out.word(meaning_of(letter))?;
+        let between = between(first);
+        let meaning = meaning_of(letter);
+        out.put_all(&[Piece::Word(between), Piece::Word(meaning)])?;
         put_times(out, single, count)?;
         Ok(false)
     } else {

@@ -14,7 +14,8 @@ use Rattle.picture_scene.specs.declared.scene.Stretch.{Stretch}
 use Rattle.picture_scene.specs.Frames.{point, add, x_of}
 use Rattle.picture_scene.specs.Groups.{Row}
 use Rattle.picture_scene.specs.Scenes.{cell_in, size_of}
-use Rattle.picture_axes.specs.Adapters.{together_in, together_at}
+use Rattle.picture_axes.specs.Adapters.{together_at}
+use Rattle.picture_scene.specs.Keys.{together_in}
 use Rattle.picture_arms.specs.Arms.{points_of, column_points}
 use Rattle.picture_axes.specs.Axes.{with_event}
 use Rattle.picture_motion.specs.Ribbons.{is_busy, with_motion}

@@ -8,6 +8,7 @@ use Rattle.picture_sheet.specs.declared.sheet.Sheet.{Sheet}
 use Rattle.picture_sheet.specs.declared.summary.Phrase.{Phrase}
 use Rattle.picture_sheet.specs.declared.summary.Sentence.{Sentence}
 use Rattle.picture_sheet.specs.Window.{head_of}
+use Rattle.picture_scene.specs.declared.scene.Stretch.{Stretch}
 use Rattle.picture_scene.specs.Frames.{point}
 use Rattle.picture_scene.specs.Scenes.{column_at}
 
@@ -44,6 +45,17 @@ with_span sheet from to = drawn
     ∷ with_words (codes " to ")
     ∷ with_number ((column_at sheet (to - 1)).head.last_line)
     ∷ with_words (codes ")")
+    ∷ [])
+
+-- so many of what words say, in a tooltip
+unfoldable pub with_counted : Sheet → Stretch → ℕ → List ℕ → List ℕ → List ℕ
+with_counted sheet s count words = drawn
+    (with_group
+    ∷ with_span sheet s.from s.to
+    ∷ with_words (codes ": ")
+    ∷ with_number count
+    ∷ with_words words
+    ∷ with_end element.Title
     ∷ [])
 
 -- A SENTENCE: words, and the number behind them

@@ -4,11 +4,11 @@ ghost use Rattle.std.specs.Prelude.{◌≡◌, take, OnOk};
 ghost use Rattle.picture_markup.specs.Elements.{with_start, with_end, with_opened};
 ghost use Rattle.picture_markup.specs.Nesting.{started, ended};
 ghost use Rattle.picture_markup.specs.declared.pieces.Element.TheVariants.{Title, Group, Text};
-ghost use Rattle.picture_scene.specs.Groups.{with_group, with_span, with_phrase, with_third, with_sentence, with_sentences, with_sentence_line};
+ghost use Rattle.picture_scene.specs.Groups.{with_group, with_span, with_counted, with_third, with_sentence, with_sentences, with_sentence_line};
 
 use crate::frame::at;
-use crate::scene::Scene;
-use picture_markup::{Element, Markup, Point, Start};
+use crate::scene::{Scene, Stretch};
+use picture_markup::{Element, Markup, Piece, Point, Start};
 use picture_sheet::{Phrase, Sentence};
 use std::alloc::AllocError;
 
@@ -25,8 +25,7 @@ pub fn begin_group(out: &mut Markup<'_>) -> Result<(), AllocError>
     ensures stands { OnOk result (out.new.stands ≡ started Title (started Group out.old.stands)) }
     ensures text { OnOk result (out.new.text ≡ with_group out.old.text) }
 {
-    out.start(Start::Group)?;
-    out.start(Start::Title)
+    out.put_all(&[Piece::Start(Start::Group), Piece::Start(Start::Title)])
 }
 
 /// The tooltip ends.
@@ -66,31 +65,8 @@ pub fn end_text(out: &mut Markup<'_>) -> Result<(), AllocError>
     out.end(Element::Text)
 }
 
-/// The events and the lines of a stretch of columns.
-#[tactic(auto, unfolding(crate::specs::Groups::with_span))]
-pub(crate) fn put_span(
-    out: &mut Markup<'_>,
-    scene: &Scene<'_, '_>,
-    from: usize,
-    to: usize,
-) -> Result<(), AllocError>
-    ensures stands { OnOk result (out.new.stands ≡ out.old.stands) }
-    ensures text { OnOk result (out.new.text ≡ with_span scene.now.sheet.now from to out.old.text) }
-{
-    let first = scene.head(from).line;
-    let last = scene.head(to.saturating_sub(1)).last_line;
-    out.word("events ")?;
-    out.number(scene.sheet.head(from).saturating_add(1))?;
-    out.word(" to ")?;
-    out.number(scene.sheet.head(to))?;
-    out.word(" (lines ")?;
-    out.number(u64::from(first))?;
-    out.word(" to ")?;
-    out.number(u64::from(last))?;
-    out.word(")")
-}
-
 /// A group begins, with the events and the lines of a stretch of columns at the head of its tooltip.
+#[tactic(auto, unfolding(crate::specs::Groups::with_span, crate::specs::Groups::with_group))]
 pub fn begin_span(
     out: &mut Markup<'_>,
     scene: &Scene<'_, '_>,
@@ -100,17 +76,44 @@ pub fn begin_span(
     ensures stands { OnOk result (out.new.stands ≡ started Title (started Group out.old.stands)) }
     ensures text { OnOk result (out.new.text ≡ with_span scene.now.sheet.now from to (with_group out.old.text)) }
 {
-    begin_group(out)?;
-    put_span(out, scene, from, to)
+    let line = u64::from(scene.head(from).line);
+    let last_line = u64::from(scene.head(to.saturating_sub(1)).last_line);
+    let first = scene.sheet.head(from).saturating_add(1);
+    let last = scene.sheet.head(to);
+    out.put_all(&[
+        Piece::Start(Start::Group),
+        Piece::Start(Start::Title),
+        Piece::Word("events "),
+        Piece::Number(first),
+        Piece::Word(" to "),
+        Piece::Number(last),
+        Piece::Word(" (lines "),
+        Piece::Number(line),
+        Piece::Word(" to "),
+        Piece::Number(last_line),
+        Piece::Word(")"),
+    ])
 }
 
-/// Words, and the number behind them.
-fn put_phrase(out: &mut Markup<'_>, phrase: Phrase) -> Result<(), AllocError>
-    ensures stands { OnOk result (out.new.stands ≡ out.old.stands) }
-    ensures text { OnOk result (out.new.text ≡ with_phrase phrase out.old.text) }
+/// A group begins, with so many of what words say at the end of its tooltip.
+#[tactic(auto, unfolding(crate::specs::Groups::with_counted))]
+pub fn begin_count(
+    out: &mut Markup<'_>,
+    scene: &Scene<'_, '_>,
+    stretch: Stretch,
+    count: u64,
+    words: &'static str,
+) -> Result<(), AllocError>
+    ensures stands { OnOk result (out.new.stands ≡ started Group out.old.stands) }
+    ensures text { OnOk result (out.new.text ≡ with_counted scene.now.sheet.now stretch count words.now out.old.text) }
 {
-    out.word(phrase.word)?;
-    out.number(phrase.number)
+    begin_span(out, scene, stretch.from, stretch.to)?;
+    out.put_all(&[
+        Piece::Word(": "),
+        Piece::Number(count),
+        Piece::Word(words),
+        Piece::End(Element::Title),
+    ])
 }
 
 /// The third phrase of a sentence, where it has one.
@@ -119,7 +122,7 @@ fn put_third(out: &mut Markup<'_>, third: Option<Phrase>) -> Result<(), AllocErr
     ensures text { OnOk result (out.new.text ≡ with_third third out.old.text) }
 {
     match third {
-        Some(phrase) => put_phrase(out, phrase),
+        Some(phrase) => out.put_all(&[Piece::Word(phrase.word), Piece::Number(phrase.number)]),
         None => Ok(()),
     }
 }
@@ -130,8 +133,12 @@ pub fn put_sentence(out: &mut Markup<'_>, sentence: Sentence) -> Result<(), Allo
     ensures stands { OnOk result (out.new.stands ≡ out.old.stands) }
     ensures text { OnOk result (out.new.text ≡ with_sentence sentence out.old.text) }
 {
-    put_phrase(out, sentence.first)?;
-    put_phrase(out, sentence.second)?;
+    out.put_all(&[
+        Piece::Word(sentence.first.word),
+        Piece::Number(sentence.first.number),
+        Piece::Word(sentence.second.word),
+        Piece::Number(sentence.second.number),
+    ])?;
     put_third(out, sentence.third)?;
     out.word(sentence.end)
 }

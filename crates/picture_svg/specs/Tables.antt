@@ -1,11 +1,9 @@
 -- THE REQUESTS OF A PICTURE, in the order asked.
-use Rattle.std.specs.Prelude.{ℕ, ◌-◌, nat_lt, Bool, true, false, if◌then◌else◌, List, [], ◌∷◌, Option, Some, None, map, fold, slice_range, codes}
+use Rattle.std.specs.Prelude.{ℕ, ◌-◌, nat_lt, Bool, true, false, if◌then◌else◌, List, [], ◌∷◌, Option, Some, None, fold, slice_range, codes}
 use Rattle.drive_pictures.specs.declared.letters.Letter.{Letter}
 use Rattle.drive_pictures.specs.declared.letters.Letter.TheVariants as letter
 use Rattle.drive_pictures.specs.declared.requests.Request.{Request}
 use Rattle.drive_pictures.specs.Requests.{is_ok, is_out_of_order, queued}
-use Rattle.run_picture.specs.declared.columns.Column.{Column}
-use Rattle.run_picture.specs.Fold.{drive_at}
 use Rattle.picture_markup.specs.declared.pieces.Element.TheVariants as element
 use Rattle.picture_markup.specs.declared.pieces.Route.TheVariants as route
 use Rattle.picture_markup.specs.Elements.{with_end, with_words, with_rect, with_path, with_opened, with_label, with_label_number, with_label_both}
@@ -13,12 +11,14 @@ use Rattle.picture_sheet.specs.Letters.{lead_of}
 use Rattle.picture_sheet.specs.Window.{column_of}
 use Rattle.picture_sheet.specs.Words.{outcome_word}
 use Rattle.picture_scene.specs.declared.frame.Frame.{Frame}
+use Rattle.picture_scene.specs.declared.keyed.Key.TheVariants.{Lead}
 use Rattle.picture_scene.specs.declared.scene.Scene.{Scene}
 use Rattle.picture_scene.specs.declared.scene.Stretch.{Stretch}
 use Rattle.picture_scene.specs.Frames.{point, add, x_of}
 use Rattle.picture_scene.specs.Groups.{drawn, with_number, with_group}
 use Rattle.picture_scene.specs.Scenes.{size_of, cell_in, place_of, width_in, in_hand, ended}
-use Rattle.picture_scene.specs.Stretches.{stretches_of, moved}
+use Rattle.picture_scene.specs.Keys.{stretches_by}
+use Rattle.picture_scene.specs.Stretches.{moved}
 use Rattle.picture_motion.specs.Ribbons.{pattern_of}
 
 -- THE NAMES of its columns
@@ -39,7 +39,7 @@ with_table_names scene y = drawn
     ∷ [])
 
 -- WHAT A REQUEST'S TOOLTIP SAYS
-unfoldable pub with_tip : Request → List ℕ → List ℕ
+abbrev pub with_tip : Request → List ℕ → List ℕ
 with_tip r = drawn
     (with_words (codes "request ")
     ∷ with_number r.id
@@ -99,28 +99,8 @@ lead_bar scene l y s text =
 unfoldable pub with_lead : Scene → ℕ → ℕ → ℕ → List ℕ → Stretch → List ℕ
 with_lead scene unit from y text s = lead_bar scene (letter_at scene unit (moved from s).from) y (moved from s) text
 
--- a number for each letter
-abbrev pub number_of : Letter → ℕ
-number_of letter.Idle = 0
-number_of letter.Seeks = 1
-number_of letter.Turns = 2
-number_of letter.Recalibrates = 3
-number_of letter.Offsets = 4
-number_of letter.Arrived = 5
-number_of letter.Ready = 6
-number_of letter.Moves = 7
-number_of letter.Retries = 8
-number_of letter.Replaces = 9
-number_of letter.Moved = 10
-
-unfoldable pub lead_in : ℕ → Column → ℕ
-lead_in unit column = number_of (lead_of (drive_at column.drives unit).cell.tally column.head.events)
-
-abbrev pub leads_of : Scene → ℕ → ℕ → ℕ → List ℕ
-leads_of scene unit from to = map (lead_in unit) (slice_range scene.sheet.now.run.now.columns from to)
-
 unfoldable pub with_leads : Scene → ℕ → ℕ → ℕ → ℕ → List ℕ → List ℕ
-with_leads scene unit from to y text = fold (with_lead scene unit from y) text (stretches_of (leads_of scene unit from to))
+with_leads scene unit from to y text = fold (with_lead scene unit from y) text (stretches_by (Lead unit) (slice_range scene.sheet.now.run.now.columns from to))
 
 abbrev pub with_tick : Scene → Request → ℕ → List ℕ → List ℕ
 with_tick scene r y text =
@@ -155,12 +135,17 @@ with_numbers frame r y = drawn
     ∷ [])
 
 -- A REQUEST, at a height
-unfoldable pub with_request : Scene → Request → ℕ → List ℕ → List ℕ
-with_request scene r y = drawn
+unfoldable pub with_begun : ℕ → Request → ℕ → List ℕ → List ℕ
+with_begun right r y = drawn
     (with_group
     ∷ with_tip r
     ∷ with_end element.Title
-    ∷ with_path (codes "g") (route.Across (point 160 (add y 12)) scene.frame.right)
+    ∷ with_path (codes "g") (route.Across (point 160 (add y 12)) right)
+    ∷ [])
+
+unfoldable pub with_request : Scene → Request → ℕ → List ℕ → List ℕ
+with_request scene r y = drawn
+    (with_begun scene.frame.right r y
     ∷ with_asking r y
     ∷ with_wait scene r y
     ∷ with_hand scene r y

@@ -10,10 +10,9 @@ use crate::fixed::FIXED;
 use crate::table::draw_table;
 use picture_axes::{draw_adapter, draw_events, draw_lines};
 use picture_lanes::draw_unit;
-use picture_markup::{Element, Markup, Start};
+use picture_markup::{Element, Markup, Piece, Point, Start};
 use picture_scene::{
-    Frame, Lane, Scene, add, at, begin_text, end_text, front, lanes_of, put_sentences, small,
-    text_sentences, times,
+    Frame, Lane, Scene, add, at, front, lanes_of, put_sentences, small, text_sentences, times,
 };
 use picture_sheet::{Sentence, Sheet, Shown, sentences};
 use std::alloc::{AllocError, Global};
@@ -97,10 +96,13 @@ fn draw_names<'a>(
     ensures text { OnOk result (out.new.text ≡ with_names sheet.now sentences.now out.old.text) }
 {
     let [first, second, third, fourth] = *sentences;
-    out.start(Start::Caption)?;
-    out.said(caption_of(sheet))?;
-    out.end(Element::Title)?;
-    out.start(Start::Desc)?;
+    let caption = caption_of(sheet);
+    out.put_all(&[
+        Piece::Start(Start::Caption),
+        Piece::Said(caption),
+        Piece::End(Element::Title),
+        Piece::Start(Start::Desc),
+    ])?;
     put_sentences(out, first, second)?;
     out.word(" ")?;
     put_sentences(out, third, fourth)?;
@@ -128,6 +130,7 @@ fn draw_fixed(out: &mut Markup<'_>) -> Result<(), AllocError>
 }
 
 /// What stands above the columns.
+#[tactic(auto, unfolding(picture_markup::specs::Elements::with_start, picture_markup::specs::Elements::with_opened))]
 fn draw_head<'a>(
     out: &mut Markup<'a>,
     sheet: &Sheet<'a>,
@@ -137,9 +140,14 @@ fn draw_head<'a>(
     ensures text { OnOk result (out.new.text ≡ with_head sheet.now sentences.now out.old.text) }
 {
     let [first, second, third, fourth] = *sentences;
-    begin_text(out, "h", at(16, 28))?;
-    out.said(caption_of(sheet))?;
-    end_text(out)?;
+    let Point { x, y } = at(16, 28);
+    let class = "h";
+    let caption = caption_of(sheet);
+    out.put_all(&[
+        Piece::Start(Start::Text { class, x, y }),
+        Piece::Said(caption),
+        Piece::End(Element::Text),
+    ])?;
     text_sentences(out, 48, first, second)?;
     text_sentences(out, 64, third, fourth)
 }

@@ -1,17 +1,18 @@
 //! The requests, in the order asked.
 
-ghost use Rattle.std.specs.Prelude.{◌≡◌, ◌∷◌, [], map, fold, slice_range, IfOk, OnOk};
+ghost use Rattle.std.specs.Prelude.{◌≡◌, ◌∷◌, [], fold, slice_range, IfOk, OnOk};
+ghost use Rattle.picture_markup.specs.Nesting.{started};
+ghost use Rattle.picture_markup.specs.declared.pieces.Element.TheVariants.{Group};
 ghost use Rattle.drive_pictures.specs.Requests.{is_ok};
 ghost use Rattle.picture_sheet.specs.Letters.{lead_of};
 ghost use Rattle.run_picture.specs.Fold.{drive_at};
-ghost use Rattle.picture_svg.specs.Tables.{table_name, with_table_names, with_tip, with_cylinder, verb_of, with_asking, with_wait, is_idle, letter_at, lead_bar, with_lead, number_of, lead_in, leads_of, with_leads, with_tick, with_hand, answer_class, turn_class, with_numbers, with_request, with_row, with_count, with_table};
+ghost use Rattle.picture_svg.specs.Tables.{table_name, with_table_names, with_cylinder, verb_of, with_asking, with_wait, is_idle, letter_at, lead_bar, with_lead, with_leads, with_tick, with_hand, answer_class, turn_class, with_numbers, with_begun, with_request, with_row, with_count, with_table};
 
 use drive_pictures::{Letter, Outcome, Request};
 use picture_lanes::pattern_of;
-use picture_markup::{Markup, Route};
+use picture_markup::{Element, Markup, Piece, Point, Route, Start};
 use picture_scene::{
-    LABEL, LEFT, Scene, Stretch, add, at, begin_group, begin_text, cell_at, end_group, end_text,
-    end_title, stretches, sub,
+    Key, LABEL, LEFT, Scene, Stretch, add, at, end_group, end_text, stretches_by, sub,
 };
 use picture_sheet::{lead, outcome_word};
 use run_picture::Column;
@@ -48,22 +49,6 @@ fn draw_names(out: &mut Markup<'_>, scene: &Scene<'_, '_>, y: u32) -> Result<(),
     out.text("m q e", at(add(beside, ENDS[5]), y), "turn")
 }
 
-/// The tooltip of a request.
-#[tactic(auto, unfolding(crate::specs::Tables::with_tip))]
-fn put_tip(out: &mut Markup<'_>, request: &Request) -> Result<(), AllocError>
-    ensures stands { OnOk result (out.new.stands ≡ out.old.stands) }
-    ensures text { OnOk result (out.new.text ≡ with_tip request.now out.old.text) }
-{
-    out.word("request ")?;
-    out.number(u64::from(request.id))?;
-    out.word(": asked at line ")?;
-    out.number(u64::from(request.line))?;
-    out.word(", answered at line ")?;
-    out.number(u64::from(request.ended_line))?;
-    out.word(": ")?;
-    out.word(outcome_word(request.outcome))
-}
-
 /// The cylinder of a request, where it joined.
 fn put_cylinder(out: &mut Markup<'_>, cylinder: Option<u32>) -> Result<(), AllocError>
     ensures stands { OnOk result (out.new.stands ≡ out.old.stands) }
@@ -71,8 +56,8 @@ fn put_cylinder(out: &mut Markup<'_>, cylinder: Option<u32>) -> Result<(), Alloc
 {
     match cylinder {
         Some(cylinder) => {
-            out.word(" c")?;
-            out.number(u64::from(cylinder))
+            let cylinder = u64::from(cylinder);
+            out.put_all(&[Piece::Word(" c"), Piece::Number(cylinder)])
         }
         None => Ok(()),
     }
@@ -86,15 +71,22 @@ fn verb_of(write: bool) -> &'static str
 }
 
 /// What a request asks.
-#[tactic(auto, unfolding(crate::specs::Tables::with_asking))]
+#[tactic(auto, unfolding(crate::specs::Tables::with_asking, picture_markup::specs::Elements::with_start, picture_markup::specs::Elements::with_opened))]
 fn draw_asking(out: &mut Markup<'_>, request: &Request, y: u32) -> Result<(), AllocError>
     ensures stands { OnOk result (out.new.stands ≡ out.old.stands) }
     ensures text { OnOk result (out.new.text ≡ with_asking request.now y out.old.text) }
 {
-    begin_text(out, "m e", at(LABEL, add(y, 9)))?;
-    out.number(u64::from(request.id))?;
-    out.word(verb_of(request.write))?;
-    out.number(u64::from(request.unit))?;
+    let Point { x, y } = at(LABEL, add(y, 9));
+    let class = "m e";
+    let id = u64::from(request.id);
+    let verb = verb_of(request.write);
+    let unit = u64::from(request.unit);
+    out.put_all(&[
+        Piece::Start(Start::Text { class, x, y }),
+        Piece::Number(id),
+        Piece::Word(verb),
+        Piece::Number(unit),
+    ])?;
     put_cylinder(out, request.cylinder)?;
     end_text(out)
 }
@@ -117,44 +109,6 @@ fn draw_wait(
     } else {
         Ok(())
     }
-}
-
-/// A number for a letter.
-fn number_of(letter: Letter) -> u64
-    ensures { result ≡ number_of letter }
-{
-    match letter {
-        Letter::Idle => 0,
-        Letter::Seeks => 1,
-        Letter::Turns => 2,
-        Letter::Recalibrates => 3,
-        Letter::Offsets => 4,
-        Letter::Arrived => 5,
-        Letter::Ready => 6,
-        Letter::Moves => 7,
-        Letter::Retries => 8,
-        Letter::Replaces => 9,
-        Letter::Moved => 10,
-    }
-}
-
-/// The number of the letter that leads a drive in a column.
-#[tactic(auto, unfolding(crate::specs::Tables::lead_in))]
-fn lead_in(column: &Column, unit: u8) -> u64
-    ensures { result ≡ lead_in unit column.now }
-{
-    number_of(lead(&cell_at(column, unit).tally, column.head.events))
-}
-
-/// The letters that lead a drive in columns, as numbers.
-fn lead_keys(alloc: Global, columns: &[Column], unit: u8) -> Result<Vec<u64>, AllocError>
-    ensures { IfOk result (λ keys. keys.items ≡ map (lead_in unit) columns.now) }
-{
-    let mut keys = Vec::new(alloc);
-    for column in columns.iter() {
-        keys.push(lead_in(column, unit))?;
-    }
-    Ok(keys)
 }
 
 /// The letter that leads a drive in a column of a number.
@@ -226,8 +180,8 @@ fn draw_leads(
     ensures stands { OnOk result (out.new.stands ≡ out.old.stands) }
     ensures text { OnOk result (out.new.text ≡ with_leads scene.now unit from to y out.old.text) }
 {
-    let keys = lead_keys(alloc, columns_in(scene, from, to), unit)?;
-    for stretch in stretches(alloc, keys.as_slice())?.iter() {
+    let columns = columns_in(scene, from, to);
+    for stretch in stretches_by(alloc, columns, Key::Lead(unit))?.iter() {
         draw_lead(out, scene, unit, from, *stretch, y)?;
     }
     Ok(())
@@ -310,6 +264,40 @@ fn draw_numbers(
     out.text_number(turn, at(add(beside, ENDS[5]), y), request.turn)
 }
 
+/// The group of a request begins, with its tooltip and the line below it.
+#[tactic(auto, unfolding(crate::specs::Tables::with_begun, picture_scene::specs::Groups::with_group))]
+fn begin_request(
+    out: &mut Markup<'_>,
+    right: u32,
+    request: &Request,
+    y: u32,
+) -> Result<(), AllocError>
+    ensures stands { OnOk result (out.new.stands ≡ started Group out.old.stands) }
+    ensures text { OnOk result (out.new.text ≡ with_begun right request.now y out.old.text) }
+{
+    let class = "g";
+    let from = at(LEFT, add(y, 12));
+    let route = Route::Across { from, to: right };
+    let id = u64::from(request.id);
+    let line = u64::from(request.line);
+    let ended_line = u64::from(request.ended_line);
+    let outcome = outcome_word(request.outcome);
+    out.put_all(&[
+        Piece::Start(Start::Group),
+        Piece::Start(Start::Title),
+        Piece::Word("request "),
+        Piece::Number(id),
+        Piece::Word(": asked at line "),
+        Piece::Number(line),
+        Piece::Word(", answered at line "),
+        Piece::Number(ended_line),
+        Piece::Word(": "),
+        Piece::Word(outcome),
+        Piece::End(Element::Title),
+        Piece::Path { class, route },
+    ])
+}
+
 /// A request.
 #[tactic(auto, unfolding(crate::specs::Tables::with_request))]
 fn draw_request(
@@ -322,12 +310,7 @@ fn draw_request(
     ensures stands { OnOk result (out.new.stands ≡ out.old.stands) }
     ensures text { OnOk result (out.new.text ≡ with_request scene.now request.now y out.old.text) }
 {
-    let from = at(LEFT, add(y, 12));
-    let to = scene.frame.right;
-    begin_group(out)?;
-    put_tip(out, request)?;
-    end_title(out)?;
-    out.path("g", Route::Across { from, to })?;
+    begin_request(out, scene.frame.right, request, y)?;
     draw_asking(out, request, y)?;
     draw_wait(out, scene, request, y)?;
     draw_hand(alloc, out, scene, request, y)?;

@@ -13,7 +13,8 @@ use Rattle.picture_scene.specs.Frames.{point, add, x_of}
 use Rattle.picture_scene.specs.Groups.{Row}
 use Rattle.picture_scene.specs.Scenes.{cell_in}
 use Rattle.drive_pictures.specs.declared.cells.Tally.{Tally}
-use Rattle.picture_axes.specs.Adapters.{together_in, together_of}
+use Rattle.picture_axes.specs.Adapters.{together_of}
+use Rattle.picture_scene.specs.Keys.{together_in}
 use Rattle.picture_arms.specs.Arms.{points_of, path_points, column_points}
 use Rattle.picture_axes.specs.Axes.{with_event}
 use Rattle.picture_motion.specs.Ribbons.{with_motion, with_stretch}
