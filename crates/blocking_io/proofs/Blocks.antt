@@ -5,8 +5,8 @@ use Rattle.main_memory.specs.Blocks.{size_at}
 use Rattle.main_memory.specs.Bytes.{filled}
 use Rattle.main_memory.specs.Bytes.{front}
 use Rattle.main_memory.proofs.ByteLaws.{front-filled}
-use Rattle.subsystem_spec.specs.declared.answers.AnswerKind.{AnswerKind}
-use Rattle.subsystem_spec.specs.declared.answers.AnswerKind.TheVariants.{ReadOk}
+use Rattle.trace_replay.specs.declared.requests.answers.AnswerKind.{AnswerKind}
+use Rattle.trace_replay.specs.declared.requests.answers.AnswerKind.TheVariants.{ReadOk}
 use Rattle.driver_machine.specs.declared.Made.{Made}
 use Rattle.driver_machine.specs.World.{World, Held, held_in, slot_at, block_in}
 use Rattle.driver_machine.specs.Refusals.{refuses}

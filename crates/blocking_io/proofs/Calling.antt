@@ -3,7 +3,7 @@ use Rattle.std.proofs.Common.{◌≡◌, ℕ, Bool, true, false, IsTrue, List, [
 use Rattle.pack_geometry.specs.Pack.{Pack, empty_pack}
 use Rattle.outside_traits.specs.Puts.{TakesFront}
 use Rattle.hardware_table.specs.declared.Moved.TheVariants as verdict
-use Rattle.subsystem_spec.specs.Requests.{Request}
+use Rattle.trace_replay.specs.requests.Requests.{Request}
 use Rattle.trace_replay.specs.Script.{Input}
 use Rattle.trace_replay.specs.Text.{trace_text}
 use Rattle.driver_machine.specs.World.{World}

@@ -8,7 +8,7 @@ use Rattle.pack_geometry.specs.declared.DriveKind.{DriveKind}
 use Rattle.partitions.specs.declared.Part.{Part}
 use Rattle.partitions.specs.declared.Admission.TheVariants.{Inside}
 use Rattle.partitions.specs.Partitions.{first_of, size_of, admission}
-use Rattle.subsystem_spec.specs.Requests.{Request, IsRequest, Answer, ReadOk, WriteOk}
+use Rattle.trace_replay.specs.requests.Requests.{Request, IsRequest, Answer, ReadOk, WriteOk}
 use Rattle.trace_replay.specs.Moments.{Moment}
 use Rattle.driver_laws.specs.rules.Machine.{Blocks, kind_of, bytes_of_first, blocks_done, blocks_after, done_in}
 use Rattle.driver_laws.specs.rules.Stands.{Setup}

@@ -11,8 +11,8 @@ use Rattle.pack_geometry.specs.Pack as model
 use Rattle.pack_geometry.specs.Content.{bytes_at}
 use Rattle.pack_geometry.specs.Homes.{home_of, content_at}
 use Rattle.pack_geometry.proofs.HomeLaws.{home_below}
-use Rattle.subsystem_spec.specs.ServiceOrder.{Waiting as Waiter}
-use Rattle.subsystem_spec.specs.Requests.{Request, IsRequest, first_block, Answer, ReadOk, WriteOk, OutsidePartition, EndOfPartition, NoFrames, Failed}
+use Rattle.trace_replay.specs.requests.ServiceOrder.{Waiting as Waiter}
+use Rattle.trace_replay.specs.requests.Requests.{Request, IsRequest, first_block, Answer, ReadOk, WriteOk, OutsidePartition, EndOfPartition, NoFrames, Failed}
 use Rattle.trace_replay.specs.Script.{Submit, Drain, IsThere}
 use Rattle.trace_replay.specs.Moments.{Moment, Played, Answered}
 use Rattle.trace_replay.specs.Packs.{Surface}

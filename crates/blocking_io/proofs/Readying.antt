@@ -12,7 +12,7 @@ use Rattle.driver_laws.specs.answers.Outcome.{stop_in}
 use Rattle.driver_laws.specs.answers.Counts.{in_use}
 use Rattle.driver_laws.proofs.answers.Slots.{none_ended}
 use Rattle.hp_driver.specs.Passes.{HasCauses}
-use Rattle.subsystem_spec.specs.declared.request.Request.{Request}
+use Rattle.trace_replay.specs.declared.requests.request.Request.{Request}
 use Rattle.hp_driver.specs.Subsystem.{State, IsAsked}
 use Rattle.blocking_io.specs.Asking.{MayAsk}
 

@@ -2,8 +2,8 @@
 use Rattle.std.proofs.Common.{◌≡◌, ℕ, ◌<◌, List, [], ◌∷◌, length, map, drop, sym, ap, subst, arith, ◌∙◌, refl, Option, None, Some}
 use Rattle.std.specs.Prelude.{IfSome}
 use Rattle.trace_replay.specs.Moments.{Answered}
-use Rattle.subsystem_spec.specs.declared.answers.Answer.{Answer}
-use Rattle.subsystem_spec.specs.declared.answers.AnswerKind.{AnswerKind}
+use Rattle.trace_replay.specs.declared.requests.answers.Answer.{Answer}
+use Rattle.trace_replay.specs.declared.requests.answers.AnswerKind.{AnswerKind}
 use Rattle.driver_machine.specs.declared.Made.{Made}
 use Rattle.driver_machine.specs.World.{World}
 use Rattle.driver_machine.specs.Acts.{Taken, after, after_all}

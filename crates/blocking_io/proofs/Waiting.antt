@@ -4,7 +4,7 @@ use Rattle.std.proofs.lemmas.Option.{none-some, same_Some}
 use Rattle.std.proofs.lemmas.Grind.{flat_map-append}
 use Rattle.pack_geometry.specs.declared.DriveKind.{DriveKind}
 use Rattle.pack_geometry.specs.Pack.{Pack}
-use Rattle.subsystem_spec.specs.Requests.{Request, IsRequest}
+use Rattle.trace_replay.specs.requests.Requests.{Request, IsRequest}
 use Rattle.trace_replay.specs.Moments.{Moment, Answered, played, answers_in}
 use Rattle.trace_replay.specs.Script as script
 use Rattle.trace_replay.specs.Script.{Input}

@@ -1,8 +1,8 @@
 -- A REQUEST THAT IS WAITED FOR, as its callers see it: over the driver's world and the packs before and after.
 use Rattle.std.specs.Prelude.{◌≡◌, ℕ, ◌≤◌, false, IsTrue, List, [], ◌++◌, Some}
 use Rattle.pack_geometry.specs.Pack.{block_at}
-use Rattle.subsystem_spec.specs.Requests as told
-use Rattle.subsystem_spec.specs.Requests.{IsRequest}
+use Rattle.trace_replay.specs.requests.Requests as told
+use Rattle.trace_replay.specs.requests.Requests.{IsRequest}
 use Rattle.trace_replay.specs.Moments.{Moment}
 use Rattle.trace_replay.specs.Text.{trace_text}
 use Rattle.trace_replay.specs.Replay.{Replay, IsOver}
@@ -13,7 +13,7 @@ use Rattle.driver_laws.specs.rules.Sessions.{IsSession, behind_all, waited}
 use Rattle.driver_laws.specs.rules.Rest.{HasTables}
 use Rattle.driver_laws.specs.rules.Waited.{map_of, answer_in, map_behind, with_packs}
 use Rattle.hp_driver.specs.Passes.{IsQuiet, setup_of, StandsQuiet}
-use Rattle.subsystem_spec.specs.declared.request.Request.{Request}
+use Rattle.trace_replay.specs.declared.requests.request.Request.{Request}
 use Rattle.hp_driver.specs.Subsystem.{State, asked}
 use Rattle.blocking_io.specs.Given.{reached_by, bytes_by}
 use Rattle.blocking_io.specs.Calls.{Stage}

@@ -2,7 +2,7 @@
 use Rattle.std.specs.Prelude.{◌≡◌, ◌≢◌, ℕ, ◌+◌, ◌<◌, ◌≤◌, min, List, IsSome}
 use Rattle.pack_geometry.specs.declared.DriveKind.{DriveKind}
 use Rattle.partitions.specs.Partitions.{first_of, size_of}
-use Rattle.subsystem_spec.specs.Requests.{Request}
+use Rattle.trace_replay.specs.requests.Requests.{Request}
 use Rattle.driver_laws.specs.rules.Machine.{blocks_done, bytes_of_first}
 use Rattle.driver_laws.specs.rules.Laid.{laid}
 use Rattle.driver_laws.specs.rules.Pieces.{Reaches}

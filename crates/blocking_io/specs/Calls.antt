@@ -3,7 +3,7 @@ use Rattle.std.specs.Prelude.{◌≡◌, ◌⊎◌, ◌≤◌, ℕ, Bool, true, 
 use Rattle.pack_geometry.specs.Pack.{Pack}
 use Rattle.outside_traits.specs.Causes.{Rose}
 use Rattle.outside_traits.specs.Puts.{TakesFront}
-use Rattle.subsystem_spec.specs.Requests as told
+use Rattle.trace_replay.specs.requests.Requests as told
 use Rattle.trace_replay.specs.Script.{Input}
 use Rattle.trace_replay.specs.Text.{trace_text}
 use Rattle.driver_machine.specs.World.{World, Held, unit_at}

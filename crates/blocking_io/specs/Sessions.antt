@@ -1,6 +1,6 @@
 -- REQUESTS ONE AFTER ANOTHER: what each is promised of the driver and the packs before it joins to what is promised of them all.
 use Rattle.std.specs.Prelude.{◌≡◌, ℕ, IsTrue, List, ◌++◌}
-use Rattle.subsystem_spec.specs.Requests.{Request}
+use Rattle.trace_replay.specs.requests.Requests.{Request}
 use Rattle.trace_replay.specs.Text.{trace_text}
 use Rattle.trace_replay.specs.Replay.{Replay}
 use Rattle.driver_laws.specs.declared.answers.outcome.Stop.{Stop}

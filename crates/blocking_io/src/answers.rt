@@ -1,6 +1,6 @@
 // The answers that wait are given to the caller, and taken.
 ghost use Rattle.std.specs.Prelude.{◌≡◌, ◌+◌, ◌*◌, ◌==◌, ◌<◌, ◌≤◌, [], if◌then◌else◌, take, slice_index_or};
-ghost use Rattle.subsystem_spec.specs.declared.answers.AnswerKind.TheVariants.{ReadOk};
+ghost use Rattle.trace_replay.specs.declared.requests.answers.AnswerKind.TheVariants.{ReadOk};
 ghost use Rattle.driver_machine.specs.World.{bytes_in};
 ghost use Rattle.driver_machine.specs.Lines.{answer_told};
 ghost use Rattle.driver_laws.specs.answers.Waiting.{waiting, all_taken};

@@ -4,7 +4,7 @@ use Rattle.std.specs.Prelude.{if◌then◌else◌, None, Some}
 use Rattle.std.proofs.lemmas.Bool.Decides.{eqb_tells}
 use Rattle.partitions.specs.declared.Part.TheVariants.{C}
 use Rattle.partitions.specs.Partitions.{first_of}
-use Rattle.subsystem_spec.specs.Requests.{Request}
+use Rattle.trace_replay.specs.requests.Requests.{Request}
 use Rattle.driver_laws.specs.rules.Machine.{blocks_done}
 use Rattle.driver_laws.specs.rules.Sessions.{waited}
 use Rattle.driver_laws.specs.rules.Rest.{HasTables}

@@ -1,6 +1,6 @@
 -- Requests one behind the other.
 use Rattle.std.proofs.Common.{◌≡◌, ℕ, List, [], ◌∷◌, ◌++◌, refl, sym, ap, ◌∙◌, subst, append-nil, append_assoc}
-use Rattle.subsystem_spec.specs.Requests.{Request}
+use Rattle.trace_replay.specs.requests.Requests.{Request}
 use Rattle.driver_laws.specs.rules.Sessions.{waited}
 use Rattle.blocking_io.specs.FrontsPasses.{Stage, setup_at, GoesOn, StillTell, SessionsJoin}
 use Rattle.blocking_io.specs.Sites.{map_at}

@@ -13,7 +13,7 @@ use Rattle.buffer_cache.specs.Passes.{StillTell, SessionsJoin}
 use Rattle.buffer_cache.specs.Passes.{map_at, left_map, IsUntouched}
 use Rattle.buffer_cache.proofs.Passes.{others_over, left_over}
 use Rattle.buffer_cache.proofs.Passes.{kind_stays}
-use Rattle.subsystem_spec.specs.Requests.{Request}
+use Rattle.trace_replay.specs.requests.Requests.{Request}
 use Rattle.driver_laws.specs.declared.rules.cached.Entry.{Entry}
 use Rattle.driver_laws.specs.rules.Requests.{Map, reads, behind_one, behind}
 use Rattle.driver_laws.specs.rules.Entries.{State, is_of, entry_of, IsCache, in_front, rewritten, unchanged, last_unchanged, written_last, to_write_back, with_room, put, write_backs}

@@ -1,7 +1,7 @@
 -- REQUESTS FOR SINGLE BLOCKS that are waited for, one after another at one line: the lines that they tell, and what they leave.
 use Rattle.std.specs.Prelude.{◌≡◌, ◌⊎◌, ℕ, ◌<◌, IsTrue, List, [], ◌∷◌, ◌++◌, Option, None, Some, Bool, if◌then◌else◌}
 use Rattle.pack_geometry.specs.Geometry.{limit_of}
-use Rattle.subsystem_spec.specs.Requests.{Request}
+use Rattle.trace_replay.specs.requests.Requests.{Request}
 use Rattle.trace_replay.specs.Moments.{Moment}
 use Rattle.driver_machine.specs.World.{World}
 use Rattle.driver_machine.specs.Guards.{IsSetUp}

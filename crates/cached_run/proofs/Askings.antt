@@ -4,19 +4,19 @@ use Rattle.pack_geometry.specs.declared.DriveKind.{DriveKind}
 use Rattle.partitions.specs.declared.Part.TheVariants.{C}
 use Rattle.partitions.specs.declared.Admission.TheVariants.{Inside, Eof, Outside}
 use Rattle.partitions.specs.Partitions.{admission, first_of}
-use Rattle.subsystem_spec.specs.declared.answers.AnswerKind.{AnswerKind}
-use Rattle.subsystem_spec.specs.declared.answers.AnswerKind.TheVariants as answer
-use Rattle.subsystem_spec.specs.declared.answers.Cause.TheVariants as cause
+use Rattle.trace_replay.specs.declared.requests.answers.AnswerKind.{AnswerKind}
+use Rattle.trace_replay.specs.declared.requests.answers.AnswerKind.TheVariants as answer
+use Rattle.trace_replay.specs.declared.requests.answers.Cause.TheVariants as cause
 use Rattle.buffer_cache.specs.Passes.{Stage}
 use Rattle.buffer_cache.specs.Passes.{map_at}
 use Rattle.driver_laws.specs.rules.Requests.{Map}
 use Rattle.driver_laws.specs.rules.Entries.{State}
 use Rattle.driver_laws.specs.rules.Contents.{cached}
 use Rattle.buffer_cache.specs.Calls.{IfTold}
-use Rattle.cached_script.specs.declared.statement.Asked.{Asked}
+use Rattle.script_reader.specs.declared.cached.statement.Asked.{Asked}
 use Rattle.cached_run.specs.Answers.{Replacement, replaced_with}
 use Rattle.cached_run.specs.Leaving.{Leaves, Makes, AreRead, Does, usable_in, spread}
-use Rattle.cached_script.specs.Meaning.{request_of, filled, one_filled}
+use Rattle.script_reader.specs.cached.Meaning.{request_of, filled, one_filled}
 use Rattle.cached_run.specs.Saying.{kind_by, IsSaid}
 use Rattle.cached_run.proofs.Leavings.{leaves_none, makes_none}
 use Rattle.cached_run.proofs.Sayings.{outside_said, eof_said, asked_read, asked_write, spread_is, none_outside, none_eof}

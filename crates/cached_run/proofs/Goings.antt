@@ -6,8 +6,8 @@ use Rattle.outside_traits.specs.Causes.{Rose}
 use Rattle.outside_traits.specs.Puts.{TakesFront}
 use Rattle.outside_traits.proofs.GatherLaws.{rose_more}
 use Rattle.pack_geometry.specs.declared.DriveKind.TheVariants.{Rp06}
-use Rattle.subsystem_spec.specs.Requests.{Request}
-use Rattle.subsystem_spec.specs.declared.answers.AnswerKind.{AnswerKind}
+use Rattle.trace_replay.specs.requests.Requests.{Request}
+use Rattle.trace_replay.specs.declared.requests.answers.AnswerKind.{AnswerKind}
 use Rattle.trace_replay.specs.Script.{Submit, Drain, Numbered}
 use Rattle.driver_laws.specs.rules.Machine.{Blocks, kind_of}
 use Rattle.driver_laws.specs.rules.Stands.{Setup}
@@ -15,7 +15,7 @@ use Rattle.driver_machine.specs.World.{unit_at}
 use Rattle.driver_machine.specs.Guards.{IsSetUp}
 use Rattle.driver_laws.specs.rules.Rest.{HasTables}
 use Rattle.driver_laws.specs.rules.Waited.{map_of, with_packs}
-use Rattle.answer_lines.specs.AnswerText.{answer_text}
+use Rattle.trace_lines.specs.answers.AnswerText.{answer_text}
 use Rattle.buffer_cache.specs.Passes.{Stage}
 use Rattle.buffer_cache.specs.Passes.{setup_at}
 use Rattle.buffer_cache.specs.Passes.{kind_if}

@@ -6,13 +6,13 @@ use Rattle.std.proofs.lemmas.Grind.{flat_map-append}
 use Rattle.pack_geometry.specs.declared.DriveKind.{DriveKind}
 use Rattle.partitions.specs.declared.Admission.{Admission}
 use Rattle.partitions.specs.declared.Admission.TheVariants.{Inside, Eof, Outside}
-use Rattle.subsystem_spec.specs.Requests.{Request, ReadOk, WriteOk}
+use Rattle.trace_replay.specs.requests.Requests.{Request, ReadOk, WriteOk}
 use Rattle.trace_replay.specs.Script.{Input, Submit, ArriveAt, MoveAt, AttendTo, Drain, Turn, Noise, Arm, SetOnline, SetLocked, Numbered}
 use Rattle.trace_replay.specs.Moments.{Answered}
 use Rattle.trace_replay.specs.Packs.{sector_of_block}
 use Rattle.driver_laws.specs.rules.Machine.{Blocks, bytes_of_first, blocks_done, blocks_after, done_in}
 use Rattle.driver_laws.proofs.rules.Blocks.{begun_blocks, read_blocks, block_done, other_blocks}
-use Rattle.answer_lines.specs.AnswerText.{answer_text}
+use Rattle.trace_lines.specs.answers.AnswerText.{answer_text}
 use Rattle.driver_laws.specs.rules.Waited.{first_unusable, answer_by, answer_at, map_at}
 use Rattle.cached_run.specs.Answers.{met_by, first_by, with_answer, map_by, answers_of, map_of_inputs, text_of, replaced, usable_of, replaced_at, replaced_by, replacements_of, with_replacement, after}
 use Rattle.cached_run.proofs.Replacings.{after_more, same_map}

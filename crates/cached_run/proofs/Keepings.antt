@@ -4,7 +4,7 @@ use Rattle.std.specs.Prelude.{Err, None}
 use Rattle.pack_geometry.specs.declared.DriveKind.{DriveKind}
 use Rattle.pack_geometry.specs.declared.DriveKind.TheVariants.{Rp06, Rm03, Rm05}
 use Rattle.pack_geometry.specs.Geometry.{limit_of}
-use Rattle.subsystem_spec.specs.Requests.{Request}
+use Rattle.trace_replay.specs.requests.Requests.{Request}
 use Rattle.driver_laws.specs.rules.Stands.{Setup}
 use Rattle.driver_laws.specs.rules.Waited.{with_packs}
 use Rattle.buffer_cache.specs.Passes.{Stage}

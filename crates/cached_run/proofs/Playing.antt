@@ -3,11 +3,11 @@ use Rattle.std.proofs.Common.{◌≡◌, ℕ, ◌≤◌, List, [], ◌∷◌, �
 use Rattle.trace_replay.specs.Script.{Numbered, Script, with_input, inputs_of}
 use Rattle.driver_machine.specs.World.{World}
 use Rattle.driver_laws.specs.rules.Entries.{State}
-use Rattle.cached_script.specs.declared.statement.Statement.{Statement as Says}
-use Rattle.cached_script.specs.declared.statement.Line.{Line as Said}
+use Rattle.script_reader.specs.declared.cached.statement.Statement.{Statement as Says}
+use Rattle.script_reader.specs.declared.cached.statement.Line.{Line as Said}
 use Rattle.cached_run.specs.Going.{Scene, IsFar, GoesOn, Halts, HaltsScript}
 use Rattle.cached_run.specs.Lines.{MayPlay, input_at}
-use Rattle.cached_script.specs.Meaning.{statement_of}
+use Rattle.script_reader.specs.cached.Meaning.{statement_of}
 
 -- a line with no input
 pub goes_none : (s : State) (here : Scene) → GoesOn [] s s here here

@@ -9,23 +9,23 @@ use Rattle.partitions.specs.declared.Part.TheVariants.{C}
 use Rattle.partitions.specs.declared.Admission.{Admission}
 use Rattle.partitions.specs.declared.Admission.TheVariants.{Inside, Eof, Outside}
 use Rattle.partitions.specs.Partitions.{admission, first_of}
-use Rattle.subsystem_spec.specs.Requests.{Request, Answer, ReadOk, WriteOk, OutsidePartition, EndOfPartition, Failed, Unforwarded}
-use Rattle.subsystem_spec.specs.declared.answers.AnswerKind.{AnswerKind}
-use Rattle.subsystem_spec.specs.declared.answers.AnswerKind.TheVariants as answer
-use Rattle.subsystem_spec.specs.declared.answers.Cause.{Cause}
-use Rattle.subsystem_spec.specs.declared.answers.Cause.TheVariants as cause
+use Rattle.trace_replay.specs.requests.Requests.{Request, Answer, ReadOk, WriteOk, OutsidePartition, EndOfPartition, Failed, Unforwarded}
+use Rattle.trace_replay.specs.declared.requests.answers.AnswerKind.{AnswerKind}
+use Rattle.trace_replay.specs.declared.requests.answers.AnswerKind.TheVariants as answer
+use Rattle.trace_replay.specs.declared.requests.answers.Cause.{Cause}
+use Rattle.trace_replay.specs.declared.requests.answers.Cause.TheVariants as cause
 use Rattle.trace_replay.specs.Packs.{sector_of_block}
 use Rattle.driver_laws.specs.rules.Machine.{Blocks, bytes_or_none, bytes_of_first}
 use Rattle.driver_laws.specs.rules.Waited.{first_unusable, answer_by, answer_at}
-use Rattle.answer_lines.specs.AnswerText.{answer_line, answer_text, block_texts}
-use Rattle.answer_lines.specs.Blocks.{joined, AreBlocks}
-use Rattle.answer_lines.proofs.TextLaws.{blocks_said}
+use Rattle.trace_lines.specs.answers.AnswerText.{answer_line, answer_text, block_texts}
+use Rattle.trace_lines.specs.answers.Blocks.{joined, AreBlocks}
+use Rattle.trace_lines.proofs.answers.TextLaws.{blocks_said}
 use Rattle.buffer_cache.proofs.Passes.{first_is}
 use Rattle.driver_laws.specs.rules.Requests.{Map}
-use Rattle.cached_script.specs.declared.statement.Asked.{Asked}
+use Rattle.script_reader.specs.declared.cached.statement.Asked.{Asked}
 use Rattle.cached_run.specs.Answers.{answer_with, replaced, usable_of, replaced_at, replaced_with}
 use Rattle.cached_run.specs.Leaving.{AreRead, usable_in, spread}
-use Rattle.cached_script.specs.Meaning.{filled, one_filled, request_of}
+use Rattle.script_reader.specs.cached.Meaning.{filled, one_filled, request_of}
 use Rattle.cached_run.specs.Saying.{AreLong, IsSaid, kind_by, GivesAmong}
 
 -- ---- with no blocks

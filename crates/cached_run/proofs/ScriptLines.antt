@@ -3,20 +3,20 @@ use Rattle.std.proofs.Common.{◌≡◌, inl, inr, ℕ, suc, ◌+◌, ◌*◌, �
 use Rattle.std.specs.Prelude.{slice_index_or}
 use Rattle.std.proofs.lemmas.Option.{none-some, same_Some}
 use Rattle.std.proofs.lemmas.List.{take_all, length-replicate}
-use Rattle.subsystem_spec.specs.Requests.{IsRequest}
+use Rattle.trace_replay.specs.requests.Requests.{IsRequest}
 use Rattle.trace_replay.specs.Script.{Statement, Declares, Plays, Numbered, Drain, drives_in, with_input, inputs_before, inputs_of}
 use Rattle.driver_machine.specs.World.{World}
 use Rattle.script_runs.specs.Steps.{AreUnits}
 use Rattle.script_runs.proofs.Attached.{drives-append, first_some}
 use Rattle.script_runs.proofs.LineLaws.{inputs_append, inputs_end}
-use Rattle.cached_script.specs.declared.statement.Asked.{Asked}
-use Rattle.cached_script.specs.declared.statement.Statement.{Statement as Says}
-use Rattle.cached_script.specs.declared.statement.Statement.TheVariants as says
-use Rattle.cached_script.specs.declared.statement.Line.{Line as Said}
-use Rattle.cached_script.specs.Scripts as cached
-use Rattle.cached_script.specs.Scripts.{known_of}
-use Rattle.cached_script.specs.Formed.{IsAsked, IsWell, AreWell, IsScript}
-use Rattle.cached_script.specs.Meaning.{filled, request_of, statement_of, line_of, lines_before, meaning_of}
+use Rattle.script_reader.specs.declared.cached.statement.Asked.{Asked}
+use Rattle.script_reader.specs.declared.cached.statement.Statement.{Statement as Says}
+use Rattle.script_reader.specs.declared.cached.statement.Statement.TheVariants as says
+use Rattle.script_reader.specs.declared.cached.statement.Line.{Line as Said}
+use Rattle.script_reader.specs.cached.Scripts as cached
+use Rattle.script_reader.specs.cached.Scripts.{known_of}
+use Rattle.script_reader.specs.cached.Formed.{IsAsked, IsWell, AreWell, IsScript}
+use Rattle.script_reader.specs.cached.Meaning.{filled, request_of, statement_of, line_of, lines_before, meaning_of}
 use Rattle.script_runs.proofs.CachedLines.{some_declared, here_is, lines_more, lines_split}
 use Rattle.cached_run.specs.Lines.{inputs_till, input_at, MayAsk, MayPlay, KeepsUnits}
 use Rattle.cached_run.proofs.Legal.{AreAskedWell}

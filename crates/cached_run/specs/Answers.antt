@@ -5,13 +5,13 @@ use Rattle.pack_geometry.specs.declared.DriveKind.{DriveKind}
 use Rattle.partitions.specs.declared.Admission.{Admission}
 use Rattle.partitions.specs.declared.Admission.TheVariants.{Inside, Eof, Outside}
 use Rattle.partitions.specs.Partitions.{admission}
-use Rattle.subsystem_spec.specs.Requests.{Request, Answer, first_block}
+use Rattle.trace_replay.specs.requests.Requests.{Request, Answer, first_block}
 use Rattle.trace_replay.specs.Script.{Input, Submit, Numbered}
 use Rattle.trace_replay.specs.Moments.{Answered}
 use Rattle.trace_replay.specs.Packs.{sector_of_block}
 use Rattle.driver_laws.specs.rules.Machine.{Blocks, kind_of}
 use Rattle.driver_laws.specs.rules.Waited.{first_unusable, answer_at, map_at}
-use Rattle.answer_lines.specs.AnswerText.{answer_text}
+use Rattle.trace_lines.specs.answers.AnswerText.{answer_text}
 
 -- what a request meets, and its first block
 abbrev pub met_by : (ℕ → Option DriveKind) → Request → Admission

@@ -3,12 +3,12 @@ use Rattle.std.specs.Prelude.{◌≡◌, ℕ, ◌≤◌, List, [], length}
 use Rattle.trace_replay.specs.Script.{Numbered, inputs_before, with_input}
 use Rattle.driver_machine.specs.World.{World}
 use Rattle.driver_machine.specs.Guards.{IsSetUp}
-use Rattle.cached_script.specs.declared.statement.Asked.{Asked}
-use Rattle.cached_script.specs.declared.statement.Statement.{Statement}
-use Rattle.cached_script.specs.declared.statement.Statement.TheVariants as says
-use Rattle.cached_script.specs.declared.statement.Line.{Line as Said}
-use Rattle.cached_script.specs.Scripts as cached
-use Rattle.cached_script.specs.Meaning.{lines_before, statement_of}
+use Rattle.script_reader.specs.declared.cached.statement.Asked.{Asked}
+use Rattle.script_reader.specs.declared.cached.statement.Statement.{Statement}
+use Rattle.script_reader.specs.declared.cached.statement.Statement.TheVariants as says
+use Rattle.script_reader.specs.declared.cached.statement.Line.{Line as Said}
+use Rattle.script_reader.specs.cached.Scripts as cached
+use Rattle.script_reader.specs.cached.Meaning.{lines_before, statement_of}
 
 -- the inputs of those before one
 abbrev pub inputs_till : cached.Script → ℕ → List Numbered

@@ -2,11 +2,11 @@
 use Rattle.std.specs.Prelude.{◌≡◌, ℕ, ◌≤◌, nat_lt, if◌then◌else◌, List, length, Some}
 use Rattle.pack_geometry.specs.declared.DriveKind.{DriveKind}
 use Rattle.driver_laws.specs.rules.Machine.{Blocks}
-use Rattle.subsystem_spec.specs.Requests.{Request}
-use Rattle.subsystem_spec.specs.declared.answers.AnswerKind.{AnswerKind}
-use Rattle.subsystem_spec.specs.declared.answers.AnswerKind.TheVariants as answer
-use Rattle.subsystem_spec.specs.declared.answers.Cause.TheVariants as cause
-use Rattle.answer_lines.specs.AnswerText.{answer_text}
+use Rattle.trace_replay.specs.requests.Requests.{Request}
+use Rattle.trace_replay.specs.declared.requests.answers.AnswerKind.{AnswerKind}
+use Rattle.trace_replay.specs.declared.requests.answers.AnswerKind.TheVariants as answer
+use Rattle.trace_replay.specs.declared.requests.answers.Cause.TheVariants as cause
+use Rattle.trace_lines.specs.answers.AnswerText.{answer_text}
 use Rattle.script_runs.specs.Saying.{said_text}
 use Rattle.cached_run.specs.Answers.{answer_with}
 

@@ -7,11 +7,11 @@ ghost use Rattle.script_runs.specs.Faults.{HaveTold};
 ghost use Rattle.cached_run.specs.Faults.{IsCaused};
 ghost use Rattle.cached_run.specs.Going.{scene, GoesOn, Halts, SyncGoesOn, SyncHalts};
 ghost use Rattle.cached_run.specs.Lines.{MayAsk, MayPlay, IsRoomy, KeepsUnits, input_at};
-ghost use Rattle.cached_script.specs.Meaning.{request_of, filled};
+ghost use Rattle.script_reader.specs.cached.Meaning.{request_of, filled};
 
 use crate::requests::{read_asked, write_asked};
 use buffer_cache::{Cache, Subsystem};
-use cached_script::{Asked, Line, Statement};
+use script_reader::cached::{Asked, Line, Statement};
 use outside_traits::traits::{Packs, Sink};
 use script_runs::PlayFault;
 use script_runs::desk::{Desk, write_answer};

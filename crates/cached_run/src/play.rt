@@ -13,13 +13,13 @@ ghost use Rattle.script_runs.specs.Faults.{IsBefore, IsPlaying, IsLongFor, Rise}
 ghost use Rattle.cached_run.specs.Faults.{IsCaused};
 ghost use Rattle.cached_run.specs.Going.{scene, IsFar, HaltsScript};
 ghost use Rattle.cached_run.specs.Lines.{IsRoomy};
-ghost use Rattle.cached_script.specs.Meaning.{meaning_of};
+ghost use Rattle.script_reader.specs.cached.Meaning.{meaning_of};
 ghost use Rattle.cached_run.specs.Theorem.{CachedPlays, CachedLeaves};
 
 use crate::bench::Bench;
 use crate::lines::{play_line, play_sync};
 use buffer_cache::{Cache, Subsystem};
-use cached_script::CachedScript;
+use script_reader::cached::CachedScript;
 use outside_traits::traits::{Packs, Sink};
 use script_runs::desk::Desk;
 use script_runs::{PlayFault, attach_cached};

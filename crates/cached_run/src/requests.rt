@@ -10,16 +10,16 @@ ghost use Rattle.buffer_cache.specs.Calls.{MayUse, IfTold};
 ghost use Rattle.cached_run.specs.Answers.{replaced_with};
 ghost use Rattle.cached_run.specs.Leaving.{Leaves, KeepsSetup, Does};
 ghost use Rattle.cached_run.specs.Lines.{MayAsk};
-ghost use Rattle.cached_script.specs.Meaning.{request_of, filled, one_filled};
+ghost use Rattle.script_reader.specs.cached.Meaning.{request_of, filled, one_filled};
 ghost use Rattle.cached_run.specs.Saying.{kind_by, IsSaid, GivesAmong};
 
 use crate::transfers::{read_blocks, write_blocks};
 use buffer_cache::{Cache, Subsystem};
-use cached_script::Asked;
+use script_reader::cached::Asked;
 use driver_laws::answers::outcome::Stop;
 use outside_traits::traits::{Packs, Sink};
 use partitions::{Admission, Part, admit};
-use subsystem_spec::{AnswerKind, Cause};
+use trace_replay::requests::{AnswerKind, Cause};
 
 /// How a request is answered of whose blocks so many were done, with the kind that it has where all were.
 fn answered(done: u32, count: u32, whole: AnswerKind) -> AnswerKind
@@ -50,7 +50,7 @@ fn met(subsystem: &Subsystem, asked: &Asked) -> Admission
 }
 
 /// A block all of whose bytes are this one.
-#[tactic(auto, unfolding(cached_script::specs::Meaning::one_filled))]
+#[tactic(auto, unfolding(script_reader::specs::cached::Meaning::one_filled))]
 fn filled_block(fill: u8) -> [u8; 512]
     ensures { result ≡ one_filled fill }
 {

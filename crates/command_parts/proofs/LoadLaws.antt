@@ -10,10 +10,10 @@ use Rattle.script_reader.specs.declared.fault.ReadFault.TheVariants as reading
 use Rattle.script_reader.specs.Grammar as play
 use Rattle.script_reader.specs.Lines.{lines_of}
 use Rattle.script_reader.specs.Reading.{Refuses}
-use Rattle.cached_script.specs.Scripts as cached
-use Rattle.cached_script.specs.declared.kind.CachedRefusal.{CachedRefusal}
-use Rattle.cached_script.specs.declared.kind.CachedRefusal.TheVariants as refusal
-use Rattle.cached_script.specs.declared.statement.Line.{Line}
+use Rattle.script_reader.specs.cached.Scripts as cached
+use Rattle.script_reader.specs.declared.cached.kind.CachedRefusal.{CachedRefusal}
+use Rattle.script_reader.specs.declared.cached.kind.CachedRefusal.TheVariants as refusal
+use Rattle.script_reader.specs.declared.cached.statement.Line.{Line}
 use Rattle.command_parts.specs.declared.load.LoadFault.{LoadFault}
 use Rattle.command_parts.specs.declared.load.LoadFault.TheVariants as loading
 use Rattle.command_parts.specs.Loading.{Means, MeansCached, RefusesAll, from_read, from_cached, longest}

@@ -4,11 +4,11 @@ use Rattle.outside_traits.specs.declared.whole.ReadAllFault.{ReadAllFault}
 use Rattle.outside_traits.specs.declared.whole.ReadAllFault.TheVariants.{Memory as AllMemory, Failed as AllFailed}
 use Rattle.script_reader.specs.declared.fault.ReadFault.{ReadFault}
 use Rattle.script_reader.specs.declared.fault.ReadFault.TheVariants.{Memory as ReadMemory, Refused as ReadRefused}
-use Rattle.cached_script.specs.declared.kind.CachedRefusal.{CachedRefusal}
-use Rattle.cached_script.specs.declared.kind.CachedRefusal.TheVariants.{Memory as CachedMemory, Refused as CachedRefused}
-use Rattle.cached_script.specs.Scripts.{Script as Lines, Spells as CachedSpells}
-use Rattle.cached_script.specs.Meaning.{meaning_of}
-use Rattle.cached_script.specs.Kinds.{kind_of}
+use Rattle.script_reader.specs.declared.cached.kind.CachedRefusal.{CachedRefusal}
+use Rattle.script_reader.specs.declared.cached.kind.CachedRefusal.TheVariants.{Memory as CachedMemory, Refused as CachedRefused}
+use Rattle.script_reader.specs.cached.Scripts.{Script as Lines, Spells as CachedSpells}
+use Rattle.script_reader.specs.cached.Meaning.{meaning_of}
+use Rattle.script_reader.specs.cached.Kinds.{kind_of}
 use Rattle.script_reader.specs.Grammar.{Spells}
 use Rattle.script_reader.specs.Meaning.{meaning}
 use Rattle.script_lines.specs.Known.{Numbered}

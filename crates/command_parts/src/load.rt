@@ -3,10 +3,10 @@ ghost use Rattle.outside_traits.specs.Causes.{Rose};
 ghost use Rattle.script_reader.specs.Grammar.{Spells, IsRefused};
 ghost use Rattle.script_reader.specs.Stored.{lines_in};
 ghost use Rattle.script_lines.specs.Words.{all_verbs};
-ghost use Rattle.cached_script.specs.Scripts.{Spells as CachedSpells, IsRefused as CachedRefused};
+ghost use Rattle.script_reader.specs.cached.Scripts.{Spells as CachedSpells, IsRefused as CachedRefused};
 ghost use Rattle.command_parts.specs.Loading.{Means, MeansCached, RefusesAll, longest};
 
-use cached_script::{CachedRefusal, CachedScript, cached_grammar_law, read_cached};
+use script_reader::cached::{CachedRefusal, CachedScript, cached_grammar_law, read_cached};
 use outside_traits::traits::Source;
 use outside_traits::whole::{ReadAllFault, read_all};
 use script_reader::{ReadFault, Script, ScriptKind, grammar_law, read_script};

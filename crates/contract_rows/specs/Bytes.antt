@@ -13,7 +13,7 @@ use Rattle.hardware_table.specs.Noise.{LiveNoise}
 use Rattle.main_memory.specs.Bytes.{filled}
 use Rattle.ecc_repair.specs.Repaired.{repaired}
 use Rattle.transfer_engine.specs.State.{TransferState}
-use Rattle.subsystem_spec.specs.declared.answers.AnswerKind.TheVariants.{ReadOk}
+use Rattle.trace_replay.specs.declared.requests.answers.AnswerKind.TheVariants.{ReadOk}
 use Rattle.driver_laws.specs.rules.Machine.{Blocks}
 use Rattle.driver_laws.specs.rules.Stands.{is_sure_among}
 use Rattle.driver_machine.specs.World.{UnitView, Held, block_in}

@@ -11,7 +11,7 @@ use Rattle.hardware_table.specs.Adapter.{AdapterState, next_block}
 use Rattle.disksort.specs.declared.Waiter.{Waiter}
 use Rattle.pack_geometry.specs.Homes.{index_in}
 use Rattle.transfer_engine.specs.State.{TransferState, segment_of}
-use Rattle.subsystem_spec.specs.declared.answers.Answer.{Answer}
+use Rattle.trace_replay.specs.declared.requests.answers.Answer.{Answer}
 use Rattle.driver_machine.specs.declared.Made.{Made}
 use Rattle.driver_machine.specs.declared.Task.{Task}
 use Rattle.driver_machine.specs.declared.Task.TheVariants.{Clear, Judge, Steps, Command, GiveUp}

@@ -12,8 +12,8 @@ use Rattle.hardware_table.specs.Adapter.{AdapterState, loaded, stepped}
 use Rattle.main_memory.specs.Bytes.{filled}
 use Rattle.pack_geometry.specs.Pack.{block_at, is_marked}
 use Rattle.drive_model.specs.Move.{Site, MovesSector}
-use Rattle.block_tests.specs.declared.station.Polled.{Polled}
-use Rattle.block_tests.specs.Polls.{Sides, Polls}
+use Rattle.pack_format.specs.declared.testing.station.Polled.{Polled}
+use Rattle.pack_format.specs.testing.Polls.{Sides, Polls}
 
 -- the fire code names a burst of twelve places
 abbrev pub TwelvePlaceBurst : Type 0

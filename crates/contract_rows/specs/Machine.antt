@@ -8,9 +8,9 @@ use Rattle.partitions.specs.declared.Admission.TheVariants.{Outside}
 use Rattle.pack_geometry.specs.TableSpelling.{Table}
 use Rattle.transfer_engine.specs.State.{TransferState, segment_of}
 use Rattle.transfer_engine.specs.Calls.{entry_for}
-use Rattle.subsystem_spec.specs.declared.answers.AnswerKind.{AnswerKind}
-use Rattle.subsystem_spec.specs.declared.answers.AnswerKind.TheVariants.{Error}
-use Rattle.subsystem_spec.specs.declared.answers.Cause.TheVariants as cause
+use Rattle.trace_replay.specs.declared.requests.answers.AnswerKind.{AnswerKind}
+use Rattle.trace_replay.specs.declared.requests.answers.AnswerKind.TheVariants.{Error}
+use Rattle.trace_replay.specs.declared.requests.answers.Cause.TheVariants as cause
 use Rattle.driver_machine.specs.declared.Made.{Made}
 use Rattle.driver_machine.specs.declared.Task.{Task}
 use Rattle.driver_machine.specs.declared.Task.TheVariants.{Judge}

@@ -5,7 +5,7 @@ use Rattle.transfer_engine.specs.State.{TransferState, moved_on, failed}
 use Rattle.transfer_engine.specs.Calls.{after_done, after_bad_sector, with_state}
 use Rattle.transfer_engine.specs.declared.states.Transfer.TheVariants.{Direct, Forwarded}
 use Rattle.transfer_engine.specs.declared.states.Next.TheVariants.{More}
-use Rattle.subsystem_spec.specs.ServiceOrder.{queue_with}
+use Rattle.trace_replay.specs.requests.ServiceOrder.{queue_with}
 use Rattle.disksort.specs.declared.Waiter.{Waiter}
 use Rattle.disksort.specs.SortQueue.{cylinder_of}
 use Rattle.ecc_repair.specs.Repaired.{repaired, data_bit, pattern_bit}

@@ -9,7 +9,7 @@ use Rattle.hardware_table.specs.Moves.{stop_of, was_read, was_written}
 use Rattle.hardware_table.specs.Noise.{strikes}
 use Rattle.hardware_table.specs.Adapter.{next_block, next_window}
 use Rattle.main_memory.specs.Blocks.{size_at}
-use Rattle.subsystem_spec.specs.Requests.{Request, first_block}
+use Rattle.trace_replay.specs.requests.Requests.{Request, first_block}
 use Rattle.trace_replay.specs.Script.{Input, Submit, MoveAt, Drain, Script, Numbered, inputs_of}
 use Rattle.trace_replay.specs.Moments.{Moment, Played}
 use Rattle.trace_replay.specs.Packs.{Surface, with_sector, read_as, bytes_of_write}

@@ -5,8 +5,8 @@ use Rattle.std.proofs.lemmas.Bool.Decides.{nat_tests}
 use Rattle.disksort.specs.declared.Waiter.{Waiter}
 use Rattle.disksort.specs.SortQueue.{cylinder_of}
 use Rattle.disksort.proofs.Spells.{Each}
-use Rattle.subsystem_spec.specs.ServiceOrder.{IsInOrder, queue_with, first_run, second_run, put_behind, put_in_run, in_runs}
-use Rattle.subsystem_spec.proofs.ServiceOrderLaws.{queue_with-runs, queue_with-empty}
+use Rattle.trace_replay.specs.requests.ServiceOrder.{IsInOrder, queue_with, first_run, second_run, put_behind, put_in_run, in_runs}
+use Rattle.trace_replay.proofs.requests.ServiceOrderLaws.{queue_with-runs, queue_with-empty}
 
 to_true : (x y : ℕ) → x < y → nat_lt x y ≡ true
 to_true x y lt = grind (arith, nat_tests)

@@ -12,8 +12,8 @@ use Rattle.disksort.proofs.Spells.{Each, each-front, each-back, above, spell-spl
 use Rattle.disksort.proofs.Onces.{alone}
 use Rattle.disksort.proofs.Takes.{taken}
 use Rattle.disksort.proofs.Walks.{get-front}
-use Rattle.subsystem_spec.specs.ServiceOrder.{IsInOrder}
-use Rattle.subsystem_spec.proofs.ServiceOrderRuns.{drop-in_order}
+use Rattle.trace_replay.specs.requests.ServiceOrder.{IsInOrder}
+use Rattle.trace_replay.proofs.requests.ServiceOrderRuns.{drop-in_order}
 
 pub from_all : (P : Waiter → Type 0) (ws : List Waiter) → All P ws → Each P ws
 from_all P [] h = tt

@@ -13,9 +13,9 @@ use Rattle.disksort.proofs.Onces.{Apart, alone, once-swapped, once-queue_with, e
 use Rattle.disksort.proofs.Appends.{IsAppended, IsFramed, IsFree, append-both}
 use Rattle.disksort.proofs.Joins.{join-first, join-second, join-empty}
 use Rattle.disksort.proofs.Kept.{leaving, kept-of, size-at, side, not-both, none-or, spelled-none}
-use Rattle.subsystem_spec.specs.ServiceOrder.{queue_with, put_behind}
-use Rattle.subsystem_spec.proofs.ServiceOrderRuns.{queue_with-in_order}
-use Rattle.subsystem_spec.proofs.ServiceOrderLaws.{length-queue_with}
+use Rattle.trace_replay.specs.requests.ServiceOrder.{queue_with, put_behind}
+use Rattle.trace_replay.proofs.requests.ServiceOrderRuns.{queue_with-in_order}
+use Rattle.trace_replay.proofs.requests.ServiceOrderLaws.{length-queue_with}
 
 -- a run into which a number may go at a cylinder, beside the other run
 pub record IsReady (capacity : ℕ) (run other : RunView) (behind : List ℕ) (c cylinders n : ℕ) : Type 0 where

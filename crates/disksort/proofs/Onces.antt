@@ -6,8 +6,8 @@ use Rattle.disksort.specs.SortQueue.{cylinder_of}
 use Rattle.disksort.specs.Buckets.{at_cylinder, spell, Once}
 use Rattle.disksort.proofs.Chains.{Distinct}
 use Rattle.disksort.proofs.Spells.{Each, each-append, each-front, each-back, above, spell-split, of_numbers}
-use Rattle.subsystem_spec.specs.ServiceOrder.{IsInOrder, queue_with}
-use Rattle.subsystem_spec.proofs.ServiceOrderRuns.{goes_before, put_in, inserted, queue_with-inserted}
+use Rattle.trace_replay.specs.requests.ServiceOrder.{IsInOrder, queue_with}
+use Rattle.trace_replay.proofs.requests.ServiceOrderRuns.{goes_before, put_in, inserted, queue_with-inserted}
 
 -- each of these has another number than each of those
 abbrev pub Apart : List Waiter → List Waiter → Type 0

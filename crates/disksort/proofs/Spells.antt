@@ -7,7 +7,7 @@ use Rattle.std.proofs.lemmas.Bool.Decides.{nat_tests}
 use Rattle.disksort.specs.declared.Waiter.{Waiter}
 use Rattle.disksort.specs.SortQueue.{cylinder_of}
 use Rattle.disksort.specs.Buckets.{at_cylinder, spell}
-use Rattle.subsystem_spec.specs.ServiceOrder.{put_behind}
+use Rattle.trace_replay.specs.requests.ServiceOrder.{put_behind}
 
 abbrev pub Each : (Waiter → Type 0) → List Waiter → Type 0
 Each = AllByRecursion

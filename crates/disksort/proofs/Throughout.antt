@@ -1,8 +1,8 @@
 -- A list that ascends ascends from each element to every later one.
 use Rattle.std.proofs.Common.{◌≡◌, false, List, [], ◌∷◌, zero, suc, arith}
-use Rattle.subsystem_spec.specs.ServiceOrder.{Waiting, is_before}
-use Rattle.subsystem_spec.proofs.ServiceOrderRuns.{Ascends}
-use Rattle.subsystem_spec.proofs.ServiceOrderLaws.{at_index}
+use Rattle.trace_replay.specs.requests.ServiceOrder.{Waiting, is_before}
+use Rattle.trace_replay.proofs.requests.ServiceOrderRuns.{Ascends}
+use Rattle.trace_replay.proofs.requests.ServiceOrderLaws.{at_index}
 use Rattle.disksort.specs.SortQueue.{IsSortedThroughout}
 
 pub throughout : {A : Type 0} (xs : List (Waiting A)) → Ascends xs → IsSortedThroughout is_before xs

@@ -3,7 +3,7 @@ use Rattle.std.specs.Prelude.{◌≡◌, ℕ, ◌<◌, ◌≤◌, Bool, true, fa
 use Rattle.std.specs.List.{AllByRecursion}
 use Rattle.disksort.specs.declared.Waiter.{Waiter}
 use Rattle.disksort.specs.Buckets.{RunView, IsRun, Once, spelled}
-use Rattle.subsystem_spec.specs.ServiceOrder.{IsInOrder}
+use Rattle.trace_replay.specs.requests.ServiceOrder.{IsInOrder}
 
 -- those that wait, in service order; how many can, and how many cylinders the pack has
 pub record Queue : Type 0 where

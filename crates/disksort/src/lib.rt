@@ -10,7 +10,7 @@
 #![tactic(auto)]
 
 ghost use Rattle.std.specs.Prelude.{◌≡◌, ◌≢◌, ◌<◌, ◌≤◌, ◌⊎◌, ℕ, false, IsTrue, List, [], ◌∷◌, length, drop, All, IfOk, IsPermutation, slice_get};
-ghost use Rattle.subsystem_spec.specs.ServiceOrder.{Waiting, Change, is_before, service_order, empty_service, service_after, queue_after, queue_of, queue_with, IsInOrder, IsTwoRuns, in_runs};
+ghost use Rattle.trace_replay.specs.requests.ServiceOrder.{Waiting, Change, is_before, service_order, empty_service, service_after, queue_after, queue_of, queue_with, IsInOrder, IsTwoRuns, in_runs};
 ghost use Rattle.disksort.specs.Buckets.{IsLowest};
 ghost use Rattle.disksort.specs.Runs.{seen};
 ghost use Rattle.disksort.specs.SortQueue.{cylinder_of, IsSortedThroughout};

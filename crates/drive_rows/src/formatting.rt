@@ -5,7 +5,7 @@ ghost use Rattle.pack_geometry.specs.declared.DriveKind.TheVariants.{Rm03};
 
 use crate::few_blocks::{SURVEYED, Written, Wrong, few_blocks};
 use Wrong::{Fails, FailsBehind, Lies};
-use block_tests::Station;
+use pack_format::testing::Station;
 use pack_format::{FormatFault, FormatReport, format};
 use pack_geometry::DriveKind;
 use std::alloc::Global;

@@ -16,15 +16,15 @@ use Rattle.hardware_table.specs.Noise.{Book, book_struck, book_armed}
 use Rattle.hardware_table.specs.Adapter.{AdapterState, loaded, started, stepped, drive_stepped, next_window, completed, attention_raised, attention_lowered}
 use Rattle.ecc_repair.specs.Repaired.{repaired}
 use Rattle.disksort.specs.declared.Waiter.{Waiter}
-use Rattle.subsystem_spec.specs.ServiceOrder.{queue_with}
+use Rattle.trace_replay.specs.requests.ServiceOrder.{queue_with}
 use Rattle.transfer_engine.specs.declared.job.Segment.{Segment}
 use Rattle.transfer_engine.specs.State.{TransferState, begun, moved_on}
 use Rattle.transfer_engine.specs.State as transfer
-use Rattle.subsystem_spec.specs.Requests.{Request}
+use Rattle.trace_replay.specs.requests.Requests.{Request}
 use Rattle.trace_replay.specs.Script as script
 use Rattle.trace_replay.specs.Script.{Input}
 use Rattle.trace_replay.specs.Drives.{addressed, search_place, offset_written, transfer_function, unoffset}
-use Rattle.subsystem_spec.specs.declared.answers.AnswerKind.{AnswerKind}
+use Rattle.trace_replay.specs.declared.requests.answers.AnswerKind.{AnswerKind}
 use Rattle.driver_machine.specs.declared.Made.{Made}
 use Rattle.driver_machine.specs.declared.RetryStep.{RetryStep}
 use Rattle.driver_machine.specs.declared.RetryStep.TheVariants.{Recalibrate, Seek, Offset}

@@ -14,10 +14,10 @@ use Rattle.retry_offsets.specs.declared.Step.{Step}
 use Rattle.retry_offsets.specs.declared.Step.TheVariants as retry
 use Rattle.transfer_engine.specs.State.{TransferState, begun, segment_of, failures_after}
 use Rattle.transfer_engine.specs.Calls.{entry_for, step_for}
-use Rattle.subsystem_spec.specs.declared.answers.AnswerKind.{AnswerKind}
-use Rattle.subsystem_spec.specs.declared.answers.AnswerKind.TheVariants.{ReadOk, WriteOk, Error}
-use Rattle.subsystem_spec.specs.declared.answers.Cause.{Cause}
-use Rattle.subsystem_spec.specs.declared.answers.Cause.TheVariants as cause
+use Rattle.trace_replay.specs.declared.requests.answers.AnswerKind.{AnswerKind}
+use Rattle.trace_replay.specs.declared.requests.answers.AnswerKind.TheVariants.{ReadOk, WriteOk, Error}
+use Rattle.trace_replay.specs.declared.requests.answers.Cause.{Cause}
+use Rattle.trace_replay.specs.declared.requests.answers.Cause.TheVariants as cause
 use Rattle.driver_machine.specs.declared.RetryStep.{RetryStep}
 use Rattle.driver_machine.specs.declared.RetryStep.TheVariants.{Recalibrate, Seek, Offset}
 use Rattle.driver_machine.specs.declared.Task.{Task}

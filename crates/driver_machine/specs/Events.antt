@@ -1,18 +1,18 @@
 -- What each event does, act by act, as a function of the world before it.
 use Rattle.std.specs.Prelude.{ℕ, zero, suc, ◌+◌, ◌*◌, ◌==◌, nat_le, Bool, true, false, not, ◌||◌, ◌&&◌, if◌then◌else◌, List, [], ◌∷◌, ◌++◌, length, Option, Some, None}
-use Rattle.subsystem_spec.specs.Partitions.{admission}
-use Rattle.subsystem_spec.specs.Admission.{Admission}
-use Rattle.subsystem_spec.specs.Admission.TheVariants.{Inside, Eof, Outside}
+use Rattle.trace_replay.specs.requests.Partitions.{admission}
+use Rattle.trace_replay.specs.requests.Admission.{Admission}
+use Rattle.trace_replay.specs.requests.Admission.TheVariants.{Inside, Eof, Outside}
 use Rattle.hardware_table.specs.Drive.{is_positioning}
 use Rattle.hardware_table.specs.Adapter.{next_block}
 use Rattle.disksort.specs.declared.Waiter.{Waiter}
-use Rattle.subsystem_spec.specs.Requests.{Request}
+use Rattle.trace_replay.specs.requests.Requests.{Request}
 use Rattle.trace_replay.specs.Script as script
 use Rattle.trace_replay.specs.Script.{Input}
 use Rattle.trace_replay.specs.Service.{frames_needed}
-use Rattle.subsystem_spec.specs.declared.answers.AnswerKind.{AnswerKind}
-use Rattle.subsystem_spec.specs.declared.answers.AnswerKind.TheVariants as answer
-use Rattle.subsystem_spec.specs.declared.answers.Cause.TheVariants as cause
+use Rattle.trace_replay.specs.declared.requests.answers.AnswerKind.{AnswerKind}
+use Rattle.trace_replay.specs.declared.requests.answers.AnswerKind.TheVariants as answer
+use Rattle.trace_replay.specs.declared.requests.answers.Cause.TheVariants as cause
 use Rattle.driver_machine.specs.declared.Phase.{Phase}
 use Rattle.driver_machine.specs.declared.Phase.TheVariants.{Positioning}
 use Rattle.driver_machine.specs.World.{World, UnitView, AdapterView, Held, unit_at, adapter_at, held_in, slot_in_hand, unit_on, unit_of, adapter_of}

@@ -8,7 +8,7 @@ use Rattle.hardware_table.specs.Noise.{strikes}
 use Rattle.hardware_table.specs.Adapter.{AdapterState, next_block, next_window}
 use Rattle.ecc_repair.specs.Blocks.{Loan, IsLoan, size_at}
 use Rattle.trace_replay.specs.Noise.{IsNoise}
-use Rattle.subsystem_spec.specs.Requests.{Request, first_block}
+use Rattle.trace_replay.specs.requests.Requests.{Request, first_block}
 use Rattle.trace_replay.specs.Script as script
 use Rattle.trace_replay.specs.Script.{Input, IsSpan}
 use Rattle.driver_machine.specs.declared.Phase.TheVariants.{Positioning, Queued}

@@ -1,10 +1,10 @@
 -- The lines of the trace that each act tells, with the answers that they make.
 use Rattle.std.specs.Prelude.{ℕ, List, [], ◌∷◌, ◌++◌}
-use Rattle.subsystem_spec.specs.Requests as told
-use Rattle.subsystem_spec.specs.Answers.{answer_of}
+use Rattle.trace_replay.specs.requests.Requests as told
+use Rattle.trace_replay.specs.requests.Answers.{answer_of}
 use Rattle.trace_replay.specs.Moments as moment
 use Rattle.trace_replay.specs.Moments.{Moment, Told, Idle}
-use Rattle.subsystem_spec.specs.declared.answers.AnswerKind.{AnswerKind}
+use Rattle.trace_replay.specs.declared.requests.answers.AnswerKind.{AnswerKind}
 use Rattle.driver_machine.specs.declared.RetryStep.{RetryStep}
 use Rattle.driver_machine.specs.declared.RetryStep.TheVariants as step
 use Rattle.driver_machine.specs.World.{World, Held, unit_at, held_in, slot_in_hand, bytes_in}

@@ -1,9 +1,9 @@
 -- The answers to requests that are refused at their submission.
 use Rattle.std.specs.Prelude.{Bool, true, false}
-use Rattle.subsystem_spec.specs.declared.answers.AnswerKind.{AnswerKind}
-use Rattle.subsystem_spec.specs.declared.answers.AnswerKind.TheVariants.{Eof, Error}
-use Rattle.subsystem_spec.specs.declared.answers.Cause.{Cause}
-use Rattle.subsystem_spec.specs.declared.answers.Cause.TheVariants.{Partition, Frames}
+use Rattle.trace_replay.specs.declared.requests.answers.AnswerKind.{AnswerKind}
+use Rattle.trace_replay.specs.declared.requests.answers.AnswerKind.TheVariants.{Eof, Error}
+use Rattle.trace_replay.specs.declared.requests.answers.Cause.{Cause}
+use Rattle.trace_replay.specs.declared.requests.answers.Cause.TheVariants.{Partition, Frames}
 
 abbrev pub refuses_by : Cause → Bool
 refuses_by Partition = true

@@ -1,7 +1,7 @@
 -- Acts that come one after another, each where it may; and the conditions under which an input comes.
 use Rattle.std.specs.Prelude.{◌≡◌, ℕ, ◌<◌, true, IsTrue, List, [], ◌∷◌, None, Some}
 use Rattle.hardware_table.specs.Adapter.{next_block}
-use Rattle.subsystem_spec.specs.Requests.{Request}
+use Rattle.trace_replay.specs.requests.Requests.{Request}
 use Rattle.trace_replay.specs.Script as script
 use Rattle.trace_replay.specs.Script.{Input}
 use Rattle.driver_machine.specs.World.{World, Held, unit_at, adapter_at, slot_at, unit_of}

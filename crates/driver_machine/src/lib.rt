@@ -10,7 +10,7 @@ use hardware_table::Moved;
 
 pub mod due;
 
-pub use subsystem_spec::{Answer, AnswerKind, Cause};
+pub use trace_replay::requests::{Answer, AnswerKind, Cause};
 
 /// An answer that waits to be taken, and the slot of its request; one that was refused at its submission has none.
 #[derive(Clone, Copy)]

@@ -12,7 +12,7 @@ use Rattle.trace_replay.specs.Runs.{start_of}
 use Rattle.trace_replay.specs.Text.{trace_text, moment_text}
 use Rattle.driver_laws.specs.answers.Outcome.{IsFront}
 use Rattle.driver_laws.proofs.answers.Joined.{front_same, front_of_front}
-use Rattle.answer_lines.specs.AnswerText.{said_text, out_text}
+use Rattle.trace_lines.specs.answers.AnswerText.{said_text, out_text}
 use Rattle.script_runs.specs.Writing.{WriteNothing}
 use Rattle.script_runs.specs.Ahead.{IsBetween, SaysOneSector, AreBehind, WritesAhead, TellsAhead}
 use Rattle.script_runs.proofs.Ahead.{rules_start, nothing_keeps_rule, writes_keep_rule}

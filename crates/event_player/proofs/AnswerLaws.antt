@@ -9,10 +9,10 @@ use Rattle.outside_traits.specs.declared.traits.SinkFailed.{SinkFailed}
 use Rattle.trace_replay.specs.Moments.{Answered}
 use Rattle.main_memory.specs.Blocks.{size_at}
 use Rattle.main_memory.specs.Bytes.{filled, IsFill}
-use Rattle.subsystem_spec.specs.declared.answers.Answer.{Answer}
-use Rattle.subsystem_spec.specs.declared.answers.AnswerKind.{AnswerKind}
-use Rattle.subsystem_spec.specs.declared.answers.AnswerKind.TheVariants.{ReadOk, WriteOk, Eof, Error}
-use Rattle.subsystem_spec.specs.declared.answers.Cause.TheVariants.{Partition, Frames, Offline, Locked, Unforwarded, Fault}
+use Rattle.trace_replay.specs.declared.requests.answers.Answer.{Answer}
+use Rattle.trace_replay.specs.declared.requests.answers.AnswerKind.{AnswerKind}
+use Rattle.trace_replay.specs.declared.requests.answers.AnswerKind.TheVariants.{ReadOk, WriteOk, Eof, Error}
+use Rattle.trace_replay.specs.declared.requests.answers.Cause.TheVariants.{Partition, Frames, Offline, Locked, Unforwarded, Fault}
 use Rattle.driver_machine.specs.declared.Made.{Made}
 use Rattle.driver_machine.specs.World.{World, Held, held_in, slot_at, block_in, bytes_in}
 use Rattle.driver_machine.specs.Acts.{Taken, after, after_all}
@@ -21,10 +21,10 @@ use Rattle.driver_machine.specs.Refusals.{refuses}
 use Rattle.driver_machine.specs.Sound.{Sound, SlotOk, IsGiven, IsMade}
 use Rattle.driver_laws.proofs.invariant.SlotsLists.{Contains-first}
 use Rattle.driver_laws.specs.answers.Waiting.{blocks_for, told_by, waiting, TakingDrops, takings, all_taken}
-use Rattle.answer_lines.specs.AnswerText.{answer_text, block_text, block_texts, blocks_text}
-use Rattle.answer_lines.specs.Blocks.{AreBlocks, blocks_in, joined}
-use Rattle.answer_lines.proofs.BlockLaws.{blocks_in-joined}
-use Rattle.answer_lines.proofs.TextLaws.{one_more}
+use Rattle.trace_lines.specs.answers.AnswerText.{answer_text, block_text, block_texts, blocks_text}
+use Rattle.trace_lines.specs.answers.Blocks.{AreBlocks, blocks_in, joined}
+use Rattle.trace_lines.proofs.answers.BlockLaws.{blocks_in-joined}
+use Rattle.trace_lines.proofs.answers.TextLaws.{one_more}
 use Rattle.hp_driver.specs.Subsystem.{State, IsOldest}
 use Rattle.event_player.specs.Answering.{first_blocks, first_told, first_text, first_rest, IsFirst, IsFirstKind, HasBlock}
 use Rattle.event_player.specs.Saying.{Side, Says}

@@ -5,8 +5,8 @@ use Rattle.std.proofs.lemmas.List.{length-map}
 use Rattle.pack_geometry.specs.declared.DriveKind.{DriveKind}
 use Rattle.pack_geometry.specs.Pack.{Pack}
 use Rattle.disksort.specs.declared.Waiter.{Waiter}
-use Rattle.subsystem_spec.specs.ServiceOrder.{Waiting}
-use Rattle.subsystem_spec.specs.Requests.{Request}
+use Rattle.trace_replay.specs.requests.ServiceOrder.{Waiting}
+use Rattle.trace_replay.specs.requests.Requests.{Request}
 use Rattle.trace_replay.specs.Moments.{Moment}
 use Rattle.trace_replay.specs.Replay.{Replay, UnitSeen, all_units, after_moments}
 use Rattle.driver_laws.specs.rules.Measure.{blocks_waiting, blocks_of_units, blocks_outstanding}

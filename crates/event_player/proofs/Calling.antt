@@ -4,7 +4,7 @@ use Rattle.std.specs.Prelude.{Result, Ok, Err, IsOk}
 use Rattle.std.proofs.lemmas.List.{append_cancel_right}
 use Rattle.pack_geometry.specs.Pack.{Pack}
 use Rattle.outside_traits.specs.declared.traits.SinkFailed.{SinkFailed}
-use Rattle.subsystem_spec.specs.Requests.{Request}
+use Rattle.trace_replay.specs.requests.Requests.{Request}
 use Rattle.trace_replay.specs.Script.{Input}
 use Rattle.trace_replay.specs.Text.{trace_text}
 use Rattle.driver_machine.specs.World.{World}
@@ -20,9 +20,9 @@ use Rattle.driver_laws.proofs.answers.Joined.{front_same, front_more, front_of_f
 use Rattle.script_runs.specs.StopsPasses.{AllFlip}
 use Rattle.driver_laws.specs.answers.Waiting.{waiting, all_taken}
 use Rattle.driver_laws.proofs.answers.Waiting.{events_alone, submissions_alone}
-use Rattle.answer_lines.specs.AnswerText.{out_text}
-use Rattle.answer_lines.specs.declared.tally.Tally.{Tally}
-use Rattle.answer_lines.specs.Counting.{Counts}
+use Rattle.trace_lines.specs.answers.AnswerText.{out_text}
+use Rattle.trace_lines.specs.declared.answers.tally.Tally.{Tally}
+use Rattle.trace_lines.specs.answers.Counting.{Counts}
 use Rattle.hp_driver.specs.Subsystem.{Submits, Comes, seen, is_move, writes_by}
 use Rattle.script_runs.specs.declared.fault.PlayFault.TheVariants as playing
 use Rattle.script_runs.specs.Faults.{from_stop}

@@ -3,7 +3,7 @@ use Rattle.std.proofs.Common.{◌≡◌, inl, inr, ℕ, ◌<◌, Bool, false, Is
 use Rattle.std.proofs.lemmas.Bool.{false≢true}
 use Rattle.pack_geometry.specs.Pack.{Pack}
 use Rattle.pack_geometry.specs.TableSpelling.{Table}
-use Rattle.subsystem_spec.specs.Requests.{Request, IsRequest}
+use Rattle.trace_replay.specs.requests.Requests.{Request, IsRequest}
 use Rattle.trace_replay.specs.Moments.{Moment, Played, Idle}
 use Rattle.trace_replay.specs.Script as says
 use Rattle.trace_replay.specs.Script.{Script, Input, Line, Numbered, drives_of}
@@ -29,7 +29,7 @@ use Rattle.script_runs.proofs.StopsPasses.{GoesOn, drain_begins, drain_goes_on, 
 use Rattle.script_runs.proofs.Passes.{scripts_can_start}
 use Rattle.driver_laws.proofs.rules.Consistency.{moments_consistent}
 use Rattle.script_runs.proofs.StopsPasses.{drained_shows}
-use Rattle.answer_lines.specs.AnswerText.{said_text}
+use Rattle.trace_lines.specs.answers.AnswerText.{said_text}
 use Rattle.hp_driver.specs.Subsystem.{IsThere}
 use Rattle.script_runs.specs.Writing.{WriteNothing}
 use Rattle.script_runs.specs.Stops.{AreOfOneEvent, StopsAtSink}

@@ -18,8 +18,8 @@ use Rattle.driver_laws.specs.answers.Packs.{packs_after_all}
 use Rattle.script_runs.specs.StopsPasses.{with_call}
 use Rattle.script_runs.specs.StopsPasses.{ShowsAll}
 use Rattle.script_runs.proofs.StopsPasses.{drained_shows}
-use Rattle.answer_lines.specs.Counting.{CountsAll}
-use Rattle.answer_lines.proofs.CountLaws.{counts_none, counts_more}
+use Rattle.trace_lines.specs.answers.Counting.{CountsAll}
+use Rattle.trace_lines.proofs.answers.CountLaws.{counts_none, counts_more}
 use Rattle.driver_laws.specs.answers.Waiting.{all_taken}
 use Rattle.hp_driver.specs.Subsystem.{writes_by}
 use Rattle.script_runs.specs.Writing.{WriteNothing}

@@ -9,7 +9,7 @@ use Rattle.pack_geometry.specs.TableSpelling.{Table}
 use Rattle.outside_traits.specs.Puts.{Puts}
 use Rattle.outside_traits.specs.declared.traits.SinkFailed.{SinkFailed}
 use Rattle.outside_traits.proofs.GatherLaws.{rose_more}
-use Rattle.subsystem_spec.specs.Requests.{Request}
+use Rattle.trace_replay.specs.requests.Requests.{Request}
 use Rattle.trace_replay.specs.Moments.{Moment, Played, Idle, played}
 use Rattle.trace_replay.specs.Script as says
 use Rattle.trace_replay.specs.Script.{Script, Input, Statement, Declares, Plays, Line, Numbered, AreNumbered, drives_of, inputs_of, inputs_before}
@@ -26,8 +26,8 @@ use Rattle.driver_laws.specs.answers.Packs.{packs_after_all}
 use Rattle.driver_laws.proofs.answers.Joined.{front_same, front_more, front_of_front}
 use Rattle.script_runs.specs.StopsPasses.{AskBelow}
 use Rattle.script_runs.specs.StopsPasses.{with_call}
-use Rattle.answer_lines.specs.AnswerText.{said_text, out_text}
-use Rattle.answer_lines.specs.declared.tally.Tally.{Tally}
+use Rattle.trace_lines.specs.answers.AnswerText.{said_text, out_text}
+use Rattle.trace_lines.specs.declared.answers.tally.Tally.{Tally}
 use Rattle.hp_driver.specs.UnitSetup.{UnitSetup}
 use Rattle.hp_driver.specs.Setups.{setups_of}
 use Rattle.hp_driver.specs.declared.drain.Event.{Event}

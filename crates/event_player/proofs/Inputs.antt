@@ -4,7 +4,7 @@ use Rattle.std.specs.List.{flat_map}
 use Rattle.std.proofs.lemmas.Bool.{false≢true}
 use Rattle.pack_geometry.specs.Pack.{Pack}
 use Rattle.pack_geometry.specs.TableSpelling.{Table}
-use Rattle.subsystem_spec.specs.Requests.{Request, IsRequest}
+use Rattle.trace_replay.specs.requests.Requests.{Request, IsRequest}
 use Rattle.trace_replay.specs.Moments.{Moment, Answered, Played, answers_in}
 use Rattle.trace_replay.specs.Script as says
 use Rattle.trace_replay.specs.Script.{Script, Input, Line}
@@ -21,9 +21,9 @@ use Rattle.script_runs.specs.StopsPasses.{with_call}
 use Rattle.script_runs.proofs.StopsPasses.{lines_play_nothing}
 use Rattle.driver_laws.specs.answers.Waiting.{waiting, all_taken}
 use Rattle.driver_laws.proofs.answers.Waiting.{events_alone, submissions_alone}
-use Rattle.answer_lines.specs.AnswerText.{answer_text, said_text, out_text}
-use Rattle.answer_lines.specs.Counting.{Counts, CountsAll}
-use Rattle.answer_lines.proofs.CountLaws.{counts_none, counts_both, counts_same}
+use Rattle.trace_lines.specs.answers.AnswerText.{answer_text, said_text, out_text}
+use Rattle.trace_lines.specs.answers.Counting.{Counts, CountsAll}
+use Rattle.trace_lines.proofs.answers.CountLaws.{counts_none, counts_both, counts_same}
 use Rattle.hp_driver.specs.Subsystem.{IsThere, writes_by}
 use Rattle.script_runs.specs.Writing.{WriteNothing}
 use Rattle.script_runs.specs.Ahead.{AreBehind}

@@ -6,12 +6,12 @@ use Rattle.std.proofs.lemmas.Bool.Decides.{nat_tests}
 use Rattle.std.proofs.lemmas.List.Elements.{Contains-append_left, Contains-push}
 use Rattle.std.proofs.lemmas.Option.{none-some}
 use Rattle.hardware_table.specs.Noise.{LiveNoise}
-use Rattle.subsystem_spec.specs.Requests.{Request, IsRequest}
+use Rattle.trace_replay.specs.requests.Requests.{Request, IsRequest}
 use Rattle.trace_replay.specs.Script as script
 use Rattle.trace_replay.specs.Script.{Script, Input, Statement, Declares, Plays, Line, IsScript, IsStatement, IsInput, drives_of, ids_of, with_id, AreApart}
 use Rattle.driver_machine.specs.World.{World, Held}
 use Rattle.driver_machine.specs.Acts.{Act, after_all}
-use Rattle.subsystem_spec.specs.declared.answers.AnswerKind.{AnswerKind}
+use Rattle.trace_replay.specs.declared.requests.answers.AnswerKind.{AnswerKind}
 use Rattle.driver_machine.specs.Events.{submit_by, submit_acts, event_acts, refusal_of, next_event}
 use Rattle.driver_laws.proofs.invariant.Sizes.{sizes_all}
 use Rattle.driver_laws.proofs.invariant.SlotsLists.{Contains-later, Contains-cases}

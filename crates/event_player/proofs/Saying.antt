@@ -12,8 +12,8 @@ use Rattle.trace_replay.specs.Script.{Input}
 use Rattle.driver_machine.specs.World.{World}
 use Rattle.driver_laws.specs.answers.Outcome.{IsFront}
 use Rattle.driver_laws.proofs.answers.Joined.{front_same, front_more, front_of_front}
-use Rattle.answer_lines.specs.AnswerText.{said_text}
-use Rattle.answer_lines.specs.declared.tally.Tally.{Tally}
+use Rattle.trace_lines.specs.answers.AnswerText.{said_text}
+use Rattle.trace_lines.specs.declared.answers.tally.Tally.{Tally}
 use Rattle.script_runs.specs.Ahead.{IsBetween}
 use Rattle.event_player.specs.Saying.{Side, side, Says, SendsAhead}
 use Rattle.event_player.specs.Steps.{Stage, Passes, PassesAhead}

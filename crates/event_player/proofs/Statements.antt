@@ -14,7 +14,7 @@ use Rattle.script_lines.specs.declared.statement.Request.{Request as Asked}
 use Rattle.script_reader.specs.Stored.{Kept, seen, digits_at}
 use Rattle.script_lines.specs.Renamed.{renamed, content_by}
 use Rattle.script_reader.specs.Meaning.{statement_of, written_of}
-use Rattle.subsystem_spec.specs.Requests.{Request}
+use Rattle.trace_replay.specs.requests.Requests.{Request}
 use Rattle.trace_replay.specs.Moments.{Moment, Played}
 use Rattle.trace_replay.specs.Script as says
 use Rattle.trace_replay.specs.Script.{Script, Input, Statement, Plays, Line}
@@ -23,11 +23,11 @@ use Rattle.driver_laws.specs.rules.Drains.{IsOf}
 use Rattle.driver_machine.specs.World.{World}
 use Rattle.driver_machine.specs.Guards.{IsSetUp}
 use Rattle.driver_laws.specs.answers.Outcome.{IsFront}
-use Rattle.answer_lines.specs.AnswerText.{said_text}
-use Rattle.answer_lines.specs.Counting.{Counts}
+use Rattle.trace_lines.specs.answers.AnswerText.{said_text}
+use Rattle.trace_lines.specs.answers.Counting.{Counts}
 use Rattle.hp_driver.specs.declared.drain.Event.{Event}
 use Rattle.hp_driver.specs.declared.drain.Event.TheVariants as event
-use Rattle.subsystem_spec.specs.declared.request.Request as driver
+use Rattle.trace_replay.specs.declared.requests.request.Request as driver
 use Rattle.hp_driver.specs.Inputs.{input_of}
 use Rattle.hp_driver.specs.Subsystem.{State, IsThere, asked}
 use Rattle.event_player.specs.Playing.{HasRun}

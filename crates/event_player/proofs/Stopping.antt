@@ -22,7 +22,7 @@ use Rattle.script_runs.specs.StopsPasses.{IsReadOf}
 use Rattle.script_runs.specs.StopsPasses.{ShowsAll}
 use Rattle.script_runs.proofs.StopsPasses.{lines_play_nothing}
 use Rattle.script_runs.proofs.Passes.{event_fronts}
-use Rattle.answer_lines.specs.AnswerText.{out_text}
+use Rattle.trace_lines.specs.answers.AnswerText.{out_text}
 use Rattle.hp_driver.specs.Subsystem.{IsThere, is_move, writes_by}
 use Rattle.hp_driver.specs.Moves.{writes_next}
 use Rattle.script_runs.specs.Writing.{WriteNothing}

@@ -2,16 +2,16 @@
 use Rattle.std.proofs.Common.{◌≡◌, ℕ, ◌+◌, ◌<◌, List, [], ◌∷◌, ◌++◌, length, map, take, refl, sym, ap, ◌∙◌, append-nil, append_assoc, slice_index_or}
 use Rattle.std.specs.List.{flat_map}
 use Rattle.trace_replay.specs.Moments.{Answered}
-use Rattle.subsystem_spec.specs.declared.answers.Answer.{Answer}
+use Rattle.trace_replay.specs.declared.requests.answers.Answer.{Answer}
 use Rattle.driver_machine.specs.World.{World}
 use Rattle.driver_machine.specs.Acts.{Taken, after}
 use Rattle.driver_machine.specs.Sound.{Sound}
 use Rattle.driver_laws.specs.answers.Waiting.{told_by, waiting, TakingDrops}
-use Rattle.answer_lines.specs.AnswerText.{answer_text, block_text, block_texts}
-use Rattle.answer_lines.proofs.TextLaws.{one_more}
-use Rattle.answer_lines.specs.declared.tally.Tally.{Tally}
-use Rattle.answer_lines.specs.Counting.{Counts}
-use Rattle.answer_lines.proofs.CountLaws.{counts_none, counts_both, counts_same}
+use Rattle.trace_lines.specs.answers.AnswerText.{answer_text, block_text, block_texts}
+use Rattle.trace_lines.proofs.answers.TextLaws.{one_more}
+use Rattle.trace_lines.specs.declared.answers.tally.Tally.{Tally}
+use Rattle.trace_lines.specs.answers.Counting.{Counts}
+use Rattle.trace_lines.proofs.answers.CountLaws.{counts_none, counts_both, counts_same}
 use Rattle.event_player.specs.Answering.{first_told, first_text, IsFirst}
 use Rattle.event_player.specs.Steps.{waiting_text}
 use Rattle.event_player.proofs.AnswerLaws.{told_taken, text_taken}

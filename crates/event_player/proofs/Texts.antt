@@ -2,7 +2,7 @@
 use Rattle.std.proofs.Common.{◌≡◌, ℕ, List, [], ◌∷◌, ◌++◌, refl, ap}
 use Rattle.std.specs.List.{flat_map}
 use Rattle.trace_replay.specs.Moments.{Deed, Search, Seek, Recal, Offset, Centre, Clear, Pack, Transfer, Arrive, Sector, Intr, Try, Attn, End, Moment, Played, Told, Idle, played, answers_in}
-use Rattle.answer_lines.specs.AnswerText.{answer_text, out_text}
+use Rattle.trace_lines.specs.answers.AnswerText.{answer_text, out_text}
 
 told_said : (line unit id : ℕ) (deed : Deed) (ms : List Moment) → out_text ms ≡ flat_map answer_text (answers_in ms)
     → out_text (Told line unit id deed ∷ ms) ≡ flat_map answer_text (answers_in (Told line unit id deed ∷ ms))

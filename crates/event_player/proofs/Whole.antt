@@ -28,8 +28,8 @@ use Rattle.script_runs.specs.StopsPasses.{AskBelow}
 use Rattle.script_runs.proofs.StopsPasses.{starts_within_reach}
 use Rattle.driver_laws.proofs.answers.Starts.{starts_with_none, starts_with_room}
 use Rattle.driver_laws.proofs.answers.Ids.{starts_of_none}
-use Rattle.answer_lines.specs.Counting.{CountsAll, tally_by}
-use Rattle.answer_lines.proofs.CountLaws.{counts_none, counts_more}
+use Rattle.trace_lines.specs.answers.Counting.{CountsAll, tally_by}
+use Rattle.trace_lines.proofs.answers.CountLaws.{counts_none, counts_more}
 use Rattle.hp_driver.specs.UnitSetup.{UnitSetup}
 use Rattle.hp_driver.specs.Setups.{setups_of}
 use Rattle.hp_driver.specs.Subsystem.{State}

@@ -1,13 +1,13 @@
 -- The oldest answer that waits, as it is said.
 use Rattle.std.specs.Prelude.{◌≡◌, ℕ, ◌≤◌, List, [], ◌∷◌, length, Some, slice_index_or}
 use Rattle.trace_replay.specs.Moments.{Answered}
-use Rattle.subsystem_spec.specs.declared.answers.Answer.{Answer}
-use Rattle.subsystem_spec.specs.declared.answers.AnswerKind.{AnswerKind}
+use Rattle.trace_replay.specs.declared.requests.answers.Answer.{Answer}
+use Rattle.trace_replay.specs.declared.requests.answers.AnswerKind.{AnswerKind}
 use Rattle.driver_machine.specs.declared.Made.{Made}
 use Rattle.driver_machine.specs.World.{World}
 use Rattle.driver_machine.specs.Lines.{answer_told}
 use Rattle.driver_laws.specs.answers.Waiting.{blocks_for}
-use Rattle.answer_lines.specs.AnswerText.{answer_text, blocks_text}
+use Rattle.trace_lines.specs.answers.AnswerText.{answer_text, blocks_text}
 use Rattle.hp_driver.specs.Subsystem.{IsOldest, Reads}
 
 -- the blocks that its request has

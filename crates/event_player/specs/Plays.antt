@@ -7,9 +7,9 @@ use Rattle.trace_replay.specs.Script.{Script}
 use Rattle.trace_replay.specs.Runs.{IsLegalRun, start_of}
 use Rattle.trace_replay.specs.Text.{trace_text}
 use Rattle.script_runs.specs.StopsPasses.{AreAsLong}
-use Rattle.answer_lines.specs.AnswerText.{out_text}
-use Rattle.answer_lines.specs.declared.tally.Tally.{Tally}
-use Rattle.answer_lines.specs.Counting.{tally_of}
+use Rattle.trace_lines.specs.answers.AnswerText.{out_text}
+use Rattle.trace_lines.specs.declared.answers.tally.Tally.{Tally}
+use Rattle.trace_lines.specs.answers.Counting.{tally_of}
 use Rattle.script_runs.specs.Stops.{StaysBeyond}
 use Rattle.event_player.specs.Playing.{counted, one_request}
 

@@ -8,7 +8,7 @@ use Rattle.script_lines.specs.declared.statement.Statement as Told
 use Rattle.script_lines.specs.declared.statement.Statement.TheVariants as says
 use Rattle.script_reader.specs.Formed.{IsWritten}
 use Rattle.script_lines.specs.Known.{Said}
-use Rattle.subsystem_spec.specs.Requests.{Request, IsRequest}
+use Rattle.trace_replay.specs.requests.Requests.{Request, IsRequest}
 use Rattle.trace_replay.specs.Moments.{Moment, played}
 use Rattle.trace_replay.specs.Script.{Script, Input, Submit, Drain, Statement, Declares, Plays, Line, drives_of, inputs_before, with_id}
 use Rattle.trace_replay.specs.Replay.{after_moments}
@@ -32,9 +32,9 @@ use Rattle.script_runs.specs.Passes.{AreAsked}
 use Rattle.driver_laws.specs.answers.Counts.{IsWithin, in_use}
 use Rattle.driver_laws.specs.answers.Ids.{AreOf}
 use Rattle.driver_laws.specs.answers.Waiting.{waiting, all_taken}
-use Rattle.answer_lines.specs.AnswerText.{answer_text, out_text}
-use Rattle.answer_lines.specs.declared.tally.Tally.{Tally}
-use Rattle.answer_lines.specs.Counting.{Counts, CountsAll}
+use Rattle.trace_lines.specs.answers.AnswerText.{answer_text, out_text}
+use Rattle.trace_lines.specs.declared.answers.tally.Tally.{Tally}
+use Rattle.trace_lines.specs.answers.Counting.{Counts, CountsAll}
 use Rattle.hp_driver.specs.Subsystem.{State, IsThere, writes_by}
 use Rattle.script_runs.specs.Ahead.{IsBetween, WritesAhead, TellsAhead}
 use Rattle.script_runs.specs.declared.fault.PlayFault.{PlayFault}

@@ -3,7 +3,7 @@ use Rattle.std.specs.Prelude.{◌≡◌, ◌⊎◌, ℕ, ◌<◌, Bool, true, fa
 use Rattle.pack_geometry.specs.Pack.{Pack}
 use Rattle.pack_geometry.specs.PackTable.{AreTablesOf}
 use Rattle.pack_geometry.specs.TableSpelling.{Table}
-use Rattle.subsystem_spec.specs.Requests.{Request}
+use Rattle.trace_replay.specs.requests.Requests.{Request}
 use Rattle.trace_replay.specs.Moments.{Moment}
 use Rattle.trace_replay.specs.Script.{Script, Input, Line, Numbered, Statement, Declares, Plays, drives_of, inputs_of, inputs_before}
 use Rattle.trace_replay.specs.Replay.{after_moments}
@@ -21,7 +21,7 @@ use Rattle.driver_laws.specs.answers.Packs.{ReadAll, packs_after_all}
 use Rattle.script_runs.specs.StopsPasses.{AreDeclared}
 use Rattle.script_runs.specs.StopsPasses.{AllFlip}
 use Rattle.script_runs.specs.StopsPasses.{ShowsAll}
-use Rattle.answer_lines.specs.AnswerText.{out_text}
+use Rattle.trace_lines.specs.answers.AnswerText.{out_text}
 use Rattle.hp_driver.specs.Subsystem.{is_move, writes_by}
 use Rattle.hp_driver.specs.Moves.{writes_next}
 use Rattle.script_runs.specs.Stops.{CameTo, StaysBeyond, IsAtMove, Took, StopsAtSink, StopsAtStore}

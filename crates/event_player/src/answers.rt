@@ -1,15 +1,15 @@
 // The answers that wait are counted and said, and then they are taken.
 ghost use Rattle.std.specs.Prelude.{◌≡◌, ◌+◌, ◌==◌, ◌<◌, ◌≤◌, ℕ, [], ◌∷◌, if◌then◌else◌, OnOk, take, replicate, slice_index_or};
-ghost use Rattle.answer_lines.specs.AnswerText.{block_text};
-ghost use Rattle.answer_lines.specs.Counting.{Counts};
+ghost use Rattle.trace_lines.specs.answers.AnswerText.{block_text};
+ghost use Rattle.trace_lines.specs.answers.Counting.{Counts};
 ghost use Rattle.driver_laws.specs.answers.Waiting.{all_taken, waiting};
-ghost use Rattle.subsystem_spec.specs.declared.answers.AnswerKind.TheVariants.{ReadOk};
+ghost use Rattle.trace_replay.specs.declared.requests.answers.AnswerKind.TheVariants.{ReadOk};
 ghost use Rattle.event_player.specs.Answering.{first_blocks, first_told, first_text, first_rest, IsFirst, IsFirstKind, HasBlock};
 ghost use Rattle.event_player.specs.Saying.{side, Says};
 ghost use Rattle.event_player.specs.Steps.{waiting_text};
 
 use crate::desk::Desk;
-use answer_lines::{answer_line, write_fill};
+use trace_lines::answers::{answer_line, write_fill};
 use driver_laws::answers::answers::taken_law;
 use hp_driver::{Answer, AnswerKind, Subsystem};
 use outside_traits::traits::{Sink, SinkFailed};

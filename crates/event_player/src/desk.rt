@@ -1,9 +1,9 @@
 // Where answers are written: what is gathered for their sink, and what is counted of them.
 ghost use Rattle.std.specs.Prelude.{◌≡◌, [], IfOk, OnOk};
-ghost use Rattle.answer_lines.specs.Counting.{Counts, tally_by};
+ghost use Rattle.trace_lines.specs.answers.Counting.{Counts, tally_by};
 ghost use Rattle.event_player.specs.Saying.{side, Says};
 
-use answer_lines::{BlockLine, FillLine, Tally};
+use trace_lines::answers::{BlockLine, FillLine, Tally};
 use hp_driver::Subsystem;
 use outside_traits::Gather;
 use outside_traits::traits::{NoMemory, Sink, SinkFailed};

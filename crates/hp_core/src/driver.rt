@@ -6,7 +6,7 @@ ghost use Rattle.main_memory.specs.Frames.{frames_needed};
 ghost use Rattle.driver_machine.specs.World.{unit_at, slot_at, held_in, slot_in_hand, job_of};
 ghost use Rattle.driver_machine.specs.Lines.{step_told};
 ghost use Rattle.trace_replay.specs.Moments as moments;
-ghost use Rattle.subsystem_spec.specs.Requests.{Answer as AnswerTold};
+ghost use Rattle.trace_replay.specs.requests.Requests.{Answer as AnswerTold};
 ghost use Rattle.trace_replay.specs.Text.{moment_text};
 ghost use Rattle.trace_lines.specs.Deeds.{deed_of};
 ghost use Rattle.driver_laws.specs.declared.answers.outcome.Stop.TheVariants as stop;

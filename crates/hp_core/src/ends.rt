@@ -1,6 +1,6 @@
 // Ends, refusals and answers.
 ghost use Rattle.std.specs.Prelude.{◌≡◌, true, ◌<◌, ◌≤◌, ◌+◌, ◌-◌, ◌∷◌, ◌++◌, [], length, drop, None, Some, IsSome, slice_set};
-ghost use Rattle.subsystem_spec.specs.Requests.{Request};
+ghost use Rattle.trace_replay.specs.requests.Requests.{Request};
 ghost use Rattle.driver_machine.specs.declared.Phase.TheVariants.{Waiting};
 ghost use Rattle.driver_machine.specs.World.{unit_at, adapter_at, slot_at, held_in, adapter_of, slot_in_hand, frames_of};
 ghost use Rattle.driver_machine.specs.Acts.{Of, End, Refuse, Nothing, no_more_waits, answer_at};

@@ -3,9 +3,9 @@ use Rattle.std.proofs.Common.{◌≡◌, ℕ, ◌+◌, ◌-◌, ◌*◌, Bool, t
 use Rattle.std.specs.Prelude.{min, Result, is_some, if◌then◌else◌}
 use Rattle.std.proofs.lemmas.Option.{none-some, same_Some}
 use Rattle.pack_geometry.specs.declared.DriveKind.{DriveKind}
-use Rattle.subsystem_spec.specs.Requests as told
-use Rattle.subsystem_spec.specs.Requests.{first_block}
-use Rattle.subsystem_spec.specs.declared.answers.AnswerKind.{AnswerKind}
+use Rattle.trace_replay.specs.requests.Requests as told
+use Rattle.trace_replay.specs.requests.Requests.{first_block}
+use Rattle.trace_replay.specs.declared.requests.answers.AnswerKind.{AnswerKind}
 use Rattle.driver_machine.specs.World.{World, Held, no_held, unit_at, pieces, adapter_of}
 use Rattle.driver_machine.specs.Acts.{Act, Refuse}
 use Rattle.driver_machine.specs.Events.{refusal_of, submit_by, submit_acts, joined_acts, followed, adapter_start}
@@ -20,7 +20,7 @@ use Rattle.hp_driver.specs.Requests as slots
 use Rattle.hp_driver.specs.Passes.{State}
 use Rattle.hp_driver.specs.Done.{DoesActs}
 use Rattle.hp_driver.specs.Submissions.{MayRefuse}
-use Rattle.subsystem_spec.specs.declared.request.Request.{Request}
+use Rattle.trace_replay.specs.declared.requests.request.Request.{Request}
 use Rattle.hp_driver.specs.Subsystem as subsystem
 use Rattle.hp_driver.specs.Subsystem.{asked, Submits, IsAsked}
 use Rattle.hp_driver.specs.Calls.{Stands, Asks, MayAsk, asked_at}

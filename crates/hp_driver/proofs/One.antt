@@ -9,8 +9,8 @@ use Rattle.seek_engine.specs.Seek.{position_for}
 use Rattle.transfer_engine.specs.State.{segment_of}
 use Rattle.hp_core.specs.Asked.{Asked}
 use Rattle.hp_core.specs.Requests.{asked_of}
-use Rattle.subsystem_spec.specs.declared.answers.AnswerKind.TheVariants.{Error}
-use Rattle.subsystem_spec.specs.declared.answers.Cause.{Cause}
+use Rattle.trace_replay.specs.declared.requests.answers.AnswerKind.TheVariants.{Error}
+use Rattle.trace_replay.specs.declared.requests.answers.Cause.{Cause}
 use Rattle.driver_machine.specs.World.{World, UnitView, Held, transfer_of}
 use Rattle.driver_machine.specs.Acts.{Of, Deed, Move, Continue, End}
 use Rattle.driver_machine.specs.Due.{failed, sensed, command_of, target_of, start_by, start_of, ready_for, finished, done_with}

@@ -10,7 +10,7 @@ use Rattle.hp_driver.specs.Requests.{frames_lent, HasFree}
 use Rattle.hp_driver.specs.Passes.{MayJoin}
 use Rattle.driver_laws.specs.shown.QuietPasses.{in_use}
 use Rattle.driver_laws.proofs.shown.QuietPasses.{free_where_room, all_lent_are_needed}
-use Rattle.subsystem_spec.specs.declared.request.Request.{Request}
+use Rattle.trace_replay.specs.declared.requests.request.Request.{Request}
 use Rattle.hp_driver.specs.Calls.{MayAsk, asked_at}
 
 -- each request needs a frame at least

@@ -2,8 +2,8 @@
 use Rattle.std.specs.Prelude.{◌≡◌, ℕ, ◌+◌, ◌-◌, ◌*◌, ◌<◌, Bool, false, if◌then◌else◌, IsTrue, min, List, length, Result, IfErr, OnOk}
 use Rattle.pack_geometry.specs.Pack.{Pack}
 use Rattle.outside_traits.specs.Causes.{HasCause}
-use Rattle.subsystem_spec.specs.Requests as told
-use Rattle.subsystem_spec.specs.Requests.{IsRequest}
+use Rattle.trace_replay.specs.requests.Requests as told
+use Rattle.trace_replay.specs.requests.Requests.{IsRequest}
 use Rattle.trace_replay.specs.Script.{Input}
 use Rattle.driver_machine.specs.World.{World}
 use Rattle.driver_machine.specs.Guards.{IsSetUp, IsFresh}
@@ -16,7 +16,7 @@ use Rattle.driver_laws.specs.shown.QuietPasses.{in_use}
 use Rattle.driver_laws.specs.shown.QuietPasses.{AllFlip}
 use Rattle.hp_driver.specs.Passes.{State}
 use Rattle.hp_driver.specs.Passes.{HasCauses}
-use Rattle.subsystem_spec.specs.declared.request.Request.{Request}
+use Rattle.trace_replay.specs.declared.requests.request.Request.{Request}
 use Rattle.hp_driver.specs.Subsystem.{asked, is_move, Submits, Comes}
 use Rattle.hp_driver.specs.Bytes.{KeepsMaps, KeepsMapsIn}
 

@@ -1,7 +1,7 @@
 -- What a submission comes to.
 use Rattle.std.specs.Prelude.{◌≡◌, ℕ, Bool, List, Result}
-use Rattle.subsystem_spec.specs.Requests.{Request}
-use Rattle.subsystem_spec.specs.declared.answers.AnswerKind.{AnswerKind}
+use Rattle.trace_replay.specs.requests.Requests.{Request}
+use Rattle.trace_replay.specs.declared.requests.answers.AnswerKind.{AnswerKind}
 use Rattle.driver_machine.specs.World.{World, Held}
 use Rattle.driver_machine.specs.Acts.{Refuse}
 use Rattle.driver_machine.specs.Events.{joined_acts}

@@ -2,13 +2,13 @@
 use Rattle.std.specs.Prelude.{◌≡◌, ◌≢◌, ℕ, ◌<◌, ◌≤◌, min, Bool, true, false, if◌then◌else◌, IsTrue, List, [], ◌∷◌, ◌++◌, length, drop, Option, None, Some, Result, Ok, Err}
 use Rattle.pack_geometry.specs.Pack.{Pack}
 use Rattle.outside_traits.specs.declared.traits.SinkFailed.{SinkFailed}
-use Rattle.subsystem_spec.specs.Requests as told
-use Rattle.subsystem_spec.specs.Requests.{IsRequest}
+use Rattle.trace_replay.specs.requests.Requests as told
+use Rattle.trace_replay.specs.requests.Requests.{IsRequest}
 use Rattle.trace_replay.specs.Moments.{Moment}
 use Rattle.trace_replay.specs.Replay.{Replay, after_moments}
 use Rattle.trace_replay.specs.Script as script
 use Rattle.trace_replay.specs.Script.{Input}
-use Rattle.subsystem_spec.specs.declared.answers.AnswerKind.TheVariants.{ReadOk}
+use Rattle.trace_replay.specs.declared.requests.answers.AnswerKind.TheVariants.{ReadOk}
 use Rattle.driver_machine.specs.declared.Made.{Made}
 use Rattle.driver_machine.specs.World.{World, Held, unit_at, slot_at}
 use Rattle.driver_machine.specs.Acts.{Tried}
@@ -26,7 +26,7 @@ use Rattle.driver_laws.specs.shown.QuietPasses.{IsReadOf}
 use Rattle.driver_laws.specs.shown.QuietPasses.{AllFlip}
 use Rattle.driver_laws.specs.shown.QuietPasses.{IsDraining}
 use Rattle.driver_laws.specs.shown.QuietPasses.{CanStart, AreAsked, Falls}
-use Rattle.subsystem_spec.specs.declared.request.Request.{Request}
+use Rattle.trace_replay.specs.declared.requests.request.Request.{Request}
 
 -- its world, how many requests may be outstanding at once, whether one of its calls has failed, and the text of the trace that it keeps
 pub record State : Type 0 where

@@ -2,7 +2,7 @@
 ghost use Rattle.std.specs.Prelude.{◌≡◌, ◌<◌, ◌≤◌, ◌+◌, [], length, None, Some, IfOk, IfErr};
 ghost use Rattle.main_memory.specs.Frames.{frames_needed};
 ghost use Rattle.pack_geometry.specs.Geometry.{limit_of};
-ghost use Rattle.subsystem_spec.specs.Requests.{first_block};
+ghost use Rattle.trace_replay.specs.requests.Requests.{first_block};
 ghost use Rattle.driver_machine.specs.World.{unit_at};
 ghost use Rattle.driver_machine.specs.Events.{refusal_of};
 ghost use Rattle.hp_driver.specs.Subsystem.{asked};
@@ -15,7 +15,7 @@ use driver_machine::{AnswerKind, Cause};
 use hp_core::{Asked, Core};
 use outside_traits::traits::Sink;
 use partitions::{Admission, admit};
-use subsystem_spec::Request;
+use trace_replay::requests::Request;
 
 /// How many frames there are.
 const FRAMES: u32 = 16384;

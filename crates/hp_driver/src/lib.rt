@@ -38,4 +38,4 @@ pub use driver_laws::answers::outcome::Stop;
 pub use driver_machine::{Answer, AnswerKind, Cause};
 pub use hp_core::UnitSetup;
 pub use subsystem::Subsystem;
-pub use subsystem_spec::Request;
+pub use trace_replay::requests::Request;

@@ -2,7 +2,7 @@
 ghost use Rattle.std.specs.Prelude.{◌≡◌, ◌<◌, ◌≤◌};
 ghost use Rattle.main_memory.specs.Frames.{frames_needed};
 
-use subsystem_spec::Request;
+use trace_replay::requests::Request;
 
 /// How many frames the buffer of a request needs.
 pub(crate) fn frames_for(request: Request) -> u32

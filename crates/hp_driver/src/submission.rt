@@ -1,6 +1,6 @@
 // What a submission does.
 ghost use Rattle.std.specs.Prelude.{◌≡◌, ◌∷◌, []};
-ghost use Rattle.subsystem_spec.specs.Requests.{Request};
+ghost use Rattle.trace_replay.specs.requests.Requests.{Request};
 ghost use Rattle.driver_machine.specs.World.{adapter_of};
 ghost use Rattle.driver_machine.specs.Acts.{Refuse};
 ghost use Rattle.driver_machine.specs.Events.{followed, adapter_start};

@@ -36,7 +36,7 @@ use outside_traits::traits::{NoMemory, Packs, Sink, SinkFailed};
 use pack_geometry::DriveKind;
 use std::alloc::Global;
 use std::marker::Model;
-use subsystem_spec::Request;
+use trace_replay::requests::Request;
 
 /// The disks, their adapters, the requests that are outstanding, and the text of the trace that is kept, at most 64 KiB. Nothing is
 /// allocated once it is made.

@@ -1,6 +1,6 @@
 -- The text of an exercise.
 use Rattle.std.specs.Prelude.{ℕ, List, ◌++◌, codes, decimal}
-use Rattle.answer_lines.specs.declared.tally.Tally.{Tally}
+use Rattle.trace_lines.specs.declared.answers.tally.Tally.{Tally}
 
 -- `exercise N`, `requests R`, `answers A ok K` and `text B sum S`
 unfoldable pub exercise_text : ℕ → Tally → List ℕ

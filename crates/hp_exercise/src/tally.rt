@@ -1,7 +1,7 @@
 ghost use Rattle.std.specs.Prelude.{◌≡◌, ◌≤◌, ◌+◌, ◌++◌, decimal, length};
 ghost use Rattle.hp_exercise.specs.ExerciseText.{exercise_text};
 
-use answer_lines::Tally;
+use trace_lines::answers::Tally;
 use mass_text::{LineBuf, Radix, numeral_law};
 
 /// Puts words and a count.

@@ -4,7 +4,7 @@
 
 use hpsim_run::run;
 use row_stage::{Program, RowPacks, RowSink, RowSource, Stage, perform};
-use row_texts::Text;
+use row_stage::texts::Text;
 use std::alloc::Global;
 use std::io;
 use std::io::Write;

@@ -3,11 +3,11 @@ use Rattle.std.proofs.Common.{◌≡◌, ◌⊎◌, ℕ, Bool, IsTrue, List, Err
 use Rattle.pack_geometry.specs.Pack.{Pack}
 use Rattle.outside_traits.specs.Causes.{Rose}
 use Rattle.trace_replay.specs.Script.{Script}
-use Rattle.cached_script.specs.declared.statement.Line.{Line}
-use Rattle.cached_script.specs.Scripts.{IsRefused}
-use Rattle.cached_script.proofs.ReadingLaws.{one_script}
+use Rattle.script_reader.specs.declared.cached.statement.Line.{Line}
+use Rattle.script_reader.specs.cached.Scripts.{IsRefused}
+use Rattle.script_reader.proofs.cached.ReadingLaws.{one_script}
 use Rattle.script_commands.specs.Faults.{IsBefore, IsLongFor, IsPlaying}
-use Rattle.cached_script.specs.Meaning.{meaning_of}
+use Rattle.script_reader.specs.cached.Meaning.{meaning_of}
 use Rattle.cached_run.specs.Theorem.{CachedLeaves}
 use Rattle.script_commands.specs.PlayFault.{PlayFault}
 use Rattle.script_commands.specs.PlayFault.TheVariants as faults

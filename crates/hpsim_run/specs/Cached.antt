@@ -1,8 +1,8 @@
 -- What a run of `cached` comes to, by the status that it ends with.
 use Rattle.std.specs.Prelude.{◌≡◌, ℕ, Bool, IsTrue, List, []}
 use Rattle.pack_geometry.specs.Pack.{Pack}
-use Rattle.cached_script.specs.Scripts.{Script as Lines, Spells, IsRefused}
-use Rattle.cached_script.specs.Meaning.{meaning_of}
+use Rattle.script_reader.specs.cached.Scripts.{Script as Lines, Spells, IsRefused}
+use Rattle.script_reader.specs.cached.Meaning.{meaning_of}
 use Rattle.cached_run.specs.Theorem.{CachedPlays, CachedLeaves}
 use Rattle.script_commands.specs.PlayFault.{PlayFault}
 use Rattle.script_commands.specs.PlayFault.TheVariants as faults

@@ -5,7 +5,7 @@ use Rattle.pack_geometry.specs.declared.DriveKind.{DriveKind}
 use Rattle.pack_geometry.specs.declared.DriveKind.TheVariants.{Rp06, Rm03, Rm05}
 use Rattle.pack_geometry.specs.Geometry.{copy_at, limit_of, replacement_at}
 use Rattle.pack_geometry.specs.Pack.{Pack, block_at, is_marked}
-use Rattle.block_tests.proofs.StageLaws.{false_true}
+use Rattle.pack_format.proofs.testing.StageLaws.{false_true}
 use Rattle.pack_format.specs.Formatted.{Copy, Data, Holds, IsFormatted, IsPartly, IsWritten, IsZeros, Replacement, found}
 
 marked_written : (kind : DriveKind) (sector : ℕ) (old : Pack) → is_marked old sector ≡ true → IsWritten kind old sector → ⊥

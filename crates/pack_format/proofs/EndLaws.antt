@@ -5,11 +5,11 @@ use Rattle.std.proofs.lemmas.Bool.Decides.{Decides-ltb}
 use Rattle.pack_geometry.specs.declared.DriveKind.{DriveKind}
 use Rattle.pack_geometry.specs.Pack.{Pack}
 use Rattle.pack_geometry.specs.Geometry.{copy_at}
-use Rattle.block_tests.specs.Stages.{between, is_copy}
-use Rattle.block_tests.specs.TestFaults.{IsStop, Tests, Writes}
-use Rattle.block_tests.proofs.StopLaws.{stop_as}
-use Rattle.block_tests.specs.declared.fault.TestFault.{TestFault}
-use Rattle.block_tests.specs.declared.fault.TestFault.TheVariants as test
+use Rattle.pack_format.specs.testing.Stages.{between, is_copy}
+use Rattle.pack_format.specs.testing.TestFaults.{IsStop, Tests, Writes}
+use Rattle.pack_format.proofs.testing.StopLaws.{stop_as}
+use Rattle.pack_format.specs.declared.testing.fault.TestFault.{TestFault}
+use Rattle.pack_format.specs.declared.testing.fault.TestFault.TheVariants as test
 use Rattle.pack_format.specs.Faults.{Formats, IsFault, IsWhy, Leaves, from_test}
 use Rattle.pack_format.specs.Formatted.{IsFormatted, IsPartly, found}
 use Rattle.pack_format.specs.declared.fault.FormatFault.{FormatFault}

@@ -7,10 +7,10 @@ use Rattle.pack_geometry.specs.Geometry.{limit_of, place_at}
 use Rattle.pack_geometry.specs.Pack.{Pack}
 use Rattle.pack_geometry.specs.TableSpelling.{Table}
 use Rattle.outside_traits.specs.Causes.{HasCause}
-use Rattle.block_tests.specs.Stages.{Fills, Reaches}
-use Rattle.block_tests.specs.TestFaults.{IsTestCaused}
-use Rattle.block_tests.specs.declared.fault.TestFault.{TestFault}
-use Rattle.block_tests.specs.declared.fault.TestFault.TheVariants as test
+use Rattle.pack_format.specs.testing.Stages.{Fills, Reaches}
+use Rattle.pack_format.specs.testing.TestFaults.{IsTestCaused}
+use Rattle.pack_format.specs.declared.testing.fault.TestFault.{TestFault}
+use Rattle.pack_format.specs.declared.testing.fault.TestFault.TheVariants as test
 use Rattle.pack_format.specs.Faults.{IsCaused, IsFault, from_test}
 use Rattle.pack_format.specs.Formatted.{CanBeFormatted, IsFormatted, IsTooLong, found, table_for}
 use Rattle.pack_format.specs.Surveys.{IsFirst, IsJudged, IsRefusal, IsSurvey, all_marked}

@@ -15,9 +15,9 @@ use Rattle.pack_geometry.specs.Homes.{content_of, index_in, replacement_home}
 use Rattle.pack_geometry.specs.PackTable.{IsTableOf}
 use Rattle.pack_geometry.specs.TableSpelling.{Table, IsTable, Spells}
 use Rattle.bad144_table.proofs.Positions.{index_listed}
-use Rattle.block_tests.specs.Stages.{Fills, IsTested, Reaches, between, copied, is_copy, ranged}
-use Rattle.block_tests.proofs.CopyLaws.{copy_here, which_copy}
-use Rattle.block_tests.proofs.StageLaws.{at, false_true, fill_off, fill_on, same_marks}
+use Rattle.pack_format.specs.testing.Stages.{Fills, IsTested, Reaches, between, copied, is_copy, ranged}
+use Rattle.pack_format.proofs.testing.CopyLaws.{copy_here, which_copy}
+use Rattle.pack_format.proofs.testing.StageLaws.{at, false_true, fill_off, fill_on, same_marks}
 use Rattle.pack_format.specs.Formatted.{CanBeFormatted, Copy, Data, Holds, IsFormatted, IsPartly, IsWritten, IsZeros, Replacement, found, marked_blocks, table_for}
 use Rattle.pack_format.proofs.SurveyLaws.{among}
 

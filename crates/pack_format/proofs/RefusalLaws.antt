@@ -7,7 +7,7 @@ use Rattle.pack_format.specs.Faults.{IsWhy}
 use Rattle.pack_format.specs.Formatted.{CanBeFormatted, IsSpare}
 use Rattle.pack_format.specs.declared.fault.FormatFault.{FormatFault}
 use Rattle.pack_format.specs.declared.fault.FormatFault.TheVariants.{Memory, TooLong, TooMany, Spare, NoCopy, Differs, Store}
-use Rattle.block_tests.proofs.StageLaws.{false_true}
+use Rattle.pack_format.proofs.testing.StageLaws.{false_true}
 
 pub no_refusal : (kind : DriveKind) (pack : Pack) (fault : FormatFault) → CanBeFormatted kind pack → IsWhy kind pack fault → (fault ≡ Memory) ⊎ (fault ≡ Store)
 no_refusal kind pack (TooLong size) can why = absurd (can.fits why.0)

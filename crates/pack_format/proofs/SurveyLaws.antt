@@ -20,10 +20,10 @@ use Rattle.pack_format.specs.Faults.{IsWhy}
 use Rattle.pack_format.specs.Formatted.{CanBeFormatted, IsSpare, IsTooMany, if_on, marked_below}
 use Rattle.pack_format.specs.Surveys.{IsFirst, IsJudged, IsSurvey, all_marked, used_of}
 use Rattle.pack_format.specs.declared.fault.FormatFault.TheVariants.{TooMany, Spare, NoCopy}
-use Rattle.block_tests.specs.Polls.{answer_for}
-use Rattle.block_tests.specs.declared.station.Polled.{Polled}
-use Rattle.block_tests.specs.declared.station.Polled.TheVariants.{Clean, Marked}
-use Rattle.block_tests.proofs.StageLaws.{at, false_true}
+use Rattle.pack_format.specs.testing.Polls.{answer_for}
+use Rattle.pack_format.specs.declared.testing.station.Polled.{Polled}
+use Rattle.pack_format.specs.declared.testing.station.Polled.TheVariants.{Clean, Marked}
+use Rattle.pack_format.proofs.testing.StageLaws.{at, false_true}
 
 pub not_off : (b : Bool) → not b ≡ true → b ≡ false
 not_off true e = absurd (false_true e)

@@ -4,10 +4,10 @@ use Rattle.pack_geometry.specs.declared.DriveKind.{DriveKind}
 use Rattle.pack_geometry.specs.Geometry.{copy_at}
 use Rattle.pack_geometry.specs.Pack.{Pack}
 use Rattle.outside_traits.specs.Causes.{Rose}
-use Rattle.block_tests.specs.Stages.{is_copy}
-use Rattle.block_tests.specs.TestFaults.{Tests}
-use Rattle.block_tests.specs.declared.fault.TestFault.{TestFault}
-use Rattle.block_tests.specs.declared.fault.TestFault.TheVariants as test
+use Rattle.pack_format.specs.testing.Stages.{is_copy}
+use Rattle.pack_format.specs.testing.TestFaults.{Tests}
+use Rattle.pack_format.specs.declared.testing.fault.TestFault.{TestFault}
+use Rattle.pack_format.specs.declared.testing.fault.TestFault.TheVariants as test
 use Rattle.pack_format.specs.Formatted.{HasNoCopy, IsPartly, IsSpare, IsTooLong, IsTooMany, found}
 use Rattle.pack_format.specs.declared.fault.FormatFault.{FormatFault}
 use Rattle.pack_format.specs.declared.fault.FormatFault.TheVariants.{Memory, TooLong, TooMany, Spare, NoCopy, Differs, Store}

@@ -6,7 +6,7 @@ use Rattle.pack_geometry.specs.Pack.{Pack, block_at, is_marked}
 use Rattle.pack_geometry.specs.PackTable.{IsTableOf}
 use Rattle.pack_geometry.specs.TableSpelling.{Table, Spells}
 use Rattle.pack_geometry.specs.Homes.{content_of}
-use Rattle.block_tests.specs.Stages.{IsTested}
+use Rattle.pack_format.specs.testing.Stages.{IsTested}
 
 -- the marked blocks below a number, in ascending order
 abbrev pub if_on : Bool → ℕ → List ℕ

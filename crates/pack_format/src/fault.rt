@@ -1,4 +1,4 @@
-use block_tests::TestFault;
+use crate::testing::TestFault;
 use outside_traits::traits::{NoMemory, StoreFailed};
 use thiserror::Error;
 

@@ -1,14 +1,14 @@
 //! Formatting a pack.
 ghost use Rattle.std.specs.Prelude.{◌≡◌, ◌≢◌, ℕ, ◌<◌, IfOk, IfErr, IsTrue, OnErr, OnOk};
-ghost use Rattle.block_tests.specs.Stations.{IsAtRest};
-ghost use Rattle.block_tests.specs.TestFaults.{IsStop, IsTestCaused};
+ghost use Rattle.pack_format.specs.testing.Stations.{IsAtRest};
+ghost use Rattle.pack_format.specs.testing.TestFaults.{IsStop, IsTestCaused};
 ghost use Rattle.pack_format.specs.Faults.{Formats, IsCaused, IsFault, IsWhy, Leaves};
 ghost use Rattle.pack_format.specs.Formatted.{CanBeFormatted, IsFormatted, IsPartly, IsTooLong, found, table_for};
 
 use crate::fault::FormatFault;
 use crate::survey::first_reading;
 use bad144_table::{BadTable, entries, write_table};
-use block_tests::{Station, TestFault, test_blocks, write_copies};
+use crate::testing::{Station, TestFault, test_blocks, write_copies};
 use outside_traits::traits::Packs;
 use pack_geometry::{DriveKind, blocks, copy_block, data_limit};
 use std::alloc::Global;

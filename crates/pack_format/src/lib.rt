@@ -6,13 +6,14 @@
 //! refusal has its reason and comes just where nothing before it is in the way, so that no pack is refused for two reasons
 //! (`refusals_law`). Formatting goes by rising number, and what a failure leaves is said by the sector that it reached
 //! (`IsPartly`): so no copy of the table is written before the last block is tested (`left_alone_law`). A poll that fails is the
-//! last one, since its station is never at rest again (`block_tests`). A byte that came back otherwise is one that was written
+//! last one, since its station is never at rest again (`testing`). A byte that came back otherwise is one that was written
 //! in that block (`IsFault`).
 //!
 //! Only tested, in `hpsim_rows` and `drive_rows`: that A5 is written first, that blocks are read back, that a call that fails
 //! is told as `Store`, texts, and that memory suffices.
 #![tactic(auto)]
 
+pub mod testing;
 mod fault;
 mod formatting;
 mod laws;

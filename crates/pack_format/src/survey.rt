@@ -5,14 +5,14 @@ ghost use Rattle.pack_geometry.specs.Geometry.{block_count, limit_of, replacemen
 ghost use Rattle.pack_geometry.specs.Pack.{Pack, is_marked};
 ghost use Rattle.pack_format.specs.Faults.{IsCaused, IsFault, IsWhy};
 ghost use Rattle.pack_format.specs.Formatted.{CanBeFormatted, IsTooLong, table_for};
-ghost use Rattle.block_tests.specs.Polls.{answer_for};
-ghost use Rattle.block_tests.specs.Stations.{IsAtRest};
+ghost use Rattle.pack_format.specs.testing.Polls.{answer_for};
+ghost use Rattle.pack_format.specs.testing.Stations.{IsAtRest};
 ghost use Rattle.pack_format.specs.Surveys.{IsFirst, IsJudged, IsRefusal, IsSurvey, all_marked, used_of};
 ghost use Rattle.pack_geometry.specs.declared.DriveKind.{DriveKind};
 
 use crate::fault::FormatFault;
 use bad144_table::{BadTable, empty_table, insert};
-use block_tests::{Polled, Station};
+use crate::testing::{Polled, Station};
 use outside_traits::traits::{Packs, StoreFailed};
 use pack_geometry::{DriveKind, copy_block, data_limit, place_of, replacement};
 

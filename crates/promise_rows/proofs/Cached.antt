@@ -3,7 +3,7 @@ use Rattle.std.proofs.Common.{◌≡◌, ◌⊎◌, inl, inr, ℕ, zero, suc, �
 use Rattle.std.proofs.lemmas.Bool.{false≢true}
 use Rattle.std.proofs.lemmas.List.{append-nil, append_cancel_left}
 use Rattle.partitions.specs.declared.Admission.{Admission}
-use Rattle.subsystem_spec.specs.Requests.{Request, WriteOk}
+use Rattle.trace_replay.specs.requests.Requests.{Request, WriteOk}
 use Rattle.driver_laws.specs.rules.Machine.{Blocks}
 use Rattle.driver_laws.specs.rules.Waited.{answer_at, answer_by, first_unusable, unusable_or}
 use Rattle.cached_run.specs.Answers.{first_by}

@@ -4,7 +4,7 @@ use Rattle.std.proofs.lemmas.List.{append_cancel_left}
 use Rattle.rand_core.specs.Steps.{stream_of}
 use Rattle.rand_core.specs.Stream.{Stream, next_u64}
 use Rattle.hp_exercise.specs.Exercise.{attend_text, head_text, move_text, step_text, steps_text, words_of}
-use Rattle.answer_lines.specs.declared.tally.Tally.{Tally}
+use Rattle.trace_lines.specs.declared.answers.tally.Tally.{Tally}
 use Rattle.promise_rows.specs.Commands.{NumberBeforeItsCommand, TwoRefusalsOfOneStatus, HalfOfTheSource, HalfTheNumberPlayed, SeedFromTheGreatestByteOn}
 
 pub number_before_its_command : NumberBeforeItsCommand

@@ -7,7 +7,7 @@ use Rattle.pack_geometry.specs.declared.DriveKind.{DriveKind}
 use Rattle.pack_geometry.specs.declared.DriveKind.TheVariants.{Rp06, Rm03, Rm05}
 use Rattle.pack_geometry.specs.Geometry.{block_count}
 use Rattle.pack_geometry.specs.TableSpelling.{Table}
-use Rattle.subsystem_spec.specs.Requests.{first_block}
+use Rattle.trace_replay.specs.requests.Requests.{first_block}
 use Rattle.trace_replay.specs.Moments.{Told}
 use Rattle.trace_replay.specs.Replay.{after_moments}
 use Rattle.trace_replay.specs.Runs.{start_of}

@@ -5,7 +5,7 @@ use Rattle.std.specs.Fmt as fmt
 use Rattle.std.proofs.lemmas.Bool.{eq-eqb}
 use Rattle.std.proofs.lemmas.List.{append_cancel_left, append-nil}
 use Rattle.pack_geometry.specs.Homes.{contents_of}
-use Rattle.subsystem_spec.specs.Requests.{Answer}
+use Rattle.trace_replay.specs.requests.Requests.{Answer}
 use Rattle.script_reader.specs.Meaning.{meaning}
 use Rattle.hardware_table.specs.Noise.{LiveNoise}
 use Rattle.trace_replay.specs.Moments.{Moment, Played, Told, Idle, Deed, Search, Seek, Recal, Offset, Centre, Clear, Pack as Packs, Transfer, Arrive, Sector, Intr, Try, Attn, End, Answered, answers_in}
@@ -15,9 +15,9 @@ use Rattle.driver_laws.specs.rules.Laws.{HoldMap}
 use Rattle.driver_laws.specs.rules.LastWrites.{left_behind}
 use Rattle.driver_laws.specs.rules.LegalAnswers.{times_answered}
 use Rattle.driver_laws.specs.rules.Promises.{Promises}
-use Rattle.answer_lines.specs.AnswerText.{out_text, said_text}
-use Rattle.answer_lines.specs.Blocks as blocks
-use Rattle.answer_lines.specs.declared.tally.Tally.{Tally}
+use Rattle.trace_lines.specs.answers.AnswerText.{out_text, said_text}
+use Rattle.trace_lines.specs.answers.Blocks as blocks
+use Rattle.trace_lines.specs.declared.answers.tally.Tally.{Tally}
 use Rattle.event_player.specs.Plays.{Plays}
 use Rattle.promise_rows.specs.Playing.{AlwaysAFault, AnswersKeptBack, BlockBeforeItsEvent, BlockBehindAStop, BlockOfNoUnit, NoiseLineUncounted, ShortLastBlockWhole}
 

@@ -1,6 +1,6 @@
 -- A request that fails by tries, where the script has few faults: completeness refuses it.
 use Rattle.std.proofs.Common.{inr}
-use Rattle.subsystem_spec.specs.Requests.{Failed, Fault}
+use Rattle.trace_replay.specs.requests.Requests.{Failed, Fault}
 use Rattle.promise_rows.specs.Strikes.{FailedByFewStrikes}
 
 pub failed_by_few_strikes : FailedByFewStrikes

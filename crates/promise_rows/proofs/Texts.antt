@@ -5,7 +5,7 @@ use Rattle.std.proofs.lemmas.Fmt.{decimal_digit, decimal_nonempty}
 use Rattle.std.proofs.lemmas.List.{append_cancel_left, append_cancel_right, append-nil}
 use Rattle.std.proofs.lemmas.List.Sums.{sum_by-append}
 use Rattle.trace_replay.specs.Text.{spaced}
-use Rattle.answer_lines.specs.declared.tally.Tally.{Tally}
+use Rattle.trace_lines.specs.declared.answers.tally.Tally.{Tally}
 use Rattle.promise_rows.specs.Texts.{UnitAndIdSwapped, ErrorWithoutDone, OkCountsReadsAlone, SumThatSaturates}
 
 pub unit_and_id_swapped : UnitAndIdSwapped

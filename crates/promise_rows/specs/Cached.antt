@@ -4,13 +4,13 @@ use Rattle.pack_geometry.specs.declared.DriveKind.{DriveKind}
 use Rattle.pack_geometry.specs.Geometry.{limit_of}
 use Rattle.pack_geometry.specs.Pack.{Pack}
 use Rattle.partitions.specs.declared.Admission.TheVariants.{Inside}
-use Rattle.subsystem_spec.specs.Requests.{Request, WriteOk}
+use Rattle.trace_replay.specs.requests.Requests.{Request, WriteOk}
 use Rattle.trace_replay.specs.Script.{Numbered, Script, drives_of, inputs_of}
 use Rattle.driver_laws.specs.rules.Machine.{Blocks}
 use Rattle.driver_laws.specs.rules.Entries.{State}
-use Rattle.cached_script.specs.declared.statement.Line.{Line}
-use Rattle.cached_script.specs.declared.statement.Statement.TheVariants as says
-use Rattle.cached_script.specs.Formed.{IsScript}
+use Rattle.script_reader.specs.declared.cached.statement.Line.{Line}
+use Rattle.script_reader.specs.declared.cached.statement.Statement.TheVariants as says
+use Rattle.script_reader.specs.cached.Formed.{IsScript}
 use Rattle.script_runs.specs.Stops.{Took}
 use Rattle.script_runs.specs.declared.fault.PlayFault.TheVariants.{Sink}
 use Rattle.cached_run.specs.Answers.{after, answer_to, first_by, map_of_inputs, met_by, replacements_of}

@@ -6,10 +6,10 @@ use Rattle.pack_geometry.specs.Geometry.{block_count, copy_at, place_at}
 use Rattle.pack_geometry.specs.Pack.{Pack, block_at, is_marked}
 use Rattle.pack_geometry.specs.TableSpelling.{Table}
 use Rattle.hardware_table.specs.Drive.{DriveState}
-use Rattle.block_tests.specs.Stations.{IsAimed}
-use Rattle.block_tests.specs.Stages.{Fills, copied, one}
-use Rattle.block_tests.specs.TestFaults.{IsStop, Writes}
-use Rattle.block_tests.specs.declared.fault.TestFault.TheVariants.{Differs}
+use Rattle.pack_format.specs.testing.Stations.{IsAimed}
+use Rattle.pack_format.specs.testing.Stages.{Fills, copied, one}
+use Rattle.pack_format.specs.testing.TestFaults.{IsStop, Writes}
+use Rattle.pack_format.specs.declared.testing.fault.TestFault.TheVariants.{Differs}
 use Rattle.pack_format.specs.Surveys.{IsSurvey}
 use Rattle.command_parts.specs.Lines.{too_long_text}
 use Rattle.pack_commands.specs.Formats.{RunsFormat}

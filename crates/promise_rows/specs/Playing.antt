@@ -7,12 +7,12 @@ use Rattle.pack_geometry.specs.Pack.{Pack}
 use Rattle.pack_geometry.specs.Homes.{contents_of}
 use Rattle.pack_geometry.specs.TableSpelling.{Table}
 use Rattle.hardware_table.specs.Noise.{LiveNoise}
-use Rattle.subsystem_spec.specs.Requests.{ReadOk}
+use Rattle.trace_replay.specs.requests.Requests.{ReadOk}
 use Rattle.script_reader.specs.Meaning.{meaning}
 use Rattle.trace_replay.specs.Moments.{Moment, Played}
 use Rattle.trace_replay.specs.Script.{Script, Noise, drives_of, ids_of}
-use Rattle.answer_lines.specs.AnswerText.{answer_text}
-use Rattle.answer_lines.specs.declared.tally.Tally.{Tally}
+use Rattle.trace_lines.specs.answers.AnswerText.{answer_text}
+use Rattle.trace_lines.specs.declared.answers.tally.Tally.{Tally}
 use Rattle.event_player.specs.Plays.{Tallied}
 use Rattle.script_runs.specs.Stops.{StopsAtSink}
 use Rattle.hpsim_run.specs.Headline.{Headline}

@@ -4,7 +4,7 @@ use Rattle.pack_geometry.specs.declared.DriveKind.{DriveKind}
 use Rattle.partitions.specs.declared.Part.{Part}
 use Rattle.partitions.specs.declared.Part.TheVariants.{B}
 use Rattle.partitions.specs.Partitions.{size_of}
-use Rattle.subsystem_spec.specs.Requests.{Request, ReadOk}
+use Rattle.trace_replay.specs.requests.Requests.{Request, ReadOk}
 use Rattle.trace_replay.specs.Script.{Input}
 use Rattle.driver_machine.specs.Guards.{IsSetUp}
 use Rattle.driver_machine.specs.World.{Held, slot_at, unit_at}

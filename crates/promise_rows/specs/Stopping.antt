@@ -4,13 +4,13 @@ use Rattle.outside_traits.specs.Causes.{Rose}
 use Rattle.pack_geometry.specs.Pack.{Pack}
 use Rattle.pack_geometry.specs.TableSpelling.{Table}
 use Rattle.hardware_table.specs.declared.Moved.{Moved}
-use Rattle.subsystem_spec.specs.Requests.{Answer}
+use Rattle.trace_replay.specs.requests.Requests.{Answer}
 use Rattle.trace_replay.specs.Moments.{Moment, Told, Sector, End}
 use Rattle.trace_replay.specs.Script.{Script}
 use Rattle.trace_replay.specs.Replay.{after_moments}
 use Rattle.trace_replay.specs.Runs.{start_of}
 use Rattle.trace_replay.specs.Text.{trace_text}
-use Rattle.answer_lines.specs.AnswerText.{out_text}
+use Rattle.trace_lines.specs.answers.AnswerText.{out_text}
 use Rattle.script_runs.specs.Writing.{was_written_at}
 use Rattle.script_runs.specs.Ahead.{WritesAhead, TellsAhead}
 use Rattle.script_runs.specs.Stops.{StopsAtStore, Took}

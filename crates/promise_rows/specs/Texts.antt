@@ -1,12 +1,12 @@
 -- Wrong lines of a trace and of answers, and wrong counts of them.
 use Rattle.std.specs.Prelude.{◌≡◌, ◌≢◌, ℕ, ◌-◌, ◌^◌, ◌<◌, List, [], ◌∷◌, ◌++◌, codes}
 use Rattle.hardware_table.specs.declared.Moved.TheVariants.{Clean}
-use Rattle.subsystem_spec.specs.Requests.{WriteOk}
+use Rattle.trace_replay.specs.requests.Requests.{WriteOk}
 use Rattle.trace_replay.specs.Moments.{Answered, Sector, Told}
 use Rattle.trace_replay.specs.Text.{moment_text}
-use Rattle.answer_lines.specs.AnswerText.{error_words}
-use Rattle.answer_lines.specs.declared.tally.Tally.{Tally}
-use Rattle.answer_lines.specs.Counting.{Counts, tally_by}
+use Rattle.trace_lines.specs.answers.AnswerText.{error_words}
+use Rattle.trace_lines.specs.declared.answers.tally.Tally.{Tally}
+use Rattle.trace_lines.specs.answers.Counting.{Counts, tally_by}
 
 -- UNIT AND ID SWAPPED in the line of a sector that moved clean.
 abbrev pub UnitAndIdSwapped : Type 0

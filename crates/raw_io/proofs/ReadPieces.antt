@@ -4,7 +4,7 @@ use Rattle.std.specs.Prelude.{IsSome, if◌then◌else◌}
 use Rattle.std.proofs.lemmas.Bool.Decides.{eqb_tells}
 use Rattle.std.proofs.lemmas.Option.{none-some}
 use Rattle.partitions.specs.Partitions.{first_of}
-use Rattle.subsystem_spec.specs.Requests.{Request}
+use Rattle.trace_replay.specs.requests.Requests.{Request}
 use Rattle.trace_replay.specs.Packs.{size_of_block}
 use Rattle.driver_laws.specs.rules.Machine.{Blocks, bytes_of_first}
 use Rattle.driver_machine.specs.Guards.{IsSetUp}

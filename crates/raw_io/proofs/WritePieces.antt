@@ -9,7 +9,7 @@ use Rattle.driver_laws.specs.rules.Machine.{Blocks, blocks_done}
 use Rattle.driver_laws.proofs.rules.Blocks.{begun_blocks}
 use Rattle.driver_machine.specs.Guards.{IsSetUp}
 use Rattle.blocking_io.specs.FrontsPasses.{asked, Stage, setup_at, StillTell, SessionsJoin}
-use Rattle.subsystem_spec.specs.declared.request.Request.{Request}
+use Rattle.trace_replay.specs.declared.requests.request.Request.{Request}
 use Rattle.driver_laws.specs.rules.Rest.{HasTables}
 use Rattle.driver_laws.specs.rules.Laid.{laid_at}
 use Rattle.raw_io.specs.declared.pieces.Piece.{Piece}

@@ -1,7 +1,7 @@
 -- REQUESTS OF A TRANSFER: of whole blocks of one partition, at line 1 and with id 0, each waited for before the next one.
 use Rattle.std.specs.Prelude.{◌≡◌, ℕ, ◌+◌, ◌≤◌, Bool, true, IsTrue, List, [], ◌∷◌, None}
 use Rattle.partitions.specs.declared.Part.{Part}
-use Rattle.subsystem_spec.specs.Requests.{Request}
+use Rattle.trace_replay.specs.requests.Requests.{Request}
 use Rattle.trace_replay.specs.Script.{Submit, Drain}
 use Rattle.trace_replay.specs.Moments.{Moment}
 use Rattle.blocking_io.specs.FrontsPasses.{Stage, setup_at, GoesOn}

@@ -10,7 +10,7 @@ use crate::verbs::{Verb, verb_of};
 use crate::watches::add_watches;
 use hp_exercise::script_of;
 use outside_traits::traits::NoMemory;
-use row_texts::{Text, number, small_number, span, split};
+use crate::texts::{Text, number, small_number, span, split};
 
 /// Does what a line says with a program, and puts behind the page what is to be shown; `NoMemory` where memory runs out.
 pub fn perform<P: Program>(

@@ -1,7 +1,8 @@
 //! A stage on which rows are played: packs, source and sinks of which calls fail, the lines that set them up and run the commands of a
-//! program on them, and what is shown of that. For tests alone: that it does no harm and ends is all that is proved.
+//! program on them, and what is shown of that; and what rows are written with (`texts`). For tests alone: that it does no harm and ends is all that is proved.
 #![tactic(auto)]
 
+pub mod texts;
 mod directives;
 mod row_packs;
 mod scenes;

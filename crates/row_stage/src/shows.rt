@@ -1,7 +1,7 @@
 // What is shown of a run, and of what it left.
 use crate::row_packs::RowPacks;
 use crate::stage::Stage;
-use row_texts::{Text, holds, split, times};
+use crate::texts::{Text, holds, split, times};
 
 /// Shows lines of text, or as runs what ends otherwise.
 pub(crate) fn show_text(page: &mut Text, text: &[u8]) {

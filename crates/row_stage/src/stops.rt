@@ -2,7 +2,7 @@
 use crate::scenes::{OPERATIONS, Operation, Program, Scene};
 use crate::stage::Stage;
 use crate::watches::{are_same, packs_amiss};
-use row_texts::{Text, times};
+use crate::texts::{Text, times};
 
 /// The status of a run in which a call of an operation fails.
 fn wanted(operation: Operation) -> u8 {

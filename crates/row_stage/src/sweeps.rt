@@ -2,7 +2,7 @@
 use crate::scenes::{Operation, Program, operation_of};
 use crate::shows::show_text;
 use crate::stage::Stage;
-use row_texts::{Text, number, split, times};
+use crate::texts::{Text, number, split, times};
 
 /// Runs a command over the packs of the stage with its source, which is taken, and shows its status and what it prints.
 pub(crate) fn play<P: Program>(

@@ -1,7 +1,7 @@
 // The blocks that are watched in runs that stop, and whether they are as their rules say.
 use crate::scenes::Scene;
 use crate::stage::Stage;
-use row_texts::{Text, holds, small_number, span, split};
+use crate::texts::{Text, holds, small_number, span, split};
 
 /// What a watched block is to hold in a run that stops, beside a run that does not.
 #[derive(Clone, Copy)]

@@ -14,7 +14,7 @@ use Rattle.pack_geometry.specs.declared.DriveKind.{DriveKind}
 use Rattle.pack_geometry.specs.Pack as model
 use Rattle.pack_geometry.specs.TableSpelling.{Table}
 use Rattle.picture_sheet.specs.Words.{outcome_word}
-use Rattle.run_counts.specs.Doings.{at_moment}
+use Rattle.run_meanings.specs.counted.Doings.{at_moment}
 use Rattle.run_meanings.proofs.Drawing.{no_refusal}
 use Rattle.run_meanings.proofs.Listening.{own_at}
 use Rattle.run_meanings.specs.Hearings.{HasHeard, IsInCondition}
@@ -23,8 +23,8 @@ use Rattle.run_meanings.proofs.Hearing.{Holds}
 use Rattle.run_meanings.proofs.OfRuns.{are_answered}
 use Rattle.run_picture.specs.Fold.{Known, heard, drive_at, request_at, told_at, request_after, request_end, finished, step}
 use Rattle.run_picture.specs.Places.{place_of}
-use Rattle.subsystem_spec.specs.Requests.{Request as Wished, Answer, WriteOk}
-use Rattle.subsystem_spec.specs.ServiceOrder.{Waiting}
+use Rattle.trace_replay.specs.requests.Requests.{Request as Wished, Answer, WriteOk}
+use Rattle.trace_replay.specs.requests.ServiceOrder.{Waiting}
 use Rattle.trace_lines.specs.declared.telling.Told.TheVariants as deed
 use Rattle.trace_replay.specs.Causes.{AskSome}
 use Rattle.trace_replay.specs.Events.{Wish, NoLine, DueLine, Arrival, SectorLine, Interrupt, Attention, Refusal, IdleLine}

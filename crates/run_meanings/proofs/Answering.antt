@@ -3,7 +3,7 @@ use Rattle.std.proofs.Common.{◌≡◌, ◌⊎◌, inl, inr, ℕ, ◌≤◌, �
 use Rattle.std.specs.Prelude.{if◌then◌else◌, nat_lt, is_some}
 use Rattle.std.proofs.lemmas.Option.{same_Some, none-some}
 use Rattle.std.proofs.lemmas.Bool.Decides.{nat_tests}
-use Rattle.answer_lines.specs.AnswerText.{cause_word}
+use Rattle.trace_lines.specs.answers.AnswerText.{cause_word}
 use Rattle.drive_pictures.specs.declared.drives.Drive.{Drive}
 use Rattle.drive_pictures.specs.declared.requests.Outcome.{Outcome}
 use Rattle.drive_pictures.specs.declared.requests.Outcome.TheVariants as outcome
@@ -11,7 +11,7 @@ use Rattle.drive_pictures.specs.declared.requests.Request.{Request}
 use Rattle.drive_pictures.specs.Requests.{stopped_by, answer}
 use Rattle.hardware_table.specs.declared.Moved.TheVariants as verdict
 use Rattle.hardware_table.specs.Drive.{DriveState}
-use Rattle.subsystem_spec.specs.Requests.{Answer, ReadOk, WriteOk, OutsidePartition, EndOfPartition, NoFrames, Failed, Cause, Offline, Locked, Unforwarded, Fault}
+use Rattle.trace_replay.specs.requests.Requests.{Answer, ReadOk, WriteOk, OutsidePartition, EndOfPartition, NoFrames, Failed, Cause, Offline, Locked, Unforwarded, Fault}
 use Rattle.trace_replay.specs.Moments.{Deed, Centre, Clear, Try, End}
 use Rattle.trace_replay.specs.Conversation.{Hand, Segment, Stage, Steps, AtOnce, Saying, Ending, due}
 use Rattle.trace_replay.specs.Replay.{UnitSeen, hand_of}

@@ -17,15 +17,15 @@ use Rattle.pack_geometry.specs.declared.DriveKind.{DriveKind}
 use Rattle.partitions.specs.declared.Admission.{Admission}
 use Rattle.partitions.specs.declared.Admission.TheVariants as meets
 use Rattle.picture_sheet.specs.Words.{outcome_word}
-use Rattle.run_counts.proofs.Doing.{set_length, is_same}
-use Rattle.run_counts.proofs.Keeping.{keeps_set}
+use Rattle.run_meanings.proofs.counted.Doing.{set_length, is_same}
+use Rattle.run_meanings.proofs.counted.Keeping.{keeps_set}
 use Rattle.run_meanings.proofs.Listening.{found_more}
 use Rattle.run_meanings.specs.Outcomes.{answer_word}
 use Rattle.run_picture.specs.Fold.{Known, drive_at, request_at, asked_with, admitted_by, drive_asked, request_asked, frames_of}
 use Rattle.run_picture.specs.Places.{place_of, place_from}
-use Rattle.subsystem_spec.specs.Requests.{Request as Wish, Rejection, AtEnd, Beyond, FramesShort, rejection_answer}
-use Rattle.subsystem_spec.specs.ServiceOrder.{Waiting, is_before, put}
-use Rattle.subsystem_spec.proofs.ServiceOrderRuns.{ArePlaced, IsPlaced, newcomer, each-put, after_join-waiting}
+use Rattle.trace_replay.specs.requests.Requests.{Request as Wish, Rejection, AtEnd, Beyond, FramesShort, rejection_answer}
+use Rattle.trace_replay.specs.requests.ServiceOrder.{Waiting, is_before, put}
+use Rattle.trace_replay.proofs.requests.ServiceOrderRuns.{ArePlaced, IsPlaced, newcomer, each-put, after_join-waiting}
 use Rattle.trace_replay.specs.Moments.{Deed}
 use Rattle.trace_replay.specs.Replay.{Replay, Submission, submission_by, submitted, joined_by, unit_joined, act_submitted, has_frames}
 use Rattle.trace_replay.specs.Service.{frames_needed, cylinder_of}

@@ -9,9 +9,9 @@ use Rattle.drive_pictures.specs.declared.moments.Moment.TheVariants as seen
 use Rattle.drive_pictures.specs.declared.requests.Outcome.{Outcome}
 use Rattle.drive_pictures.specs.declared.requests.Request.{Request}
 use Rattle.drive_pictures.specs.Drives.{changed, met}
-use Rattle.run_counts.proofs.Doing.{set_here, set_other, set_length, is_same, is_other}
-use Rattle.run_counts.proofs.Keeping.{keeps_set}
-use Rattle.run_counts.specs.Doings.{at_moment}
+use Rattle.run_meanings.proofs.counted.Doing.{set_here, set_other, set_length, is_same, is_other}
+use Rattle.run_meanings.proofs.counted.Keeping.{keeps_set}
+use Rattle.run_meanings.specs.counted.Doings.{at_moment}
 use Rattle.run_meanings.specs.Hearings.{IsInCondition}
 use Rattle.run_picture.specs.Fold.{Known, heard, asked_at, admitted, drive_asked, drive_at, request_at, met_at, told_at, place_in, drive_after, drive_end, step}
 use Rattle.run_picture.specs.Places.{place_of}

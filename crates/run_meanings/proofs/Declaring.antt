@@ -7,8 +7,8 @@ use Rattle.drive_pictures.specs.declared.drives.Drive.{Drive}
 use Rattle.drive_pictures.specs.declared.trials.Trial.{Trial}
 use Rattle.drive_pictures.specs.Drives.{new_drive}
 use Rattle.pack_geometry.specs.declared.DriveKind.{DriveKind}
-use Rattle.run_counts.proofs.Doing.{set_here, set_other, set_length}
-use Rattle.run_counts.proofs.Keeping.{keeps_set}
+use Rattle.run_meanings.proofs.counted.Doing.{set_here, set_other, set_length}
+use Rattle.run_meanings.proofs.counted.Keeping.{keeps_set}
 use Rattle.run_picture.specs.declared.columns.Window.{Window}
 use Rattle.run_picture.specs.Fold.{Known, new_known, declared, drive_at}
 use Rattle.trace_replay.specs.Script.{Script, IsScript, Line, Statement, Declares, Plays, drives_in, drives_of, AreUnitsFirst, IsFirst}

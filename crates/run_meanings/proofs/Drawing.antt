@@ -12,8 +12,8 @@ use Rattle.drive_pictures.specs.declared.trials.Trial.{Trial}
 use Rattle.drive_pictures.specs.Events.{begins}
 use Rattle.drive_pictures.specs.Requests.{new_request, answer, is_refused}
 use Rattle.drive_pictures.specs.Trials.{is_at}
-use Rattle.run_counts.proofs.Keeping.{turned_keeps}
-use Rattle.run_counts.specs.Doings.{at_moment}
+use Rattle.run_meanings.proofs.counted.Keeping.{turned_keeps}
+use Rattle.run_meanings.specs.counted.Doings.{at_moment}
 use Rattle.run_picture.specs.Fold.{Known, heard, drive_at, request_at, request_after, request_end, step}
 use Rattle.run_picture.specs.Places.{place_of}
 use Rattle.trace_lines.specs.declared.telling.Told.TheVariants as deed

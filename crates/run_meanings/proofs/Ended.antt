@@ -7,12 +7,12 @@ use Rattle.drive_pictures.specs.declared.moments.Moment.TheVariants as seen
 use Rattle.drive_pictures.specs.declared.requests.Request.{Request}
 use Rattle.drive_pictures.specs.Requests.{new_request, left}
 use Rattle.pack_geometry.specs.declared.DriveKind.{DriveKind}
-use Rattle.run_counts.specs.Doings.{at_moment}
+use Rattle.run_meanings.specs.counted.Doings.{at_moment}
 use Rattle.run_meanings.proofs.Listening.{own_at}
 use Rattle.run_meanings.specs.Outcomes.{IsWordOf}
 use Rattle.run_picture.specs.Fold.{Known, heard, asked_at, admitted, drive_at, request_at, request_asked, frames_of, request_after, ended_behind, events_in, finished, step}
 use Rattle.run_picture.specs.Places.{place_of}
-use Rattle.subsystem_spec.specs.Requests.{Answer, Request as Wished}
+use Rattle.trace_replay.specs.requests.Requests.{Answer, Request as Wished}
 use Rattle.trace_lines.specs.declared.telling.Told.{Told as Line}
 use Rattle.trace_reader.specs.RoundTrip.{told_of}
 use Rattle.trace_replay.specs.Causes.{AskSome}

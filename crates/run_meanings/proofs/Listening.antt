@@ -18,9 +18,9 @@ use Rattle.drive_pictures.specs.Events.{begins, line_of, is_idle}
 use Rattle.drive_pictures.specs.Requests as requests
 use Rattle.drive_pictures.specs.Requests.{new_request, done_after}
 use Rattle.drive_pictures.specs.Trials.{in_hand, wanted, verdict_trial}
-use Rattle.run_counts.proofs.Doing.{set_here, set_other, map_length, set_length, is_same, is_other}
-use Rattle.run_counts.proofs.Keeping.{keeps_set, keeps_map}
-use Rattle.run_counts.specs.Doings.{at_moment}
+use Rattle.run_meanings.proofs.counted.Doing.{set_here, set_other, map_length, set_length, is_same, is_other}
+use Rattle.run_meanings.proofs.counted.Keeping.{keeps_set, keeps_map}
+use Rattle.run_meanings.specs.counted.Doings.{at_moment}
 use Rattle.run_picture.specs.declared.columns.Head.{Head}
 use Rattle.run_picture.specs.Columns.{headed, is_before, is_inside, is_full}
 use Rattle.run_picture.specs.Fold.{Known, heard, asked_at, admitted, request_asked, frames_of, drive_asked, drive_at, request_at, met_at, told_at, place_in, drive_after, request_after, event_counted_in, event_ended, shown_by, column_closed, turned_behind, step}

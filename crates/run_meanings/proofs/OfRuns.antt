@@ -1,7 +1,7 @@
 -- The outcomes of a legal run.
 use Rattle.std.proofs.Common.{◌≡◌, ℕ, Bool, true, false, not, [], ◌∷◌, Option, Some, sym, ap, ◌∙◌}
 use Rattle.drive_pictures.specs.declared.trials.Trial.{Trial}
-use Rattle.subsystem_spec.specs.Requests.{Answer}
+use Rattle.trace_replay.specs.requests.Requests.{Answer}
 use Rattle.trace_replay.specs.Moments.{Deed, Told, End}
 use Rattle.trace_replay.specs.Conditions.{online_behind, locked_behind}
 use Rattle.trace_replay.specs.Events.{Refusal, Wish}

@@ -10,7 +10,7 @@ use Rattle.partitions.specs.Partitions.{admission}
 use Rattle.drive_pictures.specs.Counts.{plus}
 use Rattle.run_picture.specs.Fold.{admitted_by, frames_of}
 use Rattle.script_lines.specs.declared.statement.Request.{Request as Asked}
-use Rattle.subsystem_spec.specs.Requests.{Request as Wish, rejection_answer}
+use Rattle.trace_replay.specs.requests.Requests.{Request as Wish, rejection_answer}
 use Rattle.trace_replay.specs.Service.{frames_needed}
 use Rattle.trace_replay.specs.Replay.{Submission, Refused, Joined, submission_by, has_frames}
 use Rattle.run_meanings.specs.Outcomes.{AreSame, IsRefusedAs, AreRefused}

@@ -15,13 +15,13 @@ use Rattle.drive_pictures.specs.declared.moments.Moment.{Moment as Seen}
 use Rattle.hardware_table.specs.Adapter.{AdapterState}
 use Rattle.pack_geometry.specs.declared.DriveKind.{DriveKind}
 use Rattle.partitions.specs.Partitions.{admission}
-use Rattle.run_counts.proofs.Doing.{set_length}
-use Rattle.run_counts.proofs.Keeping.{keeps_set}
-use Rattle.run_counts.specs.Doings.{at_moment}
+use Rattle.run_meanings.proofs.counted.Doing.{set_length}
+use Rattle.run_meanings.proofs.counted.Keeping.{keeps_set}
+use Rattle.run_meanings.specs.counted.Doings.{at_moment}
 use Rattle.run_meanings.proofs.Listening.{own_at}
 use Rattle.run_picture.specs.Fold.{Known, heard, asked_at, asked_with, admitted, admitted_by, drive_at, request_at, told_at, drive_after, drive_end, request_after, frames_back, step}
 use Rattle.run_picture.specs.Places.{place_of}
-use Rattle.subsystem_spec.specs.Requests.{Request as Wished, Rejection, rejection_answer}
+use Rattle.trace_replay.specs.requests.Requests.{Request as Wished, Rejection, rejection_answer}
 use Rattle.trace_lines.specs.declared.telling.Told.TheVariants as deed
 use Rattle.trace_reader.specs.RoundTrip.{told_of}
 use Rattle.trace_replay.specs.Adapters.{AdapterSeen, can_move}

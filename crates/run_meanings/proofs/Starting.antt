@@ -14,7 +14,7 @@ use Rattle.pack_geometry.specs.TableSpelling.{Table}
 use Rattle.drive_pictures.specs.declared.requests.Request.{Request}
 use Rattle.run_picture.specs.Fold.{Known, step}
 use Rattle.run_picture.specs.Places.{place_of, place_from}
-use Rattle.subsystem_spec.specs.Requests.{Request as Wish, IsRequest}
+use Rattle.trace_replay.specs.requests.Requests.{Request as Wish, IsRequest}
 use Rattle.trace_replay.specs.Causes.{AskSome}
 use Rattle.trace_replay.specs.Drives.{attached}
 use Rattle.trace_replay.specs.History.{lines_after, lines_behind}

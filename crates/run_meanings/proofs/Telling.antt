@@ -16,15 +16,15 @@ use Rattle.drive_pictures.specs.Trials.{verdict_trial, in_hand}
 use Rattle.hardware_table.specs.declared.Moved.{Moved}
 use Rattle.hardware_table.specs.declared.Moved.TheVariants as verdict
 use Rattle.pack_geometry.specs.declared.DriveKind.{DriveKind}
-use Rattle.run_counts.proofs.Doing.{set_here, set_other, set_length}
-use Rattle.run_counts.proofs.Keeping.{keeps_set}
+use Rattle.run_meanings.proofs.counted.Doing.{set_here, set_other, set_length}
+use Rattle.run_meanings.proofs.counted.Keeping.{keeps_set}
 use Rattle.run_meanings.proofs.Drawing.{no_refusal}
 use Rattle.run_meanings.proofs.Listening.{Same, told_same, own_at}
 use Rattle.run_meanings.specs.Hearings.{told_all}
 use Rattle.run_picture.specs.Fold.{Known, heard, drive_at, request_at, told_at, drive_after, drive_end, request_after, back_after, frames_back}
 use Rattle.run_picture.specs.Places.{place_of}
-use Rattle.subsystem_spec.specs.Requests.{Request as Wish, Answer}
-use Rattle.subsystem_spec.specs.ServiceOrder.{Waiting, Service}
+use Rattle.trace_replay.specs.requests.Requests.{Request as Wish, Answer}
+use Rattle.trace_replay.specs.requests.ServiceOrder.{Waiting, Service}
 use Rattle.trace_lines.specs.declared.telling.Told.TheVariants as deed
 use Rattle.trace_reader.specs.RoundTrip.{told_of}
 use Rattle.trace_replay.specs.History.{is_refusal, with_deed, lines_after}

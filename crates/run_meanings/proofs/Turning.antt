@@ -7,9 +7,9 @@ use Rattle.drive_pictures.specs.declared.trials.Trial.{Trial}
 use Rattle.drive_pictures.specs.Drives.{event_counted, unseen, cleared}
 use Rattle.drive_pictures.specs.Events.{begins, line_of, is_idle}
 use Rattle.pack_geometry.specs.declared.DriveKind.{DriveKind}
-use Rattle.run_counts.proofs.Doing.{map_length}
-use Rattle.run_counts.specs.Doings.{at_moment}
-use Rattle.run_counts.proofs.Keeping.{turned_keeps}
+use Rattle.run_meanings.proofs.counted.Doing.{map_length}
+use Rattle.run_meanings.specs.counted.Doings.{at_moment}
+use Rattle.run_meanings.proofs.counted.Keeping.{turned_keeps}
 use Rattle.run_picture.specs.declared.columns.Head.{Head}
 use Rattle.run_picture.specs.Columns.{headed, is_before, is_inside, is_full}
 use Rattle.run_picture.specs.Fold.{Known, drive_at, event_counted_in, event_ended, shown_by, column_closed, turned_behind}

@@ -10,16 +10,16 @@ use Rattle.drive_pictures.specs.declared.requests.Request.{Request}
 use Rattle.drive_pictures.specs.declared.trials.Trial.{Trial}
 use Rattle.pack_geometry.specs.declared.DriveKind.{DriveKind}
 use Rattle.picture_sheet.specs.Words.{outcome_word}
-use Rattle.run_counts.specs.Doings.{at_moment}
+use Rattle.run_meanings.specs.counted.Doings.{at_moment}
 use Rattle.run_meanings.proofs.Listening.{one_id}
 use Rattle.run_meanings.specs.Hearings.{HasHeard}
 use Rattle.run_meanings.specs.Outcomes.{answer_word}
 use Rattle.run_meanings.proofs.Hearing.{Holds}
 use Rattle.run_picture.specs.Fold.{Known, drive_at, request_at}
 use Rattle.run_picture.specs.Places.{place_of}
-use Rattle.subsystem_spec.specs.Requests.{Request as Wish, Rejection, rejection_answer}
-use Rattle.subsystem_spec.specs.ServiceOrder.{Waiting, is_before, put}
-use Rattle.subsystem_spec.proofs.ServiceOrderRuns.{each-put}
+use Rattle.trace_replay.specs.requests.Requests.{Request as Wish, Rejection, rejection_answer}
+use Rattle.trace_replay.specs.requests.ServiceOrder.{Waiting, is_before, put}
+use Rattle.trace_replay.proofs.requests.ServiceOrderRuns.{each-put}
 use Rattle.trace_replay.specs.Events.{Act, Refusing}
 use Rattle.trace_replay.specs.Moments.{Deed}
 use Rattle.trace_replay.specs.Replay.{Replay}

@@ -19,8 +19,8 @@ use Rattle.partitions.specs.declared.Admission.TheVariants as meets
 use Rattle.partitions.specs.Partitions.{admission}
 use Rattle.run_picture.specs.Fold.{Known, new_known, heard, asked_with, admitted_by, drive_asked, drive_at, request_at, told_at, drive_after, drive_end, step}
 use Rattle.run_picture.specs.Places.{place_of}
-use Rattle.subsystem_spec.specs.Requests.{Request as Wished, Rejection}
-use Rattle.subsystem_spec.specs.ServiceOrder.{Waiting, Service, is_before, put, service_order, sweep_for, after_join}
+use Rattle.trace_replay.specs.requests.Requests.{Request as Wished, Rejection}
+use Rattle.trace_replay.specs.requests.ServiceOrder.{Waiting, Service, is_before, put, service_order, sweep_for, after_join}
 use Rattle.trace_lines.specs.declared.telling.Told.TheVariants as deed
 use Rattle.trace_reader.specs.RoundTrip.{told_of}
 use Rattle.trace_replay.specs.Causes.{AskSome}
@@ -34,9 +34,9 @@ use Rattle.trace_replay.specs.Script.{drives_of, Line, Statement, Declares, Play
 use Rattle.trace_replay.specs.Service.{cylinder_of, frames_needed, service_after}
 use Rattle.trace_replay.proofs.Kept.{AllFit, starts}
 use Rattle.trace_replay.proofs.Unchanged.{drained_keeps}
-use Rattle.run_counts.specs.Doings.{at_moment}
-use Rattle.run_counts.proofs.Doing.{set_here, set_other, is_same, is_other}
-use Rattle.run_counts.proofs.Keeping.{keeps_set, turned_keeps}
+use Rattle.run_meanings.specs.counted.Doings.{at_moment}
+use Rattle.run_meanings.proofs.counted.Doing.{set_here, set_other, is_same, is_other}
+use Rattle.run_meanings.proofs.counted.Keeping.{keeps_set, turned_keeps}
 use Rattle.run_meanings.proofs.Drawing.{no_refusal}
 use Rattle.run_meanings.proofs.Listening.{own_at}
 use Rattle.run_meanings.specs.Hears.{seen_of, known_of, play_of, asked_of, declares, declared_by}

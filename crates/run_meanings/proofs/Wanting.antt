@@ -7,9 +7,9 @@ use Rattle.hardware_table.specs.declared.Moved.{Moved}
 use Rattle.hardware_table.specs.Drive.{DriveState}
 use Rattle.pack_geometry.specs.declared.DriveKind.{DriveKind}
 use Rattle.pack_geometry.specs.TableSpelling.{Table}
-use Rattle.subsystem_spec.specs.ServiceOrder.{Waiting as Waiter, put, Service, after_leave}
-use Rattle.subsystem_spec.proofs.ServiceOrderRuns.{newcomer, after_join-waiting}
-use Rattle.subsystem_spec.specs.Requests.{Request, Rejection, rejection_answer}
+use Rattle.trace_replay.specs.requests.ServiceOrder.{Waiting as Waiter, put, Service, after_leave}
+use Rattle.trace_replay.proofs.requests.ServiceOrderRuns.{newcomer, after_join-waiting}
+use Rattle.trace_replay.specs.requests.Requests.{Request, Rejection, rejection_answer}
 use Rattle.trace_replay.specs.Script.{Input, Submit}
 use Rattle.trace_replay.specs.Moments.{Deed, Search, Seek, Recal, Offset, Centre, Clear, Pack, Transfer, Arrive, Sector, Intr, Try, Attn, End, Moment, Played, Told, Idle}
 use Rattle.trace_replay.specs.Drives.{drive_after}

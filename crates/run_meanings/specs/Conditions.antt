@@ -1,6 +1,6 @@
 -- THE CONDITIONS OF DRIVES, as they are drawn.
 use Rattle.std.specs.Prelude.{ℕ, ◌<◌, List, map}
-use Rattle.run_counts.specs.Counted.{behind}
+use Rattle.run_meanings.specs.counted.Counted.{behind}
 use Rattle.run_meanings.specs.Hearings.{IsInCondition}
 use Rattle.run_picture.specs.declared.columns.Window.{Window}
 use Rattle.run_picture.specs.Fold.{drive_at}

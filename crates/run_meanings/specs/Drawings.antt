@@ -5,9 +5,9 @@ use Rattle.drive_pictures.specs.declared.moments.Moment.{Moment as Seen}
 use Rattle.drive_pictures.specs.declared.moments.Moment.TheVariants as seen
 use Rattle.pack_geometry.specs.Pack as model
 use Rattle.pack_geometry.specs.TableSpelling.{Table}
-use Rattle.run_counts.specs.Counted.{behind}
+use Rattle.run_meanings.specs.counted.Counted.{behind}
 use Rattle.run_picture.specs.Fold.{Known, drive_at, request_at}
-use Rattle.subsystem_spec.specs.Requests.{Answer}
+use Rattle.trace_replay.specs.requests.Requests.{Answer}
 use Rattle.trace_lines.specs.declared.telling.Told.TheVariants as deed
 use Rattle.trace_reader.specs.RoundTrip.{told_of}
 use Rattle.trace_replay.specs.History.{is_refusal, lines_of}

@@ -6,3 +6,4 @@ pub mod Hears
 pub mod Conditions
 pub mod Answers
 pub mod Meanings
+pub mod counted

@@ -14,7 +14,7 @@ use Rattle.run_view.specs.Views.{known_before, Views}
 use Rattle.script_reader.specs.Meaning.{meaning_of}
 use Rattle.script_reader.specs.Stored.{Stored}
 use Rattle.trace_reader.specs.RoundTrip.{lines_told}
-use Rattle.subsystem_spec.specs.Requests.{Answer}
+use Rattle.trace_replay.specs.requests.Requests.{Answer}
 use Rattle.trace_reader.specs.Grammar.{Spells}
 use Rattle.trace_replay.specs.Moments.{Moment, Played, Told, End}
 use Rattle.trace_replay.specs.Runs.{IsLegalRun}

@@ -1,6 +1,6 @@
 -- THE OUTCOMES OF A LEGAL RUN are the words of its answers.
 use Rattle.std.specs.Prelude.{◌≡◌, ℕ, ◌<◌, ◌^◌, false, List, ◌∷◌, ◌++◌, length, codes, Option, Some, Result, Ok, Err}
-use Rattle.answer_lines.specs.AnswerText.{cause_word}
+use Rattle.trace_lines.specs.answers.AnswerText.{cause_word}
 use Rattle.drive_pictures.specs.declared.drives.Drive.{Drive}
 use Rattle.drive_pictures.specs.declared.requests.Outcome.{Outcome}
 use Rattle.drive_pictures.specs.declared.requests.Outcome.TheVariants as outcome
@@ -11,7 +11,7 @@ use Rattle.pack_geometry.specs.TableSpelling.{Table}
 use Rattle.picture_sheet.specs.Words.{outcome_word}
 use Rattle.run_picture.specs.Fold.{admitted}
 use Rattle.script_lines.specs.declared.statement.Request.{Request as Asked}
-use Rattle.subsystem_spec.specs.Requests.{Request as Wish, Answer, ReadOk, WriteOk, OutsidePartition, EndOfPartition, NoFrames, Failed, Rejection, rejection_answer}
+use Rattle.trace_replay.specs.requests.Requests.{Request as Wish, Answer, ReadOk, WriteOk, OutsidePartition, EndOfPartition, NoFrames, Failed, Rejection, rejection_answer}
 use Rattle.trace_replay.specs.History.{is_refusal, lines_of}
 use Rattle.trace_replay.specs.Moments.{Moment, Told, End}
 use Rattle.trace_replay.specs.Replay.{Replay, Refused, submission}

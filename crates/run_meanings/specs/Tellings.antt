@@ -3,7 +3,7 @@ use Rattle.std.specs.Prelude.{◌≡◌, ℕ, ◌<◌, ◌==◌, if◌then◌els
 use Rattle.std.specs.List.{AllByRecursion}
 use Rattle.drive_pictures.specs.declared.moments.Moment.{Moment}
 use Rattle.drive_pictures.specs.declared.moments.Moment.TheVariants.{Played, Told, Idle}
-use Rattle.run_counts.specs.Counted.{behind}
+use Rattle.run_meanings.specs.counted.Counted.{behind}
 use Rattle.run_picture.specs.Fold.{Known, drive_at, request_at}
 use Rattle.run_picture.specs.Places.{place_of}
 use Rattle.trace_lines.specs.declared.telling.Told.{Told as Line}

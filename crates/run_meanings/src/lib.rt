@@ -1,7 +1,9 @@
 //! What a picture says of a legal run: how each request was answered (`outcomes`, `drawings`), the conditions of drives (`conditions`),
-//! the answers (`answers`), and that it reads of a script what the script means (`meanings`).
+//! the answers (`answers`), that it reads of a script what the script means (`meanings`), and what it
+//! counts over the whole run (`counted`).
 #![tactic(auto)]
 
+pub mod counted;
 pub mod answers;
 pub mod conditions;
 pub mod drawings;

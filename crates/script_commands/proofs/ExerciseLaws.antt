@@ -18,7 +18,7 @@ use Rattle.trace_replay.specs.Script.{Drain, Numbered, Script, IsScript, with_in
 use Rattle.trace_replay.specs.Runs.{IsLegalRun}
 use Rattle.driver_laws.specs.rules.LegalAnswers.{AreNoAliases}
 use Rattle.driver_laws.specs.rules.Promises.{Promises}
-use Rattle.answer_lines.specs.declared.tally.Tally.{Tally}
+use Rattle.trace_lines.specs.declared.answers.tally.Tally.{Tally}
 use Rattle.event_player.proofs.Passes.{legal_runs_are_one}
 use Rattle.event_player.specs.PlayFault.{PlayFault}
 use Rattle.event_player.specs.PlayFault.TheVariants as faults

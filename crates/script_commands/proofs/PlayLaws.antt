@@ -5,7 +5,7 @@ use Rattle.outside_traits.specs.Puts.{TakesFront}
 use Rattle.pack_geometry.specs.Pack.{Pack}
 use Rattle.script_lines.specs.declared.kinds.ScriptKind.{ScriptKind}
 use Rattle.trace_replay.specs.Script.{Script}
-use Rattle.answer_lines.specs.declared.tally.Tally.{Tally}
+use Rattle.trace_lines.specs.declared.answers.tally.Tally.{Tally}
 use Rattle.event_player.specs.PlayFault.{PlayFault}
 use Rattle.event_player.specs.PlayFault.TheVariants as faults
 use Rattle.event_player.specs.Faults.{IsPlaying, IsBefore, IsLongFor}

@@ -6,7 +6,7 @@ use Rattle.pack_geometry.specs.declared.DriveKind.{DriveKind}
 use Rattle.pack_geometry.specs.Pack.{Pack}
 use Rattle.pack_geometry.specs.PackTable.{AreTablesOf}
 use Rattle.pack_geometry.specs.TableSpelling.{Table}
-use Rattle.subsystem_spec.specs.Requests.{Request, Answer, IsRequest}
+use Rattle.trace_replay.specs.requests.Requests.{Request, Answer, IsRequest}
 use Rattle.trace_replay.specs.Script.{Script, Input, Submit, ArriveAt, MoveAt, AttendTo, Drain, Turn, Noise, Arm, SetOnline, SetLocked, Statement, Declares, Plays, Line, Numbered, with_input, inputs_before, drives_of, IsThere, IsInput, IsStatement, IsScript, AreApart}
 use Rattle.trace_replay.specs.Moments.{Moment, Played, Told, Idle, End, played}
 use Rattle.trace_replay.specs.Packs.{surface_of}

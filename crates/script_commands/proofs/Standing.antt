@@ -3,11 +3,11 @@ use Rattle.std.proofs.Common.{◌≡◌, ◌⊎◌, inl, inr, ℕ, Bool, true, f
 use Rattle.std.proofs.lemmas.Bool.{false≢true}
 use Rattle.std.proofs.lemmas.Bool.Decides.{eqb_tells}
 use Rattle.std.proofs.lemmas.Grind.{flat_map-append}
-use Rattle.subsystem_spec.specs.Requests.{Answer}
+use Rattle.trace_replay.specs.requests.Requests.{Answer}
 use Rattle.trace_replay.specs.Moments.{Moment, Told, End, answers_in}
 use Rattle.driver_laws.specs.answers.Outcome.{IsFront}
 use Rattle.driver_laws.proofs.answers.Joined.{front_of_front}
-use Rattle.answer_lines.specs.AnswerText.{said_text, out_text, answer_line, blocks_text}
+use Rattle.trace_lines.specs.answers.AnswerText.{said_text, out_text, answer_line, blocks_text}
 use Rattle.script_commands.specs.SoFar.{Stands, StandIn}
 
 -- A text is a front of another one or not.

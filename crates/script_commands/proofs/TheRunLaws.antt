@@ -8,7 +8,7 @@ use Rattle.script_reader.proofs.ReadingLaws.{one_script}
 use Rattle.script_reader.specs.Meaning.{meaning}
 use Rattle.trace_replay.specs.Moments.{Moment}
 use Rattle.trace_replay.specs.Text.{trace_text}
-use Rattle.answer_lines.specs.AnswerText.{out_text}
+use Rattle.trace_lines.specs.answers.AnswerText.{out_text}
 use Rattle.event_player.specs.Plays.{Plays}
 use Rattle.event_player.specs.Passes.{HasOneRun}
 use Rattle.event_player.proofs.Passes.{bytes_have_one_run}

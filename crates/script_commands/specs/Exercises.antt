@@ -10,7 +10,7 @@ use Rattle.script_lines.specs.Words.{all_verbs}
 use Rattle.script_reader.specs.Meaning.{meaning}
 use Rattle.trace_replay.specs.Script.{Script, inputs_of}
 use Rattle.driver_laws.specs.rules.LegalAnswers.{AreNoAliases}
-use Rattle.answer_lines.specs.declared.tally.Tally.{Tally}
+use Rattle.trace_lines.specs.declared.answers.tally.Tally.{Tally}
 use Rattle.event_player.specs.PlayFault.TheVariants as faults
 use Rattle.event_player.specs.Plays.{Tallied}
 use Rattle.event_player.specs.Passes.{Took}

@@ -2,7 +2,7 @@
 use Rattle.std.specs.Prelude.{◌≡◌, ℕ, ◌*◌, ◌≤◌, false, List, [], ◌∷◌, ◌++◌, Option}
 use Rattle.pack_geometry.specs.Pack.{Pack}
 use Rattle.pack_geometry.specs.TableSpelling.{Table}
-use Rattle.subsystem_spec.specs.Requests.{Answer}
+use Rattle.trace_replay.specs.requests.Requests.{Answer}
 use Rattle.trace_replay.specs.Script.{Script, drives_of}
 use Rattle.trace_replay.specs.Moments.{Moment, Told, End}
 use Rattle.trace_replay.specs.Service.{in_hand}
@@ -12,7 +12,7 @@ use Rattle.trace_replay.specs.Causes.{IsExplained}
 use Rattle.trace_replay.specs.Runs.{start_of}
 use Rattle.driver_laws.specs.rules.Commands.{commands_in}
 use Rattle.driver_laws.specs.answers.Outcome.{IsFront}
-use Rattle.answer_lines.specs.AnswerText.{out_text, answer_line}
+use Rattle.trace_lines.specs.answers.AnswerText.{out_text, answer_line}
 use Rattle.driver_laws.specs.rules.Laws.{HasBegun}
 use Rattle.event_player.specs.PlayFault.{PlayFault}
 use Rattle.event_player.specs.PlayFault.TheVariants as faults

@@ -4,7 +4,7 @@ ghost use Rattle.outside_traits.specs.Causes.{Rose};
 ghost use Rattle.command_parts.specs.Statuses.{status_code};
 ghost use Rattle.script_commands.specs.Exercises.{Exercised, IsCutShort, IsDone, IsStopped, RunsExercise};
 
-use answer_lines::Tally;
+use trace_lines::answers::Tally;
 use command_parts::Status;
 use driver_laws::rules::promises::promises_law;
 use event_player::play::{PlayFault, play};

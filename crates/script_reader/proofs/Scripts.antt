@@ -19,7 +19,7 @@ use Rattle.script_lines.specs.Known.{Known, Said, Numbered, verb_of, kind_after,
 use Rattle.script_reader.specs.Stored.{lines_in}
 use Rattle.script_lines.specs.Words.{all_verbs}
 use Rattle.script_reader.proofs.WellLaws.{spelled_well}
-use Rattle.subsystem_spec.specs.Requests.{IsRequest}
+use Rattle.trace_replay.specs.requests.Requests.{IsRequest}
 use Rattle.script_lines.specs.Script.{Line, declares, IsPlayed, ArePlays, IsFirst, AreUnitsFirst, with_id, ids_of, AreApart, IsThere, IsSpan, IsStatement, drives_in, drives_of, declared_by}
 use Rattle.script_reader.specs.Meaning.{size_of, bytes_of, written_of, request_of, statement_of, line_of, meaning}
 use Rattle.script_reader.specs.Promises.{said_in, MeansScript, ReadMeansScript}

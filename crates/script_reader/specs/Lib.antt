@@ -7,3 +7,4 @@ pub mod Reading
 pub mod Stored
 pub mod Meaning
 pub mod Promises
+pub mod cached

@@ -8,7 +8,7 @@ use Rattle.script_lines.specs.declared.statement.Request.{Request as Asked}
 use Rattle.script_lines.specs.declared.statement.Statement.TheVariants as says
 use Rattle.script_lines.specs.Known.{Said, Numbered}
 use Rattle.script_reader.specs.Stored.{Stored, lines_in}
-use Rattle.subsystem_spec.specs.Requests.{Request}
+use Rattle.trace_replay.specs.requests.Requests.{Request}
 use Rattle.script_lines.specs.Script.{Submit, ArriveAt, MoveAt, AttendTo, Drain, Turn, Noise, Arm, SetOnline, SetLocked, Statement, Declares, Plays, Line, Script}
 
 -- WHAT A WRITE WRITES. So many bytes of a sequence from number `i` on: byte t of block j is the sum of `first`, j and t, modulo 256

@@ -1,4 +1,4 @@
-//! Scripts: the words of their lines, and the reader of a whole script.
+//! Scripts: the words of their lines, and the reader of a whole script; and of one of the cache (`cached`).
 //!
 //! What is proved: `read_script`: Ok gives just the lines that the bytes spell by the grammar, and a refusal its first fault,
 //! by line and kind; `grammar_law`: one of both, and never both, for any list of words that are played. `read_back_law`: the
@@ -8,6 +8,7 @@
 //! Only tested, in `hpsim_rows`: worked values, beside their proofs.
 #![tactic(auto)]
 
+pub mod cached;
 mod data;
 mod fault;
 mod lines;

@@ -10,15 +10,15 @@ use Rattle.script_runs.specs.Steps.{tables_in, AreSetFor}
 use Rattle.script_runs.proofs.Attached.{AreAttached, HasDrive, attached_more, attached_still, drive_there, set_for_script}
 use Rattle.script_runs.specs.Lengths.{NamesTooLong}
 use Rattle.script_runs.proofs.AttachLaws.{AreTold, set_up_as, told_more, told_still}
-use Rattle.cached_script.specs.declared.statement.Line.{Line as Said}
-use Rattle.cached_script.specs.Scripts as cached
-use Rattle.cached_script.specs.Formed.{IsScript}
+use Rattle.script_reader.specs.declared.cached.statement.Line.{Line as Said}
+use Rattle.script_reader.specs.cached.Scripts as cached
+use Rattle.script_reader.specs.cached.Formed.{IsScript}
 use Rattle.script_runs.specs.declared.fault.PlayFault.{PlayFault}
 use Rattle.script_runs.specs.declared.fault.PlayFault.TheVariants as faults
 use Rattle.script_runs.specs.Cached.{HasRoom, Adds, RefusesLine}
 use Rattle.script_runs.specs.Faults.{IsLongFor}
-use Rattle.cached_script.specs.Meaning.{lines_before}
-use Rattle.cached_script.specs.Meaning.{statement_of, line_of, meaning_of}
+use Rattle.script_reader.specs.cached.Meaning.{lines_before}
+use Rattle.script_reader.specs.cached.Meaning.{statement_of, line_of, meaning_of}
 use Rattle.script_runs.proofs.CachedLines.{lines_more, lines_split, first_at, lines_all}
 
 attached_line : (line : Line) (tells : Bool) (packs : ℕ → Pack) (lines : List Line) (old new : List Setup) → ((u : ℕ) (kind : DriveKind) → line.statement ≡ Declares u kind → HasDrive lines u)

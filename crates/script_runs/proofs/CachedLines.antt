@@ -11,13 +11,13 @@ use Rattle.pack_geometry.specs.declared.DriveKind.{DriveKind}
 use Rattle.pack_geometry.specs.declared.DriveKind.TheVariants.{Rp06}
 use Rattle.trace_replay.specs.Script.{Declares, Plays, Input, declared_by, drives_in}
 use Rattle.script_runs.proofs.Attached.{HasDrive}
-use Rattle.cached_script.specs.declared.statement.Statement.{Statement as Says}
-use Rattle.cached_script.specs.declared.statement.Statement.TheVariants as says
-use Rattle.cached_script.specs.declared.statement.Line.{Line as Said}
-use Rattle.cached_script.specs.Scripts as cached
-use Rattle.cached_script.specs.Scripts.{kind_after, kind_in, known_of}
-use Rattle.cached_script.specs.Formed.{IsWell, AreWell, IsScript}
-use Rattle.cached_script.specs.Meaning.{statement_of, line_of, lines_before, meaning_of}
+use Rattle.script_reader.specs.declared.cached.statement.Statement.{Statement as Says}
+use Rattle.script_reader.specs.declared.cached.statement.Statement.TheVariants as says
+use Rattle.script_reader.specs.declared.cached.statement.Line.{Line as Said}
+use Rattle.script_reader.specs.cached.Scripts as cached
+use Rattle.script_reader.specs.cached.Scripts.{kind_after, kind_in, known_of}
+use Rattle.script_reader.specs.cached.Formed.{IsWell, AreWell, IsScript}
+use Rattle.script_reader.specs.cached.Meaning.{statement_of, line_of, lines_before, meaning_of}
 
 -- ---- the units that lines declare, as the reader knows them and as they are meant
 abbrev pub Has : Option DriveKind → Type 0

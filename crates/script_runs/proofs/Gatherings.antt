@@ -5,8 +5,8 @@ use Rattle.std.proofs.lemmas.List.{take-append-drop, take-take}
 use Rattle.outside_traits.specs.Puts.{Puts}
 use Rattle.outside_traits.specs.Gathers.{Gathers}
 use Rattle.outside_traits.proofs.GatherLaws.{gathers_join, gathers_stop, gathers_whole}
-use Rattle.answer_lines.specs.AnswerText.{block_text, block_texts}
-use Rattle.answer_lines.proofs.TextLaws.{one_more}
+use Rattle.trace_lines.specs.answers.AnswerText.{block_text, block_texts}
+use Rattle.trace_lines.proofs.answers.TextLaws.{one_more}
 
 -- the text of some blocks is a front of that of more
 texts_append : (xs ys : List (List ℕ)) (k : ℕ) → block_texts k (xs ++ ys) ≡ block_texts k xs ++ block_texts (k + length xs) ys

@@ -9,8 +9,8 @@ use Rattle.pack_geometry.specs.Geometry.{limit_of}
 use Rattle.partitions.specs.declared.Admission.TheVariants.{Inside, Eof, Outside}
 use Rattle.partitions.specs.Partitions.{size_of, first_of}
 use Rattle.partitions.proofs.Ends.{part_ends}
-use Rattle.subsystem_spec.specs.Requests.{Request, IsRequest, first_block}
-use Rattle.subsystem_spec.specs.declared.answers.AnswerKind.{AnswerKind}
+use Rattle.trace_replay.specs.requests.Requests.{Request, IsRequest, first_block}
+use Rattle.trace_replay.specs.declared.requests.answers.AnswerKind.{AnswerKind}
 use Rattle.driver_machine.specs.World.{World, Held, no_held, unit_at, pieces, frames_of}
 use Rattle.driver_machine.specs.Events.{refusal_of, refusal_by, is_room}
 use Rattle.driver_machine.specs.Guards.{IsSetUp, IsFresh}

@@ -7,7 +7,7 @@ use Rattle.std.proofs.lemmas.List.Elements.{All-head, All-tail}
 use Rattle.pack_geometry.specs.Pack.{Pack}
 use Rattle.pack_geometry.specs.TableSpelling.{Table}
 use Rattle.pack_geometry.proofs.PackTableLaws.{tables_once}
-use Rattle.subsystem_spec.specs.Requests.{Request}
+use Rattle.trace_replay.specs.requests.Requests.{Request}
 use Rattle.trace_replay.specs.Script as says
 use Rattle.trace_replay.specs.Script.{Script, Statement, Declares, Plays, Line, Numbered, IsStatement, AreNumbered, AreApart, drives_of, ids_of, with_id, with_input, inputs_before}
 use Rattle.trace_replay.specs.Runs.{IsLegalRun}

@@ -9,7 +9,7 @@ use Rattle.trace_replay.specs.Runs.{start_of}
 use Rattle.trace_replay.specs.Text.{trace_text}
 use Rattle.driver_laws.specs.answers.Outcome.{IsFront}
 use Rattle.driver_laws.specs.shown.Lengths.{AreAsLong}
-use Rattle.answer_lines.specs.AnswerText.{out_text}
+use Rattle.trace_lines.specs.answers.AnswerText.{out_text}
 use Rattle.driver_laws.specs.rules.Beginnings.{IsBegun, PromisesSoFar}
 use Rattle.script_runs.specs.Writing.{WriteNothing}
 

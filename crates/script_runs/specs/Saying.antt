@@ -1,10 +1,10 @@
 -- What is said of an answer, with the blocks that a read gave.
 use Rattle.std.specs.Prelude.{ℕ, List, [], ◌++◌, take}
-use Rattle.subsystem_spec.specs.Answers.{answer_of}
-use Rattle.subsystem_spec.specs.declared.answers.AnswerKind.{AnswerKind}
-use Rattle.subsystem_spec.specs.declared.answers.AnswerKind.TheVariants as answer
-use Rattle.answer_lines.specs.AnswerText.{answer_line, block_texts}
-use Rattle.answer_lines.specs.Blocks.{joined}
+use Rattle.trace_replay.specs.requests.Answers.{answer_of}
+use Rattle.trace_replay.specs.declared.requests.answers.AnswerKind.{AnswerKind}
+use Rattle.trace_replay.specs.declared.requests.answers.AnswerKind.TheVariants as answer
+use Rattle.trace_lines.specs.answers.AnswerText.{answer_line, block_texts}
+use Rattle.trace_lines.specs.answers.Blocks.{joined}
 
 -- the blocks that come with an answer of a kind, and their lines
 abbrev pub blocks_with : AnswerKind → List (List ℕ) → List (List ℕ)

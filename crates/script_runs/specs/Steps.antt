@@ -4,7 +4,7 @@ use Rattle.pack_geometry.specs.declared.DriveKind.{DriveKind}
 use Rattle.pack_geometry.specs.Pack.{Pack}
 use Rattle.pack_geometry.specs.TableSpelling.{Table}
 use Rattle.pack_geometry.specs.PackTable.{AreTablesOf}
-use Rattle.subsystem_spec.specs.Requests.{Request, IsRequest}
+use Rattle.trace_replay.specs.requests.Requests.{Request, IsRequest}
 use Rattle.trace_replay.specs.Moments.{Moment, played}
 use Rattle.trace_replay.specs.Script as says
 use Rattle.trace_replay.specs.Script.{Script, Input, Numbered, IsInput, drives_of, Plays, with_id}

@@ -16,7 +16,7 @@ use Rattle.driver_laws.specs.answers.Outcome.{IsNextBlock}
 use Rattle.driver_laws.specs.shown.RunsRuns.{AreDeclared}
 use Rattle.driver_laws.specs.shown.Reach.{AskBelow, TablesBelow, StayFrom}
 use Rattle.driver_laws.specs.shown.Within.{ShowsAll}
-use Rattle.answer_lines.specs.AnswerText.{out_text}
+use Rattle.trace_lines.specs.answers.AnswerText.{out_text}
 use Rattle.driver_machine.specs.Writes.{writes_next}
 use Rattle.script_runs.specs.Ahead.{IsBetween, WritesAhead, TellsAhead}
 

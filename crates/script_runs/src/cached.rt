@@ -8,11 +8,11 @@ ghost use Rattle.script_runs.specs.Steps.{tables_in, AreSetFor};
 ghost use Rattle.script_runs.specs.Lengths.{IsTooLong};
 ghost use Rattle.script_runs.specs.Faults.{IsLongFor};
 ghost use Rattle.script_runs.specs.Cached.{HasRoom, Adds, RefusesLine};
-ghost use Rattle.cached_script.specs.Meaning.{meaning_of, statement_of};
+ghost use Rattle.script_reader.specs.cached.Meaning.{meaning_of, statement_of};
 
 use crate::PlayFault;
 use crate::attaching::attach_unit;
-use cached_script::{CachedScript, Line, Statement};
+use script_reader::cached::{CachedScript, Line, Statement};
 use hp_units::UnitSetup;
 use outside_traits::traits::Packs;
 use std::alloc::Global;

@@ -4,14 +4,14 @@
 ghost use Rattle.std.specs.Prelude.{ℕ, ◌≡◌, ◌<◌, ◌≤◌, [], IfOk, OnOk, length, take, slice_index_or};
 ghost use Rattle.outside_traits.specs.Puts.{Puts};
 ghost use Rattle.outside_traits.specs.Gathers.{Gathers};
-ghost use Rattle.answer_lines.specs.AnswerText.{block_text, block_texts};
+ghost use Rattle.trace_lines.specs.answers.AnswerText.{block_text, block_texts};
 ghost use Rattle.script_runs.specs.Saying.{rest_text, said_text};
 
-use answer_lines::{BlockLine, answer_line};
+use trace_lines::answers::{BlockLine, answer_line};
 use outside_traits::traits::{NoMemory, Sink, SinkFailed};
 use outside_traits::{Gather, gather_law};
 use std::alloc::Global;
-use subsystem_spec::AnswerKind;
+use trace_replay::requests::AnswerKind;
 
 /// How many bytes of answers are gathered at most.
 const ANSWER_ROOM: u32 = 16384;

@@ -1,6 +1,6 @@
 ghost use Rattle.std.specs.Prelude.{◌≡◌, ◌≤◌, [], ◌∷◌, drop};
 ghost use Rattle.trace_replay.specs.Moments as moments;
-ghost use Rattle.subsystem_spec.specs.Requests.{Answer};
+ghost use Rattle.trace_replay.specs.requests.Requests.{Answer};
 ghost use Rattle.trace_replay.specs.Text.{moment_text};
 ghost use Rattle.trace_lines.specs.Deeds.{deed_of};
 

@@ -3,7 +3,7 @@
 ghost use Rattle.std.specs.Prelude.{◌≡◌, ◌≤◌, ◌+◌, ◌∷◌, [], ◌++◌, length, drop, decimal};
 ghost use Rattle.mass_text.specs.Numbers.{numeral};
 ghost use Rattle.mass_text.specs.declared.numbers.Radix.TheVariants.{Octal};
-ghost use Rattle.subsystem_spec.specs.Requests.{Answer};
+ghost use Rattle.trace_replay.specs.requests.Requests.{Answer};
 ghost use Rattle.trace_replay.specs.Text.{offset_word, fault_word, verdict_words, transfer_word, first_word, last_words};
 ghost use Rattle.trace_lines.specs.Deeds.{deed_of, in_front};
 

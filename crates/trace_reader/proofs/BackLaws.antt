@@ -10,7 +10,7 @@ use Rattle.hardware_table.specs.declared.Moved.TheVariants as verdict
 use Rattle.mass_text.specs.Numbers.{numeral}
 use Rattle.mass_text.specs.declared.numbers.Radix.TheVariants.{Octal}
 use Rattle.script_lines.specs.Fields.{changed}
-use Rattle.subsystem_spec.specs.Requests.{WriteOk}
+use Rattle.trace_replay.specs.requests.Requests.{WriteOk}
 use Rattle.trace_lines.specs.declared.telling.Told.{Told}
 use Rattle.trace_lines.specs.declared.telling.Told.TheVariants as told
 use Rattle.trace_lines.specs.Deeds.{deed_of}

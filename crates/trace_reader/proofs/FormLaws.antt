@@ -13,7 +13,7 @@ use Rattle.mass_text.specs.Numbers.{numeral}
 use Rattle.mass_text.specs.declared.numbers.Radix.TheVariants.{Octal}
 use Rattle.script_lines.specs.Fields.{and_then, changed}
 use Rattle.script_lines.specs.Words.{named, offsets}
-use Rattle.subsystem_spec.specs.Requests.{WriteOk}
+use Rattle.trace_replay.specs.requests.Requests.{WriteOk}
 use Rattle.trace_lines.specs.declared.telling.Told.{Told}
 use Rattle.trace_lines.specs.declared.telling.Told.TheVariants as told
 use Rattle.trace_lines.specs.Deeds.{deed_of}

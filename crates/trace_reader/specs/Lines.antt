@@ -2,7 +2,7 @@
 use Rattle.std.specs.Prelude.{ℕ, ◌≤◌, List}
 use Rattle.hardware_table.specs.declared.Moved.{Moved}
 use Rattle.hardware_table.specs.declared.Moved.TheVariants.{Burst}
-use Rattle.subsystem_spec.specs.Requests.{Answer, WriteOk}
+use Rattle.trace_replay.specs.requests.Requests.{Answer, WriteOk}
 use Rattle.trace_lines.specs.declared.telling.Told.{Told}
 use Rattle.trace_lines.specs.declared.telling.Told.TheVariants as told
 use Rattle.trace_lines.specs.Deeds.{deed_of}

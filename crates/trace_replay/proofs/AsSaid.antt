@@ -17,7 +17,7 @@ use Rattle.hardware_table.specs.Adapter.{AdapterState, drive_stepped, stepped, n
 use Rattle.hardware_table.specs.Events.{arrived_from, transfer_ended, turned, fault_armed, online_set, locked_set}
 use Rattle.hardware_table.specs.Functions.{performed, refusals, effect, refused}
 use Rattle.hardware_table.specs.Moves.{after_move}
-use Rattle.subsystem_spec.specs.Requests.{Request}
+use Rattle.trace_replay.specs.requests.Requests.{Request}
 use Rattle.trace_replay.specs.Script.{Input, Submit, ArriveAt, MoveAt, AttendTo, Drain, Turn, Noise, Arm, SetOnline, SetLocked}
 use Rattle.trace_replay.specs.Moments.{Deed, Search, Seek, Recal, Offset, Centre, Clear, Pack, Transfer, Arrive, Sector, Intr, Try, Attn, End, Moment, Played, Told, Idle}
 use Rattle.hardware_table.specs.declared.Register.TheVariants as register

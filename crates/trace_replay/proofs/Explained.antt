@@ -6,8 +6,8 @@ use Rattle.pack_geometry.specs.TableSpelling.{Table}
 use Rattle.hardware_table.specs.declared.Moved.{Moved}
 use Rattle.hardware_table.specs.declared.Moved.TheVariants as verdict
 use Rattle.hardware_table.specs.Drive.{DriveState}
-use Rattle.subsystem_spec.specs.ServiceOrder.{Service}
-use Rattle.subsystem_spec.specs.Requests.{Request, Answer, ReadOk, WriteOk, OutsidePartition, EndOfPartition, NoFrames, Failed, Cause, Offline, Locked, Unforwarded, Fault}
+use Rattle.trace_replay.specs.requests.ServiceOrder.{Service}
+use Rattle.trace_replay.specs.requests.Requests.{Request, Answer, ReadOk, WriteOk, OutsidePartition, EndOfPartition, NoFrames, Failed, Cause, Offline, Locked, Unforwarded, Fault}
 use Rattle.trace_replay.specs.Moments.{Deed, Centre, Clear, Pack, Try, End, Told}
 use Rattle.trace_replay.specs.Conversation.{Hand, Segment, OwnBlocks, Stage, Waiting, Steps, UnderWay, AtOnce, Moving, Saying, Ending, Progress, due, guarded, transfer_of, command_of, needs_unlocked, is_write, Positioning, SearchFor, Recalibrate, SeekTo, OffsetBy, entry_of, start_of}
 use Rattle.trace_replay.specs.Events.{Wish, NoLine, DueLine, Arrival, SectorLine, Interrupt, Attention, Refusal, IdleLine}

@@ -1,6 +1,6 @@
 -- The rules together, and lists of moments in parts.
 use Rattle.std.proofs.Common.{ℕ, List, [], ◌∷◌, ◌++◌}
-use Rattle.subsystem_spec.specs.Requests.{Rejection}
+use Rattle.trace_replay.specs.requests.Requests.{Rejection}
 use Rattle.trace_replay.specs.Moments.{Deed, Moment, Told, Played, Idle}
 use Rattle.trace_replay.specs.Events.{Wish, NoLine, DueLine, Arrival, SectorLine, Interrupt, Attention, Refusal, IdleLine}
 use Rattle.trace_replay.specs.Replay.{Replay, next_wish, LineMay, RefusalMay, ToldMay, InputMay, IdleMay, MayCome, after_moment, after_moments, Follows}

@@ -21,9 +21,9 @@ use Rattle.hardware_table.specs.Adapter.{AdapterState, drive_stepped, stepped, n
 use Rattle.hardware_table.specs.Events.{arrived_from, transfer_ended, turned, fault_armed, online_set, locked_set}
 use Rattle.hardware_table.specs.Functions.{performed, refusals, effect, refused}
 use Rattle.hardware_table.specs.Moves.{after_move}
-use Rattle.subsystem_spec.specs.ServiceOrder.{Waiting as Waiter, is_before, put, Service, after_leave}
-use Rattle.subsystem_spec.proofs.ServiceOrderRuns.{IsService, IsPlaced, empty-is, newcomer, after_join-waiting, after_join-is, after_leave-is, each-put}
-use Rattle.subsystem_spec.specs.Requests.{Request, Answer, ReadOk, WriteOk, OutsidePartition, EndOfPartition, NoFrames, Failed, Rejection, AtEnd, Beyond, FramesShort, rejection_answer}
+use Rattle.trace_replay.specs.requests.ServiceOrder.{Waiting as Waiter, is_before, put, Service, after_leave}
+use Rattle.trace_replay.proofs.requests.ServiceOrderRuns.{IsService, IsPlaced, empty-is, newcomer, after_join-waiting, after_join-is, after_leave-is, each-put}
+use Rattle.trace_replay.specs.requests.Requests.{Request, Answer, ReadOk, WriteOk, OutsidePartition, EndOfPartition, NoFrames, Failed, Rejection, AtEnd, Beyond, FramesShort, rejection_answer}
 use Rattle.trace_replay.specs.Script.{Input, Submit, ArriveAt, MoveAt, AttendTo, Drain, Turn, Noise, Arm, SetOnline, SetLocked}
 use Rattle.trace_replay.specs.Moments.{Deed, Search, Seek, Recal, Offset, Centre, Clear, Pack, Transfer, Arrive, Sector, Intr, Try, Attn, End, Moment, Played, Told, Idle}
 use Rattle.hardware_table.specs.declared.Register.TheVariants as register

@@ -10,7 +10,7 @@ use Rattle.hardware_table.specs.declared.Moved.TheVariants as verdict
 use Rattle.hardware_table.specs.Drive.{DriveState, is_writing}
 use Rattle.hardware_table.specs.Adapter.{AdapterState}
 use Rattle.hardware_table.specs.Moves.{stop_of, IsVerdict, IsVerdictBy, IsReadVerdict}
-use Rattle.subsystem_spec.specs.Requests.{Rejection}
+use Rattle.trace_replay.specs.requests.Requests.{Rejection}
 use Rattle.trace_replay.specs.Moments.{Deed, Search, Seek, Recal, Offset, Centre, Clear, Pack, Transfer, Arrive, Sector, Intr, Try, Attn, End}
 use Rattle.trace_replay.specs.Moments.{Played, Told, Idle}
 use Rattle.trace_replay.specs.Adapters.{AdapterMay}

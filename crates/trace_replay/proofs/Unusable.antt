@@ -12,7 +12,7 @@ use Rattle.hardware_table.specs.declared.Moved.{Moved}
 use Rattle.hardware_table.specs.declared.Moved.TheVariants as verdict
 use Rattle.hardware_table.specs.Drive.{DriveState}
 use Rattle.hardware_table.specs.Functions.{performed}
-use Rattle.subsystem_spec.specs.Requests.{Request, Failed, Unforwarded, Rejection, rejection_answer}
+use Rattle.trace_replay.specs.requests.Requests.{Request, Failed, Unforwarded, Rejection, rejection_answer}
 use Rattle.trace_replay.specs.Script.{Input, Submit, ArriveAt, MoveAt, AttendTo, Drain, Turn, Noise, Arm, SetOnline, SetLocked}
 use Rattle.trace_replay.specs.Moments.{Deed, Search, Seek, Recal, Offset, Centre, Clear, Pack, Transfer, Arrive, Sector, Intr, Try, Attn, End, Moment, Played, Told, Idle}
 use Rattle.trace_replay.specs.Service.{in_hand, target_of}
@@ -40,7 +40,7 @@ use Rattle.trace_replay.specs.Script.{Input, Submit, ArriveAt, MoveAt, AttendTo,
 use Rattle.trace_replay.specs.Packs.{VerdictMay, flips_at, surface_of}
 use Rattle.trace_replay.specs.Service.{in_hand, target_of}
 use Rattle.trace_replay.specs.Replay.{at_unit, replay_told, told_after, unit_after, LineMay, submission, submitted, Submission, Refused, Joined, replay_played}
-use Rattle.subsystem_spec.specs.Requests.{first_block, rejection_answer}
+use Rattle.trace_replay.specs.requests.Requests.{first_block, rejection_answer}
 use Rattle.trace_replay.specs.History.{with_deed, lines_after}
 use Rattle.trace_replay.specs.Causes.{AreUnusable}
 use Rattle.trace_replay.specs.Events.{Event}

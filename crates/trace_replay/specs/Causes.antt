@@ -5,7 +5,7 @@ use Rattle.pack_geometry.specs.Pack as model
 use Rattle.pack_geometry.specs.TableSpelling.{Table}
 use Rattle.pack_geometry.specs.Homes.{home_of}
 use Rattle.hardware_table.specs.declared.Moved.TheVariants as verdict
-use Rattle.subsystem_spec.specs.Requests.{first_block, Answer, ReadOk, WriteOk, Cause, Offline, Locked, Unforwarded, Fault, Failed}
+use Rattle.trace_replay.specs.requests.Requests.{first_block, Answer, ReadOk, WriteOk, Cause, Offline, Locked, Unforwarded, Fault, Failed}
 use Rattle.trace_replay.specs.Script.{Input, Submit}
 use Rattle.trace_replay.specs.Moments.{Deed, End, Moment, Played, Told}
 use Rattle.trace_replay.specs.Packs.{Surface, surface_of}

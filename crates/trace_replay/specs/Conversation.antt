@@ -16,8 +16,8 @@ use Rattle.seek_engine.specs.Seek.{distance, is_near, sector_before}
 use Rattle.retry_offsets.specs.Schedule.{step_after}
 use Rattle.retry_offsets.specs.declared.Step.{Step}
 use Rattle.retry_offsets.specs.declared.Step.TheVariants as retry
-use Rattle.subsystem_spec.specs.Requests.{Request, first_block, Offline, Locked, Unforwarded, Fault}
-use Rattle.subsystem_spec.specs.Requests.{Answer, ReadOk, WriteOk, Failed}
+use Rattle.trace_replay.specs.requests.Requests.{Request, first_block, Offline, Locked, Unforwarded, Fault}
+use Rattle.trace_replay.specs.requests.Requests.{Answer, ReadOk, WriteOk, Failed}
 use Rattle.trace_replay.specs.Moments.{Deed, Search, Seek, Recal, Offset, Centre, Clear, Pack, Transfer, Arrive, Sector, Intr, Try, Attn, End}
 use Rattle.trace_replay.specs.Packs.{repaired_from}
 use Rattle.trace_replay.specs.Service.{target_of}

@@ -1,7 +1,7 @@
 -- THE RULE OF EVENTS. What a line of the script sets going, whose line comes next in it, and when it is over.
 use Rattle.std.specs.Prelude.{ℕ, ◌&&◌, ◌||◌, Bool, true, false, if◌then◌else◌, List, [], ◌∷◌, find, drop, Option, None, Some}
 use Rattle.hardware_table.specs.Adapter.{AdapterState}
-use Rattle.subsystem_spec.specs.Requests.{Rejection}
+use Rattle.trace_replay.specs.requests.Requests.{Rejection}
 use Rattle.trace_replay.specs.Moments.{Deed, Arrive, Sector, Intr, Attn}
 use Rattle.trace_replay.specs.Adapters.{AdapterSeen, unit_on, attentive, can_move}
 

@@ -2,7 +2,7 @@
 use Rattle.std.specs.Prelude.{◌≡◌, ℕ, ◌+◌, ◌==◌, if◌then◌else◌, Bool, true, false, List, [], ◌∷◌, zero, suc}
 use Rattle.hardware_table.specs.declared.Moved.{Moved}
 use Rattle.hardware_table.specs.declared.Moved.TheVariants as verdict
-use Rattle.subsystem_spec.specs.Requests.{Answer, OutsidePartition, EndOfPartition, NoFrames}
+use Rattle.trace_replay.specs.requests.Requests.{Answer, OutsidePartition, EndOfPartition, NoFrames}
 use Rattle.trace_replay.specs.Moments.{Deed, Centre, Clear, Sector, Intr, Try, End, Moment, Told}
 
 -- a request was refused as it was submitted

@@ -17,6 +17,7 @@ pub mod Conditions
 pub mod Causes
 pub mod Bounds
 pub mod Runs
+pub mod requests
 pub use Rattle.fire_code.specs.Noise
 pub use Rattle.hardware_table.specs.declared.Moved
 pub use Rattle.hardware_table.specs.declared.NoiseSpan

@@ -2,7 +2,7 @@
 use Rattle.std.specs.Prelude.{ℕ, Bool, List, [], ◌∷◌}
 use Rattle.drive_registers.specs.declared.OffsetCode.{OffsetCode}
 use Rattle.hardware_table.specs.declared.Moved.{Moved}
-use Rattle.subsystem_spec.specs.Requests.{Answer}
+use Rattle.trace_replay.specs.requests.Requests.{Answer}
 use Rattle.trace_replay.specs.Script.{Input, Numbered}
 
 -- What is done at a unit: the commands, and what the unit, its adapter and its request come to. `Transfer` is WCOM or RCOM

@@ -7,7 +7,7 @@ use Rattle.hardware_table.specs.declared.Moved.{Moved}
 use Rattle.hardware_table.specs.Drive.{DriveState}
 use Rattle.hardware_table.specs.Moves.{IsVerdict, was_read, was_written}
 use Rattle.hardware_table.specs.Noise.{LiveNoise, with_noise, strikes, after_strike}
-use Rattle.subsystem_spec.specs.Requests.{Request}
+use Rattle.trace_replay.specs.requests.Requests.{Request}
 use Rattle.trace_replay.specs.Script.{Input, Noise}
 use Rattle.trace_replay.specs.Moments.{Deed, Sector}
 

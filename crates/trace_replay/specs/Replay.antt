@@ -8,15 +8,15 @@ use Rattle.std.specs.List.{list_all}
 use Rattle.pack_geometry.specs.declared.DriveKind.{DriveKind}
 use Rattle.pack_geometry.specs.declared.DriveKind.TheVariants.{Rp06}
 use Rattle.pack_geometry.specs.Geometry.{block_count}
-use Rattle.subsystem_spec.specs.Admission.{Admission}
-use Rattle.subsystem_spec.specs.Admission.TheVariants.{Inside, Eof, Outside}
-use Rattle.subsystem_spec.specs.Partitions.{admission}
+use Rattle.trace_replay.specs.requests.Admission.{Admission}
+use Rattle.trace_replay.specs.requests.Admission.TheVariants.{Inside, Eof, Outside}
+use Rattle.trace_replay.specs.requests.Partitions.{admission}
 use Rattle.pack_geometry.specs.Pack as model
 use Rattle.pack_geometry.specs.TableSpelling.{Table}
 use Rattle.hardware_table.specs.Drive.{DriveState, is_positioning}
 use Rattle.hardware_table.specs.Moves.{was_read}
-use Rattle.subsystem_spec.specs.ServiceOrder.{Service, empty_service}
-use Rattle.subsystem_spec.specs.Requests.{Request, Rejection, AtEnd, Beyond, FramesShort, rejection_answer}
+use Rattle.trace_replay.specs.requests.ServiceOrder.{Service, empty_service}
+use Rattle.trace_replay.specs.requests.Requests.{Request, Rejection, AtEnd, Beyond, FramesShort, rejection_answer}
 use Rattle.trace_replay.specs.Script.{Input, Submit, ArriveAt, MoveAt, AttendTo, Drain, Turn, Noise, Arm, SetOnline, SetLocked}
 use Rattle.trace_replay.specs.Moments.{Deed, Sector, End, Moment, Played, Told, Idle}
 use Rattle.trace_replay.specs.Drives.{DriveMay, drive_after, drive_played, attached}

@@ -1,6 +1,6 @@
 -- The rules by their names, and rows that are refused: behind a legal beginning a moment that one rule does not let come.
 use Rattle.std.specs.Prelude.{◌≡◌, ◌≢◌, ◌↔◌, ◌++◌, ◌&&◌, ℕ, nat_lt, true, false, List, take}
-use Rattle.subsystem_spec.specs.Requests.{Rejection, rejection_answer}
+use Rattle.trace_replay.specs.requests.Requests.{Rejection, rejection_answer}
 use Rattle.trace_replay.specs.Moments.{Deed, End, Moment, Played, Told, Idle}
 use Rattle.trace_replay.specs.Events.{Wish, NoLine, IdleLine, Refusal, wish_of}
 use Rattle.trace_replay.specs.Service.{ServiceMay, in_hand, target_of}

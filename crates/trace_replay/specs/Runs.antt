@@ -6,7 +6,7 @@ use Rattle.pack_geometry.specs.Pack as model
 use Rattle.pack_geometry.specs.TableSpelling.{Table}
 use Rattle.pack_geometry.specs.PackTable.{AreTablesOf}
 use Rattle.trace_replay.specs.Script.{Script, IsScript, drives_of, inputs_of}
-use Rattle.subsystem_spec.specs.Requests.{Answer}
+use Rattle.trace_replay.specs.requests.Requests.{Answer}
 use Rattle.trace_replay.specs.Moments.{Moment, Told, End, played, answers_in}
 use Rattle.trace_replay.specs.Packs.{surface_of}
 use Rattle.trace_replay.specs.Replay.{Replay, new_replay, after_moments, Legal, AreLeft}

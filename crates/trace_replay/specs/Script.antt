@@ -9,7 +9,7 @@ use Rattle.hardware_table.specs.declared.FaultKind.{FaultKind}
 use Rattle.hardware_table.specs.declared.NoiseSpan.{NoiseSpan}
 use Rattle.hardware_table.specs.declared.NoiseSpan.TheVariants.{Times, Until}
 use Rattle.hardware_table.specs.Noise.{LiveNoise}
-use Rattle.subsystem_spec.specs.Requests.{Request, IsRequest}
+use Rattle.trace_replay.specs.requests.Requests.{Request, IsRequest}
 
 -- What a line asks for or says.
 pub data Input : Type 0 where

@@ -4,9 +4,9 @@ use Rattle.std.specs.Prelude.{◌≡◌, ℕ, ◌+◌, ◌-◌, ◌*◌, ◌/◌
 use Rattle.pack_geometry.specs.declared.DriveKind.{DriveKind}
 use Rattle.pack_geometry.specs.declared.Place.{Place}
 use Rattle.pack_geometry.specs.Geometry.{place_at}
-use Rattle.subsystem_spec.specs.ServiceOrder.{Waiting, Service, after_join, after_leave}
-use Rattle.subsystem_spec.specs.Part.TheVariants as part
-use Rattle.subsystem_spec.specs.Requests.{Request, first_block}
+use Rattle.trace_replay.specs.requests.ServiceOrder.{Waiting, Service, after_join, after_leave}
+use Rattle.trace_replay.specs.requests.Part.TheVariants as part
+use Rattle.trace_replay.specs.requests.Requests.{Request, first_block}
 use Rattle.trace_replay.specs.Moments.{Deed, End}
 
 -- the cylinder of a request is that of its first block

@@ -1,6 +1,7 @@
 //! Which traces are legal: the rules of a trace of the whole subsystem, over what is seen of a run alone, which are the script,
 //! the packs, and the lines of the trace with the answers that they make. The definitions stand in `specs/`; they know nothing
-//! of how a driver goes about it. The functions here do nothing: each stands for a law.
+//! of how a driver goes about it. The functions here do nothing: each stands for a law. What is asked and how it is answered
+//! stands in `requests`.
 //!
 //! Defined in `specs/`: which traces are legal, over the script, the packs and the lines alone, as one state with a rule for
 //! each aspect.
@@ -9,6 +10,8 @@
 //! at most one trace is legal. `cause_law`: each answer has its cause exactly. `bounds_law`: a request that meets only clean
 //! sectors and is answered ok has one transfer command and at most one search.
 #![tactic(auto)]
+
+pub mod requests;
 
 ghost use Rattle.trace_replay.specs.Rules.{KeepsEach, FollowOn};
 ghost use Rattle.trace_replay.specs.Bytes.{ReadsAsTold, RepairsBursts};

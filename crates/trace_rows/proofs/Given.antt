@@ -1,6 +1,6 @@
 -- The bytes that an end line gives.
 use Rattle.std.proofs.Common.{ℕ, get_or, Option, Some}
-use Rattle.subsystem_spec.specs.Requests.{ReadOk}
+use Rattle.trace_replay.specs.requests.Requests.{ReadOk}
 use Rattle.trace_replay.specs.Moments.{Deed, End}
 
 -- byte i of the answer of an end line that is due; 0 where that is no read

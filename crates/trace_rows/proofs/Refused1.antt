@@ -1,7 +1,7 @@
 -- What a row that breaks one rule alone keeps: all others; docs/trace-rows/rows.py writes this.
 use Rattle.std.specs.Prelude.{replicate}
 use Rattle.hardware_table.specs.declared.Moved.TheVariants.{Clean, Marked}
-use Rattle.subsystem_spec.specs.Requests.{ReadOk}
+use Rattle.trace_replay.specs.requests.Requests.{ReadOk}
 use Rattle.trace_replay.specs.Moments.{Search, Sector, Attn, End, Told}
 use Rattle.trace_replay.specs.Replay.{after_moments}
 use Rattle.trace_replay.specs.Rules.{RuleName, Keeps, Number, Events, Service, Conversation, Drives, Adapters, Packs, Work}

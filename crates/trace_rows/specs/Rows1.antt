@@ -5,7 +5,7 @@ use Rattle.partitions.specs.declared.Part.TheVariants as part
 use Rattle.hardware_table.specs.declared.FaultKind.TheVariants as kind
 use Rattle.hardware_table.specs.declared.NoiseSpan.TheVariants.{Times}
 use Rattle.hardware_table.specs.declared.Moved.TheVariants.{Clean, Burst, Marked, Faulted}
-use Rattle.subsystem_spec.specs.Requests.{ReadOk, WriteOk}
+use Rattle.trace_replay.specs.requests.Requests.{ReadOk, WriteOk}
 use Rattle.trace_replay.specs.Script.{Submit, ArriveAt, MoveAt, AttendTo, Drain, Noise, Arm, Script, Declares, Plays}
 use Rattle.trace_replay.specs.Moments.{Search, Recal, Clear, Transfer, Arrive, Sector, Intr, Try, Attn, End, Moment, Played, Told, Idle}
 use Rattle.trace_replay.specs.Replay.{Replay}

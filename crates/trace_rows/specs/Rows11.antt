@@ -4,7 +4,7 @@ use Rattle.pack_geometry.specs.declared.DriveKind.TheVariants.{Rp06, Rm03}
 use Rattle.partitions.specs.declared.Part.TheVariants as part
 use Rattle.hardware_table.specs.declared.NoiseSpan.TheVariants.{Times}
 use Rattle.hardware_table.specs.declared.Moved.TheVariants.{Clean, Burst, Marked}
-use Rattle.subsystem_spec.specs.Requests.{ReadOk, WriteOk}
+use Rattle.trace_replay.specs.requests.Requests.{ReadOk, WriteOk}
 use Rattle.trace_replay.specs.Script.{Submit, Drain, Noise, Script, Declares, Plays}
 use Rattle.trace_replay.specs.Moments.{Search, Clear, Transfer, Arrive, Sector, Intr, Attn, End, Moment, Played, Told}
 use Rattle.trace_replay.specs.Replay.{Replay}

@@ -4,7 +4,7 @@ use Rattle.pack_geometry.specs.declared.DriveKind.TheVariants.{Rp06}
 use Rattle.partitions.specs.declared.Part.TheVariants as part
 use Rattle.hardware_table.specs.declared.FaultKind.TheVariants as kind
 use Rattle.hardware_table.specs.declared.Moved.TheVariants.{Clean, Faulted}
-use Rattle.subsystem_spec.specs.Requests.{ReadOk, WriteOk}
+use Rattle.trace_replay.specs.requests.Requests.{ReadOk, WriteOk}
 use Rattle.trace_replay.specs.Script.{Submit, ArriveAt, MoveAt, AttendTo, Drain, Arm, Script, Declares, Plays}
 use Rattle.trace_replay.specs.Moments.{Search, Recal, Clear, Transfer, Arrive, Sector, Intr, Try, Attn, End, Moment, Played, Told}
 use Rattle.trace_replay.specs.Replay.{Replay}

@@ -5,7 +5,7 @@ use Rattle.partitions.specs.declared.Part.TheVariants as part
 use Rattle.hardware_table.specs.declared.NoiseSpan.TheVariants.{Times}
 use Rattle.hardware_table.specs.declared.Moved.TheVariants as verdict
 use Rattle.hardware_table.specs.declared.Moved.TheVariants.{Clean, Burst, Marked}
-use Rattle.subsystem_spec.specs.Requests.{Offline, Locked, Unforwarded, ReadOk, WriteOk, NoFrames, Failed}
+use Rattle.trace_replay.specs.requests.Requests.{Offline, Locked, Unforwarded, ReadOk, WriteOk, NoFrames, Failed}
 use Rattle.trace_replay.specs.Script.{Submit, ArriveAt, MoveAt, AttendTo, Drain, Noise, SetOnline, SetLocked, Script, Declares, Plays}
 use Rattle.trace_replay.specs.Moments.{Search, Clear, Pack, Transfer, Arrive, Sector, Intr, Attn, End, Moment, Played, Told, Idle}
 use Rattle.trace_replay.specs.Replay.{Replay}

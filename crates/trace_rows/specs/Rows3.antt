@@ -6,7 +6,7 @@ use Rattle.drive_registers.specs.declared.OffsetCode.TheVariants.{Plus400}
 use Rattle.hardware_table.specs.declared.FaultKind.TheVariants as kind
 use Rattle.hardware_table.specs.declared.NoiseSpan.TheVariants.{Until}
 use Rattle.hardware_table.specs.declared.Moved.TheVariants.{Clean, Faulted}
-use Rattle.subsystem_spec.specs.Requests.{Offline, ReadOk, OutsidePartition, EndOfPartition, Failed}
+use Rattle.trace_replay.specs.requests.Requests.{Offline, ReadOk, OutsidePartition, EndOfPartition, Failed}
 use Rattle.trace_replay.specs.Script.{Submit, ArriveAt, MoveAt, AttendTo, Drain, Noise, Arm, SetOnline, Script, Declares, Plays}
 use Rattle.trace_replay.specs.Moments.{Recal, Offset, Centre, Clear, Pack, Transfer, Arrive, Sector, Intr, Try, Attn, End, Moment, Played, Told, Idle}
 use Rattle.trace_replay.specs.Replay.{Replay}

@@ -3,7 +3,7 @@ use Rattle.std.specs.Prelude.{true, false, List, [], ◌∷◌, Some, None, repl
 use Rattle.pack_geometry.specs.declared.DriveKind.TheVariants.{Rp06}
 use Rattle.partitions.specs.declared.Part.TheVariants as part
 use Rattle.hardware_table.specs.declared.Moved.TheVariants.{Clean}
-use Rattle.subsystem_spec.specs.Requests.{ReadOk, WriteOk}
+use Rattle.trace_replay.specs.requests.Requests.{ReadOk, WriteOk}
 use Rattle.trace_replay.specs.Script.{Submit, Drain, Script, Declares, Plays}
 use Rattle.trace_replay.specs.Moments.{Search, Transfer, Arrive, Sector, Intr, Attn, End, Moment, Played, Told}
 use Rattle.trace_replay.specs.Replay.{Replay}

@@ -5,7 +5,7 @@ use Rattle.partitions.specs.declared.Part.TheVariants as part
 use Rattle.drive_registers.specs.declared.OffsetCode.TheVariants.{Plus400, Minus400, Plus800, Minus800, Plus1200, Minus1200}
 use Rattle.hardware_table.specs.declared.NoiseSpan.TheVariants.{Times}
 use Rattle.hardware_table.specs.declared.Moved.TheVariants.{Clean, Hard}
-use Rattle.subsystem_spec.specs.Requests.{Fault, Failed}
+use Rattle.trace_replay.specs.requests.Requests.{Fault, Failed}
 use Rattle.trace_replay.specs.Script.{Submit, Drain, Noise, Script, Declares, Plays}
 use Rattle.trace_replay.specs.Moments.{Recal, Offset, Centre, Clear, Transfer, Arrive, Sector, Intr, Try, Attn, End, Moment, Played, Told}
 use Rattle.trace_replay.specs.Replay.{Replay}

@@ -4,7 +4,7 @@ use Rattle.pack_geometry.specs.declared.DriveKind.TheVariants.{Rp06, Rm03, Rm05}
 use Rattle.partitions.specs.declared.Part.TheVariants as part
 use Rattle.hardware_table.specs.declared.NoiseSpan.TheVariants.{Times}
 use Rattle.hardware_table.specs.declared.Moved.TheVariants.{Clean, Burst}
-use Rattle.subsystem_spec.specs.Requests.{ReadOk, EndOfPartition}
+use Rattle.trace_replay.specs.requests.Requests.{ReadOk, EndOfPartition}
 use Rattle.trace_replay.specs.Script.{Submit, ArriveAt, MoveAt, AttendTo, Drain, Turn, Noise, Script, Declares, Plays}
 use Rattle.trace_replay.specs.Moments.{Search, Clear, Transfer, Arrive, Sector, Intr, Attn, End, Moment, Played, Told, Idle}
 use Rattle.trace_replay.specs.Replay.{Replay}

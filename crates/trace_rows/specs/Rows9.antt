@@ -3,7 +3,7 @@ use Rattle.std.specs.Prelude.{◌==◌, ◌&&◌, ◌++◌, true, false, if◌th
 use Rattle.pack_geometry.specs.declared.DriveKind.TheVariants.{Rp06, Rm03}
 use Rattle.partitions.specs.declared.Part.TheVariants as part
 use Rattle.hardware_table.specs.declared.Moved.TheVariants.{Clean, Marked}
-use Rattle.subsystem_spec.specs.Requests.{Unforwarded, ReadOk, WriteOk, Failed}
+use Rattle.trace_replay.specs.requests.Requests.{Unforwarded, ReadOk, WriteOk, Failed}
 use Rattle.trace_replay.specs.Script.{Submit, ArriveAt, MoveAt, AttendTo, Drain, Script, Declares, Plays}
 use Rattle.trace_replay.specs.Moments.{Search, Clear, Transfer, Arrive, Sector, Intr, Attn, End, Moment, Played, Told, Idle}
 use Rattle.trace_replay.specs.Replay.{Replay}

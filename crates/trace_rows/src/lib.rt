@@ -10,7 +10,7 @@ ghost use Rattle.drive_registers.specs.declared.OffsetCode.TheVariants.{Minus400
 ghost use Rattle.hardware_table.specs.declared.FaultKind.TheVariants as kind;
 ghost use Rattle.hardware_table.specs.declared.Moved.TheVariants as verdict;
 ghost use Rattle.hardware_table.specs.declared.Moved.TheVariants.{Clean, Burst, Hard, Marked, Faulted};
-ghost use Rattle.subsystem_spec.specs.Requests.{Offline, Locked, Unforwarded, Fault, ReadOk, WriteOk, OutsidePartition, EndOfPartition, NoFrames, Failed};
+ghost use Rattle.trace_replay.specs.requests.Requests.{Offline, Locked, Unforwarded, Fault, ReadOk, WriteOk, OutsidePartition, EndOfPartition, NoFrames, Failed};
 ghost use Rattle.trace_replay.specs.Script.{Submit, MoveAt, AttendTo, Drain};
 ghost use Rattle.trace_replay.specs.Moments.{Search, Seek, Offset, Centre, Clear, Pack, Transfer, Arrive, Sector, Intr, Try, Attn, End, Played, Told, Idle};
 ghost use Rattle.trace_replay.specs.Rules.{Breaks, BreaksAlone, IsUnfinished, Number, Events, Service, Conversation, Drives, Adapters, Packs, Work};

@@ -1,7 +1,7 @@
 use Rattle.disksort.specs.SortQueue.{cylinder_of}
-use Rattle.subsystem_spec.specs.ServiceOrder.{empty_service, service_order}
-use Rattle.subsystem_spec.proofs.ServiceOrderRuns.{service_law, empty-is, service_order-ascends}
-use Rattle.subsystem_spec.proofs.ServiceOrderLaws.{service_order-permutation, two_runs, queue_with-runs}
+use Rattle.trace_replay.specs.requests.ServiceOrder.{empty_service, service_order}
+use Rattle.trace_replay.proofs.requests.ServiceOrderRuns.{service_law, empty-is, service_order-ascends}
+use Rattle.trace_replay.proofs.requests.ServiceOrderLaws.{service_order-permutation, two_runs, queue_with-runs}
 use Rattle.disksort.proofs.Throughout.{throughout}
 use Rattle.disksort.proofs.service_order_law.Goals as goal
 

@@ -10,8 +10,8 @@ use Rattle.hardware_table.specs.Events.{turned, fault_armed, online_set, locked_
 use Rattle.disksort.specs.declared.Waiter.{Waiter}
 use Rattle.trace_replay.specs.Script as script
 use Rattle.trace_replay.specs.Script.{Input}
-use Rattle.subsystem_spec.specs.ServiceOrder.{IsInOrder, queue_with}
-use Rattle.subsystem_spec.proofs.ServiceOrderLaws.{queue_with-head}
+use Rattle.trace_replay.specs.requests.ServiceOrder.{IsInOrder, queue_with}
+use Rattle.trace_replay.proofs.requests.ServiceOrderLaws.{queue_with-head}
 use Rattle.driver_machine.specs.declared.Made.{Made}
 use Rattle.driver_machine.specs.World.{World, UnitView, AdapterView, Held, no_held, no_unit, adapter_of, unit_at, adapter_at, slot_at, held_in, slot_in_hand}
 use Rattle.driver_machine.specs.Acts.{Act, Refuse, Submit, Of, Change, Nothing, Taken, joined, with_drive, with_unit_drive, freed, after}

@@ -8,7 +8,7 @@ use Rattle.pack_geometry.specs.Geometry.{limit_of, place_at}
 use Rattle.pack_geometry.specs.declared.DriveKind.{DriveKind}
 use Rattle.main_memory.specs.Blocks.{Loan, IsLoan, size_at}
 use Rattle.disksort.specs.declared.Waiter.{Waiter}
-use Rattle.subsystem_spec.specs.ServiceOrder.{IsInOrder}
+use Rattle.trace_replay.specs.requests.ServiceOrder.{IsInOrder}
 use Rattle.driver_machine.specs.declared.Made.{Made}
 use Rattle.driver_machine.specs.declared.Phase.TheVariants.{Transferring}
 use Rattle.driver_machine.specs.World.{World, UnitView, Held, no_unit, no_held, unit_at, slot_at, held_in, slot_in_hand, block_in, adapter_of}

@@ -4,8 +4,8 @@ use Rattle.std.proofs.lemmas.Option.{none-some, same_Some}
 use Rattle.pack_geometry.specs.Geometry.{limit_of, place_at}
 use Rattle.pack_geometry.specs.declared.DriveKind.{DriveKind}
 use Rattle.disksort.specs.declared.Waiter.{Waiter}
-use Rattle.subsystem_spec.proofs.ServiceOrderLaws.{length-queue_with}
-use Rattle.subsystem_spec.proofs.ServiceOrderRuns.{queue_with-in_order}
+use Rattle.trace_replay.proofs.requests.ServiceOrderLaws.{length-queue_with}
+use Rattle.trace_replay.proofs.requests.ServiceOrderRuns.{queue_with-in_order}
 use Rattle.driver_machine.specs.declared.Phase.{Phase}
 use Rattle.driver_machine.specs.declared.Phase.TheVariants.{Transferring}
 use Rattle.driver_machine.specs.World.{World, UnitView, Held, no_unit, unit_at, slot_at, frames_of}

@@ -5,10 +5,10 @@ use Rattle.std.proofs.lemmas.Option.{none-some, same_Some}
 use Rattle.partitions.specs.Partitions.{admission}
 use Rattle.partitions.specs.declared.Admission.{Admission}
 use Rattle.partitions.specs.declared.Admission.TheVariants.{Inside, Eof, Outside}
-use Rattle.subsystem_spec.specs.declared.answers.AnswerKind.{AnswerKind}
-use Rattle.subsystem_spec.specs.declared.answers.AnswerKind.TheVariants.{Error}
-use Rattle.subsystem_spec.specs.declared.answers.AnswerKind.TheVariants as answer
-use Rattle.subsystem_spec.specs.declared.answers.Cause.TheVariants as cause
+use Rattle.trace_replay.specs.declared.requests.answers.AnswerKind.{AnswerKind}
+use Rattle.trace_replay.specs.declared.requests.answers.AnswerKind.TheVariants.{Error}
+use Rattle.trace_replay.specs.declared.requests.answers.AnswerKind.TheVariants as answer
+use Rattle.trace_replay.specs.declared.requests.answers.Cause.TheVariants as cause
 use Rattle.driver_machine.specs.declared.Phase.TheVariants.{Transferring}
 use Rattle.hardware_table.specs.Events.{turned, fault_armed, online_set, locked_set}
 use Rattle.hardware_table.specs.Noise.{book_armed}

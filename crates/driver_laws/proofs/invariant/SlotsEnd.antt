@@ -10,12 +10,12 @@ use Rattle.hardware_table.specs.declared.Moved.{Moved}
 use Rattle.hardware_table.specs.declared.Moved.TheVariants as verdict
 use Rattle.transfer_engine.specs.declared.job.Job.{Job}
 use Rattle.transfer_engine.specs.State.{TransferState, segment_by, segment_of}
-use Rattle.subsystem_spec.proofs.ServiceOrderRuns.{drop-in_order}
+use Rattle.trace_replay.proofs.requests.ServiceOrderRuns.{drop-in_order}
 use Rattle.driver_machine.specs.declared.Phase.TheVariants.{Waiting, Positioning, Queued, Transferring, Due}
 use Rattle.driver_machine.specs.declared.Made.{Made}
 use Rattle.driver_machine.specs.declared.Phase.{Phase}
-use Rattle.subsystem_spec.specs.declared.answers.AnswerKind.{AnswerKind}
-use Rattle.subsystem_spec.specs.declared.answers.AnswerKind.TheVariants.{ReadOk, WriteOk}
+use Rattle.trace_replay.specs.declared.requests.answers.AnswerKind.{AnswerKind}
+use Rattle.trace_replay.specs.declared.requests.answers.AnswerKind.TheVariants.{ReadOk, WriteOk}
 use Rattle.driver_machine.specs.declared.Task.TheVariants.{Clear, Judge, Steps, Command, GiveUp}
 use Rattle.driver_machine.specs.Sound.{Among, Once, IsBegun, slot_made, slots_made, frames_by, frames_used, IsPhase, IsTask, IsGiven, UnitOk, SlotOk, IsMade, Sound}
 use Rattle.driver_machine.specs.World.{World, UnitView, AdapterView, Held, no_unit, unit_at, adapter_at, slot_at, slot_in_hand, adapter_of, held_in, transfer_of, no_transfer, frames_of}

@@ -3,8 +3,8 @@ use Rattle.std.proofs.Common.{◌≡◌, ◌≢◌, ◌⊎◌, inl, inr, ℕ, ze
 use Rattle.std.specs.Prelude.{Contains, slice_index_or}
 use Rattle.std.proofs.lemmas.Bool.{cond_both}
 use Rattle.disksort.specs.declared.Waiter.{Waiter}
-use Rattle.subsystem_spec.specs.ServiceOrder.{IsInOrder, queue_with}
-use Rattle.subsystem_spec.proofs.ServiceOrderRuns.{goes_before, put_in, inserted, queue_with-inserted}
+use Rattle.trace_replay.specs.requests.ServiceOrder.{IsInOrder, queue_with}
+use Rattle.trace_replay.proofs.requests.ServiceOrderRuns.{goes_before, put_in, inserted, queue_with-inserted}
 use Rattle.driver_machine.specs.Sound.{Among, Once, slots_of}
 
 -- NUMBERS of a list

@@ -6,7 +6,7 @@ use Rattle.std.proofs.lemmas.List.Sums.{sum_by-le}
 use Rattle.drive_registers.specs.declared.Function.TheVariants as function
 use Rattle.hardware_table.specs.Functions.{performed}
 use Rattle.transfer_engine.specs.State.{segment_of}
-use Rattle.subsystem_spec.specs.declared.answers.Cause.TheVariants as cause
+use Rattle.trace_replay.specs.declared.requests.answers.Cause.TheVariants as cause
 use Rattle.driver_machine.specs.declared.Phase.TheVariants.{Queued, Transferring}
 use Rattle.driver_machine.specs.World.{World, UnitView, AdapterView, Held, adapter_of, unit_at, adapter_at, slot_at, held_in, slot_in_hand, transfer_of, new_adapter_view, no_held}
 use Rattle.driver_machine.specs.Acts as deed

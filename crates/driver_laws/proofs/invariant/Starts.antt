@@ -12,8 +12,8 @@ use Rattle.hardware_table.specs.Functions.{is_addressed}
 use Rattle.hardware_table.specs.Adapter.{IsAdapter, new_adapter}
 use Rattle.hardware_table.specs.Noise.{Book, empty_book}
 use Rattle.trace_replay.specs.Drives.{attached}
-use Rattle.subsystem_spec.specs.ServiceOrder.{IsInOrder}
-use Rattle.subsystem_spec.proofs.ServiceOrderRuns.{empty-in_order}
+use Rattle.trace_replay.specs.requests.ServiceOrder.{IsInOrder}
+use Rattle.trace_replay.proofs.requests.ServiceOrderRuns.{empty-in_order}
 use Rattle.disksort.specs.declared.Waiter.{Waiter}
 use Rattle.driver_machine.specs.declared.Phase.TheVariants.{Waiting}
 use Rattle.driver_machine.specs.World.{World, UnitView, AdapterView, Held, Setup, no_unit, new_unit, new_adapter_view, set_up, new_world, unit_at, adapter_at, unit_on, adapter_of, held_in, slot_in_hand}

@@ -6,7 +6,7 @@ use Rattle.pack_geometry.specs.declared.DriveKind.{DriveKind}
 use Rattle.pack_geometry.specs.Pack as model
 use Rattle.pack_geometry.specs.TableSpelling.{Table}
 use Rattle.pack_geometry.specs.Homes.{home_of}
-use Rattle.subsystem_spec.specs.Requests.{Request, Failed, Cause, Offline, Locked, Unforwarded, Fault, first_block}
+use Rattle.trace_replay.specs.requests.Requests.{Request, Failed, Cause, Offline, Locked, Unforwarded, Fault, first_block}
 use Rattle.trace_replay.specs.Script.{Script, drives_of}
 use Rattle.trace_replay.specs.Moments.{Deed, Search, Seek, Recal, Offset, Centre, Clear, Pack, Transfer, Arrive, Sector, Intr, Try, Attn, End, Moment, Told}
 use Rattle.trace_replay.specs.Packs.{surface_of}

@@ -3,7 +3,7 @@ use Rattle.std.proofs.Common.{◌≡◌, inl, inr, ℕ, ◌==◌, ◌||◌, Bool
 use Rattle.std.specs.List.{AllByRecursion, list_any}
 use Rattle.std.proofs.lemmas.Bool.Decides.{eqb_tells, nat_tests}
 use Rattle.std.proofs.lemmas.Bool.{ne_eqb}
-use Rattle.subsystem_spec.specs.Requests.{Request}
+use Rattle.trace_replay.specs.requests.Requests.{Request}
 use Rattle.trace_replay.specs.Moments.{Answered}
 use Rattle.pack_geometry.specs.declared.DriveKind.{DriveKind}
 use Rattle.driver_laws.specs.rules.Machine.{Machine, request_of, without, Steps}

@@ -12,8 +12,8 @@ use Rattle.pack_geometry.specs.Content.{bytes_at}
 use Rattle.pack_geometry.proofs.HomeLaws.{home_below}
 use Rattle.hardware_table.specs.declared.Moved.{Moved}
 use Rattle.hardware_table.specs.declared.Moved.TheVariants as verdict
-use Rattle.subsystem_spec.specs.Requests.{Request, Answer, first_block}
-use Rattle.subsystem_spec.specs.ServiceOrder.{Waiting as Waiter}
+use Rattle.trace_replay.specs.requests.Requests.{Request, Answer, first_block}
+use Rattle.trace_replay.specs.requests.ServiceOrder.{Waiting as Waiter}
 use Rattle.trace_replay.specs.Script.{Input, Submit, ArriveAt, MoveAt, AttendTo, Drain, Turn, Noise, Arm, SetOnline, SetLocked, Script, Numbered, drives_of, AreApart, IsThere}
 use Rattle.trace_replay.specs.Moments.{Moment, Played, Told, Idle, End, Answered, played, answers_in}
 use Rattle.trace_replay.specs.Service.{in_hand, first_waiting, request_or_none}

@@ -4,7 +4,7 @@ use Rattle.std.specs.Prelude.{is_some, IsSome, if◌then◌else◌}
 use Rattle.std.proofs.lemmas.Bool.Decides.{nat_tests}
 use Rattle.std.proofs.lemmas.Bool.{eq-eqb, ne_eqb}
 use Rattle.std.proofs.lemmas.List.{length-take-le, length-replicate}
-use Rattle.subsystem_spec.specs.Requests.{Request}
+use Rattle.trace_replay.specs.requests.Requests.{Request}
 use Rattle.trace_replay.specs.Packs.{size_of_block, sector_of_block, bytes_of_write, flipped_from, read_as, repaired_from}
 use Rattle.driver_laws.specs.rules.Machine.{Blocks, bytes_or_none, bytes_of_first, blocks_done}
 use Rattle.driver_laws.specs.rules.Stands.{held_at, size_of_first}

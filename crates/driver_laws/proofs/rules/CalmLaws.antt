@@ -6,7 +6,7 @@ use Rattle.hardware_table.specs.Drive.{DriveState, is_writing}
 use Rattle.hardware_table.specs.Events.{turned}
 use Rattle.hardware_table.specs.Moves.{stop_of, IsVerdictBy, was_read, was_written}
 use Rattle.hardware_table.specs.Noise.{LiveNoise, strikes, after_strike}
-use Rattle.subsystem_spec.specs.Requests.{Request, Answer, Rejection, AtEnd, Beyond, FramesShort, rejection_answer}
+use Rattle.trace_replay.specs.requests.Requests.{Request, Answer, Rejection, AtEnd, Beyond, FramesShort, rejection_answer}
 use Rattle.trace_replay.specs.Script.{Input, Submit, ArriveAt, MoveAt, AttendTo, Drain, Turn, Noise, Arm, SetOnline, SetLocked}
 use Rattle.trace_replay.specs.Moments.{Deed, Search, Seek, Recal, Offset, Centre, Clear, Pack, Transfer, Arrive, Sector, Intr, Try, Attn, End, Played, Told, Idle}
 use Rattle.trace_replay.specs.Packs.{Surface, VerdictMay, flips_at, surface_read, surface_written}

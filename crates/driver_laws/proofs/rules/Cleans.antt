@@ -11,7 +11,7 @@ use Rattle.pack_geometry.specs.PackTable.{AreTablesOf}
 use Rattle.hardware_table.specs.declared.Moved.{Moved}
 use Rattle.hardware_table.specs.declared.Moved.TheVariants as verdict
 use Rattle.hardware_table.specs.Drive.{DriveState, is_writing}
-use Rattle.subsystem_spec.specs.Requests.{Request, first_block, Rejection, AtEnd, Beyond, FramesShort, rejection_answer, Answer, ReadOk, WriteOk, OutsidePartition, EndOfPartition, NoFrames, Failed}
+use Rattle.trace_replay.specs.requests.Requests.{Request, first_block, Rejection, AtEnd, Beyond, FramesShort, rejection_answer, Answer, ReadOk, WriteOk, OutsidePartition, EndOfPartition, NoFrames, Failed}
 use Rattle.trace_replay.specs.Script.{Submit, Drain}
 use Rattle.trace_replay.specs.Moments.{Deed, Search, Seek, Recal, Offset, Centre, Clear, Pack, Transfer, Arrive, Sector, Intr, Try, Attn, End, Moment, Played, Told, Idle, Answered, played, answers_in}
 use Rattle.trace_replay.specs.Packs.{VerdictMay, flips_at, bytes_read}

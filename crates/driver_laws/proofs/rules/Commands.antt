@@ -1,8 +1,8 @@
 -- A request takes at most 300 commands for each of its blocks.
 use Rattle.std.proofs.Common.{◌≡◌, ℕ, ◌+◌, ◌*◌, ◌≤◌, Bool, true, false, List, [], ◌∷◌, Option, None, Some, refl, sym, ap, ◌∙◌, subst, arith}
 use Rattle.std.proofs.lemmas.Option.{same_Some, none-some}
-use Rattle.subsystem_spec.specs.ServiceOrder.{Waiting as Waiter}
-use Rattle.subsystem_spec.specs.Requests.{Request, Answer, NoFrames}
+use Rattle.trace_replay.specs.requests.ServiceOrder.{Waiting as Waiter}
+use Rattle.trace_replay.specs.requests.Requests.{Request, Answer, NoFrames}
 use Rattle.trace_replay.specs.Moments.{Deed, End, Told}
 use Rattle.trace_replay.specs.Service.{ServiceMay, first_waiting, head_of, in_hand, request_or_none, ids}
 use Rattle.trace_replay.specs.Conversation.{Hand, Stage, Waiting, Steps, UnderWay, AtOnce, Moving, Saying, Ending, is_waiting}

@@ -7,7 +7,7 @@ use Rattle.pack_geometry.specs.declared.DriveKind.{DriveKind}
 use Rattle.pack_geometry.specs.Pack as model
 use Rattle.pack_geometry.specs.TableSpelling.{Table}
 use Rattle.pack_geometry.specs.Homes.{home_of}
-use Rattle.subsystem_spec.specs.Requests.{Request, first_block, Answer, ReadOk, WriteOk, OutsidePartition, EndOfPartition, NoFrames, Failed, Offline, Locked, Unforwarded, Fault, Rejection}
+use Rattle.trace_replay.specs.requests.Requests.{Request, first_block, Answer, ReadOk, WriteOk, OutsidePartition, EndOfPartition, NoFrames, Failed, Offline, Locked, Unforwarded, Fault, Rejection}
 use Rattle.trace_replay.specs.Script.{Script, Submit, AreApart, drives_of}
 use Rattle.trace_replay.specs.Moments.{Deed, Search, Seek, Recal, Offset, Centre, Clear, Pack, Transfer, Arrive, Sector, Intr, Try, Attn, End, Moment, Played, Told}
 use Rattle.trace_replay.specs.Conditions.{online_behind, locked_behind}

@@ -6,8 +6,8 @@ use Rattle.std.proofs.lemmas.Nat.Bits.{bit_at-zero}
 use Rattle.pack_geometry.specs.declared.DriveKind.{DriveKind}
 use Rattle.hardware_table.specs.Drive.{DriveState, is_positioning, is_transferring, on}
 use Rattle.hardware_table.specs.Adapter.{AdapterState, attention_lowered}
-use Rattle.subsystem_spec.specs.ServiceOrder.{Waiting as Waiter, is_before, put, Service, sweep_for, service_order}
-use Rattle.subsystem_spec.specs.Requests.{Request}
+use Rattle.trace_replay.specs.requests.ServiceOrder.{Waiting as Waiter, is_before, put, Service, sweep_for, service_order}
+use Rattle.trace_replay.specs.requests.Requests.{Request}
 use Rattle.trace_replay.specs.Script.{Input, Submit, ArriveAt, MoveAt, AttendTo, Drain, Turn, Noise, Arm, SetOnline, SetLocked}
 use Rattle.trace_replay.specs.Drives.{drive_played}
 use Rattle.trace_replay.specs.Service.{first_waiting, head_of, cylinder_of, service_joined}

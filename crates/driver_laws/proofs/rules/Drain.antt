@@ -9,7 +9,7 @@ use Rattle.hardware_table.specs.declared.Work.TheVariants as work
 use Rattle.hardware_table.specs.Drive.{DriveState, is_positioning}
 use Rattle.hardware_table.specs.Adapter.{AdapterState}
 use Rattle.hardware_table.specs.Events.{arrived_from}
-use Rattle.subsystem_spec.specs.Requests.{Request, Rejection, rejection_answer}
+use Rattle.trace_replay.specs.requests.Requests.{Request, Rejection, rejection_answer}
 use Rattle.trace_replay.specs.Script.{Input, Submit, ArriveAt, MoveAt, AttendTo, Drain, Turn, Noise, Arm, SetOnline, SetLocked}
 use Rattle.trace_replay.specs.Moments.{Deed, Arrive, End, Moment, Played, Told, Idle, played}
 use Rattle.trace_replay.specs.Drives.{DriveMay, drive_after}

@@ -5,7 +5,7 @@ use Rattle.hardware_table.specs.Drive.{DriveState}
 use Rattle.hardware_table.specs.declared.Work.{Work}
 use Rattle.pack_geometry.specs.Pack as model
 use Rattle.pack_geometry.specs.Homes.{home_of}
-use Rattle.subsystem_spec.specs.Requests.{IsRequest, Request, first_block, Answer, ReadOk, WriteOk, Failed, Cause, Offline, Locked, Unforwarded, Fault, OutsidePartition, EndOfPartition, NoFrames}
+use Rattle.trace_replay.specs.requests.Requests.{IsRequest, Request, first_block, Answer, ReadOk, WriteOk, Failed, Cause, Offline, Locked, Unforwarded, Fault, OutsidePartition, EndOfPartition, NoFrames}
 use Rattle.trace_replay.specs.Moments.{Deed, Centre, Clear, Try, End}
 use Rattle.trace_replay.specs.Conversation.{Hand, Stage, Waiting, Steps, UnderWay, AtOnce, Moving, Saying, Ending, Segment, Positioning, SearchFor, Recalibrate, SeekTo, OffsetBy, Progress, not_begun, due, guarded, transfer_of, command_of, needs_unlocked, is_write, begun}
 use Rattle.trace_replay.proofs.Histories.{Fits, Open, AreSaid, guard_holds, EndFits, EndsFailed, WasMarked}

@@ -17,7 +17,7 @@ use Rattle.hardware_table.specs.Events.{fault_armed, online_set, locked_set, tur
 use Rattle.hardware_table.specs.Functions.{performed}
 use Rattle.hardware_table.specs.Moves.{IsVerdict, IsVerdictBy, stop_of, first_armed, was_read, was_written}
 use Rattle.hardware_table.specs.Noise.{LiveNoise, after_strike}
-use Rattle.subsystem_spec.specs.Requests.{Request, Answer, rejection_answer}
+use Rattle.trace_replay.specs.requests.Requests.{Request, Answer, rejection_answer}
 use Rattle.trace_replay.specs.Script.{Input, Submit, ArriveAt, MoveAt, AttendTo, Drain, Turn, Noise, Arm, SetOnline, SetLocked, inputs_of, drives_of}
 use Rattle.trace_replay.specs.Moments.{Deed, Search, Seek, Recal, Offset, Centre, Clear, Pack, Transfer, Arrive, Sector, Intr, Try, Attn, End, Moment, Played, Told, Idle, played}
 use Rattle.trace_replay.specs.Drives.{drive_after}

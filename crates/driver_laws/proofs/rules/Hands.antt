@@ -2,7 +2,7 @@
 use Rattle.std.proofs.Common.{◌≡◌, ◌≢◌, inl, inr, ℕ, ◌<◌, ◌+◌, true, false, List, ◌++◌, take, Option, None, Some, refl, sym, ap, ◌∙◌, subst, arith, suc, length, length-append}
 use Rattle.std.specs.Prelude.{is_some, IsSome}
 use Rattle.std.proofs.lemmas.Bool.Decides.{eqb_tells}
-use Rattle.subsystem_spec.specs.Requests.{Request}
+use Rattle.trace_replay.specs.requests.Requests.{Request}
 use Rattle.trace_replay.specs.Packs.{size_of_block, sector_of_block}
 use Rattle.trace_replay.specs.Conversation.{Progress, not_begun}
 use Rattle.driver_laws.specs.rules.Machine.{Blocks, bytes_or_none, bytes_of_first, blocks_done}

@@ -14,7 +14,7 @@ use Rattle.driver_laws.specs.rules.Stands.{Setup, home_at, home_in}
 use Rattle.std.specs.Prelude.{unwrap_or}
 use Rattle.std.proofs.lemmas.Bool.{lt-ltb}
 use Rattle.pack_geometry.specs.Homes.{if_unmarked}
-use Rattle.subsystem_spec.specs.Requests.{first_block}
+use Rattle.trace_replay.specs.requests.Requests.{first_block}
 use Rattle.trace_replay.specs.Script.{IsThere}
 use Rattle.trace_replay.specs.Moments.{Deed}
 use Rattle.trace_replay.specs.Conversation.{Hand, Segment, OwnBlocks, Replacement, start_of}

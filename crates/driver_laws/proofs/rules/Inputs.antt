@@ -5,8 +5,8 @@ use Rattle.pack_geometry.specs.Geometry.{limit_of, block_count}
 use Rattle.partitions.specs.Partitions.{admission}
 use Rattle.fire_code.specs.Noise.{IsNoise}
 use Rattle.hardware_table.specs.Noise.{LiveNoise}
-use Rattle.subsystem_spec.proofs.ServiceOrderRuns.{newcomer, after_join-waiting}
-use Rattle.subsystem_spec.specs.Requests.{Request, IsRequest, first_block}
+use Rattle.trace_replay.proofs.requests.ServiceOrderRuns.{newcomer, after_join-waiting}
+use Rattle.trace_replay.specs.requests.Requests.{Request, IsRequest, first_block}
 use Rattle.trace_replay.specs.Script.{Input, Submit, IsThere, IsSpan}
 use Rattle.trace_replay.specs.Moments.{Played}
 use Rattle.trace_replay.specs.Adapters.{adapter_of}

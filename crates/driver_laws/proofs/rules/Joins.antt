@@ -12,8 +12,8 @@ use Rattle.hardware_table.specs.declared.Moved.TheVariants as verdict
 use Rattle.hardware_table.specs.declared.Work.{Work}
 use Rattle.hardware_table.specs.Drive.{DriveState}
 use Rattle.hardware_table.specs.Events.{turned, fault_armed, online_set, locked_set}
-use Rattle.subsystem_spec.proofs.ServiceOrderRuns.{after_join-waiting}
-use Rattle.subsystem_spec.specs.Requests.{Request, first_block}
+use Rattle.trace_replay.proofs.requests.ServiceOrderRuns.{after_join-waiting}
+use Rattle.trace_replay.specs.requests.Requests.{Request, first_block}
 use Rattle.trace_replay.specs.Script.{Input, Submit, ArriveAt, MoveAt, AttendTo, Drain, Turn, Noise, Arm, SetOnline, SetLocked, IsThere}
 use Rattle.trace_replay.specs.Moments.{Deed}
 use Rattle.trace_replay.specs.Drives.{drive_played}

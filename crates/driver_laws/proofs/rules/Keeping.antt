@@ -10,7 +10,7 @@ use Rattle.hardware_table.specs.declared.Moved.TheVariants as verdict
 use Rattle.hardware_table.specs.Adapter.{AdapterState}
 use Rattle.hardware_table.specs.Drive.{DriveState, is_writing, is_positioning}
 use Rattle.hardware_table.specs.Moves.{stop_of, first_armed, IsVerdict, IsVerdictBy, IsReadVerdict}
-use Rattle.subsystem_spec.specs.Requests.{Rejection, rejection_answer}
+use Rattle.trace_replay.specs.requests.Requests.{Rejection, rejection_answer}
 use Rattle.trace_replay.specs.Moments.{Deed, Search, Seek, Recal, Offset, Centre, Clear, Pack, Transfer, Arrive, Sector, Intr, Try, Attn, End, Told}
 use Rattle.trace_replay.specs.Adapters.{AdapterSeen, can_move}
 use Rattle.trace_replay.specs.Packs.{VerdictMay, flips_at}

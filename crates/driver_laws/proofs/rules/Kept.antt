@@ -7,7 +7,7 @@ use Rattle.pack_geometry.specs.Pack as model
 use Rattle.drive_registers.specs.declared.Function.TheVariants as function
 use Rattle.hardware_table.specs.Drive.{is_positioning, new_drive}
 use Rattle.hardware_table.specs.Functions.{performed}
-use Rattle.subsystem_spec.specs.Requests.{Request, IsRequest}
+use Rattle.trace_replay.specs.requests.Requests.{Request, IsRequest}
 use Rattle.trace_replay.specs.Script.{Input, Submit, ArriveAt, MoveAt, AttendTo, Drain, Turn, Noise, Arm, SetOnline, SetLocked, IsThere, IsInput}
 use Rattle.trace_replay.specs.Moments.{Deed, Moment, Played, Told, Idle}
 use Rattle.trace_replay.specs.Adapters.{AdapterSeen, can_move}

@@ -12,8 +12,8 @@ use Rattle.hardware_table.specs.Events.{times_armed}
 use Rattle.hardware_table.specs.Moves.{was_read, was_written}
 use Rattle.hardware_table.specs.Noise.{LiveNoise, after_strike, IsAmong}
 use Rattle.hardware_table.proofs.NoiseLaws.{among_struck}
-use Rattle.subsystem_spec.specs.ServiceOrder.{Waiting as Waiter, Service}
-use Rattle.subsystem_spec.specs.Requests.{Request}
+use Rattle.trace_replay.specs.requests.ServiceOrder.{Waiting as Waiter, Service}
+use Rattle.trace_replay.specs.requests.Requests.{Request}
 use Rattle.trace_replay.specs.Script.{Input, Submit, ArriveAt, MoveAt, AttendTo, Drain, Turn, Noise, Arm, SetOnline, SetLocked}
 use Rattle.trace_replay.specs.Moments.{Deed, Search, Seek, Recal, Offset, Centre, Clear, Pack, Transfer, Arrive, Sector, Intr, Try, Attn, End, Moment, Played, Told, Idle}
 use Rattle.trace_replay.specs.Packs.{Surface, surface_written, surface_read}

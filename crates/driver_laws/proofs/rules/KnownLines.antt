@@ -11,7 +11,7 @@ use Rattle.hardware_table.specs.Moves.{IsVerdict}
 use Rattle.fire_code.specs.Remainder.{remainder}
 use Rattle.fire_code.specs.Burst.{IsUncorrectable}
 use Rattle.hardware_table.specs.Noise.{LiveNoise, is_at}
-use Rattle.subsystem_spec.specs.Requests.{Answer}
+use Rattle.trace_replay.specs.requests.Requests.{Answer}
 use Rattle.trace_replay.specs.Script.{Input, Submit, ArriveAt, MoveAt, AttendTo, Drain, Turn, Noise, Arm, SetOnline, SetLocked}
 use Rattle.trace_replay.specs.Moments.{Deed, Search, Seek, Recal, Offset, Centre, Clear, Pack, Transfer, Arrive, Sector, Intr, Try, Attn, End, Moment, Told}
 use Rattle.trace_replay.specs.Packs.{flips_at}

@@ -11,9 +11,9 @@ use Rattle.hardware_table.specs.Drive.{DriveState, new_drive, none_armed}
 use Rattle.hardware_table.specs.Events.{times_armed, fault_armed, online_set, locked_set, turned}
 use Rattle.hardware_table.specs.Noise.{LiveNoise, with_noise}
 use Rattle.hardware_table.proofs.NoiseLaws.{among_armed}
-use Rattle.subsystem_spec.specs.ServiceOrder.{Waiting as Waiter}
-use Rattle.subsystem_spec.proofs.ServiceOrderRuns.{newcomer, after_join-waiting, each-put}
-use Rattle.subsystem_spec.specs.Requests.{Request, Rejection, rejection_answer}
+use Rattle.trace_replay.specs.requests.ServiceOrder.{Waiting as Waiter}
+use Rattle.trace_replay.proofs.requests.ServiceOrderRuns.{newcomer, after_join-waiting, each-put}
+use Rattle.trace_replay.specs.requests.Requests.{Request, Rejection, rejection_answer}
 use Rattle.trace_replay.specs.Script.{Input, Submit, ArriveAt, MoveAt, AttendTo, Drain, Turn, Noise, Arm, SetOnline, SetLocked}
 use Rattle.trace_replay.specs.Moments.{Deed, End, Moment, Played, Told, Idle}
 use Rattle.trace_replay.specs.Drives.{drive_played}

@@ -7,8 +7,8 @@ use Rattle.pack_geometry.specs.Geometry.{limit_of}
 use Rattle.pack_geometry.specs.declared.DriveKind.{DriveKind}
 use Rattle.pack_geometry.specs.PackTable.{AreTablesOf}
 use Rattle.hardware_table.specs.Noise.{LiveNoise}
-use Rattle.subsystem_spec.specs.ServiceOrder.{Waiting as Waiter, Service, after_leave}
-use Rattle.subsystem_spec.specs.Requests.{Request, first_block, Answer, Rejection, rejection_answer}
+use Rattle.trace_replay.specs.requests.ServiceOrder.{Waiting as Waiter, Service, after_leave}
+use Rattle.trace_replay.specs.requests.Requests.{Request, first_block, Answer, Rejection, rejection_answer}
 use Rattle.trace_replay.specs.Moments.{Deed, Search, Seek, Recal, Offset, Centre, Clear, Pack, Transfer, Arrive, Sector, Intr, Try, Attn, End, Told, Answered}
 use Rattle.trace_replay.specs.Adapters.{AdapterSeen}
 use Rattle.trace_replay.specs.Service.{first_waiting, request_or_none, ids, in_hand, head_of, service_after, frames_needed}

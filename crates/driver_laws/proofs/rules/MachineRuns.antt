@@ -15,8 +15,8 @@ use Rattle.pack_geometry.specs.Homes.{IsHome, home_of, content_at, contents_of}
 use Rattle.pack_geometry.proofs.HomeLaws.{home_below}
 use Rattle.pack_geometry.proofs.PackTableLaws.{table_room, table_same}
 use Rattle.hardware_table.specs.Noise.{LiveNoise}
-use Rattle.subsystem_spec.specs.ServiceOrder.{Waiting as Waiter}
-use Rattle.subsystem_spec.specs.Requests.{Request, first_block}
+use Rattle.trace_replay.specs.requests.ServiceOrder.{Waiting as Waiter}
+use Rattle.trace_replay.specs.requests.Requests.{Request, first_block}
 use Rattle.trace_replay.specs.Script.{IsScript, Input, Submit, ArriveAt, MoveAt, AttendTo, Drain, Turn, Noise, Arm, SetOnline, SetLocked, Numbered, Script, Line, Statement, Declares, Plays, with_input, inputs_before, inputs_of, drives_of, with_id, ids_of, IsInput, IsStatement, AreApart}
 use Rattle.trace_replay.specs.Moments.{Moment, Played, Told, Idle, Answered, played, answers_in}
 use Rattle.trace_replay.specs.Service.{in_hand, first_waiting, request_or_none}

@@ -11,7 +11,7 @@ use Rattle.retry_offsets.specs.Schedule.{step_after}
 use Rattle.retry_offsets.specs.declared.Step.{Step}
 use Rattle.retry_offsets.specs.declared.Step.TheVariants as retry
 use Rattle.pack_geometry.specs.Geometry.{place_at}
-use Rattle.subsystem_spec.specs.Requests.{Request, ReadOk, WriteOk}
+use Rattle.trace_replay.specs.requests.Requests.{Request, ReadOk, WriteOk}
 use Rattle.trace_replay.specs.Moments.{Deed, Centre, Clear, Transfer, Try, End}
 use Rattle.trace_replay.specs.Packs.{repaired_from}
 use Rattle.trace_replay.specs.Conversation.{Hand, Stage, Waiting, Steps, UnderWay, AtOnce, Moving, Saying, Ending, Segment, OwnBlocks, Replacement, Positioning, SearchFor, Recalibrate, SeekTo, OffsetBy, Progress, due, guarded, transfer_of, command_of, needs_unlocked, is_write, step_taken, step_ended, said, saying, sector_may, is_under_way, progress_interrupted, outcome, interrupted_by, continued, ok_answer, retried, marked, forwarded, entry_of, start_of, clear_lines, centre_lines, try_lines, last_of}

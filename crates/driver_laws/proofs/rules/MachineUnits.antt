@@ -18,8 +18,8 @@ use Rattle.hardware_table.specs.Events.{transfer_ended}
 use Rattle.hardware_table.specs.Functions.{performed, refusals, needs_online}
 use Rattle.hardware_table.specs.Moves.{after_move, was_read}
 use Rattle.hardware_table.specs.Noise.{LiveNoise}
-use Rattle.subsystem_spec.specs.ServiceOrder.{Waiting as Waiter}
-use Rattle.subsystem_spec.specs.Requests.{Request, first_block}
+use Rattle.trace_replay.specs.requests.ServiceOrder.{Waiting as Waiter}
+use Rattle.trace_replay.specs.requests.Requests.{Request, first_block}
 use Rattle.trace_replay.specs.Moments.{Deed, Search, Seek, Recal, Offset, Centre, Clear, Pack, Transfer, Arrive, Sector, Intr, Try, Attn, End}
 use Rattle.trace_replay.specs.Drives.{takes, transfer_function, drive_after, addressed}
 use Rattle.trace_replay.specs.Packs.{flips_at, bytes_read}

@@ -6,9 +6,9 @@ use Rattle.std.proofs.lemmas.Option.{same_Some, none-some}
 use Rattle.std.proofs.lemmas.Bool.Decides.{eqb_tells}
 use Rattle.std.proofs.lemmas.Bool.{ne_eqb}
 use Rattle.pack_geometry.specs.declared.DriveKind.{DriveKind}
-use Rattle.subsystem_spec.specs.ServiceOrder.{Waiting as Waiter, put, is_before}
-use Rattle.subsystem_spec.proofs.ServiceOrderRuns.{each-put, each_weaker}
-use Rattle.subsystem_spec.specs.Requests.{Request}
+use Rattle.trace_replay.specs.requests.ServiceOrder.{Waiting as Waiter, put, is_before}
+use Rattle.trace_replay.proofs.requests.ServiceOrderRuns.{each-put, each_weaker}
+use Rattle.trace_replay.specs.requests.Requests.{Request}
 use Rattle.trace_replay.specs.Service.{frames_needed}
 use Rattle.driver_laws.specs.rules.Machine.{request_of, without, frames_of}
 use Rattle.driver_laws.specs.rules.Stands.{IsOutstanding, AreDistinct, QueueStands}

@@ -16,7 +16,7 @@ use Rattle.hardware_table.specs.declared.Moved.TheVariants as verdict
 use Rattle.hardware_table.specs.Drive.{DriveState, is_positioning, is_transferring, has_error, on, with_register}
 use Rattle.hardware_table.specs.Adapter.{AdapterState, stepped, bytes_between}
 use Rattle.hardware_table.specs.Functions.{performed}
-use Rattle.subsystem_spec.specs.Requests.{Request, Answer}
+use Rattle.trace_replay.specs.requests.Requests.{Request, Answer}
 use Rattle.trace_replay.specs.Moments.{Deed, Search, Seek, Recal, Offset, Centre, Clear, Pack, Transfer, Arrive, Sector, Intr, Try, Attn, End}
 use Rattle.trace_replay.specs.Adapters.{AdapterSeen, AdapterMay, is_busy_for, can_move, drive_of}
 use Rattle.trace_replay.specs.Drives.{DriveMay, drive_after, addressed, search_place, offset_written, transfer_function}

@@ -7,7 +7,7 @@ use Rattle.std.proofs.lemmas.Bool.Decides.{eqb_tells, nat_tests}
 use Rattle.pack_geometry.specs.declared.DriveKind.{DriveKind}
 use Rattle.pack_geometry.specs.TableSpelling.{Table}
 use Rattle.hardware_table.specs.Drive.{DriveState}
-use Rattle.subsystem_spec.specs.Requests.{Failed, Offline, Locked, Rejection, rejection_answer}
+use Rattle.trace_replay.specs.requests.Requests.{Failed, Offline, Locked, Rejection, rejection_answer}
 use Rattle.trace_replay.specs.Moments.{Deed, Search, Seek, Recal, Offset, Centre, Clear, Pack, Transfer, Arrive, Sector, Intr, Try, Attn, End, Moment, Played, Told, Idle}
 use Rattle.trace_replay.specs.Adapters.{AdapterSeen, adapter_of, with_ready}
 use Rattle.trace_replay.specs.Packs.{Surface}

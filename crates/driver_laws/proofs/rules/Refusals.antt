@@ -1,7 +1,7 @@
 -- A refusal is answered directly behind the line that submits its request.
 use Rattle.std.proofs.Common.{◌≡◌, inl, inr, ◌⊎◌, ℕ, ◌==◌, true, false, List, [], ◌∷◌, ◌++◌, length, refl, sym, ap, ◌∙◌, subst, arith}
 use Rattle.hardware_table.specs.Drive.{is_positioning}
-use Rattle.subsystem_spec.specs.Requests.{Request, Answer, OutsidePartition, Rejection, AtEnd, rejection_answer}
+use Rattle.trace_replay.specs.requests.Requests.{Request, Answer, OutsidePartition, Rejection, AtEnd, rejection_answer}
 use Rattle.trace_replay.specs.Script.{Input, Submit, ArriveAt, MoveAt, AttendTo, Drain, Turn, Noise, Arm, SetOnline, SetLocked, drives_of}
 use Rattle.trace_replay.specs.Moments.{Deed, End, Moment, Played, Told, Idle, Answered}
 use Rattle.trace_replay.specs.Adapters.{adapter_of, can_move}

@@ -5,7 +5,7 @@ use Rattle.std.proofs.lemmas.Option.{none-some, same_Some}
 use Rattle.std.proofs.lemmas.List.{length-take-le, take_all, take-take, take_at, drop_all, drop-take, drop-drop}
 use Rattle.std.proofs.Math.ListN.{length-drop}
 use Rattle.std.proofs.lemmas.Bool.Decides.{nat_tests, leb_tells}
-use Rattle.subsystem_spec.specs.Requests.{Request}
+use Rattle.trace_replay.specs.requests.Requests.{Request}
 use Rattle.trace_replay.specs.Packs.{size_of_block, sector_of_block, bytes_of_write}
 use Rattle.driver_laws.specs.rules.Machine.{Blocks, blocks_done}
 use Rattle.driver_laws.specs.rules.Laid.{laid, laid_at}

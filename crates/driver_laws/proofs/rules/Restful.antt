@@ -9,8 +9,8 @@ use Rattle.pack_geometry.specs.Content.{bytes_at}
 use Rattle.pack_geometry.specs.Homes.{home_of, content_at, contents_of}
 use Rattle.pack_geometry.proofs.PackLaws.{length-block_at}
 use Rattle.hardware_table.specs.Noise.{LiveNoise}
-use Rattle.subsystem_spec.specs.ServiceOrder.{Waiting as Waiter}
-use Rattle.subsystem_spec.specs.Requests.{Request, first_block}
+use Rattle.trace_replay.specs.requests.ServiceOrder.{Waiting as Waiter}
+use Rattle.trace_replay.specs.requests.Requests.{Request, first_block}
 use Rattle.trace_replay.specs.Service.{no_request}
 use Rattle.trace_replay.specs.Packs.{surface_of}
 use Rattle.trace_replay.specs.Conversation.{Waiting, not_begun, goes_on}

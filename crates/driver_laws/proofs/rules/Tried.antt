@@ -8,7 +8,7 @@ use Rattle.hardware_table.specs.declared.Moved.{Moved}
 use Rattle.hardware_table.specs.declared.Moved.TheVariants as verdict
 use Rattle.hardware_table.specs.Drive.{DriveState, is_writing}
 use Rattle.hardware_table.specs.Moves.{stop_of, first_armed, IsVerdict, IsVerdictBy, IsReadVerdict, has_bytes, was_read}
-use Rattle.subsystem_spec.specs.Requests.{Request}
+use Rattle.trace_replay.specs.requests.Requests.{Request}
 use Rattle.trace_replay.specs.Packs.{Surface, flips_at, bytes_read, surface_read, surface_written, surface_tried, size_of_block, sector_of_block, read_as, this_sector_or}
 use Rattle.trace_replay.specs.Conversation.{Progress, progress_tried}
 use Rattle.driver_laws.specs.rules.Machine.{Blocks, bytes_or_none}

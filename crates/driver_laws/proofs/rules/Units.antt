@@ -6,9 +6,9 @@ use Rattle.pack_geometry.specs.Geometry.{sectors_of}
 use Rattle.pack_geometry.specs.TableSpelling.{Table}
 use Rattle.hardware_table.specs.Drive.{DriveState, is_positioning}
 use Rattle.seek_engine.specs.Seek.{sector_before}
-use Rattle.subsystem_spec.specs.ServiceOrder.{Waiting as Waiter, put, Service, after_leave}
-use Rattle.subsystem_spec.proofs.ServiceOrderRuns.{newcomer, after_join-waiting}
-use Rattle.subsystem_spec.specs.Requests.{Request}
+use Rattle.trace_replay.specs.requests.ServiceOrder.{Waiting as Waiter, put, Service, after_leave}
+use Rattle.trace_replay.proofs.requests.ServiceOrderRuns.{newcomer, after_join-waiting}
+use Rattle.trace_replay.specs.requests.Requests.{Request}
 use Rattle.trace_replay.specs.Moments.{Deed, Search, Seek, Recal, Offset, Centre, Clear, Pack, Transfer, Arrive, Sector, Intr, Try, Attn, End}
 use Rattle.trace_replay.specs.Service.{cylinder_of, first_waiting, in_hand, head_of, request_or_none, service_after, target_of}
 use Rattle.trace_replay.specs.Conversation.{SearchFor, Stage, Waiting, Steps, UnderWay, AtOnce, Moving, Saying, Ending, Progress, not_begun, TalkMay, begun, starts_at_once, is_waiting, progress_after, stage_after}

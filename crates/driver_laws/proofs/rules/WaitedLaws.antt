@@ -13,10 +13,10 @@ use Rattle.pack_geometry.specs.PackTable.{IsTableAt, places_of}
 use Rattle.pack_geometry.specs.Homes.{home_of}
 use Rattle.pack_geometry.proofs.HomeLaws.{home_below}
 use Rattle.pack_geometry.proofs.PackTableLaws.{table_room, table_same}
-use Rattle.subsystem_spec.specs.ServiceOrder.{Waiting as Waiter}
+use Rattle.trace_replay.specs.requests.ServiceOrder.{Waiting as Waiter}
 use Rattle.partitions.specs.declared.Admission.{Admission}
 use Rattle.partitions.specs.declared.Admission.TheVariants.{Inside, Eof, Outside}
-use Rattle.subsystem_spec.specs.Requests.{Request, IsRequest, first_block, Rejection, AtEnd, Beyond, rejection_answer, Answer, ReadOk, WriteOk, OutsidePartition, EndOfPartition, NoFrames, Failed, Offline, Locked, Unforwarded, Fault}
+use Rattle.trace_replay.specs.requests.Requests.{Request, IsRequest, first_block, Rejection, AtEnd, Beyond, rejection_answer, Answer, ReadOk, WriteOk, OutsidePartition, EndOfPartition, NoFrames, Failed, Offline, Locked, Unforwarded, Fault}
 use Rattle.trace_replay.specs.Script.{Submit, Drain, Input, IsThere}
 use Rattle.trace_replay.specs.Moments.{Deed, Search, Seek, Recal, Offset, Centre, Clear, Pack, Transfer, Arrive, Sector, Intr, Try, Attn, End, Moment, Played, Told, Idle, Answered, played, answers_in}
 use Rattle.trace_replay.specs.Service.{in_hand, first_waiting, request_or_none, frames_needed}

@@ -2,7 +2,7 @@
 use Rattle.std.proofs.Common.{◌≡◌, ◌≢◌, ◌<◌, ℕ, Bool, true, sym, ap, subst, arith, ◌∙◌}
 use Rattle.pack_geometry.specs.declared.DriveKind.{DriveKind}
 use Rattle.hardware_table.specs.Adapter.{AdapterState}
-use Rattle.subsystem_spec.specs.Requests.{Request}
+use Rattle.trace_replay.specs.requests.Requests.{Request}
 use Rattle.driver_machine.specs.declared.Phase.TheVariants as phases
 use Rattle.driver_machine.specs.World.{World, Held, slot_in_hand, drive_of, unit_on, adapter_of, unit_at, adapter_at, held_in}
 use Rattle.driver_machine.specs.Guards.{IsHeldFor}

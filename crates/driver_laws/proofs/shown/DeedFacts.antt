@@ -6,7 +6,7 @@ use Rattle.hardware_table.specs.declared.Moved.{Moved}
 use Rattle.hardware_table.specs.Adapter.{AdapterState}
 use Rattle.transfer_engine.specs.State.{begun}
 use Rattle.transfer_engine.specs.State as engine
-use Rattle.subsystem_spec.specs.Requests.{Request}
+use Rattle.trace_replay.specs.requests.Requests.{Request}
 use Rattle.trace_replay.specs.Replay.{UnitSeen, Replay, hand_of, unit_after, replay_told}
 use Rattle.trace_replay.specs.Conversation as told
 use Rattle.trace_replay.specs.Moments as moment

@@ -9,8 +9,8 @@ use Rattle.hardware_table.specs.Adapter.{AdapterState}
 use Rattle.seek_engine.specs.declared.Position.{Position}
 use Rattle.seek_engine.specs.declared.Position.TheVariants as position
 use Rattle.disksort.specs.declared.Waiter.{Waiter}
-use Rattle.subsystem_spec.specs.ServiceOrder.{Waiting as Waits}
-use Rattle.subsystem_spec.specs.Requests.{Request}
+use Rattle.trace_replay.specs.requests.ServiceOrder.{Waiting as Waits}
+use Rattle.trace_replay.specs.requests.Requests.{Request}
 use Rattle.trace_replay.specs.Moments as moment
 use Rattle.trace_replay.specs.Events.{DueLine, wish_of, Act, act_after}
 use Rattle.trace_replay.specs.Service.{head_of, first_waiting}

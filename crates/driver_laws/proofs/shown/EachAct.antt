@@ -11,8 +11,8 @@ use Rattle.hardware_table.specs.Drive.{DriveState}
 use Rattle.hardware_table.specs.Events.{turned, fault_armed, online_set, locked_set}
 use Rattle.hardware_table.specs.Noise.{LiveNoise}
 use Rattle.disksort.specs.declared.Waiter.{Waiter}
-use Rattle.subsystem_spec.specs.ServiceOrder.{IsInOrder, queue_with}
-use Rattle.subsystem_spec.proofs.ServiceOrderLaws.{queue_with-head}
+use Rattle.trace_replay.specs.requests.ServiceOrder.{IsInOrder, queue_with}
+use Rattle.trace_replay.proofs.requests.ServiceOrderLaws.{queue_with-head}
 use Rattle.trace_replay.specs.Script as script
 use Rattle.trace_replay.specs.Script.{Input}
 use Rattle.driver_laws.specs.rules.Machine.{Blocks}

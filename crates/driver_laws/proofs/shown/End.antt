@@ -12,21 +12,21 @@ use Rattle.hardware_table.specs.Adapter.{AdapterState}
 use Rattle.hardware_table.specs.Drive.{DriveState}
 use Rattle.disksort.specs.declared.Waiter.{Waiter}
 use Rattle.transfer_engine.specs.Calls.{entry_by}
-use Rattle.subsystem_spec.specs.Requests.{Request, Answer}
-use Rattle.subsystem_spec.specs.Requests as asked
+use Rattle.trace_replay.specs.requests.Requests.{Request, Answer}
+use Rattle.trace_replay.specs.requests.Requests as asked
 use Rattle.trace_replay.specs.Service.{in_hand, target_of, frames_needed}
 use Rattle.trace_replay.specs.Replay.{UnitSeen, Replay, hand_of, at_unit, with_state, unit_after, adapter_told, replay_told}
 use Rattle.trace_replay.specs.Conversation as told
 use Rattle.trace_replay.specs.Moments as moment
 use Rattle.trace_replay.specs.Adapters as rule
 use Rattle.trace_replay.specs.Adapters.{AdapterSeen}
-use Rattle.subsystem_spec.specs.ServiceOrder.{Waiting}
+use Rattle.trace_replay.specs.requests.ServiceOrder.{Waiting}
 use Rattle.driver_machine.specs.declared.Phase.{Phase}
 use Rattle.driver_machine.specs.declared.Task.TheVariants.{Clear, Judge, Steps, Command, GiveUp}
 use Rattle.driver_machine.specs.declared.Phase.TheVariants as phases
 use Rattle.driver_machine.specs.declared.Phase.TheVariants.{Positioning, Queued, Transferring, Due}
-use Rattle.subsystem_spec.specs.declared.answers.AnswerKind.{AnswerKind}
-use Rattle.subsystem_spec.specs.declared.answers.AnswerKind.TheVariants as answer
+use Rattle.trace_replay.specs.declared.requests.answers.AnswerKind.{AnswerKind}
+use Rattle.trace_replay.specs.declared.requests.answers.AnswerKind.TheVariants as answer
 use Rattle.driver_machine.specs.World.{World, UnitView, AdapterView, Held, slot_in_hand, transfer_of, bytes_in, frames_of, adapter_of, unit_at, adapter_at, held_in}
 use Rattle.driver_machine.specs.Guards.{IsHeldFor, InHand}
 use Rattle.driver_machine.specs.Due.{done_with}

@@ -12,10 +12,10 @@ use Rattle.hardware_table.specs.declared.Moved.TheVariants as verdict
 use Rattle.transfer_engine.specs.declared.job.Job.{Job}
 use Rattle.transfer_engine.specs.State.{TransferState}
 use Rattle.transfer_engine.specs.Calls.{entry_by, entry_for}
-use Rattle.subsystem_spec.specs.declared.answers.AnswerKind.{AnswerKind}
-use Rattle.subsystem_spec.specs.declared.answers.AnswerKind.TheVariants.{ReadOk, WriteOk, Error}
-use Rattle.subsystem_spec.specs.declared.answers.Cause.{Cause}
-use Rattle.subsystem_spec.specs.declared.answers.Cause.TheVariants as cause
+use Rattle.trace_replay.specs.declared.requests.answers.AnswerKind.{AnswerKind}
+use Rattle.trace_replay.specs.declared.requests.answers.AnswerKind.TheVariants.{ReadOk, WriteOk, Error}
+use Rattle.trace_replay.specs.declared.requests.answers.Cause.{Cause}
+use Rattle.trace_replay.specs.declared.requests.answers.Cause.TheVariants as cause
 use Rattle.driver_laws.specs.rules.Machine.{Blocks}
 use Rattle.driver_machine.specs.declared.Task.TheVariants.{Clear, Judge, Steps, Command, GiveUp}
 use Rattle.driver_machine.specs.declared.Phase.{Phase}

@@ -7,8 +7,8 @@ use Rattle.std.specs.Prelude.{slice_set, slice_index_or, unwrap_or}
 use Rattle.pack_geometry.specs.declared.DriveKind.{DriveKind}
 use Rattle.hardware_table.specs.Adapter.{AdapterState}
 use Rattle.disksort.specs.declared.Waiter.{Waiter}
-use Rattle.subsystem_spec.specs.ServiceOrder.{Waiting}
-use Rattle.subsystem_spec.specs.Requests.{Request}
+use Rattle.trace_replay.specs.requests.ServiceOrder.{Waiting}
+use Rattle.trace_replay.specs.requests.Requests.{Request}
 use Rattle.trace_replay.specs.Service.{head_of}
 use Rattle.trace_replay.specs.Adapters.{AdapterSeen}
 use Rattle.trace_replay.specs.Conversation as told

@@ -14,10 +14,10 @@ use Rattle.retry_offsets.specs.Schedule.{step_after}
 use Rattle.retry_offsets.specs.declared.Step.{Step}
 use Rattle.retry_offsets.specs.declared.Step.TheVariants as retry
 use Rattle.disksort.specs.declared.Waiter.{Waiter}
-use Rattle.subsystem_spec.specs.ServiceOrder.{Waiting, Service, after_join, queue_with, IsInOrder}
-use Rattle.subsystem_spec.proofs.ServiceOrderRuns.{IsService, after_join-waiting}
-use Rattle.subsystem_spec.proofs.ServiceOrderLaws.{queue_with-head}
-use Rattle.subsystem_spec.specs.Requests.{Request, Answer}
+use Rattle.trace_replay.specs.requests.ServiceOrder.{Waiting, Service, after_join, queue_with, IsInOrder}
+use Rattle.trace_replay.proofs.requests.ServiceOrderRuns.{IsService, after_join-waiting}
+use Rattle.trace_replay.proofs.requests.ServiceOrderLaws.{queue_with-head}
+use Rattle.trace_replay.specs.requests.Requests.{Request, Answer}
 use Rattle.trace_replay.specs.Service.{cylinder_of, service_joined, head_of, first_waiting, frames_needed}
 use Rattle.trace_replay.specs.Adapters as rule
 use Rattle.trace_replay.specs.Adapters.{AdapterSeen}

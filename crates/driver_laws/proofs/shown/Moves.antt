@@ -12,7 +12,7 @@ use Rattle.main_memory.proofs.ByteLaws.{length-filled}
 use Rattle.hardware_table.specs.Drive.{DriveState}
 use Rattle.hardware_table.specs.Moves.{was_read, was_written}
 use Rattle.hardware_table.specs.Adapter.{AdapterState, next_block, next_window}
-use Rattle.subsystem_spec.specs.Requests.{Request}
+use Rattle.trace_replay.specs.requests.Requests.{Request}
 use Rattle.trace_replay.specs.Moments as moment
 use Rattle.trace_replay.specs.Moments.{Told}
 use Rattle.trace_replay.specs.Packs.{Surface, this_sector_or, surface_tried, surface_read, surface_written, sector_of_block}

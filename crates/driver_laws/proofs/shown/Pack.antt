@@ -10,7 +10,7 @@ use Rattle.hardware_table.specs.Functions.{performed}
 use Rattle.seek_engine.specs.declared.Position.TheVariants as position
 use Rattle.seek_engine.specs.Seek.{sector_before}
 use Rattle.transfer_engine.specs.State as engine
-use Rattle.subsystem_spec.specs.Requests.{Request}
+use Rattle.trace_replay.specs.requests.Requests.{Request}
 use Rattle.trace_replay.specs.Replay.{UnitSeen, Replay, hand_of, at_unit}
 use Rattle.trace_replay.specs.Conversation as told
 use Rattle.trace_replay.specs.Moments as moment
@@ -21,7 +21,7 @@ use Rattle.driver_machine.specs.declared.Phase.{Phase}
 use Rattle.driver_machine.specs.declared.Task.TheVariants.{Clear, Judge, Steps, Command, GiveUp}
 use Rattle.driver_machine.specs.declared.Phase.TheVariants.{Waiting, Positioning, Queued, Transferring, Due}
 use Rattle.driver_machine.specs.declared.Phase.TheVariants as phases
-use Rattle.subsystem_spec.specs.declared.answers.AnswerKind.{AnswerKind}
+use Rattle.trace_replay.specs.declared.requests.answers.AnswerKind.{AnswerKind}
 use Rattle.driver_machine.specs.World.{World, UnitView, AdapterView, Held, slot_in_hand, transfer_of, adapter_of, unit_at, adapter_at, held_in}
 use Rattle.driver_machine.specs.Guards.{InHand, IsNext}
 use Rattle.driver_machine.specs.Due.{steps_of, target_of, next_by, start_by, step_of, command_of}

@@ -4,7 +4,7 @@ use Rattle.std.specs.Prelude.{if◌then◌else◌}
 use Rattle.pack_geometry.specs.Geometry.{replacement_at}
 use Rattle.transfer_engine.specs.declared.job.Job.{Job}
 use Rattle.transfer_engine.specs.State as engine
-use Rattle.subsystem_spec.specs.Requests.{first_block}
+use Rattle.trace_replay.specs.requests.Requests.{first_block}
 use Rattle.trace_replay.specs.Conversation.{Hand, start_of, length_of}
 use Rattle.driver_machine.specs.World.{bytes_in}
 use Rattle.driver_laws.specs.shown.Stages.{segment_by}

@@ -5,8 +5,8 @@ use Rattle.std.specs.Prelude.{slice_set, slice_index_or}
 use Rattle.pack_geometry.specs.declared.DriveKind.{DriveKind}
 use Rattle.hardware_table.specs.Drive.{DriveState}
 use Rattle.disksort.specs.declared.Waiter.{Waiter}
-use Rattle.subsystem_spec.specs.ServiceOrder.{Service}
-use Rattle.subsystem_spec.specs.Requests.{Request}
+use Rattle.trace_replay.specs.requests.ServiceOrder.{Service}
+use Rattle.trace_replay.specs.requests.Requests.{Request}
 use Rattle.trace_replay.specs.Moments.{Deed}
 use Rattle.trace_replay.specs.Adapters as rule
 use Rattle.trace_replay.specs.Adapters.{AdapterSeen, adapter_after, ready_after}

@@ -4,9 +4,9 @@ use Rattle.std.specs.Prelude.{if◌then◌else◌, Contains}
 use Rattle.std.specs.List.{AllByRecursion}
 use Rattle.pack_geometry.specs.declared.DriveKind.{DriveKind}
 use Rattle.disksort.specs.declared.Waiter.{Waiter}
-use Rattle.subsystem_spec.specs.ServiceOrder.{Waiting, Service, after_join, queue_of, queue_with, IsInOrder}
-use Rattle.subsystem_spec.proofs.ServiceOrderRuns.{IsService, put_in, inserted, goes_before, queue_with-inserted, queue_of-after_join}
-use Rattle.subsystem_spec.specs.Requests.{Request}
+use Rattle.trace_replay.specs.requests.ServiceOrder.{Waiting, Service, after_join, queue_of, queue_with, IsInOrder}
+use Rattle.trace_replay.proofs.requests.ServiceOrderRuns.{IsService, put_in, inserted, goes_before, queue_with-inserted, queue_of-after_join}
+use Rattle.trace_replay.specs.requests.Requests.{Request}
 use Rattle.trace_replay.specs.Service.{cylinder_of}
 use Rattle.driver_machine.specs.World.{Held}
 use Rattle.driver_machine.specs.Guards.{IsHeldFor}

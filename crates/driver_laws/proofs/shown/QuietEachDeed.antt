@@ -11,9 +11,9 @@ use Rattle.hardware_table.specs.Moves.{was_read, was_written}
 use Rattle.hardware_table.specs.Noise.{LiveNoise, Book, book_struck}
 use Rattle.main_memory.specs.Bytes.{filled}
 use Rattle.disksort.specs.declared.Waiter.{Waiter}
-use Rattle.subsystem_spec.specs.declared.answers.AnswerKind.{AnswerKind}
-use Rattle.subsystem_spec.specs.declared.answers.AnswerKind.TheVariants.{ReadOk, WriteOk, Eof, Error}
-use Rattle.subsystem_spec.specs.declared.answers.Cause.TheVariants as cause
+use Rattle.trace_replay.specs.declared.requests.answers.AnswerKind.{AnswerKind}
+use Rattle.trace_replay.specs.declared.requests.answers.AnswerKind.TheVariants.{ReadOk, WriteOk, Eof, Error}
+use Rattle.trace_replay.specs.declared.requests.answers.Cause.TheVariants as cause
 use Rattle.driver_laws.specs.rules.Machine.{Blocks}
 use Rattle.driver_laws.specs.rules.Stands.{is_sure_among, IsLive}
 use Rattle.driver_laws.proofs.rules.Noises.{struck_live}

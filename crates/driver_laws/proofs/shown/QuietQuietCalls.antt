@@ -2,9 +2,9 @@
 use Rattle.std.proofs.Common.{◌≡◌, ℕ, ◌≤◌, ◌&&◌, nat_lt, Bool, true, false, List, [], ◌∷◌, ◌++◌, refl, sym, ap, subst, arith, ◌∙◌}
 use Rattle.std.proofs.lemmas.Bool.Decides.{nat_tests}
 use Rattle.pack_geometry.specs.Pack.{Pack}
-use Rattle.subsystem_spec.specs.ServiceOrder.{Waiting as Waiter, Service}
-use Rattle.subsystem_spec.proofs.ServiceOrderRuns.{IsService}
-use Rattle.subsystem_spec.specs.Requests.{Request}
+use Rattle.trace_replay.specs.requests.ServiceOrder.{Waiting as Waiter, Service}
+use Rattle.trace_replay.proofs.requests.ServiceOrderRuns.{IsService}
+use Rattle.trace_replay.specs.requests.Requests.{Request}
 use Rattle.trace_replay.specs.Moments.{Played}
 use Rattle.trace_replay.specs.Script as script
 use Rattle.trace_replay.specs.Script.{Input}

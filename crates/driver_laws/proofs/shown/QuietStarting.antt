@@ -4,8 +4,8 @@ use Rattle.std.specs.Prelude.{if◌then◌else◌}
 use Rattle.std.specs.List.{list_any}
 use Rattle.pack_geometry.specs.declared.DriveKind.{DriveKind}
 use Rattle.pack_geometry.specs.Pack.{Pack, empty_pack}
-use Rattle.subsystem_spec.specs.ServiceOrder.{Waiting as Waiter, Service}
-use Rattle.subsystem_spec.specs.Requests.{Request, IsRequest}
+use Rattle.trace_replay.specs.requests.ServiceOrder.{Waiting as Waiter, Service}
+use Rattle.trace_replay.specs.requests.Requests.{Request, IsRequest}
 use Rattle.trace_replay.specs.Moments.{Moment, Played, played}
 use Rattle.trace_replay.specs.Script.{Submit}
 use Rattle.trace_replay.specs.Service.{service_joined}

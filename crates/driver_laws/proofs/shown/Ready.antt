@@ -10,7 +10,7 @@ use Rattle.trace_replay.specs.Replay.{UnitSeen, Replay, at_unit}
 use Rattle.trace_replay.specs.Conversation as told
 use Rattle.driver_machine.specs.declared.Phase.TheVariants.{Waiting, Queued}
 use Rattle.driver_machine.specs.declared.Phase.TheVariants as phases
-use Rattle.subsystem_spec.specs.declared.answers.Cause.TheVariants as cause
+use Rattle.trace_replay.specs.declared.requests.answers.Cause.TheVariants as cause
 use Rattle.driver_machine.specs.World.{World, UnitView, AdapterView, Held, slot_in_hand, transfer_of, job_of, adapter_of, unit_at, adapter_at, held_in}
 use Rattle.driver_machine.specs.Guards.{InHand, IsNext}
 use Rattle.driver_machine.specs.Due.{target_of, next_by, start_by, start_of, failed}

@@ -9,11 +9,11 @@ use Rattle.partitions.specs.declared.Admission.{Admission}
 use Rattle.partitions.specs.declared.Admission.TheVariants.{Inside, Eof, Outside}
 use Rattle.hardware_table.specs.Adapter.{new_adapter}
 use Rattle.disksort.specs.declared.Waiter.{Waiter}
-use Rattle.subsystem_spec.specs.Requests.{Request, AtEnd, Beyond, FramesShort, Rejection, rejection_answer}
+use Rattle.trace_replay.specs.requests.Requests.{Request, AtEnd, Beyond, FramesShort, Rejection, rejection_answer}
 use Rattle.trace_replay.specs.Script as script
 use Rattle.trace_replay.specs.Conversation as told
 use Rattle.trace_replay.specs.Replay.{UnitSeen, Replay, Refused, Joined, Submission, submission, submission_by, submitted, new_replay}
-use Rattle.subsystem_spec.specs.declared.answers.AnswerKind.{AnswerKind}
+use Rattle.trace_replay.specs.declared.requests.answers.AnswerKind.{AnswerKind}
 use Rattle.driver_machine.specs.declared.Made.{Made}
 use Rattle.driver_machine.specs.declared.Phase.{Phase}
 use Rattle.driver_machine.specs.declared.Phase.TheVariants as phases

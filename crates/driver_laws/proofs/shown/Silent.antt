@@ -8,7 +8,7 @@ use Rattle.hardware_table.specs.declared.Moved.{Moved}
 use Rattle.hardware_table.specs.Adapter.{AdapterState}
 use Rattle.disksort.specs.declared.Waiter.{Waiter}
 use Rattle.transfer_engine.specs.State.{begun}
-use Rattle.subsystem_spec.specs.Requests.{Request}
+use Rattle.trace_replay.specs.requests.Requests.{Request}
 use Rattle.trace_replay.specs.Replay.{UnitSeen, Replay, hand_of, at_unit}
 use Rattle.trace_replay.specs.Conversation as told
 use Rattle.driver_machine.specs.declared.Task.TheVariants.{Judge}

@@ -9,8 +9,8 @@ use Rattle.partitions.specs.declared.Admission.TheVariants.{Inside, Eof, Outside
 use Rattle.hardware_table.specs.Drive.{DriveState}
 use Rattle.hardware_table.specs.Events.{turned, fault_armed, online_set, locked_set}
 use Rattle.disksort.specs.declared.Waiter.{Waiter}
-use Rattle.subsystem_spec.proofs.ServiceOrderRuns.{IsService}
-use Rattle.subsystem_spec.specs.Requests.{Request, Rejection, rejection_answer}
+use Rattle.trace_replay.proofs.requests.ServiceOrderRuns.{IsService}
+use Rattle.trace_replay.specs.requests.Requests.{Request, Rejection, rejection_answer}
 use Rattle.trace_replay.specs.Moments as moment
 use Rattle.trace_replay.specs.Moments.{Moment, Played}
 use Rattle.trace_replay.specs.Script as script
@@ -19,7 +19,7 @@ use Rattle.trace_replay.specs.Service.{cylinder_of, frames_needed}
 use Rattle.trace_replay.specs.Conversation.{goes_on}
 use Rattle.trace_replay.specs.Events.{Wish, Refusal, wanted, Done, Refusing, Serving, Event}
 use Rattle.trace_replay.specs.Replay.{Replay, Submission, Refused, Joined, ToldMay, next_wish, act_done, told_after, drained, after_moment, after_moments, act_of, act_submitted, event_of, is_drain, replay_played, submitted, submission, submission_by, has_frames, unit_joined}
-use Rattle.subsystem_spec.specs.declared.answers.AnswerKind.{AnswerKind}
+use Rattle.trace_replay.specs.declared.requests.answers.AnswerKind.{AnswerKind}
 use Rattle.driver_machine.specs.declared.Phase.{Phase}
 use Rattle.driver_machine.specs.declared.Phase.TheVariants.{Waiting, Positioning, Queued, Transferring, Due}
 use Rattle.driver_machine.specs.World.{World, UnitView, Held, adapter_of, unit_at, adapter_at, held_in, no_unit}

@@ -13,8 +13,8 @@ use Rattle.retry_offsets.specs.declared.Step.{Step}
 use Rattle.retry_offsets.specs.declared.Step.TheVariants as retry
 use Rattle.transfer_engine.specs.State.{TransferState, begun}
 use Rattle.disksort.specs.declared.Waiter.{Waiter}
-use Rattle.subsystem_spec.specs.ServiceOrder.{Waiting}
-use Rattle.subsystem_spec.specs.Requests.{Request, Answer}
+use Rattle.trace_replay.specs.requests.ServiceOrder.{Waiting}
+use Rattle.trace_replay.specs.requests.Requests.{Request, Answer}
 use Rattle.trace_replay.specs.Service.{head_of, first_waiting}
 use Rattle.trace_replay.specs.Moments as moment
 use Rattle.trace_replay.specs.Conversation as told

@@ -1,6 +1,6 @@
 -- The ids of the requests that stand in slots are among those that were asked for.
 use Rattle.std.specs.Prelude.{◌≡◌, ◌≢◌, ℕ, List, [], ◌∷◌, Some, Contains}
-use Rattle.subsystem_spec.specs.Requests.{Request}
+use Rattle.trace_replay.specs.requests.Requests.{Request}
 use Rattle.trace_replay.specs.Script.{Input}
 use Rattle.driver_machine.specs.World.{World, Held, Setup, new_world, slot_at}
 use Rattle.driver_machine.specs.Acts.{Act, Submit, Taken, Tried, after, after_all}

@@ -1,6 +1,6 @@
 -- How the counts go up with what a script brings, that what is set up stays, and what the counts say of slots.
 use Rattle.std.specs.Prelude.{◌≡◌, ℕ, ◌+◌, ◌<◌, ◌≤◌, false, List, [], length, slice_index_or, Option, None, Some, IsSome}
-use Rattle.subsystem_spec.specs.Requests.{Request}
+use Rattle.trace_replay.specs.requests.Requests.{Request}
 use Rattle.trace_replay.specs.Script.{Input}
 use Rattle.driver_machine.specs.World.{World, Held, Setup, new_world, unit_at, slot_at}
 use Rattle.driver_machine.specs.Acts.{Act, Taken, Tried, after, after_all}

@@ -1,6 +1,6 @@
 -- The answers that wait in the driver, as a trace tells them: they are those of the end lines, until they are taken.
 use Rattle.std.specs.Prelude.{◌≡◌, ℕ, ◌<◌, Bool, true, false, List, [], ◌∷◌, ◌++◌, drop, length, map, Option, None, Some}
-use Rattle.subsystem_spec.specs.Requests.{Request}
+use Rattle.trace_replay.specs.requests.Requests.{Request}
 use Rattle.trace_replay.specs.Script.{Input}
 use Rattle.trace_replay.specs.Moments.{Answered, answers_in}
 use Rattle.driver_machine.specs.declared.Made.{Made}

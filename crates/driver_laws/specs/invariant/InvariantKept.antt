@@ -1,6 +1,6 @@
 -- What holds of the driver between any two acts is kept by each, and between any two calls nothing is left undone.
 use Rattle.std.specs.Prelude.{◌≡◌, ℕ, ◌<◌, List, [], ◌∷◌, length}
-use Rattle.subsystem_spec.specs.Requests.{Request}
+use Rattle.trace_replay.specs.requests.Requests.{Request}
 use Rattle.trace_replay.specs.Script.{Input}
 use Rattle.driver_laws.specs.invariant.Passes.{World, Held}
 use Rattle.driver_laws.specs.invariant.Passes.{Act, Taken, Tried, after, after_all}

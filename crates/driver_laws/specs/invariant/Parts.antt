@@ -2,7 +2,7 @@
 use Rattle.std.specs.Prelude.{◌≡◌, ◌≢◌, ℕ, ◌<◌, ◌≤◌, false, List, [], length, map, Some, None, Contains, IsTrue}
 use Rattle.pack_geometry.specs.TableSpelling.{Table}
 use Rattle.disksort.specs.declared.Waiter.{Waiter}
-use Rattle.subsystem_spec.specs.ServiceOrder.{IsInOrder}
+use Rattle.trace_replay.specs.requests.ServiceOrder.{IsInOrder}
 use Rattle.driver_machine.specs.declared.Made.{Made}
 use Rattle.driver_machine.specs.World.{World, UnitView, Held, Setup, slot_at}
 use Rattle.driver_machine.specs.Guards.{IsApart}

@@ -6,7 +6,7 @@ use Rattle.pack_geometry.specs.Pack as model
 use Rattle.pack_geometry.specs.TableSpelling.{Table}
 use Rattle.pack_geometry.specs.PackTable.{AreTablesOf}
 use Rattle.pack_geometry.specs.Homes.{contents_of, IsHome}
-use Rattle.subsystem_spec.specs.Requests.{Request, Answer, first_block}
+use Rattle.trace_replay.specs.requests.Requests.{Request, Answer, first_block}
 use Rattle.trace_replay.specs.Script.{Script, IsScript, Numbered, drives_of, inputs_of}
 use Rattle.trace_replay.specs.Moments.{Moment, Told, Sector, End, Answered, played, answers_in}
 use Rattle.trace_replay.specs.Replay.{Replay, UnitSeen, hand_of, Follows, AreLeft, after_moments}

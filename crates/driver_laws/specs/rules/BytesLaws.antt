@@ -1,7 +1,7 @@
 -- RANGES AND REQUESTS for whole blocks: what a read of them gives is a range, and what a write of them leaves goes on with a range that was
 -- replaced up to it.
 use Rattle.std.specs.Prelude.{◌≡◌, ◌⊎◌, ℕ, ◌+◌, ◌*◌, ◌<◌, ◌≤◌, List, take, drop, length, Option, Some, IsSome}
-use Rattle.subsystem_spec.specs.Requests.{Request}
+use Rattle.trace_replay.specs.requests.Requests.{Request}
 use Rattle.trace_replay.specs.Packs.{size_of_block}
 use Rattle.driver_laws.specs.rules.Machine.{Blocks, bytes_of_first, blocks_done}
 use Rattle.driver_laws.specs.rules.Laid.{laid_at}

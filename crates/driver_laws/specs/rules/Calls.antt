@@ -1,7 +1,7 @@
 -- WHAT THE CALLS OF THE CACHE COME TO: the cache behind each, and the requests that it makes. `held` is what a block that is no entry was
 -- found to hold, or none where it can't be used; `refuses` is whether memory refused the insertion, which no clause ties to anything.
 use Rattle.std.specs.Prelude.{ℕ, Bool, true, false, if◌then◌else◌, List, [], ◌∷◌, ◌++◌, Option, None, Some}
-use Rattle.subsystem_spec.specs.Requests.{Request}
+use Rattle.trace_replay.specs.requests.Requests.{Request}
 use Rattle.driver_laws.specs.rules.Requests.{reads, writes}
 use Rattle.driver_laws.specs.declared.rules.cached.Entry.{Entry}
 use Rattle.driver_laws.specs.rules.Entries.{State, entry_of, fronted, changed_in_front, to_write_back, with_room, put, write_backs}

@@ -1,7 +1,7 @@
 -- EACH BLOCK THAT IS DONE MOVED CLEAN: among the lines of its request is one that tells of a sector at the block's home, with that verdict.
 use Rattle.std.specs.Prelude.{◌≡◌, ℕ, ◌+◌, ◌<◌, List, Contains, Some}
 use Rattle.hardware_table.specs.declared.Moved.TheVariants.{Clean}
-use Rattle.subsystem_spec.specs.Requests.{Request, Answer, ReadOk, WriteOk, Failed}
+use Rattle.trace_replay.specs.requests.Requests.{Request, Answer, ReadOk, WriteOk, Failed}
 use Rattle.trace_replay.specs.Moments.{Moment, Told, Sector}
 use Rattle.trace_replay.specs.Replay.{Replay}
 use Rattle.driver_laws.specs.rules.Stands.{Setup, home_in}

@@ -1,6 +1,6 @@
 -- THE CACHE: a list of blocks, the most recent first, with what each holds and whether that was changed.
 use Rattle.std.specs.Prelude.{◌≡◌, ℕ, ◌+◌, ◌-◌, ◌^◌, ◌≤◌, ◌==◌, ◌&&◌, min, Bool, true, false, if◌then◌else◌, List, [], ◌∷◌, ◌++◌, length, take, drop, map, slice_get, Option, None, Some}
-use Rattle.subsystem_spec.specs.Requests.{Request}
+use Rattle.trace_replay.specs.requests.Requests.{Request}
 use Rattle.driver_laws.specs.rules.Requests.{writes}
 use Rattle.driver_laws.specs.declared.rules.cached.Entry.{Entry}
 

@@ -6,7 +6,7 @@ use Rattle.pack_geometry.specs.TableSpelling.{Table}
 use Rattle.pack_geometry.specs.Homes.{home_of}
 use Rattle.fire_code.specs.Noise.{Classes}
 use Rattle.fire_code.specs.declared.NoiseClass.TheVariants.{Shown}
-use Rattle.subsystem_spec.specs.Requests.{Request, first_block, Failed, Offline, Locked, Unforwarded, Fault}
+use Rattle.trace_replay.specs.requests.Requests.{Request, first_block, Failed, Offline, Locked, Unforwarded, Fault}
 use Rattle.trace_replay.specs.Script.{Script, Input, Submit, Noise, Arm, drives_of}
 use Rattle.trace_replay.specs.Moments.{Moment, Played, Told, End}
 use Rattle.trace_replay.specs.Conditions.{online_behind, locked_behind}

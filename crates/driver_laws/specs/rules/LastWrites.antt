@@ -2,7 +2,7 @@
 -- the packs held first.
 use Rattle.std.specs.Prelude.{◌≡◌, ℕ, ◌==◌, if◌then◌else◌, List, [], ◌∷◌, Option, None, Some}
 use Rattle.pack_geometry.specs.declared.DriveKind.{DriveKind}
-use Rattle.subsystem_spec.specs.Requests.{Request, first_block, Answer, ReadOk, OutsidePartition, EndOfPartition, NoFrames}
+use Rattle.trace_replay.specs.requests.Requests.{Request, first_block, Answer, ReadOk, OutsidePartition, EndOfPartition, NoFrames}
 use Rattle.trace_replay.specs.Script.{Input, Submit, Numbered}
 use Rattle.trace_replay.specs.Moments.{Answered}
 use Rattle.driver_laws.specs.rules.Machine.{Blocks, kind_of, bytes_of_first, blocks_after}

@@ -7,7 +7,7 @@ use Rattle.pack_geometry.specs.TableSpelling.{Table}
 use Rattle.pack_geometry.specs.Homes.{contents_of, IsHome}
 use Rattle.pack_geometry.specs.PackTable.{AreTablesOf}
 use Rattle.hardware_table.specs.Noise.{LiveNoise}
-use Rattle.subsystem_spec.specs.Requests.{Request}
+use Rattle.trace_replay.specs.requests.Requests.{Request}
 use Rattle.trace_replay.specs.Script.{Input, Script, IsScript, drives_of, inputs_of, ids_of, AreApart, IsInput}
 use Rattle.trace_replay.specs.Moments.{Moment, Played, Answered, played, answers_in}
 use Rattle.trace_replay.specs.Replay.{Replay, MayCome, Follows, after_moment, after_moments}

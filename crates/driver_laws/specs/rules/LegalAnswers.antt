@@ -6,7 +6,7 @@ use Rattle.pack_geometry.specs.TableSpelling.{Table}
 use Rattle.pack_geometry.specs.Homes.{home_of}
 use Rattle.fire_code.specs.Noise.{IsAlias}
 use Rattle.hardware_table.specs.Noise.{LiveNoise}
-use Rattle.subsystem_spec.specs.Requests.{Request, first_block}
+use Rattle.trace_replay.specs.requests.Requests.{Request, first_block}
 use Rattle.trace_replay.specs.Script.{Input, Submit, Noise, Numbered}
 use Rattle.trace_replay.specs.Moments.{Answered}
 use Rattle.driver_laws.specs.rules.Machine.{Blocks, Machine, idle, after_input, answers_of_input, kind_of, Steps}

@@ -4,7 +4,7 @@ use Rattle.std.specs.Prelude.{◌≡◌, ℕ, ◌<◌, ◌+◌, ◌-◌, ◌*◌
 use Rattle.pack_geometry.specs.declared.DriveKind.{DriveKind}
 use Rattle.pack_geometry.specs.declared.DriveKind.TheVariants.{Rp06}
 use Rattle.partitions.specs.Partitions.{admission}
-use Rattle.subsystem_spec.specs.Requests.{Request, first_block, Cause, Unforwarded, Answer, ReadOk, WriteOk, OutsidePartition, EndOfPartition, NoFrames, Failed, rejection_answer}
+use Rattle.trace_replay.specs.requests.Requests.{Request, first_block, Cause, Unforwarded, Answer, ReadOk, WriteOk, OutsidePartition, EndOfPartition, NoFrames, Failed, rejection_answer}
 use Rattle.trace_replay.specs.Script.{Input, Submit}
 use Rattle.trace_replay.specs.Moments.{Answered}
 use Rattle.trace_replay.specs.Service.{frames_needed}

@@ -4,8 +4,8 @@ use Rattle.std.specs.Prelude.{ℕ, zero, suc, ◌+◌, ◌-◌, ◌*◌, nat_lt,
 use Rattle.hardware_table.specs.declared.Moved.{Moved}
 use Rattle.hardware_table.specs.declared.Moved.TheVariants as verdict
 use Rattle.hardware_table.specs.Drive.{is_positioning}
-use Rattle.subsystem_spec.specs.ServiceOrder.{Waiting as Waiter}
-use Rattle.subsystem_spec.specs.Requests.{Request}
+use Rattle.trace_replay.specs.requests.ServiceOrder.{Waiting as Waiter}
+use Rattle.trace_replay.specs.requests.Requests.{Request}
 use Rattle.trace_replay.specs.Service.{in_hand}
 use Rattle.trace_replay.specs.Conversation.{Segment, OwnBlocks, Replacement, Stage, Waiting, Steps, UnderWay, AtOnce, Moving, Saying, Ending, Progress}
 use Rattle.trace_replay.specs.Replay.{Replay, UnitSeen}

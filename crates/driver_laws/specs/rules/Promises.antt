@@ -4,7 +4,7 @@ use Rattle.pack_geometry.specs.declared.DriveKind.{DriveKind}
 use Rattle.pack_geometry.specs.Pack.{Pack}
 use Rattle.pack_geometry.specs.TableSpelling.{Table}
 use Rattle.pack_geometry.specs.Homes.{home_of}
-use Rattle.subsystem_spec.specs.Requests.{Request, Answer, Failed, Offline, Locked, Unforwarded, Fault, first_block}
+use Rattle.trace_replay.specs.requests.Requests.{Request, Answer, Failed, Offline, Locked, Unforwarded, Fault, first_block}
 use Rattle.trace_replay.specs.Script.{Script, Submit, Drain, drives_of, inputs_of, ids_of}
 use Rattle.trace_replay.specs.Moments.{Moment, Played, Told, End, played, answers_in}
 use Rattle.trace_replay.specs.Service.{in_hand}

@@ -2,7 +2,7 @@
 use Rattle.std.specs.Prelude.{◌≡◌, ℕ, true, List, [], ◌∷◌, ◌++◌, Option}
 use Rattle.pack_geometry.specs.Pack as model
 use Rattle.pack_geometry.specs.TableSpelling.{Table}
-use Rattle.subsystem_spec.specs.Requests.{Request, Answer, Rejection, rejection_answer}
+use Rattle.trace_replay.specs.requests.Requests.{Request, Answer, Rejection, rejection_answer}
 use Rattle.trace_replay.specs.Script.{Script, Submit}
 use Rattle.trace_replay.specs.Moments.{Moment, Played, Told, End}
 use Rattle.trace_replay.specs.History.{is_refusal}

@@ -1,7 +1,7 @@
 -- REQUESTS FOR SINGLE BLOCKS of a unit, counted among all its data blocks, and what they leave in a map of blocks.
 use Rattle.std.specs.Prelude.{ℕ, ◌==◌, ◌&&◌, if◌then◌else◌, List, [], ◌∷◌, Option, None, Some}
 use Rattle.partitions.specs.declared.Part.TheVariants.{C}
-use Rattle.subsystem_spec.specs.Requests.{Request}
+use Rattle.trace_replay.specs.requests.Requests.{Request}
 use Rattle.driver_laws.specs.rules.Machine.{Blocks}
 
 abbrev pub one_block : (unit block : ℕ) → Option (List ℕ) → Request

@@ -1,7 +1,7 @@
 -- A SESSION: inputs that come one after another, from any state of a replay in which one may come. A run of a script is a session from its
 -- start in which the numbers of lines ascend; here they need not, so that several requests can come at one line of a script.
 use Rattle.std.specs.Prelude.{◌≡◌, ◌&&◌, ℕ, ◌≤◌, nat_lt, true, false, List, [], ◌∷◌, ◌++◌}
-use Rattle.subsystem_spec.specs.Requests.{Request}
+use Rattle.trace_replay.specs.requests.Requests.{Request}
 use Rattle.trace_replay.specs.Script.{Input, Submit, Drain}
 use Rattle.trace_replay.specs.Moments.{Moment, Played, played}
 use Rattle.trace_replay.specs.Events.{NoLine}

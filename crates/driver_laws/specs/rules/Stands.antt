@@ -13,8 +13,8 @@ use Rattle.hardware_table.specs.declared.Moved.TheVariants as verdict
 use Rattle.hardware_table.specs.declared.Work.{Work}
 use Rattle.hardware_table.specs.Drive.{is_transferring, is_writing}
 use Rattle.hardware_table.specs.Noise.{LiveNoise}
-use Rattle.subsystem_spec.specs.ServiceOrder.{Waiting as Waiter}
-use Rattle.subsystem_spec.specs.Requests.{Request, IsRequest, first_block, Answer, ReadOk, WriteOk, rejection_answer}
+use Rattle.trace_replay.specs.requests.ServiceOrder.{Waiting as Waiter}
+use Rattle.trace_replay.specs.requests.Requests.{Request, IsRequest, first_block, Answer, ReadOk, WriteOk, rejection_answer}
 use Rattle.trace_replay.specs.Script.{Input, Submit, Noise, Numbered, IsThere, IsInput}
 use Rattle.trace_replay.specs.Moments.{Moment, Played, Told, End, Answered}
 use Rattle.trace_replay.specs.Packs.{size_of_block, repaired_from, surface_of}

@@ -5,7 +5,7 @@ use Rattle.pack_geometry.specs.Homes.{contents_of}
 use Rattle.partitions.specs.declared.Admission.{Admission}
 use Rattle.partitions.specs.declared.Admission.TheVariants.{Inside, Eof, Outside}
 use Rattle.partitions.specs.Partitions.{admission}
-use Rattle.subsystem_spec.specs.Requests.{Request, IsRequest, first_block, Answer, ReadOk, WriteOk, OutsidePartition, EndOfPartition, Failed, Unforwarded}
+use Rattle.trace_replay.specs.requests.Requests.{Request, IsRequest, first_block, Answer, ReadOk, WriteOk, OutsidePartition, EndOfPartition, Failed, Unforwarded}
 use Rattle.trace_replay.specs.Script.{IsThere}
 use Rattle.trace_replay.specs.Moments.{Moment, answers_in}
 use Rattle.trace_replay.specs.Replay.{Replay, IsOver}

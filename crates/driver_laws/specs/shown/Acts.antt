@@ -4,14 +4,14 @@ use Rattle.pack_geometry.specs.declared.DriveKind.{DriveKind}
 use Rattle.pack_geometry.specs.declared.DriveKind.TheVariants.{Rp06}
 use Rattle.pack_geometry.specs.TableSpelling.{Table}
 use Rattle.hardware_table.specs.Moves.{was_written}
-use Rattle.subsystem_spec.proofs.ServiceOrderRuns.{IsService}
-use Rattle.subsystem_spec.specs.Requests.{Request, Rejection, rejection_answer}
+use Rattle.trace_replay.proofs.requests.ServiceOrderRuns.{IsService}
+use Rattle.trace_replay.specs.requests.Requests.{Request, Rejection, rejection_answer}
 use Rattle.trace_replay.specs.Script as script
 use Rattle.trace_replay.specs.Script.{Input}
 use Rattle.trace_replay.specs.Packs.{Surface, sector_of_block}
 use Rattle.trace_replay.specs.Service.{in_hand, cylinder_of}
 use Rattle.trace_replay.specs.Replay.{Replay, Refused, new_replay, submission, replay_played}
-use Rattle.subsystem_spec.specs.declared.answers.AnswerKind.{AnswerKind}
+use Rattle.trace_replay.specs.declared.requests.answers.AnswerKind.{AnswerKind}
 use Rattle.driver_machine.specs.World.{World, Held, Setup, new_unit, new_world, unit_at}
 use Rattle.driver_machine.specs.Acts.{Refuse, Submit, Of, Change, Nothing, Taken, Sector, Tried, after}
 use Rattle.driver_machine.specs.Events.{refusal_of}

@@ -15,9 +15,9 @@ use Rattle.ecc_repair.specs.Repaired.{repaired}
 use Rattle.main_memory.specs.Blocks.{size_at}
 use Rattle.main_memory.specs.Bytes.{filled}
 use Rattle.transfer_engine.specs.State.{TransferState}
-use Rattle.subsystem_spec.specs.declared.answers.AnswerKind.{AnswerKind}
-use Rattle.subsystem_spec.specs.declared.answers.AnswerKind.TheVariants.{ReadOk, Eof, Error}
-use Rattle.subsystem_spec.specs.declared.answers.Cause.TheVariants.{Unforwarded}
+use Rattle.trace_replay.specs.declared.requests.answers.AnswerKind.{AnswerKind}
+use Rattle.trace_replay.specs.declared.requests.answers.AnswerKind.TheVariants.{ReadOk, Eof, Error}
+use Rattle.trace_replay.specs.declared.requests.answers.Cause.TheVariants.{Unforwarded}
 use Rattle.driver_laws.specs.rules.Machine.{Blocks, bytes_or_none}
 use Rattle.driver_laws.specs.rules.Stands.{is_sure_among, IsLive}
 use Rattle.driver_machine.specs.declared.Made.{Made}

@@ -6,7 +6,7 @@ use Rattle.pack_geometry.specs.declared.DriveKind.TheVariants.{Rp06}
 use Rattle.pack_geometry.specs.Pack.{Pack}
 use Rattle.pack_geometry.specs.TableSpelling.{Table}
 use Rattle.hardware_table.specs.Drive.{DriveState}
-use Rattle.subsystem_spec.specs.ServiceOrder.{empty_service}
+use Rattle.trace_replay.specs.requests.ServiceOrder.{empty_service}
 use Rattle.trace_replay.specs.Drives.{attached}
 use Rattle.trace_replay.specs.Packs.{surface_of}
 use Rattle.trace_replay.specs.Conversation.{Waiting, not_begun}

@@ -5,8 +5,8 @@ use Rattle.hardware_table.specs.Adapter.{AdapterState, next_window}
 use Rattle.hardware_table.specs.Moves.{was_read}
 use Rattle.main_memory.specs.Blocks.{size_at}
 use Rattle.disksort.specs.declared.Waiter.{Waiter}
-use Rattle.subsystem_spec.specs.ServiceOrder.{Waiting}
-use Rattle.subsystem_spec.specs.Requests.{Request}
+use Rattle.trace_replay.specs.requests.ServiceOrder.{Waiting}
+use Rattle.trace_replay.specs.requests.Requests.{Request}
 use Rattle.trace_replay.specs.Moments as moment
 use Rattle.trace_replay.specs.Drives.{DriveMay}
 use Rattle.trace_replay.specs.Adapters.{AdapterMay}

@@ -7,7 +7,7 @@ use Rattle.hardware_table.specs.declared.Moved.TheVariants.{Clean, Burst}
 use Rattle.hardware_table.specs.Drive.{DriveState}
 use Rattle.hardware_table.specs.Adapter.{AdapterState}
 use Rattle.transfer_engine.specs.State.{TransferState}
-use Rattle.subsystem_spec.specs.Requests.{Request, Failed, Fault}
+use Rattle.trace_replay.specs.requests.Requests.{Request, Failed, Fault}
 use Rattle.trace_replay.specs.Moments as moment
 use Rattle.trace_replay.specs.Conversation.{OwnBlocks, Replacement, Stage, Saying, Ending, AtOnce, Moving, UnderWay, Progress, not_begun, Hand, start_of, begun, saying, centre_lines, try_lines, outcome, progress_interrupted}
 use Rattle.trace_replay.specs.Conversation as told

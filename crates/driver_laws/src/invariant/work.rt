@@ -6,7 +6,7 @@
 //! outstanding. `until_law`: a part that is done again until it has nothing to do is the same, however it is counted.
 
 ghost use Rattle.std.specs.Prelude.{◌≡◌, ◌↔◌, ℕ, ◌<◌, List, [], ◌∷◌, length, Some, None};
-ghost use Rattle.subsystem_spec.specs.Requests.{Request};
+ghost use Rattle.trace_replay.specs.requests.Requests.{Request};
 ghost use Rattle.trace_replay.specs.Script.{Input};
 ghost use Rattle.driver_machine.specs.World.{World, Held};
 ghost use Rattle.driver_machine.specs.Acts.{Act, Taken, Tried, after_all};

@@ -3,7 +3,7 @@ use Rattle.driver_machine.specs.Events.{next_event}
 use Rattle.driver_laws.specs.answers.Outcome.{IsFront}
 use Rattle.driver_laws.specs.declared.answers.outcome.Stop.{Stop}
 use Rattle.driver_laws.proofs.answers.Joined.{front_of_front}
-use Rattle.subsystem_spec.specs.Requests as told
+use Rattle.trace_replay.specs.requests.Requests as told
 use Rattle.trace_replay.specs.Moments.{Idle}
 use Rattle.trace_replay.specs.Text.{moment_text}
 use Rattle.hp_driver.specs.Passes.{IsQuiet}

@@ -2,7 +2,7 @@ use Rattle.std.proofs.Common.{◌≡◌, ℕ, List, [], subst}
 use Rattle.std.specs.Prelude.{IfOk, IfErr}
 use Rattle.std.proofs.lemmas.List.{nil_from_length}
 use Rattle.driver_laws.specs.declared.answers.outcome.Stop.{Stop}
-use Rattle.subsystem_spec.specs.Requests as told
+use Rattle.trace_replay.specs.requests.Requests as told
 use Rattle.hp_driver.specs.Subsystem.{asked}
 use Rattle.blocking_io.specs.declared.reached.Reached.{Reached}
 use Rattle.blocking_io.specs.declared.reached.Reached.TheVariants.{Before}

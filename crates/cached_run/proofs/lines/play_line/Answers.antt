@@ -1,4 +1,4 @@
-use Rattle.cached_script.specs.declared.statement.Statement.TheVariants as says
+use Rattle.script_reader.specs.declared.cached.statement.Statement.TheVariants as says
 use Rattle.cached_run.specs.Going.{Scene, scene}
 use Rattle.cached_run.proofs.Causes.{same, caused_ok, on_ok_map, on_err_map}
 use Rattle.cached_run.proofs.Playing.{goes_none, line_goes, line_halts, may_as, numbered_so}

@@ -1,13 +1,13 @@
 use Rattle.std.proofs.Common.{[], length, refl, ap, ◌∙◌}
 use Rattle.std.specs.Prelude.{Some}
-use Rattle.subsystem_spec.specs.declared.answers.AnswerKind.TheVariants as answer
+use Rattle.trace_replay.specs.declared.requests.answers.AnswerKind.TheVariants as answer
 use Rattle.buffer_cache.specs.Passes.{Stage}
 use Rattle.buffer_cache.specs.Passes.{kind_at, map_at}
 use Rattle.buffer_cache.specs.Passes.{site}
 use Rattle.buffer_cache.proofs.Passes.{on_err}
 use Rattle.driver_laws.specs.rules.Contents.{cached}
 use Rattle.cached_run.specs.Going.{Scene, scene}
-use Rattle.cached_script.specs.Meaning.{request_of, filled}
+use Rattle.script_reader.specs.cached.Meaning.{request_of, filled}
 use Rattle.cached_run.proofs.Askings.{list_of, wrote_with}
 use Rattle.cached_run.proofs.Causes.{stop_caused, sink_caused, caused_ok}
 use Rattle.cached_run.proofs.Goings.{request_halts, saying_halts, request_goes}

@@ -5,7 +5,7 @@ use Rattle.script_runs.specs.Stops.{Took, took}
 use Rattle.script_runs.specs.Steps.{tables_in}
 use Rattle.cached_run.specs.Going.{Scene, scene}
 use Rattle.cached_run.specs.Lines.{inputs_till}
-use Rattle.cached_script.specs.Meaning.{meaning_of}
+use Rattle.script_reader.specs.cached.Meaning.{meaning_of}
 use Rattle.cached_run.proofs.Causes.{same, caused_more, never_before, never_long, leaves_as, on_ok_map, on_err_map}
 use Rattle.cached_run.proofs.ScriptLines.{inputs_all, all_asked_well}
 use Rattle.cached_run.proofs.Starts.{made_units, made_may, made_setup, made_tables}

@@ -2,10 +2,10 @@ use Rattle.std.proofs.Common.{◌≡◌, ◌<◌, ◌≤◌, ◌+◌, ℕ, suc, 
 use Rattle.std.specs.Prelude.{slice_index_or}
 use Rattle.trace_replay.specs.Script.{Numbered, Drain, inputs_before, inputs_of}
 use Rattle.buffer_cache.proofs.Passes.{on_err}
-use Rattle.cached_script.specs.declared.statement.Line.{Line as Said}
+use Rattle.script_reader.specs.declared.cached.statement.Line.{Line as Said}
 use Rattle.cached_run.specs.Going.{Scene, scene, IsFar, syncs_at}
 use Rattle.cached_run.specs.Lines.{inputs_till, input_at}
-use Rattle.cached_script.specs.Meaning.{line_of, meaning_of}
+use Rattle.script_reader.specs.cached.Meaning.{line_of, meaning_of}
 use Rattle.cached_run.proofs.Causes.{same, caused_more, more_caused, on_ok_map, on_err_map}
 use Rattle.cached_run.proofs.Playing.{halts_script}
 use Rattle.script_runs.proofs.CachedLines.{blank, item_is, number_is}

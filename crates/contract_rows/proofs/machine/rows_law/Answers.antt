@@ -1,6 +1,6 @@
 -- Each row by computation.
 use Rattle.std.proofs.Common.{refl}
-use Rattle.subsystem_spec.specs.ServiceOrder as order
+use Rattle.trace_replay.specs.requests.ServiceOrder as order
 use Rattle.ecc_repair.specs.Repaired as repair
 use Rattle.fire_code.specs.Repair as code
 use Rattle.contract_rows.proofs.machine.rows_law.Goals as goal

@@ -1,7 +1,7 @@
 use Rattle.std.proofs.Common.{◌+◌, ◌<◌, ◌∙◌, ap, arith}
 use Rattle.disksort.specs.declared.Waiter.{Waiter}
 use Rattle.disksort.specs.SortQueue.{cylinder_of}
-use Rattle.subsystem_spec.proofs.ServiceOrderLaws.{length-queue_with, All-queue_with}
+use Rattle.trace_replay.proofs.requests.ServiceOrderLaws.{length-queue_with, All-queue_with}
 use Rattle.drive_rows.proofs.queue.queue_with_all.Goals as goal
 
 pub loop-number-preserved : goal.loop-number-preserved

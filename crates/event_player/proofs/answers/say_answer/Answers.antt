@@ -1,11 +1,11 @@
 use Rattle.std.proofs.Common.{◌≡◌, [], OnOk, ap, refl, subst, ◌∙◌}
 use Rattle.std.proofs.lemmas.Result.{on_ok_weaker}
-use Rattle.answer_lines.specs.AnswerText.{answer_line}
+use Rattle.trace_lines.specs.answers.AnswerText.{answer_line}
 use Rattle.driver_machine.specs.World.{World, bytes_in}
 use Rattle.driver_machine.specs.Lines.{answer_told}
-use Rattle.answer_lines.proofs.CountLaws.{counts_same}
+use Rattle.trace_lines.proofs.answers.CountLaws.{counts_same}
 use Rattle.event_player.specs.Answering.{first_blocks, first_told, first_rest}
-use Rattle.answer_lines.specs.Counting.{Counts}
+use Rattle.trace_lines.specs.answers.Counting.{Counts}
 use Rattle.hp_driver.specs.Subsystem.{State}
 use Rattle.event_player.specs.Saying.{side, Says}
 use Rattle.event_player.proofs.SaysLaws.{says_same, says_both, says_stop}

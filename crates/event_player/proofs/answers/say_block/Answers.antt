@@ -1,6 +1,6 @@
 use Rattle.std.proofs.Common.{ℕ, List, [], refl, ap, take, ◌∙◌}
-use Rattle.answer_lines.specs.AnswerText.{block_text}
-use Rattle.answer_lines.proofs.CountLaws.{counts_same}
+use Rattle.trace_lines.specs.answers.AnswerText.{block_text}
+use Rattle.trace_lines.proofs.answers.CountLaws.{counts_same}
 use Rattle.event_player.proofs.SaysLaws.{says_same}
 use Rattle.event_player.proofs.answers.say_block.Goals as goal
 

@@ -1,6 +1,6 @@
 use Rattle.std.proofs.Common.{ℕ, List, [], refl, ap, take, replicate, slice_index_or}
-use Rattle.answer_lines.specs.AnswerText.{block_text}
-use Rattle.answer_lines.proofs.CountLaws.{counts_same}
+use Rattle.trace_lines.specs.answers.AnswerText.{block_text}
+use Rattle.trace_lines.proofs.answers.CountLaws.{counts_same}
 use Rattle.event_player.specs.Answering.{first_blocks}
 use Rattle.event_player.proofs.AnswerLaws.{block_given, fill_given}
 use Rattle.event_player.proofs.SaysLaws.{says_same}

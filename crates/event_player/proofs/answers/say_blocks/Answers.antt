@@ -1,12 +1,12 @@
 use Rattle.std.proofs.Common.{[], arith, refl, sym, ap, subst, ◌∙◌, ◌≡◌, ◌<◌, length, take, slice_index_or}
 use Rattle.std.specs.Prelude.{Ok}
 use Rattle.std.proofs.lemmas.List.{take_all}
-use Rattle.subsystem_spec.specs.declared.answers.AnswerKind.TheVariants.{ReadOk}
+use Rattle.trace_replay.specs.declared.requests.answers.AnswerKind.TheVariants.{ReadOk}
 use Rattle.driver_machine.specs.World.{World}
 use Rattle.hp_driver.specs.Subsystem.{State}
-use Rattle.answer_lines.specs.AnswerText.{block_text, block_texts}
-use Rattle.answer_lines.specs.Counting.{Counts}
-use Rattle.answer_lines.proofs.CountLaws.{counts_none, counts_same}
+use Rattle.trace_lines.specs.answers.AnswerText.{block_text, block_texts}
+use Rattle.trace_lines.specs.answers.Counting.{Counts}
+use Rattle.trace_lines.proofs.answers.CountLaws.{counts_none, counts_same}
 use Rattle.event_player.specs.Answering.{HasBlock, first_blocks, first_rest}
 use Rattle.event_player.specs.Saying.{side}
 use Rattle.event_player.proofs.AnswerLaws.{has_block, read_is, rest_is, blocks_more, blocks_stop}

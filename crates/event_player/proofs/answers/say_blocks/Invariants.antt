@@ -1,8 +1,8 @@
 use Rattle.std.proofs.Common.{◌≡◌, [], take}
 use Rattle.std.specs.Prelude.{Ok}
 use Rattle.outside_traits.specs.declared.traits.SinkFailed.{SinkFailed}
-use Rattle.answer_lines.specs.AnswerText.{block_texts}
-use Rattle.answer_lines.specs.Counting.{Counts}
+use Rattle.trace_lines.specs.answers.AnswerText.{block_texts}
+use Rattle.trace_lines.specs.answers.Counting.{Counts}
 use Rattle.event_player.specs.Answering.{first_blocks}
 use Rattle.event_player.specs.Saying.{side, Says}
 use Rattle.event_player.proofs.answers.say_blocks.Given as goal

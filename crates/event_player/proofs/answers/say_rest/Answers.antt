@@ -1,6 +1,6 @@
 use Rattle.std.proofs.Common.{[], OnOk, subst, sym}
-use Rattle.subsystem_spec.specs.declared.answers.AnswerKind.{AnswerKind}
-use Rattle.answer_lines.specs.Counting.{Counts}
+use Rattle.trace_replay.specs.declared.requests.answers.AnswerKind.{AnswerKind}
+use Rattle.trace_lines.specs.answers.Counting.{Counts}
 use Rattle.event_player.specs.Answering.{first_rest}
 use Rattle.event_player.proofs.answers.say_rest.Goals as goal
 

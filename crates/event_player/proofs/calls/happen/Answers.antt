@@ -3,8 +3,8 @@ use Rattle.driver_machine.specs.World.{World}
 use Rattle.hp_driver.specs.Inputs.{input_of}
 use Rattle.hp_driver.specs.Subsystem.{State, Comes}
 use Rattle.driver_laws.specs.answers.Waiting.{waiting}
-use Rattle.answer_lines.specs.declared.tally.Tally.{Tally}
-use Rattle.answer_lines.specs.Counting.{Counts}
+use Rattle.trace_lines.specs.declared.answers.tally.Tally.{Tally}
+use Rattle.trace_lines.specs.answers.Counting.{Counts}
 use Rattle.script_runs.specs.declared.fault.PlayFault.TheVariants as faults
 use Rattle.script_runs.specs.Faults.{from_stop}
 use Rattle.event_player.specs.Saying.{side}

@@ -7,7 +7,7 @@ use Rattle.script_reader.specs.Stored.{Kept, seen, lines_in}
 use Rattle.script_lines.specs.Words.{all_verbs}
 use Rattle.script_reader.specs.Meaning.{line_of, meaning_of}
 use Rattle.trace_replay.specs.Script.{IsScript}
-use Rattle.answer_lines.specs.declared.tally.Tally.{Tally}
+use Rattle.trace_lines.specs.declared.answers.tally.Tally.{Tally}
 use Rattle.hp_driver.specs.Subsystem.{State}
 use Rattle.script_runs.specs.declared.fault.PlayFault.{PlayFault}
 use Rattle.script_runs.specs.declared.fault.PlayFault.TheVariants as faults

@@ -1,8 +1,8 @@
 use Rattle.std.proofs.Common.{ℕ, List, [], ◌++◌, ◌≡◌, ◌≤◌, inl, inr, refl, ap, sym, subst, ◌∙◌, append-nil, arith}
 use Rattle.std.specs.Prelude.{Result, Ok, Err, IfOk, IfErr, OnOk, IsErrOf}
 use Rattle.script_reader.specs.Meaning.{meaning_of}
-use Rattle.answer_lines.specs.Counting.{tally_by}
-use Rattle.answer_lines.specs.declared.tally.Tally.{Tally}
+use Rattle.trace_lines.specs.answers.Counting.{tally_by}
+use Rattle.trace_lines.specs.declared.answers.tally.Tally.{Tally}
 use Rattle.script_runs.specs.declared.fault.PlayFault.{PlayFault}
 use Rattle.script_runs.specs.declared.fault.PlayFault.TheVariants as fault
 use Rattle.script_runs.specs.Faults.{IsBefore, Rise}

@@ -2,8 +2,8 @@ use Rattle.std.proofs.Common.{ℕ, List, [], refl, sym, subst, ◌∙◌}
 use Rattle.fire_code.specs.Noise.{IsNoise, Classes}
 use Rattle.trace_replay.specs.Moments.{Played}
 use Rattle.trace_replay.specs.Script.{Noise as NoiseInput}
-use Rattle.answer_lines.specs.AnswerText.{said_text}
-use Rattle.answer_lines.proofs.CountLaws.{counts_same}
+use Rattle.trace_lines.specs.answers.AnswerText.{said_text}
+use Rattle.trace_lines.proofs.answers.CountLaws.{counts_same}
 use Rattle.event_player.specs.Saying.{side, Says}
 use Rattle.event_player.proofs.player.say_noise.Goals as goal
 

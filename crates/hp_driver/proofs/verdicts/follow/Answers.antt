@@ -1,6 +1,6 @@
 use Rattle.std.proofs.Common.{◌+◌, ap, ◌∙◌}
 use Rattle.hardware_table.specs.declared.Moved.{Moved}
-use Rattle.subsystem_spec.specs.declared.answers.Cause.TheVariants.{Offline}
+use Rattle.trace_replay.specs.declared.requests.answers.Cause.TheVariants.{Offline}
 use Rattle.driver_machine.specs.declared.Phase.TheVariants.{Due}
 use Rattle.driver_machine.specs.declared.Task.TheVariants.{Judge}
 use Rattle.driver_machine.specs.World.{unit_at}

@@ -1,6 +1,6 @@
 use Rattle.std.proofs.Common.{ℕ, sym, ap, ◌∙◌}
 use Rattle.std.specs.Prelude.{Option}
-use Rattle.subsystem_spec.specs.declared.answers.Cause.TheVariants.{Unforwarded}
+use Rattle.trace_replay.specs.declared.requests.answers.Cause.TheVariants.{Unforwarded}
 use Rattle.driver_machine.specs.World.{unit_at}
 use Rattle.driver_machine.specs.Due.{forward_by}
 use Rattle.hp_driver.proofs.One.{became, told, silent, some_moved}

@@ -1,6 +1,6 @@
 use Rattle.std.proofs.Common.{refl, sym}
-use Rattle.cached_script.specs.Scripts.{IsRefused}
-use Rattle.cached_script.specs.Meaning.{meaning_of}
+use Rattle.script_reader.specs.cached.Scripts.{IsRefused}
+use Rattle.script_reader.specs.cached.Meaning.{meaning_of}
 use Rattle.command_parts.specs.Loading.{MeansCached}
 use Rattle.script_commands.proofs.PlayLaws.{told_of, told_from, refused_parts, refusal_is, err_is}
 use Rattle.hpsim_run.proofs.CachedLeft.{leaves_long, leaves_played, leaves_refused, leaves_unread, no_cause, sink_cause, source_cause, store_cause}

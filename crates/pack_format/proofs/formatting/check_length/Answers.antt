@@ -1,5 +1,5 @@
-use Rattle.block_tests.proofs.ExitLaws.{not_done}
-use Rattle.block_tests.proofs.StopLaws.{at_error}
+use Rattle.pack_format.proofs.testing.ExitLaws.{not_done}
+use Rattle.pack_format.proofs.testing.StopLaws.{at_error}
 use Rattle.pack_format.proofs.ExitLaws.{caused_failed, caused_ok, fits_length}
 use Rattle.pack_format.proofs.formatting.check_length.Goals as goal
 

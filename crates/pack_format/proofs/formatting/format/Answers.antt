@@ -1,7 +1,7 @@
 use Rattle.std.proofs.Common.{ℕ, IsTrue, ap, subst, sym, ◌∙◌}
 use Rattle.pack_geometry.specs.Pack.{Pack}
-use Rattle.block_tests.proofs.ExitLaws.{no_value}
-use Rattle.block_tests.proofs.StopLaws.{at_error}
+use Rattle.pack_format.proofs.testing.ExitLaws.{no_value}
+use Rattle.pack_format.proofs.testing.StopLaws.{at_error}
 use Rattle.pack_format.specs.Formatted.{IsTooLong}
 use Rattle.pack_format.proofs.EndLaws.{formatted_behind, leaves_behind, left_alone, why_behind}
 use Rattle.pack_format.proofs.ExitLaws.{caused_on, caused_other, caused_then, memory_is_not_store}

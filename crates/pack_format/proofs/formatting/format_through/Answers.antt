@@ -1,8 +1,8 @@
 use Rattle.std.proofs.Common.{ℕ, ap, subst, sym, ◌∙◌}
 use Rattle.pack_geometry.specs.Pack.{Pack}
 use Rattle.pack_geometry.specs.TableSpelling.{Table}
-use Rattle.block_tests.proofs.ExitLaws.{no_value}
-use Rattle.block_tests.proofs.StopLaws.{at_error}
+use Rattle.pack_format.proofs.testing.ExitLaws.{no_value}
+use Rattle.pack_format.proofs.testing.StopLaws.{at_error}
 use Rattle.pack_format.specs.Formatted.{CanBeFormatted}
 use Rattle.pack_format.proofs.EndLaws.{fault_of, left_alone, left_behind, why_of}
 use Rattle.pack_format.proofs.ExitLaws.{bad_found, caused_ok, caused_on, caused_test, caused_then, formatted_as, table_again}

@@ -1,11 +1,11 @@
 use Rattle.std.proofs.Common.{◌≡◌, IsTrue, length, arith, ◌∙◌}
-use Rattle.block_tests.proofs.ExitLaws as test
-use Rattle.block_tests.proofs.ExitLaws.{not_done}
+use Rattle.pack_format.proofs.testing.ExitLaws as test
+use Rattle.pack_format.proofs.testing.ExitLaws.{not_done}
 use Rattle.pack_format.proofs.ExitLaws.{others_stay}
-use Rattle.block_tests.proofs.PollLaws.{on_err}
-use Rattle.block_tests.proofs.StageLaws.{on_err_then, on_ok_then}
+use Rattle.pack_format.proofs.testing.PollLaws.{on_err}
+use Rattle.pack_format.proofs.testing.StageLaws.{on_err_then, on_ok_then}
 use Rattle.pack_format.specs.Formatted.{IsFormatted, IsPartly}
-use Rattle.block_tests.proofs.StopLaws.{at_error}
+use Rattle.pack_format.proofs.testing.StopLaws.{at_error}
 use Rattle.pack_format.proofs.EndLaws.{ends_copy, stop_below}
 use Rattle.pack_format.proofs.FormatLaws.{above_data, formatted, partly_copies, partly_data, partly_spares, set_of}
 use Rattle.pack_format.proofs.formatting.write_blocks.Goals as goal

@@ -1,6 +1,6 @@
 use Rattle.std.proofs.Common.{IsTrue, ◌∙◌}
-use Rattle.block_tests.proofs.ExitLaws.{no_value, not_done}
-use Rattle.block_tests.proofs.StopLaws.{at_error}
+use Rattle.pack_format.proofs.testing.ExitLaws.{no_value, not_done}
+use Rattle.pack_format.proofs.testing.StopLaws.{at_error}
 use Rattle.pack_format.proofs.ExitLaws.{caused_failed, caused_ok, caused_other, caused_then, judged, le_then, refusal_is_fault, refusal_is_not_store, table_listed}
 use Rattle.pack_format.proofs.survey.first_reading.Goals as goal
 

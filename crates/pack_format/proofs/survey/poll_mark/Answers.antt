@@ -1,5 +1,5 @@
-use Rattle.block_tests.proofs.ExitLaws.{cause_ok, cause_on, no_value, not_done}
-use Rattle.block_tests.proofs.StageLaws.{read_keeps}
+use Rattle.pack_format.proofs.testing.ExitLaws.{cause_ok, cause_on, no_value, not_done}
+use Rattle.pack_format.proofs.testing.StageLaws.{read_keeps}
 use Rattle.pack_format.proofs.SurveyLaws.{answer_once}
 use Rattle.pack_format.proofs.survey.poll_mark.Goals as goal
 

@@ -2,7 +2,7 @@ use Rattle.std.proofs.Common.{ℕ, ◌&&◌, Bool, rules, sym, ap, ◌∙◌}
 use Rattle.pack_geometry.specs.Pack.{Pack, is_marked}
 use Rattle.pack_format.specs.Surveys.{all_marked}
 use Rattle.pack_format.proofs.SurveyLaws.{all_more, all_none}
-use Rattle.block_tests.proofs.ExitLaws.{cause_on, no_value, not_done}
+use Rattle.pack_format.proofs.testing.ExitLaws.{cause_on, no_value, not_done}
 use Rattle.pack_format.proofs.ExitLaws.{cause_then, le_then}
 use Rattle.pack_format.proofs.survey.read_copies.Goals as goal
 

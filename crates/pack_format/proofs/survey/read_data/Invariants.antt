@@ -1,6 +1,6 @@
 use Rattle.std.proofs.Common.{◌≡◌, ◌≤◌, IsTrue}
 use Rattle.pack_format.specs.Surveys.{IsSurvey}
-use Rattle.block_tests.specs.Stations.{IsAtRest}
+use Rattle.pack_format.specs.testing.Stations.{IsAtRest}
 use Rattle.pack_format.proofs.survey.read_data.Given as goal
 
 abbrev pub invariant-loop-block : goal.invariant-loop-block

@@ -1,7 +1,7 @@
 use Rattle.std.proofs.Common.{ℕ, ap, ◌∙◌}
 use Rattle.pack_geometry.specs.Geometry.{replacement_at}
 use Rattle.pack_geometry.specs.Pack.{Pack, is_marked}
-use Rattle.block_tests.proofs.ExitLaws.{cause_on, no_value, not_done}
+use Rattle.pack_format.proofs.testing.ExitLaws.{cause_on, no_value, not_done}
 use Rattle.pack_format.proofs.ExitLaws.{cause_then, le_then}
 use Rattle.pack_format.proofs.survey.read_replacements.Goals as goal
 

@@ -7,7 +7,7 @@ use Rattle.pack_geometry.specs.declared.DriveKind.{DriveKind}
 use Rattle.pack_geometry.specs.declared.DriveKind.TheVariants.{Rp06, Rm03, Rm05}
 use Rattle.pack_geometry.specs.Geometry.{block_count, copy_at}
 use Rattle.pack_geometry.specs.Pack.{block_at, is_marked}
-use Rattle.block_tests.specs.Stages.{if_done, is_copy}
+use Rattle.pack_format.specs.testing.Stages.{if_done, is_copy}
 use Rattle.command_parts.specs.Lines.{Told, too_long_text}
 use Rattle.command_parts.specs.Statuses.{status_code}
 use Rattle.pack_commands.specs.Formats.{format_status, format_text}

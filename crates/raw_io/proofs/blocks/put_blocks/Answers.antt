@@ -1,6 +1,6 @@
 use Rattle.std.proofs.Common.{◌≡◌, Bool, true, false, [], ap}
 use Rattle.std.specs.Prelude.{if◌then◌else◌, Some, None}
-use Rattle.subsystem_spec.specs.Requests as told
+use Rattle.trace_replay.specs.requests.Requests as told
 use Rattle.blocking_io.specs.declared.reached.Reached.TheVariants.{Before}
 use Rattle.blocking_io.specs.FrontsPasses.{asked, Stage, stage}
 use Rattle.blocking_io.specs.Sites.{kind_at}

@@ -5,7 +5,7 @@ use Rattle.script_lines.specs.Words.{all_verbs}
 use Rattle.script_reader.specs.Meaning.{meaning_of}
 use Rattle.hp_exercise.specs.Exercise.{script_text}
 use Rattle.outside_traits.specs.Causes.{Rose}
-use Rattle.answer_lines.specs.declared.tally.Tally.{Tally}
+use Rattle.trace_lines.specs.declared.answers.tally.Tally.{Tally}
 use Rattle.event_player.specs.PlayFault.{PlayFault}
 use Rattle.hp_exercise.specs.Room.{faults_of}
 use Rattle.script_commands.specs.Exercises.{exercise_script}

@@ -1,6 +1,6 @@
 use Rattle.std.proofs.Common.{◌≡◌, ◌<◌, ◌≤◌, length, subst, ◌∙◌, slice_index_or, List, arith}
 use Rattle.hp_units.specs.Setups.{setups_of}
-use Rattle.cached_script.specs.declared.statement.Line.{Line as Said}
+use Rattle.script_reader.specs.declared.cached.statement.Line.{Line as Said}
 use Rattle.script_runs.specs.declared.fault.PlayFault.TheVariants as faults
 use Rattle.script_runs.proofs.CachedLaws.{room_at, attached_at, told_at_line, long_at, attached_all, told_all}
 use Rattle.script_runs.proofs.AttachLaws.{at_fault, not_given, not_ok, fault_from, later_from, rose_from}

@@ -2,7 +2,7 @@ use Rattle.std.proofs.Common.{◌≡◌, ◌≤◌, IsTrue}
 use Rattle.hp_units.specs.Setups.{setups_of}
 use Rattle.script_runs.proofs.Attached.{AreAttached}
 use Rattle.script_runs.proofs.AttachLaws.{AreTold}
-use Rattle.cached_script.specs.Meaning.{lines_before}
+use Rattle.script_reader.specs.cached.Meaning.{lines_before}
 use Rattle.script_runs.proofs.cached.attach_cached.Given as goal
 
 -- the units of the lines before were attached, and the packs are as they were

@@ -2,7 +2,7 @@ use Rattle.std.proofs.Common.{◌≡◌, take}
 use Rattle.std.specs.Prelude.{Ok}
 use Rattle.outside_traits.specs.declared.traits.SinkFailed.{SinkFailed}
 use Rattle.outside_traits.specs.Gathers.{Gathers}
-use Rattle.answer_lines.specs.AnswerText.{block_texts}
+use Rattle.trace_lines.specs.answers.AnswerText.{block_texts}
 use Rattle.script_runs.proofs.desk.gather_blocks.Given as goal
 
 -- the lines of the blocks below k were gathered

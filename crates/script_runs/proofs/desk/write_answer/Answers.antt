@@ -2,9 +2,9 @@ use Rattle.std.proofs.Common.{◌≡◌, [], ◌++◌, refl, ap, subst, ◌∙�
 use Rattle.outside_traits.specs.Puts.{Puts}
 use Rattle.outside_traits.specs.Gathers.{Gathers}
 use Rattle.outside_traits.proofs.GatherLaws.{gathers_join, gathers_whole}
-use Rattle.subsystem_spec.specs.Answers.{answer_of}
-use Rattle.answer_lines.specs.AnswerText.{answer_line}
-use Rattle.answer_lines.specs.Blocks.{joined}
+use Rattle.trace_replay.specs.requests.Answers.{answer_of}
+use Rattle.trace_lines.specs.answers.AnswerText.{answer_line}
+use Rattle.trace_lines.specs.answers.Blocks.{joined}
 use Rattle.script_runs.specs.Saying.{blocks_with, rest_text}
 use Rattle.script_runs.proofs.Gatherings.{puts_err}
 use Rattle.script_runs.proofs.desk.write_answer.Goals as goal

@@ -1,5 +1,5 @@
 use Rattle.std.proofs.Common.{[], refl, ap}
-use Rattle.answer_lines.proofs.CountLaws.{counts_same}
+use Rattle.trace_lines.proofs.answers.CountLaws.{counts_same}
 use Rattle.hp_driver.specs.Subsystem.{State}
 use Rattle.event_player.proofs.Saying.{says_sent, says_unsent}
 use Rattle.event_player.proofs.SaysLaws.{says_same}

@@ -1,5 +1,5 @@
 use Rattle.std.proofs.Common.{refl}
-use Rattle.subsystem_spec.specs.Requests.{WriteOk}
+use Rattle.trace_replay.specs.requests.Requests.{WriteOk}
 use Rattle.hp_core.proofs.Telling.{told_act}
 use Rattle.hp_core.proofs.Scenes.{by_unit}
 use Rattle.hp_core.proofs.Deeds.{there, centre_ready}

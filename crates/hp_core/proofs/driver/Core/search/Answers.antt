@@ -5,7 +5,7 @@ use Rattle.transfer_engine.specs.State.{IsJob, begun}
 use Rattle.driver_machine.specs.declared.Phase.TheVariants.{Positioning}
 use Rattle.driver_machine.specs.World.{unit_at}
 use Rattle.driver_machine.specs.Acts.{going_to, searching}
-use Rattle.subsystem_spec.specs.Requests.{WriteOk}
+use Rattle.trace_replay.specs.requests.Requests.{WriteOk}
 use Rattle.hp_core.proofs.Telling.{told_act}
 use Rattle.hp_core.proofs.Scenes.{by_unit}
 use Rattle.hp_core.proofs.Deeds.{there, search_can, search_narrow, is_job, hand_there}

@@ -1,4 +1,4 @@
-use Rattle.subsystem_spec.specs.Requests.{WriteOk}
+use Rattle.trace_replay.specs.requests.Requests.{WriteOk}
 use Rattle.hp_core.proofs.driver.Core.tell_sector.Goals as goal
 
 pub returns-in_default : goal.returns-in_default

@@ -1,6 +1,6 @@
 use Rattle.std.proofs.Common.{◌≡◌, ℕ, List, [], ◌∷◌, refl, sym, ap, ◌∙◌, subst}
 use Rattle.std.specs.Prelude.{slice_set}
-use Rattle.subsystem_spec.specs.Requests.{WriteOk}
+use Rattle.trace_replay.specs.requests.Requests.{WriteOk}
 use Rattle.trace_replay.specs.Moments.{Moment, Told}
 use Rattle.trace_replay.specs.Moments as moment
 use Rattle.driver_machine.specs.declared.Task.{Task}

@@ -1,6 +1,6 @@
 use Rattle.std.proofs.Common.{refl, sym, ap, subst, None, Some, ◌∙◌}
 use Rattle.std.proofs.lemmas.Bool.{false≢true}
-use Rattle.subsystem_spec.specs.Requests as told
+use Rattle.trace_replay.specs.requests.Requests as told
 use Rattle.driver_laws.specs.declared.answers.outcome.Stop.{Stop}
 use Rattle.driver_laws.specs.declared.answers.outcome.Stop.TheVariants.{Sink}
 use Rattle.hp_driver.specs.Bytes.{KeepsMaps}

@@ -1,7 +1,0 @@
-use Rattle.std.proofs.Common.{arith}
-use Rattle.std.proofs.lemmas.Grind.{common_steps}
-use Rattle.answer_lines.proofs.TextLaws.{noise_said}
-use Rattle.answer_lines.proofs.lines.noise_line.Goals as goal
-
-pub returns-clause-said : goal.returns-clause-said
-returns-clause-said c = λ noise places has. noise_said c.args.line c.args.class noise c.put-4.new.self (grind (arith, common_steps)) places has

@@ -1,6 +1,0 @@
-use Rattle.std.proofs.Common.{◌≡◌, ◌%◌, ◌^◌, sum, take}
-use Rattle.answer_lines.proofs.tally.sum_of.Given as goal
-
--- the bytes below the index are summed
-abbrev pub invariant-loop-byte : goal.invariant-loop-byte
-invariant-loop-byte l = l.sum ≡ sum (take l.byte-index l.text) % 2 ^ 32

@@ -1,0 +1,48 @@
+use Rattle.std.proofs.Common.{◌≡◌, ℕ, List, ap, sym, refl, get_or, ◌∙◌}
+use Rattle.std.specs.Prelude.{slice_index}
+use Rattle.pack_format.proofs.testing.ExitLaws.{caused_differs, caused_failed, caused_ok, not_done}
+use Rattle.pack_format.proofs.testing.StageLaws.{eq_same, read_back, read_keeps}
+use Rattle.pack_format.proofs.testing.StopLaws.{at_error}
+use Rattle.pack_format.proofs.testing.testing.read_back.Goals as goal
+
+pub returns-in_err-poll_read : goal.returns-in_err-poll_read
+returns-in_err-poll_read g c =
+    let read = c.in_err-poll_read.ensures in record {
+      same = read.failed;
+      rest = not_done _ _ c.from_residual.ensures.0;
+      stop = at_error _ _ c.from_residual.ensures.1 tt;
+      never_again = read.never_again;
+      cause = caused_failed read.cause;
+    }
+
+pub returns-in-None : goal.returns-in-None
+returns-in-None g c =
+    let read = c.in_ok-poll_read.ensures in record {
+      same = read_keeps c.args.unit c.args.block _ c.in_ok-poll_read.field-0 _ _ _ _ read.polls;
+      rest = read.rest;
+      stop = tt;
+      never_again = read.never_again;
+      cause = caused_ok _ read.cause.later;
+    }
+
+pub returns-in-Some : goal.returns-in-Some
+returns-in-Some g c =
+    let read = c.in_ok-poll_read.ensures in
+    let polled = c.in_ok-poll_read.field-0 in
+    let differ = c.in-Some.ensures.differ in
+    let wrote : get_or c.args.bytes.now c.from.result 0 ≡ slice_index c.args.bytes.now c.in-Some.at = ap (λ (n : ℕ). get_or c.args.bytes.now n 0) c.from.ensures in
+    let came : get_or c.poll_read.new.into c.from-in-Some.result 0 ≡ slice_index c.poll_read.new.into c.in-Some.at = ap (λ (n : ℕ). get_or c.poll_read.new.into n 0) c.from-in-Some.ensures in
+    record {
+      same = read_keeps c.args.unit c.args.block _ polled _ _ _ _ read.polls;
+      rest = tt;
+      stop = (
+        λ t. let told = read.never_again t in
+            differ.1 (ap (λ (xs : List ℕ). slice_index xs c.in-Some.at)
+            (sym (c.requires.written told) ∙ sym (read_back c.args.unit c.args.block _ polled _ _ _ _ read.polls t (c.requires.unmarked told)))),
+        differ.0,
+        (eq_same c.args.block c.args.block refl, wrote),
+        λ same. differ.1 (sym wrote ∙ same ∙ came),
+      );
+      never_again = read.never_again;
+      cause = caused_differs read.cause.later;
+    }

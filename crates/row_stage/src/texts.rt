@@ -1,0 +1,205 @@
+//! What rows are written with: numbers, ranges of blocks, bytes as runs, and pieces of text. A text that finds no memory remembers it, so
+//! that one question at the end is enough. For tests alone: that it does no harm and ends is all that is proved.
+
+use itoa::Buffer;
+use std::alloc::Global;
+
+/// The first word of a text, and what stands behind the blank after it.
+pub fn split(text: &str) -> (&str, &str) {
+    text.split_once(' ').unwrap_or((text, ""))
+}
+
+/// A decimal number; 0 where it is none.
+pub fn number(text: &str) -> u64 {
+    text.parse::<u64>().unwrap_or(0)
+}
+
+/// The number of a unit, or a byte in decimal; 0 where it is none.
+pub fn small_number(text: &str) -> u8 {
+    text.parse::<u8>().unwrap_or(0)
+}
+
+/// The blocks of `A`, or of `A-B` with B among them: the first one, and the one behind the last.
+pub fn span(text: &str) -> (u32, u32) {
+    let (first, last) = text.split_once('-').unwrap_or((text, text));
+    let first = first.parse::<u32>().unwrap_or(0);
+    let last = last.parse::<u32>().unwrap_or(0);
+    (first, last.saturating_add(1))
+}
+
+/// A byte in hexadecimal digits; 0 where it is none.
+fn hex_byte(text: &str) -> u8 {
+    u8::from_str_radix(text, 16).unwrap_or(0)
+}
+
+/// A hexadecimal digit.
+fn digit(value: u8) -> u8 {
+    b"0123456789abcdef"[value as usize % 16]
+}
+
+/// The byte that one of a text stands for: `|` for LF and `^` for CR.
+fn meant(byte: u8) -> u8 {
+    match byte {
+        b'|' => b'\n',
+        b'^' => b'\r',
+        other => other,
+    }
+}
+
+/// Bytes that are put one behind the other. Where memory runs out they lack what found no room, and are short from then on.
+#[derive(Drop)]
+pub struct Text {
+    bytes: Vec<u8>,
+    is_short: bool,
+}
+
+impl Text {
+    /// A text that is empty.
+    pub fn new(alloc: Global) -> Text {
+        Text {
+            bytes: Vec::new(alloc),
+            is_short: false,
+        }
+    }
+
+    /// Its bytes.
+    pub fn bytes(&self) -> &[u8] {
+        self.bytes.as_slice()
+    }
+
+    /// Whether bytes found no room.
+    pub fn is_short(&self) -> bool {
+        self.is_short
+    }
+
+    /// Takes all bytes away.
+    pub fn clear(&mut self) {
+        self.bytes.clear();
+    }
+
+    /// Puts bytes behind it.
+    pub fn add_bytes(&mut self, bytes: &[u8]) {
+        let added = self.bytes.extend_from_slice(bytes);
+        self.is_short |= added.is_err();
+    }
+
+    /// Puts a text behind it.
+    pub fn add(&mut self, text: &str) {
+        self.add_bytes(text.as_bytes());
+    }
+
+    /// Puts a text behind it, between two others.
+    pub fn add_between(&mut self, before: &str, text: &str, behind: &str) {
+        self.add(before);
+        self.add(text);
+        self.add(behind);
+    }
+
+    /// Puts a text, a number and another text behind it.
+    pub fn add_number(&mut self, before: &str, number: u64, behind: &str) {
+        let mut buffer = Buffer::new();
+        self.add_between(before, buffer.format(number), behind);
+    }
+
+    /// Puts a text behind it, in which `%` stands for a number.
+    pub fn add_numbered(&mut self, text: &str, number: u64) {
+        match text.split_once('%') {
+            Some((before, behind)) => self.add_number(before, number, behind),
+            None => self.add(text),
+        }
+    }
+
+    /// Puts a run `N*HH` behind it, or a byte `HH`.
+    fn add_run(&mut self, run: &str) {
+        let (count, byte) = run.split_once('*').unwrap_or(("1", run));
+        let size = self.bytes.len().saturating_add(number(count) as usize);
+        let added = self.bytes.resize(size, hex_byte(byte));
+        self.is_short |= added.is_err();
+    }
+
+    /// Puts runs `N*HH` and bytes `HH` with blanks between them behind it.
+    pub fn add_runs(&mut self, runs: &str) {
+        for run in runs.split(' ') {
+            if !run.is_empty() {
+                self.add_run(run);
+            }
+        }
+    }
+
+    /// Puts a byte as two hexadecimal digits behind it.
+    fn add_hex(&mut self, byte: u8) {
+        self.add_bytes(&[digit(byte / 16), digit(byte)]);
+    }
+
+    /// Puts the digits of a block behind it: its first byte is this one, and each other one is higher by one.
+    fn add_rising(&mut self, first: u8) {
+        for before in 0..512u16 {
+            self.add_hex(first.wrapping_add((before % 256) as u8));
+        }
+    }
+
+    /// Puts a text behind it, in which `|` stands for LF and `^` for CR.
+    fn add_meant(&mut self, text: &str) {
+        for byte in text.as_bytes() {
+            self.add_bytes(&[meant(*byte)]);
+        }
+    }
+
+    /// Puts a text behind it, before which `N}` may stand for the digits of a block.
+    fn add_part(&mut self, part: &str) {
+        match part.split_once('}') {
+            Some((first, rest)) => {
+                self.add_rising(small_number(first));
+                self.add_meant(rest);
+            }
+            None => self.add_meant(part),
+        }
+    }
+
+    /// Puts a piece of text behind it: besides, `{N}` stands for the digits of a block whose bytes rise from N on.
+    pub fn add_piece(&mut self, piece: &str) {
+        for part in piece.split('{') {
+            self.add_part(part);
+        }
+    }
+
+    /// Puts a blank and so many times a byte as a run behind it.
+    fn show_run(&mut self, count: u64, byte: u8) {
+        self.add_number(" ", count, "*");
+        self.add_hex(byte);
+    }
+
+    /// Puts some bytes as runs behind it, each with a blank before it.
+    pub fn show_runs(&mut self, bytes: &[u8]) {
+        let mut count = 0u64;
+        for (at, byte) in bytes.iter().enumerate() {
+            count = count.saturating_add(1);
+            if bytes.get(at.saturating_add(1)) != Some(byte) {
+                self.show_run(count, *byte);
+                count = 0;
+            }
+        }
+    }
+}
+
+/// Whether a piece stands in a text at a place.
+fn stands_at(text: &[u8], place: usize, piece: &[u8]) -> bool {
+    text.get(place..).unwrap_or(b"").starts_with(piece)
+}
+
+/// How often a piece, which is not empty, stands in a text.
+pub fn times(text: &[u8], piece: &[u8]) -> u64 {
+    let first = piece.first().copied().unwrap_or(0);
+    let mut count = 0u64;
+    for (place, byte) in text.iter().enumerate() {
+        if *byte == first && stands_at(text, place, piece) {
+            count = count.saturating_add(1);
+        }
+    }
+    count
+}
+
+/// Whether a piece, which is not empty, stands in a text.
+pub fn holds(text: &[u8], piece: &[u8]) -> bool {
+    times(text, piece) > 0
+}

@@ -1,0 +1,72 @@
+-- What is counted piece by piece is counted as a whole.
+use Rattle.std.proofs.Common.{◌≡◌, ℕ, ◌+◌, ◌-◌, ◌%◌, ◌^◌, List, [], ◌∷◌, ◌++◌, length, sum, count_by, refl, sym, subst, ap, ◌∙◌, arith, append-nil, append_assoc, length-append}
+use Rattle.std.specs.Prelude.{if◌then◌else◌, min}
+use Rattle.std.proofs.Math.Nat.{mod-add-mod}
+use Rattle.std.proofs.lemmas.List.Sums.{sum_by-append}
+use Rattle.std.proofs.lemmas.Grind.{flat_map-append}
+use Rattle.trace_replay.specs.Moments.{Moment, Answered, Told, End, answers_in}
+use Rattle.trace_lines.specs.answers.AnswerText.{said_text, out_text}
+use Rattle.trace_lines.specs.answers.Counting.{Counts, CountsAll, at_most, is_ok, tally_by}
+use Rattle.trace_lines.specs.declared.answers.tally.Tally.{Tally}
+
+-- nothing more is counted where the tally stays
+pub counts_none : (old new : Tally) → new ≡ old → Counts [] [] old new
+counts_none old new same requests before said is =
+    subst (λ (answers : List Answered). new ≡ tally_by requests answers (said ++ [])) (sym (append-nil before))
+    (subst (λ (text : List ℕ). new ≡ tally_by requests before text) (sym (append-nil said)) (same ∙ is))
+
+-- one piece, and then another
+pub counts_both : (old mid new : Tally) (a b : List Answered) (x y : List ℕ) → Counts a x old mid → Counts b y mid new → Counts (a ++ b) (x ++ y) old new
+counts_both old mid new a b x y first later requests before said is =
+    subst (λ (answers : List Answered). new ≡ tally_by requests answers (said ++ (x ++ y))) (append_assoc before a b)
+    (subst (λ (text : List ℕ). new ≡ tally_by requests ((before ++ a) ++ b) text) (append_assoc said x y)
+    (later requests (before ++ a) (said ++ x) (first requests before said is)))
+
+-- WHAT A TALLY IS with more counted
+abbrev pub more_counted : List Answered → List ℕ → Tally → Tally
+more_counted answers text old = record {
+  requests = old.requests;
+  answers = at_most (old.answers + length answers);
+  ok = at_most (old.ok + count_by is_ok answers);
+  text = at_most (old.text + length text);
+  sum = (old.sum + sum text) % 2 ^ 32;
+}
+
+count_by-append : (xs ys : List Answered) → count_by is_ok (xs ++ ys) ≡ count_by is_ok xs + count_by is_ok ys
+count_by-append xs ys = sum_by-append (λ (a : Answered). if is_ok a then 1 else 0) xs ys
+
+stays_at_most : (m a b n : ℕ) → n ≡ a + b → min (min a m + b) m ≡ min n m
+stays_at_most m a b n is = omega (arith, is)
+
+same_tally : (requests a a' o o' t t' s s' : ℕ) → a ≡ a' → o ≡ o' → t ≡ t' → s ≡ s'
+    → ◌≡◌ {A = Tally} (record { requests = requests; answers = a; ok = o; text = t; sum = s }) (record { requests = requests; answers = a'; ok = o'; text = t'; sum = s' })
+same_tally requests a a' o o' t t' s s' answers ok text sums = cc
+
+more_is : (requests : ℕ) (before answers : List Answered) (said text : List ℕ) → more_counted answers text (tally_by requests before said) ≡ tally_by requests (before ++ answers) (said ++ text)
+more_is requests before answers said text =
+    same_tally requests _ _ _ _ _ _ _ _
+    (stays_at_most (2 ^ 64 - 1) (length before) (length answers) (length (before ++ answers)) (length-append before answers))
+    (stays_at_most (2 ^ 64 - 1) (count_by is_ok before) (count_by is_ok answers) (count_by is_ok (before ++ answers)) (count_by-append before answers))
+    (stays_at_most (2 ^ 64 - 1) (length said) (length text) (length (said ++ text)) (length-append said text))
+    (mod-add-mod (sum said) (2 ^ 32) (sum text) ∙ ap (λ (n : ℕ). n % 2 ^ 32) (sym (sum_by-append (λ (x : ℕ). x) said text)))
+
+pub counts_on : (answers : List Answered) (text : List ℕ) (old : Tally) → Counts answers text old (more_counted answers text old)
+counts_on answers text old requests before said is = ap (more_counted answers text) is ∙ more_is requests before answers said text
+
+-- the same piece by other names
+pub counts_same : (old new : Tally) (a b : List Answered) (x y : List ℕ) → Counts a x old new → a ≡ b → x ≡ y → Counts b y old new
+counts_same old new a b x y counts same same_text =
+    subst (λ (answers : List Answered). Counts answers y old new) same (subst (λ (text : List ℕ). Counts a text old new) same_text counts)
+
+-- MOMENTS, one part behind another
+answers_in-append : (xs ys : List Moment) → answers_in (xs ++ ys) ≡ answers_in xs ++ answers_in ys
+answers_in-append [] ys = refl
+answers_in-append (Told line unit id (End answer) ∷ xs) ys =
+    ap (λ (rest : List Answered). record { line = line; id = id; answer = answer } ∷ rest) (answers_in-append xs ys)
+answers_in-append (m ∷ xs) ys = answers_in-append xs ys
+
+pub counts_more : (old mid new : Tally) (first later : List Moment) → CountsAll first old mid → CountsAll later mid new → CountsAll (first ++ later) old new
+counts_more old mid new first later counts more =
+    counts_same old new (answers_in first ++ answers_in later) (answers_in (first ++ later)) (out_text first ++ out_text later) (out_text (first ++ later))
+    (counts_both old mid new (answers_in first) (answers_in later) (out_text first) (out_text later) counts more)
+    (sym (answers_in-append first later)) (sym (flat_map-append said_text first later))

@@ -1,0 +1,46 @@
+// The line of a block whose bytes are all one byte, put together from its end.
+ghost use Rattle.std.specs.Prelude.{ℕ, ◌≡◌, ◌≤◌, ◌+◌, ◌++◌, length, replicate, decimal};
+ghost use Rattle.mass_text.specs.BlockText.{hex_byte};
+ghost use Rattle.trace_lines.specs.answers.AnswerText.{block_text};
+
+use crate::answers::blocks::write_digits;
+use mass_text::FrontLine;
+
+/// How many bytes the line has at most, with room to spare.
+const END: usize = 32;
+
+/// The room that it has, with 64 bytes behind its end.
+const ROOM: usize = 96;
+
+/// The text of the line of a block of a read whose bytes are all one byte.
+pub type FillLine = FrontLine<ROOM, END>;
+
+/// The two hexadecimal digits of a byte.
+fn digits_of(byte: u8) -> [u8; 2]
+    ensures { result ≡ hex_byte byte }
+{
+    let mut digits = [0; 2];
+    write_digits(&[byte], &mut digits);
+    digits
+}
+
+/// Puts the number of a block.
+fn put_number(line: &mut FillLine, k: u32)
+    requires { length line.old ≤ 9 }
+    ensures room { length line.new ≤ length line.old + 10 }
+    ensures text { line.new ≡ decimal k ++ line.old }
+{
+    line.put_digits(u64::from(k));
+}
+
+/// Writes the line of block `k`, from 0, all of whose bytes are this one, in place of what is there.
+pub fn write_fill(line: &mut FillLine, k: u32, byte: u8)
+    ensures { (size : ℕ) → 1 ≤ size → line.new ≡ block_text k (replicate size byte) }
+{
+    line.clear();
+    line.put_byte(b'\n');
+    line.put_piece(&digits_of(byte));
+    line.put_piece(b" fill ");
+    put_number(line, k);
+    line.put_piece(b"blk ");
+}

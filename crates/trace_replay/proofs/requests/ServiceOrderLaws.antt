@@ -1,0 +1,249 @@
+-- Laws of the service order: the sort, the two runs, and how a queue with one more looks.
+use Rattle.std.proofs.Common.{◌≡◌, ℕ, ◌+◌, ◌<◌, ◌≤◌, nat_lt, Bool, true, false, not, ◌&&◌, ◌||◌, cond, List, [], ◌∷◌, ◌++◌, map, filter, length, zero, suc, slice_index_or, refl, sym, ◌∙◌, ap, subst, add-one, arith}
+use Rattle.std.proofs.lemmas.Bool.{cond_both, cond-true, cond-false}
+use Rattle.std.proofs.lemmas.Bool.Decides.{nat_tests}
+use Rattle.std.proofs.lemmas.List.{length-map}
+use Rattle.std.proofs.lemmas.List.Sorted.{IsPermutation-refl, IsPermutation-cons, IsPermutation-trans, IsPermutation-middle, IsPermutation-map, length_permutation, All-permutation}
+use Rattle.std.proofs.lemmas.List.Elements.{All-cons}
+use Rattle.std.specs.List.{All, AllByRecursion}
+use Rattle.std.specs.List.Sorted.{IsPermutation, IsSortedBy, IsNonDecreasingBy}
+use Rattle.trace_replay.specs.requests.ServiceOrder.{Waiting, is_before, put, service_order, Service, sweep_for, after_join, queue_of, waiting_from, service_of, queue_with, IsInOrder, IsTwoRuns, first_run, second_run, put_behind, put_in_run, in_runs, empty_service, Joins, Leaves, service_after}
+use Rattle.trace_replay.proofs.requests.ServiceOrderRuns.{Ascends, service_order-ascends, goes_before, put_in, inserted, AreRuns, are_runs, newcomer, counted, queue_with-inserted, queue_of-service_of}
+
+-- the sort: the same elements, and in order
+put-permutation : {A : Type 0} (x : Waiting A) (ys : List (Waiting A)) → IsPermutation (x ∷ ys) (put x ys)
+put-permutation x [] = IsPermutation-refl (x ∷ [])
+put-permutation x (y ∷ ys) =
+    cond_both (is_before y x) (y ∷ put x ys) (x ∷ y ∷ ys) (IsPermutation (x ∷ y ∷ ys))
+    (λ _. IsPermutation-trans (x ∷ y ∷ ys) (y ∷ x ∷ ys) (y ∷ put x ys) (IsPermutation-middle (x ∷ []) y ys)
+    (IsPermutation-cons y (x ∷ ys) (put x ys) (put-permutation x ys)))
+    (λ _. IsPermutation-refl (x ∷ y ∷ ys))
+
+pub service_order-permutation : {A : Type 0} (xs : List (Waiting A)) → IsPermutation xs (service_order xs)
+service_order-permutation [] = IsPermutation-refl []
+service_order-permutation (x ∷ xs) =
+    IsPermutation-trans (x ∷ xs) (x ∷ service_order xs) (put x (service_order xs))
+    (IsPermutation-cons x xs (service_order xs) (service_order-permutation xs)) (put-permutation x (service_order xs))
+
+ascends-adjacent : {A : Type 0} (xs : List (Waiting A)) → Ascends xs → (k : ℕ) (d : Waiting A) → suc k < length xs
+    → is_before (slice_index_or xs (suc k) d) (slice_index_or xs k d) ≡ false
+ascends-adjacent [] h k d lt = absurd (omega arith)
+ascends-adjacent (x ∷ []) h k d lt = absurd (omega arith)
+ascends-adjacent (x ∷ y ∷ ys) h zero d lt = h.0.0
+ascends-adjacent (x ∷ y ∷ ys) h (suc k) d lt = ascends-adjacent (y ∷ ys) h.1 k d (omega arith)
+
+pub service_order-sorted : {A : Type 0} (xs : List (Waiting A)) → IsSortedBy is_before (service_order xs)
+service_order-sorted xs = λ k d lo lt. rw add-one (ascends-adjacent (service_order xs) (service_order-ascends xs) k d (omega arith))
+
+-- a queue with one more holds those of the queue and the one
+pub queue_with-permutation : {A : Type 0} (c : A → ℕ) (x : A) (q : List A) → IsPermutation (x ∷ q) (queue_with c x q)
+unfolding queue_with
+queue_with-permutation c x q =
+    let s = service_of c q in
+    subst (λ l. IsPermutation (x ∷ l) (queue_of (after_join c x s))) (queue_of-service_of c q)
+    (IsPermutation-map (λ w. w.request) (newcomer c x s.joined s.waiting ∷ s.waiting) (after_join c x s).waiting
+    (service_order-permutation (newcomer c x s.joined s.waiting ∷ s.waiting)))
+
+pub length-queue_with : {A : Type 0} (c : A → ℕ) (x : A) (q : List A) → length (queue_with c x q) ≡ length q + 1
+length-queue_with c x q = omega (arith, length_permutation (x ∷ q) (queue_with c x q) (queue_with-permutation c x q))
+
+pub All-queue_with : {A : Type 0} (P : A → Type 0) (c : A → ℕ) (x : A) (q : List A) → P x → All P q → All P (queue_with c x q)
+All-queue_with P c x q p all = All-permutation P (x ∷ q) (queue_with c x q) (queue_with-permutation c x q) (All-cons P x q p all)
+
+pub queue_with-empty : {A : Type 0} (c : A → ℕ) (x : A) → queue_with c x [] ≡ x ∷ []
+unfolding queue_with
+queue_with-empty c x = refl
+
+-- the head of a queue stays its head
+pub queue_with-head : {A : Type 0} (c : A → ℕ) (x y : A) (ys : List A) → IsInOrder c (y ∷ ys) → queue_with c x (y ∷ ys) ≡ y ∷ put_in c (c y) x ys
+queue_with-head c x y ys h = queue_with-inserted c x (y ∷ ys) h
+
+-- the two runs
+below-behind : (h y z : ℕ) → goes_before h z y ≡ false → nat_lt y h ≡ true → nat_lt z h ≡ true
+below-behind h y z e k = grind (arith, nat_tests)
+
+below-all : {A : Type 0} (c : A → ℕ) (h : ℕ) (y : A) (zs : List A) → AllByRecursion (λ z. goes_before h (c z) (c y) ≡ false) zs → nat_lt (c y) h ≡ true
+    → AllByRecursion (λ z. nat_lt (c z) h ≡ true) zs
+below-all c h y [] all e = tt
+below-all c h y (z ∷ zs) all e = (below-behind h (c y) (c z) all.0 e, below-all c h y zs all.1 e)
+
+first-none : {A : Type 0} (c : A → ℕ) (h : ℕ) (zs : List A) → AllByRecursion (λ z. nat_lt (c z) h ≡ true) zs → first_run c h zs ≡ []
+first-none c h [] all = refl
+first-none c h (z ∷ zs) all = cond-false _ _ _ (ap not all.0) ∙ first-none c h zs all.1
+
+second-all : {A : Type 0} (c : A → ℕ) (h : ℕ) (zs : List A) → AllByRecursion (λ z. nat_lt (c z) h ≡ true) zs → second_run c h zs ≡ zs
+second-all c h [] all = refl
+second-all c h (z ∷ zs) all = cond-true _ _ _ all.0 ∙ ap (λ l. z ∷ l) (second-all c h zs all.1)
+
+-- each run ascends
+abbrev pub Rises : {A : Type 0} → (A → ℕ) → List A → Type 0
+Rises c [] = Unit {0}
+Rises c (x ∷ xs) = AllByRecursion (λ y. c x ≤ c y) xs × Rises c xs
+
+pub at_index : {A : Type 0} (P : A → Type 0) (xs : List A) → AllByRecursion P xs → (k : ℕ) (d : A) → k < length xs → P (slice_index_or xs k d)
+at_index P [] h k d lt = absurd (omega arith)
+at_index P (x ∷ xs) h zero d lt = h.0
+at_index P (x ∷ xs) h (suc k) d lt = at_index P xs h.1 k d (omega arith)
+
+rises-by : {A : Type 0} (c : A → ℕ) (xs : List A) → Rises c xs → IsNonDecreasingBy c xs
+rises-by c [] h i j d le lt = absurd (omega arith)
+rises-by c (x ∷ xs) h zero zero d le lt = omega arith
+rises-by c (x ∷ xs) h zero (suc j) d le lt = at_index (λ y. c x ≤ c y) xs h.0 j d (omega arith)
+rises-by c (x ∷ xs) h (suc i) zero d le lt = absurd (omega arith)
+rises-by c (x ∷ xs) h (suc i) (suc j) d le lt = rises-by c xs h.1 i j d (omega arith) (omega arith)
+
+first-order : (h y z : ℕ) → goes_before h z y ≡ false → not (nat_lt y h) ≡ true → not (nat_lt z h) ≡ true → y ≤ z
+first-order h y z e p q = grind (arith, nat_tests)
+
+second-order : (h y z : ℕ) → goes_before h z y ≡ false → nat_lt y h ≡ true → nat_lt z h ≡ true → y ≤ z
+second-order h y z e p q = grind (arith, nat_tests)
+
+kept-above : {A : Type 0} (c : A → ℕ) (h : ℕ) (p : A → Bool) (y : A) (zs : List A)
+    → ((z : A) → goes_before h (c z) (c y) ≡ false → p z ≡ true → c y ≤ c z)
+    → AllByRecursion (λ z. goes_before h (c z) (c y) ≡ false) zs → AllByRecursion (λ z. c y ≤ c z) (filter p zs)
+kept-above c h p y [] f all = tt
+kept-above c h p y (z ∷ zs) f all =
+    cond_both (p z) (z ∷ filter p zs) (filter p zs) (AllByRecursion (λ w. c y ≤ c w)) (λ e. (f z all.0 e, kept-above c h p y zs f all.1))
+    (λ _. kept-above c h p y zs f all.1)
+
+kept-rises : {A : Type 0} (c : A → ℕ) (h : ℕ) (p : A → Bool)
+    → ((y z : A) → goes_before h (c z) (c y) ≡ false → p y ≡ true → p z ≡ true → c y ≤ c z) → (ys : List A) → AreRuns c h ys → Rises c (filter p ys)
+kept-rises c h p f [] runs = tt
+kept-rises c h p f (y ∷ ys) runs =
+    cond_both (p y) (y ∷ filter p ys) (filter p ys) (Rises c)
+    (λ e. (kept-above c h p y ys (λ z g k. f y z g e k) runs.0, kept-rises c h p f ys runs.1))
+    (λ _. kept-rises c h p f ys runs.1)
+
+join-step : {A : Type 0} (b : Bool) (y : A) (ys F S : List A) → (b ≡ true → F ≡ []) → (b ≡ true → S ≡ ys) → F ++ S ≡ ys
+    → cond (not b) (y ∷ F) F ++ cond b (y ∷ S) S ≡ y ∷ ys
+join-step true y ys F S f s fs = rw (f refl, s refl) refl
+join-step false y ys F S f s fs = ap (λ l. y ∷ l) fs
+
+pub runs-joined : {A : Type 0} (c : A → ℕ) (h : ℕ) (ys : List A) → AreRuns c h ys → first_run c h ys ++ second_run c h ys ≡ ys
+runs-joined c h [] runs = refl
+runs-joined c h (y ∷ ys) runs =
+    join-step (nat_lt (c y) h) y ys (first_run c h ys) (second_run c h ys) (λ e. first-none c h ys (below-all c h y ys runs.0 e))
+    (λ e. second-all c h ys (below-all c h y ys runs.0 e)) (runs-joined c h ys runs.1)
+
+pub two_runs : {A : Type 0} (c : A → ℕ) (x : A) (xs : List A) → IsInOrder c (x ∷ xs) → IsTwoRuns c (c x) (x ∷ xs)
+two_runs c x xs order =
+    let runs : AreRuns c (c x) (x ∷ xs) = are_runs c x xs order in
+    record {
+      both = sym (runs-joined c (c x) (x ∷ xs) runs);
+      first =
+          rises-by c (first_run c (c x) (x ∷ xs))
+          (kept-rises c (c x) (λ y. not (nat_lt (c y) (c x))) (λ y z e p q. first-order (c x) (c y) (c z) e p q) (x ∷ xs) runs);
+      second =
+          rises-by c (second_run c (c x) (x ∷ xs))
+          (kept-rises c (c x) (λ y. nat_lt (c y) (c x)) (λ y z e p q. second-order (c x) (c y) (c z) e p q) (x ∷ xs) runs);
+    }
+
+put-step : {A : Type 0} (a b t : Bool) (x y : A) (ys F S PF PS PI : List A) → (b ≡ true → F ≡ []) → (b ≡ true → S ≡ ys) → F ++ S ≡ ys
+    → (b ≡ true → PF ≡ x ∷ []) → PI ≡ cond a (F ++ PS) (PF ++ S)
+    → cond (cond a (b && t) (b || t)) (x ∷ y ∷ ys) (y ∷ PI)
+    ≡ cond a (cond (not b) (y ∷ F) F ++ cond b (cond t (x ∷ y ∷ S) (y ∷ PS)) PS) (cond (not b) (cond t (x ∷ y ∷ F) (y ∷ PF)) PF ++ cond b (y ∷ S) S)
+put-step true true true x y ys F S PF PS PI f s fs pf e = rw (f refl, s refl) refl
+put-step true true false x y ys F S PF PS PI f s fs pf e = rw (e, f refl) refl
+put-step true false t x y ys F S PF PS PI f s fs pf e = rw e refl
+put-step false true t x y ys F S PF PS PI f s fs pf e = rw (pf refl, s refl) refl
+put-step false false true x y ys F S PF PS PI f s fs pf e = ap (λ l. x ∷ y ∷ l) (sym fs)
+put-step false false false x y ys F S PF PS PI f s fs pf e = rw e refl
+
+put_behind-cond : {A : Type 0} (c : A → ℕ) (b : Bool) (x y : A) (ys : List A)
+    → put_behind c x (cond b (y ∷ ys) ys) ≡ cond b (cond (nat_lt (c x) (c y)) (x ∷ y ∷ ys) (y ∷ put_behind c x ys)) (put_behind c x ys)
+put_behind-cond c true x y ys = refl
+put_behind-cond c false x y ys = refl
+
+pub put_in-runs : {A : Type 0} (c : A → ℕ) (h : ℕ) (x : A) (ys : List A) → AreRuns c h ys → put_in c h x ys ≡ put_in_run c h x ys
+put_in-runs c h x [] runs = sym (cond_same (nat_lt (c x) h) (x ∷ [])) where
+  cond_same : {A : Type 0} (b : Bool) (l : List A) → cond b l l ≡ l
+  cond_same true l = refl
+  cond_same false l = refl
+put_in-runs c h x (y ∷ ys) runs =
+    let all : nat_lt (c y) h ≡ true → AllByRecursion (λ z. nat_lt (c z) h ≡ true) ys = λ e. below-all c h y ys runs.0 e in
+    put-step (nat_lt (c x) h) (nat_lt (c y) h) (nat_lt (c x) (c y)) x y ys (first_run c h ys) (second_run c h ys)
+    (put_behind c x (first_run c h ys)) (put_behind c x (second_run c h ys)) (put_in c h x ys) (λ e. first-none c h ys (all e))
+    (λ e. second-all c h ys (all e)) (runs-joined c h ys runs.1) (λ e. ap (put_behind c x) (first-none c h ys (all e)))
+    (put_in-runs c h x ys runs.1) ∙
+    sym
+    (ap (λ l. cond (nat_lt (c x) h) (first_run c h (y ∷ ys) ++ l) (put_behind c x (first_run c h (y ∷ ys)) ++ second_run c h (y ∷ ys)))
+    (put_behind-cond c (nat_lt (c y) h) x y (second_run c h ys)) ∙
+    ap (λ l. cond (nat_lt (c x) h) (first_run c h (y ∷ ys) ++ cond (nat_lt (c y) h) (cond (nat_lt (c x) (c y)) (x ∷ y ∷ second_run c h ys) (y ∷ put_behind c x (second_run c h ys))) (put_behind c x (second_run c h ys))) (l ++ second_run c h (y ∷ ys)))
+    (put_behind-cond c (not (nat_lt (c y) h)) x y (first_run c h ys)))
+
+not_first : (n x : ℕ) → goes_before n x n ≡ false
+not_first n x = grind (arith, nat_tests)
+
+pub inserted-runs : {A : Type 0} (c : A → ℕ) (x : A) (q : List A) → IsInOrder c q → inserted c x q ≡ in_runs c x q
+inserted-runs c x [] h = refl
+inserted-runs c x (y ∷ ys) h = sym (cond-false _ _ _ (not_first (c y) (c x))) ∙ put_in-runs c (c y) x (y ∷ ys) (are_runs c y ys h)
+
+pub queue_with-runs : {A : Type 0} (c : A → ℕ) (x : A) (q : List A) → IsInOrder c q → queue_with c x q ≡ in_runs c x q
+queue_with-runs c x q h = queue_with-inserted c x q h ∙ inserted-runs c x q h
+
+-- a queue of requests, and that of what is seen of each
+abbrev relabelled : {A B : Type 0} → (A → B) → Waiting A → Waiting B
+relabelled f w = record { request = f w.request; sweep = w.sweep; cylinder = w.cylinder; ticket = w.ticket }
+
+map-cond : {A B : Type 0} (f : A → B) (b : Bool) (xs ys : List A) → map f (cond b xs ys) ≡ cond b (map f xs) (map f ys)
+map-cond f true xs ys = refl
+map-cond f false xs ys = refl
+
+relabelled-put : {A B : Type 0} (f : A → B) (x : Waiting A) (ys : List (Waiting A))
+    → map (relabelled f) (put x ys) ≡ put (relabelled f x) (map (relabelled f) ys)
+relabelled-put f x [] = refl
+relabelled-put f x (y ∷ ys) =
+    map-cond (relabelled f) (is_before y x) (y ∷ put x ys) (x ∷ y ∷ ys) ∙
+    ap (λ l. cond (is_before y x) (relabelled f y ∷ l) (relabelled f x ∷ relabelled f y ∷ map (relabelled f) ys)) (relabelled-put f x ys)
+
+relabelled-service_order : {A B : Type 0} (f : A → B) (xs : List (Waiting A))
+    → map (relabelled f) (service_order xs) ≡ service_order (map (relabelled f) xs)
+relabelled-service_order f [] = refl
+relabelled-service_order f (x ∷ xs) =
+    relabelled-put f x (service_order xs) ∙ ap (put (relabelled f x)) (relabelled-service_order f xs)
+
+relabelled-waiting_from : {A B : Type 0} (f : A → B) (c : B → ℕ) (h k : ℕ) (q : List A)
+    → map (relabelled f) (waiting_from (λ a. c (f a)) h k q) ≡ waiting_from c h k (map f q)
+relabelled-waiting_from f c h k [] = refl
+relabelled-waiting_from f c h k (x ∷ xs) = ap (λ l. counted c h k (f x) ∷ l) (relabelled-waiting_from f c h (k + 1) xs)
+
+map-relabelled : {A B : Type 0} (f : A → B) (ws : List (Waiting A)) → map f (map (λ w. w.request) ws) ≡ map (λ w. w.request) (map (relabelled f) ws)
+map-relabelled f [] = refl
+map-relabelled f (w ∷ ws) = ap (λ l. f w.request ∷ l) (map-relabelled f ws)
+
+sweep_for-relabelled : {A B : Type 0} (f : A → B) (n : ℕ) (ws : List (Waiting A)) → sweep_for n (map (relabelled f) ws) ≡ sweep_for n ws
+sweep_for-relabelled f n [] = refl
+sweep_for-relabelled f n (w ∷ ws) = refl
+
+abbrev service_relabelled : {A B : Type 0} → (A → B) → Service A → Service B
+service_relabelled f s = record { waiting = map (relabelled f) s.waiting; joined = s.joined }
+
+service_of-relabelled : {A B : Type 0} (f : A → B) (c : B → ℕ) (q : List A)
+    → service_relabelled f (service_of (λ a. c (f a)) q) ≡ service_of c (map f q)
+service_of-relabelled f c [] = refl
+service_of-relabelled f c (x ∷ xs) = both (relabelled-waiting_from f c (c (f x)) 0 (x ∷ xs)) (sym (length-map (x ∷ xs) f)) where
+  both : {B : Type 0} {v w : List (Waiting B)} {m n : ℕ} → v ≡ w → m ≡ n → (let s : Service B = record { waiting = v; joined = m } in s) ≡ record { waiting = w; joined = n }
+  both e k = cc
+
+after_join-relabelled : {A B : Type 0} (f : A → B) (c : B → ℕ) (x : A) (s : Service A)
+    → map f (queue_of (after_join (λ a. c (f a)) x s)) ≡ queue_of (after_join c (f x) (service_relabelled f s))
+after_join-relabelled f c x s =
+    let n = newcomer (λ a. c (f a)) x s.joined s.waiting in
+    map-relabelled f (service_order (n ∷ s.waiting)) ∙ ap (map (λ w. w.request)) (relabelled-service_order f (n ∷ s.waiting)) ∙
+    ap (λ k. map (λ w. w.request) (service_order (record { request = f x; sweep = k; cylinder = c (f x); ticket = s.joined } ∷ map (relabelled f) s.waiting)))
+    (sym (sweep_for-relabelled f (c (f x)) s.waiting))
+
+pub map-queue_with : {A B : Type 0} (f : A → B) (c : B → ℕ) (x : A) (q : List A)
+    → map f (queue_with (λ a. c (f a)) x q) ≡ queue_with c (f x) (map f q)
+unfolding queue_with
+map-queue_with f c x q =
+    after_join-relabelled f c x (service_of (λ a. c (f a)) q) ∙ ap (λ s. queue_of (after_join c (f x) s)) (service_of-relabelled f c q)
+
+-- Worked: cylinders 10, 50, 20, 5 and 20 join, as numbers 1 to 5; and a queue that empties begins anew.
+two_sweeps : map (λ (x : ℕ × ℕ). x.0) (queue_of (service_after (λ (x : ℕ × ℕ). x.1) empty_service
+    (Joins (1, 10) ∷ Joins (2, 50) ∷ Joins (3, 20) ∷ Joins (4, 5) ∷ Joins (5, 20) ∷ []))) ≡ 1 ∷ 3 ∷ 5 ∷ 2 ∷ 4 ∷ []
+two_sweeps = refl
+
+sweeps_anew : map (λ (w : Waiting ℕ). w.sweep) (service_after (λ (c : ℕ). c) empty_service
+    (Joins 10 ∷ Joins 5 ∷ Leaves ∷ Joins 3 ∷ Leaves ∷ Leaves ∷ Joins 4 ∷ [])).waiting ≡ 0 ∷ []
+sweeps_anew = refl
