@@ -5,7 +5,7 @@
 //! `position`, `insert`, `entries`, `entry`, `serial`, `empty_table` and `copy` speak of the list of places; a position is the
 //! only one, and a refused `insert` changes nothing. `table_of` gives the table of a unit's pack by its five copies.
 //!
-//! Only tested, in `drive_rows` and `pack_rows`: worked tables and faults.
+//! Only tested, in `pack_rows` and `hpsim_rows`: faults and worked tables.
 #![tactic(auto)]
 
 mod pack_table;

@@ -7,7 +7,7 @@
 //! listed block is what its replacement holds. `refusal_law`: at most one refusal has its reason, and none where a block may be
 //! listed.
 //!
-//! Only tested, in `pack_rows`: worked values, beside their proofs.
+//! Only tested, in `hpsim_rows`: worked values, beside their proofs.
 #![tactic(auto)]
 
 mod edit;

@@ -11,8 +11,8 @@ ghost use Rattle.script_reader.specs.cached.Meaning.{request_of, filled};
 
 use crate::requests::{read_asked, write_asked};
 use buffer_cache::{Cache, Subsystem};
-use script_reader::cached::{Asked, Line, Statement};
 use outside_traits::traits::{Packs, Sink};
+use script_reader::cached::{Asked, Line, Statement};
 use script_runs::PlayFault;
 use script_runs::desk::{Desk, write_answer};
 

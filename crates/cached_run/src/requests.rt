@@ -15,10 +15,10 @@ ghost use Rattle.cached_run.specs.Saying.{kind_by, IsSaid, GivesAmong};
 
 use crate::transfers::{read_blocks, write_blocks};
 use buffer_cache::{Cache, Subsystem};
-use script_reader::cached::Asked;
 use driver_laws::answers::outcome::Stop;
 use outside_traits::traits::{Packs, Sink};
 use partitions::{Admission, Part, admit};
+use script_reader::cached::Asked;
 use trace_replay::requests::{AnswerKind, Cause};
 
 /// How a request is answered of whose blocks so many were done, with the kind that it has where all were.

@@ -6,9 +6,9 @@ ghost use Rattle.script_lines.specs.Words.{all_verbs};
 ghost use Rattle.script_reader.specs.cached.Scripts.{Spells as CachedSpells, IsRefused as CachedRefused};
 ghost use Rattle.command_parts.specs.Loading.{Means, MeansCached, RefusesAll, longest};
 
-use script_reader::cached::{CachedRefusal, CachedScript, cached_grammar_law, read_cached};
 use outside_traits::traits::Source;
 use outside_traits::whole::{ReadAllFault, read_all};
+use script_reader::cached::{CachedRefusal, CachedScript, cached_grammar_law, read_cached};
 use script_reader::{ReadFault, Script, ScriptKind, grammar_law, read_script};
 use std::alloc::Global;
 use thiserror::Error;

@@ -7,3 +7,4 @@ pub mod Slots
 pub mod Bytes
 pub mod Parts
 pub mod OneRead
+pub mod tables

@@ -1,8 +1,9 @@
-//! Wrong outcomes, each refused by the words that contracts are made of (`contracts`, and of single parts `parts`), worked rows of the
-//! driver's machine (`machine`), and a worked script beside its text (`scripts`).
+//! Wrong outcomes, each refused by the words that contracts are made of (`contracts`, of single parts `parts`, and of tables of numbers
+//! `tables`), worked rows of the driver's machine (`machine`), and a worked script beside its text (`scripts`).
 #![tactic(auto)]
 
 pub mod contracts;
 pub mod machine;
 pub mod parts;
 pub mod scripts;
+pub mod tables;

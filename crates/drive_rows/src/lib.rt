@@ -1,4 +1,4 @@
-//! Tests of memory, the queue, the drive and its attaching, of numbers that come from outside, of the formatter's single calls, each of
+//! Tests of memory, packs in memory, the queue, the drive and its attaching, of numbers that come from outside, of the formatter's single calls, each of
 //! which goes wrong once, and of the caller of `blocking_rows`. There are tests alone here, so that the crates that they test are proved once.
 #![tactic(auto)]
 
@@ -14,5 +14,7 @@ mod formatting;
 mod memory;
 #[cfg(test)]
 mod numbers;
+#[cfg(test)]
+mod packs;
 #[cfg(test)]
 mod queue;

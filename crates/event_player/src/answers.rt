@@ -9,10 +9,10 @@ ghost use Rattle.event_player.specs.Saying.{side, Says};
 ghost use Rattle.event_player.specs.Steps.{waiting_text};
 
 use crate::desk::Desk;
-use trace_lines::answers::{answer_line, write_fill};
 use driver_laws::answers::answers::taken_law;
 use hp_driver::{Answer, AnswerKind, Subsystem};
 use outside_traits::traits::{Sink, SinkFailed};
+use trace_lines::answers::{answer_line, write_fill};
 
 /// How many bytes block `k` of `count` has, of which the last one has `last`.
 fn block_size(k: u32, count: u32, last: u32) -> u32

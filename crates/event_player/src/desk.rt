@@ -3,11 +3,11 @@ ghost use Rattle.std.specs.Prelude.{◌≡◌, [], IfOk, OnOk};
 ghost use Rattle.trace_lines.specs.answers.Counting.{Counts, tally_by};
 ghost use Rattle.event_player.specs.Saying.{side, Says};
 
-use trace_lines::answers::{BlockLine, FillLine, Tally};
 use hp_driver::Subsystem;
 use outside_traits::Gather;
 use outside_traits::traits::{NoMemory, Sink, SinkFailed};
 use std::alloc::Global;
+use trace_lines::answers::{BlockLine, FillLine, Tally};
 
 /// How many bytes of answers are gathered at most.
 const ANSWER_ROOM: u32 = 32_768;

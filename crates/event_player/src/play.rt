@@ -24,7 +24,6 @@ use crate::counting::{count_noises, count_requests};
 use crate::desk::Desk;
 use crate::drains::drain;
 use crate::player::play_line;
-pub use trace_lines::answers::Tally;
 use hp_driver::{Subsystem, UnitSetup};
 use outside_traits::traits::{Packs, Sink};
 use script_reader::meaning::meaning_law;
@@ -32,6 +31,7 @@ use script_reader::{Script, read_back_law};
 pub use script_runs::PlayFault;
 use script_runs::attach_units;
 use std::alloc::{AllocError, Global};
+pub use trace_lines::answers::Tally;
 
 /// How many bytes the longest write brings: 127 blocks.
 const MOST_BYTES: usize = 65_024;

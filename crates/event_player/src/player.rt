@@ -21,13 +21,13 @@ ghost use Rattle.event_player.specs.Stops.{StopsLine};
 use crate::calls::{ask, happen};
 use crate::desk::Desk;
 use crate::drains::drain;
-use trace_lines::answers::noise_line;
 use fire_code::{Noise, class_of};
 use hp_driver::{Event, Request, Subsystem};
 use outside_traits::traits::{Packs, Sink, SinkFailed};
 use script_reader::meaning::meaning_law;
 use script_reader::{Content, Request as Asked, Script, Span, Statement, Stored};
 use script_runs::PlayFault;
+use trace_lines::answers::noise_line;
 
 /// Says the class of noise that is armed at a line, and counts what it says.
 fn say_noise<O: Sink, T: Sink>(

@@ -13,7 +13,7 @@
 //! The three tables are proved equal to the definition by functions over them (`tables`, `logarithms`); the plain program has
 //! the same contracts.
 //!
-//! Only tested, in `pack_rows`: worked checks and verdicts.
+//! Only tested, in `drive_rows`: worked checks and verdicts.
 #![tactic(auto)]
 
 ghost use Rattle.std.specs.Prelude.{◌≡◌, ◌≢◌, ◌<◌, ◌^◌, ◌*◌, ◌≤◌, ◌+◌, ◌-◌, ◌%◌, ◌==◌, ℕ, List, take, cond, ◌↔◌, IsTrue, All, SomeIff, bit_xor, slice_index};

@@ -1,8 +1,8 @@
 ghost use Rattle.std.specs.Prelude.{◌≡◌, ◌≤◌, ◌+◌, ◌++◌, decimal, length};
 ghost use Rattle.hp_exercise.specs.ExerciseText.{exercise_text};
 
-use trace_lines::answers::Tally;
 use mass_text::{LineBuf, Radix, numeral_law};
+use trace_lines::answers::Tally;
 
 /// Puts words and a count.
 fn put_count(text: &mut LineBuf, words: &str, count: u64)

@@ -6,7 +6,7 @@
 //! `MemSink` and `MemPacks` fail exactly at the listed calls and where room is missing; `SureSource`, `SureSink` and
 //! `SurePacks` never, and `SurePacks` tells nothing more once a write or mark fell outside its images.
 //!
-//! Only tested, in `pack_rows`: worked calls, one after another.
+//! Only tested, in `drive_rows`, `picture_rows` and `hpsim_rows`: worked calls, one after another.
 #![tactic(auto)]
 
 pub mod mem_packs;

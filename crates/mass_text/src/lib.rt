@@ -4,7 +4,7 @@
 //! the pieces between spaces and tabs. `LineBuf` is the text put so far; `put_bytes` writes 1 to 512 bytes as `fill HH` exactly
 //! where all are equal, else as `hex` and two digits a byte. `numeral_law`: what is written is read again.
 //!
-//! Only tested, in `pack_rows`: worked values, beside their proofs.
+//! Only tested, in `hpsim_rows`: worked values, beside their proofs.
 //!
 //! Texts of one line. `ShortLine` is put together piece by piece; pieces of a line that is put together from its end go in front of
 //! what stands from a place on, in a room of any size, and `FrontLine` is such a line. So a number's digits, of which the last is

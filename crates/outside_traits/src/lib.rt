@@ -13,7 +13,7 @@
 //! failure leaves a front, has its cause, and keeps nothing. `try_keep` keeps a text and touches no sink, or says that it does not
 //! fit. Laws: texts put one after another are one text.
 //!
-//! Only tested, in `pack_rows`: worked values, beside their proofs.
+//! Only tested, in `hpsim_rows`: worked values, beside their proofs.
 #![tactic(auto)]
 
 mod gather;

@@ -7,8 +7,8 @@ ghost use Rattle.pack_format.specs.Formatted.{CanBeFormatted, IsFormatted, IsPar
 
 use crate::fault::FormatFault;
 use crate::survey::first_reading;
-use bad144_table::{BadTable, entries, write_table};
 use crate::testing::{Station, TestFault, test_blocks, write_copies};
+use bad144_table::{BadTable, entries, write_table};
 use outside_traits::traits::Packs;
 use pack_geometry::{DriveKind, blocks, copy_block, data_limit};
 use std::alloc::Global;

@@ -13,11 +13,11 @@
 //! is told as `Store`, texts, and that memory suffices.
 #![tactic(auto)]
 
-pub mod testing;
 mod fault;
 mod formatting;
 mod laws;
 mod survey;
+pub mod testing;
 
 pub use fault::FormatFault;
 pub use formatting::{FormatReport, format};

@@ -11,8 +11,8 @@ ghost use Rattle.pack_format.specs.Surveys.{IsFirst, IsJudged, IsRefusal, IsSurv
 ghost use Rattle.pack_geometry.specs.declared.DriveKind.{DriveKind};
 
 use crate::fault::FormatFault;
-use bad144_table::{BadTable, empty_table, insert};
 use crate::testing::{Polled, Station};
+use bad144_table::{BadTable, empty_table, insert};
 use outside_traits::traits::{Packs, StoreFailed};
 use pack_geometry::{DriveKind, copy_block, data_limit, place_of, replacement};
 

@@ -4,7 +4,7 @@
 //! word `track*256 + sector`. `place_of` and `block_of` are exact and inverse inside the geometry (`place_law`); data blocks,
 //! replacements and table copies lie apart, in this order (`apart_law`); `kind_of` is exact.
 //!
-//! Only tested, in `pack_rows`: worked values, beside their proofs.
+//! Only tested, in `drive_rows`: worked values, beside their proofs.
 #![tactic(auto)]
 
 pub mod packs;

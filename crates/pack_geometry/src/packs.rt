@@ -10,7 +10,7 @@
 //! tables and every other block's content. `table_edit_law`: the writes that list a block leave every other data block's
 //! content; `two_edits_law`: two of them come to the same in either order.
 //!
-//! Only tested, in `pack_rows`: worked values, beside their proofs.
+//! Only tested, in `hpsim_rows`: worked values, beside their proofs.
 
 ghost use Rattle.std.specs.Prelude.{◌≡◌, ◌≢◌, ◌≤◌, ◌<◌, ℕ, true, false, List, Option, Some, length};
 ghost use Rattle.pack_geometry.specs.declared.DriveKind.{DriveKind};

@@ -6,11 +6,11 @@ use crate::shows::{compare, show_block, show_commands, show_size, show_trace};
 use crate::stage::Stage;
 use crate::stops::stops;
 use crate::sweeps::{counts, each, fronts, play};
+use crate::texts::{Text, number, small_number, span, split};
 use crate::verbs::{Verb, verb_of};
 use crate::watches::add_watches;
 use hp_exercise::script_of;
 use outside_traits::traits::NoMemory;
-use crate::texts::{Text, number, small_number, span, split};
 
 /// Does what a line says with a program, and puts behind the page what is to be shown; `NoMemory` where memory runs out.
 pub fn perform<P: Program>(

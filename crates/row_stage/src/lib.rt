@@ -2,7 +2,6 @@
 //! program on them, and what is shown of that; and what rows are written with (`texts`). For tests alone: that it does no harm and ends is all that is proved.
 #![tactic(auto)]
 
-pub mod texts;
 mod directives;
 mod row_packs;
 mod scenes;
@@ -11,6 +10,7 @@ mod stage;
 mod stops;
 mod streams;
 mod sweeps;
+pub mod texts;
 mod verbs;
 mod watches;
 

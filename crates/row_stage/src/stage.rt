@@ -1,7 +1,7 @@
 // The stage on which a row is played.
 use crate::scenes::{Faults, NONE, Operation, Program, Scene, one_fault};
-use crate::watches::Watch;
 use crate::texts::Text;
+use crate::watches::Watch;
 use std::alloc::Global;
 
 /// What stands for the next steps of a row. Where memory runs out it lacks what found no room, and is short from then on.

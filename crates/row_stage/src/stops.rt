@@ -1,8 +1,8 @@
 // Runs in which each call of each operation fails in turn.
 use crate::scenes::{OPERATIONS, Operation, Program, Scene};
 use crate::stage::Stage;
-use crate::watches::{are_same, packs_amiss};
 use crate::texts::{Text, times};
+use crate::watches::{are_same, packs_amiss};
 
 /// The status of a run in which a call of an operation fails.
 fn wanted(operation: Operation) -> u8 {

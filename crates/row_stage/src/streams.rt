@@ -1,7 +1,7 @@
 // The source and the sinks of a run. They tell nothing.
 use crate::scenes::is_last;
-use outside_traits::traits::{Sink, SinkFailed, Source, SourceFailed};
 use crate::texts::Text;
+use outside_traits::traits::{Sink, SinkFailed, Source, SourceFailed};
 use std::alloc::Global;
 
 /// A source of bytes, of which one call fails, counted from 1.

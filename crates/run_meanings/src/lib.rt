@@ -3,9 +3,9 @@
 //! counts over the whole run (`counted`).
 #![tactic(auto)]
 
-pub mod counted;
 pub mod answers;
 pub mod conditions;
+pub mod counted;
 pub mod drawings;
 pub mod meanings;
 pub mod outcomes;

@@ -4,7 +4,6 @@ ghost use Rattle.outside_traits.specs.Causes.{Rose};
 ghost use Rattle.command_parts.specs.Statuses.{status_code};
 ghost use Rattle.script_commands.specs.Exercises.{Exercised, IsCutShort, IsDone, IsStopped, RunsExercise};
 
-use trace_lines::answers::Tally;
 use command_parts::Status;
 use driver_laws::rules::promises::promises_law;
 use event_player::play::{PlayFault, play};
@@ -14,6 +13,7 @@ use outside_traits::whole::write_all;
 use script_reader::meaning::meaning_law;
 use script_reader::{ReadFault, grammar_law, read_script};
 use std::alloc::Global;
+use trace_lines::answers::Tally;
 
 /// Why an exercise was not played, or not printed.
 #[derive(Clone, Copy)]

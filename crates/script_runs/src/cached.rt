@@ -12,9 +12,9 @@ ghost use Rattle.script_reader.specs.cached.Meaning.{meaning_of, statement_of};
 
 use crate::PlayFault;
 use crate::attaching::attach_unit;
-use script_reader::cached::{CachedScript, Line, Statement};
 use hp_units::UnitSetup;
 use outside_traits::traits::Packs;
+use script_reader::cached::{CachedScript, Line, Statement};
 use std::alloc::Global;
 
 /// Attaches the unit that a line declares, if it declares one.

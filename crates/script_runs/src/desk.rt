@@ -7,10 +7,10 @@ ghost use Rattle.outside_traits.specs.Gathers.{Gathers};
 ghost use Rattle.trace_lines.specs.answers.AnswerText.{block_text, block_texts};
 ghost use Rattle.script_runs.specs.Saying.{rest_text, said_text};
 
-use trace_lines::answers::{BlockLine, answer_line};
 use outside_traits::traits::{NoMemory, Sink, SinkFailed};
 use outside_traits::{Gather, gather_law};
 use std::alloc::Global;
+use trace_lines::answers::{BlockLine, answer_line};
 use trace_replay::requests::AnswerKind;
 
 /// How many bytes of answers are gathered at most.

@@ -8,7 +8,7 @@
 //! cut into blocks of 512 bytes, the last one perhaps short, in one way only, so that a read that gives such blocks has a line
 //! for each of them, one after another; the class that is said of noise is the one that `fire_code` gives it.
 //!
-//! Only tested, in `pack_rows`: worked values, beside their proofs.
+//! Only tested, in `hpsim_rows`: worked values, beside their proofs.
 //!
 //! The tally of a run: how many requests and answers it has, how many answers are ok, and the length and the sum of the answer
 //! text. `specs/` defines it of the moments of a run; the code here counts it, answer by answer and text by text.

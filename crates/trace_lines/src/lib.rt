@@ -3,7 +3,7 @@
 //! What is proved: `LineText` with `write` and `write_idle`, `idle`, and `clean_line` for a sector that moved clean: the text of
 //! each line of a trace is that of its moment. A line is put together from its end, in its own room.
 //!
-//! Only tested, in `script_rows`: worked lines, beside their proofs.
+//! Only tested, in `picture_rows`: worked lines, beside their proofs.
 #![tactic(auto)]
 
 pub mod answers;

@@ -11,9 +11,9 @@ use crate::cached::forms::entry;
 use crate::cached::kind::{CachedKind, CachedRefusal};
 use crate::cached::known::Known;
 use crate::cached::statement::{Line, Statement};
+use crate::{first_piece, without_cr};
 use mass_text::Fields;
 use script_lines::ScriptKind;
-use crate::{first_piece, without_cr};
 use std::alloc::Global;
 use std::marker::Model;
 

@@ -4,8 +4,8 @@ use Rattle.std.proofs.lemmas.Bool.Decides.{nat_tests}
 use Rattle.pack_geometry.specs.declared.DriveKind.TheVariants.{Rp06, Rm03, Rm05}
 use Rattle.partitions.specs.declared.Admission.TheVariants.{Inside, Eof, Outside}
 use Rattle.partitions.specs.Partitions.{first_of, size_of}
-use Rattle.part_rows.specs.Places.{ReplacementOffByOne, EndIsOutside, OneBlockPastTheEnd, BytesAsTheyAre, PlusForATextThatFits}
-use Rattle.part_rows.proofs.places_law.Goals as goal
+use Rattle.contract_rows.specs.tables.Places.{ReplacementOffByOne, EndIsOutside, OneBlockPastTheEnd, BytesAsTheyAre, PlusForATextThatFits}
+use Rattle.contract_rows.proofs.tables.places_law.Goals as goal
 
 off_by_one : ReplacementOffByOne
 off_by_one Rp06 i few is = omega (arith, few, is)

@@ -1,8 +1,8 @@
 use Rattle.std.proofs.Common.{◌≡◌, ℕ, ◌==◌, Bool, true, false, if◌then◌else◌, ap, arith}
 use Rattle.seek_engine.specs.declared.Position.{Position}
 use Rattle.seek_engine.specs.declared.Position.TheVariants.{Ready, Search, Seek}
-use Rattle.part_rows.specs.Registers.{LaterTryWaitsForTheSector, Search4Ahead}
-use Rattle.part_rows.proofs.registers_law.Goals as goal
+use Rattle.contract_rows.specs.tables.Registers.{LaterTryWaitsForTheSector, Search4Ahead}
+use Rattle.contract_rows.proofs.tables.registers_law.Goals as goal
 
 no_search : (here : Bool) (to cylinder sector : ℕ) → (if here then Ready else Seek to) ≡ Search cylinder sector → ⊥
 no_search true to cylinder sector is = cc is

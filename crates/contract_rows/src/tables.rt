@@ -1,9 +1,8 @@
 //! Outcomes of wrong bodies of the parts on which drives, driver and charts stand, each refused by a law, so that these crates are
 //! proved once.
-#![tactic(auto)]
 
-ghost use Rattle.part_rows.specs.Places.{ReplacementOffByOne, Rm05LimitBy22Sectors, SectorTooMany, EndIsOutside, OneBlockPastTheEnd, Rm05GByRm03, FormatBeforeTheBadSector, MarkedHeaderKeepsItsGoodBit, Rm05MarkedAsAnRp06, BytesAsTheyAre, PlusForATextThatFits};
-ghost use Rattle.part_rows.specs.Registers.{CodesOfTwoFunctionsSwapped, UnknownCodeIsNop, StatusBitMoved, OffsetForAWrite, OffsetOneFailureLate, LaterTryWaitsForTheSector, Search4Ahead};
+ghost use Rattle.contract_rows.specs.tables.Places.{ReplacementOffByOne, Rm05LimitBy22Sectors, SectorTooMany, EndIsOutside, OneBlockPastTheEnd, Rm05GByRm03, FormatBeforeTheBadSector, MarkedHeaderKeepsItsGoodBit, Rm05MarkedAsAnRp06, BytesAsTheyAre, PlusForATextThatFits};
+ghost use Rattle.contract_rows.specs.tables.Registers.{CodesOfTwoFunctionsSwapped, UnknownCodeIsNop, StatusBitMoved, OffsetForAWrite, OffsetOneFailureLate, LaterTryWaitsForTheSector, Search4Ahead};
 
 /// Of places, partitions, headers and charts this may not be said.
 pub fn places_law()
