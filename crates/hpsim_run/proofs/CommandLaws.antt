@@ -23,7 +23,7 @@ use Rattle.hpsim_run.specs.Cached.{RunsCached}
 use Rattle.script_commands.specs.Exercises.{RunsExercise}
 use Rattle.hpsim_run.specs.Statuses.{IsChangeCode, IsExerciseCode, IsStatusOf, IsToolCode}
 use Rattle.hpsim_run.specs.Tools.{RunsTool}
-use Rattle.hpsim_run.proofs.TransferLaws.{no_code}
+use Rattle.raw_command.proofs.TransferLaws.{no_code}
 
 -- what each command has done, and its statuses
 abbrev pub Does : Option Command → ℕ → Outside → Outside → Type 0

@@ -3,4 +3,4 @@ pub mod Stages
 pub mod UnitLaws
 pub mod RunLaws
 pub mod Writings
-mod TransferLaws
+pub mod TransferLaws
