@@ -3,8 +3,7 @@
 #![tactic(auto)]
 
 use hpsim_run::run;
-use row_stage::texts::Text;
-use row_stage::{Program, RowPacks, RowSink, RowSource, Stage, perform};
+use row_stage::{Program, RowPacks, RowSink, RowSource, Stage, Text, perform};
 use std::alloc::Global;
 use std::io;
 use std::io::Write;

@@ -1,5 +1,5 @@
 //! A stage on which rows are played: packs, source and sinks of which calls fail, the lines that set them up and run the commands of a
-//! program on them, and what is shown of that; and what rows are written with (`texts`). For tests alone: that it does no harm and ends is all that is proved.
+//! program on them, and what is shown of that. For tests alone: that it does no harm and ends is all that is proved.
 #![tactic(auto)]
 
 mod directives;
@@ -10,7 +10,7 @@ mod stage;
 mod stops;
 mod streams;
 mod sweeps;
-pub mod texts;
+mod texts;
 mod verbs;
 mod watches;
 
@@ -19,3 +19,4 @@ pub use row_packs::RowPacks;
 pub use scenes::Program;
 pub use stage::Stage;
 pub use streams::{RowSink, RowSource};
+pub use texts::Text;

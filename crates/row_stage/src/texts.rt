@@ -5,22 +5,22 @@ use itoa::Buffer;
 use std::alloc::Global;
 
 /// The first word of a text, and what stands behind the blank after it.
-pub fn split(text: &str) -> (&str, &str) {
+pub(crate) fn split(text: &str) -> (&str, &str) {
     text.split_once(' ').unwrap_or((text, ""))
 }
 
 /// A decimal number; 0 where it is none.
-pub fn number(text: &str) -> u64 {
+pub(crate) fn number(text: &str) -> u64 {
     text.parse::<u64>().unwrap_or(0)
 }
 
 /// The number of a unit, or a byte in decimal; 0 where it is none.
-pub fn small_number(text: &str) -> u8 {
+pub(crate) fn small_number(text: &str) -> u8 {
     text.parse::<u8>().unwrap_or(0)
 }
 
 /// The blocks of `A`, or of `A-B` with B among them: the first one, and the one behind the last.
-pub fn span(text: &str) -> (u32, u32) {
+pub(crate) fn span(text: &str) -> (u32, u32) {
     let (first, last) = text.split_once('-').unwrap_or((text, text));
     let first = first.parse::<u32>().unwrap_or(0);
     let last = last.parse::<u32>().unwrap_or(0);
@@ -68,7 +68,7 @@ impl Text {
     }
 
     /// Whether bytes found no room.
-    pub fn is_short(&self) -> bool {
+    pub(crate) fn is_short(&self) -> bool {
         self.is_short
     }
 
@@ -78,31 +78,31 @@ impl Text {
     }
 
     /// Puts bytes behind it.
-    pub fn add_bytes(&mut self, bytes: &[u8]) {
+    pub(crate) fn add_bytes(&mut self, bytes: &[u8]) {
         let added = self.bytes.extend_from_slice(bytes);
         self.is_short |= added.is_err();
     }
 
     /// Puts a text behind it.
-    pub fn add(&mut self, text: &str) {
+    pub(crate) fn add(&mut self, text: &str) {
         self.add_bytes(text.as_bytes());
     }
 
     /// Puts a text behind it, between two others.
-    pub fn add_between(&mut self, before: &str, text: &str, behind: &str) {
+    pub(crate) fn add_between(&mut self, before: &str, text: &str, behind: &str) {
         self.add(before);
         self.add(text);
         self.add(behind);
     }
 
     /// Puts a text, a number and another text behind it.
-    pub fn add_number(&mut self, before: &str, number: u64, behind: &str) {
+    pub(crate) fn add_number(&mut self, before: &str, number: u64, behind: &str) {
         let mut buffer = Buffer::new();
         self.add_between(before, buffer.format(number), behind);
     }
 
     /// Puts a text behind it, in which `%` stands for a number.
-    pub fn add_numbered(&mut self, text: &str, number: u64) {
+    pub(crate) fn add_numbered(&mut self, text: &str, number: u64) {
         match text.split_once('%') {
             Some((before, behind)) => self.add_number(before, number, behind),
             None => self.add(text),
@@ -118,7 +118,7 @@ impl Text {
     }
 
     /// Puts runs `N*HH` and bytes `HH` with blanks between them behind it.
-    pub fn add_runs(&mut self, runs: &str) {
+    pub(crate) fn add_runs(&mut self, runs: &str) {
         for run in runs.split(' ') {
             if !run.is_empty() {
                 self.add_run(run);
@@ -157,7 +157,7 @@ impl Text {
     }
 
     /// Puts a piece of text behind it: besides, `{N}` stands for the digits of a block whose bytes rise from N on.
-    pub fn add_piece(&mut self, piece: &str) {
+    pub(crate) fn add_piece(&mut self, piece: &str) {
         for part in piece.split('{') {
             self.add_part(part);
         }
@@ -170,7 +170,7 @@ impl Text {
     }
 
     /// Puts some bytes as runs behind it, each with a blank before it.
-    pub fn show_runs(&mut self, bytes: &[u8]) {
+    pub(crate) fn show_runs(&mut self, bytes: &[u8]) {
         let mut count = 0u64;
         for (at, byte) in bytes.iter().enumerate() {
             count = count.saturating_add(1);
@@ -188,7 +188,7 @@ fn stands_at(text: &[u8], place: usize, piece: &[u8]) -> bool {
 }
 
 /// How often a piece, which is not empty, stands in a text.
-pub fn times(text: &[u8], piece: &[u8]) -> u64 {
+pub(crate) fn times(text: &[u8], piece: &[u8]) -> u64 {
     let first = piece.first().copied().unwrap_or(0);
     let mut count = 0u64;
     for (place, byte) in text.iter().enumerate() {
@@ -200,6 +200,6 @@ pub fn times(text: &[u8], piece: &[u8]) -> u64 {
 }
 
 /// Whether a piece, which is not empty, stands in a text.
-pub fn holds(text: &[u8], piece: &[u8]) -> bool {
+pub(crate) fn holds(text: &[u8], piece: &[u8]) -> bool {
     times(text, piece) > 0
 }
