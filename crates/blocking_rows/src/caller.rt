@@ -1,11 +1,9 @@
 // Blocks of an RM03 are written and read back.
 ghost use Rattle.std.specs.Prelude.{◌≡◌, ◌≤◌, ◌<◌, ◌^◌, IfSome, OnOk};
-ghost use Rattle.pack_geometry.specs.TableSpelling.{IsTable};
 ghost use Rattle.driver_machine.specs.Guards.{IsSetUp};
 ghost use Rattle.blocking_io.specs.Asking.{IsReady};
 ghost use Rattle.raw_io.specs.Passes.{MayTransfer};
 
-use bad144_table::{BadTable, entries};
 use blocking_io::{Reached, ask_read, ask_write};
 use drive_model::Drive;
 use driver_laws::shown::quiet::rests_law;
@@ -16,18 +14,6 @@ use pack_geometry::DriveKind;
 use partitions::Part;
 use raw_io::{RawFault, raw_read, raw_write};
 use std::alloc::Global;
-
-/// The law of tables: each is valid.
-fn table_law(table: &Option<BadTable>)
-    ensures { IfSome table.now (λ t. IsTable t) }
-{
-    match table {
-        Some(table) => {
-            entries(table);
-        }
-        None => {}
-    }
-}
 
 /// Attaches unit 0, an RM03, with the table of its pack, and makes a driver for one request at a time. None where the pack is too long or
 /// fails, or memory is short.
@@ -41,7 +27,6 @@ pub fn attached<P: Packs>(alloc: Global, packs: &mut P) -> Option<Subsystem>
     let Ok(found) = attach(&mut drive, packs, 0) else {
         return None;
     };
-    table_law(&found.table);
     let units = [UnitSetup {
         unit: 0,
         kind: DriveKind::Rm03,

@@ -6,13 +6,14 @@ ghost use Rattle.hardware_table.specs.Functions.{attached};
 ghost use Rattle.pack_geometry.specs.declared.DriveKind.{DriveKind};
 ghost use Rattle.pack_geometry.specs.Pack.{Pack};
 ghost use Rattle.pack_geometry.specs.PackTable.{HaveSameCopies};
+ghost use Rattle.pack_geometry.specs.TableSpelling.{IsTable};
 ghost use Rattle.outside_traits.specs.Causes.{Rose};
 ghost use Rattle.mba_autoconf.specs.declared.attaching.Attached.{Attached};
 ghost use Rattle.mba_autoconf.specs.Probe.{nine_bits, type_code};
 ghost use Rattle.mba_autoconf.specs.Attach.{Answers, IsLong};
 
 use crate::probing::kind_of_drive;
-use bad144_table::{BadTable, table_of};
+use bad144_table::{BadTable, entries, table_of};
 use bitflags::Flags;
 use drive_model::Drive;
 use drive_registers::{Function, Of};
@@ -51,6 +52,18 @@ impl From<StoreFailed> for AttachFault {
     }
 }
 
+/// The law of tables: each is valid.
+fn valid_law(table: &Option<BadTable>)
+    ensures { IfSome table.now (λ t. IsTable t) }
+{
+    match table {
+        Some(table) => {
+            entries(table);
+        }
+        None => {}
+    }
+}
+
 /// Attaches a drive that is ready and online, with the pack of unit `unit`, which is below 32: PRESET and PACK, and the
 /// offset register says the 16-bit format and no offset, in every case. The kind is the one that the drive type register
 /// names, and the table is that of the first of the pack's five copies that is unmarked and spells one for that kind.
@@ -63,7 +76,7 @@ pub fn attach<P: Packs>(drive: &mut Drive, packs: &mut P, unit: u8) -> Result<At
     requires online { drive.old.online ≡ true }
     ensures drive { drive.new ≡ attached drive.old }
     ensures kind { IfOk result (λ found. found.kind ≡ drive.old.kind) }
-    ensures table_kind { IfOk result (λ found. IfSome found.table (λ table. table.kind ≡ drive.old.kind)) }
+    ensures table { IfOk result (λ found. IfSome found.table (λ table. IsTable table × (table.kind ≡ drive.old.kind))) }
     ensures answer { IsTrue (P.tells packs.new) → Answers drive.old.kind (P.held packs.old unit) result }
     ensures too_long { IfErr result (IsLong drive.old.kind) }
     ensures never_again { IsTrue (P.tells packs.new) → IsTrue (P.tells packs.old) }
@@ -80,6 +93,7 @@ pub fn attach<P: Packs>(drive: &mut Drive, packs: &mut P, unit: u8) -> Result<At
         return Err(AttachFault::TooLong { length });
     }
     let table = table_of(packs, unit, kind)?;
+    valid_law(&table);
     Ok(Attached { kind, table })
 }
 

@@ -1,30 +1,16 @@
 // The unit of a transfer is attached.
-ghost use Rattle.std.specs.Prelude.{◌≡◌, ◌≤◌, ◌<◌, IsTrue, IfOk, IfErr, IfSome, IsErrOf};
+ghost use Rattle.std.specs.Prelude.{◌≡◌, ◌≤◌, ◌<◌, IsTrue, IfOk, IfErr, IsErrOf};
 ghost use Rattle.outside_traits.specs.Causes.{Rose};
-ghost use Rattle.pack_geometry.specs.TableSpelling.{IsTable};
 ghost use Rattle.raw_command.specs.Faults.{IsOfAttaching};
 ghost use Rattle.raw_command.specs.Units.{IsAttached, IsFoundLong};
 
 use crate::fault::TransferFault;
-use bad144_table::{BadTable, entries};
 use drive_model::Drive;
 use mba_autoconf::attach;
 use outside_traits::traits::Packs;
 use pack_geometry::DriveKind;
 use raw_io::{Subsystem, UnitSetup};
 use std::alloc::Global;
-
-/// The law of tables: each is valid.
-fn table_law(table: &Option<BadTable>)
-    ensures { IfSome table.now (λ t. IsTable t) }
-{
-    match table {
-        Some(table) => {
-            entries(table);
-        }
-        None => {}
-    }
-}
 
 /// Attaches a unit, with the table of its pack, and makes a driver for it that takes one request at a time. The packs stay.
 ///
@@ -47,7 +33,6 @@ pub(crate) fn attached<P: Packs>(
 {
     let mut drive = Drive::new(kind, u16::from(unit));
     let found = attach(&mut drive, packs, unit)?;
-    table_law(&found.table);
     let units = [UnitSetup {
         unit,
         kind,

@@ -1,8 +1,7 @@
 // The units of a script are attached.
-ghost use Rattle.std.specs.Prelude.{◌≡◌, ◌≤◌, ◌<◌, ℕ, IsTrue, IfOk, IfErr, IfSome, OnOk, IsErrOf};
+ghost use Rattle.std.specs.Prelude.{◌≡◌, ◌≤◌, ◌<◌, ℕ, IsTrue, IfOk, IfErr, OnOk, IsErrOf};
 ghost use Rattle.outside_traits.specs.Causes.{Rose};
 ghost use Rattle.pack_geometry.specs.PackTable.{AreTablesOf};
-ghost use Rattle.pack_geometry.specs.TableSpelling.{IsTable};
 ghost use Rattle.script_reader.specs.Grammar.{Spells};
 ghost use Rattle.script_reader.specs.Stored.{lines_in};
 ghost use Rattle.script_lines.specs.Words.{all_verbs};
@@ -15,7 +14,6 @@ ghost use Rattle.script_runs.specs.Faults.{IsLongFor};
 ghost use Rattle.script_runs.specs.Lengths.{IsTooLong};
 
 use crate::PlayFault;
-use bad144_table::{BadTable, entries};
 use drive_model::Drive;
 use hp_units::UnitSetup;
 use mba_autoconf::{AttachFault, attach};
@@ -24,18 +22,6 @@ use pack_geometry::DriveKind;
 use script_reader::meaning::meaning_law;
 use script_reader::{Script, Statement, Stored};
 use std::alloc::Global;
-
-/// The law of tables: each is valid.
-fn table_law(table: &Option<BadTable>)
-    ensures { IfSome table.now (λ t. IsTable t) }
-{
-    match table {
-        Some(table) => {
-            entries(table);
-        }
-        None => {}
-    }
-}
 
 /// Attaches a unit, one of the 32, with the table of its pack. The packs stay.
 ///
@@ -56,14 +42,11 @@ pub(crate) fn attach_unit<P: Packs>(
 {
     let mut drive = Drive::new(kind, u16::from(unit));
     match attach(&mut drive, packs, unit) {
-        Ok(attached) => {
-            table_law(&attached.table);
-            Ok(UnitSetup {
-                unit,
-                kind,
-                table: attached.table,
-            })
-        }
+        Ok(attached) => Ok(UnitSetup {
+            unit,
+            kind,
+            table: attached.table,
+        }),
         Err(AttachFault::TooLong { length }) => Err(PlayFault::TooLong { unit, length }),
         Err(AttachFault::Store) => Err(PlayFault::Store),
     }

@@ -1,13 +1,20 @@
-use Rattle.std.proofs.Common.{ℕ, ◌≡◌, ◌*◌, ◌≤◌, ap, ◌∙◌, subst}
+use Rattle.std.proofs.Common.{ℕ, ◌≡◌, ◌*◌, ◌≤◌, Option, Some, None, ap, ◌∙◌, subst}
 use Rattle.std.specs.Prelude.{IfSome}
 use Rattle.pack_geometry.specs.declared.DriveKind.{DriveKind}
 use Rattle.pack_geometry.specs.Geometry.{block_count}
 use Rattle.pack_geometry.specs.Pack.{Pack}
 use Rattle.pack_geometry.specs.PackTable.{IsTableOf}
+use Rattle.pack_geometry.specs.TableSpelling.{IsTable}
 use Rattle.mba_autoconf.proofs.attaching.attach.Goals as goal
 
-pub returns-clause-table_kind : goal.returns-clause-table_kind
-returns-clause-table_kind g c = subst (λ (kind : DriveKind). IfSome c.in_ok-table.table (λ t. t.kind ≡ kind)) c.kind_of_drive-kind.ensures c.in_ok-table.ensures.drive
+both : {A : Type 0} (o : Option A) (P Q : A → Type 0) → IfSome o P → IfSome o Q → IfSome o (λ a. P a × Q a)
+both None P Q p q = tt
+both (Some a) P Q p q = (p, q)
+
+pub returns-clause-table : goal.returns-clause-table
+returns-clause-table g c =
+    subst (λ (kind : DriveKind). IfSome c.in_ok-table.table (λ t. IsTable t × (t.kind ≡ kind))) c.kind_of_drive-kind.ensures
+    (both _ _ _ c.valid_law.ensures c.in_ok-table.ensures.drive)
 
 pub returns-clause-answer : goal.returns-clause-answer
 returns-clause-answer g c = λ t.

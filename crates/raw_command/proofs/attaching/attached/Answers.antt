@@ -49,16 +49,16 @@ never_store : fault.Memory ≡ fault.Store → ⊥
 never_store e = cc
 
 -- a valid table of the kind of the drive is one for it
-good : (table : Option Table) (k kind : DriveKind) → k ≡ kind → IfSome table (λ t. IsTable t) → IfSome table (λ t. t.kind ≡ k) → (t : Table) → table ≡ Some t → IsTableFor kind t
-good None k kind same valid its t e = cc
-good (Some x) k kind same valid its t e =
+good : (table : Option Table) (k kind : DriveKind) → k ≡ kind → IfSome table (λ t. IsTable t × (t.kind ≡ k)) → (t : Table) → table ≡ Some t → IsTableFor kind t
+good None k kind same its t e = cc
+good (Some x) k kind same its t e =
     let here : x ≡ t = cc in
-    subst (IsTableFor kind) here (record { is = valid; for_drive = its ∙ same })
+    subst (IsTableFor kind) here (record { is = its.0; for_drive = its.1 ∙ same })
 
 pub new-requires-clause-units : goal.new-requires-clause-units
 new-requires-clause-units g c =
     are_setups c.args.unit c.args.kind c.in_ok-found.found.table c.requires.unit
-    (good _ _ _ (ap (λ d. d.kind) c.new-drive.ensures) c.table_law.ensures c.in_ok-found.ensures.table_kind)
+    (good _ _ _ (ap (λ d. d.kind) c.new-drive.ensures) c.in_ok-found.ensures.table)
 
 pub returns-in_err-found : goal.returns-in_err-found
 returns-in_err-found g c =
@@ -97,7 +97,7 @@ returns g c =
       attached = record {
         table = c.in_ok-found.found.table;
         made = c.in_ok-subsystem.ensures;
-        good = good _ _ _ kind_is c.table_law.ensures h.table_kind;
+        good = good _ _ _ kind_is h.table;
         fits = λ t. subst (λ (d : DriveKind). Fits d (g.P.Packs.held c.args.packs.now c.args.unit)) kind_is (h.answer t).0;
         is = λ t. subst (λ (d : DriveKind). IsTableOf d (g.P.Packs.held c.args.packs.now c.args.unit) c.in_ok-found.found.table) kind_is (h.answer t).1;
       };
