@@ -29,7 +29,6 @@ pub mod SlotsLists
 pub mod Frames
 pub mod Changed
 pub mod Hand
-pub mod KindStays
 pub mod SlotsDeedFacts
 pub mod SlotsSector
 pub mod SlotsArrive

@@ -2,4 +2,5 @@ pub mod Measure
 pub mod DueFacts
 pub mod Falls
 pub mod Frame
+pub mod KindStays
 pub mod Until

@@ -1,7 +1,8 @@
 // The status of each end, in the working folder.
-use hpsim_run::{TRACE_NAME, end_status, words_of};
+use hpsim_run::end_status;
 use outside_files::file_sink::FileSink;
 use outside_files::os_folder::OsFolder;
+use outside_files::start::{TRACE_NAME, words_of};
 use std::alloc::Global;
 use std::os::unix::fs::{FileExt, symlink};
 use std::{fs, io};

@@ -2,10 +2,10 @@
 //! `hpsim_run::end_status`. Only tested: its stored run, with real streams and files.
 #![tactic(auto)]
 
-use hpsim_run::{TRACE_NAME, end_status, words_of};
+use hpsim_run::end_status;
 use outside_files::file_sink::FileSink;
 use outside_files::os_folder::OsFolder;
-use outside_files::start::{null_device, words};
+use outside_files::start::{TRACE_NAME, null_device, words, words_of};
 use std::alloc::Global;
 use std::io;
 use std::process::ExitCode;

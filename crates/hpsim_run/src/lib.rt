@@ -16,4 +16,4 @@ mod program;
 
 pub use command::run;
 pub use command_parts::Status;
-pub use program::{TRACE_NAME, end_status, words_of};
+pub use program::end_status;

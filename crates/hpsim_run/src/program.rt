@@ -1,5 +1,4 @@
-ghost use Rattle.std.specs.Prelude.{◌≡◌, ◌≢◌, ◌⊎◌, true, [], None, Some, is_some, IfSome, IfOk, IfErr};
-ghost use Rattle.std.specs.IoError.{error_kind};
+ghost use Rattle.std.specs.Prelude.{◌≡◌, ◌⊎◌, None, IfSome};
 ghost use Rattle.command_parts.specs.Statuses.{status_code};
 ghost use Rattle.hpsim_run.specs.Statuses.{IsStatusOf};
 ghost use Rattle.hpsim_run.specs.Passes.{command_of as the_command};
@@ -12,26 +11,7 @@ use outside_files::streams::{StdSink, StdSource};
 use outside_traits::traits::Sink;
 use pack_windows::window_packs::WindowPacks;
 use std::alloc::Global;
-use std::io;
-use std::io::{ErrorKind, Read, Write};
-
-/// The file of the trace, in the working folder.
-pub const TRACE_NAME: &str = "hp.trace";
-
-/// The words of a command, as they were had: there are none where one of them is not text, which is no command, and `None` where
-/// there was no memory for them.
-pub fn words_of(alloc: Global, words: io::Result<Vec<String>>) -> Option<Vec<String>>
-    ensures text { IfOk words (λ list. result ≡ Some list) }
-    ensures no_memory { IfErr words (λ error. error_kind error ≡ ErrorKind.OutOfMemory → result ≡ None) }
-    ensures no_text { IfErr words (λ error. error_kind error ≢ ErrorKind.OutOfMemory → is_some result ≡ true) }
-    ensures none { IfErr words (λ _. IfSome result (λ list. list.items ≡ [])) }
-{
-    match words {
-        Ok(words) => Some(words),
-        Err(error) if error.kind() == ErrorKind::OutOfMemory => None,
-        Err(_) => Some(Vec::new(alloc)),
-    }
-}
+use std::io::{Read, Write};
 
 /// The status of the command that the words name, over the packs in the files of a folder, with the script from a reader, the
 /// answers to a writer and the trace to a sink: that of `crate::run`, and 9 where there was no memory for the words or for what

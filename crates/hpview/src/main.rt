@@ -2,8 +2,8 @@
 //! `hpview_run::end_status`. Only tested: its stored run, with real streams and files.
 #![tactic(auto)]
 
-use hpview_run::{TRACE_NAME, end_status, words_of};
-use outside_files::start::{null_device, words};
+use hpview_run::end_status;
+use outside_files::start::{TRACE_NAME, null_device, words, words_of};
 use std::alloc::Global;
 use std::fs::File;
 use std::io;

@@ -16,5 +16,5 @@ mod trace_source;
 mod words;
 
 pub use command::view;
-pub use program::{TRACE_NAME, end_status, words_of};
+pub use program::end_status;
 pub use status::Status;

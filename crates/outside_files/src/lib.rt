@@ -4,8 +4,8 @@
 //! What is proved: sources and sinks hand on just what is behind them, and count each failure once; where that is known to tell,
 //! they tell. Packs over a folder that tells are packs that tell, though each of its calls may be short or interrupted, up to a
 //! write that failed when a part of it had gone out. What is below that, three calls on the working folder (`os_folder`), the file
-//! that a sink makes, and what a program begins with (`start`), tells nothing and is only tested, in `pack_rows` and by the programs'
-//! stored runs.
+//! that a sink makes, and what a program begins with (`start`, but for what its words come to), tells nothing and is only tested, in
+//! `pack_rows` and by the programs' stored runs.
 #![tactic(auto)]
 
 pub mod file_sink;

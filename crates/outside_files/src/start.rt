@@ -1,9 +1,16 @@
 // What a program begins with.
-use std::alloc::AllocGlobal;
+ghost use Rattle.std.specs.Prelude.{◌≡◌, ◌≢◌, true, [], None, Some, is_some, IfSome, IfOk, IfErr};
+ghost use Rattle.std.specs.IoError.{error_kind};
+
+use std::alloc::{AllocGlobal, Global};
 use std::env::{self, Env};
 use std::fs::OpenOptions;
 use std::io;
+use std::io::ErrorKind;
 use std::rt::Files;
+
+/// The file of the trace, in the working folder.
+pub const TRACE_NAME: &str = "hp.trace";
 
 /// A handle of the device that is empty and takes all. While a program holds three of them no file that it opens has the number of a
 /// standard stream that was closed before it began: what is printed would go to that file, a pack's perhaps. An error where it can't be
@@ -21,4 +28,19 @@ pub fn words<R: Env + AllocGlobal>(rt: &R) -> io::Result<Vec<String>> {
         words.push(word)?;
     }
     Ok(words)
+}
+
+/// The words of a command, as they were had: there are none where one of them is not text, which is no command, and `None` where
+/// there was no memory for them.
+pub fn words_of(alloc: Global, words: io::Result<Vec<String>>) -> Option<Vec<String>>
+    ensures text { IfOk words (λ list. result ≡ Some list) }
+    ensures no_memory { IfErr words (λ error. error_kind error ≡ ErrorKind.OutOfMemory → result ≡ None) }
+    ensures no_text { IfErr words (λ error. error_kind error ≢ ErrorKind.OutOfMemory → is_some result ≡ true) }
+    ensures none { IfErr words (λ _. IfSome result (λ list. list.items ≡ [])) }
+{
+    match words {
+        Ok(words) => Some(words),
+        Err(error) if error.kind() == ErrorKind::OutOfMemory => None,
+        Err(_) => Some(Vec::new(alloc)),
+    }
 }

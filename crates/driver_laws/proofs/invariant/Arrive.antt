@@ -14,6 +14,7 @@ use Rattle.driver_machine.specs.Acts as deed
 use Rattle.driver_machine.specs.Sound.{IsDrive, IsGoal, IsPhase, IsClear, IsMoving}
 use Rattle.driver_machine.specs.World.{UnitView, AdapterView, Held, drive_of}
 use Rattle.driver_machine.specs.Guards.{May}
+use Rattle.driver_machine.proofs.KindStays.{arrived_kind}
 use Rattle.driver_laws.proofs.invariant.Drives.{drive_arrived}
 use Rattle.driver_laws.proofs.invariant.Scene.{SceneOk, phase_is, same_ask, begun_as}
 use Rattle.driver_laws.proofs.invariant.AdapterLeft.{SceneAdapter, AdapterLeft, state_left, is_transferring, not_transferring}
@@ -59,11 +60,6 @@ moving_arrived work.Ready d goal c = absurd goal
 moving_arrived (work.Transfer write) d goal c = absurd goal
 moving_arrived (work.Positioning cylinder sector) d goal c = record { either = inr (refl, refl); clear = record { er1 = c.er1; er2 = c.er2 } }
 
-pub kind_arrived : (k : Work) (d : DriveState) → (arrived_from k d).kind ≡ d.kind
-kind_arrived work.Ready d = refl
-kind_arrived (work.Transfer write) d = refl
-kind_arrived (work.Positioning cylinder sector) d = refl
-
 attention_arrived : (k : Work) (d : DriveState) → IsGoal d.kind k → (arrived_from k d).attention ≡ true
 attention_arrived work.Ready d goal = absurd goal
 attention_arrived (work.Transfer write) d goal = absurd goal
@@ -78,7 +74,7 @@ arrive_phase line u p s ok on =
     let is : IsPhase u s.unit s.adapter s.held (Positioning at.0) = phase_is u s (Positioning at.0) ok at.1 in
     let goal = arriving_goal u s ok on in
     subst (IsPhase u x a s.held) (sym at.1) (
-      begun_as s.unit x s.held s.held is.0 refl refl (kind_arrived s.unit.drive.work s.unit.drive) (same_ask s.held),
+      begun_as s.unit x s.held s.held is.0 refl refl (arrived_kind s.unit.drive) (same_ask s.held),
       moving_arrived s.unit.drive.work s.unit.drive goal.0 is.1.clear,
       is.2,
     )

@@ -28,6 +28,7 @@ use Rattle.driver_machine.specs.Acts.{Tried, Scene, effect}
 use Rattle.driver_machine.specs.Sound.{IsDrive, IsPhase, IsClear, IsUnderWay, IsEndedAt, IsBurstAt, IsFor, late_by}
 use Rattle.driver_machine.specs.World.{Held, transfer_of, drive_of, with_block_in}
 use Rattle.driver_machine.specs.Guards.{May, IsBusyFor}
+use Rattle.driver_machine.proofs.KindStays.{stepped_kind}
 use Rattle.driver_laws.proofs.invariant.Drives.{by_if, drive_after_step}
 use Rattle.driver_laws.proofs.invariant.Scene.{SceneOk, phase_is, same_ask, begun_as, block_below, effect_ask}
 use Rattle.driver_laws.proofs.invariant.DeedFacts.{transfer_at}
@@ -63,11 +64,6 @@ moved_same verdict.Hard block d = same_but
 moved_same verdict.Marked block d = marked_same d.kind d
 moved_same (verdict.Faulted kind) block d = faulted_same kind d
 moved_same verdict.Offline block d = same_but
-
-pub kind_stepped : (v : Moved) (a : AdapterState) (d : DriveState) → (drive_stepped v a d).kind ≡ d.kind
-kind_stepped v a d =
-    let same = (moved_same v (next_block a) d).kind in
-    by_if (stepped v a).completion (λ (x : DriveState). x.kind ≡ d.kind) (transfer_ended (after_move v (next_block a) d)) (after_move v (next_block a) d) same same
 
 attention_stepped : (v : Moved) (a : AdapterState) (d : DriveState) → (drive_stepped v a d).attention ≡ d.attention
 attention_stepped v a d =
@@ -169,7 +165,7 @@ sector_phase line u p block t s ok may =
     let is : IsPhase u s.unit s.adapter s.held Transferring = phase_is u s Transferring ok has.phase in
     let step = is_step t.verdict s.adapter.state in
     subst (IsPhase u x a s.held) (sym has.phase) (
-      begun_as s.unit x s.held s.held is.0 refl refl (kind_stepped t.verdict s.adapter.state s.unit.drive) (same_ask s.held),
+      begun_as s.unit x s.held s.held is.0 refl refl (stepped_kind t.verdict s.adapter.state s.unit.drive) (same_ask s.held),
       way_stepped t.verdict s.adapter.state s.unit.drive may.completion is.1,
       step.busy ∙ may.busy,
       step.drive ∙ may.drive,

@@ -6,7 +6,7 @@ use Rattle.driver_machine.specs.Guards.{May}
 use Rattle.driver_machine.specs.Acts as deed
 use Rattle.driver_machine.specs.Acts.{Scene, effect}
 use Rattle.driver_laws.proofs.invariant.Hand.{Keeps, Fits}
-use Rattle.driver_laws.proofs.invariant.KindStays.{stepping_kind}
+use Rattle.driver_machine.proofs.KindStays.{stepping_kind}
 use Rattle.driver_laws.proofs.invariant.SlotsDeedFacts.{kept, not_transferring, rests}
 
 pub do_keeps : (line u p : ℕ) (step : RetryStep) (taken : ℕ) (s : Scene) → Keeps s (effect line u p (deed.Do step taken) s)

@@ -23,7 +23,7 @@ use Rattle.driver_machine.specs.Refusals.{refuses}
 use Rattle.driver_machine.specs.Sound.{Sound}
 use Rattle.driver_laws.specs.invariant.Parts.{IsServed, AreSlots, AreFrames, AreAnswers}
 use Rattle.driver_laws.proofs.invariant.Changed.{AreParts}
-use Rattle.driver_laws.proofs.invariant.KindStays.{online_kind}
+use Rattle.driver_machine.proofs.KindStays.{online_kind}
 use Rattle.driver_laws.proofs.invariant.Hand.{slot_ok, own, deed_parts}
 use Rattle.driver_laws.proofs.invariant.SlotsEachDeed.{GoesOn, deed_keeps, deed_fits}
 use Rattle.driver_laws.proofs.invariant.SlotsEnd.{end_parts}

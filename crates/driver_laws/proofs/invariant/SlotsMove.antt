@@ -6,7 +6,7 @@ use Rattle.driver_machine.specs.Guards.{May}
 use Rattle.driver_machine.specs.Acts as deed
 use Rattle.driver_machine.specs.Acts.{Scene, effect}
 use Rattle.driver_laws.proofs.invariant.Hand.{Keeps, Fits}
-use Rattle.driver_laws.proofs.invariant.KindStays.{transferring_kind}
+use Rattle.driver_machine.proofs.KindStays.{transferring_kind}
 use Rattle.driver_laws.proofs.invariant.SlotsDeedFacts.{kept_held}
 
 pub move_keeps : (line u p : ℕ) (write : Bool) (segment : Segment) (s : Scene) → Keeps s (effect line u p (deed.Move write segment) s)

@@ -1,34 +1,23 @@
 -- Each act keeps what holds of the drive, the table and the phase of each unit.
 use Rattle.std.proofs.Common.{◌≡◌, inl, inr, ℕ, ◌<◌, Bool, true, false, List, get_or-set_same, get_or-set_other, refl, sym, ap, ◌∙◌, subst, arith}
-use Rattle.std.specs.Prelude.{◌==◌, slice_index_or}
+use Rattle.std.specs.Prelude.{slice_index_or}
 use Rattle.std.proofs.lemmas.Bool.{cases_eq, false≢true}
-use Rattle.pack_geometry.specs.Geometry.{place_at}
-use Rattle.drive_registers.specs.declared.Function.{Function}
-use Rattle.drive_registers.specs.declared.Function.TheVariants as function
-use Rattle.drive_registers.specs.Codes.{function_code, offset_code}
-use Rattle.hardware_table.specs.declared.Register.TheVariants as register
-use Rattle.hardware_table.specs.Drive.{DriveState, with_register}
-use Rattle.hardware_table.specs.Functions.{effect, refusals, refused, performed}
+use Rattle.hardware_table.specs.Drive.{DriveState}
 use Rattle.hardware_table.specs.Events.{turned, fault_armed, online_set, locked_set}
 use Rattle.hardware_table.specs.Adapter.{AdapterState}
 use Rattle.hardware_table.specs.declared.FaultKind.{FaultKind}
 use Rattle.disksort.specs.declared.Waiter.{Waiter}
-use Rattle.trace_replay.specs.Drives.{addressed, search_place, offset_written, transfer_function}
-use Rattle.driver_machine.specs.declared.RetryStep.{RetryStep}
-use Rattle.driver_machine.specs.declared.RetryStep.TheVariants.{Recalibrate, Seek, Offset}
 use Rattle.driver_machine.specs.declared.Task.{Task}
 use Rattle.driver_machine.specs.declared.Task.TheVariants.{Clear, Judge, Steps, Command, GiveUp}
 use Rattle.driver_machine.specs.declared.Phase.{Phase}
 use Rattle.driver_machine.specs.declared.Phase.TheVariants.{Waiting, Positioning, Queued, Transferring, Due}
 use Rattle.driver_machine.specs.World.{World, UnitView, AdapterView, Held, no_unit, new_adapter_view, adapter_of, unit_at, adapter_at, slot_at, held_in, slot_in_hand}
 use Rattle.driver_machine.specs.Acts as deed
-use Rattle.driver_machine.specs.Acts.{Of, Deed, Scene, scene_of, with_scene, stepping, with_drive, with_unit_drive, after}
+use Rattle.driver_machine.specs.Acts.{Of, Deed, Scene, scene_of, with_scene, with_drive, with_unit_drive, after}
 use Rattle.driver_machine.specs.Guards.{InHand, May}
 use Rattle.driver_machine.specs.Sound.{IsDrive, IsBegun, IsPhase, IsTask, IsClear, IsStill, IsGoal, IsMoving, IsUnderWay, IsTableFor, Sound, is_waiting}
-use Rattle.driver_laws.proofs.invariant.Drives.{by_if}
+use Rattle.driver_machine.proofs.Frame.{effect_same}
 use Rattle.driver_laws.proofs.invariant.Scene.{SceneOk, same_ask, begun_as}
-use Rattle.driver_laws.proofs.invariant.Arrive.{kind_arrived}
-use Rattle.driver_laws.proofs.invariant.Sector.{kind_stepped}
 use Rattle.driver_laws.proofs.invariant.EachDeed.{own_phase, own_drive}
 use Rattle.driver_laws.proofs.invariant.Others.{LeavesOthers, alone}
 use Rattle.driver_laws.proofs.invariant.Frame.{Changed, HasTable, held_is, phase_for, phase_stays, drive_stays, table_stays, scene_ok, adapter_here, unit_here, slot_here}
@@ -46,46 +35,11 @@ each_kept w now u x s c own lt = elim (cases_eq x u) [
 ]
 
 -- A DEED keeps the table and the kind of its unit, and the slot in hand unless the unit waits then.
-effect_kind : (f : Function) (d : DriveState) → (effect f d).kind ≡ d.kind
-effect_kind function.Nop d = refl
-effect_kind function.Seek d = refl
-effect_kind function.Recal d = refl
-effect_kind function.Clear d = refl
-effect_kind function.Offset d = refl
-effect_kind function.Centre d = refl
-effect_kind function.Preset d = refl
-effect_kind function.Pack d = refl
-effect_kind function.Search d = refl
-effect_kind function.Write d = refl
-effect_kind function.WriteHeader d = refl
-effect_kind function.Read d = refl
-
-performed_kind : (f : Function) (d : DriveState) → (performed f d).kind ≡ d.kind
-performed_kind f d =
-    by_if (refusals f d == 0) (λ (e : DriveState). e.kind ≡ d.kind) (effect f (record d { cs1 = function_code f }))
-    (refused (refusals f d) (record d { cs1 = function_code f })) (effect_kind f (record d { cs1 = function_code f })) refl
-
-stepping_kind : (step : RetryStep) (d : DriveState) → (stepping step d).kind ≡ d.kind
-stepping_kind Recalibrate d = performed_kind function.Recal d
-stepping_kind (Seek cylinder) d = performed_kind function.Seek (with_register register.Dc cylinder d)
-stepping_kind (Offset code) d = performed_kind function.Offset (offset_written (offset_code code) d)
-
 pub deed_kind : (line u p : ℕ) (d : Deed) (s : Scene) → (deed.effect line u p d s).unit.drive.kind ≡ s.unit.drive.kind
-deed_kind line u p deed.Arrive s = kind_arrived s.unit.drive.work s.unit.drive
-deed_kind line u p (deed.Sector block t) s = kind_stepped t.verdict s.adapter.state s.unit.drive
-deed_kind line u p (deed.Search target sector) s =
-    performed_kind function.Search (addressed (search_place target.cylinder sector target) s.unit.drive)
-deed_kind line u p (deed.Do step taken) s = stepping_kind step s.unit.drive
-deed_kind line u p (deed.Move write segment) s =
-    performed_kind (transfer_function write) (addressed (place_at s.unit.drive.kind segment.block) s.unit.drive)
-deed_kind line u p deed.Pack s = refl
-deed_kind line u p (deed.Dclr moved last) s = refl
-deed_kind line u p deed.Rtc s = refl
-deed_kind line u p other s = refl
+deed_kind line u p d s = (effect_same line u p d s).kind
 
 deed_table : (line u p : ℕ) (d : Deed) (s : Scene) → (deed.effect line u p d s).unit.table ≡ s.unit.table
-deed_table line u p deed.Pack s = refl
-deed_table line u p other s = refl
+deed_table line u p d s = (effect_same line u p d s).table
 
 pub deed_hand : (line u p : ℕ) (d : Deed) (s : Scene) → is_waiting (deed.effect line u p d s).unit.phase ≡ false
     → slot_in_hand (deed.effect line u p d s).unit ≡ slot_in_hand s.unit

@@ -11,7 +11,7 @@ use Rattle.driver_machine.specs.Acts.{Act, Refuse, Submit, Of, Change, Nothing, 
 use Rattle.driver_machine.specs.Guards.{Allowed}
 use Rattle.driver_machine.specs.Sound.{Sound}
 use Rattle.driver_machine.proofs.Frame.{effect_same}
-use Rattle.driver_laws.proofs.invariant.KindStays.{online_kind}
+use Rattle.driver_machine.proofs.KindStays.{online_kind}
 
 pub record IsSameUnit (v x : UnitView) : Type 0 where
   pub declared : x.declared ≡ v.declared

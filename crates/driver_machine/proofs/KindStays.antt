@@ -1,4 +1,4 @@
--- The kind of a drive never changes, whatever it is made to do.
+-- THE KIND of a drive never changes, whatever it is made to do.
 use Rattle.std.proofs.Common.{◌≡◌, ℕ, Bool, true, false, refl}
 use Rattle.std.specs.Prelude.{if◌then◌else◌, ◌==◌}
 use Rattle.pack_geometry.specs.declared.DriveKind.{DriveKind}
@@ -20,7 +20,7 @@ use Rattle.hardware_table.specs.Functions.{effect, refusals, refused, performed}
 use Rattle.hardware_table.specs.Events.{arrived, arrived_from, transfer_ended, online_set}
 use Rattle.hardware_table.specs.Moves.{after_move, with_mark_bits, with_fault_bits, fault_used}
 use Rattle.hardware_table.specs.Adapter.{AdapterState, drive_stepped, stepped, next_block}
-use Rattle.trace_replay.specs.Drives.{addressed, search_place, offset_written, transfer_function}
+use Rattle.driver_machine.specs.Passes.{addressed, search_place, offset_written, transfer_function}
 use Rattle.driver_machine.specs.declared.RetryStep.{RetryStep}
 use Rattle.driver_machine.specs.declared.RetryStep.TheVariants.{Recalibrate, Seek, Offset}
 use Rattle.driver_machine.specs.Acts.{stepping, searching, transferring, centred}
@@ -48,7 +48,7 @@ performed_kind f d =
     either (λ (e : DriveState). e.kind ≡ d.kind) (refusals f d == 0) (effect f (record d { cs1 = function_code f }))
     (refused (refusals f d) (record d { cs1 = function_code f })) (effect_kind f (record d { cs1 = function_code f })) refl
 
-arrived_by : (w : Work) (d : DriveState) → (arrived_from w d).kind ≡ d.kind
+pub arrived_by : (w : Work) (d : DriveState) → (arrived_from w d).kind ≡ d.kind
 arrived_by work.Ready d = refl
 arrived_by (work.Transfer write) d = refl
 arrived_by (work.Positioning cylinder sector) d = refl
