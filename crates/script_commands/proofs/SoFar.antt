@@ -1,23 +1,24 @@
 -- The laws of legal beginnings, of the moments that a script came to before it stopped.
-use Rattle.std.proofs.Common.{◌≡◌, ◌⊎◌, inl, inr, ℕ, ◌+◌, ◌==◌, ◌||◌, Bool, true, false, All, List, [], ◌∷◌, ◌++◌, Option, Some, None, refl, sym, ap, subst, arith, ◌∙◌, append-nil, append_assoc}
+use Rattle.std.proofs.Common.{◌≡◌, ◌⊎◌, inl, inr, ℕ, ◌+◌, ◌==◌, ◌||◌, Bool, true, false, All, List, [], ◌∷◌, ◌++◌, Option, refl, sym, ap, subst, arith, ◌∙◌, append-nil, append_assoc}
 use Rattle.std.specs.List.{list_any}
 use Rattle.std.proofs.lemmas.List.Elements.{All-head, All-tail}
 use Rattle.pack_geometry.specs.declared.DriveKind.{DriveKind}
 use Rattle.pack_geometry.specs.Pack.{Pack}
 use Rattle.pack_geometry.specs.PackTable.{AreTablesOf}
 use Rattle.pack_geometry.specs.TableSpelling.{Table}
-use Rattle.trace_replay.specs.requests.Requests.{Request, Answer, IsRequest}
-use Rattle.trace_replay.specs.Script.{Script, Input, Submit, ArriveAt, MoveAt, AttendTo, Drain, Turn, Noise, Arm, SetOnline, SetLocked, Statement, Declares, Plays, Line, Numbered, with_input, inputs_before, drives_of, IsThere, IsInput, IsStatement, IsScript, AreApart}
+use Rattle.trace_replay.specs.requests.Requests.{Answer}
+use Rattle.trace_replay.specs.Script.{Script, Input, Submit, ArriveAt, MoveAt, AttendTo, Drain, Turn, Noise, Arm, SetOnline, SetLocked, Statement, Declares, Plays, Line, Numbered, with_input, inputs_before, drives_of, IsInput, IsStatement, IsScript, AreApart}
 use Rattle.trace_replay.specs.Moments.{Moment, Played, Told, Idle, End, played}
 use Rattle.trace_replay.specs.Packs.{surface_of}
 use Rattle.trace_replay.specs.Replay.{Follows, after_moments}
-use Rattle.trace_replay.specs.Causes.{AsksSome, AskSome}
+use Rattle.trace_replay.specs.Causes.{AskSome}
 use Rattle.trace_replay.specs.Runs.{start_of}
 use Rattle.trace_replay.proofs.Following.{follow_on}
 use Rattle.trace_replay.proofs.Explained.{are_explained}
 use Rattle.driver_laws.proofs.rules.Commands.{ends_are_bounded}
 use Rattle.driver_laws.specs.rules.LegalAnswers.{ids_asked, with_asked}
 use Rattle.driver_laws.specs.rules.Stands.{AreGiven}
+use Rattle.driver_laws.proofs.rules.Kept.{input_asks}
 use Rattle.driver_laws.proofs.rules.MachineRuns.{each_beginning, script_ids}
 use Rattle.event_player.specs.PlayFault.{PlayFault}
 use Rattle.event_player.specs.PlayFault.TheVariants as faults
@@ -59,22 +60,6 @@ moments_good drives [] all = tt
 moments_good drives (Played line input ∷ ms) all = (all.0, moments_good drives ms all.1)
 moments_good drives (Told line unit id deed ∷ ms) all = (tt, moments_good drives ms all)
 moments_good drives (Idle line ∷ ms) all = (tt, moments_good drives ms all)
-
-there_asks : (drive : Option DriveKind) (r : Request) → IsThere drive (λ kind. IsRequest r) → AsksSome (Submit r)
-there_asks None r is = absurd is
-there_asks (Some kind) r is = is.some
-
-input_asks : (drives : ℕ → Option DriveKind) (input : Input) → IsInput drives input → AsksSome input
-input_asks drives (Submit r) is = there_asks (drives r.unit) r is
-input_asks drives (ArriveAt u) is = tt
-input_asks drives (MoveAt a) is = tt
-input_asks drives (AttendTo a) is = tt
-input_asks drives Drain is = tt
-input_asks drives (Turn u y) is = tt
-input_asks drives (Noise n) is = tt
-input_asks drives (Arm u k n) is = tt
-input_asks drives (SetOnline u on) is = tt
-input_asks drives (SetLocked u on) is = tt
 
 moments_ask : (drives : ℕ → Option DriveKind) (ms ns : List Moment) → AllGood drives (played (ms ++ ns)) → AskSome ms
 moments_ask drives [] ns all = tt

@@ -1,8 +1,7 @@
 -- A request that a line of the script submits: a slot and frames are there for it, and the run goes on.
-use Rattle.std.proofs.Common.{◌≡◌, inl, inr, ℕ, zero, suc, ◌+◌, ◌<◌, ◌≤◌, ◌==◌, ◌||◌, Bool, true, false, filter, List, [], ◌∷◌, ◌++◌, length, Option, Some, None, refl, sym, ap, subst, arith, ◌∙◌}
-use Rattle.std.specs.Prelude.{Contains, is_some, if◌then◌else◌}
+use Rattle.std.proofs.Common.{◌≡◌, inl, ℕ, ◌+◌, ◌<◌, ◌≤◌, ◌==◌, Bool, true, false, List, [], ◌∷◌, ◌++◌, length, Option, Some, None, refl, sym, ap, subst, arith, ◌∙◌}
+use Rattle.std.specs.Prelude.{Contains, is_some}
 use Rattle.std.specs.List.{list_any}
-use Rattle.std.proofs.lemmas.Bool.Decides.{eqb_tells, nat_tests}
 use Rattle.std.proofs.lemmas.Option.{none-some}
 use Rattle.pack_geometry.specs.declared.DriveKind.{DriveKind}
 use Rattle.pack_geometry.specs.Pack.{Pack}
@@ -14,6 +13,7 @@ use Rattle.trace_replay.specs.Packs.{surface_of}
 use Rattle.trace_replay.specs.Replay.{Replay, all_units, after_moments}
 use Rattle.trace_replay.specs.Runs.{start_of}
 use Rattle.driver_laws.specs.rules.Drains.{IsOf}
+use Rattle.driver_laws.proofs.rules.Runs.{all_from, from_any, filter_any}
 use Rattle.trace_replay.specs.declared.requests.answers.AnswerKind.{AnswerKind}
 use Rattle.driver_machine.specs.World.{World, Held, unit_at}
 use Rattle.driver_machine.specs.Acts.{Act, after_all}
@@ -43,53 +43,6 @@ use Rattle.script_runs.proofs.Rooms.{room_behind}
 use Rattle.script_runs.proofs.Places.{places_exist}
 
 -- THE UNIT of a request that is set up is one of those that are there.
-abbrev from : ℕ → ℕ → List ℕ
-from at zero = []
-from at (suc n) = at ∷ from (at + 1) n
-
-all_from : all_units ≡ from 0 32
-all_from = refl
-
-or_true : (b c : Bool) → c ≡ true → b || c ≡ true
-or_true true c is = refl
-or_true false c is = is
-
-first_true : (b c : Bool) → b ≡ true → b || c ≡ true
-first_true true c is = refl
-first_true false c is = absurd (cc is)
-
-from_any : (n start k : ℕ) → start ≤ k → k < start + n → list_any (λ x. x == k) (from start n) ≡ true
-from_any zero start k low high = absurd (omega (arith, low, high))
-from_any (suc n) start k low high = elim (eqb_tells start k) [
-  | inl same ↦ first_true (start == k) (list_any (λ x. x == k) (from (start + 1) n)) same.0
-  | inr other ↦ or_true (start == k) (list_any (λ x. x == k) (from (start + 1) n)) (from_any n (start + 1) k (next start k low (unequal start k other.0)) (omega (arith, high)))
-]
-  where
-    next : (a b : ℕ) → a ≤ b → (a ≡ b → ⊥) → a + 1 ≤ b
-    next a b le ne = omega arith
-
-    unequal : (a c : ℕ) → a == c ≡ false → a ≡ c → ⊥
-    unequal a c h e = grind (arith, nat_tests)
-
-filter_any : (p : ℕ → Bool) (k : ℕ) (xs : List ℕ) → p k ≡ true → list_any (λ x. x == k) xs ≡ true → list_any (λ x. x == k) (filter p xs) ≡ true
-filter_any p k [] is any = any
-filter_any p k (x ∷ xs) is any = elim (eqb_tells x k) [
-  | inl same ↦ here (p x) (subst (λ z. p z ≡ true) (sym same.1) is) same.0
-  | inr other ↦ there (p x) (filter_any p k xs is (not_first (x == k) (list_any (λ y. y == k) xs) other.0 any))
-]
-  where
-    not_first : (b c : Bool) → b ≡ false → b || c ≡ true → c ≡ true
-    not_first true c off or = absurd (cc off)
-    not_first false c off or = or
-
-    here : (b : Bool) → b ≡ true → x == k ≡ true → list_any (λ y. y == k) (if b then x ∷ filter p xs else filter p xs) ≡ true
-    here true on same = first_true (x == k) (list_any (λ y. y == k) (filter p xs)) same
-    here false on same = absurd (cc on)
-
-    there : (b : Bool) → list_any (λ y. y == k) (filter p xs) ≡ true → list_any (λ y. y == k) (if b then x ∷ filter p xs else filter p xs) ≡ true
-    there true rest = or_true (x == k) (list_any (λ y. y == k) (filter p xs)) rest
-    there false rest = rest
-
 some_by : (drive : Option DriveKind) (declared : Bool) → (drive ≡ None → declared ≡ false) → declared ≡ true → is_some drive ≡ true
 some_by None declared others on = absurd (cc (others refl, on))
 some_by (Some kind) declared others on = refl

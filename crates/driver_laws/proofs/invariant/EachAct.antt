@@ -75,25 +75,25 @@ joined_head x d (y ∷ ys) order some =
     ap (λ (q : List Waiter). slice_index_or q 0 d) (queue_with-head (λ (z : Waiter). z.cylinder) x y ys order)
 
 module _ (w : World) (line p : ℕ) (h : Held) (s : Sound w) (is : IsNew w p h) where
-  abbrev old : UnitView
+  abbrev pub old : UnitView
   old = unit_at w h.unit
 
-  abbrev now : World
+  abbrev pub now : World
   now = after w (Submit line p h)
 
-  abbrev new : UnitView
+  abbrev pub new : UnitView
   new = joined p h old
 
   lt : h.unit < 32
   lt = is.unit.unit
 
-  goes_slot : (x : ℕ) → x < 32 → is_waiting (unit_at w x).phase ≡ false → slot_at now (slot_in_hand (unit_at w x)) ≡ slot_at w (slot_in_hand (unit_at w x))
+  pub goes_slot : (x : ℕ) → x < 32 → is_waiting (unit_at w x).phase ≡ false → slot_at now (slot_in_hand (unit_at w x)) ≡ slot_at w (slot_in_hand (unit_at w x))
   goes_slot x small goes =
       let ok = s.each_unit x small in
       let out = head_out w x ok (ok.head goes) in
       get_or-set_other w.slots p (slot_in_hand (unit_at w x)) (Some h) None (λ same. none-some out.held (sym is.slot ∙ (ap (slot_at w) (sym same) ∙ out.slot)))
 
-  submit_changed : Changed w now h.unit
+  pub submit_changed : Changed w now h.unit
   submit_changed = record {
     units = λ x other. get_or-set_other w.units h.unit x new no_unit other;
     adapters = λ a other. refl;
@@ -101,10 +101,10 @@ module _ (w : World) (line p : ℕ) (h : Held) (s : Sound w) (is : IsNew w p h) 
     leaves = alone h.unit (adapter_at w (adapter_of h.unit));
   }
 
-  unit_new : unit_at now h.unit ≡ new
+  pub unit_new : unit_at now h.unit ≡ new
   unit_new = get_or-set_same w.units h.unit new no_unit (subst (λ n. h.unit < n) (sym s.units) lt)
 
-  same_hand : is_waiting old.phase ≡ false → slot_in_hand new ≡ slot_in_hand old
+  pub same_hand : is_waiting old.phase ≡ false → slot_in_hand new ≡ slot_in_hand old
   same_hand goes =
       let ok = s.each_unit h.unit lt in
       ap (λ (x : Waiter). x.number) (joined_head _ (record { number = 0; cylinder = 0 }) old.queue ok.order (ok.head goes))
@@ -147,14 +147,14 @@ freed_other (made ∷ rest) slots q apart = by_slot made.slot (λ p is. apart ma
     by_slot None other = refl
     by_slot (Some p) other = get_or-set_other slots p q None None (other p refl)
 
-taken_keeps : (w : World) → Sound w → Keeps (after w Taken)
-taken_keeps w s = keeps_unchanged w (after w Taken) s (unchanged w (after w Taken) refl refl (λ x lt goes.
+pub taken_changed : (w : World) → Sound w → Changed w (after w Taken) 32
+taken_changed w s = unchanged w (after w Taken) refl refl (λ x lt goes.
     let ok = s.each_unit x lt in
     let out = head_out w x ok (ok.head goes) in
     freed_other w.answers w.slots (slot_in_hand (unit_at w x)) (λ made p there is same.
     let was = s.answers made p there is in
     let one : out.held ≡ was.held = same_Some out.held was.held (sym out.slot ∙ (ap (slot_at w) same ∙ was.slot)) in
-    false≢true (sym out.going_on ∙ (ap (λ (g : Held). g.ended) one ∙ was.over)))))
+    false≢true (sym out.going_on ∙ (ap (λ (g : Held). g.ended) one ∙ was.over))))
 
 -- EACH ACT
 pub act_keeps : (w : World) (act : Act) → Sound w → Allowed w act → Keeps (after w act)
@@ -165,4 +165,4 @@ act_keeps w (Of line u id d) s may =
     (λ lt. deed_adapter w line u id d s may.0 may.1) (λ a lt same. may.0.unit)
 act_keeps w (Change input) s may = change_keeps w input s may
 act_keeps w (Nothing line) s may = keeps_unchanged w w s (unchanged w w refl refl (λ x lt goes. refl))
-act_keeps w Taken s may = taken_keeps w s
+act_keeps w Taken s may = keeps_unchanged w (after w Taken) s (taken_changed w s)

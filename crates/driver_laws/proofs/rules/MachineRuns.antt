@@ -102,7 +102,7 @@ pub script_ids : (script : Script) → ids_asked (inputs_of script) ≡ ids_of s
 script_ids script = lines_ids (record { line = script.count + 1; input = Drain } ∷ []) script.lines refl
 
 -- ---- A LINE with what comes in it
-more_sure : (armed : List LiveNoise) (input : Input) (unit sector : ℕ) → is_sure_among (armed_by armed input) unit sector → is_sure_among armed unit sector
+pub more_sure : (armed : List LiveNoise) (input : Input) (unit sector : ℕ) → is_sure_among (armed_by armed input) unit sector → is_sure_among armed unit sector
 more_sure armed (Submit r) unit sector is = is
 more_sure armed (ArriveAt u) unit sector is = is
 more_sure armed (MoveAt a) unit sector is = is

@@ -13,6 +13,7 @@ use Rattle.driver_laws.specs.rules.LegalAnswers.{AnswersAt, AnswersTo, ids_asked
 use Rattle.driver_laws.specs.rules.Stands.{Setup, StandsFor, AreGiven, IsNew, MomentStep, owed, armed_by, armed_behind, sure_claims}
 use Rattle.driver_laws.proofs.rules.MachineUnits.{Keeps}
 use Rattle.driver_laws.proofs.rules.Kept.{moment_kept}
+use Rattle.driver_laws.proofs.rules.MachineRuns.{more_sure}
 use Rattle.driver_laws.proofs.rules.Lines.{other_event}
 use Rattle.driver_laws.proofs.rules.Inputs.{append_nil, over_owes}
 use Rattle.driver_laws.proofs.rules.Steps.{moment_step, beginning_kept}
@@ -65,19 +66,6 @@ pub record PartStep (setup : Setup) (armed : List LiveNoise) (s : Replay) (m : M
   pub answered : AnswersAt setup.drives (sure_claims setup (armed_by armed p.input)) m (record { line = p.line; input = p.input }) (answers_in p.told ++ owed (behind s p)) new
   pub stands : StandsFor setup (armed_by armed p.input) (behind s p) new
   pub keeps : Keeps setup (behind s p)
-
-more_sure : (armed : List LiveNoise) (input : Input) (unit sector : ℕ) → Rattle.driver_laws.specs.rules.Stands.is_sure_among (armed_by armed input) unit sector
-    → Rattle.driver_laws.specs.rules.Stands.is_sure_among armed unit sector
-more_sure armed (Submit r) unit sector is = is
-more_sure armed (ArriveAt u) unit sector is = is
-more_sure armed (MoveAt a) unit sector is = is
-more_sure armed (AttendTo a) unit sector is = is
-more_sure armed Drain unit sector is = is
-more_sure armed (Turn u y) unit sector is = is
-more_sure armed (Noise n) unit sector is = is.0
-more_sure armed (Arm u k n) unit sector is = is
-more_sure armed (SetOnline u on) unit sector is = is
-more_sure armed (SetLocked u on) unit sector is = is
 
 one_line : (setup : Setup) (armed : List LiveNoise) (m : Machine) (p : Part) (answers : List Answered) (new : Machine) → played p.told ≡ []
     → AnswersTo setup.drives (sure_claims setup (armed_by armed p.input)) m (record { line = p.line; input = p.input } ∷ played p.told) answers new

@@ -1,31 +1,28 @@
 -- Each act keeps what the driver stands for.
-use Rattle.std.proofs.Common.{◌≡◌, ◌≢◌, inl, inr, ℕ, ◌<◌, true, false, List, [], ◌∷◌, ◌++◌, drop, length, get_or-set_same, get_or-set_other, Option, Some, None, refl, sym, ap, ◌∙◌, subst, arith}
+use Rattle.std.proofs.Common.{◌≡◌, inl, inr, ℕ, ◌<◌, true, false, List, [], ◌∷◌, ◌++◌, drop, length, get_or-set_other, Option, Some, None, refl, sym, ap, ◌∙◌, subst, arith}
 use Rattle.std.specs.Prelude.{Contains, unwrap_or, slice_index_or, slice_set}
 use Rattle.std.specs.Option.{option_map_or}
-use Rattle.std.proofs.lemmas.Bool.{cases_eq, false≢true}
-use Rattle.std.proofs.lemmas.Option.{none-some, same_Some}
-use Rattle.std.proofs.lemmas.List.Elements.{All-weaker, Contains-get_or}
+use Rattle.std.proofs.lemmas.Bool.{cases_eq}
+use Rattle.std.proofs.lemmas.Option.{none-some}
+use Rattle.std.proofs.lemmas.List.Elements.{All-weaker}
 use Rattle.pack_geometry.specs.Pack.{Pack}
 use Rattle.hardware_table.specs.Adapter.{AdapterState}
 use Rattle.hardware_table.specs.Drive.{DriveState}
 use Rattle.hardware_table.specs.Events.{turned, fault_armed, online_set, locked_set}
 use Rattle.hardware_table.specs.Noise.{LiveNoise}
-use Rattle.disksort.specs.declared.Waiter.{Waiter}
-use Rattle.trace_replay.specs.requests.ServiceOrder.{IsInOrder, queue_with}
-use Rattle.trace_replay.proofs.requests.ServiceOrderLaws.{queue_with-head}
 use Rattle.trace_replay.specs.Script as script
 use Rattle.trace_replay.specs.Script.{Input}
 use Rattle.driver_laws.specs.rules.Machine.{Blocks}
 use Rattle.driver_laws.specs.rules.Stands.{is_sure_among, IsLive}
 use Rattle.driver_laws.proofs.rules.Noises.{armed_live}
 use Rattle.driver_machine.specs.declared.Made.{Made}
-use Rattle.driver_machine.specs.World.{World, UnitView, AdapterView, Held, no_held, no_unit, new_adapter_view, adapter_of, unit_at, adapter_at, slot_at, held_in, slot_in_hand}
+use Rattle.driver_machine.specs.World.{World, UnitView, AdapterView, Held, no_held, new_adapter_view, adapter_of, unit_at, adapter_at, slot_at, held_in, slot_in_hand}
 use Rattle.driver_machine.specs.Acts.{Refuse, Submit, Of, Change, Nothing, Taken, joined, with_drive, with_unit_drive, answer_at, freed, after}
 use Rattle.driver_machine.specs.Guards.{IsSetUp, IsNew, MayChange}
 use Rattle.driver_machine.specs.Sound.{Sound, IsMade, Among, Once, slot_made, slots_made, is_waiting}
-use Rattle.driver_laws.proofs.invariant.Frame.{Changed, head_out}
-use Rattle.driver_laws.proofs.invariant.Others.{alone}
-use Rattle.driver_laws.proofs.invariant.Units.{IsSameDrive, turned_same, armed_same, online_same, locked_same, drive_changed, changed_unit, unchanged}
+use Rattle.driver_laws.proofs.invariant.Frame.{Changed}
+use Rattle.driver_laws.proofs.invariant.EachAct.{goes_slot, submit_changed, unit_new, same_hand, taken_changed}
+use Rattle.driver_laws.proofs.invariant.Units.{IsSameDrive, turned_same, armed_same, online_same, locked_same, drive_changed, changed_unit}
 use Rattle.driver_laws.proofs.invariant.Quiet.{among_made}
 use Rattle.driver_laws.specs.shown.Bytes.{UnitBears, StepsFrom, maps_behind, AreSteps, Bears}
 use Rattle.driver_laws.specs.shown.QuietLaws.{armed_with, maps_taken, ActsBear}
@@ -123,12 +120,6 @@ change_kept armed w (script.SetLocked u on) held first s may b = drive_kept arme
 change_kept armed w input held first s may b = absurd may
 
 -- A REQUEST JOINS behind the head, where there is one.
-joined_head : (x d : Waiter) (queue : List Waiter) → IsInOrder (λ (y : Waiter). y.cylinder) queue → 0 < length queue
-    → slice_index_or (queue_with (λ (y : Waiter). y.cylinder) x queue) 0 d ≡ slice_index_or queue 0 d
-joined_head x d [] order some = absurd (omega (arith, some))
-joined_head x d (y ∷ ys) order some =
-    ap (λ (q : List Waiter). slice_index_or q 0 d) (queue_with-head (λ (z : Waiter). z.cylinder) x y ys order)
-
 module _ (armed : List LiveNoise) (w : World) (line p : ℕ) (h : Held) (held : ℕ → Pack) (first : ℕ → Blocks) (s : Sound w) (is : IsNew w p h) (b : Bears armed w held first) where
   abbrev old : UnitView
   old = unit_at w h.unit
@@ -142,40 +133,18 @@ module _ (armed : List LiveNoise) (w : World) (line p : ℕ) (h : Held) (held : 
   lt : h.unit < 32
   lt = is.unit.unit
 
-  goes_slot : (x : ℕ) → x < 32 → is_waiting (unit_at w x).phase ≡ false → slot_at now (slot_in_hand (unit_at w x)) ≡ slot_at w (slot_in_hand (unit_at w x))
-  goes_slot x small goes =
-      let ok = s.each_unit x small in
-      let out = head_out w x ok (ok.head goes) in
-      get_or-set_other w.slots p (slot_in_hand (unit_at w x)) (Some h) None (λ same. none-some out.held (sym is.slot ∙ (ap (slot_at w) (sym same) ∙ out.slot)))
-
-  submit_changed : Changed w now h.unit
-  submit_changed = record {
-    units = λ x other. get_or-set_other w.units h.unit x new no_unit other;
-    adapters = λ a other. refl;
-    held = λ x small other goes. goes_slot x small goes;
-    leaves = alone h.unit (adapter_at w (adapter_of h.unit));
-  }
-
-  unit_new : unit_at now h.unit ≡ new
-  unit_new = get_or-set_same w.units h.unit new no_unit (subst (λ n. h.unit < n) (sym s.units) lt)
-
-  same_hand : is_waiting old.phase ≡ false → slot_in_hand new ≡ slot_in_hand old
-  same_hand goes =
-      let ok = s.each_unit h.unit lt in
-      ap (λ (x : Waiter). x.number) (joined_head _ (record { number = 0; cylinder = 0 }) old.queue ok.order (ok.head goes))
-
   same_held : is_waiting old.phase ≡ false → held_in now (slot_in_hand new) ≡ held_in w (slot_in_hand old)
-  same_held goes = ap (held_in now) (same_hand goes) ∙ ap (λ (o : Option Held). unwrap_or o no_held) (goes_slot h.unit lt goes)
+  same_held goes = ap (held_in now) (same_hand w line p h s is goes) ∙ ap (λ (o : Option Held). unwrap_or o no_held) (goes_slot w line p h s is h.unit lt goes)
 
   joined_stays : Stays armed armed w now held held
   joined_stays = record {
     kinds = λ x. elim (cases_eq x h.unit) [
-      | inl one ↦ subst (λ k. (unit_at now k).drive.kind ≡ (unit_at w k).drive.kind) (sym one) (ap (λ (y : UnitView). y.drive.kind) unit_new)
-      | inr other ↦ ap (λ (y : UnitView). y.drive.kind) (submit_changed.units x other)
+      | inl one ↦ subst (λ k. (unit_at now k).drive.kind ≡ (unit_at w k).drive.kind) (sym one) (ap (λ (y : UnitView). y.drive.kind) (unit_new w line p h s is))
+      | inr other ↦ ap (λ (y : UnitView). y.drive.kind) ((submit_changed w line p h s is).units x other)
     ];
     tables = λ x. elim (cases_eq x h.unit) [
-      | inl one ↦ subst (λ k. (unit_at now k).table ≡ (unit_at w k).table) (sym one) (ap (λ (y : UnitView). y.table) unit_new)
-      | inr other ↦ ap (λ (y : UnitView). y.table) (submit_changed.units x other)
+      | inl one ↦ subst (λ k. (unit_at now k).table ≡ (unit_at w k).table) (sym one) (ap (λ (y : UnitView). y.table) (unit_new w line p h s is))
+      | inr other ↦ ap (λ (y : UnitView). y.table) ((submit_changed w line p h s is).units x other)
     ];
     marks = λ x. refl;
     fewer = λ x sector sure. sure;
@@ -188,7 +157,7 @@ module _ (armed : List LiveNoise) (w : World) (line p : ℕ) (h : Held) (held : 
 
   mine : UnitBears (is_sure_among armed h.unit) (held h.unit) (b.now h.unit) (unit_at now h.unit) (adapter_at w (adapter_of h.unit)).state (held_in now (slot_in_hand (unit_at now h.unit)))
   mine =
-      subst (λ (y : UnitView). UnitBears (is_sure_among armed h.unit) (held h.unit) (b.now h.unit) y (adapter_at w (adapter_of h.unit)).state (held_in now (slot_in_hand y))) (sym unit_new)
+      subst (λ (y : UnitView). UnitBears (is_sure_among armed h.unit) (held h.unit) (b.now h.unit) y (adapter_at w (adapter_of h.unit)).state (held_in now (slot_in_hand y))) (sym (unit_new w line p h s is))
       (unit_as (is_sure_among armed h.unit) (held h.unit) (b.now h.unit) old new (adapter_at w (adapter_of h.unit)).state (adapter_at w (adapter_of h.unit)).state
       (held_in w (slot_in_hand old)) (held_in now (slot_in_hand new)) refl refl refl refl (λ phase. same_move (adapter_at w (adapter_of h.unit)).state) same_held (waits_none w h.unit s lt)
       (b.units h.unit is.unit))
@@ -199,8 +168,8 @@ module _ (armed : List LiveNoise) (w : World) (line p : ℕ) (h : Held) (held : 
     answers = steps_stay armed armed w now held held w.answers first b.now joined_stays joined_slots b.answers;
     units = λ x set. elim (cases_eq x h.unit) [
       | inl one ↦ subst (λ k. UnitBears (is_sure_among armed k) (held k) (b.now k) (unit_at now k) (adapter_at w (adapter_of k)).state (held_in now (slot_in_hand (unit_at now k)))) (sym one) mine
-      | inr other ↦ other_bears (is_sure_among armed x) (held x) (b.now x) w now h.unit x s submit_changed (λ busy apart. refl) set.unit other
-          (b.units x (record { unit = set.unit; declared = subst (λ (y : UnitView). y.declared ≡ true) (submit_changed.units x other) set.declared }))
+      | inr other ↦ other_bears (is_sure_among armed x) (held x) (b.now x) w now h.unit x s (submit_changed w line p h s is) (λ busy apart. refl) set.unit other
+          (b.units x (record { unit = set.unit; declared = subst (λ (y : UnitView). y.declared ≡ true) ((submit_changed w line p h s is).units x other) set.declared }))
     ];
     noise = b.noise;
   }
@@ -221,26 +190,6 @@ refuse_kept armed w later made held first s none is b = subst (λ (x : World). B
 })
 
 -- THE TAKING frees the slot of the first answer: no other waits for it, and no unit has it in hand.
-freed_other : (answers : List Made) (slots : List (Option Held)) (q : ℕ)
-    → ((made : Made) (p : ℕ) → Contains answers made → made.slot ≡ Some p → q ≢ p)
-    → slice_index_or (freed answers slots) q None ≡ slice_index_or slots q None
-freed_other [] slots q apart = refl
-freed_other (made ∷ rest) slots q apart = by_slot made.slot (λ p is. apart made p (Contains-get_or (made ∷ rest) 0 made (omega arith)) is)
-  where
-    by_slot : (slot : Option ℕ) → ((p : ℕ) → slot ≡ Some p → q ≢ p)
-        → slice_index_or (option_map_or (λ p. slice_set slots p None) slot slots) q None ≡ slice_index_or slots q None
-    by_slot None other = refl
-    by_slot (Some p) other = get_or-set_other slots p q None None (other p refl)
-
-taken_changed : (w : World) → Sound w → Changed w (after w Taken) 32
-taken_changed w s = unchanged w (after w Taken) refl refl (λ x lt goes.
-    let ok = s.each_unit x lt in
-    let out = head_out w x ok (ok.head goes) in
-    freed_other w.answers w.slots (slot_in_hand (unit_at w x)) (λ made p there is same.
-    let was = s.answers made p there is in
-    let one : out.held ≡ was.held = same_Some out.held was.held (sym out.slot ∙ (ap (slot_at w) same ∙ was.slot)) in
-    false≢true (sym out.going_on ∙ (ap (λ (g : Held). g.ended) one ∙ was.over))))
-
 rest_slots : (made : Made) (rest : List Made) (slots : List (Option Held)) (slot : Option ℕ) → made.slot ≡ slot → Once (slots_made (made ∷ rest))
     → (other : Made) (q : ℕ) → Contains rest other → other.slot ≡ Some q → slice_index_or (option_map_or (λ p. slice_set slots p None) slot slots) q None ≡ slice_index_or slots q None
 rest_slots made rest slots None is once other q c at = refl
