@@ -1,94 +1,44 @@
 -- Laws of the answers that wait: the blocks of a read, the text of one answer, and of all of them one after another.
-use Rattle.std.proofs.Common.{◌≡◌, ℕ, suc, ◌+◌, ◌-◌, ◌<◌, ◌≤◌, Bool, true, false, IsTrue, List, [], ◌∷◌, ◌++◌, length, map, take, drop, refl, sym, ap, subst, ◌∙◌, arith, append-nil, append_assoc, slice_index_or, replicate, Option, Some, None, Result, Ok, Err}
-use Rattle.std.specs.Prelude.{if◌then◌else◌, ◌==◌, Contains, IfSome, IsErr}
+use Rattle.std.proofs.Common.{◌≡◌, ℕ, suc, ◌+◌, ◌-◌, ◌<◌, ◌≤◌, Bool, true, false, List, [], ◌∷◌, ◌++◌, length, map, take, drop, refl, sym, ap, subst, ◌∙◌, arith, append-nil, append_assoc, slice_index_or, replicate, Option, Some, None, Result, Ok, Err}
+use Rattle.std.specs.Prelude.{if◌then◌else◌, ◌==◌, IfSome, IsErr}
 use Rattle.std.specs.List.{flat_map}
 use Rattle.std.proofs.lemmas.Bool.{eq-eqb}
 use Rattle.std.proofs.lemmas.List.{take-append-drop}
 use Rattle.std.proofs.Math.Seq.{take-append_seam}
 use Rattle.outside_traits.specs.declared.traits.SinkFailed.{SinkFailed}
 use Rattle.trace_replay.specs.Moments.{Answered}
-use Rattle.main_memory.specs.Blocks.{size_at}
 use Rattle.main_memory.specs.Bytes.{filled, IsFill}
 use Rattle.trace_replay.specs.declared.requests.answers.Answer.{Answer}
 use Rattle.trace_replay.specs.declared.requests.answers.AnswerKind.{AnswerKind}
 use Rattle.trace_replay.specs.declared.requests.answers.AnswerKind.TheVariants.{ReadOk, WriteOk, Eof, Error}
 use Rattle.trace_replay.specs.declared.requests.answers.Cause.TheVariants.{Partition, Frames, Offline, Locked, Unforwarded, Fault}
 use Rattle.driver_machine.specs.declared.Made.{Made}
-use Rattle.driver_machine.specs.World.{World, Held, held_in, slot_at, block_in, bytes_in}
+use Rattle.driver_machine.specs.World.{World, held_in, block_in, bytes_in}
 use Rattle.driver_machine.specs.Acts.{Taken, after, after_all}
 use Rattle.driver_machine.specs.Lines.{answer_told}
-use Rattle.driver_machine.specs.Refusals.{refuses}
-use Rattle.driver_machine.specs.Sound.{Sound, SlotOk, IsGiven, IsMade}
-use Rattle.driver_laws.proofs.invariant.SlotsLists.{Contains-first}
+use Rattle.driver_machine.specs.Sound.{Sound}
 use Rattle.driver_laws.specs.answers.Waiting.{blocks_for, told_by, waiting, TakingDrops, takings, all_taken}
 use Rattle.trace_lines.specs.answers.AnswerText.{answer_text, block_text, block_texts, blocks_text}
 use Rattle.trace_lines.specs.answers.Blocks.{AreBlocks, blocks_in, joined}
 use Rattle.trace_lines.proofs.answers.BlockLaws.{blocks_in-joined}
 use Rattle.trace_lines.proofs.answers.TextLaws.{one_more}
 use Rattle.hp_driver.specs.Subsystem.{State, IsOldest}
+use Rattle.hp_driver.proofs.ReadBlocks.{IsRead, slot_there, read_in}
 use Rattle.event_player.specs.Answering.{first_blocks, first_told, first_text, first_rest, IsFirst, IsFirstKind, HasBlock}
 use Rattle.event_player.specs.Saying.{Side, Says}
 use Rattle.event_player.specs.Steps.{waiting_text}
 use Rattle.event_player.proofs.SaysLaws.{says_same, says_both, says_stop}
 use Rattle.event_player.proofs.Saying.{says_nothing}
 
--- THE BLOCKS OF A READ: so many, each whole but for the last one
-pub record IsRead (blocks : List (List ℕ)) (count last : ℕ) : Type 0 where
-  pub size : length blocks ≡ count
-  pub each : (k : ℕ) → k < count → length (slice_index_or blocks k []) ≡ (if k + 1 == count then last else 512)
-  pub some : 1 ≤ last
-  pub few : last ≤ 512
-
-abbrev has_slot : Option ℕ → Type 0
-has_slot o = (p : ℕ) × (o ≡ Some p)
-
-first_waits : (w : World) (made : Made) → IsOldest w made → Contains w.answers made
-first_waits w made oldest = subst (λ (answers : List Made). Contains answers made) (sym oldest.first) (Contains-first made (drop 1 w.answers))
-
-no_refusal : (count last : ℕ) → IsTrue (refuses (ReadOk count last)) → ⊥
-no_refusal count last e = cc
-
--- a read that is answered stands in a slot
-slot_there : (w : World) (made : Made) (count last : ℕ) → Sound w → IsOldest w made → made.answer.kind ≡ ReadOk count last → has_slot made.slot
-slot_there w made count last s oldest kind = at made.slot refl
-  where
-    at : (o : Option ℕ) → made.slot ≡ o → has_slot o
-    at None e =
-        let refused : IsTrue (refuses made.answer.kind) = s.refused made (first_waits w made oldest) e in
-        absurd (no_refusal count last (subst (λ (k : AnswerKind). IsTrue (refuses k)) kind refused))
-    at (Some p) e = (p, refl)
-
-held_is : (w : World) (p : ℕ) (h : Held) → slot_at w p ≡ Some h → held_in w p ≡ h
-held_is w p h e = cc
-
-size_here : (h : Held) (k count last : ℕ) → count ≡ h.loan.count → last ≡ h.loan.last → size_at h.loan k ≡ (if k + 1 == count then last else 512)
-size_here h k count last e f = ap (λ (n : ℕ). if k + 1 == n then h.loan.last else 512) (sym e) ∙ ap (λ (n : ℕ). if k + 1 == count then n else 512) (sym f)
-
-held_read : (w : World) (p : ℕ) (h : Held) (count last : ℕ) → SlotOk w p h → IsGiven h (ReadOk count last) → IsRead h.blocks count last
-held_read w p h count last ok given =
-    let many = given.1 in
-    let short = given.2 in
-    let is = ok.loan in record {
-      size = ok.size ∙ sym many;
-      each = λ k lt. ok.whole k (omega (arith, lt, many)) ∙ size_here h k count last many short;
-      some = omega (arith, short, is.shape.last_some);
-      few = omega (arith, short, is.shape.last_few);
-    }
-
+-- THE BLOCKS OF A READ
 pub first_blocks_at : (w : World) (made : Made) (p : ℕ) → IsOldest w made → made.slot ≡ Some p → first_blocks w w.answers ≡ (held_in w p).blocks
 first_blocks_at w made p oldest slot = ap (first_blocks w) oldest.first ∙ ap (blocks_for w) slot
-
-read_at : (w : World) (made : Made) (p count last : ℕ) → Sound w → IsOldest w made → made.answer.kind ≡ ReadOk count last → made.slot ≡ Some p → IsRead (first_blocks w w.answers) count last
-read_at w made p count last s oldest kind slot =
-    let m : IsMade w made p = s.answers made p (first_waits w made oldest) slot in
-    let here : first_blocks w w.answers ≡ m.held.blocks = first_blocks_at w made p oldest slot ∙ ap (λ (h : Held). h.blocks) (held_is w p m.held m.slot) in
-    subst (λ (blocks : List (List ℕ)). IsRead blocks count last) (sym here)
-    (held_read w p m.held count last (s.each_slot p m.held m.slot) (subst (λ (k : AnswerKind). IsGiven m.held k) kind m.given))
 
 pub read_is : {w : World} {count last : ℕ} → Sound w → IsFirstKind w (ReadOk count last) → IsRead (first_blocks w w.answers) count last
 read_is {w} {count} {last} s first =
     let slot = slot_there w first.made count last s first.oldest first.is in
-    read_at w first.made slot.0 count last s first.oldest first.is slot.1
+    subst (λ (blocks : List (List ℕ)). IsRead blocks count last) (sym (first_blocks_at w first.made slot.0 first.oldest slot.1))
+    (read_in w first.made slot.0 count last s first.oldest first.is slot.1)
 
 size_bounds : (t : Bool) (last : ℕ) → 1 ≤ last → last ≤ 512 → (1 ≤ (if t then last else 512)) × ((if t then last else 512) ≤ 512)
 size_bounds true last some few = (some, few)

@@ -3,6 +3,7 @@ use Rattle.std.proofs.Common.{◌≡◌, inl, inr, ℕ, ◌+◌, ◌*◌, ◌/�
 use Rattle.std.specs.Prelude.{eqb, IsSome, if◌then◌else◌}
 use Rattle.hardware_table.specs.declared.Work.TheVariants as work
 use Rattle.hardware_table.specs.Adapter.{AdapterState, next_block}
+use Rattle.driver_laws.proofs.invariant.Try.{failed_less}
 use Rattle.driver_laws.proofs.invariant.Sector.{moved_less}
 use Rattle.std.specs.List.{AllByRecursion, IsDistinct, list_any}
 use Rattle.std.proofs.lemmas.Bool.{false≢true, eqb-true, ne_eqb, or_cases}
@@ -30,8 +31,8 @@ use Rattle.driver_machine.specs.declared.Phase.TheVariants.{Waiting, Queued, Tra
 use Rattle.driver_machine.specs.World.{World, Held, unit_at, adapter_at, slot_at, held_in, slot_in_hand, adapter_of, drive_of, transfer_of, job_of}
 use Rattle.driver_machine.specs.Acts.{Of, Intr, Search, Do, Move, Pack, Dclr, Rtc, Ready, Repair, Forward, Continue, Try, scene_of}
 use Rattle.driver_machine.specs.Guards.{InHand, IsBusyFor, Allowed}
-use Rattle.driver_machine.specs.Sound.{Sound, Among, Once, IsShown, IsPhase, IsTask, IsEndedAt, IsBurstAt}
-use Rattle.driver_machine.specs.DueFacts.{IsDue, IsAtCommand, IsFailure, IsStep}
+use Rattle.driver_machine.specs.Sound.{Sound, Among, Once, IsShown, IsPhase, IsTask, IsBurstAt}
+use Rattle.driver_machine.specs.DueFacts.{IsDue, IsAtCommand, IsStep}
 use Rattle.driver_laws.proofs.invariant.Scene.{phase_is, due_of, job_is, block_below, segment_some}
 use Rattle.driver_laws.proofs.invariant.Frame.{scene_ok, held_is, own_held, adapter_of-small}
 use Rattle.driver_laws.proofs.invariant.DeedFacts.{transfer_at}
@@ -98,14 +99,6 @@ narrow kind place is =
 pub record CanGo (d : DriveState) : Type 0 where
   pub ready : is_ready d.work ≡ true
   pub online : d.online ≡ true
-
-failed_less : (last : Moved) (moved count : ℕ) → IsFailure last → IsEndedAt last moved count → moved < count
-failed_less (verdict.Faulted kind) moved count fails is = is
-failed_less verdict.Hard moved count fails is = is
-failed_less verdict.Clean moved count fails is = absurd fails
-failed_less (verdict.Burst at pattern) moved count fails is = absurd fails
-failed_less verdict.Marked moved count fails is = absurd fails
-failed_less verdict.Offline moved count fails is = absurd fails
 
 phases_differ : (phase : Phase) → phase ≡ Waiting → phase ≡ Queued → ⊥
 phases_differ phase e f = absurd (cc)

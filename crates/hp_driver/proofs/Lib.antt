@@ -23,3 +23,4 @@ pub mod Attends
 pub mod Exits
 pub mod Moving
 pub mod Submitting
+pub mod ReadBlocks

@@ -36,7 +36,7 @@ failures_few moved failures most other = by_test (moved == 0) other
     by_test false other = omega arith
 
 -- A TRY FAILED. A verdict other than clean came in front of the segment's end.
-failed_less : (last : Moved) (moved count : ℕ) → IsFailure last → IsEndedAt last moved count → moved < count
+pub failed_less : (last : Moved) (moved count : ℕ) → IsFailure last → IsEndedAt last moved count → moved < count
 failed_less (verdict.Faulted kind) moved count fails is = is
 failed_less verdict.Hard moved count fails is = is
 failed_less verdict.Clean moved count fails is = absurd fails

@@ -28,8 +28,9 @@ use Rattle.driver_machine.specs.Acts as deed
 use Rattle.driver_machine.specs.Acts.{Deed, Scene, effect, interrupted, transfer_tried}
 use Rattle.driver_machine.specs.Due.{task_for}
 use Rattle.driver_machine.specs.Guards.{May}
-use Rattle.driver_machine.specs.Sound.{IsTask, IsBegun, IsEndedAt}
-use Rattle.driver_machine.specs.DueFacts.{IsDue, IsJudged, IsReady, IsAtCommand, IsFailure}
+use Rattle.driver_machine.specs.Sound.{IsTask, IsBegun}
+use Rattle.driver_machine.specs.DueFacts.{IsDue, IsJudged, IsReady, IsAtCommand}
+use Rattle.driver_laws.proofs.invariant.Try.{failed_less}
 use Rattle.driver_laws.proofs.invariant.Scene.{SceneOk, due_of}
 use Rattle.driver_laws.proofs.invariant.DeedFacts.{judged_is, transfer_at}
 use Rattle.driver_laws.specs.shown.Bytes.{done_at, done_in, last_at, last_in, IsForwarded, sector_for, HandBears}
@@ -78,14 +79,6 @@ pub record IsListed (index : Option ℕ) (table : Option Table) (place : Place) 
 listed_is : (index : Option ℕ) (table : Option Table) (place : Place) (i : ℕ) → entry_by index table place ≡ Some i → IsListed index table place i
 listed_is None table place i e = record { own = refl; listed = e }
 listed_is (Some j) table place i e = absurd (none-some i e)
-
-pub failed_less : (last : Moved) (moved count : ℕ) → IsFailure last → IsEndedAt last moved count → moved < count
-failed_less (verdict.Faulted kind) moved count fails is = is
-failed_less verdict.Hard moved count fails is = is
-failed_less verdict.Clean moved count fails is = absurd fails
-failed_less (verdict.Burst at pattern) moved count fails is = absurd fails
-failed_less verdict.Marked moved count fails is = absurd fails
-failed_less verdict.Offline moved count fails is = absurd fails
 
 next_of_try : (moved block number many from count : ℕ) (next task : Task) → deed.Try moved block number next ≡ deed.Try many from count task → next ≡ task
 next_of_try moved block number many from count next task e = cc
